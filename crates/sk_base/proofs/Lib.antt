@@ -1,0 +1,7 @@
+pub mod Decimals
+pub mod Members
+pub mod Pairs
+pub mod Searches
+pub mod ShortNames
+pub mod Sizes
+pub mod Unions

@@ -1,0 +1,10 @@
+-- Bounds of numbers.
+use Rattle.std.specs.Prelude.{ℕ, ℤ, pos, neg_ℤ, ◌≤ℤ◌}
+
+-- at most so much in absolute value
+abbrev pub IsWithin : ℕ → ℤ → Type 0
+IsWithin most z = (neg_ℤ (pos most) ≤ℤ z) × (z ≤ℤ pos most)
+
+-- from the one to the other, both included
+abbrev pub IsFromTo : ℕ → ℕ → ℤ → Type 0
+IsFromTo least most z = (pos least ≤ℤ z) × (z ≤ℤ pos most)

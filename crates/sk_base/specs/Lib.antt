@@ -1,0 +1,12 @@
+pub mod Bounds
+pub mod ClusterNames
+pub mod Drawn
+pub mod LabelBack
+pub mod Labels
+pub mod Millimetres
+pub mod Numbering
+pub mod Padded
+pub mod Places
+pub mod Rising
+pub mod SoundGraph
+pub mod SoundSketch

@@ -1,0 +1,68 @@
+// A sketch as it is drawn.
+ghost use Rattle.std.specs.Prelude.{◌≡◌, option_copied};
+
+use crate::label::Label;
+use crate::list::List;
+use crate::measure::{Ratio, Um};
+use crate::numbered::{ConId, Elem};
+
+/// How an element is drawn. A line runs from its first place towards its second.
+#[derive(Clone, Copy, Debug, PartialEq, Eq)]
+pub enum Shape {
+    Point { x: Um, y: Um },
+    Line { x1: Um, y1: Um, x2: Um, y2: Um },
+    Circle { x: Um, y: Um, r: Um },
+}
+
+/// A named element.
+#[derive(Clone, Copy, Debug, PartialEq, Eq)]
+pub struct Element {
+    pub number: Elem,
+    pub label: Label,
+    pub shape: Shape,
+}
+
+/// What a constraint asks of its elements.
+#[derive(Clone, Copy, Debug, PartialEq, Eq)]
+pub enum Rule {
+    /// Two points or centres, or one of these and a line, are so far apart.
+    Distance { u: Elem, v: Elem, len: Um },
+    /// A point or centre lies on a line, or a point on a circle.
+    On { u: Elem, v: Elem },
+    /// A line touches a circle.
+    Tangent { u: Elem, v: Elem },
+    /// Two circles touch from outside.
+    Outside { u: Elem, v: Elem },
+    /// Two circles touch from inside.
+    Inside { u: Elem, v: Elem },
+    /// The angle from the one line to the other has this tangent.
+    Angle { l: Elem, m: Elem, ratio: Ratio },
+}
+
+/// A numbered constraint.
+#[derive(Clone, Copy, Debug, PartialEq, Eq)]
+pub struct Constraint {
+    pub number: ConId,
+    pub rule: Rule,
+}
+
+/// The elements and the constraints, each in order of number.
+#[derive(Drop)]
+pub struct Sketch {
+    pub elements: List<Element>,
+    pub constraints: List<Constraint>,
+}
+
+impl Sketch {
+    ghost use Rattle.sk_base.specs.Drawn.{element_of};
+
+    /// The element of that number, if the sketch has one.
+    pub fn element(&self, e: Elem) -> Option<&Element>
+        ensures { option_copied result ≡ element_of self.now e }
+    {
+        self.elements
+            .as_slice()
+            .iter()
+            .find(|element| element.number.0 == e.0)
+    }
+}
