@@ -1,4 +1,5 @@
 pub mod Decimals
+pub mod Finding
 pub mod Members
 pub mod Pairs
 pub mod Searches
