@@ -1,0 +1,184 @@
+-- What is made from a sound family is sound.
+use Rattle.std.proofs.Common.{◌≡◌, inl, inr, ℕ, ◌<◌, true, false, List, [], ◌∷◌, length, get_or, refl, ap, sym, subst, ◌∙◌, arith, ◌≤◌, length-append}
+use Rattle.std.specs.Prelude.{Contains, map, not, All, ◌||◌}
+use Rattle.std.proofs.lemmas.List.Elements.{Contains-push_cases, Contains-get_or, All-head, All-tail}
+use Rattle.std.proofs.lemmas.Bool.Decides.{nat_tests}
+use Rattle.std.proofs.lemmas.List.{length-map}
+use Rattle.std.proofs.lemmas.List.Filters.{length-filter_both}
+use Rattle.sk_base.specs.declared.Name.{Name}
+use Rattle.sk_base.specs.declared.Name.TheVariants.{Con, Step}
+use Rattle.sk_base.specs.declared.ConId.{ConId}
+use Rattle.sk_base.specs.declared.Edge.{Edge}
+use Rattle.sk_base.specs.declared.Graph.{Graph}
+use Rattle.sk_base.specs.SoundGraph.{HasRisingEdges, IsSoundGraph}
+use Rattle.sk_base.specs.ClusterNames.{IsBelow, name_eq, is_named}
+use Rattle.sk_base.specs.Numbering.{elem_number, con_number}
+use Rattle.sk_family.specs.declared.cluster.Cluster.{Cluster}
+use Rattle.sk_family.specs.Body.{Body, IsRisingBody, starting}
+use Rattle.sk_family.specs.Clusters.{Clusters, body_of, start_of, initial_clusters, named, unnamed, made_of, whole_from, replaced, CanBeReplaced, IsSound, IsLive}
+use Rattle.sk_base.proofs.Members.{contains_none, contains_head, contains_one, mapped_from, contains_mapped, contains_filtered, filtered_from}
+use Rattle.sk_base.proofs.Pairs.{pairs_push, pairs_filter, pairs_map}
+use Rattle.sk_base.proofs.Unions.{rising_none, rising_cons, rising_union, rising_apart}
+use Rattle.sk_family.proofs.Bodies.{each_within, owner_of}
+use Rattle.sk_family.proofs.Wholes.{made_rises}
+
+pub rising_starting : (e : Edge) → IsRisingBody (starting e)
+rising_starting e = record {
+  elements = rising_union elem_number (e.u ∷ []) (e.v ∷ []) (rising_cons elem_number e.v [] (rising_none elem_number) (λ y h. absurd (contains_none y h)));
+  owned = rising_cons con_number e.id [] (rising_none con_number) (λ y h. absurd (contains_none y h));
+}
+
+con_inside : (j k : ℕ) → Con j ≡ Con k → j ≡ k
+con_inside j k e = cc
+
+pub sound_initial : (g : Graph) → IsSoundGraph g → IsSound (initial_clusters g)
+sound_initial g sound_graph = (let rises : HasRisingEdges g = sound_graph.edges_rise in record {
+  few = rw length-map (let few = sound_graph.few_edges in omega arith);
+  names_rise = pairs_map (λ (a b : Cluster). IsBelow a.name b.name) start_of g.edges rises;
+  bodies_rise = λ c c_in. (let found = mapped_from start_of g.edges c c_in in
+      subst (λ z. IsRisingBody (body_of z)) found.2 (rising_starting found.0));
+  each_owns = λ c c_in. (let found = mapped_from start_of g.edges c c_in in
+      subst (λ (z : Cluster). (k : ConId) × Contains z.owned k) found.2 (found.0.id, contains_head found.0.id []));
+  owned_apart = λ a b k a_in b_in a_k b_k. (
+      let one = mapped_from start_of g.edges a a_in in
+      let other = mapped_from start_of g.edges b b_in in
+      let one_id : one.0.id ≡ k = contains_one one.0.id k (subst (λ (z : Cluster). Contains z.owned k) (sym one.2) a_k) in
+      let other_id : other.0.id ≡ k = contains_one other.0.id k (subst (λ (z : Cluster). Contains z.owned k) (sym other.2) b_k) in
+      let same : one.0 ≡ other.0 = rising_apart (λ (e : Edge). e.id.0) g.edges rises one.0 other.0 one.1 other.1 (ap con_number (one_id ∙ sym other_id)) in
+      sym one.2 ∙ ap start_of same ∙ other.2);
+  starts_own_their_own = λ c k c_in named. (
+      let found = mapped_from start_of g.edges c c_in in
+      let number : found.0.id.0 ≡ k = con_inside found.0.id.0 k (ap (λ (z : Cluster). z.name) found.2 ∙ named) in
+      ap (λ (z : Cluster). z.owned) (sym found.2) ∙ ap (λ (n : ℕ). record { 0 = n } ∷ []) number);
+  steps_below = λ c k c_in named. (
+      let found = mapped_from start_of g.edges c c_in in
+      let never : Con found.0.id.0 ≡ Step k = ap (λ (z : Cluster). z.name) found.2 ∙ named in
+      absurd (cc));
+})
+
+contains_some : {X : Type 0} (xs : List X) (x : X) → Contains xs x → 0 < length xs
+contains_some xs x (k, below, is) = omega arith
+
+name_eq_itself : (n : Name) → name_eq n n ≡ true
+name_eq_itself (Con k) = grind (arith, nat_tests)
+name_eq_itself (Step k) = grind (arith, nat_tests)
+
+named_first : (n : Name) (names : List Name) → is_named (n ∷ names) n ≡ true
+named_first n names = ap (λ b. b || is_named names n) (name_eq_itself n)
+
+-- no live name is the next step's
+other_than_next : (next : ℕ) (n : Name) → ((k : ℕ) → n ≡ Step k → k < next) → name_eq n (Step next) ≡ false
+other_than_next next (Con j) below = refl
+other_than_next next (Step j) below = (let less : j < next = below j refl in grind (arith, nat_tests))
+
+pub live_below : (f : Clusters) → IsSound f → (n : Name) → IsLive f n → (k : ℕ) → n ≡ Step k → k < f.next_step
+live_below f sound n lives k is = sound.steps_below lives.0 k lives.1.lives (lives.1.has_name ∙ is)
+
+pub next_unnamed : (f : Clusters) → IsSound f → (names : List Name) → All (λ n. IsLive f n) names → is_named names (Step f.next_step) ≡ false
+next_unnamed f sound [] live = refl
+next_unnamed f sound (n ∷ names) live =
+    rw (other_than_next f.next_step n (live_below f sound n (All-head (λ m. IsLive f m) n names live)))
+    (next_unnamed f sound names (All-tail (λ m. IsLive f m) n names live))
+
+pub below_next : (next : ℕ) (n : Name) → ((k : ℕ) → n ≡ Step k → k < next) → IsBelow n (Step next)
+below_next next (Con j) below = tt
+below_next next (Step j) below = below j refl
+
+step_inside : (j k : ℕ) → Step j ≡ Step k → j ≡ k
+step_inside j k e = cc
+
+module _ (f : Clusters) (names : List Name) (sound : IsSound f) where
+  whole : Cluster
+  whole = whole_from (Step f.next_step) names f.live
+
+  -- a cluster that stays was there and has none of the names
+  stayed : (c : Cluster) → Contains (unnamed names f.live) c → Contains f.live c × (not (is_named names c.name) ≡ true)
+  stayed c h = filtered_from (λ (d : Cluster). not (is_named names d.name)) f.live c h
+
+  -- what the whole owns, a cluster of one of the names did
+  named_owner : (k : ConId) → Contains (made_of names f.live).owned k → (c : Cluster) × Contains f.live c × (is_named names c.name ≡ true) × Contains c.owned k
+  named_owner k h =
+      let owner = owner_of (map body_of (named names f.live)) k h in
+      let found = mapped_from body_of (named names f.live) owner.0 owner.1 in
+      let was = filtered_from (λ (d : Cluster). is_named names d.name) f.live found.0 found.1 in
+      (found.0, was.0, was.1, subst (λ (b : Body). Contains b.owned k) (sym found.2) owner.2)
+
+  apart_from_whole : (c : Cluster) (k : ConId) → Contains (unnamed names f.live) c → Contains c.owned k → Contains (made_of names f.live).owned k → ⊥
+  apart_from_whole c k c_in c_k whole_k =
+      let owner = named_owner k whole_k in
+      let was = stayed c c_in in
+      let same : owner.0 ≡ c = sound.owned_apart owner.0 c k owner.1 was.0 owner.3 c_k in
+      let is_one : is_named names c.name ≡ true = subst (λ (d : Cluster). is_named names d.name ≡ true) same owner.2 in
+      let never : false ≡ true = subst (λ b. not b ≡ true) is_one was.1 in
+      absurd (cc)
+
+  -- where some are named, some live one is
+  some_named : 0 < length names → All (λ n. IsLive f n) names → (c : Cluster) × Contains (named names f.live) c
+  some_named some live = first_of names refl some live
+    where
+      first_of : (ns : List Name) → ns ≡ names → 0 < length ns → All (λ n. IsLive f n) ns → (c : Cluster) × Contains (named names f.live) c
+      first_of [] is some live = absurd (omega arith)
+      first_of (n ∷ ns) is some live =
+          let first = All-head (λ m. IsLive f m) n ns live in
+          let passes : is_named names first.0.name ≡ true =
+          subst (λ (ms : List Name). is_named ms first.0.name ≡ true) is
+          (subst (λ m. is_named (n ∷ ns) m ≡ true) (sym first.1.has_name) (named_first n ns)) in
+          (first.0, contains_filtered (λ (d : Cluster). is_named names d.name) f.live first.0 first.1.lives passes)
+
+  whole_owns : 0 < length names → All (λ n. IsLive f n) names → (k : ConId) × Contains (made_of names f.live).owned k
+  whole_owns some live =
+      let first = some_named some live in
+      let own = sound.each_owns first.0 (filtered_from (λ (d : Cluster). is_named names d.name) f.live first.0 first.1).0 in
+      (own.0, (each_within (map body_of (named names f.live)) (body_of first.0) (contains_mapped body_of (named names f.live) first.0 first.1)).owned own.0 own.1)
+
+  -- the whole takes the place of at least one
+  no_more : 0 < length names → All (λ n. IsLive f n) names → length (replaced f names).live ≤ length f.live
+  no_more some live =
+      let first = some_named some live in
+      let both = length-filter_both (λ (d : Cluster). is_named names d.name) (λ (d : Cluster). not (is_named names d.name)) (λ d. refl) f.live in
+      let size = length-append (unnamed names f.live) (whole_from (Step f.next_step) names f.live ∷ []) in
+      let some_one : 0 < length (named names f.live) = contains_some (named names f.live) first.0 first.1 in
+      omega (arith, both, size, some_one)
+
+  pub sound_replaced : 0 < length names → All (λ n. IsLive f n) names → IsSound (replaced f names)
+  unfolding whole
+  sound_replaced some live = record {
+    few = (let fewer = no_more some live in let few = sound.few in omega arith);
+    names_rise = pairs_push (λ (a b : Cluster). IsBelow a.name b.name) (unnamed names f.live) whole
+        (pairs_filter (λ (a b : Cluster). IsBelow a.name b.name) (λ (d : Cluster). not (is_named names d.name)) f.live sound.names_rise)
+        (λ x h. below_next f.next_step x.name (λ k is. sound.steps_below x k (stayed x h).0 is));
+    bodies_rise = λ c c_in. elim (Contains-push_cases (unnamed names f.live) whole c c_in) [
+      | inl old ↦ sound.bodies_rise c (stayed c old).0
+      | inr is ↦ subst (λ (d : Cluster). IsRisingBody (body_of d)) is (made_rises names f.live (λ k d h. sound.bodies_rise (get_or f.live k d) (Contains-get_or f.live k d h)))
+    ];
+    each_owns = λ c c_in. elim (Contains-push_cases (unnamed names f.live) whole c c_in) [
+      | inl old ↦ sound.each_owns c (stayed c old).0
+      | inr is ↦ subst (λ (d : Cluster). (k : ConId) × Contains d.owned k) is (whole_owns some live)
+    ];
+    owned_apart = λ a b k a_in b_in a_k b_k. elim (Contains-push_cases (unnamed names f.live) whole a a_in) [
+      | inl a_old ↦ elim (Contains-push_cases (unnamed names f.live) whole b b_in) [
+        | inl b_old ↦ sound.owned_apart a b k (stayed a a_old).0 (stayed b b_old).0 a_k b_k
+        | inr b_is ↦ absurd (apart_from_whole a k a_old a_k (subst (λ (d : Cluster). Contains d.owned k) (sym b_is) b_k))
+      ]
+      | inr a_is ↦ elim (Contains-push_cases (unnamed names f.live) whole b b_in) [
+        | inl b_old ↦ absurd (apart_from_whole b k b_old b_k (subst (λ (d : Cluster). Contains d.owned k) (sym a_is) a_k))
+        | inr b_is ↦ sym a_is ∙ b_is
+      ]
+    ];
+    starts_own_their_own = λ c k c_in has_name. elim (Contains-push_cases (unnamed names f.live) whole c c_in) [
+      | inl old ↦ sound.starts_own_their_own c k (stayed c old).0 has_name
+      | inr is ↦ (let never : Step f.next_step ≡ Con k = ap (λ (d : Cluster). d.name) is ∙ has_name in absurd (cc))
+    ];
+    steps_below = λ c k c_in has_name. elim (Contains-push_cases (unnamed names f.live) whole c c_in) [
+      | inl old ↦ (let below : k < f.next_step = sound.steps_below c k (stayed c old).0 has_name in omega arith)
+      | inr is ↦ (let level : f.next_step ≡ k = step_inside f.next_step k (ap (λ (d : Cluster). d.name) is ∙ has_name) in omega arith)
+    ];
+  }
+
+pub some_of : {f : Clusters} {names : List Name} → CanBeReplaced f names → 0 < length names
+some_of can = elim can.two_or_three [ inl two ↦ omega arith | inr three ↦ omega arith ]
+
+-- the starting clusters hold the starting bodies
+pub starting_bodies : (es : List Edge) → map body_of (map start_of es) ≡ map starting es
+starting_bodies [] = refl
+starting_bodies (e ∷ es) = ap (λ (bs : List Body). starting e ∷ bs) (starting_bodies es)

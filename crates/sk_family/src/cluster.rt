@@ -1,0 +1,66 @@
+// Clusters, and what two of them share.
+ghost use Rattle.std.specs.Prelude.{◌≡◌, ◌+◌, ◌<◌, ◌^◌, ◌∷◌, ◌++◌, [], List as Items, length};
+ghost use Rattle.sk_base.specs.declared.Elem.{Elem as Element};
+ghost use Rattle.sk_family.specs.Sharing.{is_elem, shared, overlap_of};
+
+use sk_base::{ConId, Elem, List, Name};
+
+/// A rigid set of elements, with the constraints that it owns. Both lists rise, and hold nothing
+/// twice.
+#[derive(Drop)]
+pub struct Cluster {
+    pub name: Name,
+    pub elements: List<Elem>,
+    pub owned: List<ConId>,
+}
+
+/// How many elements two clusters share, and the least two of them.
+#[derive(Clone, Copy, PartialEq, Eq, Debug)]
+pub struct Overlap {
+    pub count: u32,
+    pub first: Option<Elem>,
+    pub second: Option<Elem>,
+}
+
+/// What the two clusters share.
+pub fn common(a: &Cluster, b: &Cluster) -> Overlap
+    requires fits { length (shared a.now.elements b.now.elements) < 2 ^ 32 }
+    ensures { result ≡ overlap_of (shared a.now.elements b.now.elements) }
+{
+    let mut overlap = Overlap {
+        count: 0,
+        first: None,
+        second: None,
+    };
+    for elem in a.elements.as_slice() {
+        if is_in(*elem, b.elements.as_slice()) {
+            overlap = overlap.with(*elem);
+        }
+    }
+    overlap
+}
+
+fn is_in(elem: Elem, elements: &[Elem]) -> bool
+    ensures { result ≡ is_elem elements.now elem }
+{
+    elements.contains(&elem)
+}
+
+impl Overlap {
+    /// The overlap with one more element, above those that it has.
+    fn with(self, elem: Elem) -> Overlap
+        requires { self.count + 1 < 2 ^ 32 }
+        ensures { (both : Items Element) → self ≡ overlap_of both → result ≡ overlap_of (both ++ elem ∷ []) }
+    {
+        let (first, second) = match (self.first, self.second) {
+            (None, _) => (Some(elem), None),
+            (Some(first), None) => (Some(first), Some(elem)),
+            (Some(first), Some(second)) => (Some(first), Some(second)),
+        };
+        Overlap {
+            count: self.count + 1,
+            first,
+            second,
+        }
+    }
+}
