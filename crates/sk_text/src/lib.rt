@@ -1,0 +1,10 @@
+//! Numbers, appended to a text in their exact spelling.
+#![tactic(auto)]
+
+mod law;
+mod puts;
+mod spelling;
+
+pub use law::coordinates_read_back;
+pub use puts::Puts;
+pub use sk_base::{NoMemory, Text};
