@@ -1,5 +1,5 @@
 -- What every sketch that was read keeps to.
-use Rattle.std.specs.Prelude.{◌≡◌, ◌≢◌, ◌≤◌, ◌⊎◌, pos, Option, Some, None, length, All, AllPairs}
+use Rattle.std.specs.Prelude.{◌≡◌, ◌≢◌, ◌≤◌, ◌⊎◌, pos, Option, Some, None, length, All, AllPairs, IsTrue}
 use Rattle.sk_base.specs.declared.numbered.Elem.{Elem}
 use Rattle.sk_base.specs.declared.measure.Um.{Um}
 use Rattle.sk_base.specs.declared.measure.Ratio.{Ratio}
@@ -12,6 +12,7 @@ use Rattle.sk_base.specs.declared.sketch.Shape.TheVariants.{Point, Line, Circle}
 use Rattle.sk_base.specs.declared.sketch.Sketch.{Sketch}
 use Rattle.sk_base.specs.Bounds.{IsWithin, IsFromTo}
 use Rattle.sk_base.specs.Drawn.{shape_of, IsPoint, IsLine, IsCircle, HasCentre}
+use Rattle.sk_base.specs.Labels.{is_name}
 use Rattle.sk_base.specs.Rising.{IsRising}
 
 -- a drawn coordinate, at most 1,000,000 millimetres in absolute value
@@ -81,11 +82,12 @@ IsSoundRule s (Outside u v) = MayJoin s AreCircles u v
 IsSoundRule s (Inside u v) = MayJoin s MayNest u v
 IsSoundRule s (Angle l m ratio) = MayJoin s AreLines l m × IsSoundRatio ratio
 
--- numbers rise along both lists, labels differ, and each element and each constraint is one that the
--- language can declare
+-- numbers rise along both lists, labels are names and differ, and each element and each constraint is
+-- one that the language can declare
 pub record IsSoundSketch (s : Sketch) : Type 0 where
   pub elements_rise : IsRising (λ (x : Element). x.number.0) s.elements
   pub constraints_rise : IsRising (λ (x : Constraint). x.number.0) s.constraints
+  pub labels_are_names : All (λ (x : Element). IsTrue (is_name x.label)) s.elements
   pub labels_differ : AllPairs (λ (x y : Element). x.label ≢ y.label) s.elements
   pub few_elements : length s.elements ≤ 2000
   pub few_constraints : length s.constraints ≤ 4000
