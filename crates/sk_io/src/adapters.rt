@@ -1,0 +1,105 @@
+ghost use Rattle.std.specs.Prelude.{◌≡◌, None, is_err, if◌then◌else◌};
+ghost use Rattle.std.specs.Io.{ReadsAtMost};
+ghost use Rattle.sk_io.specs.Causes.{HasCause};
+ghost use Rattle.sk_io.specs.Transfer.{WritesSome};
+ghost use Rattle.sk_io.specs.Memory.{one_later};
+
+use crate::fault::Failed;
+use crate::sink::Sink;
+use crate::source::Source;
+use std::io::{Read, Write};
+use std::marker::Model;
+
+/// A reader of std's, which contracts see as how often it has failed. It tells nothing of content.
+#[derive(Drop)]
+pub struct StdSource<R: Read> {
+    inner: R,
+    faults: u64,
+}
+
+impl<R: Read> Model for StdSource<R> {
+    ghost use Rattle.std.specs.Prelude.{ℕ};
+
+    ghost Value = { ℕ };
+
+    ghost view = { λ s. s.faults };
+}
+
+impl<R: Read> StdSource<R> {
+    pub fn new(inner: R) -> StdSource<R>
+        ensures { result ≡ 0 }
+    {
+        StdSource { inner, faults: 0 }
+    }
+}
+
+impl<R: Read> Source for StdSource<R> {
+    ghost left = { λ _. None };
+
+    ghost faults = { λ s. s };
+
+    ghost is_sure = { λ _. ⊥ };
+
+    fn read(&mut self, buf: &mut [u8]) -> Result<usize, Failed>
+        ensures bound { ReadsAtMost result buf.new }
+        ensures cause { HasCause self.old self.new result }
+        ensures counted { self.new ≡ (if is_err result then one_later self.old else self.old) }
+    {
+        match self.inner.read(buf) {
+            Ok(count) => Ok(count),
+            Err(_) => {
+                self.faults = self.faults.saturating_add(1);
+                Err(Failed)
+            }
+        }
+    }
+}
+
+/// A writer of std's, which contracts see as how often it has failed or taken nothing of a piece. It
+/// tells nothing of content.
+#[derive(Drop)]
+pub struct StdSink<W: Write> {
+    inner: W,
+    faults: u64,
+}
+
+impl<W: Write> Model for StdSink<W> {
+    ghost use Rattle.std.specs.Prelude.{ℕ};
+
+    ghost Value = { ℕ };
+
+    ghost view = { λ s. s.faults };
+}
+
+impl<W: Write> StdSink<W> {
+    pub fn new(inner: W) -> StdSink<W>
+        ensures { result ≡ 0 }
+    {
+        StdSink { inner, faults: 0 }
+    }
+}
+
+impl<W: Write> Sink for StdSink<W> {
+    ghost written = { λ _. None };
+
+    ghost faults = { λ s. s };
+
+    ghost sure_room = { λ _. 0 };
+
+    fn write(&mut self, piece: &[u8]) -> Result<usize, Failed>
+        ensures bound { WritesSome result piece.now }
+        ensures cause { HasCause self.old self.new result }
+        ensures counted { self.new ≡ (if is_err result then one_later self.old else self.old) }
+    {
+        if piece.is_empty() {
+            return Ok(0);
+        }
+        match self.inner.write(piece) {
+            Ok(count) if count > 0 => Ok(count),
+            _ => {
+                self.faults = self.faults.saturating_add(1);
+                Err(Failed)
+            }
+        }
+    }
+}

@@ -1,0 +1,44 @@
+ghost use Rattle.std.specs.Prelude.{◌≡◌, ◌≤◌, ◌+◌, ℕ, List, length, IfOk, OnOk, OnErr, IsOk};
+ghost use Rattle.std.specs.declared.option.Option.{Option};
+ghost use Rattle.std.specs.Io.KnownBytes.{Appends, WriteAppends};
+ghost use Rattle.sk_io.specs.Causes.{HasCause};
+ghost use Rattle.sk_io.specs.Transfer.{WritesSome, AppendsFront};
+
+use crate::fault::Failed;
+
+/// What bytes are written to.
+pub trait Sink {
+    /// The bytes that were written, where the sink tells them.
+    ghost written: { Self → Option (List ℕ) };
+
+    /// How often a write has failed.
+    ghost faults: { Self → ℕ };
+
+    /// So many further bytes are taken, and no write of them fails. This tells nothing of content.
+    ghost sure_room: { Self → ℕ };
+
+    /// Appends bytes of the front of the piece, at least one where there is one.
+    fn write(&mut self, piece: &[u8]) -> Result<usize, Failed>
+        ensures bound { WritesSome result piece.now }
+        ensures bytes { WriteAppends (written self.old) (written self.new) result piece.now }
+        ensures cause { HasCause (faults self.old) (faults self.new) result }
+        ensures sure { length piece.now ≤ sure_room self.old
+            → (faults self.new ≡ faults self.old) × IsOk result
+            × IfOk result (λ n. sure_room self.old ≤ sure_room self.new + n) };
+}
+
+/// Appends all the bytes, or at a fault a front of them.
+pub fn write_all<K: Sink>(sink: &mut K, bytes: &[u8]) -> Result<(), Failed>
+    ensures ok { OnOk result (Appends (K.written sink.old) (K.written sink.new) bytes.now) }
+    ensures err { OnErr result (AppendsFront (K.written sink.old) (K.written sink.new) bytes.now) }
+
+    ensures cause { HasCause (K.faults sink.old) (K.faults sink.new) result }
+    ensures sure { length bytes.now ≤ K.sure_room sink.old
+        → (K.faults sink.new ≡ K.faults sink.old) × IsOk result }
+{
+    let mut done = 0;
+    while done < bytes.len() {
+        done += sink.write(&bytes[done..])?;
+    }
+    Ok(())
+}

@@ -1,0 +1,60 @@
+ghost use Rattle.std.specs.Prelude.{◌≡◌, ◌≤◌, ℕ, List, length, IfOk, OnErr, IsOk, IsErrOf};
+ghost use Rattle.std.specs.declared.option.Option.{Option};
+ghost use Rattle.std.specs.Io.{ReadsAtMost};
+ghost use Rattle.std.specs.Io.KnownBytes.{ReadConsumes};
+ghost use Rattle.sk_io.specs.Causes.{Rose, HasCause};
+ghost use Rattle.sk_io.specs.Transfer.{TakesUpTo, TakesSome};
+
+use crate::fault::{Failed, ReadEnd};
+use sk_base::{NoMemory, Text};
+use std::alloc::Global;
+
+/// What bytes are read from.
+pub trait Source {
+    /// The bytes that are left, where the source tells them.
+    ghost left: { Self → Option (List ℕ) };
+
+    /// How often a read has failed.
+    ghost faults: { Self → ℕ };
+
+    /// No read from here on fails. This tells nothing of content.
+    ghost is_sure: { Self → Type 0 };
+
+    /// Takes bytes off the front of what is left. `Ok(0)` on a buffer that isn't empty is the end.
+    fn read(&mut self, buf: &mut [u8]) -> Result<usize, Failed>
+        ensures bound { ReadsAtMost result buf.new }
+        ensures bytes { ReadConsumes (left self.old) (left self.new) result buf.new }
+        ensures cause { HasCause (faults self.old) (faults self.new) result }
+        ensures sure { is_sure self.old
+            → is_sure self.new × IsOk result × (faults self.new ≡ faults self.old) };
+}
+
+/// The most bytes of one read.
+const CHUNK: usize = 4096;
+
+/// Takes bytes until the end of input, or until `most` were taken.
+pub fn read_all<S: Source>(alloc: Global, source: &mut S, most: u64) -> Result<Text, ReadEnd>
+    requires { most ≤ 1048577 }
+    ensures taken { IfOk result (TakesUpTo most (S.left source.old) (S.left source.new)) }
+    ensures bound { IfOk result (λ text. length text ≤ most) }
+    ensures err { OnErr result (TakesSome (S.left source.old) (S.left source.new)) }
+
+    ensures later { S.faults source.old ≤ S.faults source.new }
+    ensures cause { IsErrOf result ReadEnd.ReadFault
+        → Rose (S.faults source.old) (S.faults source.new) }
+    ensures sure { S.is_sure source.old
+        → (S.faults source.new ≡ S.faults source.old) × (IsErrOf result ReadEnd.ReadFault → ⊥) }
+{
+    let mut text = Text::new(alloc);
+    let mut chunk = [0u8; CHUNK];
+    let most = most as usize;
+    while text.len() < most {
+        let room = CHUNK.min(most - text.len());
+        let count = source.read(&mut chunk[..room])?;
+        if count == 0 {
+            break;
+        }
+        text.put(&chunk[..count])?;
+    }
+    Ok(text)
+}
