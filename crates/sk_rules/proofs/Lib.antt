@@ -1,0 +1,5 @@
+pub mod Ordering
+pub mod Families
+pub mod NormalForm
+pub mod Merging
+pub mod Counting

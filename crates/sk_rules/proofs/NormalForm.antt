@@ -1,0 +1,198 @@
+-- All normal families of a graph are the same, by containment: where each body of a family lies in
+-- one of a closed family, it does after a merge too.
+use Rattle.std.proofs.Common.{◌≡◌, ◌⊎◌, inl, inr, List, [], ◌∷◌, refl, sym, subst, ◌∙◌}
+use Rattle.std.specs.Prelude.{Contains}
+use Rattle.sk_base.specs.declared.Elem.{Elem}
+use Rattle.sk_base.specs.declared.Graph.{Graph}
+use Rattle.sk_base.specs.SoundGraph.{HasRisingEdges}
+use Rattle.sk_family.specs.Body.{Body, join_all, initial_bodies, SameBodies}
+use Rattle.sk_base.proofs.Members.{contains_none, contains_head, contains_later, contains_one, contains_cases}
+use Rattle.sk_family.proofs.Bodies.{Within, within_itself, within_along, each_within, whole_within, same_within, body_settles}
+use Rattle.sk_rules.specs.Rules.{IsShared, SharesTwo, MeetsInThree}
+use Rattle.sk_rules.specs.Reach.{CanMerge, AreAmong, Step, Reach, IsClosed, IsNormal}
+use Rattle.sk_rules.proofs.Families.{IsFamily, initial_family, step_family, kept_along}
+
+-- each body of f lies in one of n
+abbrev pub IsCovered : List Body → List Body → Type 0
+IsCovered f n = (x : Body) → Contains f x → (y : Body) × Contains n y × Within x y
+
+shared_within : {a b c d : Body} → Within a c → Within b d → (e : Elem) → IsShared a.elements b.elements e → IsShared c.elements d.elements e
+shared_within p q e h = (p.elements e h.0, q.elements e h.1)
+
+shares_within : {a b c d : Body} → Within a c → Within b d → SharesTwo a.elements b.elements → SharesTwo c.elements d.elements
+shares_within p q (a, b, s) = (a, b, record { differ = s.differ; a_shared = shared_within p q a s.a_shared; b_shared = shared_within p q b s.b_shared })
+
+meets_within : (g : Graph) {a b c p q r : Body} → Within a p → Within b q → Within c r → MeetsInThree g a.elements b.elements c.elements → MeetsInThree g p.elements q.elements r.elements
+meets_within g in_p in_q in_r (a, b, c, m) = (
+  a,
+  b,
+  c,
+  record {
+    a_shared = shared_within in_p in_q a m.a_shared;
+    b_shared = shared_within in_q in_r b m.b_shared;
+    c_shared = shared_within in_r in_p c m.c_shared;
+    differ = m.differ;
+    not_all_lines = m.not_all_lines;
+  },
+)
+
+two_among : (f : List Body) (a b : Body) → Contains f a → Contains f b → AreAmong (a ∷ b ∷ []) f
+two_among f a b a_in b_in x h =
+    elim (contains_cases a (b ∷ []) x h) [
+      | inl is ↦ subst (λ z. Contains f z) is a_in
+      | inr rest ↦ subst (λ z. Contains f z) (contains_one b x rest) b_in
+    ]
+
+three_among : (f : List Body) (a b c : Body) → Contains f a → Contains f b → Contains f c → AreAmong (a ∷ b ∷ c ∷ []) f
+three_among f a b c a_in b_in c_in x h =
+    elim (contains_cases a (b ∷ c ∷ []) x h) [
+      | inl is ↦ subst (λ z. Contains f z) is a_in
+      | inr rest ↦ two_among f b c b_in c_in x rest
+    ]
+
+module _ (g : Graph) (n : List Body) (closed : IsClosed g n) where
+  -- in a closed family, bodies that share two elements are one
+  pub one_of_two : (a b : Body) → Contains n a → Contains n b → SharesTwo a.elements b.elements → a ≡ b
+  one_of_two a b a_in b_in shares =
+      elim (body_settles a b) [ inl same ↦ same | inr other ↦ absurd (closed (a ∷ b ∷ []) (two_among n a b a_in b_in) (other, shares)) ]
+
+  -- and bodies that meet in three are one: where two of them are, they share two elements with the third
+  one_of_three : (a b c : Body) → Contains n a → Contains n b → Contains n c → MeetsInThree g a.elements b.elements c.elements → (a ≡ b) × (b ≡ c)
+  one_of_three a b c a_in b_in c_in (p, q, r, m) =
+      elim (body_settles a b) [
+        | inl a_b ↦ (
+          a_b,
+          one_of_two b c b_in c_in (
+            q,
+            r,
+            record {
+              differ = m.differ.1;
+              a_shared = m.b_shared;
+              b_shared = (subst (λ (z : Body). Contains z.elements r) a_b m.c_shared.1, m.c_shared.0);
+            },
+          ),
+        )
+        | inr a_not_b ↦ elim (body_settles b c) [
+          | inl b_c ↦ (
+            one_of_two a b a_in b_in (
+              p,
+              r,
+              record {
+                differ = λ e. m.differ.2 (sym e);
+                a_shared = m.a_shared;
+                b_shared = (m.c_shared.1, subst (λ (z : Body). Contains z.elements r) (sym b_c) m.c_shared.0);
+              },
+            ),
+            b_c,
+          )
+          | inr b_not_c ↦ elim (body_settles c a) [
+            | inl c_a ↦ (let a_b : a ≡ b = one_of_two a b a_in b_in (
+              p,
+              q,
+              record {
+                differ = m.differ.0;
+                a_shared = m.a_shared;
+                b_shared = (subst (λ (z : Body). Contains z.elements q) c_a m.b_shared.1, m.b_shared.0);
+              },
+            ) in (a_b, sym (c_a ∙ a_b)))
+            | inr c_not_a ↦ absurd (closed (a ∷ b ∷ c ∷ []) (three_among n a b c a_in b_in c_in) (a_not_b, b_not_c, c_not_a, (p, q, r, m)))
+          ]
+        ]
+      ]
+
+  -- what may merge lies in one body of the closed family, where each lies in one
+  one_around : (merged : List Body) → CanMerge g merged → IsCovered merged n → (y : Body) × Contains n y × ((x : Body) → Contains merged x → Within x y)
+  one_around [] can covered = absurd can
+  one_around (a ∷ []) can covered = absurd can
+  one_around (a ∷ b ∷ []) can covered =
+      let p = covered a (contains_head a (b ∷ [])) in
+      let q = covered b (contains_later a (b ∷ []) b (contains_head b [])) in
+      let same : p.0 ≡ q.0 = one_of_two p.0 q.0 p.1 q.1 (shares_within p.2 q.2 can.1) in (
+        p.0,
+        p.1,
+        λ x h. elim (contains_cases a (b ∷ []) x h) [
+          | inl is ↦ subst (λ z. Within z p.0) is p.2
+          | inr rest ↦ subst (λ z. Within z p.0) (contains_one b x rest) (subst (λ z. Within b z) (sym same) q.2)
+        ],
+      )
+  one_around (a ∷ b ∷ c ∷ []) can covered =
+      let p = covered a (contains_head a (b ∷ c ∷ [])) in
+      let q = covered b (contains_later a (b ∷ c ∷ []) b (contains_head b (c ∷ []))) in
+      let r = covered c (contains_later a (b ∷ c ∷ []) c (contains_later b (c ∷ []) c (contains_head c []))) in
+      let same = one_of_three p.0 q.0 r.0 p.1 q.1 r.1 (meets_within g p.2 q.2 r.2 can.3) in (
+        p.0,
+        p.1,
+        λ x h. elim (contains_cases a (b ∷ c ∷ []) x h) [
+          | inl is ↦ subst (λ z. Within z p.0) is p.2
+          | inr rest ↦ elim (contains_cases b (c ∷ []) x rest) [
+            | inl is ↦ subst (λ z. Within z p.0) is (subst (λ z. Within b z) (sym same.0) q.2)
+            | inr last ↦ subst (λ z. Within z p.0) (contains_one c x last) (subst (λ z. Within c z) (sym (same.0 ∙ same.1)) r.2)
+          ]
+        ],
+      )
+  one_around (a ∷ b ∷ c ∷ d ∷ rest) can covered = absurd can
+
+  -- a merge keeps a family inside a closed one
+  pub step_inside : (old new : List Body) → Step g old new → IsCovered old n → IsCovered new n
+  step_inside old new m covered x x_in =
+      elim ((m.replaces x).0 x_in) [
+        | inr stayed ↦ covered x stayed.0
+        | inl is ↦ (
+            let around = one_around m.merged m.can_merge (λ y h. covered y (m.among y h)) in
+            (around.0, around.1, subst (λ z. Within z around.0) (sym is) (whole_within m.merged around.2)))
+      ]
+
+-- either it is among them, or it is not
+pub among_settles : (bodies : List Body) (x : Body) → Contains bodies x ⊎ (¬ Contains bodies x)
+among_settles [] x = inr (contains_none x)
+among_settles (b ∷ bs) x =
+    elim (body_settles b x) [
+      | inl here ↦ inl (subst (λ z. Contains (b ∷ bs) z) here (contains_head b bs))
+      | inr not_here ↦ elim (among_settles bs x) [
+        | inl later ↦ inl (contains_later b bs x later)
+        | inr not_later ↦ inr (λ h. elim (contains_cases b bs x h) [ inl here ↦ not_here here | inr later ↦ not_later later ])
+      ]
+    ]
+
+-- what a merge leaves covers what was there
+pub step_covers : (g : Graph) (old new : List Body) → Step g old new → IsCovered old new
+step_covers g old new m x x_in =
+    elim (among_settles m.merged x) [
+      | inl merged ↦ (join_all m.merged, (m.replaces (join_all m.merged)).1 (inl refl), each_within m.merged x merged)
+      | inr stays_out ↦ (x, (m.replaces x).1 (inr (x_in, stays_out)), within_itself x)
+    ]
+
+covers_along : (f m n : List Body) → IsCovered f m → IsCovered m n → IsCovered f n
+covers_along f m n p q x x_in =
+    let y = p x x_in in
+    let z = q y.0 y.1 in
+    (z.0, z.1, within_along y.2 z.2)
+
+covers_itself : (f : List Body) → IsCovered f f
+covers_itself f x x_in = (x, x_in, within_itself x)
+
+pub reach_covers : (g : Graph) (f n : List Body) → Reach g f n → IsCovered f n
+reach_covers g f n reached =
+    kept_along g (λ m. IsCovered f m) (λ old new one covered. covers_along f old new covered (step_covers g old new one)) f n reached (covers_itself f)
+
+-- each body of one normal family lies in one of the other
+normal_covered : (g : Graph) (one other : List Body) → IsNormal g one → IsNormal g other → IsCovered one other
+normal_covered g one other p q =
+    kept_along g (λ m. IsCovered m other) (step_inside g other q.closed) (initial_bodies g) one p.reached (reach_covers g (initial_bodies g) other q.reached)
+
+pub reached_family : (g : Graph) (f : List Body) → HasRisingEdges g → Reach g (initial_bodies g) f → IsFamily f
+reached_family g f rises reached = kept_along g IsFamily (step_family g) (initial_bodies g) f reached (initial_family g rises)
+
+normal_inside : (g : Graph) (one other : List Body) → HasRisingEdges g → IsNormal g one → IsNormal g other → (x : Body) → Contains one x → Contains other x
+normal_inside g one other rises p q x x_in =
+    let ours = reached_family g one rises p.reached in
+    let theirs = reached_family g other rises q.reached in
+    let y = normal_covered g one other p q x x_in in
+    let z = normal_covered g other one q p y.0 y.1 in
+    let k = ours.owns x x_in in
+    let back : x ≡ z.0 = ours.apart x z.0 k.0 x_in z.1 k.1 (z.2.owned k.0 (y.2.owned k.0 k.1)) in
+    let same : x ≡ y.0 = same_within x y.0 (ours.rising x x_in) (theirs.rising y.0 y.1) y.2 (subst (λ w. Within y.0 w) (sym back) z.2) in
+    subst (λ w. Contains other w) (sym same) y.1
+
+pub normal_same : (g : Graph) (one other : List Body) → HasRisingEdges g → IsNormal g one → IsNormal g other → SameBodies one other
+normal_same g one other rises p q x = (normal_inside g one other rises p q x, normal_inside g other one rises q p x)

@@ -1,0 +1,182 @@
+ghost use Rattle.std.specs.Prelude.{◌≡◌, ◌≢◌, ◌↔◌, ◌<◌, ◌≤◌, IfSome, IfNone, IsTrue, Contains};
+ghost use Rattle.sk_base.specs.declared.Elem.{Elem as Element};
+ghost use Rattle.sk_base.specs.Numbering.{elem_number};
+ghost use Rattle.sk_base.specs.Rising.{IsRising};
+ghost use Rattle.sk_rules.specs.Rules.{IsLine, IsShared, IsTriangle, SharesTwo, MeetsInThree};
+ghost use Rattle.sk_rules.specs.Merges.{IsLeastPair, IsLeastTriangle};
+
+use sk_base::{Elem, Graph, Kind, Node};
+
+/// The least two elements that are in both.
+pub(crate) fn least_pair(xs: &[Elem], ys: &[Elem]) -> Option<(Elem, Elem)>
+    requires { IsRising elem_number xs.now }
+    ensures none { IfNone result (¬ SharesTwo xs.now ys.now) }
+    ensures some { IfSome result (λ p. IsLeastPair xs.now ys.now p.0 p.1) }
+{
+    let a = least_shared(xs, ys)?;
+    let b = least_other(a, xs, ys)?;
+    Some((a, b))
+}
+
+/// The least element that is in both.
+fn least_shared(xs: &[Elem], ys: &[Elem]) -> Option<Elem>
+    requires { IsRising elem_number xs.now }
+    ensures none { IfNone result ((e : Element) → ¬ IsShared xs.now ys.now e) }
+    ensures shared { IfSome result (IsShared xs.now ys.now) }
+    ensures least { IfSome result (λ a. (e : Element) → IsShared xs.now ys.now e → a.0 ≤ e.0) }
+{
+    for a in xs {
+        if is_in(*a, ys) {
+            return Some(*a);
+        }
+    }
+    None
+}
+
+/// The least element but that one that is in both.
+fn least_other(a: Elem, xs: &[Elem], ys: &[Elem]) -> Option<Elem>
+    requires { IsRising elem_number xs.now }
+    ensures none { IfNone result ((e : Element) → e ≢ a → ¬ IsShared xs.now ys.now e) }
+    ensures shared { IfSome result (IsShared xs.now ys.now) }
+    ensures other { IfSome result (λ b. b ≢ a) }
+    ensures least { IfSome result (λ b. (e : Element) → e ≢ a → IsShared xs.now ys.now e → b.0 ≤ e.0) }
+{
+    for b in xs {
+        if is_other_in(*b, a, ys) {
+            return Some(*b);
+        }
+    }
+    None
+}
+
+fn is_other_in(b: Elem, a: Elem, ys: &[Elem]) -> bool
+    ensures { IsTrue result ↔ ((b ≢ a) × Contains ys.now b) }
+{
+    b != a && ys.contains(&b)
+}
+
+/// The least three elements by which the triangle rule holds.
+pub(crate) fn least_triangle(
+    graph: &Graph,
+    xs: &[Elem],
+    ys: &[Elem],
+    zs: &[Elem],
+) -> Option<(Elem, Elem, Elem)>
+    requires xs_rise { IsRising elem_number xs.now }
+    requires ys_rise { IsRising elem_number ys.now }
+    requires zs_rise { IsRising elem_number zs.now }
+    ensures none { IfNone result (¬ MeetsInThree graph.now xs.now ys.now zs.now) }
+    ensures some { IfSome result (λ t. IsLeastTriangle graph.now xs.now ys.now zs.now t.0 t.1 t.2) }
+{
+    for a in xs {
+        if let Some((b, c)) = rest_of_triangle(graph, *a, xs, ys, zs) {
+            return Some((*a, b, c));
+        }
+    }
+    None
+}
+
+/// The least two that make a triangle with a.
+fn rest_of_triangle(
+    graph: &Graph,
+    a: Elem,
+    xs: &[Elem],
+    ys: &[Elem],
+    zs: &[Elem],
+) -> Option<(Elem, Elem)>
+    requires ys_rise { IsRising elem_number ys.now }
+    requires zs_rise { IsRising elem_number zs.now }
+    ensures none { IfNone result ((q r : Element) → ¬ IsTriangle graph.now xs.now ys.now zs.now a q r) }
+    ensures triangle { IfSome result (λ t. IsTriangle graph.now xs.now ys.now zs.now a t.0 t.1) }
+    ensures least_second { IfSome result (λ t. (q r : Element) → IsTriangle graph.now xs.now ys.now zs.now a q r → t.0.0 ≤ q.0) }
+    ensures least_third { IfSome result (λ t. (r : Element) → IsTriangle graph.now xs.now ys.now zs.now a t.0 r → t.1.0 ≤ r.0) }
+{
+    if !is_in(a, ys) {
+        return None;
+    }
+    for b in ys {
+        if let Some(c) = third_corner(graph, a, *b, xs, ys, zs) {
+            return Some((*b, c));
+        }
+    }
+    None
+}
+
+/// The least one that makes a triangle with a and b.
+fn third_corner(
+    graph: &Graph,
+    a: Elem,
+    b: Elem,
+    xs: &[Elem],
+    ys: &[Elem],
+    zs: &[Elem],
+) -> Option<Elem>
+    requires { IsRising elem_number zs.now }
+    ensures none { IfNone result ((r : Element) → ¬ IsTriangle graph.now xs.now ys.now zs.now a b r) }
+    ensures triangle { IfSome result (IsTriangle graph.now xs.now ys.now zs.now a b) }
+    ensures least { IfSome result (λ c. (r : Element) → IsTriangle graph.now xs.now ys.now zs.now a b r → c.0 ≤ r.0) }
+{
+    if !is_in(b, zs) {
+        return None;
+    }
+    for c in zs {
+        if is_triangle(graph, a, b, *c, xs, ys, zs) {
+            return Some(*c);
+        }
+    }
+    None
+}
+
+/// Whether the three make a triangle.
+fn is_triangle(
+    graph: &Graph,
+    a: Elem,
+    b: Elem,
+    c: Elem,
+    xs: &[Elem],
+    ys: &[Elem],
+    zs: &[Elem],
+) -> bool
+    ensures { IsTrue result ↔ IsTriangle graph.now xs.now ys.now zs.now a b c }
+{
+    is_shared(a, xs, ys)
+        && is_shared(b, ys, zs)
+        && is_shared(c, zs, xs)
+        && are_different(a, b, c)
+        && !are_lines(graph, a, b, c)
+}
+
+fn is_in(elem: Elem, xs: &[Elem]) -> bool
+    ensures { IsTrue result ↔ Contains xs.now elem }
+{
+    xs.contains(&elem)
+}
+
+/// Whether the element is in both.
+fn is_shared(elem: Elem, xs: &[Elem], ys: &[Elem]) -> bool
+    ensures { IsTrue result ↔ IsShared xs.now ys.now elem }
+{
+    xs.contains(&elem) && ys.contains(&elem)
+}
+
+fn are_different(a: Elem, b: Elem, c: Elem) -> bool
+    ensures { IsTrue result ↔ ((a ≢ b) × (b ≢ c) × (c ≢ a)) }
+{
+    a != b && b != c && c != a
+}
+
+/// Whether all three are lines.
+fn are_lines(graph: &Graph, a: Elem, b: Elem, c: Elem) -> bool
+    ensures { IsTrue result ↔ (IsLine graph.now a × IsLine graph.now b × IsLine graph.now c) }
+{
+    is_line(graph, a) && is_line(graph, b) && is_line(graph, c)
+}
+
+fn is_line(graph: &Graph, elem: Elem) -> bool
+    ensures { IsTrue result ↔ IsLine graph.now elem }
+{
+    graph.nodes.as_slice().contains(&Node {
+        elem,
+        kind: Kind::Line,
+    })
+}
