@@ -1,0 +1,13 @@
+pub mod AroundLemmas
+pub mod CornerLemmas
+pub mod FinerProducts
+pub mod FinerQuotients
+pub mod FinerRoots
+pub mod FinerSums
+pub mod LeastLemmas
+pub mod PowerLemmas
+pub mod ProductLemmas
+pub mod QuotientLemmas
+pub mod RatioLemmas
+pub mod ScaleLemmas
+pub mod SquareLemmas
