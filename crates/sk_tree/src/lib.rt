@@ -1,0 +1,10 @@
+//! Trees of triangle merges, and the plans that tell them.
+#![tactic(auto)]
+
+mod joined;
+mod plan;
+mod tree;
+
+pub use joined::build;
+pub use plan::{Choice, Plan, PlanStep};
+pub use tree::{Joint, Tree, height, leaf_tree, leaves, steps};
