@@ -1,0 +1,3 @@
+pub mod DrawnSigns
+pub mod PlacedSigns
+pub mod Vectors

@@ -1,0 +1,12 @@
+//! On which side, in which sense and in which turn things lie, as drawn and as placed: exact signs of
+//! whole numbers.
+#![tactic(auto)]
+
+mod drawn;
+mod placed;
+#[cfg(test)]
+mod tests;
+mod vector;
+
+pub use drawn::{advance_drawn, sense_drawn, side_drawn, turn_drawn};
+pub use placed::{advance_placed, sense_placed, side_placed, turn_placed};
