@@ -1,0 +1,73 @@
+-- Entries, by the words behind the first.
+use Rattle.std.proofs.Common.{◌≡◌, ℕ, zero, suc, ◌+◌, ◌-◌, ◌<◌, ◌≤◌, true, false, List, [], ◌∷◌, length, get_or, map, drop, Option, Some, None, MatchResult, refl, sym, ◌∙◌, arith, nat_eq, add-one, length-drop}
+use Rattle.std.proofs.lemmas.List.{get_or-drop, length-map}
+use Rattle.sk_base.specs.declared.Element.{Element}
+use Rattle.sk_base.specs.declared.Constraint.{Constraint}
+use Rattle.sk_base.specs.declared.Sketch.{Sketch}
+use Rattle.sk_lex.specs.declared.words.Word.{Word}
+use Rattle.sk_lex.specs.Words.{StandInOrder, bytes_of}
+use Rattle.sk_lang.specs.declared.code.Code.{Code}
+use Rattle.sk_lang.specs.declared.code.Code.TheVariants.{E3, E12}
+use Rattle.std.proofs.lemmas.Bool.Decides.{nat_tests}
+use Rattle.sk_lang.specs.declared.keyword.Keyword.{Keyword}
+use Rattle.sk_lang.specs.declared.entry.Entry.{Entry}
+use Rattle.sk_lang.specs.declared.entry.Entry.TheVariants as entry
+use Rattle.sk_lang.specs.Keywords.{places}
+use Rattle.sk_lang.specs.Conditions.{lacks_radius}
+use Rattle.sk_lang.specs.Codes.{entry_rows}
+use Rattle.sk_lang.specs.FirstCode.{first_code, unless, map_ok}
+
+-- where the word at a place starts and ends
+pub word_within : (from : ℕ) (words : List Word) (to : ℕ) → StandInOrder from words to → (i : ℕ) (d : Word) → i < length words → ((get_or words i d).start < (get_or words i d).end) × ((get_or words i d).end ≤ to)
+word_within from [] to order i d below = absurd (omega arith)
+word_within from (word ∷ []) to order zero d below = (order.1, order.2)
+word_within from (word ∷ next ∷ more) to order zero d below =
+    let rest = word_within word.end (next ∷ more) to order.2 0 d (omega arith) in
+    let start = order.2.0 in (order.1, omega arith)
+word_within from (word ∷ words) to order (suc i) d below = word_within word.end words to order.2 i d (omega arith)
+
+pub rest_two : (ws : List (List ℕ)) (a b : List ℕ) → length ws ≡ 3 → a ≡ get_or ws 1 [] → b ≡ get_or ws 2 [] → drop 1 ws ≡ a ∷ b ∷ []
+rest_two [] a b len p q = absurd (omega arith)
+rest_two (w0 ∷ []) a b len p q = absurd (omega arith)
+rest_two (w0 ∷ w1 ∷ []) a b len p q = absurd (omega arith)
+rest_two (w0 ∷ w1 ∷ w2 ∷ []) a b len p q = rw (p, q) refl
+rest_two (w0 ∷ w1 ∷ w2 ∷ w3 ∷ more) a b len p q = absurd (omega arith)
+
+-- one place further
+more_at : (ws : List (List ℕ)) (w : List ℕ) (i : ℕ) → get_or (w ∷ ws) (i + 1) [] ≡ get_or ws i []
+more_at ws w i = rw add-one refl
+
+rest_first : (ws : List (List ℕ)) (n : ℕ) (a : List ℕ) (rest : List (List ℕ)) → length ws ≡ n + 2 → a ≡ get_or ws 1 [] → drop 1 (drop 1 ws) ≡ rest → drop 1 ws ≡ a ∷ rest
+rest_first [] n a rest len p q = absurd (omega arith)
+rest_first (w0 ∷ []) n a rest len p q = absurd (omega arith)
+rest_first (w0 ∷ w1 ∷ ws) n a rest len p q = rw (p, ← q) refl
+
+pub rest_three : (ws : List (List ℕ)) (a b c : List ℕ) → length ws ≡ 4 → a ≡ get_or ws 1 [] → b ≡ get_or ws 2 [] → c ≡ get_or ws 3 [] → drop 1 ws ≡ a ∷ b ∷ c ∷ []
+rest_three ws a b c len p q r = rest_first ws 2 a (b ∷ c ∷ []) len p (rest_two (drop 1 ws) b c (rw length-drop (omega arith)) (q ∙ sym (get_or-drop 1 ws 1 [])) (r ∙ sym (get_or-drop 1 ws 2 [])))
+
+pub rest_four : (ws : List (List ℕ)) (a b c d : List ℕ) → length ws ≡ 5 → a ≡ get_or ws 1 [] → b ≡ get_or ws 2 [] → c ≡ get_or ws 3 [] → d ≡ get_or ws 4 [] → drop 1 ws ≡ a ∷ b ∷ c ∷ d ∷ []
+rest_four ws a b c d len p q r s = rest_first ws 3 a (b ∷ c ∷ d ∷ []) len p (rest_three (drop 1 ws) b c d (rw length-drop (omega arith)) (q ∙ sym (get_or-drop 1 ws 1 [])) (r ∙ sym (get_or-drop 1 ws 2 [])) (s ∙ sym (get_or-drop 1 ws 3 [])))
+
+pub rest_five : (ws : List (List ℕ)) (a b c d e : List ℕ) → length ws ≡ 6 → a ≡ get_or ws 1 [] → b ≡ get_or ws 2 [] → c ≡ get_or ws 3 [] → d ≡ get_or ws 4 [] → e ≡ get_or ws 5 [] → drop 1 ws ≡ a ∷ b ∷ c ∷ d ∷ e ∷ []
+rest_five ws a b c d e len p q r s t = rest_first ws 4 a (b ∷ c ∷ d ∷ e ∷ []) len p (rest_four (drop 1 ws) b c d e (rw length-drop (omega arith)) (q ∙ sym (get_or-drop 1 ws 1 [])) (r ∙ sym (get_or-drop 1 ws 2 [])) (s ∙ sym (get_or-drop 1 ws 3 [])) (t ∙ sym (get_or-drop 1 ws 4 [])))
+
+pub element_reading : (code : Option Code) (e : Element) (made : Option Entry) → made ≡ Some (entry.Element e) → MatchResult (map_ok entry.Element (unless code e)) (λ en. (code ≡ None) × (made ≡ Some en)) (λ c. code ≡ Some c)
+element_reading None e made is = (refl, is)
+element_reading (Some c) e made is = refl
+
+pub constraint_reading : (code : Option Code) (e : Constraint) (made : Option Entry) → made ≡ Some (entry.Constraint e) → MatchResult (map_ok entry.Constraint (unless code e)) (λ en. (code ≡ None) × (made ≡ Some en)) (λ c. code ≡ Some c)
+constraint_reading None e made is = (refl, is)
+constraint_reading (Some c) e made is = refl
+
+pub wrong_count : (s : Sketch) (k : Keyword) (rest : List (List ℕ)) (count : ℕ) → count ≡ length rest → lacks_radius k count ≡ false → (count ≡ length (places k) → ⊥) → first_code (entry_rows s k rest) ≡ Some E3
+wrong_count s k rest count is radius other =
+    let longer : nat_eq (length rest) (length (places k)) ≡ false = grind (arith, nat_tests) in
+    let fine : lacks_radius k (length rest) ≡ false = rw (← is) radius in
+    rw (fine, longer) refl
+
+pub early_circle : (s : Sketch) (k : Keyword) (rest : List (List ℕ)) (count : ℕ) → count ≡ length rest → lacks_radius k count ≡ true → first_code (entry_rows s k rest) ≡ Some E12
+early_circle s k rest count is radius =
+    let early : lacks_radius k (length rest) ≡ true = rw (← is) radius in rw early refl
+
+pub length_rest : (line : List ℕ) (words : List Word) → length words - 1 ≡ length (drop 1 (map (bytes_of line) words))
+length_rest line words = sym (rw (length-drop, length-map) refl)

@@ -1,0 +1,9 @@
+pub mod ByHash
+pub mod Examples
+pub mod Declaring
+pub mod Entries
+pub mod LineByLine
+pub mod Answered
+pub mod Passing
+pub mod ReadBack
+pub mod NumberBack

@@ -1,0 +1,54 @@
+-- The canonical text of a sketch.
+use Rattle.std.specs.Prelude.{ℕ, ◌==◌, List, [], ◌∷◌, ◌++◌, map, Option, unwrap_or, codes}
+use Rattle.std.specs.List.{find, flat_map, join_with_byte}
+use Rattle.std.specs.Option.{option_map}
+use Rattle.sk_base.specs.declared.Elem.{Elem}
+use Rattle.sk_base.specs.declared.Ratio.{Ratio}
+use Rattle.sk_base.specs.declared.Shape.{Shape}
+use Rattle.sk_base.specs.declared.Shape.TheVariants.{Point, Line, Circle}
+use Rattle.sk_base.specs.declared.Rule.{Rule}
+use Rattle.sk_base.specs.declared.Rule.TheVariants.{Distance, On, Tangent, Outside, Inside, Angle}
+use Rattle.sk_base.specs.declared.Element.{Element}
+use Rattle.sk_base.specs.declared.Constraint.{Constraint}
+use Rattle.sk_base.specs.declared.Sketch.{Sketch}
+use Rattle.sk_base.specs.Drawn.{element_of}
+use Rattle.sk_text.specs.Spelling.{whole_text, mm_text}
+
+-- the words of an element's line
+abbrev pub shape_words : List ℕ → Shape → List (List ℕ)
+shape_words name (Point x y) = codes "point" ∷ name ∷ mm_text x.0 ∷ mm_text y.0 ∷ []
+shape_words name (Line x1 y1 x2 y2) = codes "line" ∷ name ∷ mm_text x1.0 ∷ mm_text y1.0 ∷ mm_text x2.0 ∷ mm_text y2.0 ∷ []
+shape_words name (Circle x y r) = codes "circle" ∷ name ∷ mm_text x.0 ∷ mm_text y.0 ∷ mm_text r.0 ∷ []
+
+-- the name of the element that has the number
+abbrev pub name_of : Sketch → Elem → List ℕ
+name_of s number = unwrap_or (option_map (λ (element : Element). element.label) (element_of s number)) []
+
+abbrev pub ratio_text : Ratio → List ℕ
+ratio_text ratio = whole_text ratio.p ++ 47 ∷ whole_text ratio.q
+
+-- the words of a constraint's line
+abbrev pub rule_words : Sketch → Rule → List (List ℕ)
+rule_words s (Distance u v len) = codes "distance" ∷ name_of s u ∷ name_of s v ∷ mm_text len.0 ∷ []
+rule_words s (On u v) = codes "on" ∷ name_of s u ∷ name_of s v ∷ []
+rule_words s (Tangent u v) = codes "tangent" ∷ name_of s u ∷ name_of s v ∷ []
+rule_words s (Outside u v) = codes "outside" ∷ name_of s u ∷ name_of s v ∷ []
+rule_words s (Inside u v) = codes "inside" ∷ name_of s u ∷ name_of s v ∷ []
+rule_words s (Angle l m ratio) = codes "angle" ∷ name_of s l ∷ name_of s m ∷ ratio_text ratio ∷ []
+
+-- the words with one space between
+abbrev pub spaced : List (List ℕ) → List ℕ
+spaced words = join_with_byte 32 words
+
+abbrev pub element_line : Element → List ℕ
+element_line element = spaced (shape_words element.label element.shape)
+
+abbrev pub constraint_line : Sketch → Constraint → List ℕ
+constraint_line s constraint = spaced (rule_words s constraint.rule)
+
+-- each line with its line feed
+abbrev pub ended_lines : List (List ℕ) → List ℕ
+ended_lines lines = flat_map (λ line. line ++ 10 ∷ []) lines
+
+abbrev pub canonical : Sketch → List ℕ
+canonical s = ended_lines (codes "sketch 1" ∷ map element_line s.elements ++ map (constraint_line s) s.constraints ++ codes "end" ∷ [])

@@ -1,0 +1,50 @@
+-- What one line says within a sketch.
+use Rattle.std.specs.Prelude.{◌≡◌, ⊤, ℕ, List, [], ◌∷◌, ◌++◌, length, map, Option, Some, None, Bool}
+use Rattle.sk_base.specs.declared.Elem.{Elem}
+use Rattle.sk_base.specs.declared.ConId.{ConId}
+use Rattle.sk_base.specs.declared.Sketch.{Sketch}
+use Rattle.sk_lex.specs.Words.{words_in, bytes_of, StandInOrder}
+use Rattle.sk_lang.specs.declared.keyword.Keyword.{Keyword}
+use Rattle.sk_lang.specs.declared.code.Code.{Code}
+use Rattle.sk_lang.specs.declared.entry.Entry.{Entry}
+use Rattle.sk_lang.specs.declared.entry.Entry.TheVariants.{Blank, Other}
+use Rattle.sk_lang.specs.declared.entry.EntryError.{EntryError}
+use Rattle.sk_lang.specs.declared.entry.EntryError.TheVariants.{Refused, NoMemory}
+use Rattle.sk_lang.specs.Keywords.{keyword_of}
+use Rattle.sk_lang.specs.Codes.{byte_rows, entry_rows}
+use Rattle.sk_lang.specs.FirstCode.{first_code}
+use Rattle.sk_lang.specs.Meaning.{entry_made}
+
+-- the codes of a line whose first word is one of the nine
+abbrev pub keyword_rows : Sketch → Option Keyword → List (List ℕ) → List (Bool × Code)
+keyword_rows s None rest = []
+keyword_rows s (Some k) rest = entry_rows s k rest
+
+abbrev pub rows_of : Sketch → List (List ℕ) → List (Bool × Code)
+rows_of s [] = []
+rows_of s (first ∷ rest) = keyword_rows s (keyword_of first) rest
+
+-- the code of a line that has a wrong byte, is too long or begins with one of the nine first words
+abbrev pub entry_code : Sketch → List ℕ → Option Code
+entry_code s line = first_code (byte_rows line ++ rows_of s (words_in line))
+
+abbrev pub IsOther : List ℕ → Entry → Type 0
+IsOther line (Other words) = (map (bytes_of line) words.items ≡ words_in line) × StandInOrder 0 words.items (length line)
+IsOther line _ = ⊥
+
+abbrev pub IsKeywordEntry : Sketch → List ℕ → Option Keyword → List (List ℕ) → Elem → ConId → Entry → Type 0
+IsKeywordEntry s line None rest elem con entry = IsOther line entry
+IsKeywordEntry s line (Some k) rest elem con entry = entry_made s k rest elem con ≡ Some entry
+
+abbrev pub IsEntryOfWords : Sketch → List ℕ → List (List ℕ) → Elem → ConId → Entry → Type 0
+IsEntryOfWords s line [] elem con entry = entry ≡ Blank
+IsEntryOfWords s line (first ∷ rest) elem con entry = IsKeywordEntry s line (keyword_of first) rest elem con entry
+
+-- what a line without such a code says
+abbrev pub IsEntryOf : Sketch → List ℕ → Elem → ConId → Entry → Type 0
+IsEntryOf s line elem con entry = IsEntryOfWords s line (words_in line) elem con entry
+
+-- the error says the code, or that memory ran out
+abbrev pub IsRefusal : Option Code → EntryError → Type 0
+IsRefusal code (Refused c) = code ≡ Some c
+IsRefusal code NoMemory = ⊤

@@ -1,0 +1,15 @@
+pub mod Canonical
+pub mod CodeTexts
+pub mod Codes
+pub mod Computed
+pub mod Conditions
+pub mod Entry
+pub mod FirstCode
+pub mod Index
+pub mod Keywords
+pub mod Kinds
+pub mod Lines
+pub mod Meaning
+pub mod Named
+pub mod Quantities
+pub mod Reading

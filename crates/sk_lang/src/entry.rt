@@ -1,0 +1,35 @@
+ghost use Rattle.std.specs.Prelude.{◌≡◌};
+ghost use Rattle.sk_lang.specs.declared.entry.EntryError.TheVariants.{NoMemory};
+
+use crate::code::Code;
+use sk_base::{Constraint, Element, NoMemory};
+use sk_lex::Words;
+use thiserror::Error;
+
+/// What one line says.
+#[derive(Drop)]
+pub enum Entry {
+    /// The line has no words.
+    Blank,
+    Element(Element),
+    Constraint(Constraint),
+    /// The first word is none of the nine that begin an element or a constraint.
+    Other(Words),
+}
+
+/// Why a line isn't read.
+#[derive(Clone, Copy, Debug, PartialEq, Eq, Error)]
+pub enum EntryError {
+    #[error("the line is refused: {code} {word}", code = .0.text(), word = .0.word())]
+    Refused(Code),
+    #[error("memory ran out")]
+    NoMemory,
+}
+
+impl From<NoMemory> for EntryError {
+    ghost from_gives = { λ _ error. error ≡ NoMemory };
+
+    fn from(_error: NoMemory) -> EntryError {
+        EntryError::NoMemory
+    }
+}

@@ -1,0 +1,164 @@
+ghost use Rattle.std.specs.Prelude.{◌≡◌, ◌==◌, nat_le, length, Some, None, is_some, is_none, true, false, Ok, Err, MatchResult, bytes_eq};
+ghost use Rattle.sk_base.specs.Labels.{is_name};
+ghost use Rattle.sk_base.specs.Millimetres.{mm_of};
+ghost use Rattle.sk_lang.specs.Kinds.{takes, is_line, is_circle};
+ghost use Rattle.sk_lang.specs.Quantities.{length_of, not_negative};
+ghost use Rattle.sk_lang.specs.Named.{element_named};
+ghost use Rattle.sk_lang.specs.Conditions.{is_zero, radius_of};
+ghost use Rattle.sk_lang.specs.declared.code.Code.TheVariants.{E4, E5, E6, E7, E8, E9, E10, E13, E14};
+
+use crate::code::Code;
+use crate::keyword::Keyword;
+use crate::scope::Scope;
+use sk_base::{Element, Label, Shape, Um, parse_mm};
+
+/// The most elements of a sketch.
+const MOST_ELEMENTS: usize = 2000;
+
+/// The most constraints of a sketch.
+const MOST_CONSTRAINTS: usize = 4000;
+
+/// The name that a word is.
+pub(crate) fn label(word: &[u8]) -> Result<Label, Code>
+    ensures { MatchResult result
+        (λ label. (is_name word.now ≡ true) × (label ≡ word.now))
+        (λ code. (is_name word.now ≡ false) × (code ≡ E4)) }
+{
+    Label::new(word).ok_or(Code::E4)
+}
+
+/// Tests that no element has the name.
+pub(crate) fn free<S: Scope>(s: &S, name: Label) -> Result<(), Code>
+    ensures { MatchResult result
+        (λ _. element_named (S.so_far s.now) name ≡ None)
+        (λ code. (is_some (element_named (S.so_far s.now) name) ≡ true) × (code ≡ E5)) }
+{
+    match s.named(name) {
+        None => Ok(()),
+        Some(_) => Err(Code::E5),
+    }
+}
+
+/// The element that has the name.
+pub(crate) fn declared<'a, S: Scope>(s: &'a S, name: Label) -> Result<&'a Element, Code>
+    ensures { MatchResult result
+        (λ element. element_named (S.so_far s.now) name ≡ Some element.now)
+        (λ code. (element_named (S.so_far s.now) name ≡ None) × (code ≡ E6)) }
+{
+    s.named(name).ok_or(Code::E6)
+}
+
+/// A coordinate.
+pub(crate) fn coordinate(word: &[u8]) -> Result<Um, Code>
+    ensures { MatchResult result (λ um. mm_of word.now ≡ Some um.0) (λ code. (mm_of word.now ≡ None) × (code ≡ E8)) }
+{
+    parse_mm(word).map_err(|_| Code::E8)
+}
+
+/// A length or a radius, which isn't negative.
+pub(crate) fn length(word: &[u8]) -> Result<Um, Code>
+    ensures { MatchResult result
+        (λ um. (mm_of word.now ≡ Some um.0) × (length_of word.now ≡ not_negative um.0) × (is_none (length_of word.now) ≡ false))
+        (λ code. (length_of word.now ≡ None) × (code ≡ E8)) }
+{
+    match parse_mm(word) {
+        Ok(um) if um.0 >= 0 => Ok(um),
+        _ => Err(Code::E8),
+    }
+}
+
+/// Room for one more element.
+pub(crate) fn room_for_element<S: Scope>(s: &S) -> Result<(), Code>
+    ensures { MatchResult result
+        (λ _. nat_le 2000 (length (S.so_far s.now).elements) ≡ false)
+        (λ code. (nat_le 2000 (length (S.so_far s.now).elements) ≡ true) × (code ≡ E13)) }
+{
+    if s.sketch().elements.len() >= MOST_ELEMENTS {
+        return Err(Code::E13);
+    }
+    Ok(())
+}
+
+/// Tests that a length or a radius isn't 0.
+pub(crate) fn not_zero(um: Um) -> Result<(), Code>
+    ensures { MatchResult result
+        (λ _. is_zero (not_negative um.0) ≡ false)
+        (λ code. (is_zero (not_negative um.0) ≡ true) × (code ≡ E9)) }
+{
+    if um.0 == 0 {
+        return Err(Code::E9);
+    }
+    Ok(())
+}
+
+/// Room for one more constraint.
+pub(crate) fn room_for_constraint<S: Scope>(s: &S) -> Result<(), Code>
+    ensures { MatchResult result
+        (λ _. nat_le 4000 (length (S.so_far s.now).constraints) ≡ false)
+        (λ code. (nat_le 4000 (length (S.so_far s.now).constraints) ≡ true) × (code ≡ E14)) }
+{
+    if s.sketch().constraints.len() >= MOST_CONSTRAINTS {
+        return Err(Code::E14);
+    }
+    Ok(())
+}
+
+/// Tests that the elements have the kinds that a constraint takes.
+pub(crate) fn kinds(keyword: Keyword, u: &Element, v: &Element) -> Result<(), Code>
+    ensures { MatchResult result
+        (λ _. takes keyword u.now.shape v.now.shape ≡ true)
+        (λ code. (takes keyword u.now.shape v.now.shape ≡ false) × (code ≡ E7)) }
+{
+    if takes(keyword, &u.shape, &v.shape) {
+        return Ok(());
+    }
+    Err(Code::E7)
+}
+
+/// Whether a constraint takes these kinds of elements.
+fn takes(keyword: Keyword, u: &Shape, v: &Shape) -> bool
+    ensures { result ≡ takes keyword u.now v.now }
+{
+    match keyword {
+        Keyword::Distance => !(is_line(u) && is_line(v)),
+        Keyword::On => !is_line(u) && (is_line(v) || (!is_circle(u) && is_circle(v))),
+        Keyword::Tangent => (is_line(u) && is_circle(v)) || (is_circle(u) && is_line(v)),
+        Keyword::Outside | Keyword::Inside => is_circle(u) && is_circle(v),
+        Keyword::Angle => is_line(u) && is_line(v),
+        Keyword::Point | Keyword::Line | Keyword::Circle => false,
+    }
+}
+
+fn is_line(shape: &Shape) -> bool
+    ensures { result ≡ is_line shape.now }
+{
+    matches!(shape, Shape::Line { .. })
+}
+
+fn is_circle(shape: &Shape) -> bool
+    ensures { result ≡ is_circle shape.now }
+{
+    matches!(shape, Shape::Circle { .. })
+}
+
+/// Tests that the names differ.
+pub(crate) fn different(u: Label, v: Label) -> Result<(), Code>
+    ensures { MatchResult result
+        (λ _. bytes_eq u v ≡ false)
+        (λ code. (bytes_eq u v ≡ true) × (code ≡ E10)) }
+{
+    if u.as_bytes() == v.as_bytes() {
+        return Err(Code::E10);
+    }
+    Ok(())
+}
+
+/// The radius of a circle, or 0.
+pub(crate) fn radius(shape: &Shape) -> i64
+    ensures { result ≡ radius_of shape.now }
+{
+    match shape {
+        Shape::Circle { r, .. } => r.0,
+        _ => 0,
+    }
+}

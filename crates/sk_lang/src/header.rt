@@ -1,0 +1,56 @@
+ghost use Rattle.std.specs.Prelude.{◌≡◌, ◌+◌, ◌≤◌, ◌<◌, ◌&&◌, length, map, None, IfOk, IfErr};
+ghost use Rattle.sk_lex.specs.Words.{bytes_of, StandInOrder};
+ghost use Rattle.sk_lang.specs.declared.progress.Progress.TheVariants.{Before, After};
+ghost use Rattle.sk_lang.specs.Codes.{code_of, is_header};
+ghost use Rattle.sk_lang.specs.Meaning.{progress_after};
+ghost use Rattle.sk_lang.specs.Entry.{IsRefusal};
+ghost use Rattle.sk_lang.specs.Computed.{size_of};
+
+use crate::code::Code;
+use crate::draft::Draft;
+use crate::entry::EntryError;
+use crate::keyword::is;
+use crate::line::{split, word};
+use crate::progress::Progress;
+use sk_base::Sketch;
+use sk_lex::Word;
+use std::alloc::Global;
+
+/// Where the line after this one stands, where none with words came before.
+pub(crate) fn after_header(alloc: Global, line: &[u8]) -> Result<Progress, EntryError>
+    ensures clean { IfOk result (λ _. code_of Before line.now ≡ None) }
+    ensures progress { IfOk result (λ after. after ≡ progress_after Before line.now) }
+    ensures size { IfOk result (λ after. size_of after ≤ 1) }
+    ensures refused { IfErr result (IsRefusal (code_of Before line.now)) }
+{
+    let words = split(alloc, line)?;
+    if words.items.is_empty() {
+        return Ok(Progress::Before);
+    }
+    if !is_header(line, words.items.as_slice()) {
+        return Err(EntryError::Refused(Code::E1));
+    }
+    Ok(Progress::Within(Draft::new(alloc)))
+}
+
+/// Whether the words are `sketch` and `1`.
+fn is_header(line: &[u8], words: &[Word]) -> bool
+    requires { StandInOrder 0 words.now (length line.now) }
+    ensures { result ≡ is_header (map (bytes_of line.now) words.now) }
+{
+    words.len() == 2 && is(word(line, words, 0), "sketch") && is(word(line, words, 1), "1")
+}
+
+/// Where the line after this one stands, where the sketch has ended.
+pub(crate) fn after_last(alloc: Global, sketch: Sketch, line: &[u8]) -> Result<Progress, EntryError>
+    ensures clean { IfOk result (λ _. code_of (After sketch) line.now ≡ None) }
+    ensures progress { IfOk result (λ after. after ≡ progress_after (After sketch) line.now) }
+    ensures size { IfOk result (λ after. size_of after ≤ size_of (After sketch) + 1) }
+    ensures refused { IfErr result (IsRefusal (code_of (After sketch) line.now)) }
+{
+    let words = split(alloc, line)?;
+    if words.items.is_empty() {
+        return Ok(Progress::After(sketch));
+    }
+    Err(EntryError::Refused(Code::E17))
+}

@@ -1,0 +1,12 @@
+ghost use Rattle.std.specs.Prelude.{◌≡◌, ◌⊎◌, ℕ, List};
+ghost use Rattle.sk_base.specs.declared.Sketch.{Sketch};
+ghost use Rattle.sk_lang.specs.declared.code.Code.{Code};
+ghost use Rattle.sk_lang.specs.Reading.{Reads, Refuses};
+
+/// Every text is read or refused, and not both, with one sketch or one refusal.
+pub fn one_answer()
+    ensures some { (bytes : List ℕ) → ((s : Sketch) × Reads bytes s) ⊎ ((n : ℕ) × ((code : Code) × Refuses bytes n code)) }
+    ensures one_sketch { (bytes : List ℕ) (s t : Sketch) → Reads bytes s → Reads bytes t → s ≡ t }
+    ensures one_refusal { (bytes : List ℕ) (n m : ℕ) (c d : Code) → Refuses bytes n c → Refuses bytes m d → (n ≡ m) × (c ≡ d) }
+    ensures not_both { (bytes : List ℕ) (s : Sketch) (n : ℕ) (code : Code) → Reads bytes s → Refuses bytes n code → ⊥ }
+{}

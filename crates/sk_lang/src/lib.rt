@@ -1,0 +1,30 @@
+//! The sketch language: its reader and its writer.
+#![tactic(auto)]
+
+mod code;
+mod constraint;
+mod draft;
+mod element;
+mod entry;
+mod field;
+mod header;
+mod keyword;
+mod law;
+mod line;
+mod lines;
+mod ratio;
+mod progress;
+mod read;
+mod scope;
+mod within;
+mod write;
+
+pub use code::{Code, ReadError, Refusal};
+pub use entry::{Entry, EntryError};
+pub use law::one_answer;
+pub use line::read_entry;
+pub use read::read_sketch;
+pub use write::{constraint_text, write_sketch};
+
+#[cfg(test)]
+mod tests;

@@ -1,0 +1,199 @@
+ghost use Rattle.std.specs.Prelude.{◌≡◌, ◌<◌, ◌≤◌, [], length, map, drop, Some, None, IfOk, IfErr, MatchResult};
+ghost use Rattle.std.specs.List.{slice_index_or, slice_range};
+ghost use Rattle.sk_lex.specs.Words.{bytes_of, words_in, StandInOrder};
+ghost use Rattle.sk_lang.specs.Keywords.{places};
+ghost use Rattle.sk_lang.specs.Conditions.{lacks_radius};
+ghost use Rattle.sk_lang.specs.Codes.{byte_rows, entry_rows};
+ghost use Rattle.sk_lang.specs.FirstCode.{first_code};
+ghost use Rattle.sk_lang.specs.Meaning.{entry_made};
+ghost use Rattle.sk_lang.specs.FirstCode.{map_ok};
+ghost use Rattle.sk_lang.specs.declared.entry.Entry.TheVariants as entry;
+ghost use Rattle.sk_lang.specs.Entry.{entry_code, IsEntryOf, IsRefusal};
+
+use crate::code::Code;
+use crate::constraint::{
+    read_angle, read_distance, read_inside, read_on, read_outside, read_tangent,
+};
+use crate::element::{read_circle, read_line, read_point};
+use crate::entry::{Entry, EntryError};
+use crate::keyword::{Keyword, keyword_of};
+use crate::scope::Scope;
+use sk_base::{ConId, Constraint, Elem, Element, Sketch};
+use sk_lex::{LexFault, Word, Words, words_of};
+use std::alloc::Global;
+
+/// What a line says within the sketch: the declared element gets the number `elem`, the declared
+/// constraint the number `con`. The line comes without its line end.
+pub fn read_entry(
+    alloc: Global,
+    s: &Sketch,
+    line: &[u8],
+    elem: Elem,
+    con: ConId,
+) -> Result<Entry, EntryError>
+    ensures clean { IfOk result (λ _. entry_code s.now line.now ≡ None) }
+    ensures entry { IfOk result (IsEntryOf s.now line.now elem con) }
+    ensures refused { IfErr result (IsRefusal (entry_code s.now line.now)) }
+{
+    entry_in(alloc, s, line, elem, con)
+}
+
+/// What a line says, by the names of a scope.
+pub(crate) fn entry_in<S: Scope>(
+    alloc: Global,
+    s: &S,
+    line: &[u8],
+    elem: Elem,
+    con: ConId,
+) -> Result<Entry, EntryError>
+    ensures clean { IfOk result (λ _. entry_code (S.so_far s.now) line.now ≡ None) }
+    ensures entry { IfOk result (IsEntryOf (S.so_far s.now) line.now elem con) }
+    ensures refused { IfErr result (IsRefusal (entry_code (S.so_far s.now) line.now)) }
+{
+    let words = split(alloc, line)?;
+    if words.items.is_empty() {
+        return Ok(Entry::Blank);
+    }
+    match keyword_of(word(line, words.items.as_slice(), 0)) {
+        None => Ok(Entry::Other(words)),
+        Some(keyword) => {
+            match entry_of(s, keyword, line, words.items.as_slice(), elem, con) {
+                Ok(entry) => Ok(entry),
+                Err(code) => Err(EntryError::Refused(code)),
+            }
+        }
+    }
+}
+
+/// The words of a line.
+pub(crate) fn split(alloc: Global, line: &[u8]) -> Result<Words, EntryError>
+    ensures words { IfOk result (λ words. map (bytes_of line.now) words.items ≡ words_in line.now) }
+    ensures order { IfOk result (λ words. StandInOrder 0 words.items (length line.now)) }
+    ensures fine { IfOk result (λ _. first_code (byte_rows line.now) ≡ None) }
+    ensures refused { IfErr result (IsRefusal (first_code (byte_rows line.now))) }
+{
+    match words_of(alloc, line) {
+        Ok(words) => Ok(words),
+        Err(LexFault::LineTooLong) => Err(EntryError::Refused(Code::E15)),
+        Err(LexFault::NotAscii) => Err(EntryError::Refused(Code::E19)),
+        Err(LexFault::NoMemory) => Err(EntryError::NoMemory),
+    }
+}
+
+/// What a line says that begins with a keyword.
+fn entry_of<S: Scope>(
+    s: &S,
+    keyword: Keyword,
+    line: &[u8],
+    words: &[Word],
+    elem: Elem,
+    con: ConId,
+) -> Result<Entry, Code>
+    requires first { 0 < length words.now }
+    requires order { StandInOrder 0 words.now (length line.now) }
+    ensures { let rest = drop 1 (map (bytes_of line.now) words.now) in MatchResult result
+        (λ entry. (first_code (entry_rows (S.so_far s.now) keyword rest) ≡ None) × (entry_made (S.so_far s.now) keyword rest elem con ≡ Some entry))
+        (λ code. first_code (entry_rows (S.so_far s.now) keyword rest) ≡ Some code) }
+{
+    let count = words.len() - 1;
+    if lacks_radius(keyword, count) {
+        return Err(Code::E12);
+    }
+    if count != places(keyword) {
+        return Err(Code::E3);
+    }
+    let first = word(line, words, 1);
+    let second = word(line, words, 2);
+    match keyword {
+        Keyword::Point => {
+            let third = word(line, words, 3);
+            element(read_point(s, first, second, third, elem))
+        }
+        Keyword::Line => {
+            let third = word(line, words, 3);
+            let fourth = word(line, words, 4);
+            let fifth = word(line, words, 5);
+            element(read_line(s, first, second, third, fourth, fifth, elem))
+        }
+        Keyword::Circle => {
+            let third = word(line, words, 3);
+            let fourth = word(line, words, 4);
+            element(read_circle(s, first, second, third, fourth, elem))
+        }
+        Keyword::Distance => {
+            let third = word(line, words, 3);
+            constraint(read_distance(s, first, second, third, con))
+        }
+        Keyword::On => constraint(read_on(s, first, second, con)),
+        Keyword::Tangent => constraint(read_tangent(s, first, second, con)),
+        Keyword::Outside => constraint(read_outside(s, first, second, con)),
+        Keyword::Inside => constraint(read_inside(s, first, second, con)),
+        Keyword::Angle => {
+            let third = word(line, words, 3);
+            constraint(read_angle(s, first, second, third, con))
+        }
+    }
+}
+
+fn element(read: Result<Element, Code>) -> Result<Entry, Code>
+    ensures { result ≡ map_ok entry.Element read }
+{
+    match read {
+        Ok(element) => Ok(Entry::Element(element)),
+        Err(code) => Err(code),
+    }
+}
+
+fn constraint(read: Result<Constraint, Code>) -> Result<Entry, Code>
+    ensures { result ≡ map_ok entry.Constraint read }
+{
+    match read {
+        Ok(constraint) => Ok(Entry::Constraint(constraint)),
+        Err(code) => Err(code),
+    }
+}
+
+/// How many words progress behind a keyword.
+fn places(keyword: Keyword) -> usize
+    ensures { result ≡ length (places keyword) }
+{
+    match keyword {
+        Keyword::Point => 3,
+        Keyword::Line => 5,
+        Keyword::Circle => 4,
+        Keyword::Distance => 3,
+        Keyword::On => 2,
+        Keyword::Tangent => 2,
+        Keyword::Outside => 2,
+        Keyword::Inside => 2,
+        Keyword::Angle => 3,
+    }
+}
+
+/// Whether a circle's line ends before its radius.
+fn lacks_radius(keyword: Keyword, count: usize) -> bool
+    ensures { result ≡ lacks_radius keyword count }
+{
+    match keyword {
+        Keyword::Circle => count == 3,
+        _ => false,
+    }
+}
+
+/// The bytes of the word at a place.
+pub(crate) fn word<'a>(line: &'a [u8], words: &[Word], i: usize) -> &'a [u8]
+    requires below { i < length words.now }
+    requires order { StandInOrder 0 words.now (length line.now) }
+    ensures { result.now ≡ slice_index_or (map (bytes_of line.now) words.now) i [] }
+{
+    let word = words[i];
+    between(line, word.start as usize, word.end as usize)
+}
+
+fn between(line: &[u8], start: usize, end: usize) -> &[u8]
+    requires rising { start ≤ end }
+    requires within { end ≤ length line.now }
+    ensures { result.now ≡ slice_range line.now start end }
+{
+    &line[start..end]
+}

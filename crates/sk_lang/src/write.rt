@@ -1,0 +1,140 @@
+ghost use Rattle.std.specs.Prelude.{◌≡◌, ◌++◌, [], ◌∷◌, map, IfOk, OnOk};
+ghost use Rattle.sk_text.specs.Spelling.{mm_text};
+ghost use Rattle.sk_lang.specs.Canonical.{element_line, constraint_line, name_of, ratio_text, ended_lines, canonical};
+
+use sk_base::{Constraint, Elem, Element, NoMemory, Ratio, Rule, Shape, Sketch, Text, Um};
+use sk_text::Puts;
+use std::alloc::Global;
+
+/// The canonical text of the sketch.
+pub fn write_sketch(alloc: Global, s: &Sketch) -> Result<Text, NoMemory>
+    ensures { IfOk result (λ text. text ≡ canonical s.now) }
+{
+    let mut text = Text::new(alloc);
+    text.put(b"sketch 1\n")?;
+    put_elements(&mut text, s)?;
+    put_constraints(&mut text, s)?;
+    text.put(b"end\n")?;
+    Ok(text)
+}
+
+/// One canonical line without its line feed.
+pub fn constraint_text(alloc: Global, s: &Sketch, c: &Constraint) -> Result<Text, NoMemory>
+    ensures { IfOk result (λ text. text ≡ constraint_line s.now c.now) }
+{
+    let mut text = Text::new(alloc);
+    put_constraint(&mut text, s, c)?;
+    Ok(text)
+}
+
+fn put_elements(text: &mut Text, s: &Sketch) -> Result<(), NoMemory>
+    ensures { OnOk result (text.new ≡ text.old ++ ended_lines (map element_line s.now.elements)) }
+{
+    for element in s.elements.as_slice() {
+        put_element(text, element)?;
+        text.put(b"\n")?;
+    }
+    Ok(())
+}
+
+fn put_constraints(text: &mut Text, s: &Sketch) -> Result<(), NoMemory>
+    ensures { OnOk result (text.new ≡ text.old ++ ended_lines (map (constraint_line s.now) s.now.constraints)) }
+{
+    for constraint in s.constraints.as_slice() {
+        put_constraint(text, s, constraint)?;
+        text.put(b"\n")?;
+    }
+    Ok(())
+}
+
+/// Puts an element's line without its line feed.
+fn put_element(text: &mut Text, element: &Element) -> Result<(), NoMemory>
+    ensures { OnOk result (text.new ≡ text.old ++ element_line element.now) }
+{
+    let name = element.label;
+    match element.shape {
+        Shape::Point { x, y } => {
+            text.put(b"point ")?;
+            text.put(name.as_bytes())?;
+            put_number(text, x)?;
+            put_number(text, y)
+        }
+        Shape::Line { x1, y1, x2, y2 } => {
+            text.put(b"line ")?;
+            text.put(name.as_bytes())?;
+            put_number(text, x1)?;
+            put_number(text, y1)?;
+            put_number(text, x2)?;
+            put_number(text, y2)
+        }
+        Shape::Circle { x, y, r } => {
+            text.put(b"circle ")?;
+            text.put(name.as_bytes())?;
+            put_number(text, x)?;
+            put_number(text, y)?;
+            put_number(text, r)
+        }
+    }
+}
+
+/// Puts a space and a number.
+fn put_number(text: &mut Text, um: Um) -> Result<(), NoMemory>
+    ensures { OnOk result (text.new ≡ text.old ++ 32 ∷ mm_text um.0) }
+{
+    text.put(b" ")?;
+    text.put_mm(um)
+}
+
+/// Puts a space and the name of an element.
+fn put_name(text: &mut Text, s: &Sketch, number: Elem) -> Result<(), NoMemory>
+    ensures { OnOk result (text.new ≡ text.old ++ 32 ∷ name_of s.now number) }
+{
+    text.put(b" ")?;
+    match s.element(number) {
+        Some(element) => text.put(element.label.as_bytes()),
+        None => Ok(()),
+    }
+}
+
+/// Puts a space and a ratio.
+fn put_ratio(text: &mut Text, ratio: Ratio) -> Result<(), NoMemory>
+    ensures { OnOk result (text.new ≡ text.old ++ 32 ∷ ratio_text ratio) }
+{
+    text.put(b" ")?;
+    text.put_whole(i128::from(ratio.p))?;
+    text.put(b"/")?;
+    text.put_whole(i128::from(ratio.q))
+}
+
+/// Puts a constraint's line without its line feed.
+fn put_constraint(text: &mut Text, s: &Sketch, constraint: &Constraint) -> Result<(), NoMemory>
+    ensures { OnOk result (text.new ≡ text.old ++ constraint_line s.now constraint.now) }
+{
+    match constraint.rule {
+        Rule::Distance { u, v, len } => {
+            text.put(b"distance")?;
+            put_name(text, s, u)?;
+            put_name(text, s, v)?;
+            put_number(text, len)
+        }
+        Rule::On { u, v } => put_pair(text, s, b"on", u, v),
+        Rule::Tangent { u, v } => put_pair(text, s, b"tangent", u, v),
+        Rule::Outside { u, v } => put_pair(text, s, b"outside", u, v),
+        Rule::Inside { u, v } => put_pair(text, s, b"inside", u, v),
+        Rule::Angle { l, m, ratio } => {
+            text.put(b"angle")?;
+            put_name(text, s, l)?;
+            put_name(text, s, m)?;
+            put_ratio(text, ratio)
+        }
+    }
+}
+
+/// Puts a first word and two names.
+fn put_pair(text: &mut Text, s: &Sketch, word: &[u8], u: Elem, v: Elem) -> Result<(), NoMemory>
+    ensures { OnOk result (text.new ≡ text.old ++ word.now ++ (32 ∷ name_of s.now u) ++ (32 ∷ name_of s.now v)) }
+{
+    text.put(word)?;
+    put_name(text, s, u)?;
+    put_name(text, s, v)
+}
