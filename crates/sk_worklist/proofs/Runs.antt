@@ -1,0 +1,95 @@
+-- Runs that go on, and what the choices tell.
+use Rattle.std.proofs.Common.{◌≡◌, inl, inr, refl, ℕ, suc, get_or, ◌<◌, List, [], ◌∷◌, ◌++◌, ap, sym, subst, ◌∙◌, length, arith, length-append}
+use Rattle.std.specs.Prelude.{◌==◌, true, Contains, map, slice_get, Some, Result, Ok, Err, OnErr}
+use Rattle.std.proofs.lemmas.List.{map-append}
+use Rattle.std.proofs.lemmas.Bool.Decides.{nat_tests}
+use Rattle.std.proofs.lemmas.Option.{slice_get-get_or}
+use Rattle.sk_base.specs.declared.Name.TheVariants.{Step as StepName}
+use Rattle.sk_base.specs.declared.Graph.{Graph}
+use Rattle.sk_family.specs.Body.{Body}
+use Rattle.sk_family.specs.Clusters.{Clusters, bodies, unnamed, whole_from, IsSound}
+use Rattle.sk_base.proofs.Members.{contains_none, contains_one}
+use Rattle.sk_rules.specs.declared.Merge.{Merge}
+use Rattle.sk_rules.specs.declared.Taken.{Taken}
+use Rattle.sk_rules.specs.Merges.{Falls, Holds, merged, names_of}
+use Rattle.sk_rules.specs.Taking.{IsTaken, Leads}
+use Rattle.sk_rules.specs.Reach.{Step, Reach, stays, goes, IsClosed}
+use Rattle.sk_rules.proofs.Merging.{merge_lessens, closed_by_merges}
+use Rattle.sk_worklist.specs.Choices.{CanTake, AreChoices}
+use Rattle.sk_worklist.specs.Run.{PicksLead, merge_of}
+
+pub on_err : {T E P : Type 0} (r : Result T E) → P → OnErr r P
+on_err (Ok x) h = tt
+on_err (Err e) h = h
+
+pub empty_of : {X : Type 0} (xs : List X) → (length xs == 0) ≡ true → xs ≡ []
+empty_of [] h = refl
+empty_of (x ∷ xs) h = absurd (long (length xs) h)
+  where
+    long : (n : ℕ) → (suc n == 0) ≡ true → ⊥
+    long n h = grind (arith, nat_tests)
+
+pub reach_more : (g : Graph) (f m n : List Body) → Reach g f m → Step g m n → Reach g f n
+reach_more g f m n stays one = goes one stays
+reach_more g f m n (goes {mid = mid} first rest) one = goes first (reach_more g mid m n rest one)
+
+pub reach_on : (g : Graph) (f m n : List Body) → Reach g f m → Reach g m n → Reach g f n
+reach_on g f m n stays rest = rest
+reach_on g f m n (goes {mid = mid} first more) rest = goes first (reach_on g mid m n more rest)
+
+pub choice_can : (g : Graph) (f : Clusters) (choices : List Merge) → AreChoices g f choices → (m : Merge) → Contains choices m → CanTake g f m
+choice_can g f choices (inl (first, is, h)) m m_in =
+    subst (λ n. CanTake g f n) (contains_one first m (subst (λ cs. Contains cs m) is m_in)) h.can_take
+choice_can g f choices (inr h) m m_in = (h.exactly m).0 m_in
+
+-- without a choice no merge may be taken
+pub none_can : (g : Graph) (f : Clusters) → AreChoices g f [] → (m : Merge) → Falls m → ¬ Holds g f m
+none_can g f (inl (first, is, h)) m falls holds = absurd (cc)
+none_can g f (inr h) m falls holds = contains_none m ((h.exactly m).1 (falls, holds))
+
+pub none_closes : (g : Graph) (f : Clusters) → IsSound f → AreChoices g f [] → IsClosed g (bodies f)
+none_closes g f sound none = closed_by_merges g f sound (none_can g f none)
+
+-- one more merge at the end of those that lead here
+pub leads_more : (g : Graph) (f mid : Clusters) (ts : List Taken) (t : Taken) → Leads g f ts mid → IsTaken g mid t → Leads g f (ts ++ t ∷ []) (merged mid t.merge)
+leads_more g f mid [] t is taken = (subst (λ (e : Clusters). IsTaken g e t) (sym is) taken, ap (λ (e : Clusters). merged e t.merge) is)
+leads_more g f mid (u ∷ ts) t (first, rest) taken = (first, leads_more g (merged f u.merge) mid ts t rest taken)
+
+-- a merge that may be taken has two clusters
+pub two_live : (g : Graph) (f : Clusters) → IsSound f → (m : Merge) → CanTake g f m → 1 < length f.live
+two_live g f sound m can =
+    let less = merge_lessens g f sound m can.0 can.1 in
+    let some = length-append (unnamed (names_of m) f.live) (whole_from (StepName f.next_step) (names_of m) f.live ∷ []) in
+    omega (arith, less, some)
+
+module _ {P : Type 0} (answer : P → ℕ → ℕ) (after : P → ℕ → P) (g : Graph) where
+  -- one more picked choice at the end of those that lead here
+  pub picks_more : (f : Clusters) (p : P) (ms : List Merge) (mid : Clusters) (q : P) → PicksLead answer after g f p ms mid q
+      → (choices : List Merge) → AreChoices g mid choices → (m : Merge) → slice_get choices (answer q (length choices)) ≡ Some m
+      → PicksLead answer after g f p (ms ++ m ∷ []) (merged mid m) (after q (length choices))
+  picks_more f p [] mid q (mid_is, q_is) choices are m picked = (
+    choices,
+    subst (λ (e : Clusters). AreChoices g e choices) mid_is are,
+    subst (λ (r : P). slice_get choices (answer r (length choices)) ≡ Some m) q_is picked,
+    (ap (λ (e : Clusters). merged e m) mid_is, ap (λ (r : P). after r (length choices)) q_is),
+  )
+  picks_more f p (n ∷ ms) mid q (first, first_are, first_picked, rest) choices are m picked =
+      (first, first_are, first_picked, picks_more (merged f n) (after p (length first)) ms mid q rest choices are m picked)
+
+  -- the same, as a turn of the loop has it
+  pub picks_turn : (f : Clusters) (p : P) (taken : List Taken) (mid : Clusters) (q : P) → PicksLead answer after g f p (map merge_of taken) mid q
+      → (choices : List Merge) → AreChoices g mid choices → (count place : ℕ) → count ≡ length choices → place ≡ answer q count → place < length choices
+      → (t : Taken) (d : Merge) → t.merge ≡ get_or choices place d
+      → (new : Clusters) → new ≡ merged mid (get_or choices place d) → (last : P) → last ≡ after q count
+      → PicksLead answer after g f p (map merge_of (taken ++ t ∷ [])) new last
+  picks_turn f p taken mid q so_far choices are count place count_is place_is in_range t d t_is new new_is last last_is =
+      let at_place : answer q (length choices) ≡ place = ap (λ n. answer q n) (sym count_is) ∙ sym place_is in
+      let found : slice_get choices place ≡ Some (get_or choices place d) = slice_get-get_or choices place d in_range in
+      let picked : slice_get choices (answer q (length choices)) ≡ Some t.merge = ap (λ k. slice_get choices k) at_place ∙ found ∙ ap Some (sym t_is) in
+      let more = picks_more f p (map merge_of taken) mid q so_far choices are t.merge picked in
+      let with_list : PicksLead answer after g f p (map merge_of (taken ++ t ∷ [])) (merged mid t.merge) (after q (length choices)) =
+      subst (λ ms. PicksLead answer after g f p ms (merged mid t.merge) (after q (length choices))) (sym (map-append merge_of taken (t ∷ []))) more in
+      let with_family : PicksLead answer after g f p (map merge_of (taken ++ t ∷ [])) new (after q (length choices)) =
+      subst (λ (e : Clusters). PicksLead answer after g f p (map merge_of (taken ++ t ∷ [])) e (after q (length choices)))
+      (ap (λ (m : Merge). merged mid m) t_is ∙ sym new_is) with_list in
+      subst (λ (r : P). PicksLead answer after g f p (map merge_of (taken ++ t ∷ [])) new r) (ap (λ n. after q n) (sym count_is) ∙ sym last_is) with_family

@@ -1,0 +1,4 @@
+pub mod Choices
+pub mod Orders
+pub mod Run
+pub mod Scan

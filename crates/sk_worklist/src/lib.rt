@@ -1,0 +1,12 @@
+//! Closing a family: merges are taken until none holds, in the order that a picker answers.
+#![tactic(auto)]
+
+mod choices;
+mod chosen;
+mod close;
+mod picker;
+
+pub use choices::choices_of;
+pub use chosen::{Chosen, Order};
+pub use close::close_family;
+pub use picker::Picker;
