@@ -1,0 +1,70 @@
+-- What a normal family of a sound graph tells of its clusters.
+use Rattle.std.proofs.Common.{◌≡◌, ◌≢◌, ◌+◌, ◌*◌, ◌≤◌, List, [], ◌∷◌, length, get_or, ap, sym, subst, ◌∙◌, arith}
+use Rattle.std.specs.Prelude.{Contains, All, AllPairs}
+use Rattle.std.proofs.lemmas.List.Elements.{Contains-get_or}
+use Rattle.sk_base.specs.declared.Elem.{Elem}
+use Rattle.sk_base.specs.declared.Graph.{Graph}
+use Rattle.sk_base.specs.SoundGraph.{IsSoundGraph}
+use Rattle.sk_base.proofs.Members.{contains_one, contains_mapped}
+use Rattle.sk_family.specs.declared.Cluster.{Cluster}
+use Rattle.sk_family.specs.Body.{Body}
+use Rattle.sk_family.specs.Clusters.{Clusters, body_of, bodies, IsSound}
+use Rattle.sk_family.proofs.Naming.{below_differs, one_of_body}
+use Rattle.sk_rules.specs.Excess.{held}
+use Rattle.sk_rules.specs.Reach.{IsNormal}
+use Rattle.sk_rules.proofs.NormalForm.{one_of_two}
+use Rattle.sk_rules.proofs.Counting.{reached_tight, owned_is_held}
+
+module _ (g : Graph) (f : List Body) (sound : IsSoundGraph g) (normal : IsNormal g f) where
+  -- it holds at least what is due
+  pub holds_enough : (x : Body) → Contains f x → 2 * length x.elements ≤ held g x.elements + 3
+  holds_enough x x_in =
+      let enough = (reached_tight g f sound.edges_rise normal.reached).enough x x_in in
+      let same = owned_is_held g f sound.edges_rise sound.two_ends normal x x_in in
+      omega (arith, enough, same)
+
+  -- it has two different elements
+  pub has_two : (x : Body) → Contains f x → (u : Elem) × (v : Elem) × (u ≢ v) × Contains x.elements u × Contains x.elements v
+  has_two x x_in =
+      let tight = reached_tight g f sound.edges_rise normal.reached in
+      let own = tight.family.owns x x_in in
+      let (e, e_in, is, u_in, v_in) = tight.edges x x_in own.0 own.1 in
+      (e.u, e.v, sound.two_ends e e_in, u_in, v_in)
+
+  pub more_than_one : (x : Body) → Contains f x → (e : Elem) → x.elements ≢ e ∷ []
+  more_than_one x x_in e is =
+      let (u, v, differ, u_in, v_in) = has_two x x_in in
+      differ (sym (contains_one e u (subst (λ es. Contains es u) is u_in)) ∙ contains_one e v (subst (λ es. Contains es v) is v_in))
+
+  -- no other one has the same elements
+  pub same_elements : (x y : Body) → Contains f x → Contains f y → x.elements ≡ y.elements → x ≡ y
+  same_elements x y x_in y_in same =
+      let (u, v, differ, u_in, v_in) = has_two x x_in in
+      one_of_two g f normal.closed x y x_in y_in (
+        u,
+        v,
+        record {
+          differ = differ;
+          a_shared = (u_in, subst (λ es. Contains es u) same u_in);
+          b_shared = (v_in, subst (λ es. Contains es v) same v_in);
+        },
+      )
+
+module _ (g : Graph) (f : Clusters) (sound : IsSoundGraph g) (normal : IsNormal g (bodies f)) (family : IsSound f) where
+  -- no two clusters have the same elements
+  pub elements_differ : AllPairs (λ (c d : Cluster). c.elements ≢ d.elements) f.live
+  elements_differ i j z i_j j_in same =
+      let c = get_or f.live i z in
+      let d = get_or f.live j z in
+      let c_in : Contains f.live c = Contains-get_or f.live i z (omega arith) in
+      let d_in : Contains f.live d = Contains-get_or f.live j z j_in in
+      let bodies_same : body_of c ≡ body_of d = same_elements g (bodies f) sound normal (body_of c) (body_of d)
+      (contains_mapped body_of f.live c c_in) (contains_mapped body_of f.live d d_in) same in
+      let is : c ≡ d = one_of_body f family c d c_in d_in bodies_same in
+      below_differs c.name d.name (family.names_rise i j z i_j j_in) (ap (λ (b : Cluster). b.name) is)
+
+  -- each cluster holds at least what is due
+  pub clusters_hold : All (λ (c : Cluster). 2 * length c.elements ≤ held g c.elements + 3) f.live
+  clusters_hold k z k_in =
+      let c = get_or f.live k z in
+      holds_enough g (bodies f) sound normal (body_of c) (contains_mapped body_of f.live c (Contains-get_or f.live k z k_in))

@@ -1,0 +1,4 @@
+pub mod Building
+pub mod Judging
+pub mod Ordering
+pub mod Parts

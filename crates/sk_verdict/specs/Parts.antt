@@ -1,0 +1,33 @@
+-- The parts of a family: its clusters, and the lone elements.
+use Rattle.std.specs.Prelude.{◌≡◌, ◌≢◌, ◌*◌, ◌-◌, ◌⊎◌, List, [], ◌∷◌, length, map, All, Contains}
+use Rattle.sk_base.specs.declared.Elem.{Elem}
+use Rattle.sk_base.specs.declared.Node.{Node}
+use Rattle.sk_base.specs.declared.Edge.{Edge}
+use Rattle.sk_base.specs.declared.Graph.{Graph}
+use Rattle.sk_family.specs.Body.{Body}
+use Rattle.sk_rules.specs.Excess.{held}
+use Rattle.sk_verdict.specs.declared.part.Part.{Part}
+
+abbrev pub elem_of : Node → Elem
+elem_of n = n.elem
+
+-- no constraint names the element
+abbrev pub IsNamedByNone : Graph → Elem → Type 0
+IsNamedByNone g e = All (λ (d : Edge). (d.u ≢ e) × (d.v ≢ e)) g.edges
+
+-- a lone element is a node that no constraint names
+pub record IsLone (g : Graph) (e : Elem) : Type 0 where
+  pub is_node : Contains (map elem_of g.nodes) e
+  pub named_by_none : IsNamedByNone g e
+
+-- the elements are those of a cluster, or a lone one
+abbrev pub AreOfOnePart : Graph → List Body → List Elem → Type 0
+AreOfOnePart g f xs = ((x : Body) × Contains f x × (x.elements ≡ xs)) ⊎ ((e : Elem) × IsLone g e × (e ∷ [] ≡ xs))
+
+-- the part of these elements: it holds the constraints with both ends among them, and 2n - 3 are due
+-- for n elements, which is 0 for one
+abbrev pub part_with : Graph → List Elem → Part
+part_with g xs = record { elements = xs; held = held g xs; due = 2 * length xs - 3 }
+
+abbrev pub IsPart : Graph → List Body → Part → Type 0
+IsPart g f p = AreOfOnePart g f p.elements × (p ≡ part_with g p.elements)

@@ -1,0 +1,117 @@
+// The judgement on a family.
+ghost use Rattle.std.specs.Prelude.{◌≡◌, ◌≢◌, ◌↔◌, ◌+◌, ◌*◌, ◌≤◌, ◌<◌, List as Items, length, All, AllPairs, Any, IfOk, OnOk, IsTrue, Contains};
+ghost use Rattle.sk_base.specs.SoundGraph.{IsSoundGraph, HasRisingNodes};
+ghost use Rattle.sk_family.specs.declared.Cluster.{Cluster as TheCluster};
+ghost use Rattle.sk_family.specs.Body.{Body};
+ghost use Rattle.sk_family.specs.Clusters.{bodies};
+ghost use Rattle.sk_rules.specs.Excess.{held};
+ghost use Rattle.sk_rules.specs.Reach.{IsNormal};
+ghost use Rattle.sk_verdict.specs.Parts.{IsNamedByNone};
+ghost use Rattle.sk_verdict.specs.Ordering.{AreInOrder};
+ghost use Rattle.sk_verdict.specs.Building.{AreOfClusters, AddsLone, HasNoSingle};
+ghost use Rattle.sk_verdict.specs.Judging.{IsJudgement, IsOver, some_over, verdict_on};
+
+use crate::part::{Part, part_of};
+use crate::store::put;
+use sk_base::{Elem, Graph, List, NoMemory};
+use sk_family::{Cluster, Family};
+use std::alloc::Global;
+
+/// What is said of all parts together.
+#[derive(Clone, Copy, PartialEq, Eq, Debug)]
+pub enum Verdict {
+    Well,
+    Over,
+    Several,
+}
+
+/// The parts of a family in order of their lists of elements, and the verdict on them.
+#[derive(Drop)]
+pub struct Judgement {
+    pub verdict: Verdict,
+    pub parts: List<Part>,
+}
+
+/// The judgement on a normal family.
+pub fn judge(alloc: Global, family: &Family, graph: &Graph) -> Result<Judgement, NoMemory>
+    requires sound { IsSoundGraph graph.now }
+    requires some { 0 < length graph.now.nodes }
+    requires normal { IsNormal graph.now (bodies family.now) }
+    ensures judgement { IfOk result (IsJudgement graph.now (bodies family.now)) }
+    ensures enough { IfOk result (λ j. All (λ p. p.due ≤ p.held) j.parts) }
+    ensures over { IfOk result (λ j. (j.verdict ≡ Verdict.Over) ↔ Any IsOver j.parts) }
+
+    // It is the judgement on every normal family of the graph.
+    ensures whichever { IfOk result (λ j. (other : Items Body) → IsNormal graph.now other → IsJudgement graph.now other j) }
+{
+    let mut parts = parts_of(alloc, graph, family.clusters())?;
+    add_lone(alloc, graph, &mut parts)?;
+    Ok(Judgement {
+        verdict: verdict_of(parts.as_slice()),
+        parts,
+    })
+}
+
+/// The parts of the clusters.
+fn parts_of(alloc: Global, graph: &Graph, clusters: &[Cluster]) -> Result<List<Part>, NoMemory>
+    requires enough { All (λ (c : TheCluster). 2 * length c.elements ≤ held graph.now c.elements + 3) clusters.now }
+    requires few { length graph.now.edges ≤ 4000 }
+    requires differ { AllPairs (λ (c d : TheCluster). c.elements ≢ d.elements) clusters.now }
+    ensures { IfOk result (AreOfClusters graph.now clusters.now) }
+{
+    let mut parts = List::new(alloc);
+    for cluster in clusters {
+        put(
+            &mut parts,
+            part_of(alloc, graph, cluster.elements.as_slice())?,
+        )?;
+    }
+    Ok(parts)
+}
+
+/// Adds the parts of the lone elements.
+fn add_lone(alloc: Global, graph: &Graph, parts: &mut List<Part>) -> Result<(), NoMemory>
+    requires rise { HasRisingNodes graph.now }
+    requires few { length graph.now.edges ≤ 4000 }
+    requires in_order { AreInOrder parts.old }
+    requires no_single { HasNoSingle parts.old }
+    ensures { OnOk result (AddsLone graph.now graph.now.nodes parts.old parts.new) }
+{
+    for node in graph.nodes.as_slice() {
+        if is_named_by_none(graph, node.elem) {
+            put(parts, part_of(alloc, graph, &[node.elem])?)?;
+        }
+    }
+    Ok(())
+}
+
+/// Whether no constraint names the element.
+fn is_named_by_none(graph: &Graph, elem: Elem) -> bool
+    ensures { IsTrue result ↔ IsNamedByNone graph.now elem }
+{
+    graph
+        .edges
+        .as_slice()
+        .iter()
+        .all(|edge| edge.u != elem && edge.v != elem)
+}
+
+/// Over where some part holds more than is due, else several where there is more than one, else well.
+fn verdict_of(parts: &[Part]) -> Verdict
+    ensures { result ≡ verdict_on parts.now }
+{
+    if is_some_over(parts) {
+        Verdict::Over
+    } else if parts.len() > 1 {
+        Verdict::Several
+    } else {
+        Verdict::Well
+    }
+}
+
+/// Whether some part holds more than is due.
+fn is_some_over(parts: &[Part]) -> bool
+    ensures { result ≡ some_over parts.now }
+{
+    parts.iter().any(|part| part.held > part.due)
+}

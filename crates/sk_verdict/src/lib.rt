@@ -1,0 +1,11 @@
+//! The parts of a family, and the verdict on them.
+#![tactic(auto)]
+
+mod judgement;
+mod law;
+mod part;
+mod store;
+
+pub use judgement::{Judgement, Verdict, judge};
+pub use law::one_judgement;
+pub use part::{Part, held_of};

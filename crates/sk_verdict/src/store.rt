@@ -1,0 +1,41 @@
+// Parts in order of their elements.
+ghost use Rattle.std.specs.Prelude.{◌≡◌, ◌≢◌, ◌↔◌, ◌⊎◌, ◌≤◌, ◌<◌, ℕ, length, slice_get, OnOk, IsTrue, Some, Contains, take, drop};
+ghost use Rattle.sk_base.specs.declared.Elem.{Elem as Element};
+ghost use Rattle.sk_verdict.specs.declared.part.Part.{Part as ThePart};
+ghost use Rattle.sk_verdict.specs.Ordering.{ElementsBefore, PartBefore, AreInOrder};
+
+use crate::part::Part;
+use sk_base::{Elem, List, NoMemory};
+
+/// Puts a part at its place. No other part has its elements.
+pub(crate) fn put(parts: &mut List<Part>, part: Part) -> Result<(), NoMemory>
+    requires in_order { AreInOrder parts.old }
+    requires new { (p : ThePart) → Contains parts.old p → p.elements ≢ part.elements }
+    ensures in_order { OnOk result (AreInOrder parts.new) }
+    ensures has { OnOk result ((p : ThePart) → Contains parts.new p ↔ ((part ≡ p) ⊎ Contains parts.old p)) }
+{
+    let place = place_of(parts.as_slice(), part.elements.as_slice());
+    parts.insert(place, part)
+}
+
+/// The place of these elements: after all parts that come before them.
+fn place_of(parts: &[Part], elements: &[Elem]) -> usize
+    requires { AreInOrder parts.now }
+    ensures within { result ≤ length parts.now }
+    ensures before { (p : ThePart) → Contains (take result parts.now) p → ElementsBefore p.elements elements.now }
+    ensures after { (p : ThePart) → Contains (drop result parts.now) p → ¬ ElementsBefore p.elements elements.now }
+{
+    for (place, part) in parts.iter().enumerate() {
+        if !comes_before(part.elements.as_slice(), elements) {
+            return place;
+        }
+    }
+    parts.len()
+}
+
+/// Whether the one list comes before the other, compared place by place.
+fn comes_before(xs: &[Elem], ys: &[Elem]) -> bool
+    ensures { IsTrue result ↔ ElementsBefore xs.now ys.now }
+{
+    xs.cmp(&ys).is_lt()
+}
