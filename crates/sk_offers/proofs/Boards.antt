@@ -1,0 +1,51 @@
+-- What a board keeps to while merges are taken.
+use Rattle.std.proofs.Common.{◌≡◌, ◌<◌, List, [], ◌∷◌, ◌++◌, length, refl, ap, sym, subst, arith}
+use Rattle.std.proofs.lemmas.List.{length-map}
+use Rattle.sk_base.specs.declared.Graph.{Graph}
+use Rattle.sk_base.specs.SoundGraph.{IsSoundGraph}
+use Rattle.sk_family.specs.Body.{initial_bodies}
+use Rattle.sk_family.specs.Clusters.{Clusters, bodies, initial_clusters, start_of}
+use Rattle.sk_family.proofs.Soundness.{starting_bodies}
+use Rattle.sk_rules.specs.declared.Merge.{Merge}
+use Rattle.sk_rules.specs.declared.Merge.TheVariants.{Two, Three}
+use Rattle.sk_rules.specs.declared.Shared.{Shared}
+use Rattle.sk_rules.specs.declared.Taken.{Taken}
+use Rattle.sk_rules.specs.Merges.{Holds, IsLeastShared, merged}
+use Rattle.sk_rules.specs.Reach.{Reach, Step, stays}
+use Rattle.sk_rules.specs.Taking.{IsTaken, Leads}
+use Rattle.sk_worklist.proofs.Runs.{reach_more, leads_more}
+use Rattle.sk_offers.specs.Offering.{Table, IsSoundTable}
+
+-- the rule holds where least elements show it
+pub holds_by : (g : Graph) (f : Clusters) (m : Merge) (s : Shared) → IsLeastShared g f m s → Holds g f m
+holds_by g f (Two x y) s (a, b, a_named, b_named, least, none) = (a, b, a_named, b_named, (s.a, s.b, least.pair))
+holds_by g f (Three x y z) s (a, b, c, a_named, b_named, c_named, (e, is, least)) = (a, b, c, a_named, b_named, c_named, (s.a, s.b, e, least.triangle))
+
+-- the board at the start
+pub sound_start : (g : Graph) → IsSoundGraph g → (f : Clusters) → f ≡ initial_clusters g → (ts : List Taken) → ts ≡ [] → IsSoundTable (record { graph = g; family = f; taken = ts })
+sound_start g sound f f_is ts ts_is =
+    subst (λ (e : Clusters). IsSoundTable (record { graph = g; family = e; taken = ts })) (sym f_is)
+    (subst (λ (us : List Taken). IsSoundTable (record { graph = g; family = initial_clusters g; taken = us })) (sym ts_is) (record {
+      graph = sound;
+      leads = refl;
+      reached = subst (λ bs. Reach g (initial_bodies g) bs) (sym (starting_bodies g.edges)) stays;
+      room = (let as_many = length-map g.edges start_of in omega (arith, as_many));
+    }))
+
+-- the board after one more merge
+pub sound_after : (t : Table) → IsSoundTable t → (put : Taken) → IsTaken t.graph t.family put
+    → (f : Clusters) → f ≡ merged t.family put.merge → Step t.graph (bodies t.family) (bodies f) → length f.live < length t.family.live
+    → (ts : List Taken) → ts ≡ t.taken ++ put ∷ [] → IsSoundTable (record { graph = t.graph; family = f; taken = ts })
+sound_after t sound put is_taken f f_is step fewer ts ts_is = record {
+  graph = sound.graph;
+  leads = subst (λ (us : List Taken). Leads t.graph (initial_clusters t.graph) us f) (sym ts_is)
+      (subst (λ (e : Clusters). Leads t.graph (initial_clusters t.graph) (t.taken ++ put ∷ []) e) (sym f_is)
+      (leads_more t.graph (initial_clusters t.graph) t.family t.taken put sound.leads is_taken));
+  reached = reach_more t.graph (initial_bodies t.graph) (bodies t.family) (bodies f) sound.reached step;
+  room = (let next = ap (λ (e : Clusters). e.next_step) f_is in omega (arith, next, fewer, sound.room));
+}
+
+-- merges that lead on from where others led to
+pub leads_on : (g : Graph) (f mid end : Clusters) (ts us : List Taken) → Leads g f ts mid → Leads g mid us end → Leads g f (ts ++ us) end
+leads_on g f mid end [] us is rest = subst (λ (e : Clusters). Leads g e us end) (sym is) rest
+leads_on g f mid end (t ∷ ts) us (first, more) rest = (first, leads_on g (merged f t.merge) mid end ts us more rest)
