@@ -1,8 +1,9 @@
 -- What two lists of elements share, one element after another.
-use Rattle.std.proofs.Common.{◌≡◌, ℕ, ◌+◌, ◌<◌, ◌≤◌, true, false, List, [], ◌∷◌, ◌++◌, length, get_or, take, drop, ap, sym, ◌∙◌, arith, length-append}
-use Rattle.std.specs.Prelude.{filter}
+use Rattle.std.proofs.Common.{refl, ◌≡◌, ℕ, ◌+◌, ◌<◌, ◌≤◌, true, false, List, [], ◌∷◌, ◌++◌, length, get_or, take, drop, ap, sym, ◌∙◌, arith, length-append}
+use Rattle.std.specs.Prelude.{filter, not}
 use Rattle.std.proofs.lemmas.List.{append-nil, take-append-drop}
 use Rattle.std.proofs.lemmas.List.Elements.{filter_more, filter-append}
+use Rattle.std.proofs.lemmas.List.Filters.{length-filter_both}
 use Rattle.sk_base.specs.declared.Elem.{Elem}
 use Rattle.sk_family.specs.Sharing.{is_elem, shared}
 
@@ -21,3 +22,9 @@ module _ (xs ys : List Elem) (i : ℕ) (d : Elem) (i_in : i < length xs) where
       ap (filter (is_elem ys)) (sym (take-append-drop (i + 1) xs)) ∙ filter-append (is_elem ys) (take (i + 1) xs) (drop (i + 1) xs) in
       let size = ap length whole ∙ length-append (shared (take (i + 1) xs) ys) (shared (drop (i + 1) xs) ys) in
       omega (arith, more, size)
+
+-- no more are shared than there are
+pub shared_at_most : (xs ys : List Elem) → length (shared xs ys) ≤ length xs
+shared_at_most xs ys =
+    let both = length-filter_both (is_elem ys) (λ x. not (is_elem ys x)) (λ x. refl) xs in
+    omega (arith, both)

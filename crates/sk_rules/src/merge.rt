@@ -79,9 +79,11 @@ pub struct Taken {
     pub shared: Shared,
 }
 
-/// Whether the merge's clusters live and its rule holds, with the least elements that show it.
+/// The least elements by which the merge's rule holds. None comes exactly where a name isn't live or
+/// the rule doesn't hold.
 pub fn applies(family: &Family, graph: &Graph, merge: Merge) -> Option<Shared>
     ensures none { IfNone result (¬ Holds graph.now family.now merge) }
+    ensures holds { IfSome result (λ _. Holds graph.now family.now merge) }
     ensures some { IfSome result (IsLeastShared graph.now family.now merge) }
 {
     match merge {

@@ -16,14 +16,9 @@ use Rattle.sk_family.proofs.Splits.{in_take, pairs_append}
 use Rattle.sk_family.proofs.Naming.{below_irreflexive, below_asymmetric, below_chain}
 use Rattle.sk_rules.specs.declared.Merge.{Merge}
 use Rattle.sk_rules.specs.declared.Merge.TheVariants.{Two, Three}
-use Rattle.sk_rules.specs.declared.Shared.{Shared}
-use Rattle.sk_rules.specs.Merges.{Falls, Holds, IsLeastShared}
+use Rattle.sk_rules.specs.Merges.{Falls, Holds}
 use Rattle.sk_worklist.specs.Choices.{ComesFirst, CanTake, AreTriples}
 use Rattle.sk_worklist.specs.Scan.{live_names_of, NamesRise, Adds, ThirdIn, SecondIn, FirstIn}
-
-pub least_holds : (g : Graph) (f : Clusters) (m : Merge) (s : Shared) → IsLeastShared g f m s → Holds g f m
-least_holds g f (Two x y) s (a, b, x_is, y_is, least, none) = (a, b, x_is, y_is, (s.a, s.b, least.pair))
-least_holds g f (Three x y z) s (a, b, c, x_is, y_is, z_is, (e, is, least)) = (a, b, c, x_is, y_is, z_is, (s.a, s.b, e, least.triangle))
 
 -- what is added first and what is added then
 pub adds_both : {first then both : Merge → Type 0} (old mid new : List Merge) → Adds first old mid → Adds then mid new

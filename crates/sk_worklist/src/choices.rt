@@ -72,10 +72,7 @@ fn first_partner(family: &Family, graph: &Graph, x: Name, names: &[Name]) -> Opt
 fn holds(family: &Family, graph: &Graph, merge: Merge) -> bool
     ensures { IsTrue result ↔ Holds graph.now family.now merge }
 {
-    match applies(family, graph, merge) {
-        Some(_) => true,
-        None => false,
-    }
+    applies(family, graph, merge).is_some()
 }
 
 /// Adds the triples of these that may merge.

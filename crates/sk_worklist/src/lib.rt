@@ -5,6 +5,8 @@ mod choices;
 mod chosen;
 mod close;
 mod picker;
+#[cfg(test)]
+mod tests;
 
 pub use choices::choices_of;
 pub use chosen::{Chosen, Order};
