@@ -1,0 +1,4 @@
+pub mod ExpressionLemmas
+pub mod KindLemmas
+pub mod LeafLemmas
+pub mod NestingLemmas

@@ -1,0 +1,9 @@
+pub mod Boxes
+pub mod Constructions
+pub mod Expressions
+pub mod Leaves
+pub mod Nesting
+pub mod PointsAndLines
+pub mod Quantities
+pub mod ThirdElement
+pub mod Words

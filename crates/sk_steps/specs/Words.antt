@@ -1,0 +1,37 @@
+-- The quantities' words, as they are printed.
+use Rattle.std.specs.Prelude.{ℕ, List, codes}
+use Rattle.sk_steps.specs.declared.what.What.{What}
+use Rattle.sk_steps.specs.declared.what.What.TheVariants.{Base2, Base, First2, Second2, Foot, Height, Ex, Ey, Gap1, Gap2, Tilt, Rise, Lift, Reach, Cos, Sin, Det, F, G, X, Y, A, B, C, Span2, Fx, Fy, Tx, Ty, Det1, Det2}
+
+abbrev pub word_of : What → List ℕ
+word_of Base2 = codes "base2"
+word_of Base = codes "base"
+word_of First2 = codes "first2"
+word_of Second2 = codes "second2"
+word_of Foot = codes "foot"
+word_of Height = codes "height"
+word_of Ex = codes "ex"
+word_of Ey = codes "ey"
+word_of Gap1 = codes "gap1"
+word_of Gap2 = codes "gap2"
+word_of Tilt = codes "tilt"
+word_of Rise = codes "rise"
+word_of Lift = codes "lift"
+word_of Reach = codes "reach"
+word_of Cos = codes "cos"
+word_of Sin = codes "sin"
+word_of Det = codes "det"
+word_of F = codes "f"
+word_of G = codes "g"
+word_of X = codes "x"
+word_of Y = codes "y"
+word_of A = codes "a"
+word_of B = codes "b"
+word_of C = codes "c"
+word_of Span2 = codes "span2"
+word_of Fx = codes "fx"
+word_of Fy = codes "fy"
+word_of Tx = codes "tx"
+word_of Ty = codes "ty"
+word_of Det1 = codes "det1"
+word_of Det2 = codes "det2"

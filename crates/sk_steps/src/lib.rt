@@ -1,0 +1,15 @@
+//! The frames of starting clusters, and the constructions of a third element from two.
+#![tactic(auto)]
+
+mod boxes;
+mod leaf;
+mod parts;
+mod rows;
+mod third;
+mod what;
+
+pub use boxes::{BoxOf, Given, LineBox, PointBox};
+pub use leaf::leaf_boxes;
+pub use parts::{cross, dist2, dot, named, normal_cross, normal_dot};
+pub use third::third_element;
+pub use what::What;
