@@ -13,3 +13,6 @@ pub use leaf::leaf_boxes;
 pub use parts::{cross, dist2, dot, named, normal_cross, normal_dot};
 pub use third::third_element;
 pub use what::What;
+
+#[cfg(test)]
+mod tests;
