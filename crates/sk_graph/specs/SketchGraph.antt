@@ -1,0 +1,106 @@
+-- The constraint graph of a sketch: a node for each element, where a circle is its centre, and an edge
+-- for each constraint, each told by its own constraint and the shapes that this names.
+use Rattle.std.specs.Prelude.{Bool, true, false, nat_lt, if◌then◌else◌, ℤ, pos, ◌+ℤ◌, ◌-ℤ◌, map, unwrap_or, unsigned_abs}
+use Rattle.sk_base.specs.declared.numbered.Elem.{Elem}
+use Rattle.sk_base.specs.declared.numbered.ConId.{ConId}
+use Rattle.sk_base.specs.declared.measure.Um.{Um}
+use Rattle.sk_base.specs.declared.measure.Kind.{Kind}
+use Rattle.sk_base.specs.declared.measure.Kind.TheVariants as kinds
+use Rattle.sk_base.specs.declared.measure.Sign.{Sign}
+use Rattle.sk_base.specs.declared.measure.Sign.TheVariants.{Plus}
+use Rattle.sk_base.specs.declared.measure.Measure.TheVariants.{PointPoint, PointLine, LineLine}
+use Rattle.sk_base.specs.declared.sketch.Shape.{Shape}
+use Rattle.sk_base.specs.declared.sketch.Shape.TheVariants.{Point, Line, Circle}
+use Rattle.sk_base.specs.declared.sketch.Element.{Element}
+use Rattle.sk_base.specs.declared.sketch.Rule.{Rule}
+use Rattle.sk_base.specs.declared.sketch.Rule.TheVariants.{Distance, On, Tangent, Outside, Inside, Angle}
+use Rattle.sk_base.specs.declared.sketch.Constraint.{Constraint}
+use Rattle.sk_base.specs.declared.sketch.Sketch.{Sketch}
+use Rattle.sk_base.specs.declared.graph.Node.{Node}
+use Rattle.sk_base.specs.declared.graph.Edge.{Edge}
+use Rattle.sk_base.specs.declared.graph.Graph.{Graph}
+use Rattle.sk_base.specs.Drawn.{shape_of}
+use Rattle.sk_orient.specs.DrawnSigns.{side_drawn, sense_drawn}
+
+-- a circle is its centre, a point
+abbrev pub kind_of : Shape → Kind
+kind_of (Point x y) = kinds.Point
+kind_of (Line x1 y1 x2 y2) = kinds.Line
+kind_of (Circle x y r) = kinds.Point
+
+abbrev pub node_of : Element → Node
+node_of e = record { elem = e.number; kind = kind_of e.shape }
+
+abbrev pub is_line : Shape → Bool
+is_line (Point x y) = false
+is_line (Line x1 y1 x2 y2) = true
+is_line (Circle x y r) = false
+
+-- the radius of a circle; a point and a line have none
+abbrev pub radius_of : Shape → ℤ
+radius_of (Point x y) = pos 0
+radius_of (Line x1 y1 x2 y2) = pos 0
+radius_of (Circle x y r) = r.0
+
+-- how an element of that number is drawn; a sound sketch draws each element that a constraint names
+abbrev pub drawn_as : Sketch → Elem → Shape
+drawn_as s e = unwrap_or (shape_of s e) (Point (record { 0 = pos 0 }) (record { 0 = pos 0 }))
+
+-- two points or centres so far apart, the lesser number first
+abbrev pub apart : ConId → Elem → Elem → ℤ → Edge
+apart id u v len =
+    if nat_lt u.0 v.0 then record { id = id; u = u; v = v; measure = PointPoint (record { 0 = len }) }
+    else record { id = id; u = v; v = u; measure = PointPoint (record { 0 = len }) }
+
+-- a point or centre so far from a line, on that side
+abbrev pub beside : ConId → Elem → Elem → ℤ → Sign → Edge
+beside id p line len side = record { id = id; u = p; v = line; measure = PointLine (record { 0 = len }) side }
+
+-- the one or the other is a line, and else both are points or centres
+abbrev pub distance_edge : ConId → Elem → Elem → Um → Shape → Shape → Edge
+distance_edge id u v len a b =
+    if is_line a then beside id v u len.0 (side_drawn a b)
+    else (if is_line b then beside id u v len.0 (side_drawn b a) else apart id u v len.0)
+
+-- on a line the distance is 0, on a circle it is the radius
+abbrev pub on_edge : ConId → Elem → Elem → Shape → Edge
+on_edge id u v b = if is_line b then beside id u v (pos 0) Plus else apart id u v (radius_of b)
+
+-- the one is the line, and the other the circle
+abbrev pub tangent_edge : ConId → Elem → Elem → Shape → Shape → Edge
+tangent_edge id u v a b =
+    if is_line a then beside id v u (radius_of b) (side_drawn a b) else beside id u v (radius_of a) (side_drawn b a)
+
+-- the edge of a rule whose elements are drawn like this
+abbrev pub edge_between : ConId → Rule → Shape → Shape → Edge
+edge_between id (Distance u v len) a b = distance_edge id u v len a b
+edge_between id (On u v) a b = on_edge id u v b
+edge_between id (Tangent u v) a b = tangent_edge id u v a b
+edge_between id (Outside u v) a b = apart id u v (radius_of a +ℤ radius_of b)
+edge_between id (Inside u v) a b = apart id u v (pos (unsigned_abs (radius_of a -ℤ radius_of b)))
+edge_between id (Angle l m ratio) a b = record { id = id; u = l; v = m; measure = LineLine ratio (sense_drawn a b ratio) }
+
+-- the first element that a rule names
+abbrev pub first_of : Rule → Elem
+first_of (Distance u v len) = u
+first_of (On u v) = u
+first_of (Tangent u v) = u
+first_of (Outside u v) = u
+first_of (Inside u v) = u
+first_of (Angle l m ratio) = l
+
+-- the second element that a rule names
+abbrev pub second_of : Rule → Elem
+second_of (Distance u v len) = v
+second_of (On u v) = v
+second_of (Tangent u v) = v
+second_of (Outside u v) = v
+second_of (Inside u v) = v
+second_of (Angle l m ratio) = m
+
+abbrev pub edge_of : Sketch → Constraint → Edge
+edge_of s c = edge_between c.number c.rule (drawn_as s (first_of c.rule)) (drawn_as s (second_of c.rule))
+
+-- the graph of a sketch
+abbrev pub graph_of : Sketch → Graph
+graph_of s = record { nodes = map node_of s.elements; edges = map (edge_of s) s.constraints }

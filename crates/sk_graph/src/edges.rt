@@ -1,0 +1,162 @@
+// The edge of one constraint.
+ghost use Rattle.std.specs.Prelude.{◌≡◌, ◌≢◌, IsSome, Some};
+ghost use Rattle.sk_base.specs.Bounds.{IsFromTo};
+ghost use Rattle.sk_base.specs.Drawn.{shape_of, HasCentre, IsLine};
+ghost use Rattle.sk_base.specs.SoundSketch.{IsSoundSketch, IsSoundShape, IsSoundRule, IsSoundRatio, MayBeApart, MayBeTangent, AreLines};
+ghost use Rattle.sk_graph.specs.Fitting.{Fits};
+ghost use Rattle.sk_graph.specs.SketchGraph.{is_line, radius_of, apart, beside, distance_edge, on_edge, tangent_edge, edge_between, first_of, second_of, edge_of};
+
+use sk_base::{ConId, Constraint, Edge, Elem, Measure, Rule, Shape, Sign, Sketch, Um};
+use sk_orient::{sense_drawn, side_drawn};
+
+/// The edge of the constraint.
+pub fn edge(s: &Sketch, constraint: &Constraint) -> Edge
+    requires sketch { IsSoundSketch s.now }
+    requires rule { IsSoundRule s.now constraint.now.rule }
+    ensures { result ≡ edge_of s.now constraint.now }
+{
+    let (first, second) = ends(constraint.rule);
+    edge_between(
+        constraint.number,
+        constraint.rule,
+        shape(s, first),
+        shape(s, second),
+    )
+}
+
+/// The two elements that the rule names.
+fn ends(rule: Rule) -> (Elem, Elem)
+    ensures first { result.0 ≡ first_of rule }
+    ensures second { result.1 ≡ second_of rule }
+{
+    match rule {
+        Rule::Distance { u, v, .. }
+        | Rule::On { u, v }
+        | Rule::Tangent { u, v }
+        | Rule::Outside { u, v }
+        | Rule::Inside { u, v } => (u, v),
+        Rule::Angle { l, m, .. } => (l, m),
+    }
+}
+
+/// How the element of that number is drawn.
+fn shape(s: &Sketch, e: Elem) -> Shape
+    requires sketch { IsSoundSketch s.now }
+    requires drawn { IsSome (shape_of s.now e) }
+    ensures shape { shape_of s.now e ≡ Some result }
+    ensures sound { IsSoundShape result }
+{
+    match s.element(e) {
+        Some(element) => element.shape,
+        None => unreachable!(),
+    }
+}
+
+/// The edge of a rule whose elements are drawn like this.
+fn edge_between(id: ConId, rule: Rule, a: Shape, b: Shape) -> Edge
+    requires a { IsSoundShape a }
+    requires b { IsSoundShape b }
+    requires fits { Fits rule a b }
+    ensures { result ≡ edge_between id rule a b }
+{
+    match rule {
+        Rule::Distance { u, v, len } => distance_edge(id, u, v, len, a, b),
+        Rule::On { u, v } => on_edge(id, u, v, b),
+        Rule::Tangent { u, v } => tangent_edge(id, u, v, a, b),
+        Rule::Outside { u, v } => apart(id, u, v, Um(radius(a) + radius(b))),
+        Rule::Inside { u, v } => apart(id, u, v, Um((radius(a) - radius(b)).abs())),
+        Rule::Angle { l, m, ratio } => Edge {
+            id,
+            u: l,
+            v: m,
+            measure: Measure::LineLine(ratio, sense_drawn(&a, &b, ratio)),
+        },
+    }
+}
+
+/// A line and what is off it, or two points or centres.
+#[tactic(auto, using(crate::proofs::Fittings::on_paper, crate::proofs::Fittings::line_if, crate::proofs::Fittings::centre_unless, crate::proofs::Fittings::centre_beside))]
+fn distance_edge(id: ConId, u: Elem, v: Elem, len: Um, a: Shape, b: Shape) -> Edge
+    requires a { IsSoundShape a }
+    requires b { IsSoundShape b }
+    requires fits { MayBeApart a b }
+    ensures { result ≡ distance_edge id u v len a b }
+{
+    if is_line(a) {
+        beside(id, v, u, len, side_drawn(&a, &b))
+    } else if is_line(b) {
+        beside(id, u, v, len, side_drawn(&b, &a))
+    } else {
+        apart(id, u, v, len)
+    }
+}
+
+/// On a line the distance is 0, on a circle it is the radius.
+fn on_edge(id: ConId, u: Elem, v: Elem, b: Shape) -> Edge
+    requires { IsSoundShape b }
+    ensures { result ≡ on_edge id u v b }
+{
+    if is_line(b) {
+        beside(id, u, v, Um(0), Sign::Plus)
+    } else {
+        apart(id, u, v, Um(radius(b)))
+    }
+}
+
+/// A line and a circle, in either order.
+#[tactic(auto, using(crate::proofs::Fittings::on_paper, crate::proofs::Fittings::line_if, crate::proofs::Fittings::centre_unless, crate::proofs::Fittings::centre_touched, crate::proofs::Fittings::line_touched))]
+fn tangent_edge(id: ConId, u: Elem, v: Elem, a: Shape, b: Shape) -> Edge
+    requires a { IsSoundShape a }
+    requires b { IsSoundShape b }
+    requires fits { MayBeTangent a b }
+    ensures { result ≡ tangent_edge id u v a b }
+{
+    if is_line(a) {
+        beside(id, v, u, Um(radius(b)), side_drawn(&a, &b))
+    } else {
+        beside(id, u, v, Um(radius(a)), side_drawn(&b, &a))
+    }
+}
+
+/// Two points or centres so far apart, the lesser number first.
+fn apart(id: ConId, u: Elem, v: Elem, len: Um) -> Edge
+    ensures { result ≡ apart id u v len.0 }
+{
+    let (u, v) = if u.0 < v.0 { (u, v) } else { (v, u) };
+    Edge {
+        id,
+        u,
+        v,
+        measure: Measure::PointPoint(len),
+    }
+}
+
+/// A point or centre so far from a line, on that side.
+fn beside(id: ConId, p: Elem, line: Elem, len: Um, side: Sign) -> Edge
+    ensures { result ≡ beside id p line len.0 side }
+{
+    Edge {
+        id,
+        u: p,
+        v: line,
+        measure: Measure::PointLine(len, side),
+    }
+}
+
+fn is_line(shape: Shape) -> bool
+    ensures { result ≡ is_line shape }
+{
+    matches!(shape, Shape::Line { .. })
+}
+
+/// The radius of a circle; a point and a line have none.
+fn radius(shape: Shape) -> i64
+    requires { IsSoundShape shape }
+    ensures radius { result ≡ radius_of shape }
+    ensures bounded { IsFromTo 0 1000000000 result }
+{
+    match shape {
+        Shape::Circle { r, .. } => r.0,
+        Shape::Point { .. } | Shape::Line { .. } => 0,
+    }
+}

@@ -1,0 +1,7 @@
+//! The constraint graph of a sketch.
+#![tactic(auto)]
+
+mod edges;
+mod reduction;
+
+pub use reduction::reduce;

@@ -1,0 +1,48 @@
+-- The check report.
+use Rattle.std.specs.Prelude.{ℕ, ◌+◌, if◌then◌else◌, nat_lt, List, [], ◌∷◌, ◌++◌, length, codes}
+use Rattle.std.specs.List.{flat_map}
+use Rattle.std.specs.Fmt.{decimal}
+use Rattle.sk_base.specs.declared.Elem.{Elem}
+use Rattle.sk_base.specs.declared.Sketch.{Sketch}
+use Rattle.sk_lang.specs.Canonical.{name_of}
+use Rattle.sk_verdict.specs.declared.Verdict.{Verdict}
+use Rattle.sk_verdict.specs.declared.Verdict.TheVariants.{Well, Over, Several}
+use Rattle.sk_verdict.specs.declared.Part.{Part}
+use Rattle.sk_verdict.specs.declared.Judgement.{Judgement}
+
+abbrev pub verdict_word : Verdict → List ℕ
+verdict_word Well = codes "well"
+verdict_word Over = codes "over"
+verdict_word Several = codes "open"
+
+-- a part is over where it holds more than is due
+abbrev pub part_word : Part → List ℕ
+part_word p = if nat_lt p.due p.held then codes "over" else codes "sound"
+
+-- the names, each with a space before it
+abbrev pub names_of : Sketch → List Elem → List ℕ
+names_of s elements = flat_map (λ e. 32 ∷ name_of s e) elements
+
+-- what stands before the names of a part
+abbrev pub part_head : ℕ → Part → List ℕ
+part_head number p =
+    codes "part " ++ (decimal number ++ (codes " " ++ (part_word p ++ (codes " elements " ++ (decimal (length p.elements)
+    ++ (codes " held " ++ (decimal p.held ++ (codes " due " ++ (decimal p.due ++ codes " :")))))))))
+
+abbrev pub part_line : Sketch → ℕ → Part → List ℕ
+part_line s number p = (part_head number p ++ names_of s p.elements) ++ 10 ∷ []
+
+-- a line for each part, with numbers from this one on
+abbrev pub part_lines : Sketch → ℕ → List Part → List ℕ
+part_lines s number [] = []
+part_lines s number (p ∷ parts) = part_line s number p ++ part_lines s (number + 1) parts
+
+-- the four lines before those of the parts
+abbrev pub check_head : Sketch → Judgement → List ℕ
+check_head s j =
+    codes "verdict " ++ (verdict_word j.verdict ++ (codes "\nelements " ++ (decimal (length s.elements)
+    ++ (codes "\nconstraints " ++ (decimal (length s.constraints) ++ (codes "\nparts " ++ (decimal (length j.parts) ++ codes "\n")))))))
+
+-- the check report
+abbrev pub check_report : Sketch → Judgement → List ℕ
+check_report s j = check_head s j ++ part_lines s 1 j.parts

@@ -1,0 +1,110 @@
+// The check report.
+ghost use Rattle.std.specs.Prelude.{◌≡◌, ◌++◌, ◌∷◌, IfOk, OnOk};
+ghost use Rattle.sk_lang.specs.Canonical.{name_of};
+ghost use Rattle.sk_report.specs.CheckReport.{verdict_word, part_word, names_of, part_head, part_line, part_lines, check_head, check_report};
+
+use sk_base::{Elem, NoMemory, Sketch, Text};
+use sk_verdict::{Judgement, Part, Verdict};
+use std::alloc::Global;
+
+/// The check report: the verdict, three counts, and a line for each part.
+pub fn check_text(alloc: Global, s: &Sketch, j: &Judgement) -> Result<Text, NoMemory>
+    ensures { IfOk result (λ text. text ≡ check_report s.now j.now) }
+{
+    let mut text = Text::new(alloc);
+    put_head(alloc, &mut text, s, j)?;
+    put_parts(alloc, &mut text, s, j.parts.as_slice())?;
+    Ok(text)
+}
+
+/// Puts the four lines before those of the parts.
+fn put_head(alloc: Global, text: &mut Text, s: &Sketch, j: &Judgement) -> Result<(), NoMemory>
+    ensures { OnOk result (text.new ≡ text.old ++ check_head s.now j.now) }
+{
+    let verdict = verdict_word(j.verdict);
+    let elements = s.elements.len();
+    let constraints = s.constraints.len();
+    let parts = j.parts.len();
+    let head = format!(in alloc;
+        "verdict {verdict}\nelements {elements}\nconstraints {constraints}\nparts {parts}\n"
+    )?;
+    text.put(head.as_bytes())
+}
+
+/// Puts a line for each part, numbered from 1.
+fn put_parts(alloc: Global, text: &mut Text, s: &Sketch, parts: &[Part]) -> Result<(), NoMemory>
+    ensures { OnOk result (text.new ≡ text.old ++ part_lines s.now 1 parts.now) }
+{
+    for (i, part) in parts.iter().enumerate() {
+        put_part(alloc, text, s, i + 1, part)?;
+    }
+    Ok(())
+}
+
+fn put_part(
+    alloc: Global,
+    text: &mut Text,
+    s: &Sketch,
+    number: usize,
+    part: &Part,
+) -> Result<(), NoMemory>
+    ensures { OnOk result (text.new ≡ text.old ++ part_line s.now number part.now) }
+{
+    put_part_head(alloc, text, number, part)?;
+    put_names(text, s, part.elements.as_slice())?;
+    text.put(b"\n")
+}
+
+/// Puts what stands before the names of a part.
+fn put_part_head(alloc: Global, text: &mut Text, number: usize, part: &Part) -> Result<(), NoMemory>
+    ensures { OnOk result (text.new ≡ text.old ++ part_head number part.now) }
+{
+    let word = part_word(part);
+    let elements = part.elements.len();
+    let held = part.held;
+    let due = part.due;
+    let head = format!(in alloc;
+        "part {number} {word} elements {elements} held {held} due {due} :"
+    )?;
+    text.put(head.as_bytes())
+}
+
+/// Puts the names, each with a space before it.
+fn put_names(text: &mut Text, s: &Sketch, elements: &[Elem]) -> Result<(), NoMemory>
+    ensures { OnOk result (text.new ≡ text.old ++ names_of s.now elements.now) }
+{
+    for e in elements {
+        put_name(text, s, *e)?;
+    }
+    Ok(())
+}
+
+fn put_name(text: &mut Text, s: &Sketch, e: Elem) -> Result<(), NoMemory>
+    ensures { OnOk result (text.new ≡ text.old ++ 32 ∷ name_of s.now e) }
+{
+    text.put(b" ")?;
+    match s.element(e) {
+        Some(element) => text.put(element.label.as_bytes()),
+        None => Ok(()),
+    }
+}
+
+fn verdict_word(verdict: Verdict) -> &'static str
+    ensures { result.now ≡ verdict_word verdict }
+{
+    match verdict {
+        Verdict::Well => "well",
+        Verdict::Over => "over",
+        Verdict::Several => "open",
+    }
+}
+
+fn part_word(part: &Part) -> &'static str
+    ensures { result.now ≡ part_word part.now }
+{
+    if part.held > part.due {
+        "over"
+    } else {
+        "sound"
+    }
+}
