@@ -1,0 +1,16 @@
+pub mod Counts
+pub mod JustEnough
+pub mod Joined
+pub mod Grown
+pub mod Sparsity
+pub mod Legal
+pub mod Finished
+pub mod Planned
+pub mod PlanTrees
+pub mod Keeping
+pub mod Ordering
+pub mod Papers
+pub mod DrawnKinds
+pub mod Stepping
+pub mod Wells
+pub mod WellRuns

@@ -1,0 +1,185 @@
+-- The tree of a legal plan.
+use Rattle.std.proofs.Common.{◌≡◌, ◌≢◌, inl, inr, ℕ, ◌+◌, ◌*◌, ◌<◌, ◌≤◌, true, false, List, [], ◌∷◌, ◌++◌, length, length-append, refl, ap, sym, subst, ◌∙◌, arith}
+use Rattle.std.specs.Prelude.{◌↔◌, Contains, AllPairs, map, Option, Some, None, IsNone, IfSome, slice_get}
+use Rattle.std.specs.Option.{option_map}
+use Rattle.std.proofs.lemmas.List.{length-map}
+use Rattle.std.proofs.lemmas.List.Elements.{Contains-append_cases, Contains-append_left, Contains-append_right}
+use Rattle.sk_base.specs.declared.ConId.{ConId}
+use Rattle.sk_base.specs.declared.Edge.{Edge}
+use Rattle.sk_base.specs.declared.Graph.{Graph}
+use Rattle.sk_base.specs.SoundGraph.{IsSoundGraph}
+use Rattle.sk_base.proofs.Members.{contains_none, contains_head, contains_later, contains_cases}
+use Rattle.sk_base.proofs.Pairs.{pairs_none, pairs_cons, pairs_tail, pairs_head, pairs_map}
+use Rattle.sk_base.specs.Numbering.{con_number}
+use Rattle.sk_family.specs.declared.Cluster.{Cluster}
+use Rattle.sk_family.specs.Clusters.{initial_clusters}
+use Rattle.sk_rules.specs.declared.Taken.{Taken}
+use Rattle.sk_tree.specs.declared.Plan.{Plan}
+use Rattle.sk_tree.specs.declared.PlanStep.{PlanStep}
+use Rattle.sk_tree.specs.declared.Tree.{Tree}
+use Rattle.sk_tree.specs.declared.Tree.TheVariants.{Leaf, Join'}
+use Rattle.sk_tree.specs.LegalPlan.{taken_told, numbers_of, IsLegalPlan}
+use Rattle.sk_tree.specs.Trees.{leaves_of, step_count, IsTreeOf, AreJoins}
+use Rattle.sk_plan.specs.Leaves.{HasLeaves}
+use Rattle.sk_plan.specs.PlanTree.{merges_told, IsPlanTree}
+use Rattle.sk_plan.proofs.Legal.{Arrives, arrives}
+use Rattle.sk_plan.proofs.Finished.{grown, clusters_left, last_leaves, no_steps}
+
+-- where no item stands twice, a list is no longer than one that has all its items
+module _ {X : Type 0} where
+  split_at : (ys : List X) (x : X) → Contains ys x → (p : List X) × (q : List X) × (ys ≡ p ++ x ∷ q)
+  split_at [] x h = absurd (contains_none x h)
+  split_at (y ∷ ys) x h =
+      elim (contains_cases y ys x h) [
+        | inl here ↦ ([], ys, ap (λ z. z ∷ ys) here)
+        | inr later ↦ (let rest = split_at ys x later in (y ∷ rest.0, rest.1, ap (λ zs. y ∷ zs) rest.2))
+      ]
+
+  other_side : (p q : List X) (x y : X) → x ≢ y → Contains (p ++ x ∷ q) y → Contains (p ++ q) y
+  other_side p q x y differ h =
+      elim (Contains-append_cases p (x ∷ q) y h) [
+        | inl left ↦ Contains-append_left p q y left
+        | inr right ↦ elim (contains_cases x q y right) [
+          | inl here ↦ absurd (differ here)
+          | inr later ↦ Contains-append_right p q y later
+        ]
+      ]
+
+  no_longer : (xs ys : List X) → AllPairs (λ x y. x ≢ y) xs → ((x : X) → Contains xs x → Contains ys x) → length xs ≤ length ys
+  no_longer [] ys distinct within = omega arith
+  no_longer (x ∷ xs) ys distinct within =
+      let split = split_at ys x (within x (contains_head x xs)) in
+      let rest = no_longer xs (split.0 ++ split.1) (pairs_tail (λ v w. v ≢ w) x xs distinct)
+      (λ y y_in. other_side split.0 split.1 x y (pairs_head (λ v w. v ≢ w) x xs distinct y y_in)
+      (subst (λ zs. Contains zs y) split.2 (within y (contains_later x xs y y_in)))) in
+      let whole = ap (λ zs. length zs) split.2 in
+      omega (arith, length-append split.0 (x ∷ split.1), length-append split.0 split.1)
+
+  same_length : (xs ys : List X) → AllPairs (λ x y. x ≢ y) xs → AllPairs (λ x y. x ≢ y) ys → ((x : X) → Contains xs x ↔ Contains ys x) → length xs ≡ length ys
+  same_length xs ys d e same =
+      let to = no_longer xs ys d (λ x. (same x).0) in let from = no_longer ys xs e (λ x. (same x).1) in omega arith
+
+-- a tree has two leaves more than twice its joins
+leaf_count : (t : Tree) → length (leaves_of t) ≡ 2 * step_count t + 1
+leaf_count (Leaf k) = refl
+leaf_count (Join' p step shared one two three) =
+    let a = leaf_count one in let b = leaf_count two in let c = leaf_count three in
+    omega (arith, length-append (leaves_of one) (leaves_of two ++ leaves_of three), length-append (leaves_of two) (leaves_of three))
+
+some_leaf : (t : Tree) → (k : ConId) × Contains (leaves_of t) k
+some_leaf (Leaf k) = (k, contains_head k [])
+some_leaf (Join' p step shared one two three) =
+    (let first = some_leaf one in (first.0, Contains-append_left (leaves_of one) (leaves_of two ++ leaves_of three) first.0 first.1))
+
+-- what is said of the tree of a plan
+pub record IsWholeTree (p : Plan) (t : Tree) : Type 0 where
+  pub tree : IsPlanTree p t
+  pub leaves : HasLeaves t p.leaves
+  pub steps : step_count t ≡ length p.steps
+
+pub some_leaves : (p : Plan) (t : Tree) → IsWholeTree p t → p.leaves ≢ []
+some_leaves p t whole none =
+    let leaf = some_leaf t in
+    contains_none leaf.0 (subst (λ ks. Contains ks leaf.0) none ((whole.leaves.just leaf.0).0 leaf.1))
+
+module _ (g : Graph) (p : Plan) (sound : IsSoundGraph g) (legal : IsLegalPlan g p) where
+  way : Arrives g (initial_clusters g) p.steps
+  way = arrives g (initial_clusters g) p.steps legal.steps
+
+  pub plan_joins : AreJoins (merges_told p)
+  plan_joins = (grown g sound (merges_told p) way.end way.leads way.once).joins
+
+  constraints : length (numbers_of g) ≡ length g.edges
+  constraints = length-map g.edges (λ (e : Edge). e.id)
+
+  numbers_differ : AllPairs (λ (j k : ConId). j ≢ k) (numbers_of g)
+  numbers_differ i j d i_j j_len same =
+      let below = pairs_map (λ (x y : ConId). x.0 < y.0) (λ (e : Edge). e.id) g.edges sound.edges_rise i j d i_j j_len in
+      let level = ap con_number same in
+      absurd (omega arith)
+
+  -- the tree of the last merge
+  pub last_tree : (before : List Taken) (last : Taken) → merges_told p ≡ before ++ last ∷ [] → (t : Tree) → IsTreeOf (merges_told p) last.step t → IsWholeTree p t
+  last_tree before last is t tree = elim way.whole [
+    | inl (c, alone, nodes) ↦
+        let leaves = last_leaves g sound (merges_told p) way.end way.leads way.once c alone nodes before last is t tree in
+        record {
+          tree = inl (before, last, is, tree);
+          leaves = subst (λ ks. HasLeaves t ks) (sym legal.leaves) leaves;
+          steps =
+              let many = same_length (leaves_of t) (numbers_of g) leaves.once numbers_differ leaves.just in
+              sizes (length (leaves_of t)) (length (numbers_of g)) (length g.edges) (step_count t) (length (merges_told p)) (length p.steps) (length way.end.live)
+              (leaf_count t) many constraints (clusters_left g sound (merges_told p) way.end way.leads way.once) (ap (λ (cs : List Cluster). length cs) alone) (length-map p.steps taken_told);
+        }
+    | inr (one, none) ↦
+        let no = ap (λ (ts : List Taken). length ts) (sym is ∙ no_steps g sound (merges_told p) way.end way.leads way.once none) in
+        absurd (omega (arith, length-append before (last ∷ [])))
+  ]
+    where
+      sizes : (leaves numbers edges count merges steps left : ℕ) → leaves ≡ 2 * count + 1 → leaves ≡ numbers → numbers ≡ edges → left + 2 * merges ≡ edges → left ≡ 1 → merges ≡ steps → count ≡ steps
+      sizes leaves numbers edges count merges steps left a b c d e f = omega arith
+
+  -- where there is no step there is at most one constraint
+  few_leaves : p.steps ≡ [] → length p.leaves ≤ 1
+  few_leaves none = elim way.whole [
+    | inl (c, alone, nodes) ↦
+        let left = clusters_left g sound (merges_told p) way.end way.leads way.once in
+        let one = ap (λ (cs : List Cluster). length cs) alone in
+        let no : length (merges_told p) ≡ 0 = length-map p.steps taken_told ∙ ap (λ (ss : List PlanStep). length ss) none in
+        let all = ap (λ (ks : List ConId). length ks) legal.leaves in
+        omega (arith, constraints)
+    | inr (one, no_edges) ↦
+        let no = ap (λ (es : List Edge). length es) no_edges in
+        let all = ap (λ (ks : List ConId). length ks) legal.leaves in
+        omega (arith, constraints)
+  ]
+
+  -- the leaf of the only constraint
+  pub lone_tree : merges_told p ≡ [] → IfSome (option_map (λ (k : ConId). Leaf k) (slice_get p.leaves 0)) (λ t. IsWholeTree p t)
+  lone_tree none = told p.leaves refl (few_leaves (no_items p.steps none))
+    where
+      no_items : (ss : List PlanStep) → map taken_told ss ≡ [] → ss ≡ []
+      no_items [] e = refl
+      no_items (s ∷ ss) e = cc
+
+      told : (ks : List ConId) → p.leaves ≡ ks → length p.leaves ≤ 1 → IfSome (option_map (λ (k : ConId). Leaf k) (slice_get ks 0)) (λ t. IsWholeTree p t)
+      told [] is few = tt
+      told (k ∷ []) is few = record {
+        tree = inr (k, no_items p.steps none, is, refl);
+        leaves = record {
+          just = λ j. (subst (λ ks. Contains ks j) (sym is), subst (λ ks. Contains ks j) is);
+          once = pairs_cons (λ (i j : ConId). i ≢ j) k [] (pairs_none (λ (i j : ConId). i ≢ j)) (λ y h. absurd (contains_none y h));
+        };
+        steps = sym (ap (λ (ss : List PlanStep). length ss) (no_items p.steps none));
+      }
+      told (k ∷ j ∷ ks) is few = (let many = ap (λ (is : List ConId). length is) is in absurd (omega arith))
+
+pub none_alone : (ks : List ConId) → IsNone (option_map (λ (k : ConId). Leaf k) (slice_get ks 0)) ↔ (ks ≡ [])
+none_alone [] = ((λ h. refl), (λ h. refl))
+none_alone (k ∷ ks) = ((λ (never : true ≡ false). absurd (cc)), (λ never. absurd (cc)))
+
+-- the same of merges that are those of the plan
+abbrev pub IsOfSome : Plan → Type 0
+IsOfSome p = (g : Graph) × IsSoundGraph g × IsLegalPlan g p
+
+module _ (p : Plan) (of_some : IsOfSome p) (taken : List Taken) (told : taken ≡ merges_told p) where
+  pub joins_of : AreJoins taken
+  joins_of = subst (λ ts. AreJoins ts) (sym told) (plan_joins of_some.0 p of_some.1 of_some.2)
+
+  pub tree_of_last : (t : Tree) → (before : List Taken) × (last : Taken) × (taken ≡ before ++ last ∷ []) × IsTreeOf taken last.step t → IsWholeTree p t
+  tree_of_last t (before, last, is, tree) =
+      last_tree of_some.0 p of_some.1 of_some.2 before last (sym told ∙ is) t (subst (λ (ts : List Taken). IsTreeOf ts last.step t) told tree)
+
+  pub tree_of_none : taken ≡ [] → (r : Option Tree) (ks : List ConId) → r ≡ option_map (λ (k : ConId). Leaf k) (slice_get ks 0) → ks ≡ p.leaves → IfSome r (λ t. IsWholeTree p t)
+  tree_of_none none r ks is same =
+      subst (λ (o : Option Tree). IfSome o (λ t. IsWholeTree p t)) (sym is)
+      (subst (λ (js : List ConId). IfSome (option_map (λ (k : ConId). Leaf k) (slice_get js 0)) (λ t. IsWholeTree p t)) (sym same)
+      (lone_tree of_some.0 p of_some.1 of_some.2 (sym told ∙ none)))
+
+pub if_some_tree : (p : Plan) (r : Option Tree) → IfSome r (λ t. IsWholeTree p t) → IfSome r (λ t. IsPlanTree p t) × IfSome r (λ t. HasLeaves t p.leaves) × IfSome r (λ t. step_count t ≡ length p.steps)
+if_some_tree p None whole = (tt, tt, tt)
+if_some_tree p (Some t) whole = (whole.tree, whole.leaves, whole.steps)
+
+pub none_as : (p : Plan) (r : Option Tree) (ks : List ConId) → r ≡ option_map (λ (k : ConId). Leaf k) (slice_get ks 0) → ks ≡ p.leaves → IsNone r ↔ (p.leaves ≡ [])
+none_as p r ks is same =
+    subst (λ (js : List ConId). IsNone r ↔ (js ≡ [])) same (subst (λ (o : Option Tree). IsNone o ↔ (ks ≡ [])) (sym is) (none_alone ks))

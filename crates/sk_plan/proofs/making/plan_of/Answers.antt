@@ -1,0 +1,38 @@
+use Rattle.std.proofs.Common.{List, sym, subst, ◌∙◌}
+use Rattle.sk_family.specs.Clusters.{initial_clusters}
+use Rattle.sk_rules.specs.declared.Taken.{Taken}
+use Rattle.sk_rules.specs.Taking.{Leads}
+use Rattle.sk_plan.specs.Runs.{EachTakesOnce}
+use Rattle.sk_plan.proofs.WellRuns.{sound_of, ends_well, run_told, steps_count}
+use Rattle.sk_plan.proofs.making.plan_of.Goals as goal
+
+pub initial-requires : goal.initial-requires
+initial-requires g c = sound_of c.args.s.now c.args.g.now c.requires.sound c.requires.graph
+
+pub judge-requires-clause-sound : goal.judge-requires-clause-sound
+judge-requires-clause-sound g c = sound_of c.args.s.now c.args.g.now c.requires.sound c.requires.graph
+
+pub steps_of-requires-clause-sound : goal.steps_of-requires-clause-sound
+steps_of-requires-clause-sound g c = sound_of c.args.s.now c.args.g.now c.requires.sound c.requires.graph
+
+pub steps_of-requires-clause-leads : goal.steps_of-requires-clause-leads
+steps_of-requires-clause-leads g c =
+    let well = ends_well c.args.s.now c.args.g.now c.requires.graph c.requires.some (sound_of c.args.s.now c.args.g.now c.requires.sound c.requires.graph) c.in_ok-family.family c.close_family.new.family c.in_ok-taken.taken
+    c.in_ok-family.ensures.clusters c.in_ok-taken.ensures.leads c.in_ok-taken.ensures.closed c.in_ok-judgement.judgement c.in_ok-judgement.ensures.judgement c.in-Well.is in
+    (c.close_family.new.family, subst (λ (ts : List Taken). Leads c.args.g.now (initial_clusters c.args.g.now) ts c.close_family.new.family) (sym c.as_slice.ensures) well.leads, well.whole)
+
+pub steps_of-requires-clause-once : goal.steps_of-requires-clause-once
+steps_of-requires-clause-once g c =
+    let well = ends_well c.args.s.now c.args.g.now c.requires.graph c.requires.some (sound_of c.args.s.now c.args.g.now c.requires.sound c.requires.graph) c.in_ok-family.family c.close_family.new.family c.in_ok-taken.taken
+    c.in_ok-family.ensures.clusters c.in_ok-taken.ensures.leads c.in_ok-taken.ensures.closed c.in_ok-judgement.judgement c.in_ok-judgement.ensures.judgement c.in-Well.is in
+    subst (λ (ts : List Taken). EachTakesOnce c.args.g.now (initial_clusters c.args.g.now) ts) (sym c.as_slice.ensures) well.once
+
+pub returns-in-Well-clause-run : goal.returns-in-Well-clause-run
+returns-in-Well-clause-run g c = (
+  c.close_family.new.family,
+  run_told g.P.Picker.answer g.P.Picker.after c.args.g.now c.args.p.now c.close_family.new.picker c.in_ok-family.family c.close_family.new.family c.in_ok-taken.taken c.in_ok-steps-in-Well.steps
+      c.in_ok-family.ensures.clusters c.in_ok-taken.ensures.run (c.in_ok-steps-in-Well.ensures.told ∙ c.as_slice.ensures),
+)
+
+pub returns-in-Well-clause-steps : goal.returns-in-Well-clause-steps
+returns-in-Well-clause-steps g c = steps_count c.args.s.now c.args.g.now c.requires.graph (sound_of c.args.s.now c.args.g.now c.requires.sound c.requires.graph) c.in_ok-steps-in-Well.steps c.in_ok-steps-in-Well.ensures.legal

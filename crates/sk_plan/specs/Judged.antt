@@ -1,0 +1,22 @@
+-- The judgement on a graph: that on each of its normal families, which all hold the same bodies.
+use Rattle.std.specs.Prelude.{◌≡◌, ◌≢◌, List}
+use Rattle.sk_base.specs.declared.Graph.{Graph}
+use Rattle.sk_family.specs.Body.{Body}
+use Rattle.sk_rules.specs.Reach.{IsNormal}
+use Rattle.sk_verdict.specs.declared.Judgement.{Judgement}
+use Rattle.sk_verdict.specs.declared.Verdict.TheVariants.{Well}
+use Rattle.sk_verdict.specs.Judging.{IsJudgement}
+use Rattle.sk_plan.specs.declared.error.PlanError.{PlanError}
+use Rattle.sk_plan.specs.declared.error.PlanError.TheVariants.{NotWell, NoMemory}
+
+abbrev pub IsJudgedAs : Graph → Judgement → Type 0
+IsJudgedAs g j = (f : List Body) → IsNormal g f → IsJudgement g f j
+
+-- the verdict on the graph is well
+abbrev pub IsWell : Graph → Type 0
+IsWell g = (j : Judgement) × IsJudgedAs g j × (j.verdict ≡ Well)
+
+-- where there is no plan, but memory, the judgement on the graph is told, and its verdict isn't well
+abbrev pub TellsWhy : Graph → PlanError → Type 0
+TellsWhy g (NotWell j) = IsJudgedAs g j × (j.verdict ≢ Well)
+TellsWhy g NoMemory = Unit {0}

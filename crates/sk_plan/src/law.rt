@@ -1,0 +1,42 @@
+// What holds of every plan, and of every way of merging, whatever it is made by.
+ghost use Rattle.std.specs.Prelude.{◌≡◌, ◌+◌, ◌-◌, List, Contains, length};
+ghost use Rattle.sk_base.specs.declared.Graph.{Graph};
+ghost use Rattle.sk_base.specs.SoundGraph.{IsSoundGraph, HasRisingEdges, HasTwoEnds};
+ghost use Rattle.sk_family.specs.Body.{Body, initial_bodies};
+ghost use Rattle.sk_family.specs.Clusters.{Clusters, bodies, initial_clusters};
+ghost use Rattle.sk_rules.specs.declared.Taken.{Taken};
+ghost use Rattle.sk_rules.specs.Reach.{Reach, IsClosed, IsNormal};
+ghost use Rattle.sk_rules.specs.Taking.{Leads};
+ghost use Rattle.sk_tree.specs.declared.Plan.{Plan};
+ghost use Rattle.sk_tree.specs.LegalPlan.{IsLegalPlan};
+ghost use Rattle.sk_plan.specs.Runs.{EachTakesOnce};
+ghost use Rattle.sk_plan.specs.Sparse.{AllOwnJustEnough, EachMeetsOnce, HoldsNoneTooMany, IsSparse, HasFewAngles, IsSparseAmong, HasFewAnglesAmong};
+
+/// A legal plan has two steps fewer than its graph has elements, or none for one element. Of the
+/// graph, no k elements have more than 2k - 3 constraints among them, and no k lines more than k - 1
+/// angles.
+pub fn legal_plan()
+    ensures steps { (g : Graph) (p : Plan) → IsSoundGraph g → IsLegalPlan g p → length p.steps ≡ length g.nodes - 2 }
+    ensures elements { (g : Graph) (p : Plan) → IsSoundGraph g → IsLegalPlan g p → IsSparse g }
+    ensures lines { (g : Graph) (p : Plan) → IsSoundGraph g → IsLegalPlan g p → HasFewAngles g }
+{}
+
+/// Where merging ends with no constraint too many, each merge was one of three clusters of which
+/// each two share one element.
+pub fn exact()
+    ensures none_too_many { (g : Graph) (f : List Body) → HasRisingEdges g → HasTwoEnds g → IsNormal g f → HoldsNoneTooMany g f → AllOwnJustEnough f }
+    ensures meet_once { (g : Graph) (f : List Body) (way : Reach g (initial_bodies g) f) → HasRisingEdges g → AllOwnJustEnough f → EachMeetsOnce way }
+{}
+
+/// The same of the merges of a run.
+pub fn joined_once()
+    ensures { (g : Graph) (taken : List Taken) (end : Clusters) → IsSoundGraph g → Leads g (initial_clusters g) taken end → IsClosed g (bodies end) → HoldsNoneTooMany g (bodies end) → EachTakesOnce g (initial_clusters g) taken }
+{}
+
+/// Where merging ends with no constraint too many, though perhaps in several clusters, no k elements
+/// of a cluster have more than 2k - 3 constraints among them, and no k lines of it more than k - 1
+/// angles.
+pub fn sparse_parts()
+    ensures elements { (g : Graph) (f : List Body) → HasRisingEdges g → HasTwoEnds g → IsNormal g f → HoldsNoneTooMany g f → (x : Body) → Contains f x → IsSparseAmong g x.elements }
+    ensures lines { (g : Graph) (f : List Body) → HasRisingEdges g → HasTwoEnds g → IsNormal g f → HoldsNoneTooMany g f → (x : Body) → Contains f x → HasFewAnglesAmong g x.elements }
+{}

@@ -1,0 +1,14 @@
+//! Construction plans, and what they tell of the drawing.
+#![tactic(auto)]
+
+mod choice;
+mod error;
+mod law;
+mod making;
+mod planned_tree;
+mod step;
+
+pub use error::PlanError;
+pub use law::{exact, joined_once, legal_plan, sparse_parts};
+pub use making::plan_of;
+pub use planned_tree::plan_tree;
