@@ -73,11 +73,11 @@ unfolding label_of
 label_with number name None e is = cc
 label_with number name (Some shape) e is = sym (ap (λ (o : Option Entry). label_of o name) is)
 
-no_element : (number : ConId) (rule : Option Rule) (e : Element) → constraint_with number rule ≡ Some (entry.Element e) → ⊥
+pub no_element : (number : ConId) (rule : Option Rule) (e : Element) → constraint_with number rule ≡ Some (entry.Element e) → ⊥
 no_element number None e is = cc
 no_element number (Some rule) e is = cc
 
-free_from : (s : Sketch) (name label : List ℕ) → is_some (element_named s name) ≡ false → label ≡ name → element_named s label ≡ None
+pub free_from : (s : Sketch) (name label : List ℕ) → is_some (element_named s name) ≡ false → label ≡ name → element_named s label ≡ None
 free_from s name label free same = ap (element_named s) same ∙ not_some (element_named s name) free
 
 free_name : (s : Sketch) (k : Keyword) (rest : List (List ℕ)) (elem : Elem) (con : ConId) (e : Element) → Passes s k rest → entry_made s k rest elem con ≡ Some (entry.Element e) → element_named s e.label ≡ None

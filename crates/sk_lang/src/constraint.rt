@@ -46,7 +46,12 @@ pub(crate) fn read_distance<S: Scope>(
 }
 
 /// An `on`, by the words of its line.
-pub(crate) fn read_on<S: Scope>(s: &S, u: &[u8], v: &[u8], number: ConId) -> Result<Constraint, Code>
+pub(crate) fn read_on<S: Scope>(
+    s: &S,
+    u: &[u8],
+    v: &[u8],
+    number: ConId,
+) -> Result<Constraint, Code>
     ensures { result ≡ unless (first_code (entry_rows (S.so_far s.now) On (u.now ∷ v.now ∷ [])))
         (record { number = number; rule = rule.On (number_named (S.so_far s.now) u.now) (number_named (S.so_far s.now) v.now) }) }
 {
@@ -119,7 +124,12 @@ pub(crate) fn read_outside<S: Scope>(
 }
 
 /// An `inside`, by the words of its line.
-pub(crate) fn read_inside<S: Scope>(s: &S, u: &[u8], v: &[u8], number: ConId) -> Result<Constraint, Code>
+pub(crate) fn read_inside<S: Scope>(
+    s: &S,
+    u: &[u8],
+    v: &[u8],
+    number: ConId,
+) -> Result<Constraint, Code>
     ensures { result ≡ unless (first_code (entry_rows (S.so_far s.now) Inside (u.now ∷ v.now ∷ [])))
         (record { number = number; rule = rule.Inside (number_named (S.so_far s.now) u.now) (number_named (S.so_far s.now) v.now) }) }
 {

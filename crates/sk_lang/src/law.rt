@@ -1,5 +1,6 @@
-ghost use Rattle.std.specs.Prelude.{◌≡◌, ◌⊎◌, ℕ, List};
+ghost use Rattle.std.specs.Prelude.{◌≡◌, ◌<◌, ◌⊎◌, ℕ, List, length};
 ghost use Rattle.sk_base.specs.declared.Sketch.{Sketch};
+ghost use Rattle.sk_base.specs.SoundSketch.{IsSoundSketch};
 ghost use Rattle.sk_lang.specs.declared.code.Code.{Code};
 ghost use Rattle.sk_lang.specs.Reading.{Reads, Refuses};
 
@@ -9,4 +10,10 @@ pub fn one_answer()
     ensures one_sketch { (bytes : List ℕ) (s t : Sketch) → Reads bytes s → Reads bytes t → s ≡ t }
     ensures one_refusal { (bytes : List ℕ) (n m : ℕ) (c d : Code) → Refuses bytes n c → Refuses bytes m d → (n ≡ m) × (c ≡ d) }
     ensures not_both { (bytes : List ℕ) (s : Sketch) (n : ℕ) (code : Code) → Reads bytes s → Refuses bytes n code → ⊥ }
+{}
+
+/// What a text is read as is a sound sketch with an element.
+pub fn readable_is_sound()
+    ensures sound { (bytes : List ℕ) (s : Sketch) → Reads bytes s → IsSoundSketch s }
+    ensures some { (bytes : List ℕ) (s : Sketch) → Reads bytes s → 0 < length s.elements }
 {}

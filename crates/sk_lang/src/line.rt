@@ -1,11 +1,12 @@
-ghost use Rattle.std.specs.Prelude.{◌≡◌, ◌<◌, ◌≤◌, [], length, map, drop, Some, None, IfOk, IfErr, MatchResult};
+ghost use Rattle.std.specs.Prelude.{◌≡◌, ◌<◌, ◌≤◌, [], length, map, drop, All, Some, None, IfOk, IfErr, MatchResult};
 ghost use Rattle.std.specs.List.{slice_index_or, slice_range};
+ghost use Rattle.sk_base.specs.SoundSketch.{IsSoundSketch};
 ghost use Rattle.sk_lex.specs.Words.{bytes_of, words_in, StandInOrder};
 ghost use Rattle.sk_lang.specs.Keywords.{places};
 ghost use Rattle.sk_lang.specs.Conditions.{lacks_radius};
 ghost use Rattle.sk_lang.specs.Codes.{byte_rows, entry_rows};
 ghost use Rattle.sk_lang.specs.FirstCode.{first_code};
-ghost use Rattle.sk_lang.specs.Meaning.{entry_made};
+ghost use Rattle.sk_lang.specs.Meaning.{entry_made, added};
 ghost use Rattle.sk_lang.specs.FirstCode.{map_ok};
 ghost use Rattle.sk_lang.specs.declared.entry.Entry.TheVariants as entry;
 ghost use Rattle.sk_lang.specs.Entry.{entry_code, IsEntryOf, IsRefusal};
@@ -31,8 +32,12 @@ pub fn read_entry(
     elem: Elem,
     con: ConId,
 ) -> Result<Entry, EntryError>
+    requires sound { IsSoundSketch s.now }
+    requires elem_above { All (λ x. x.number.0 < elem.0) s.now.elements }
+    requires con_above { All (λ x. x.number.0 < con.0) s.now.constraints }
     ensures clean { IfOk result (λ _. entry_code s.now line.now ≡ None) }
     ensures entry { IfOk result (IsEntryOf s.now line.now elem con) }
+    ensures sound { IfOk result (λ entry. IsSoundSketch (added s.now (Some entry))) }
     ensures refused { IfErr result (IsRefusal (entry_code s.now line.now)) }
 {
     entry_in(alloc, s, line, elem, con)

@@ -1,4 +1,5 @@
 ghost use Rattle.std.specs.Prelude.{◌≡◌, ◌+◌, ◌<◌, ◌≤◌, length, None, Ok, Err, IfOk, IfErr};
+ghost use Rattle.sk_base.specs.SoundSketch.{IsSoundSketch};
 ghost use Rattle.sk_lang.specs.Codes.{code_of};
 ghost use Rattle.sk_lang.specs.Meaning.{progress_after};
 ghost use Rattle.sk_lang.specs.declared.code.ReadError.TheVariants.{Refused};
@@ -21,6 +22,8 @@ const MOST_BYTES: usize = 1_048_576;
 /// The sketch that the text is read as.
 pub fn read_sketch(alloc: Global, bytes: &[u8]) -> Result<Sketch, ReadError>
     ensures reads { IfOk result (Reads bytes.now) }
+    ensures sound { IfOk result IsSoundSketch }
+    ensures some { IfOk result (λ s. 0 < length s.elements) }
     ensures refuses { IfErr result (IsRefusalOf bytes.now) }
 {
     read_lines(alloc, bytes)

@@ -21,7 +21,7 @@ with_element-requires c =
     let elem : Elem = record { 0 = c.len.result + 1 } in
     let con : ConId = record { 0 = c.len-2.result + 1 } in
     let said : IsEntryOf c.args.draft c.args.line.now elem con (entry.Element c.in-Element.element) =
-        subst (IsEntryOf c.args.draft c.args.line.now elem con) c.in-Element.is c.in_ok-entry_in.ensures.entry in
+    subst (IsEntryOf c.args.draft c.args.line.now elem con) c.in-Element.is c.in_ok-entry_in.ensures.entry in
     element_is_new c.args.draft c.args.line.now elem con c.in-Element.element c.in_ok-entry_in.ensures.clean said
 
 pub after_end-requires-clause-some : goal.after_end-requires-clause-some
@@ -31,7 +31,7 @@ after_end-requires-clause-some c =
     let elem : Elem = record { 0 = c.len.result + 1 } in
     let con : ConId = record { 0 = c.len-2.result + 1 } in
     let said : IsEntryOf c.args.draft line elem con (entry.Other words) =
-        subst (IsEntryOf c.args.draft line elem con) c.in-Other.is c.in_ok-entry_in.ensures.entry in
+    subst (IsEntryOf c.args.draft line elem con) c.in-Other.is c.in_ok-entry_in.ensures.entry in
     let some = other_has_words line words (says_other c.args.draft line elem con words said) in rw c.as_slice.ensures some
 
 pub returns-in-Other-clause-progress : goal.returns-in-Other-clause-progress
@@ -41,6 +41,6 @@ returns-in-Other-clause-progress c =
     let elem : Elem = record { 0 = c.len.result + 1 } in
     let con : ConId = record { 0 = c.len-2.result + 1 } in
     let said : IsEntryOf c.args.draft line elem con (entry.Other words) =
-        subst (IsEntryOf c.args.draft line elem con) c.in-Other.is c.in_ok-entry_in.ensures.entry in
+    subst (IsEntryOf c.args.draft line elem con) c.in-Other.is c.in_ok-entry_in.ensures.entry in
     let ends = other_ends c.args.draft line words (says_other c.args.draft line elem con words said) in
     ended c.args.draft c.into_sketch.result line _ _ c.after_end.result c.into_sketch.ensures ends c.after_end.ensures

@@ -11,7 +11,7 @@ returns-in_err-place c =
     let name = c.args.name in
     let elements = c.self.inside.sketch.elements in
     let none : position (is_key name) (map key_of elements) ≡ None =
-        ap (position (is_key name)) (sym c.self.invariant) ∙ sym c.get_index_of.ensures.index ∙ c.in_err-place.was in
+    ap (position (is_key name)) (sym c.self.invariant) ∙ sym c.get_index_of.ensures.index ∙ c.in_err-place.was in
     ap option_copied c.from_residual.ensures ∙ sym (found_nowhere name elements none) ∙ ap (λ (s : Sketch). element_named s name) c.self.view_is
 
 pub returns : goal.returns
@@ -19,5 +19,5 @@ returns c =
     let name = c.args.name in
     let elements = c.self.inside.sketch.elements in
     let some : position (is_key name) (map key_of elements) ≡ Some c.in_ok-place.place =
-        ap (position (is_key name)) (sym c.self.invariant) ∙ sym c.get_index_of.ensures.index ∙ c.in_ok-place.was in
+    ap (position (is_key name)) (sym c.self.invariant) ∙ sym c.get_index_of.ensures.index ∙ c.in_ok-place.was in
     c.get.ensures ∙ found_at name elements c.in_ok-place.place some ∙ ap (λ (s : Sketch). element_named s name) c.self.view_is

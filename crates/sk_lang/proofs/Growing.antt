@@ -1,0 +1,126 @@
+-- A sound sketch with one more sound element or constraint is sound.
+use Rattle.std.proofs.Common.{◌≡◌, ◌≢◌, ℕ, ◌+◌, ◌<◌, ◌≤◌, Bool, true, false, not, ◌&&◌, ◌||◌, cond, nat_le, nat_eq, List, [], ◌∷◌, ◌++◌, length, Option, Some, None, is_none, refl, sym, ap, subst, ◌∙◌, arith, bytes_eq, IsTrue, length-append}
+use Rattle.std.specs.Prelude.{All, AllPairs, Contains}
+use Rattle.std.specs.List.{find}
+use Rattle.std.specs.Option.{option_map}
+use Rattle.std.proofs.lemmas.Bool.Decides.{nat_tests}
+use Rattle.std.proofs.lemmas.List.{length_push}
+use Rattle.std.proofs.lemmas.List.Elements.{All-push, All-weaker, All-contains}
+use Rattle.sk_base.specs.declared.Elem.{Elem}
+use Rattle.sk_base.specs.declared.Element.{Element}
+use Rattle.sk_base.specs.declared.Constraint.{Constraint}
+use Rattle.sk_base.specs.declared.Shape.{Shape}
+use Rattle.sk_base.specs.declared.Rule.{Rule}
+use Rattle.sk_base.specs.declared.Rule.TheVariants.{Distance, On, Tangent, Outside, Inside, Angle}
+use Rattle.sk_base.specs.declared.Sketch.{Sketch}
+use Rattle.sk_base.specs.Labels.{is_name}
+use Rattle.sk_base.specs.Drawn.{element_of, shape_of}
+use Rattle.sk_base.specs.SoundSketch.{IsSoundSketch, IsSoundShape, IsSoundRule, BothFit, MayJoin, MayBeApart, MayLieOn, MayBeTangent, AreCircles, AreLines, MayNest}
+use Rattle.sk_base.proofs.Pairs.{pairs_push}
+use Rattle.sk_lang.specs.Named.{element_named, number_named}
+use Rattle.sk_lang.proofs.Finding.{found_passes, found_among, fails_all, found_still, found_by_number, same_bytes, equal_bytes}
+
+abbrev pub with_element : Sketch → Element → Sketch
+with_element s e = record s { elements = s.elements ++ e ∷ [] }
+
+abbrev pub with_constraint : Sketch → Constraint → Sketch
+with_constraint s c = record s { constraints = s.constraints ++ c ∷ [] }
+
+-- what is drawn stays drawn
+drawn_still : (s : Sketch) (e : Element) (u : Elem) (shape : Shape) → shape_of s u ≡ Some shape → shape_of (with_element s e) u ≡ Some shape
+drawn_still s e u shape is = by (element_of s u) refl is
+  where
+    by : (o : Option Element) → element_of s u ≡ o → option_map (λ (x : Element). x.shape) o ≡ Some shape → shape_of (with_element s e) u ≡ Some shape
+    by None none same = cc
+    by (Some x) some same = ap (option_map (λ (y : Element). y.shape)) (found_still (λ (y : Element). nat_eq y.number.0 u.0) s.elements (e ∷ []) x some) ∙ same
+
+both_still : (fits : Shape → Shape → Type 0) (a b c d : Option Shape) → ((x : Shape) → a ≡ Some x → c ≡ Some x) → ((x : Shape) → b ≡ Some x → d ≡ Some x) → BothFit fits a b → BothFit fits c d
+both_still fits None b c d left right fit = absurd fit
+both_still fits (Some u) None c d left right fit = absurd fit
+both_still fits (Some u) (Some v) c d left right fit = rw (left u refl, right v refl) fit
+
+joins_still : (s : Sketch) (e : Element) (fits : Shape → Shape → Type 0) (u v : Elem) → MayJoin s fits u v → MayJoin (with_element s e) fits u v
+joins_still s e fits u v joins =
+    (joins.0, both_still fits (shape_of s u) (shape_of s v) (shape_of (with_element s e) u) (shape_of (with_element s e) v) (drawn_still s e u) (drawn_still s e v) joins.1)
+
+rule_still : (s : Sketch) (e : Element) (rule : Rule) → IsSoundRule s rule → IsSoundRule (with_element s e) rule
+rule_still s e (Distance u v len) sound = (joins_still s e MayBeApart u v sound.0, sound.1)
+rule_still s e (On u v) sound = joins_still s e MayLieOn u v sound
+rule_still s e (Tangent u v) sound = joins_still s e MayBeTangent u v sound
+rule_still s e (Outside u v) sound = joins_still s e AreCircles u v sound
+rule_still s e (Inside u v) sound = joins_still s e MayNest u v sound
+rule_still s e (Angle l m ratio) sound = (joins_still s e AreLines l m sound.0, sound.1)
+
+-- a new element
+pub record IsNewElement (s : Sketch) (e : Element) : Type 0 where
+  pub above : All (λ (x : Element). x.number.0 < e.number.0) s.elements
+  pub name : IsTrue (is_name e.label)
+  pub free : element_named s e.label ≡ None
+  pub room : length s.elements < 2000
+  pub shape : IsSoundShape e.shape
+
+other_label : (s : Sketch) (e x : Element) → element_named s e.label ≡ None → Contains s.elements x → x.label ≢ e.label
+other_label s e x free among same =
+    let fails = fails_all (λ (y : Element). bytes_eq e.label y.label) s.elements x free among in
+    let equal = equal_bytes e.label x.label (sym same) in cc
+
+pub with_element_sound : (s : Sketch) (e : Element) → IsSoundSketch s → IsNewElement s e → IsSoundSketch (with_element s e)
+with_element_sound s e sound new =
+    let one_more = length_push s.elements e in
+    record {
+      elements_rise = pairs_push (λ (x y : Element). x.number.0 < y.number.0) s.elements e sound.elements_rise (λ x among. All-contains (λ (y : Element). y.number.0 < e.number.0) s.elements x new.above among);
+      constraints_rise = sound.constraints_rise;
+      labels_are_names = All-push (λ (x : Element). IsTrue (is_name x.label)) s.elements e sound.labels_are_names new.name;
+      labels_differ = pairs_push (λ (x y : Element). x.label ≢ y.label) s.elements e sound.labels_differ (λ x among. other_label s e x new.free among);
+      few_elements = let room = new.room in omega arith;
+      few_constraints = sound.few_constraints;
+      shapes_sound = All-push (λ (x : Element). IsSoundShape x.shape) s.elements e sound.shapes_sound new.shape;
+      rules_sound = All-weaker (λ (x : Constraint). IsSoundRule s x.rule) (λ (x : Constraint). IsSoundRule (with_element s e) x.rule) (λ x. rule_still s e x.rule) s.constraints sound.rules_sound;
+    }
+
+rule_also : (s : Sketch) (c : Constraint) (rule : Rule) → IsSoundRule s rule → IsSoundRule (with_constraint s c) rule
+rule_also s c (Distance u v len) sound = sound
+rule_also s c (On u v) sound = sound
+rule_also s c (Tangent u v) sound = sound
+rule_also s c (Outside u v) sound = sound
+rule_also s c (Inside u v) sound = sound
+rule_also s c (Angle l m ratio) sound = sound
+
+-- a new constraint
+pub record IsNewConstraint (s : Sketch) (c : Constraint) : Type 0 where
+  pub above : All (λ (x : Constraint). x.number.0 < c.number.0) s.constraints
+  pub room : length s.constraints < 4000
+  pub rule : IsSoundRule s c.rule
+
+pub with_constraint_sound : (s : Sketch) (c : Constraint) → IsSoundSketch s → IsNewConstraint s c → IsSoundSketch (with_constraint s c)
+with_constraint_sound s c sound new =
+    let one_more = length_push s.constraints c in
+    let also : (x : Constraint) → IsSoundRule s x.rule → IsSoundRule (with_constraint s c) x.rule = λ x. rule_also s c x.rule in
+    record {
+      elements_rise = sound.elements_rise;
+      constraints_rise = pairs_push (λ (x y : Constraint). x.number.0 < y.number.0) s.constraints c sound.constraints_rise (λ x among. All-contains (λ (y : Constraint). y.number.0 < c.number.0) s.constraints x new.above among);
+      labels_are_names = sound.labels_are_names;
+      labels_differ = sound.labels_differ;
+      few_elements = sound.few_elements;
+      few_constraints = let room = new.room in omega arith;
+      shapes_sound = sound.shapes_sound;
+      rules_sound = All-push (λ (x : Constraint). IsSoundRule (with_constraint s c) x.rule) s.constraints c (All-weaker (λ (x : Constraint). IsSoundRule s x.rule) (λ (x : Constraint). IsSoundRule (with_constraint s c) x.rule) also s.constraints sound.rules_sound) (also c new.rule);
+    }
+
+-- the element that has a name is the one of its number
+pub drawn_named : (s : Sketch) (name : List ℕ) (e : Element) → IsSoundSketch s → element_named s name ≡ Some e → element_of s e.number ≡ Some e
+drawn_named s name e sound is =
+    found_by_number (λ (x : Element). x.number.0) s.elements e sound.elements_rise (found_among (λ (x : Element). bytes_eq name x.label) s.elements e is)
+
+-- two elements of different names may be joined where their shapes fit
+pub may_join : (s : Sketch) (fits : Shape → Shape → Type 0) (u v : List ℕ) (e f : Element) → IsSoundSketch s → element_named s u ≡ Some e → element_named s v ≡ Some f → bytes_eq u v ≡ false → fits e.shape f.shape → MayJoin s fits (number_named s u) (number_named s v)
+may_join s fits u v e f sound u_is v_is other fit =
+    let e_of = drawn_named s u e sound u_is in
+    let f_of = drawn_named s v f sound v_is in
+    let u_name = same_bytes u e.label (found_passes (λ (x : Element). bytes_eq u x.label) s.elements e u_is) in
+    let v_name = same_bytes v f.label (found_passes (λ (x : Element). bytes_eq v x.label) s.elements f v_is) in
+    let apart : e.number ≢ f.number = λ same. (
+    let one : Some e ≡ Some f = sym e_of ∙ ap (element_of s) same ∙ f_of in
+    let element : e ≡ f = cc in
+    let equal = equal_bytes u v (u_name ∙ ap (λ (x : Element). x.label) element ∙ sym v_name) in cc) in
+    rw (u_is, v_is) (apart, rw (e_of, f_of) fit)
