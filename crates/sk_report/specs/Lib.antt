@@ -1,2 +1,5 @@
+pub mod AnswerLine
 pub mod CheckReport
+pub mod ClusterName
+pub mod PlanReport
 pub mod RefusalLine

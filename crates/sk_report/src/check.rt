@@ -70,7 +70,7 @@ fn put_part_head(alloc: Global, text: &mut Text, number: usize, part: &Part) -> 
 }
 
 /// Puts the names, each with a space before it.
-fn put_names(text: &mut Text, s: &Sketch, elements: &[Elem]) -> Result<(), NoMemory>
+pub(crate) fn put_names(text: &mut Text, s: &Sketch, elements: &[Elem]) -> Result<(), NoMemory>
     ensures { OnOk result (text.new ≡ text.old ++ names_of s.now elements.now) }
 {
     for e in elements {
