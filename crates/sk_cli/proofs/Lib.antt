@@ -1,0 +1,3 @@
+pub mod OneOutcome
+pub mod Runs
+pub mod Strides

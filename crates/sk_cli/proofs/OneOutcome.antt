@@ -1,0 +1,135 @@
+-- Words ask for one thing at most, and with an input they have one outcome at most.
+use Rattle.std.proofs.Common.{◌≡◌, ◌⊎◌, inl, inr, ℕ, ◌≤◌, List, [], ◌∷◌, refl, sym, ap, ◌∙◌, subst, arith, lit≤}
+use Rattle.std.specs.Fmt.{decimal}
+use Rattle.std.specs.Str.Parse.{AllDigits}
+use Rattle.std.specs.Char.{digit_value}
+use Rattle.std.proofs.lemmas.Fmt.{decimal_injective, decimal_is_IsNumeral}
+use Rattle.sk_base.specs.declared.Sketch.{Sketch}
+use Rattle.sk_base.specs.declared.Graph.{Graph}
+use Rattle.sk_family.specs.Body.{Body, SameBodies}
+use Rattle.sk_lang.specs.declared.Code.{Code}
+use Rattle.sk_lang.specs.declared.Refusal.{Refusal}
+use Rattle.sk_lang.specs.Reading.{Reads, Refuses}
+use Rattle.sk_report.specs.CheckReport.{check_report}
+use Rattle.sk_report.specs.RefusalLine.{refusal_line}
+use Rattle.sk_graph.specs.SketchGraph.{graph_of}
+use Rattle.sk_verdict.specs.declared.Judgement.{Judgement}
+use Rattle.sk_verdict.specs.Judging.{IsJudgement}
+use Rattle.sk_worklist.specs.declared.Order.{Order}
+use Rattle.sk_worklist.specs.declared.Order.TheVariants.{First, Last, Stride}
+use Rattle.sk_cli.specs.declared.command.Command.{Command}
+use Rattle.sk_cli.specs.declared.command.Command.TheVariants.{Check}
+use Rattle.sk_cli.specs.declared.request.Request.{Request}
+use Rattle.sk_cli.specs.declared.status.Status.{Status}
+use Rattle.sk_cli.specs.declared.status.Status.TheVariants.{Done, Refused}
+use Rattle.sk_cli.specs.Commands.{command_word}
+use Rattle.sk_cli.specs.Asking.{IsOrder, HasOrder, Asks}
+use Rattle.sk_cli.specs.Outcome.{IsTheJudgement, IsReport, IsRefusalText, IsCheckAnswer, IsAnswer, IsOutcome}
+
+one_command : (c d : Command) → command_word c ≡ command_word d → c ≡ d
+one_command Check Check same = refl
+
+-- no number is spelled with such a first byte
+no_letter : (c k : ℕ) (rest : List ℕ) → 10 ≤ digit_value c → k ≤ 65535 → c ∷ rest ≡ decimal k → ⊥
+no_letter c k rest letter few is =
+    let numeral = decimal_is_IsNumeral k (omega (arith, few)) in
+    let digits = subst (λ bytes. AllDigits 10 bytes) (sym is) numeral.0.1 in
+    omega (arith, letter, digits.0)
+
+one_order : (value : List ℕ) (one other : Order) → IsOrder value one → IsOrder value other → one ≡ other
+one_order value First First first second = refl
+one_order value First Last first second = cc
+one_order value First (Stride k) first second = absurd (no_letter 102 k _ (lit≤ tt) second.1 (sym first ∙ second.0))
+one_order value Last First first second = cc
+one_order value Last Last first second = refl
+one_order value Last (Stride k) first second = absurd (no_letter 108 k _ (lit≤ tt) second.1 (sym first ∙ second.0))
+one_order value (Stride k) First first second = absurd (no_letter 102 k _ (lit≤ tt) first.1 (sym second ∙ first.0))
+one_order value (Stride k) Last first second = absurd (no_letter 108 k _ (lit≤ tt) first.1 (sym second ∙ first.0))
+one_order value (Stride k) (Stride j) first second =
+    ap Stride (decimal_injective k j (omega (arith, first.1)) (omega (arith, second.1)) (sym first.0 ∙ second.0))
+
+keys_order : (keys : List (List ℕ)) (one other : Order) → HasOrder keys one → HasOrder keys other → one ≡ other
+keys_order [] one other first second = first ∙ sym second
+keys_order (word ∷ []) one other first second =
+    let here = first.1 in
+    let there = second.1 in
+    let same : first.0 ≡ second.0 = cc in
+    one_order second.0 one other (subst (λ value. IsOrder value one) same first.2) second.2
+keys_order (word ∷ another ∷ words) one other first second = absurd first
+
+pub same_request : (words : List (List ℕ)) (one other : Request) → Asks words one → Asks words other → one ≡ other
+same_request [] one other first second = absurd first
+same_request (command ∷ keys) one other first second =
+    let command_is = one_command one.command other.command (sym first.0 ∙ second.0) in
+    let order_is = keys_order keys one.order other.order first.1 second.1 in
+    let make : Command → Order → Request = λ c o. record { command = c; order = o } in
+    ap (λ c. make c one.order) command_is ∙ ap (λ o. make other.command o) order_is
+
+-- the laws of the layers below
+abbrev OneSketch : Type 0
+OneSketch = (bytes : List ℕ) (s t : Sketch) → Reads bytes s → Reads bytes t → s ≡ t
+
+abbrev OneRefusal : Type 0
+OneRefusal = (bytes : List ℕ) (n m : ℕ) (c d : Code) → Refuses bytes n c → Refuses bytes m d → (n ≡ m) × (c ≡ d)
+
+abbrev NotBoth : Type 0
+NotBoth = (bytes : List ℕ) (s : Sketch) (n : ℕ) (code : Code) → Reads bytes s → Refuses bytes n code → ⊥
+
+abbrev OneJudgement : Type 0
+OneJudgement = (g : Graph) (one other : List Body) (j k : Judgement) → SameBodies one other → IsJudgement g one j → IsJudgement g other k → j ≡ k
+
+same_judgement : OneJudgement → (g : Graph) (j k : Judgement) → IsTheJudgement g j → IsTheJudgement g k → j ≡ k
+same_judgement law g j k first second =
+    law g first.normal first.normal j k (λ x. (λ h. h, λ h. h)) (first.every first.normal first.is_normal) (second.every first.normal first.is_normal)
+
+same_report : OneSketch → OneJudgement → (bytes text another : List ℕ) → IsReport bytes text → IsReport bytes another → text ≡ another
+same_report one_sketch law bytes text another (s, j, reads, judged, is) (t, k, reads', judged', is') =
+    let sketch_is = one_sketch bytes s t reads reads' in
+    let judgement_is = same_judgement law (graph_of t) j k (subst (λ z. IsTheJudgement (graph_of z) j) sketch_is judged) judged' in
+    is ∙ ap (λ z. check_report z j) sketch_is ∙ ap (λ z. check_report t z) judgement_is ∙ sym is'
+
+same_refusal : OneRefusal → (bytes text another : List ℕ) → IsRefusalText bytes text → IsRefusalText bytes another → text ≡ another
+same_refusal one_refusal bytes text another (r, refuses, is) (q, refuses', is') =
+    let same = one_refusal bytes r.line q.line r.code q.code refuses refuses' in
+    let make : ℕ → Code → Refusal = λ n c. record { line = n; code = c } in
+    is ∙ ap (λ n. refusal_line (make n r.code)) same.0 ∙ ap (λ c. refusal_line (make q.line c)) same.1 ∙ sym is'
+
+no_report : NotBoth → (bytes text another : List ℕ) → IsReport bytes text → IsRefusalText bytes another → ⊥
+no_report not_both bytes text another (s, j, reads, judged, is) (r, refuses, is') = not_both bytes s r.line r.code reads refuses
+
+-- a report or a refusal
+told : (bytes : List ℕ) (status : Status) (text : List ℕ) → IsCheckAnswer bytes status text → ((status ≡ Done) × IsReport bytes text) ⊎ ((status ≡ Refused) × IsRefusalText bytes text)
+told bytes Done text answer = inl (refl, answer)
+told bytes Refused text answer = inr (refl, answer)
+told bytes status text answer = absurd answer
+
+same_answer : OneSketch → OneRefusal → NotBoth → OneJudgement → (command : Command) (bytes : List ℕ) (status other : Status) (text another : List ℕ)
+    → IsAnswer command bytes status text → IsAnswer command bytes other another → (status ≡ other) × (text ≡ another)
+same_answer one_sketch one_refusal not_both law Check bytes status other text another first second =
+    elim (told bytes status text first) [
+      | inl done ↦ elim (told bytes other another second) [
+        | inl done' ↦ (done.0 ∙ sym done'.0, same_report one_sketch law bytes text another done.1 done'.1)
+        | inr refused ↦ absurd (no_report not_both bytes text another done.1 refused.1)
+      ]
+      | inr refused ↦ elim (told bytes other another second) [
+        | inl done ↦ absurd (no_report not_both bytes another text done.1 refused.1)
+        | inr refused' ↦ (refused.0 ∙ sym refused'.0, same_refusal one_refusal bytes text another refused.1 refused'.1)
+      ]
+    ]
+
+pub same_outcome : OneSketch → OneRefusal → NotBoth → OneJudgement → (words : List (List ℕ)) (bytes : List ℕ) (status other : Status) (text another : List ℕ)
+    → IsOutcome words bytes status text → IsOutcome words bytes other another → (status ≡ other) × (text ≡ another)
+same_outcome one_sketch one_refusal not_both law words bytes status other text another first second =
+    elim first [
+      | inl asked ↦ elim second [
+        | inl asked' ↦
+            let request_is = same_request words asked.0 asked'.0 asked.1 asked'.1 in
+            same_answer one_sketch one_refusal not_both law asked'.0.command bytes status other text another
+            (subst (λ (z : Request). IsAnswer z.command bytes status text) request_is asked.2) asked'.2
+        | inr usage ↦ absurd (usage.0 (asked.0, asked.1))
+      ]
+      | inr usage ↦ elim second [
+        | inl asked ↦ absurd (usage.0 (asked.0, asked.1))
+        | inr usage' ↦ (usage.1 ∙ sym usage'.1, usage.2 ∙ sym usage'.2)
+      ]
+    ]

@@ -1,0 +1,6 @@
+use Rattle.sk_cli.proofs.OneOutcome.{same_outcome}
+use Rattle.sk_cli.proofs.law.one_outcome.Goals as goal
+
+pub returns : goal.returns
+returns c =
+    same_outcome c.one_answer.ensures.one_sketch c.one_answer.ensures.one_refusal c.one_answer.ensures.not_both c.one_judgement.ensures

@@ -1,0 +1,49 @@
+use Rattle.std.proofs.Common.{◌∙◌, sym, refl, map}
+use Rattle.std.specs.Prelude.{string_bytes}
+use Rattle.sk_cli.specs.declared.status.Status.TheVariants.{ReadFault, NoMemory}
+use Rattle.sk_cli.specs.Asking.{AreOfForm}
+use Rattle.sk_cli.proofs.Runs.{usage_ends, answer_ends, nothing_ends, no_form, answer_room, usage_room, no_fault}
+use Rattle.sk_cli.proofs.top.run.Goals as goal
+
+pub returns-in_default-clause-outcome : goal.returns-in_default-clause-outcome
+returns-in_default-clause-outcome g c =
+    usage_ends (map string_bytes c.args.words.now) (g.S.Source.left c.args.source.now) _ _ c.as_bytes.result.now c.send.result
+    (no_form (map string_bytes c.args.words.now) c.in_default.ensures.none) c.as_bytes.ensures.value c.send.ensures.sent
+
+pub returns-in_default-clause-read : goal.returns-in_default-clause-read
+returns-in_default-clause-read g c is =
+    absurd (no_form (map string_bytes c.args.words.now) c.in_default.ensures.none is)
+
+pub returns-in_default-clause-sure_sink : goal.returns-in_default-clause-sure_sink
+returns-in_default-clause-sure_sink g c each =
+    let sure = c.send.ensures.sure (usage_room (map string_bytes c.args.words.now) (g.S.Source.left c.args.source.now) c.as_bytes.result.now _ each
+    (no_form (map string_bytes c.args.words.now) c.in_default.ensures.none) c.as_bytes.ensures.value) in
+    (sure.0, λ failed. cc (sure.1, failed))
+
+pub returns-in-Err-ReadFault-clause-outcome : goal.returns-in-Err-ReadFault-clause-outcome
+returns-in-Err-ReadFault-clause-outcome g c =
+    let form : AreOfForm (map string_bytes c.args.words.now) = (c.in-Some.request, c.in-Some.ensures.some) in
+    nothing_ends (map string_bytes c.args.words.now) (g.S.Source.left c.args.source.now) _ ReadFault (λ bytes. (form, refl))
+
+pub returns-in-Err-NoMemory-clause-outcome : goal.returns-in-Err-NoMemory-clause-outcome
+returns-in-Err-NoMemory-clause-outcome g c =
+    nothing_ends (map string_bytes c.args.words.now) (g.S.Source.left c.args.source.now) _ NoMemory (λ bytes. refl)
+
+pub returns-in-Ok-answer-clause-outcome : goal.returns-in-Ok-answer-clause-outcome
+returns-in-Ok-answer-clause-outcome g c =
+    let answer = rw c.as_bytes-2.ensures at c.in-Ok-answer.ensures in
+    let sent = rw c.as_bytes-in-Ok-answer.ensures at c.send-in-Ok-answer.ensures.sent in
+    answer_ends (map string_bytes c.args.words.now) (g.S.Source.left c.args.source.now) _ _ _ c.in-Ok.bytes c.in-Some.request c.in-Ok-answer.answer.status c.in-Ok-answer.answer.text c.send-in-Ok-answer.result
+    c.in-Some.ensures.some c.in-Ok.ensures.bound c.in-Ok.ensures.taken answer sent
+
+pub returns-in-Ok-answer-clause-sure_sink : goal.returns-in-Ok-answer-clause-sure_sink
+returns-in-Ok-answer-clause-sure_sink g c each =
+    let answer = rw c.as_bytes-2.ensures at c.in-Ok-answer.ensures in
+    let sure = c.send-in-Ok-answer.ensures.sure (rw c.as_bytes-in-Ok-answer.ensures
+    (answer_room (map string_bytes c.args.words.now) (g.S.Source.left c.args.source.now) _ c.in-Ok.bytes c.in-Some.request c.in-Ok-answer.answer.status c.in-Ok-answer.answer.text _
+    each c.in-Some.ensures.some c.in-Ok.ensures.bound c.in-Ok.ensures.taken answer)) in
+    (sure.0, λ failed. no_fault c.in-Some.request.command c.in-Ok.bytes c.in-Ok-answer.answer.status c.in-Ok-answer.answer.text answer (sym sure.1 ∙ failed))
+
+pub returns-clause-outcome : goal.returns-clause-outcome
+returns-clause-outcome g c =
+    nothing_ends (map string_bytes c.args.words.now) (g.S.Source.left c.args.source.now) _ NoMemory (λ bytes. refl)

@@ -1,0 +1,7 @@
+-- The words of commands.
+use Rattle.std.specs.Prelude.{ℕ, List, codes}
+use Rattle.sk_cli.specs.declared.command.Command.{Command}
+use Rattle.sk_cli.specs.declared.command.Command.TheVariants.{Check}
+
+abbrev pub command_word : Command → List ℕ
+command_word Check = codes "check"

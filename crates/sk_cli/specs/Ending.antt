@@ -1,0 +1,32 @@
+-- How a call ends.
+use Rattle.std.specs.Prelude.{◌≡◌, ◌≤◌, ℕ, List, [], length, take, ⊤, Option, None, Some}
+use Rattle.std.specs.Io.KnownBytes.{Appends}
+use Rattle.sk_io.specs.Transfer.{AppendsFront}
+use Rattle.sk_cli.specs.declared.status.Status.{Status}
+use Rattle.sk_cli.specs.declared.status.Status.TheVariants.{ReadFault, WriteFault, NoMemory}
+use Rattle.sk_cli.specs.Asking.{AreOfForm}
+use Rattle.sk_cli.specs.Outcome.{IsOutcome}
+
+-- where it is told what a source has left, it is these bytes
+abbrev pub IsTold : Option (List ℕ) → List ℕ → Type 0
+IsTold None bytes = ⊤
+IsTold (Some left) bytes = bytes ≡ left
+
+-- each status says what the sink gained: nothing, a front of the outcome's text, or all of it
+abbrev pub Ends : List (List ℕ) → List ℕ → Status → List ℕ → Type 0
+Ends words bytes ReadFault gained = AreOfForm words × (gained ≡ [])
+Ends words bytes NoMemory gained = gained ≡ []
+Ends words bytes WriteFault gained =
+    (status : Status) × (text : List ℕ) × (n : ℕ) × IsOutcome words bytes status text × (n ≤ length text) × (gained ≡ take n text)
+Ends words bytes status gained = IsOutcome words bytes status gained
+
+-- the status comes after the whole input
+abbrev pub HasInput : Status → Type 0
+HasInput ReadFault = ⊥
+HasInput NoMemory = ⊥
+HasInput status = Unit {0}
+
+-- the text was written and the status is as given, or a front of it was and the status says that the sink failed
+abbrev pub Sends : Option (List ℕ) → Option (List ℕ) → Status → List ℕ → Status → Type 0
+Sends old new given text WriteFault = AppendsFront old new text
+Sends old new given text status = Appends old new text × (status ≡ given)

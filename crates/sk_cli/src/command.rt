@@ -1,0 +1,23 @@
+// The commands by their words.
+ghost use Rattle.std.specs.Prelude.{◌≡◌, IfSome, IfNone};
+ghost use Rattle.sk_cli.specs.declared.command.Command.{Command as AnyCommand};
+ghost use Rattle.sk_cli.specs.Commands.{command_word};
+
+/// What the program does.
+#[derive(Clone, Copy, Debug, PartialEq, Eq)]
+pub enum Command {
+    /// Judges a sketch.
+    Check,
+}
+
+/// The command that the word names.
+pub fn command_of(word: &str) -> Option<Command>
+    ensures some { IfSome result (λ command. word.now ≡ command_word command) }
+    ensures none { IfNone result ((command : AnyCommand) → word.now ≡ command_word command → ⊥) }
+{
+    if word == "check" {
+        Some(Command::Check)
+    } else {
+        None
+    }
+}

@@ -1,0 +1,35 @@
+ghost use Rattle.std.specs.Prelude.{◌≡◌};
+
+/// How a call of the program ends.
+#[derive(Clone, Copy, Debug, PartialEq, Eq)]
+pub enum Status {
+    /// The command did its work.
+    Done,
+    /// The input is refused.
+    Refused,
+    /// The words aren't of the form.
+    Usage,
+    /// The source failed.
+    ReadFault,
+    /// The sink failed.
+    WriteFault,
+    /// Memory ran out.
+    NoMemory,
+    /// The sketch isn't well dimensioned.
+    NotWell,
+    /// A step of the placement failed, or a placed sign isn't the drawn one.
+    StepFault,
+    /// A printed number would pass the limit.
+    Tolerance,
+}
+
+impl Status {
+    ghost use Rattle.sk_cli.specs.StatusCodes.{status_code};
+
+    /// The number that the program ends with.
+    pub fn code(&self) -> u8
+        ensures { result ≡ status_code self.now }
+    {
+        *self as u8
+    }
+}

@@ -1,0 +1,91 @@
+// The top call.
+ghost use Rattle.std.specs.Prelude.{◌≡◌, ◌≤◌, ℕ, List, length, drop, map, Some, string_bytes, IfOk, IfSome};
+ghost use Rattle.std.specs.Io.KnownBytes.{Appends};
+ghost use Rattle.sk_io.specs.Causes.{Rose};
+ghost use Rattle.sk_cli.specs.declared.status.Status.{Status as AnyStatus};
+ghost use Rattle.sk_cli.specs.Asking.{AreOfForm};
+ghost use Rattle.sk_cli.specs.Outcome.{IsAnswer, IsOutcome};
+ghost use Rattle.sk_cli.specs.Ending.{IsTold, Ends, HasInput, Sends};
+
+use crate::check::{Answer, check};
+use crate::command::Command;
+use crate::request::{Request, request_of};
+use crate::status::Status;
+use sk_base::NoMemory;
+use sk_io::{ReadEnd, Sink, Source, read_all, write_all};
+use std::alloc::Global;
+
+const USAGE: &str =
+    "usage: sketch check|plan|solve|dxf|offers|session|grow [order=first|last|0..65535] [bits=16|27|38] [within=1..1000000] [n=3..1000]\n";
+
+/// One byte more than an input may have.
+const MOST_TAKEN: u64 = 1_048_577;
+
+/// Does what the words after the program's name ask for, on what the source has left, and writes the
+/// answer to the sink.
+pub fn run<S: Source, K: Sink>(
+    alloc: Global,
+    words: &[String],
+    source: &mut S,
+    sink: &mut K,
+) -> Status
+    // On the bytes that the source had left, the status and what the sink gained are the outcome: a
+    // front of its text where the sink failed, and nothing where the source failed or memory ran out.
+    ensures outcome { (bytes gained : List ℕ) × IsTold (S.left source.old) bytes
+        × Appends (K.written sink.old) (K.written sink.new) gained
+        × Ends (map string_bytes words.now) bytes result gained }
+
+    // The input is read to its end, or to the byte that is one too many. Where the words aren't of the
+    // form, no call is made on the source.
+    ensures read { AreOfForm (map string_bytes words.now) → HasInput result
+        → IfSome (S.left source.old) (λ bytes. S.left source.new ≡ Some (drop 1048577 bytes)) }
+    ensures untouched { (AreOfForm (map string_bytes words.now) → ⊥) → source.new ≡ source.old }
+
+    // A fault is answered only where the source or the sink counted one in this call.
+    ensures read_cause { result ≡ Status.ReadFault → Rose (S.faults source.old) (S.faults source.new) }
+    ensures write_cause { result ≡ Status.WriteFault → Rose (K.faults sink.old) (K.faults sink.new) }
+
+    // Where no read fails, and the sink has room for every outcome and no write of it fails, no fault is
+    // counted and none is answered.
+    ensures sure_source { S.is_sure source.old
+        → (S.faults source.new ≡ S.faults source.old) × (result ≡ Status.ReadFault → ⊥) }
+    ensures sure_sink { ((bytes text : List ℕ) (status : AnyStatus) → IsTold (S.left source.old) bytes
+        → IsOutcome (map string_bytes words.now) bytes status text → length text ≤ K.sure_room sink.old)
+        → (K.faults sink.new ≡ K.faults sink.old) × (result ≡ Status.WriteFault → ⊥) }
+{
+    let Some(request) = request_of(words) else {
+        return send(sink, Status::Usage, USAGE.as_bytes());
+    };
+    let bytes = match read_all(alloc, source, MOST_TAKEN) {
+        Ok(bytes) => bytes,
+        Err(ReadEnd::ReadFault) => return Status::ReadFault,
+        Err(ReadEnd::NoMemory) => return Status::NoMemory,
+    };
+    match answer(alloc, request, bytes.as_bytes()) {
+        Ok(answer) => send(sink, answer.status, answer.text.as_bytes()),
+        Err(NoMemory) => Status::NoMemory,
+    }
+}
+
+/// The answer to an input.
+fn answer(alloc: Global, request: Request, bytes: &[u8]) -> Result<Answer, NoMemory>
+    ensures { IfOk result (λ answer. IsAnswer request.command bytes.now answer.status answer.text) }
+{
+    match request.command {
+        Command::Check => check(alloc, request.order, bytes),
+    }
+}
+
+/// Writes the text, and answers the status, or that the sink failed.
+fn send<K: Sink>(sink: &mut K, status: Status, text: &[u8]) -> Status
+    ensures sent { Sends (K.written sink.old) (K.written sink.new) status text.now result }
+    ensures cause { result ≡ Status.WriteFault → (status ≡ Status.WriteFault → ⊥) → Rose (K.faults sink.old) (K.faults sink.new) }
+    ensures later { K.faults sink.old ≤ K.faults sink.new }
+    ensures sure { length text.now ≤ K.sure_room sink.old
+        → (K.faults sink.new ≡ K.faults sink.old) × (result ≡ status) }
+{
+    match write_all(sink, text) {
+        Ok(()) => status,
+        Err(_) => Status::WriteFault,
+    }
+}
