@@ -8,7 +8,6 @@ use Rattle.std.proofs.lemmas.List.Elements.{Contains-push}
 use Rattle.sk_base.specs.declared.Elem.{Elem}
 use Rattle.sk_base.specs.declared.ConId.{ConId}
 use Rattle.sk_base.specs.declared.Edge.{Edge}
-use Rattle.sk_base.specs.declared.Node.{Node}
 use Rattle.sk_base.specs.declared.Graph.{Graph}
 use Rattle.sk_base.specs.declared.Measure.{Measure}
 use Rattle.sk_base.specs.declared.Measure.TheVariants.{PointPoint, PointLine, LineLine}
@@ -35,6 +34,7 @@ use Rattle.sk_rules.proofs.Counting.{IsTight, owned_is_held, reached_tight, foun
 use Rattle.sk_tree.specs.declared.Tree.{Tree}
 use Rattle.sk_tree.specs.Trees.{IsTreeOf}
 use Rattle.sk_tree.specs.LegalPlan.{numbers_of, HasNodes}
+use Rattle.sk_verdict.specs.Parts.{elem_of}
 use Rattle.sk_plan.specs.Sparse.{EachMeetsOnce, IsSparse, HasFewAngles, AreDistinct}
 use Rattle.sk_plan.specs.Runs.{EachTakesOnce}
 use Rattle.sk_plan.specs.Leaves.{HasLeaves}
@@ -44,9 +44,6 @@ use Rattle.sk_plan.proofs.Grown.{IsGrown, initial_grown, grown_end}
 use Rattle.sk_plan.proofs.Sparsity.{sparse_all, few_angles_all}
 
 -- all elements and all constraints of the graph
-abbrev pub elem_of : Node → Elem
-elem_of n = n.elem
-
 abbrev pub everything : Graph → Body
 everything g = record { elements = map elem_of g.nodes; owned = numbers_of g }
 

@@ -1,14 +1,21 @@
 -- The steps of a legal plan are merges that are taken one after another, each of clusters that meet once.
-use Rattle.std.proofs.Common.{◌≡◌, inl, inr, refl, List, [], ◌∷◌, ap, arith}
-use Rattle.std.specs.Prelude.{map}
+use Rattle.std.proofs.Common.{◌≡◌, inl, inr, refl, List, [], ◌∷◌, ap, arith, subst}
+use Rattle.std.specs.Prelude.{Contains, map}
 use Rattle.sk_base.specs.declared.Elem.{Elem}
 use Rattle.sk_base.specs.declared.Graph.{Graph}
+use Rattle.sk_base.specs.declared.Kind.{Kind}
+use Rattle.sk_base.specs.declared.Kind.TheVariants.{Point, Line}
+use Rattle.sk_base.specs.SoundGraph.{HasNode}
+use Rattle.sk_base.proofs.Members.{contains_none, contains_one, contains_cases, contains_mapped}
 use Rattle.sk_family.specs.Clusters.{Clusters}
 use Rattle.sk_rules.specs.Merges.{ComesBefore, IsLeastTriangle, merged}
 use Rattle.sk_rules.specs.Taking.{IsTaken, Leads}
+use Rattle.sk_tree.specs.declared.Choice.{Choice}
+use Rattle.sk_tree.specs.declared.Choice.TheVariants.{Turn, Advance, Nothing}
 use Rattle.sk_tree.specs.declared.PlanStep.{PlanStep}
 use Rattle.sk_tree.specs.Meeting.{MeetsOnce}
-use Rattle.sk_tree.specs.LegalPlan.{merge_told, taken_told, IsLegalStep, IsWhole, AreLegalSteps}
+use Rattle.sk_tree.specs.LegalPlan.{merge_told, taken_told, FitsKinds, IsLegalStep, IsWhole, AreLegalSteps}
+use Rattle.sk_verdict.specs.Parts.{elem_of}
 use Rattle.sk_plan.specs.Runs.{TakesOnce, EachTakesOnce}
 
 -- where three meet once, theirs is the only triangle, and so the least
@@ -59,3 +66,40 @@ arrives g f (s ∷ ss) (legal, rest) = (let later = arrives g (merged f (merge_t
   once = (step_takes g f s legal, later.once);
   whole = later.whole;
 })
+
+-- each step is at three nodes
+pub record AreNodes (g : Graph) (a b c : Elem) : Type 0 where
+  pub first : Contains (map elem_of g.nodes) a
+  pub second : Contains (map elem_of g.nodes) b
+  pub third : Contains (map elem_of g.nodes) c
+
+node_there : (g : Graph) (e : Elem) (kind : Kind) → HasNode g e kind → Contains (map elem_of g.nodes) e
+node_there g e kind h = contains_mapped elem_of g.nodes (record { elem = e; kind = kind }) h
+
+three_nodes : (g : Graph) (a b c : Elem) (j k l : Kind) → HasNode g a j → HasNode g b k → HasNode g c l → AreNodes g a b c
+three_nodes g a b c j k l p q r = record { first = node_there g a j p; second = node_there g b k q; third = node_there g c l r }
+
+fits_nodes : (g : Graph) (a b c : Elem) (choice : Choice) → FitsKinds g a b c choice → AreNodes g a b c
+fits_nodes g a b c (Turn sign) (p, q, r) = three_nodes g a b c Point Point Point p q r
+fits_nodes g a b c (Advance sign) (inl (p, q, r)) = three_nodes g a b c Line Point Point p q r
+fits_nodes g a b c (Advance sign) (inr (inl (p, q, r))) = three_nodes g a b c Point Line Point r p q
+fits_nodes g a b c (Advance sign) (inr (inr (p, q, r))) = three_nodes g a b c Point Point Line q r p
+fits_nodes g a b c Nothing (inl (p, q, r)) = three_nodes g a b c Point Line Line p q r
+fits_nodes g a b c Nothing (inr (inl (p, q, r))) = three_nodes g a b c Line Point Line r p q
+fits_nodes g a b c Nothing (inr (inr (p, q, r))) = three_nodes g a b c Line Line Point q r p
+
+pub corners_of : (g : Graph) (f : Clusters) (steps : List PlanStep) → AreLegalSteps g f steps → (s : PlanStep) → Contains steps s → (e : Elem) → Contains (s.a ∷ s.b ∷ s.c ∷ []) e → Contains (map elem_of g.nodes) e
+corners_of g f [] whole s s_in e e_in = absurd (contains_none s s_in)
+corners_of g f (t ∷ ss) (legal, rest) s s_in e e_in =
+    elim (contains_cases t ss s s_in) [
+      | inl here ↦ (
+          let nodes = subst (λ (u : PlanStep). AreNodes g u.a u.b u.c) here (fits_nodes g t.a t.b t.c t.choice legal.choice) in
+          elim (contains_cases s.a (s.b ∷ s.c ∷ []) e e_in) [
+            | inl is ↦ subst (λ x. Contains (map elem_of g.nodes) x) is nodes.first
+            | inr more ↦ elim (contains_cases s.b (s.c ∷ []) e more) [
+              | inl is ↦ subst (λ x. Contains (map elem_of g.nodes) x) is nodes.second
+              | inr last ↦ subst (λ x. Contains (map elem_of g.nodes) x) (contains_one s.c e last) nodes.third
+            ]
+          ])
+      | inr later ↦ corners_of g (merged f (merge_told t)) ss rest s later e e_in
+    ]

@@ -14,3 +14,4 @@ pub mod DrawnKinds
 pub mod Stepping
 pub mod Wells
 pub mod WellRuns
+pub mod WellPlans

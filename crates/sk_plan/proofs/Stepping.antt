@@ -25,7 +25,8 @@ use Rattle.sk_tree.specs.LegalPlan.{taken_told, FitsKinds, IsKept, IsLegalStep, 
 use Rattle.sk_plan.specs.DrawnChoice.{AreDrawn, HasDrawnChoice}
 use Rattle.sk_plan.specs.Runs.{TakesOnce, EachTakesOnce}
 use Rattle.sk_plan.proofs.Joined.{sound_taken, reach_more}
-use Rattle.sk_plan.proofs.Finished.{elem_of, reached_within}
+use Rattle.sk_verdict.specs.Parts.{elem_of}
+use Rattle.sk_plan.proofs.Finished.{reached_within}
 use Rattle.sk_plan.proofs.DrawnKinds.{Draws, IsDrawnNode, drawn_some, drawn_fits}
 
 module _ (s : Sketch) (g : Graph) (sound : IsSoundGraph g) (draws : Draws s g) (f : Clusters) (reached : Reach g (initial_bodies g) (bodies f)) where

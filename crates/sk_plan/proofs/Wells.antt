@@ -27,10 +27,9 @@ use Rattle.sk_verdict.specs.declared.Judgement.{Judgement}
 use Rattle.sk_verdict.specs.declared.Part.{Part}
 use Rattle.sk_verdict.specs.declared.Verdict.TheVariants.{Well, Over, Several}
 use Rattle.sk_verdict.specs.Judging.{IsJudgement, some_over}
-use Rattle.sk_verdict.specs.Parts.{IsLone, part_with}
+use Rattle.sk_verdict.specs.Parts.{IsLone, elem_of, part_with}
 use Rattle.sk_verdict.proofs.Normals.{more_than_one, has_two, same_elements}
 use Rattle.sk_plan.specs.Sparse.{HoldsNoneTooMany}
-use Rattle.sk_plan.proofs.Finished.{elem_of}
 
 -- a list with at most one item
 few_same : {X : Type 0} (xs : List X) (x y : X) → length xs ≤ 1 → Contains xs x → Contains xs y → x ≡ y

@@ -1,5 +1,6 @@
 // What holds of every plan, and of every way of merging, whatever it is made by.
-ghost use Rattle.std.specs.Prelude.{◌≡◌, ◌+◌, ◌-◌, List, Contains, length};
+ghost use Rattle.std.specs.Prelude.{◌≡◌, ◌-◌, ◌∷◌, [], List, Contains, map, length};
+ghost use Rattle.sk_base.specs.declared.Elem.{Elem};
 ghost use Rattle.sk_base.specs.declared.Graph.{Graph};
 ghost use Rattle.sk_base.specs.SoundGraph.{IsSoundGraph, HasRisingEdges, HasTwoEnds};
 ghost use Rattle.sk_family.specs.Body.{Body, initial_bodies};
@@ -8,15 +9,20 @@ ghost use Rattle.sk_rules.specs.declared.Taken.{Taken};
 ghost use Rattle.sk_rules.specs.Reach.{Reach, IsClosed, IsNormal};
 ghost use Rattle.sk_rules.specs.Taking.{Leads};
 ghost use Rattle.sk_tree.specs.declared.Plan.{Plan};
+ghost use Rattle.sk_tree.specs.declared.PlanStep.{PlanStep};
 ghost use Rattle.sk_tree.specs.LegalPlan.{IsLegalPlan};
+ghost use Rattle.sk_verdict.specs.Parts.{elem_of};
+ghost use Rattle.sk_plan.specs.Judged.{IsWell};
 ghost use Rattle.sk_plan.specs.Runs.{EachTakesOnce};
 ghost use Rattle.sk_plan.specs.Sparse.{AllOwnJustEnough, EachMeetsOnce, HoldsNoneTooMany, IsSparse, HasFewAngles, IsSparseAmong, HasFewAnglesAmong};
 
-/// A legal plan has two steps fewer than its graph has elements, or none for one element. Of the
-/// graph, no k elements have more than 2k - 3 constraints among them, and no k lines more than k - 1
-/// angles.
+/// Only a graph with the verdict well has a legal plan. The plan has two steps fewer than the graph
+/// has nodes, or none for one node, and each step is at three of the nodes. Of the graph, no k
+/// elements have more than 2k - 3 constraints among them, and no k lines more than k - 1 angles.
 pub fn legal_plan()
+    ensures well { (g : Graph) (p : Plan) → IsSoundGraph g → IsLegalPlan g p → IsWell g }
     ensures steps { (g : Graph) (p : Plan) → IsSoundGraph g → IsLegalPlan g p → length p.steps ≡ length g.nodes - 2 }
+    ensures corners { (g : Graph) (p : Plan) → IsLegalPlan g p → (s : PlanStep) (e : Elem) → Contains p.steps s → Contains (s.a ∷ s.b ∷ s.c ∷ []) e → Contains (map elem_of g.nodes) e }
     ensures elements { (g : Graph) (p : Plan) → IsSoundGraph g → IsLegalPlan g p → IsSparse g }
     ensures lines { (g : Graph) (p : Plan) → IsSoundGraph g → IsLegalPlan g p → HasFewAngles g }
 {}

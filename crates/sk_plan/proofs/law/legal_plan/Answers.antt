@@ -1,5 +1,14 @@
+use Rattle.sk_family.specs.Clusters.{initial_clusters}
+use Rattle.sk_plan.proofs.Legal.{corners_of}
+use Rattle.sk_plan.proofs.WellPlans.{plan_well}
 use Rattle.sk_plan.proofs.Planned.{plan_steps, plan_sparse, plan_few_angles}
 use Rattle.sk_plan.proofs.law.legal_plan.Goals as goal
+
+pub returns-clause-well : goal.returns-clause-well
+returns-clause-well c = plan_well
+
+pub returns-clause-corners : goal.returns-clause-corners
+returns-clause-corners c g p legal s e s_in e_in = corners_of g (initial_clusters g) p.steps legal.steps s s_in e e_in
 
 pub returns-clause-steps : goal.returns-clause-steps
 returns-clause-steps c = plan_steps
