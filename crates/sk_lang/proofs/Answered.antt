@@ -96,7 +96,7 @@ step_by false false (w ∷ ws) e = inr refl
 step_by false true ws e = cc
 step_by true b ws e = cc
 
-all_blank : (lines : List (List ℕ)) → list_all is_blank_line lines ≡ true → HaveNoCode Before lines × (progress_along Before lines ≡ Before)
+pub all_blank : (lines : List (List ℕ)) → list_all is_blank_line lines ≡ true → HaveNoCode Before lines × (progress_along Before lines ≡ Before)
 all_blank [] e = (tt, refl)
 all_blank (line ∷ lines) e =
     let parts = both (is_blank_line line) (list_all is_blank_line lines) e in
@@ -123,7 +123,7 @@ led_begun : (lines : List (List ℕ)) (progress : Progress) → is_begun progres
 led_begun [] progress e = e
 led_begun (line ∷ lines) progress e = led_begun lines (progress_after progress line) (begun_next progress (words_in line) e)
 
-still_before : (lines : List (List ℕ)) → HaveNoCode Before lines → progress_along Before lines ≡ Before → list_all is_blank_line lines ≡ true
+pub still_before : (lines : List (List ℕ)) → HaveNoCode Before lines → progress_along Before lines ≡ Before → list_all is_blank_line lines ≡ true
 still_before [] clean led = refl
 still_before (line ∷ lines) clean led =
     elim (step_by (is_too_long line) (has_wrong_byte line) (words_in line) clean.0) [
@@ -136,7 +136,7 @@ still_before (line ∷ lines) clean led =
           let is : is_begun (progress_along (progress_after Before line) lines) ≡ false = ap is_begun led in absurd cc
     ]
 
-clean_at : (before : List (List ℕ)) (line : List ℕ) (after : List (List ℕ)) (progress : Progress) → HaveNoCode progress (before ++ line ∷ after) → code_of (progress_along progress before) line ≡ None
+pub clean_at : (before : List (List ℕ)) (line : List ℕ) (after : List (List ℕ)) (progress : Progress) → HaveNoCode progress (before ++ line ∷ after) → code_of (progress_along progress before) line ≡ None
 clean_at [] line after progress clean = clean.0
 clean_at (b ∷ before) line after progress clean = clean_at before line after (progress_after progress b) clean.1
 
@@ -153,7 +153,7 @@ refuses_as : (bytes : List ℕ) (n m : ℕ) (c d : Code) → n ≡ m → c ≡ d
 refuses_as bytes n m c d number code refuses =
     subst (λ (k : ℕ). Refuses bytes k d) number (subst (λ (e : Code). Refuses bytes n e) code refuses)
 
-no_true : (t : Bool) → (t ≡ true → ⊥) → t ≡ false
+pub no_true : (t : Bool) → (t ≡ true → ⊥) → t ≡ false
 no_true true never = absurd (never refl)
 no_true false never = refl
 

@@ -11,5 +11,8 @@ pub mod LineByLine
 pub mod NumberBack
 pub mod Passing
 pub mod ReadBack
+pub mod ReadErrors
 pub mod Readable
 pub mod Sound
+pub mod Standing
+pub mod WholeLines

@@ -5,6 +5,7 @@ pub mod Computed
 pub mod Conditions
 pub mod Entry
 pub mod FirstCode
+pub mod Front
 pub mod Index
 pub mod Keywords
 pub mod Kinds

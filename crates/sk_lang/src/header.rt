@@ -1,6 +1,7 @@
-ghost use Rattle.std.specs.Prelude.{◌≡◌, ◌+◌, ◌≤◌, ◌<◌, ◌&&◌, length, map, None, IfOk, IfErr};
-ghost use Rattle.sk_lex.specs.Words.{bytes_of, StandInOrder};
+ghost use Rattle.std.specs.Prelude.{◌≡◌, ◌+◌, ◌≤◌, ◌<◌, ◌&&◌, length, map, [], None, IfOk, IfErr};
+ghost use Rattle.sk_lex.specs.Words.{bytes_of, words_in, StandInOrder};
 ghost use Rattle.sk_lang.specs.declared.progress.Progress.TheVariants.{Before, After};
+ghost use Rattle.sk_base.specs.declared.Sketch.{Sketch};
 ghost use Rattle.sk_lang.specs.Codes.{code_of, is_header};
 ghost use Rattle.sk_lang.specs.Meaning.{progress_after};
 ghost use Rattle.sk_lang.specs.Entry.{IsRefusal};
@@ -41,16 +42,28 @@ fn is_header(line: &[u8], words: &[Word]) -> bool
     words.len() == 2 && is(word(line, words, 0), "sketch") && is(word(line, words, 1), "1")
 }
 
-/// Where the line after this one stands, where the sketch has ended.
+/// How far the text has been read behind a line that follows the `end` of its sketch.
 pub(crate) fn after_last(alloc: Global, sketch: Sketch, line: &[u8]) -> Result<Progress, EntryError>
     ensures clean { IfOk result (λ _. code_of (After sketch) line.now ≡ None) }
     ensures progress { IfOk result (λ after. after ≡ progress_after (After sketch) line.now) }
     ensures size { IfOk result (λ after. size_of after ≤ size_of (After sketch) + 1) }
     ensures refused { IfErr result (IsRefusal (code_of (After sketch) line.now)) }
 {
+    match behind_end(alloc, line) {
+        Ok(()) => Ok(Progress::After(sketch)),
+        Err(error) => Err(error),
+    }
+}
+
+/// Tests a line that follows the `end` of a sketch.
+pub(crate) fn behind_end(alloc: Global, line: &[u8]) -> Result<(), EntryError>
+    ensures clean { IfOk result (λ _. (s : Sketch) → code_of (After s) line.now ≡ None) }
+    ensures blank { IfOk result (λ _. words_in line.now ≡ []) }
+    ensures refused { IfErr result (λ error. (s : Sketch) → IsRefusal (code_of (After s) line.now) error) }
+{
     let words = split(alloc, line)?;
     if words.items.is_empty() {
-        return Ok(Progress::After(sketch));
+        return Ok(());
     }
     Err(EntryError::Refused(Code::E17))
 }

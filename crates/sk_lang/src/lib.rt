@@ -7,6 +7,7 @@ mod draft;
 mod element;
 mod entry;
 mod field;
+mod front;
 mod header;
 mod keyword;
 mod law;
@@ -21,7 +22,8 @@ mod write;
 
 pub use code::{Code, ReadError, Refusal};
 pub use entry::{Entry, EntryError};
-pub use law::one_answer;
+pub use front::{Front, read_sketch_front};
+pub use law::{one_answer, readable_is_sound};
 pub use line::read_entry;
 pub use read::read_sketch;
 pub use write::{constraint_text, write_sketch};

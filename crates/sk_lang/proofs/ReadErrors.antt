@@ -1,0 +1,40 @@
+-- The error of a line is a refusal of the text.
+use Rattle.std.proofs.Common.{◌≡◌, ℕ, ◌+◌, ◌<◌, ◌≤◌, Bool, false, List, [], length, Option, Some, Result, Ok, Err, IfErr, refl, sym, subst, arith, ◌∷◌}
+use Rattle.sk_base.specs.declared.Sketch.{Sketch}
+use Rattle.sk_lang.specs.declared.code.ReadError.{ReadError}
+use Rattle.sk_lang.specs.declared.entry.EntryError.{EntryError}
+use Rattle.sk_lang.specs.declared.entry.EntryError.TheVariants.{Refused, NoMemory}
+use Rattle.sk_lang.specs.declared.code.Code.{Code}
+use Rattle.sk_lang.specs.declared.code.Code.TheVariants.{E16, E18}
+use Rattle.sk_lang.specs.declared.progress.Progress.{Progress}
+use Rattle.sk_lang.specs.declared.progress.Progress.TheVariants.{Before, Within, After}
+use Rattle.sk_lang.specs.Lines.{IsFirstLine}
+use Rattle.sk_lang.specs.Codes.{code_of}
+use Rattle.sk_lang.specs.Entry.{IsRefusal}
+use Rattle.sk_lang.specs.Reading.{IsRefusalOf, Refuses, has_ended}
+use Rattle.sk_lang.specs.Front.{IsFrontRefusal, RefusesFront}
+use Rattle.sk_lang.specs.Computed.{error_at, without_end}
+use Rattle.sk_lang.proofs.Standing.{StandsAt, refused_here, front_refused_here, front_empty_here, front_unended_here}
+
+pub refusal_at : (bytes rest line after : List ℕ) (progress : Progress) (count : ℕ) (error : EntryError) → length bytes ≤ 1048576 → StandsAt bytes rest progress count → 0 < length rest → IsFirstLine rest line after → IsRefusal (code_of progress line) error → IsRefusalOf bytes (error_at (count + 1) error)
+refusal_at bytes rest line after progress count (Refused code) fits at more first is = refused_here bytes rest line after progress count code fits at more first is
+refusal_at bytes rest line after progress count NoMemory fits at more first is = tt
+
+pub front_refusal_at : (bytes rest line after : List ℕ) (progress : Progress) (count : ℕ) (error : EntryError) → length bytes ≤ 1048576 → StandsAt bytes rest progress count → 0 < length rest → IsFirstLine rest line after → has_ended progress ≡ false → IsRefusal (code_of progress line) error → IsFrontRefusal bytes (error_at (count + 1) error)
+front_refusal_at bytes rest line after progress count (Refused code) fits at more first unended is = front_refused_here bytes rest line after progress count code fits at more first unended is
+front_refusal_at bytes rest line after progress count NoMemory fits at more first unended is = tt
+
+-- the text ends before its sketch does
+pub front_unended : (bytes : List ℕ) (progress : Progress) (count : ℕ) → length bytes ≤ 1048576 → StandsAt bytes [] progress count → has_ended progress ≡ false → IsFrontRefusal bytes (without_end progress count)
+front_unended bytes Before count fits at unended = front_empty_here bytes count fits at
+front_unended bytes (Within s) count fits at unended = front_unended_here bytes s count fits at
+front_unended bytes (After s) count fits at unended = cc
+
+pub ended_no_more : (progress : Progress) → ((s : Sketch) → progress ≡ After s → ⊥) → has_ended progress ≡ false
+ended_no_more Before never = refl
+ended_no_more (Within s) never = refl
+ended_no_more (After s) never = absurd (never s refl)
+
+pub no_bytes : (bytes : List ℕ) → length bytes ≡ 0 → bytes ≡ []
+no_bytes [] none = refl
+no_bytes (b ∷ bytes) none = absurd (omega arith)

@@ -1,0 +1,32 @@
+-- A text that is read up to the `end` of its sketch.
+use Rattle.std.specs.Prelude.{◌≡◌, ◌⊎◌, ◌≤◌, ◌-◌, ℕ, ⊤, Bool, false, List, length, take}
+use Rattle.sk_lang.specs.declared.code.Code.{Code}
+use Rattle.sk_lang.specs.declared.code.ReadError.{ReadError}
+use Rattle.sk_lang.specs.declared.code.ReadError.TheVariants.{Refused, NoMemory}
+use Rattle.sk_lang.specs.declared.front.Front.{Front}
+use Rattle.sk_lang.specs.declared.progress.Progress.TheVariants.{Before}
+use Rattle.sk_lang.specs.Lines.{lines_in, EndsLine}
+use Rattle.sk_lang.specs.Reading.{Reads, Refuses, has_ended, progress_along}
+
+-- whether the sketch has ended within the first lines
+abbrev pub has_ended_by : ℕ → List ℕ → Bool
+has_ended_by count bytes = has_ended (progress_along Before (take count (lines_in bytes)))
+
+-- The first bytes, which are whole lines, are read as the sketch, and its `end` is the last of these lines.
+pub record ReadsFront (bytes : List ℕ) (front : Front) : Type 0 where
+  pub fits : length bytes ≤ 1048576
+  pub within : front.used ≤ length bytes
+  pub whole : EndsLine (take front.used bytes) ⊎ (front.used ≡ length bytes)
+  pub reads : Reads (take front.used bytes) front.sketch
+  pub count : front.lines ≡ length (lines_in (take front.used bytes))
+  pub last : has_ended_by (front.lines - 1) bytes ≡ false
+
+-- The text is refused, and not on a line after the `end` of its sketch.
+pub record RefusesFront (bytes : List ℕ) (line : ℕ) (code : Code) : Type 0 where
+  pub refuses : Refuses bytes line code
+  pub before_end : has_ended_by (line - 1) bytes ≡ false
+
+-- the error is such a refusal, or memory ran out
+abbrev pub IsFrontRefusal : List ℕ → ReadError → Type 0
+IsFrontRefusal bytes (Refused refusal) = RefusesFront bytes refusal.line refusal.code
+IsFrontRefusal bytes NoMemory = ⊤

@@ -1,0 +1,117 @@
+ghost use Rattle.std.specs.Prelude.{◌≡◌, ◌+◌, ◌<◌, ◌≤◌, length, None, Err, IfOk, IfErr};
+ghost use Rattle.sk_base.specs.SoundSketch.{IsSoundSketch};
+ghost use Rattle.sk_lang.specs.declared.code.ReadError.TheVariants.{Refused};
+ghost use Rattle.sk_lang.specs.Codes.{code_of};
+ghost use Rattle.sk_lang.specs.Meaning.{progress_after};
+ghost use Rattle.sk_lang.specs.Entry.{IsRefusal};
+ghost use Rattle.sk_lang.specs.Computed.{error_at, without_end, size_of};
+ghost use Rattle.sk_lang.specs.Front.{ReadsFront, IsFrontRefusal};
+
+use crate::code::{Code, ReadError, Refusal};
+use crate::entry::EntryError;
+use crate::header::{after_header, after_last};
+use crate::lines::split_line;
+use crate::progress::Progress;
+use crate::within::after_entry;
+use sk_base::Sketch;
+use std::alloc::Global;
+
+/// The most bytes of a text.
+const MOST_BYTES: usize = 1_048_576;
+
+/// A sketch at the front of a text: how many bytes and lines it takes up to its `end`, with the line
+/// feed behind it where one stands.
+#[derive(Drop)]
+pub struct Front {
+    pub sketch: Sketch,
+    pub used: u32,
+    pub lines: u32,
+}
+
+/// Reads a text up to the `end` of its sketch. What follows is not looked at, but counts among the bytes
+/// of the text, of which there may be 1,048,576.
+pub fn read_sketch_front(alloc: Global, bytes: &[u8]) -> Result<Front, ReadError>
+    ensures reads { IfOk result (ReadsFront bytes.now) }
+    ensures sound { IfOk result (λ front. IsSoundSketch front.sketch) }
+    ensures some { IfOk result (λ front. 0 < length front.sketch.elements) }
+    ensures refuses { IfErr result (IsFrontRefusal bytes.now) }
+{
+    read_front(alloc, bytes)
+}
+
+/// Reads the lines one after another, up to `end`.
+pub(crate) fn read_front(alloc: Global, bytes: &[u8]) -> Result<Front, ReadError>
+    ensures reads { IfOk result (ReadsFront bytes.now) }
+    ensures few { IfOk result (λ front. front.lines ≤ front.used) }
+    ensures refuses { IfErr result (IsFrontRefusal bytes.now) }
+{
+    if bytes.len() > MOST_BYTES {
+        return Err(refused(0, Code::E20));
+    }
+    let mut progress = Progress::Before;
+    let mut lines = 0;
+    let mut rest = bytes;
+    while !rest.is_empty() {
+        let (line, after) = split_line(rest);
+        lines += 1;
+        let further = match after_line(alloc, progress, line) {
+            Ok(further) => further,
+            Err(error) => return Err(error_at(lines, error)),
+        };
+        match further {
+            Progress::After(sketch) => {
+                let used = (bytes.len() - after.len()) as u32;
+                return Ok(Front {
+                    sketch,
+                    used,
+                    lines,
+                });
+            }
+            unended => progress = unended,
+        }
+        rest = after;
+    }
+    Err(without_end(progress, lines))
+}
+
+/// The refusal of a text that ends before its sketch does.
+fn without_end(progress: Progress, lines: u32) -> ReadError
+    requires { lines < 4294967295 }
+    ensures { result ≡ without_end progress lines }
+{
+    match progress {
+        Progress::Before => refused(0, Code::E18),
+        _ => refused(lines + 1, Code::E16),
+    }
+}
+
+/// The error of a line as that of the text.
+pub(crate) fn error_at(line: u32, error: EntryError) -> ReadError
+    ensures { result ≡ error_at line error }
+{
+    match error {
+        EntryError::Refused(code) => refused(line, code),
+        EntryError::NoMemory => ReadError::NoMemory,
+    }
+}
+
+fn refused(line: u32, code: Code) -> ReadError
+    ensures { result ≡ Refused (record { line = line; code = code }) }
+{
+    ReadError::Refused(Refusal { line, code })
+}
+
+/// How far the text has been read behind the next line.
+fn after_line(alloc: Global, progress: Progress, line: &[u8]) -> Result<Progress, EntryError>
+    requires { size_of progress < 4294967295 }
+    ensures clean { IfOk result (λ _. code_of progress line.now ≡ None) }
+    ensures progress { IfOk result (λ after. after ≡ progress_after progress line.now) }
+    ensures size { IfOk result (λ after. size_of after ≤ size_of progress + 1) }
+    ensures refused { IfErr result (IsRefusal (code_of progress line.now)) }
+{
+    match progress {
+        Progress::Before => after_header(alloc, line),
+        Progress::Within(draft) => after_entry(alloc, draft, line),
+        Progress::After(sketch) => after_last(alloc, sketch, line),
+    }
+}
