@@ -3,3 +3,4 @@ pub mod Families
 pub mod NormalForm
 pub mod Merging
 pub mod Counting
+pub mod Excesses

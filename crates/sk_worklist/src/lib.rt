@@ -4,6 +4,7 @@
 mod choices;
 mod chosen;
 mod close;
+mod law;
 mod picker;
 #[cfg(test)]
 mod tests;
@@ -11,4 +12,5 @@ mod tests;
 pub use choices::choices_of;
 pub use chosen::{Chosen, Order};
 pub use close::close_family;
+pub use law::{one_list_of_choices, one_run};
 pub use picker::Picker;

@@ -1,0 +1,20 @@
+// The laws on runs.
+ghost use Rattle.std.specs.Prelude.{◌≡◌, List};
+ghost use Rattle.sk_base.specs.declared.Graph.{Graph};
+ghost use Rattle.sk_family.specs.Clusters.{Clusters};
+ghost use Rattle.sk_rules.specs.declared.Merge.{Merge};
+ghost use Rattle.sk_worklist.specs.Choices.{AreChoices};
+ghost use Rattle.sk_worklist.specs.Run.{IsRun};
+
+use crate::picker::Picker;
+
+/// A family has one list of choices.
+pub fn one_list_of_choices()
+    ensures { (g : Graph) (f : Clusters) (one other : List Merge) → AreChoices g f one → AreChoices g f other → one ≡ other }
+{}
+
+/// A picker has one run from a family and a state.
+pub fn one_run<P: Picker>()
+    ensures { (g : Graph) (f : Clusters) (p : P) (ms ns : List Merge) (one other : Clusters) (last end : P) → IsRun P.answer P.after g f p ms one last → IsRun P.answer P.after g f p ns other end
+        → (ms ≡ ns) × (one ≡ other) × (last ≡ end) }
+{}
