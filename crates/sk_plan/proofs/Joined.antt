@@ -11,6 +11,7 @@ use Rattle.sk_family.specs.Clusters.{Clusters, body_of, bodies, initial_clusters
 use Rattle.sk_family.proofs.Soundness.{sound_initial, sound_replaced, some_of, starting_bodies}
 use Rattle.sk_rules.specs.declared.Merge.{Merge}
 use Rattle.sk_rules.specs.declared.Merge.TheVariants.{Two, Three}
+use Rattle.sk_rules.specs.declared.Shared.{Shared}
 use Rattle.sk_rules.specs.declared.Taken.{Taken}
 use Rattle.sk_rules.specs.Rules.{IsShared}
 use Rattle.sk_rules.specs.Merges.{Falls, Holds, IsLeastShared, names_of, merged}
@@ -18,11 +19,15 @@ use Rattle.sk_rules.specs.Reach.{Step, Reach, stays, goes, IsClosed, IsNormal}
 use Rattle.sk_rules.specs.Taking.{IsTaken, Leads}
 use Rattle.sk_rules.proofs.Counting.{IsTight, step_tight, initial_tight}
 use Rattle.sk_rules.proofs.Merging.{can_be_replaced, merge_steps, named_two, named_three, triangle_lessens}
-use Rattle.sk_worklist.proofs.Scans.{least_holds}
 use Rattle.sk_tree.specs.Meeting.{MeetsOnce}
 use Rattle.sk_plan.specs.Sparse.{AllOwnJustEnough, AreThreeMeetingOnce, EachMeetsOnce, HoldsNoneTooMany}
 use Rattle.sk_plan.specs.Runs.{TakesOnce, EachTakesOnce}
 use Rattle.sk_plan.proofs.JustEnough.{step_once, none_too_many}
+
+-- what is shared by the least elements is shared
+least_holds : (g : Graph) (f : Clusters) (m : Merge) (s : Shared) → IsLeastShared g f m s → Holds g f m
+least_holds g f (Two x y) s (a, b, x_is, y_is, pair, none) = (a, b, x_is, y_is, (s.a, s.b, pair.pair))
+least_holds g f (Three x y z) s (a, b, c, x_is, y_is, z_is, (e, some, least)) = (a, b, c, x_is, y_is, z_is, (s.a, s.b, e, least.triangle))
 
 pub taken_holds : (g : Graph) (f : Clusters) (t : Taken) → IsTaken g f t → Holds g f t.merge
 taken_holds g f t taken = least_holds g f t.merge t.shared taken.shared

@@ -134,6 +134,17 @@ module _ (g : Graph) (p : Plan) (sound : IsSoundGraph g) (legal : IsLegalPlan g 
         omega (arith, constraints)
   ]
 
+  lone_leaves : (k : ConId) → p.leaves ≡ k ∷ [] → HasLeaves (Leaf k) p.leaves
+  lone_leaves k is = record {
+    just = λ j. (subst (λ ks. Contains ks j) (sym is), subst (λ ks. Contains ks j) is);
+    once = pairs_cons (λ (i j : ConId). i ≢ j) k [] (pairs_none (λ (i j : ConId). i ≢ j)) (λ y h. absurd (contains_none y h));
+  }
+
+  -- the leaves of each tree of the plan are all constraints
+  pub tree_leaves : (t : Tree) → IsPlanTree p t → HasLeaves t p.leaves
+  tree_leaves t (inl (before, last, is, tree)) = (last_tree before last is t tree).leaves
+  tree_leaves t (inr (k, none, is, t_is)) = subst (λ (u : Tree). HasLeaves u p.leaves) (sym t_is) (lone_leaves k is)
+
   -- the leaf of the only constraint
   pub lone_tree : merges_told p ≡ [] → IfSome (option_map (λ (k : ConId). Leaf k) (slice_get p.leaves 0)) (λ t. IsWholeTree p t)
   lone_tree none = told p.leaves refl (few_leaves (no_items p.steps none))
@@ -146,10 +157,7 @@ module _ (g : Graph) (p : Plan) (sound : IsSoundGraph g) (legal : IsLegalPlan g 
       told [] is few = tt
       told (k ∷ []) is few = record {
         tree = inr (k, no_items p.steps none, is, refl);
-        leaves = record {
-          just = λ j. (subst (λ ks. Contains ks j) (sym is), subst (λ ks. Contains ks j) is);
-          once = pairs_cons (λ (i j : ConId). i ≢ j) k [] (pairs_none (λ (i j : ConId). i ≢ j)) (λ y h. absurd (contains_none y h));
-        };
+        leaves = lone_leaves k is;
         steps = sym (ap (λ (ss : List PlanStep). length ss) (no_items p.steps none));
       }
       told (k ∷ j ∷ ks) is few = (let many = ap (λ (is : List ConId). length is) is in absurd (omega arith))

@@ -10,19 +10,25 @@ ghost use Rattle.sk_rules.specs.Reach.{Reach, IsClosed, IsNormal};
 ghost use Rattle.sk_rules.specs.Taking.{Leads};
 ghost use Rattle.sk_tree.specs.declared.Plan.{Plan};
 ghost use Rattle.sk_tree.specs.declared.PlanStep.{PlanStep};
+ghost use Rattle.sk_tree.specs.declared.Tree.{Tree};
+ghost use Rattle.sk_tree.specs.Trees.{AreJoins};
 ghost use Rattle.sk_tree.specs.LegalPlan.{IsLegalPlan};
 ghost use Rattle.sk_verdict.specs.Parts.{elem_of};
 ghost use Rattle.sk_plan.specs.Judged.{IsWell};
+ghost use Rattle.sk_plan.specs.Leaves.{HasLeaves};
+ghost use Rattle.sk_plan.specs.PlanTree.{IsPlanTree};
 ghost use Rattle.sk_plan.specs.Runs.{EachTakesOnce};
 ghost use Rattle.sk_plan.specs.Sparse.{AllOwnJustEnough, EachMeetsOnce, HoldsNoneTooMany, IsSparse, HasFewAngles, IsSparseAmong, HasFewAnglesAmong};
 
 /// Only a graph with the verdict well has a legal plan. The plan has two steps fewer than the graph
-/// has nodes, or none for one node, and each step is at three of the nodes. Of the graph, no k
-/// elements have more than 2k - 3 constraints among them, and no k lines more than k - 1 angles.
+/// has nodes, or none for one node, each step is at three of the nodes, and the leaves of its tree are
+/// all constraints, each once. Of the graph, no k elements have more than 2k - 3 constraints among
+/// them, and no k lines more than k - 1 angles.
 pub fn legal_plan()
     ensures well { (g : Graph) (p : Plan) → IsSoundGraph g → IsLegalPlan g p → IsWell g }
     ensures steps { (g : Graph) (p : Plan) → IsSoundGraph g → IsLegalPlan g p → length p.steps ≡ length g.nodes - 2 }
     ensures corners { (g : Graph) (p : Plan) → IsLegalPlan g p → (s : PlanStep) (e : Elem) → Contains p.steps s → Contains (s.a ∷ s.b ∷ s.c ∷ []) e → Contains (map elem_of g.nodes) e }
+    ensures leaves { (g : Graph) (p : Plan) → IsSoundGraph g → IsLegalPlan g p → (t : Tree) → IsPlanTree p t → HasLeaves t p.leaves }
     ensures elements { (g : Graph) (p : Plan) → IsSoundGraph g → IsLegalPlan g p → IsSparse g }
     ensures lines { (g : Graph) (p : Plan) → IsSoundGraph g → IsLegalPlan g p → HasFewAngles g }
 {}
@@ -34,9 +40,10 @@ pub fn exact()
     ensures meet_once { (g : Graph) (f : List Body) (way : Reach g (initial_bodies g) f) → HasRisingEdges g → AllOwnJustEnough f → EachMeetsOnce way }
 {}
 
-/// The same of the merges of a run.
+/// The same of the merges of a run, so that a tree can be made of them.
 pub fn joined_once()
-    ensures { (g : Graph) (taken : List Taken) (end : Clusters) → IsSoundGraph g → Leads g (initial_clusters g) taken end → IsClosed g (bodies end) → HoldsNoneTooMany g (bodies end) → EachTakesOnce g (initial_clusters g) taken }
+    ensures once { (g : Graph) (taken : List Taken) (end : Clusters) → IsSoundGraph g → Leads g (initial_clusters g) taken end → IsClosed g (bodies end) → HoldsNoneTooMany g (bodies end) → EachTakesOnce g (initial_clusters g) taken }
+    ensures joins { (g : Graph) (taken : List Taken) (end : Clusters) → IsSoundGraph g → Leads g (initial_clusters g) taken end → IsClosed g (bodies end) → HoldsNoneTooMany g (bodies end) → AreJoins taken }
 {}
 
 /// Where merging ends with no constraint too many, though perhaps in several clusters, no k elements

@@ -1,5 +1,6 @@
 use Rattle.sk_family.specs.Clusters.{initial_clusters}
 use Rattle.sk_plan.proofs.Legal.{corners_of}
+use Rattle.sk_plan.proofs.PlanTrees.{tree_leaves}
 use Rattle.sk_plan.proofs.WellPlans.{plan_well}
 use Rattle.sk_plan.proofs.Planned.{plan_steps, plan_sparse, plan_few_angles}
 use Rattle.sk_plan.proofs.law.legal_plan.Goals as goal
@@ -12,6 +13,9 @@ returns-clause-corners c g p legal s e s_in e_in = corners_of g (initial_cluster
 
 pub returns-clause-steps : goal.returns-clause-steps
 returns-clause-steps c = plan_steps
+
+pub returns-clause-leaves : goal.returns-clause-leaves
+returns-clause-leaves c g p sound legal t is = tree_leaves g p sound legal t is
 
 pub returns-clause-elements : goal.returns-clause-elements
 returns-clause-elements c = plan_sparse
