@@ -140,7 +140,7 @@ pub front_unended_here : (bytes : List ℕ) (s : Sketch) (count : ℕ) → lengt
 front_unended_here bytes s count fits at =
     let whole = whole_front bytes (Within s) count at in
     let lines : take count (lines_in bytes) ≡ lines_in at.front =
-        subst (λ (bs : List ℕ). take count (lines_in bs) ≡ lines_in at.front) whole (rw at.count_is (take-length (lines_in at.front))) in
+    subst (λ (bs : List ℕ). take count (lines_in bs) ≡ lines_in at.front) whole (rw at.count_is (take-length (lines_in at.front))) in
     record {
       refuses = unended_here bytes s count fits at;
       before_end = ap (λ (n : ℕ). has_ended_by n bytes) (one_less count) ∙ ap (λ (ls : List (List ℕ)). has_ended (progress_along Before ls)) lines ∙ ap has_ended at.reached;

@@ -69,8 +69,8 @@ line_of_many bytes end is =
     let place = found bytes end is in
     let feed : get_or bytes (position_or_len is_line_feed bytes) 0 ≡ 10 = let passes = passes_at_first is_line_feed bytes 0 place.1 in grind (arith, nat_tests) in
     let whole : bytes ≡ take end bytes ++ 10 ∷ drop (end + 1) bytes =
-        subst (λ (n : ℕ). bytes ≡ take n bytes ++ 10 ∷ drop (n + 1) bytes) (sym place.0)
-        (split_at_first is_line_feed bytes 0 place.1 ∙ ap (λ (b : ℕ). take (position_or_len is_line_feed bytes) bytes ++ b ∷ drop (position_or_len is_line_feed bytes + 1) bytes) feed) in
+    subst (λ (n : ℕ). bytes ≡ take n bytes ++ 10 ∷ drop (n + 1) bytes) (sym place.0)
+    (split_at_first is_line_feed bytes 0 place.1 ∙ ap (λ (b : ℕ). take (position_or_len is_line_feed bytes) bytes ++ b ∷ drop (position_or_len is_line_feed bytes + 1) bytes) feed) in
     let solid = slice_split_none is_line_feed (take end bytes) (no_line_feed bytes end place.0 (omega arith)) in
     record {
       taken = take end bytes ++ 10 ∷ [];
