@@ -1,0 +1,87 @@
+// Reads and writes that fail, each call in turn.
+use crate::one_byte::{OneByteSink, OneByteSource};
+use crate::row::strings;
+use sk_cli::run;
+use sk_io::{MemSink, MemSource, StdSink, StdSource};
+use std::test::Fail;
+
+const LONE_POINT: &[u8] = b"sketch 1\npoint A 7 7\nend\n";
+
+const LONE_POINT_REPORT: &[u8] =
+    b"verdict well\nelements 1\nconstraints 0\nparts 1\npart 1 sound elements 1 held 0 due 0 : A\n";
+
+const TRIANGLE: &[u8] =
+    b"sketch 1\npoint A 0 0\npoint B 4 0\npoint C 4 3\ndistance A B 4\ndistance A C 5\ndistance B C 3\nend\n";
+
+/// One byte a call is read, and then the end: a fault in any of these calls leaves nothing written.
+#[test]
+fn each_read_may_fail(rt: HostRuntime) -> Result<(), Fail> {
+    let alloc = rt.alloc();
+    let words = strings(alloc, &["check"])?;
+    for call in 1..=TRIANGLE.len() as u64 + 2 {
+        let inner = MemSource::new(alloc, TRIANGLE, &[call])?;
+        let mut source = OneByteSource { inner };
+        let mut sink = MemSink::new(alloc, 1000, &[])?;
+        let status = run(alloc, words.as_slice(), &mut source, &mut sink);
+        if call <= TRIANGLE.len() as u64 + 1 {
+            assert_eq!(rt; status.code(), 3);
+            assert_eq!(rt; sink.written(), b"".as_slice());
+        } else {
+            assert_eq!(rt; status.code(), 0);
+        }
+    }
+    Ok(())
+}
+
+/// One byte a call is written: a fault at call k leaves k − 1 bytes.
+#[test]
+fn each_write_may_fail(rt: HostRuntime) -> Result<(), Fail> {
+    let alloc = rt.alloc();
+    let words = strings(alloc, &["check"])?;
+    for done in 0..=LONE_POINT_REPORT.len() {
+        let mut source = MemSource::new(alloc, LONE_POINT, &[])?;
+        let inner = MemSink::new(alloc, 1000, &[done as u64 + 1])?;
+        let mut sink = OneByteSink { inner };
+        let status = run(alloc, words.as_slice(), &mut source, &mut sink);
+        let wanted = if done < LONE_POINT_REPORT.len() { 4 } else { 0 };
+        assert_eq!(rt; status.code(), wanted);
+        assert_eq!(rt; sink.inner.written(), &LONE_POINT_REPORT[..done]);
+    }
+    Ok(())
+}
+
+/// Whole pieces a call: the first read, the first write, a room of five bytes.
+#[test]
+fn faults_have_their_statuses(rt: HostRuntime) -> Result<(), Fail> {
+    let alloc = rt.alloc();
+    let words = strings(alloc, &["check"])?;
+    let rows: [(&[u64], u32, &[u64], u8, &[u8]); 4] = [
+        (&[1], 1000, &[], 3, b""),
+        (&[], 1000, &[1], 4, b""),
+        (&[], 5, &[], 4, b"verdi"),
+        (&[9], 1000, &[9], 0, LONE_POINT_REPORT),
+    ];
+    for (failing_reads, room, failing_writes, status, written) in rows {
+        let mut source = MemSource::new(alloc, LONE_POINT, failing_reads)?;
+        let mut sink = MemSink::new(alloc, room, failing_writes)?;
+        let answer = run(alloc, words.as_slice(), &mut source, &mut sink);
+        assert_eq!(rt; answer.code(), status);
+        assert_eq!(rt; sink.written(), written);
+    }
+    Ok(())
+}
+
+/// The adapters over std's readers and writers hand on what they are given.
+#[test]
+fn the_adapters_hand_on(rt: HostRuntime) -> Result<(), Fail> {
+    let alloc = rt.alloc();
+    let words = strings(alloc, &["check"])?;
+    let mut written = Vec::new(alloc);
+    let mut source = StdSource::new(LONE_POINT);
+    let mut sink = StdSink::new(&mut written);
+    let status = run(alloc, words.as_slice(), &mut source, &mut sink);
+    assert_eq!(rt; status.code(), 0);
+    drop(sink);
+    assert_eq!(rt; written.as_slice(), LONE_POINT_REPORT);
+    Ok(())
+}

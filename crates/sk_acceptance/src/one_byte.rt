@@ -1,0 +1,44 @@
+// A source and a sink that move one byte a call. They tell nothing of content.
+ghost use Rattle.std.specs.Prelude.{None};
+
+use sk_io::{Failed, MemSink, MemSource, Sink, Source};
+
+#[derive(Drop)]
+pub struct OneByteSource {
+    pub inner: MemSource,
+}
+
+impl Source for OneByteSource {
+    ghost left = { λ _. None };
+
+    ghost faults = { λ s. s.inner.faults };
+
+    ghost is_sure = { λ _. ⊥ };
+
+    fn read(&mut self, buf: &mut [u8]) -> Result<usize, Failed> {
+        if buf.is_empty() {
+            return Ok(0);
+        }
+        self.inner.read(&mut buf[..1])
+    }
+}
+
+#[derive(Drop)]
+pub struct OneByteSink {
+    pub inner: MemSink,
+}
+
+impl Sink for OneByteSink {
+    ghost written = { λ _. None };
+
+    ghost faults = { λ s. s.inner.faults };
+
+    ghost sure_room = { λ _. 0 };
+
+    fn write(&mut self, piece: &[u8]) -> Result<usize, Failed> {
+        if piece.is_empty() {
+            return Ok(0);
+        }
+        self.inner.write(&piece[..1])
+    }
+}
