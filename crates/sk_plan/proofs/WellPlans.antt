@@ -29,7 +29,7 @@ use Rattle.sk_verdict.specs.Ordering.{PartBefore}
 use Rattle.sk_verdict.specs.Parts.{IsNamedByNone, IsPart, AreOfOnePart, elem_of, part_with}
 use Rattle.sk_verdict.specs.Judging.{IsJudgement, verdict_on}
 use Rattle.sk_verdict.proofs.Judgements.{judgement_moves}
-use Rattle.sk_plan.specs.Judged.{IsJudgedAs, IsWell}
+use Rattle.sk_plan.specs.Judged.{IsTheJudgement, IsWell}
 use Rattle.sk_plan.specs.PlanTree.{merges_told}
 use Rattle.sk_plan.proofs.Joined.{run_reaches}
 use Rattle.sk_plan.proofs.Legal.{Arrives, arrives}
@@ -98,8 +98,12 @@ module _ (g : Graph) (p : Plan) (sound : IsSoundGraph g) (legal : IsLegalPlan g 
   way = arrives g (initial_clusters g) p.steps legal.steps
 
   -- the judgement on one normal family is that on all
-  judged_by : (f : List Body) (j : Judgement) → IsNormal g f → IsJudgement g f j → IsJudgedAs g j
-  judged_by f j normal is other other_normal = judgement_moves g f other j (normal_same g f other sound.edges_rise normal other_normal) is
+  judged_by : (f : List Body) (j : Judgement) → IsNormal g f → IsJudgement g f j → IsTheJudgement g j
+  judged_by f j normal is = record {
+    normal = f;
+    is_normal = normal;
+    every = λ other other_normal. judgement_moves g f other j (normal_same g f other sound.edges_rise normal other_normal) is;
+  }
 
   one_cluster : (c : Cluster) → way.end.live ≡ c ∷ [] → HasNodes g c → IsWell g
   one_cluster c alone nodes =

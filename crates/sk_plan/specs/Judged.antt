@@ -9,14 +9,17 @@ use Rattle.sk_verdict.specs.Judging.{IsJudgement}
 use Rattle.sk_plan.specs.declared.error.PlanError.{PlanError}
 use Rattle.sk_plan.specs.declared.error.PlanError.TheVariants.{NotWell, NoMemory}
 
-abbrev pub IsJudgedAs : Graph → Judgement → Type 0
-IsJudgedAs g j = (f : List Body) → IsNormal g f → IsJudgement g f j
+-- the judgement on a normal family of the graph, and so on every one
+pub record IsTheJudgement (g : Graph) (j : Judgement) : Type 0 where
+  pub normal : List Body
+  pub is_normal : IsNormal g normal
+  pub every : (f : List Body) → IsNormal g f → IsJudgement g f j
 
 -- the verdict on the graph is well
 abbrev pub IsWell : Graph → Type 0
-IsWell g = (j : Judgement) × IsJudgedAs g j × (j.verdict ≡ Well)
+IsWell g = (j : Judgement) × IsTheJudgement g j × (j.verdict ≡ Well)
 
 -- where there is no plan, but memory, the judgement on the graph is told, and its verdict isn't well
 abbrev pub TellsWhy : Graph → PlanError → Type 0
-TellsWhy g (NotWell j) = IsJudgedAs g j × (j.verdict ≢ Well)
+TellsWhy g (NotWell j) = IsTheJudgement g j × (j.verdict ≢ Well)
 TellsWhy g NoMemory = Unit {0}
