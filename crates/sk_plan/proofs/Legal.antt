@@ -31,7 +31,7 @@ only_triangle g xs ys zs a b c once = record {
     not_before p q r p_is q_is r_is (inr (same, inr (level, below))) = (let last = ap (λ (e : Elem). e.0) r_is in absurd (omega arith))
 
 module _ (g : Graph) (f : Clusters) (s : PlanStep) (legal : IsLegalStep g f s) where
-  step_taken : IsTaken g f (taken_told s)
+  pub step_taken : IsTaken g f (taken_told s)
   step_taken =
       let j = legal.joins in
       record {

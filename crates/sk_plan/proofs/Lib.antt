@@ -15,3 +15,4 @@ pub mod Stepping
 pub mod Wells
 pub mod WellRuns
 pub mod WellPlans
+mod OnePlan

@@ -1,7 +1,8 @@
 // What holds of every plan, and of every way of merging, whatever it is made by.
-ghost use Rattle.std.specs.Prelude.{◌≡◌, ◌-◌, ◌∷◌, [], List, Contains, map, length};
+ghost use Rattle.std.specs.Prelude.{◌≡◌, ◌-◌, ◌∷◌, [], List, All, Contains, map, length};
 ghost use Rattle.sk_base.specs.declared.Elem.{Elem};
 ghost use Rattle.sk_base.specs.declared.Graph.{Graph};
+ghost use Rattle.sk_base.specs.declared.Sketch.{Sketch};
 ghost use Rattle.sk_base.specs.SoundGraph.{IsSoundGraph, HasRisingEdges, HasTwoEnds};
 ghost use Rattle.sk_family.specs.Body.{Body, initial_bodies};
 ghost use Rattle.sk_family.specs.Clusters.{Clusters, bodies, initial_clusters};
@@ -12,8 +13,9 @@ ghost use Rattle.sk_tree.specs.declared.Plan.{Plan};
 ghost use Rattle.sk_tree.specs.declared.PlanStep.{PlanStep};
 ghost use Rattle.sk_tree.specs.declared.Tree.{Tree};
 ghost use Rattle.sk_tree.specs.Trees.{AreJoins};
-ghost use Rattle.sk_tree.specs.LegalPlan.{IsLegalPlan};
+ghost use Rattle.sk_tree.specs.LegalPlan.{IsLegalPlan, merge_told};
 ghost use Rattle.sk_verdict.specs.Parts.{elem_of};
+ghost use Rattle.sk_plan.specs.DrawnChoice.{HasDrawnChoice};
 ghost use Rattle.sk_plan.specs.Judged.{IsWell};
 ghost use Rattle.sk_plan.specs.Leaves.{HasLeaves};
 ghost use Rattle.sk_plan.specs.PlanTree.{IsPlanTree};
@@ -52,4 +54,10 @@ pub fn joined_once()
 pub fn sparse_parts()
     ensures elements { (g : Graph) (f : List Body) → HasRisingEdges g → HasTwoEnds g → IsNormal g f → HoldsNoneTooMany g f → (x : Body) → Contains f x → IsSparseAmong g x.elements }
     ensures lines { (g : Graph) (f : List Body) → HasRisingEdges g → HasTwoEnds g → IsNormal g f → HoldsNoneTooMany g f → (x : Body) → Contains f x → HasFewAnglesAmong g x.elements }
+{}
+
+/// The merges of a legal plan and the drawing tell the whole plan.
+pub fn one_plan()
+    ensures { (g : Graph) (s : Sketch) (p q : Plan) → IsSoundGraph g → IsLegalPlan g p → IsLegalPlan g q → map merge_told p.steps ≡ map merge_told q.steps
+        → All (HasDrawnChoice s) p.steps → All (HasDrawnChoice s) q.steps → p ≡ q }
 {}
