@@ -1,5 +1,6 @@
 -- Words ask for one thing at most, and with an input they have one outcome at most.
 use Rattle.std.proofs.Common.{◌≡◌, ◌⊎◌, inl, inr, ℕ, ◌≤◌, List, [], ◌∷◌, refl, sym, ap, ◌∙◌, subst, arith, lit≤}
+use Rattle.std.specs.Prelude.{All, map}
 use Rattle.std.specs.Fmt.{decimal}
 use Rattle.std.specs.Str.Parse.{AllDigits}
 use Rattle.std.specs.Char.{digit_value}
@@ -15,19 +16,35 @@ use Rattle.sk_report.specs.RefusalLine.{refusal_line}
 use Rattle.sk_graph.specs.SketchGraph.{graph_of}
 use Rattle.sk_verdict.specs.declared.Judgement.{Judgement}
 use Rattle.sk_verdict.specs.Judging.{IsJudgement}
+use Rattle.sk_verdict.specs.declared.Verdict.TheVariants.{Well}
+use Rattle.sk_base.specs.SoundSketch.{IsSoundSketch}
+use Rattle.sk_base.specs.SoundGraph.{IsSoundGraph}
+use Rattle.sk_graph.proofs.Soundness.{graph_is_sound}
+use Rattle.sk_family.specs.Clusters.{Clusters, initial_clusters}
+use Rattle.sk_rules.specs.declared.Merge.{Merge}
+use Rattle.sk_worklist.specs.Orders.{Choosing, place_of, next_call}
+use Rattle.sk_worklist.specs.Run.{IsRun}
+use Rattle.sk_tree.specs.declared.Plan.{Plan as ThePlan}
+use Rattle.sk_tree.specs.LegalPlan.{IsLegalPlan, merge_told}
+use Rattle.sk_plan.specs.DrawnChoice.{HasDrawnChoice}
+use Rattle.sk_plan.specs.Judged.{IsTheJudgement}
+use Rattle.sk_report.specs.PlanReport.{plan_report}
 use Rattle.sk_worklist.specs.declared.Order.{Order}
 use Rattle.sk_worklist.specs.declared.Order.TheVariants.{First, Last, Stride}
 use Rattle.sk_cli.specs.declared.command.Command.{Command}
-use Rattle.sk_cli.specs.declared.command.Command.TheVariants.{Check}
+use Rattle.sk_cli.specs.declared.command.Command.TheVariants.{Check, Plan}
 use Rattle.sk_cli.specs.declared.request.Request.{Request}
 use Rattle.sk_cli.specs.declared.status.Status.{Status}
-use Rattle.sk_cli.specs.declared.status.Status.TheVariants.{Done, Refused}
+use Rattle.sk_cli.specs.declared.status.Status.TheVariants.{Done, Refused, NotWell}
 use Rattle.sk_cli.specs.Commands.{command_word}
 use Rattle.sk_cli.specs.Asking.{IsOrder, HasOrder, Asks}
-use Rattle.sk_cli.specs.Outcome.{IsTheJudgement, IsReport, IsRefusalText, IsCheckAnswer, IsAnswer, IsOutcome}
+use Rattle.sk_cli.specs.Outcome.{IsReport, IsRefusalText, IsCheckAnswer, IsPlanBy, IsPlanReport, IsReportNotWell, IsPlanAnswer, IsPlanOrReport, IsAnswer, IsAnswerOf, IsOutcome}
 
 one_command : (c d : Command) → command_word c ≡ command_word d → c ≡ d
 one_command Check Check same = refl
+one_command Check Plan same = cc
+one_command Plan Check same = cc
+one_command Plan Plan same = refl
 
 -- no number is spelled with such a first byte
 no_letter : (c k : ℕ) (rest : List ℕ) → 10 ≤ digit_value c → k ≤ 65535 → c ∷ rest ≡ decimal k → ⊥
@@ -97,15 +114,83 @@ same_refusal one_refusal bytes text another (r, refuses, is) (q, refuses', is') 
 no_report : NotBoth → (bytes text another : List ℕ) → IsReport bytes text → IsRefusalText bytes another → ⊥
 no_report not_both bytes text another (s, j, reads, judged, is) (r, refuses, is') = not_both bytes s r.line r.code reads refuses
 
+-- the laws on plans
+abbrev SoundRead : Type 0
+SoundRead = (bytes : List ℕ) (s : Sketch) → Reads bytes s → IsSoundSketch s
+
+abbrev OnePlan : Type 0
+OnePlan = (g : Graph) (s : Sketch) (p q : ThePlan) → IsSoundGraph g → IsLegalPlan g p → IsLegalPlan g q → map merge_told p.steps ≡ map merge_told q.steps
+    → All (HasDrawnChoice s) p.steps → All (HasDrawnChoice s) q.steps → p ≡ q
+
+abbrev OneRun : Type 0
+OneRun = (g : Graph) (f : Clusters) (p : Choosing) (ms ns : List Merge) (one other : Clusters) (last end : Choosing)
+    → IsRun place_of next_call g f p ms one last → IsRun place_of next_call g f p ns other end → (ms ≡ ns) × (one ≡ other) × (last ≡ end)
+
+pub record PlanLaws : Type 0 where
+  pub sound : SoundRead
+  pub plan : OnePlan
+  pub run : OneRun
+
+same_plan_report : PlanLaws → (order : Order) (s : Sketch) → IsSoundGraph (graph_of s) → (p q : ThePlan) → IsPlanBy order s p → IsPlanBy order s q → plan_report s p ≡ plan_report s q
+same_plan_report laws order s sound p q first second =
+    let merges = laws.run (graph_of s) (initial_clusters (graph_of s)) (record { order = order; call = 0 }) (map merge_told p.steps) (map merge_told q.steps) first.end second.end first.last second.last first.run second.run in
+    ap (λ z. plan_report s z) (laws.plan (graph_of s) s p q sound first.legal second.legal merges.0 first.drawn second.drawn)
+
+-- a plan, or a report where the verdict isn't well
+told_planned : (order : Order) (s : Sketch) (status : Status) (text : List ℕ) → IsPlanOrReport order s status text → ((status ≡ Done) × IsPlanReport order s text) ⊎ ((status ≡ NotWell) × IsReportNotWell s text)
+told_planned order s Done text answer = inl (refl, answer)
+told_planned order s NotWell text answer = inr (refl, answer)
+told_planned order s status text answer = absurd answer
+
+not_well_too : OneJudgement → (order : Order) (s : Sketch) (text another : List ℕ) → IsPlanReport order s text → IsReportNotWell s another → ⊥
+not_well_too law order s text another (p, (k, judged', well), by, is) (j, judged, not_well, is') =
+    not_well (subst (λ (z : Judgement). z.verdict ≡ Well) (same_judgement law (graph_of s) k j judged' judged) well)
+
+same_planned : OneJudgement → PlanLaws → (order : Order) (s : Sketch) → IsSoundGraph (graph_of s) → (status other : Status) (text another : List ℕ)
+    → IsPlanOrReport order s status text → IsPlanOrReport order s other another → (status ≡ other) × (text ≡ another)
+same_planned law laws order s sound status other text another first second =
+    elim (told_planned order s status text first) [
+      | inl (done, (p, well, by, is)) ↦ elim (told_planned order s other another second) [
+        | inl (done', (q, well', by', is')) ↦ (done ∙ sym done', is ∙ same_plan_report laws order s sound p q by by' ∙ sym is')
+        | inr (short, report) ↦ absurd (not_well_too law order s text another (p, well, by, is) report)
+      ]
+      | inr (short, (j, judged, not_well, is)) ↦ elim (told_planned order s other another second) [
+        | inl (done, report) ↦ absurd (not_well_too law order s another text report (j, judged, not_well, is))
+        | inr (short', (k, judged', not_well', is')) ↦ (short ∙ sym short', is ∙ ap (λ z. check_report s z) (same_judgement law (graph_of s) j k judged judged') ∙ sym is')
+      ]
+    ]
+
+-- a refusal, or what is told of a sketch
+told_plan : (order : Order) (bytes : List ℕ) (status : Status) (text : List ℕ) → IsPlanAnswer order bytes status text
+    → ((status ≡ Refused) × IsRefusalText bytes text) ⊎ ((s : Sketch) × Reads bytes s × IsPlanOrReport order s status text)
+told_plan order bytes Refused text answer = inl (refl, answer)
+told_plan order bytes status text answer = inr answer
+
+same_plan_answer : OneSketch → OneRefusal → NotBoth → OneJudgement → PlanLaws → (order : Order) (bytes : List ℕ) (status other : Status) (text another : List ℕ)
+    → IsPlanAnswer order bytes status text → IsPlanAnswer order bytes other another → (status ≡ other) × (text ≡ another)
+same_plan_answer one_sketch one_refusal not_both law laws order bytes status other text another first second =
+    elim (told_plan order bytes status text first) [
+      | inl (refused, line) ↦ elim (told_plan order bytes other another second) [
+        | inl (refused', line') ↦ (refused ∙ sym refused', same_refusal one_refusal bytes text another line line')
+        | inr (s, reads, told) ↦ absurd (not_both bytes s line.0.line line.0.code reads line.1)
+      ]
+      | inr (s, reads, told) ↦ elim (told_plan order bytes other another second) [
+        | inl (refused, line) ↦ absurd (not_both bytes s line.0.line line.0.code reads line.1)
+        | inr (t, reads', told') ↦
+            same_planned law laws order t (graph_is_sound t (laws.sound bytes t reads')) status other text another
+            (subst (λ z. IsPlanOrReport order z status text) (one_sketch bytes s t reads reads') told) told'
+      ]
+    ]
+
 -- a report or a refusal
 told : (bytes : List ℕ) (status : Status) (text : List ℕ) → IsCheckAnswer bytes status text → ((status ≡ Done) × IsReport bytes text) ⊎ ((status ≡ Refused) × IsRefusalText bytes text)
 told bytes Done text answer = inl (refl, answer)
 told bytes Refused text answer = inr (refl, answer)
 told bytes status text answer = absurd answer
 
-same_answer : OneSketch → OneRefusal → NotBoth → OneJudgement → (command : Command) (bytes : List ℕ) (status other : Status) (text another : List ℕ)
-    → IsAnswer command bytes status text → IsAnswer command bytes other another → (status ≡ other) × (text ≡ another)
-same_answer one_sketch one_refusal not_both law Check bytes status other text another first second =
+same_answer : OneSketch → OneRefusal → NotBoth → OneJudgement → PlanLaws → (command : Command) (order : Order) (bytes : List ℕ) (status other : Status) (text another : List ℕ)
+    → IsAnswerOf command order bytes status text → IsAnswerOf command order bytes other another → (status ≡ other) × (text ≡ another)
+same_answer one_sketch one_refusal not_both law laws Check order bytes status other text another first second =
     elim (told bytes status text first) [
       | inl done ↦ elim (told bytes other another second) [
         | inl done' ↦ (done.0 ∙ sym done'.0, same_report one_sketch law bytes text another done.1 done'.1)
@@ -116,16 +201,18 @@ same_answer one_sketch one_refusal not_both law Check bytes status other text an
         | inr refused' ↦ (refused.0 ∙ sym refused'.0, same_refusal one_refusal bytes text another refused.1 refused'.1)
       ]
     ]
+same_answer one_sketch one_refusal not_both law laws Plan order bytes status other text another first second =
+    same_plan_answer one_sketch one_refusal not_both law laws order bytes status other text another first second
 
-pub same_outcome : OneSketch → OneRefusal → NotBoth → OneJudgement → (words : List (List ℕ)) (bytes : List ℕ) (status other : Status) (text another : List ℕ)
+pub same_outcome : OneSketch → OneRefusal → NotBoth → OneJudgement → PlanLaws → (words : List (List ℕ)) (bytes : List ℕ) (status other : Status) (text another : List ℕ)
     → IsOutcome words bytes status text → IsOutcome words bytes other another → (status ≡ other) × (text ≡ another)
-same_outcome one_sketch one_refusal not_both law words bytes status other text another first second =
+same_outcome one_sketch one_refusal not_both law laws words bytes status other text another first second =
     elim first [
       | inl asked ↦ elim second [
         | inl asked' ↦
             let request_is = same_request words asked.0 asked'.0 asked.1 asked'.1 in
-            same_answer one_sketch one_refusal not_both law asked'.0.command bytes status other text another
-            (subst (λ (z : Request). IsAnswer z.command bytes status text) request_is asked.2) asked'.2
+            same_answer one_sketch one_refusal not_both law laws asked'.0.command asked'.0.order bytes status other text another
+            (subst (λ (z : Request). IsAnswer z bytes status text) request_is asked.2) asked'.2
         | inr usage ↦ absurd (usage.0 (asked.0, asked.1))
       ]
       | inr usage ↦ elim second [

@@ -1,19 +1,20 @@
 -- How a call ends, from its parts. The answer to the bytes that were taken is the answer to all bytes,
 -- since 1,048,577 bytes are too many however they go on.
-use Rattle.std.proofs.Common.{◌≡◌, ℕ, ◌≤◌, List, [], length, take, refl, sym, ap, ◌∙◌, inl, inr, arith, None, Some, Option}
+use Rattle.std.proofs.Common.{◌≡◌, ℕ, ◌≤◌, List, [], length, take, refl, sym, subst, ap, ◌∙◌, inl, inr, arith, None, Some, Option}
 use Rattle.std.proofs.lemmas.Bool.{cases_lt}
 use Rattle.std.proofs.lemmas.List.{append-nil, take_all, length-take}
 use Rattle.std.specs.Io.KnownBytes.{Appends}
 use Rattle.sk_io.specs.Transfer.{TakesUpTo}
 use Rattle.sk_lang.specs.declared.Code.{Code}
 use Rattle.sk_lang.specs.Reading.{Refuses, TooLong, Empty, AtLine, NoEnd}
+use Rattle.sk_worklist.specs.declared.Order.{Order}
 use Rattle.sk_cli.specs.declared.command.Command.{Command}
-use Rattle.sk_cli.specs.declared.command.Command.TheVariants.{Check}
+use Rattle.sk_cli.specs.declared.command.Command.TheVariants.{Check, Plan}
 use Rattle.sk_cli.specs.declared.request.Request.{Request}
 use Rattle.sk_cli.specs.declared.status.Status.{Status}
 use Rattle.sk_cli.specs.declared.status.Status.TheVariants.{Done, Refused, Usage, ReadFault, WriteFault, NoMemory, NotWell, StepFault, Tolerance}
 use Rattle.sk_cli.specs.Asking.{Asks, AreOfForm}
-use Rattle.sk_cli.specs.Outcome.{IsOutcome, IsAnswer, usage_line}
+use Rattle.sk_cli.specs.Outcome.{IsOutcome, IsAnswer, IsAnswerOf, usage_line}
 use Rattle.sk_cli.specs.Ending.{IsTold, Ends, Sends}
 
 -- the bytes that are told, or any
@@ -37,36 +38,41 @@ still_refused text bytes long longer line code (Empty fits blank) = absurd (omeg
 still_refused text bytes long longer line code (AtLine fits some before at what first) = absurd (omega (arith, long, fits))
 still_refused text bytes long longer line code (NoEnd fits some clean open_end) = absurd (omega (arith, long, fits))
 
-still_answered : (text bytes : List ℕ) → length text ≡ 1048577 → 1048577 ≤ length bytes → (command : Command) (status : Status) (out : List ℕ) → IsAnswer command text status out → IsAnswer command bytes status out
-still_answered text bytes long longer Check Done out answer = absurd (omega (arith, long, answer.2.fits))
-still_answered text bytes long longer Check Refused out answer = (answer.0, still_refused text bytes long longer answer.0.line answer.0.code answer.1, answer.2)
-still_answered text bytes long longer Check status out answer = absurd answer
+still_answered : (text bytes : List ℕ) → length text ≡ 1048577 → 1048577 ≤ length bytes → (command : Command) (order : Order) (status : Status) (out : List ℕ) → IsAnswerOf command order text status out → IsAnswerOf command order bytes status out
+still_answered text bytes long longer Check order Done out answer = absurd (omega (arith, long, answer.2.fits))
+still_answered text bytes long longer Check order Refused out answer = (answer.0, still_refused text bytes long longer answer.0.line answer.0.code answer.1, answer.2)
+still_answered text bytes long longer Check order status out answer = absurd answer
+still_answered text bytes long longer Plan order Refused out answer = (answer.0, still_refused text bytes long longer answer.0.line answer.0.code answer.1, answer.2)
+still_answered text bytes long longer Plan order status out answer = absurd (omega (arith, long, answer.1.fits))
 
 -- an answer to what was taken is one to all
-answer_of_front : (text bytes : List ℕ) → text ≡ take 1048577 bytes → (command : Command) (status : Status) (out : List ℕ) → IsAnswer command text status out → IsAnswer command bytes status out
-answer_of_front text bytes front command status out answer =
+answer_of_front : (text bytes : List ℕ) → text ≡ take 1048577 bytes → (request : Request) (status : Status) (out : List ℕ) → IsAnswer request text status out → IsAnswer request bytes status out
+answer_of_front text bytes front request status out answer =
     elim (cases_lt 1048577 (length bytes)) [
       | inl more ↦
           let long : length text ≡ 1048577 = ap length front ∙ length-take 1048577 bytes ∙ omega arith in
-          still_answered text bytes long (omega (arith, more)) command status out answer
+          still_answered text bytes long (omega (arith, more)) request.command request.order status out answer
       | inr few ↦ let whole : text ≡ bytes = front ∙ take_all 1048577 bytes few in rw whole at answer
     ]
 
 -- no answer is a fault or that memory ran out
-no_read_fault : (command : Command) (bytes text : List ℕ) → ¬ IsAnswer command bytes ReadFault text
-no_read_fault Check bytes text answer = answer
+no_read_fault : (command : Command) (order : Order) (bytes text : List ℕ) → ¬ IsAnswerOf command order bytes ReadFault text
+no_read_fault Check order bytes text answer = answer
+no_read_fault Plan order bytes text answer = answer.2
 
-no_want : (command : Command) (bytes text : List ℕ) → ¬ IsAnswer command bytes NoMemory text
-no_want Check bytes text answer = answer
+no_want : (command : Command) (order : Order) (bytes text : List ℕ) → ¬ IsAnswerOf command order bytes NoMemory text
+no_want Check order bytes text answer = answer
+no_want Plan order bytes text answer = answer.2
 
-no_write_fault : (command : Command) (bytes text : List ℕ) → ¬ IsAnswer command bytes WriteFault text
-no_write_fault Check bytes text answer = answer
+no_write_fault : (command : Command) (order : Order) (bytes text : List ℕ) → ¬ IsAnswerOf command order bytes WriteFault text
+no_write_fault Check order bytes text answer = answer
+no_write_fault Plan order bytes text answer = answer.2
 
 outcome_no_read_fault : (words : List (List ℕ)) (bytes text : List ℕ) → ¬ IsOutcome words bytes ReadFault text
-outcome_no_read_fault words bytes text outcome = elim outcome [ inl asked ↦ no_read_fault asked.0.command bytes text asked.2 | inr usage ↦ (let same = usage.1 in cc) ]
+outcome_no_read_fault words bytes text outcome = elim outcome [ inl asked ↦ no_read_fault asked.0.command asked.0.order bytes text asked.2 | inr usage ↦ (let same = usage.1 in cc) ]
 
 outcome_no_want : (words : List (List ℕ)) (bytes text : List ℕ) → ¬ IsOutcome words bytes NoMemory text
-outcome_no_want words bytes text outcome = elim outcome [ inl asked ↦ no_want asked.0.command bytes text asked.2 | inr usage ↦ (let same = usage.1 in cc) ]
+outcome_no_want words bytes text outcome = elim outcome [ inl asked ↦ no_want asked.0.command asked.0.order bytes text asked.2 | inr usage ↦ (let same = usage.1 in cc) ]
 
 -- how a call ends that sends the text of its outcome
 sent_ends : (words : List (List ℕ)) (bytes : List ℕ) (old new : Option (List ℕ)) (given : Status) (text : List ℕ) (result : Status)
@@ -89,11 +95,11 @@ usage_ends words left old new text result no_form is_usage sent =
     (told.0, ends.0, told.1, ends.1, ends.2)
 
 pub answer_ends : (words : List (List ℕ)) (left behind old new : Option (List ℕ)) (taken : List ℕ) (request : Request) (given : Status) (text : List ℕ) (result : Status)
-    → Asks words request → length taken ≤ 1048577 → TakesUpTo 1048577 left behind taken → IsAnswer request.command taken given text → Sends old new given text result
+    → Asks words request → length taken ≤ 1048577 → TakesUpTo 1048577 left behind taken → IsAnswer request taken given text → Sends old new given text result
     → (bytes : List ℕ) × (gained : List ℕ) × IsTold left bytes × Appends old new gained × Ends words bytes result gained
 answer_ends words left behind old new taken request given text result asks few takes answer sent =
     let from = taken_from 1048577 left behind taken few takes in
-    let ends = sent_ends words from.0 old new given text result (inl (request, asks, answer_of_front taken from.0 from.2 request.command given text answer)) sent in
+    let ends = sent_ends words from.0 old new given text result (inl (request, asks, answer_of_front taken from.0 from.2 request given text answer)) sent in
     (from.0, ends.0, from.1, ends.1, ends.2)
 
 pub nothing_ends : (words : List (List ℕ)) (left old : Option (List ℕ)) (result : Status) → ((bytes : List ℕ) → Ends words bytes result [])
@@ -107,10 +113,10 @@ no_form words none (request, asks) = none request asks
 -- the room that every outcome has is that of the answer to what was taken
 pub answer_room : (words : List (List ℕ)) (left behind : Option (List ℕ)) (taken : List ℕ) (request : Request) (given : Status) (text : List ℕ) (room : ℕ)
     → ((bytes out : List ℕ) (status : Status) → IsTold left bytes → IsOutcome words bytes status out → length out ≤ room)
-    → Asks words request → length taken ≤ 1048577 → TakesUpTo 1048577 left behind taken → IsAnswer request.command taken given text → length text ≤ room
+    → Asks words request → length taken ≤ 1048577 → TakesUpTo 1048577 left behind taken → IsAnswer request taken given text → length text ≤ room
 answer_room words left behind taken request given text room each asks few takes answer =
     let from = taken_from 1048577 left behind taken few takes in
-    each from.0 text given from.1 (inl (request, asks, answer_of_front taken from.0 from.2 request.command given text answer))
+    each from.0 text given from.1 (inl (request, asks, answer_of_front taken from.0 from.2 request given text answer))
 
 pub usage_room : (words : List (List ℕ)) (left : Option (List ℕ)) (text : List ℕ) (room : ℕ)
     → ((bytes out : List ℕ) (status : Status) → IsTold left bytes → IsOutcome words bytes status out → length out ≤ room)
@@ -118,5 +124,6 @@ pub usage_room : (words : List (List ℕ)) (left : Option (List ℕ)) (text : Li
 usage_room words left text room each no_form is_usage = let told = told_bytes left in each told.0 text Usage told.1 (inr (no_form, refl, is_usage))
 
 -- no answer is that the sink failed
-pub no_fault : (command : Command) (bytes : List ℕ) (given : Status) (text : List ℕ) → IsAnswer command bytes given text → ¬ (given ≡ WriteFault)
-no_fault command bytes given text answer same = no_write_fault command bytes text (rw same at answer)
+pub no_fault : (request : Request) (bytes : List ℕ) (given : Status) (text : List ℕ) → IsAnswer request bytes given text → ¬ (given ≡ WriteFault)
+no_fault request bytes given text answer same =
+    no_write_fault request.command request.order bytes text (subst (λ status. IsAnswer request bytes status text) same answer)

@@ -1,7 +1,8 @@
 -- The words of commands.
 use Rattle.std.specs.Prelude.{ℕ, List, codes}
 use Rattle.sk_cli.specs.declared.command.Command.{Command}
-use Rattle.sk_cli.specs.declared.command.Command.TheVariants.{Check}
+use Rattle.sk_cli.specs.declared.command.Command.TheVariants.{Check, Plan}
 
 abbrev pub command_word : Command → List ℕ
 command_word Check = codes "check"
+command_word Plan = codes "plan"

@@ -1,31 +1,31 @@
 -- What a call answers and writes: a status and a text.
-use Rattle.std.specs.Prelude.{◌≡◌, ◌⊎◌, ℕ, List, codes}
+use Rattle.std.specs.Prelude.{◌≡◌, ◌≢◌, ◌⊎◌, ℕ, List, All, map, codes}
 use Rattle.sk_base.specs.declared.Sketch.{Sketch}
-use Rattle.sk_base.specs.declared.Graph.{Graph}
 use Rattle.sk_lang.specs.declared.Refusal.{Refusal as OneRefusal}
 use Rattle.sk_lang.specs.Reading.{Reads, Refuses}
 use Rattle.sk_graph.specs.SketchGraph.{graph_of}
-use Rattle.sk_family.specs.Body.{Body}
-use Rattle.sk_rules.specs.Reach.{IsNormal}
+use Rattle.sk_family.specs.Clusters.{Clusters, initial_clusters}
+use Rattle.sk_worklist.specs.declared.Order.{Order}
+use Rattle.sk_worklist.specs.Orders.{Choosing, place_of, next_call}
+use Rattle.sk_worklist.specs.Run.{IsRun}
 use Rattle.sk_verdict.specs.declared.Judgement.{Judgement}
-use Rattle.sk_verdict.specs.Judging.{IsJudgement}
+use Rattle.sk_verdict.specs.declared.Verdict.TheVariants.{Well}
+use Rattle.sk_tree.specs.declared.Plan.{Plan as ThePlan}
+use Rattle.sk_tree.specs.LegalPlan.{IsLegalPlan, merge_told}
+use Rattle.sk_plan.specs.DrawnChoice.{HasDrawnChoice}
+use Rattle.sk_plan.specs.Judged.{IsTheJudgement, IsWell}
 use Rattle.sk_report.specs.CheckReport.{check_report}
+use Rattle.sk_report.specs.PlanReport.{plan_report}
 use Rattle.sk_report.specs.RefusalLine.{refusal_line}
 use Rattle.sk_cli.specs.declared.command.Command.{Command}
-use Rattle.sk_cli.specs.declared.command.Command.TheVariants.{Check}
+use Rattle.sk_cli.specs.declared.command.Command.TheVariants.{Check, Plan}
 use Rattle.sk_cli.specs.declared.request.Request.{Request}
 use Rattle.sk_cli.specs.declared.status.Status.{Status}
-use Rattle.sk_cli.specs.declared.status.Status.TheVariants.{Done, Refused, Usage}
+use Rattle.sk_cli.specs.declared.status.Status.TheVariants.{Done, Refused, Usage, NotWell}
 use Rattle.sk_cli.specs.Asking.{Asks, AreOfForm}
 
 abbrev pub usage_line : List ℕ
 usage_line = codes "usage: sketch check|plan|solve|dxf|offers|session|grow [order=first|last|0..65535] [bits=16|27|38] [within=1..1000000] [n=3..1000]\n"
-
--- the judgement on a normal family of the graph, and so on every one
-pub record IsTheJudgement (g : Graph) (j : Judgement) : Type 0 where
-  pub normal : List Body
-  pub is_normal : IsNormal g normal
-  pub every : (family : List Body) → IsNormal g family → IsJudgement g family j
 
 -- the check report of the sketch that the text is read as
 abbrev pub IsReport : List ℕ → List ℕ → Type 0
@@ -35,18 +35,49 @@ IsReport bytes text = (s : Sketch) × (j : Judgement) × Reads bytes s × IsTheJ
 abbrev pub IsRefusalText : List ℕ → List ℕ → Type 0
 IsRefusalText bytes text = (r : OneRefusal) × Refuses bytes r.line r.code × (text ≡ refusal_line r)
 
+-- the plan of the run by the order, with the choices of the drawing
+pub record IsPlanBy (order : Order) (s : Sketch) (p : ThePlan) : Type 0 where
+  pub legal : IsLegalPlan (graph_of s) p
+  pub end : Clusters
+  pub last : Choosing
+  pub run : IsRun place_of next_call (graph_of s) (initial_clusters (graph_of s)) (record { order = order; call = 0 }) (map merge_told p.steps) end last
+  pub drawn : All (λ step. HasDrawnChoice s step) p.steps
+
+-- the verdict is well, and this is the plan report
+abbrev pub IsPlanReport : Order → Sketch → List ℕ → Type 0
+IsPlanReport order s text = (p : ThePlan) × IsWell (graph_of s) × IsPlanBy order s p × (text ≡ plan_report s p)
+
+-- the verdict isn't well, and this is the check report
+abbrev pub IsReportNotWell : Sketch → List ℕ → Type 0
+IsReportNotWell s text = (j : Judgement) × IsTheJudgement (graph_of s) j × (j.verdict ≢ Well) × (text ≡ check_report s j)
+
+-- the plan report of the sketch where the verdict is well, else its check report
+abbrev pub IsPlanOrReport : Order → Sketch → Status → List ℕ → Type 0
+IsPlanOrReport order s Done text = IsPlanReport order s text
+IsPlanOrReport order s NotWell text = IsReportNotWell s text
+IsPlanOrReport order s status text = ⊥
+
 -- what `check` answers to an input
 abbrev pub IsCheckAnswer : List ℕ → Status → List ℕ → Type 0
 IsCheckAnswer bytes Done text = IsReport bytes text
 IsCheckAnswer bytes Refused text = IsRefusalText bytes text
 IsCheckAnswer bytes status text = ⊥
 
--- what a command answers to an input
-abbrev pub IsAnswer : Command → List ℕ → Status → List ℕ → Type 0
-IsAnswer Check bytes status text = IsCheckAnswer bytes status text
+-- what `plan` answers to an input
+abbrev pub IsPlanAnswer : Order → List ℕ → Status → List ℕ → Type 0
+IsPlanAnswer order bytes Refused text = IsRefusalText bytes text
+IsPlanAnswer order bytes status text = (s : Sketch) × Reads bytes s × IsPlanOrReport order s status text
+
+-- what a command answers to an input. The report of `check` is the same for every order.
+abbrev pub IsAnswerOf : Command → Order → List ℕ → Status → List ℕ → Type 0
+IsAnswerOf Check order bytes status text = IsCheckAnswer bytes status text
+IsAnswerOf Plan order bytes status text = IsPlanAnswer order bytes status text
+
+abbrev pub IsAnswer : Request → List ℕ → Status → List ℕ → Type 0
+IsAnswer request bytes status text = IsAnswerOf request.command request.order bytes status text
 
 -- the status and the text that the words and the bytes of the input give
 abbrev pub IsOutcome : List (List ℕ) → List ℕ → Status → List ℕ → Type 0
 IsOutcome words bytes status text =
-    ((request : Request) × Asks words request × IsAnswer request.command bytes status text)
+    ((request : Request) × Asks words request × IsAnswer request bytes status text)
     ⊎ ((AreOfForm words → ⊥) × (status ≡ Usage) × (text ≡ usage_line))

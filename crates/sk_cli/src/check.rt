@@ -5,8 +5,10 @@ ghost use Rattle.sk_base.specs.SoundGraph.{IsSoundGraph};
 ghost use Rattle.sk_verdict.specs.declared.Judgement.{Judgement as TheJudgement};
 ghost use Rattle.sk_graph.specs.SketchGraph.{graph_of};
 ghost use Rattle.sk_report.specs.CheckReport.{check_report};
-ghost use Rattle.sk_cli.specs.Outcome.{IsTheJudgement, IsReport, IsRefusalText, IsCheckAnswer};
+ghost use Rattle.sk_plan.specs.Judged.{IsTheJudgement};
+ghost use Rattle.sk_cli.specs.Outcome.{IsReport, IsRefusalText, IsCheckAnswer};
 
+use crate::answer::Answer;
 use crate::status::Status;
 use sk_base::{Graph, NoMemory, Sketch, Text};
 use sk_family::initial;
@@ -16,13 +18,6 @@ use sk_report::{check_text, refused_text};
 use sk_verdict::{Judgement, judge};
 use sk_worklist::{Chosen, Order, close_family};
 use std::alloc::Global;
-
-/// A status, and the text that is written with it.
-#[derive(Drop)]
-pub struct Answer {
-    pub status: Status,
-    pub text: Text,
-}
 
 /// The answer of `check` to an input.
 pub fn check(alloc: Global, order: Order, bytes: &[u8]) -> Result<Answer, NoMemory>

@@ -8,6 +8,8 @@ ghost use Rattle.sk_cli.specs.Commands.{command_word};
 pub enum Command {
     /// Judges a sketch.
     Check,
+    /// Plans the construction of a sketch.
+    Plan,
 }
 
 /// The command that the word names.
@@ -17,6 +19,8 @@ pub fn command_of(word: &str) -> Option<Command>
 {
     if word == "check" {
         Some(Command::Check)
+    } else if word == "plan" {
+        Some(Command::Plan)
     } else {
         None
     }

@@ -5,8 +5,10 @@ ghost use Rattle.sk_cli.specs.declared.status.Status.{Status};
 ghost use Rattle.sk_cli.specs.Asking.{Asks};
 ghost use Rattle.sk_cli.specs.Outcome.{IsOutcome};
 
-use sk_lang::one_answer;
+use sk_lang::{one_answer, readable_is_sound};
+use sk_plan::one_plan;
 use sk_verdict::one_judgement;
+use sk_worklist::{Chosen, one_run};
 
 /// Words ask for one thing at most.
 pub fn one_request()
@@ -21,4 +23,7 @@ pub fn one_outcome()
 {
     one_answer();
     one_judgement();
+    readable_is_sound();
+    one_plan();
+    one_run::<Chosen>();
 }

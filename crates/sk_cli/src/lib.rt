@@ -1,9 +1,11 @@
 //! The top call: the words of the command line, a source and a sink go in, and a status comes out.
 #![tactic(auto)]
 
+mod answer;
 mod check;
 mod command;
 mod law;
+mod plan;
 mod request;
 mod status;
 mod top;

@@ -7,8 +7,10 @@ ghost use Rattle.sk_cli.specs.Asking.{AreOfForm};
 ghost use Rattle.sk_cli.specs.Outcome.{IsAnswer, IsOutcome};
 ghost use Rattle.sk_cli.specs.Ending.{IsTold, Ends, HasInput, Sends};
 
-use crate::check::{Answer, check};
+use crate::answer::Answer;
+use crate::check::check;
 use crate::command::Command;
+use crate::plan::plan;
 use crate::request::{Request, request_of};
 use crate::status::Status;
 use sk_base::NoMemory;
@@ -69,10 +71,11 @@ pub fn run<S: Source, K: Sink>(
 
 /// The answer to an input.
 fn answer(alloc: Global, request: Request, bytes: &[u8]) -> Result<Answer, NoMemory>
-    ensures { IfOk result (λ answer. IsAnswer request.command bytes.now answer.status answer.text) }
+    ensures { IfOk result (λ answer. IsAnswer request bytes.now answer.status answer.text) }
 {
     match request.command {
         Command::Check => check(alloc, request.order, bytes),
+        Command::Plan => plan(alloc, request.order, bytes),
     }
 }
 

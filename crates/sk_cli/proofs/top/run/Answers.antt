@@ -42,7 +42,7 @@ returns-in-Ok-answer-clause-sure_sink g c each =
     let sure = c.send-in-Ok-answer.ensures.sure (rw c.as_bytes-in-Ok-answer.ensures
     (answer_room (map string_bytes c.args.words.now) (g.S.Source.left c.args.source.now) _ c.in-Ok.bytes c.in-Some.request c.in-Ok-answer.answer.status c.in-Ok-answer.answer.text _
     each c.in-Some.ensures.some c.in-Ok.ensures.bound c.in-Ok.ensures.taken answer)) in
-    (sure.0, λ failed. no_fault c.in-Some.request.command c.in-Ok.bytes c.in-Ok-answer.answer.status c.in-Ok-answer.answer.text answer (sym sure.1 ∙ failed))
+    (sure.0, λ failed. no_fault c.in-Some.request c.in-Ok.bytes c.in-Ok-answer.answer.status c.in-Ok-answer.answer.text answer (sym sure.1 ∙ failed))
 
 pub returns-clause-outcome : goal.returns-clause-outcome
 returns-clause-outcome g c =

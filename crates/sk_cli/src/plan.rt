@@ -1,0 +1,48 @@
+// The command `plan`.
+ghost use Rattle.std.specs.Prelude.{◌<◌, length, IfOk};
+ghost use Rattle.sk_base.specs.SoundSketch.{IsSoundSketch};
+ghost use Rattle.sk_cli.specs.Outcome.{IsPlanAnswer, IsPlanOrReport};
+
+use crate::answer::Answer;
+use crate::status::Status;
+use sk_base::{NoMemory, Sketch};
+use sk_graph::reduce;
+use sk_lang::{ReadError, read_sketch};
+use sk_plan::{PlanError, plan_of};
+use sk_report::{check_text, plan_text, refused_text};
+use sk_worklist::{Chosen, Order};
+use std::alloc::Global;
+
+/// The answer of `plan` to an input.
+pub fn plan(alloc: Global, order: Order, bytes: &[u8]) -> Result<Answer, NoMemory>
+    ensures { IfOk result (λ answer. IsPlanAnswer order bytes.now answer.status answer.text) }
+{
+    match read_sketch(alloc, bytes) {
+        Ok(sketch) => planned(alloc, order, &sketch),
+        Err(ReadError::Refused(refusal)) => Ok(Answer {
+            status: Status::Refused,
+            text: refused_text(alloc, &refusal)?,
+        }),
+        Err(ReadError::NoMemory) => Err(NoMemory),
+    }
+}
+
+/// The plan report of the sketch, or the check report where the verdict isn't well.
+fn planned(alloc: Global, order: Order, sketch: &Sketch) -> Result<Answer, NoMemory>
+    requires sound { IsSoundSketch sketch.now }
+    requires some { 0 < length sketch.now.elements }
+    ensures { IfOk result (λ answer. IsPlanOrReport order sketch.now answer.status answer.text) }
+{
+    let graph = reduce(alloc, sketch)?;
+    match plan_of(alloc, sketch, &graph, &mut Chosen::new(order)) {
+        Ok(plan) => Ok(Answer {
+            status: Status::Done,
+            text: plan_text(alloc, sketch, &plan)?,
+        }),
+        Err(PlanError::NotWell(judgement)) => Ok(Answer {
+            status: Status::NotWell,
+            text: check_text(alloc, sketch, &judgement)?,
+        }),
+        Err(PlanError::NoMemory) => Err(NoMemory),
+    }
+}
