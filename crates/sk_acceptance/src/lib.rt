@@ -13,6 +13,8 @@ mod lists;
 #[cfg(test)]
 mod one_byte;
 #[cfg(test)]
+mod plans;
+#[cfg(test)]
 mod refusals;
 #[cfg(test)]
 mod row;
