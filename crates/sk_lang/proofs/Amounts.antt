@@ -1,6 +1,6 @@
 -- What a word stands for that passes its tests keeps within its limits.
-use Rattle.std.proofs.Common.{◌≡◌, ◌≢◌, ℕ, ◌+◌, ◌<◌, ◌≤◌, Bool, true, false, cond, nat_le, nat_eq, List, drop, take, Option, Some, None, is_none, unwrap_or, option_and_then, refl, sym, ap, ◌∙◌, arith, ℤ, pos, negsuc, neg_ℤ}
-use Rattle.std.specs.Prelude.{IfSome, ◌≤ℤ◌}
+use Rattle.std.proofs.Common.{◌≡◌, ◌≢◌, ℕ, ◌+◌, ◌≤◌, Bool, true, false, cond, nat_le, List, drop, take, Option, Some, None, is_none, unwrap_or, option_and_then, refl, arith, ℤ, pos, negsuc}
+use Rattle.std.specs.Prelude.{IfSome}
 use Rattle.std.specs.List.{position}
 use Rattle.std.specs.Option.{option_map}
 use Rattle.std.proofs.lemmas.Bool.Decides.{nat_tests}
@@ -8,7 +8,7 @@ use Rattle.std.proofs.lemmas.Int.{ints}
 use Rattle.sk_base.specs.Bounds.{IsWithin, IsFromTo}
 use Rattle.sk_base.specs.Millimetres.{mm_of, at_most, has_sign, without_sign, with_sign, unsigned_um, digits_of}
 use Rattle.sk_base.specs.SoundSketch.{IsCoordinate, IsLength, IsSoundRatio}
-use Rattle.sk_lang.specs.Quantities.{not_negative, length_of, is_slash, part_of_ratio, parts_round, unsigned_ratio, ratio_of, um, ratio}
+use Rattle.sk_lang.specs.Quantities.{not_negative, length_of, is_slash, part_of_ratio, parts_round, ratio_of, um, ratio}
 use Rattle.sk_lang.specs.Conditions.{is_zero}
 
 signed_within : (most n : ℕ) (negative : Bool) → n ≤ most → IsWithin most (with_sign negative n)

@@ -17,7 +17,7 @@ use Rattle.sk_lang.specs.Lines.{lines_in}
 use Rattle.sk_lang.specs.Reading.{is_blank_line, progress_along, HaveNoCode, HasFirstCode, has_ended, Reads, Refuses, TooLong, Empty, AtLine, NoEnd}
 use Rattle.sk_lang.specs.Computed.{Answer, or_code, at_end, read_from, reading}
 
-both : (a b : Bool) → (a && b) ≡ true → (a ≡ true) × (b ≡ true)
+pub both : (a b : Bool) → (a && b) ≡ true → (a ≡ true) × (b ≡ true)
 both true b e = (refl, e)
 both false b e = cc
 

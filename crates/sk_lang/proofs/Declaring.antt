@@ -1,10 +1,9 @@
 -- What a line that says something tells of its words.
-use Rattle.std.proofs.Common.{◌≡◌, ℕ, ◌<◌, Bool, true, false, not, ◌&&◌, ◌||◌, cond, List, [], ◌∷◌, ◌++◌, length, map, Option, Some, None, is_some, refl, sym, ap, ◌∙◌, arith}
+use Rattle.std.proofs.Common.{◌≡◌, ℕ, ◌<◌, Bool, true, false, ◌||◌, cond, List, [], ◌∷◌, length, map, Option, Some, None, is_some, refl, sym, ap, ◌∙◌, arith}
 use Rattle.std.proofs.lemmas.List.{length-map}
 use Rattle.sk_base.specs.declared.Elem.{Elem}
 use Rattle.sk_base.specs.declared.ConId.{ConId}
 use Rattle.sk_base.specs.declared.Element.{Element}
-use Rattle.sk_base.specs.declared.Constraint.{Constraint}
 use Rattle.sk_base.specs.declared.Shape.{Shape}
 use Rattle.sk_base.specs.declared.Rule.{Rule}
 use Rattle.sk_base.specs.declared.Sketch.{Sketch}
@@ -15,14 +14,12 @@ use Rattle.sk_lang.specs.declared.keyword.Keyword.{Keyword}
 use Rattle.sk_lang.specs.declared.keyword.Keyword.TheVariants.{Point, Line, Circle, Distance, On, Tangent, Outside, Inside, Angle}
 use Rattle.sk_lang.specs.declared.entry.Entry.{Entry}
 use Rattle.sk_lang.specs.declared.entry.Entry.TheVariants as entry
-use Rattle.sk_lang.specs.declared.progress.Progress.{Progress}
 use Rattle.sk_lang.specs.declared.progress.Progress.TheVariants.{Within, After}
 use Rattle.sk_lang.specs.Keywords.{keyword_of, declares}
 use Rattle.sk_lang.specs.Named.{element_named}
 use Rattle.sk_lang.specs.FirstCode.{first_code}
-use Rattle.sk_lang.specs.Codes.{byte_rows, entry_rows}
 use Rattle.sk_lang.specs.Meaning.{shape_drawn, rule_asked, element_with, constraint_with, entry_made, progress_after, progress_after_words, progress_within}
-use Rattle.sk_lang.specs.Entry.{keyword_rows, rows_of, entry_code, IsOther, IsKeywordEntry, IsEntryOfWords, IsEntryOf}
+use Rattle.sk_lang.specs.Entry.{keyword_rows, rows_of, entry_code, IsKeywordEntry, IsEntryOfWords, IsEntryOf}
 use Rattle.sk_lang.proofs.Passing.{passed, Passes, passes_from}
 
 -- an element or a constraint

@@ -1,3 +1,4 @@
+pub mod Again
 pub mod Amounts
 pub mod Answered
 pub mod ByHash
@@ -8,11 +9,15 @@ pub mod Finding
 pub mod Fitting
 pub mod Growing
 pub mod LineByLine
-pub mod NumberBack
+pub mod OneFront
 pub mod Passing
+pub mod RatioBack
 pub mod ReadBack
 pub mod ReadErrors
 pub mod Readable
+pub mod RulesAgain
 pub mod Sound
 pub mod Standing
 pub mod WholeLines
+pub mod Written
+pub mod WrittenBack

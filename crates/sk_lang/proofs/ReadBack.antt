@@ -1,17 +1,16 @@
 -- What is written is read back.
-use Rattle.std.proofs.Common.{◌≡◌, ℕ, suc, zero, ◌+◌, ◌<◌, ◌≤◌, Bool, true, false, not, ◌&&◌, List, [], ◌∷◌, ◌++◌, length, map, filter, refl, sym, ap, ◌∙◌, arith, append_assoc}
-use Rattle.std.specs.List.{slice_split, All, join_with_byte, flat_map, AllByRecursion}
+use Rattle.std.proofs.Common.{◌≡◌, ℕ, ◌<◌, false, List, [], ◌∷◌, ◌++◌, length, map, refl, ap, ◌∙◌, arith, append_assoc}
+use Rattle.std.specs.List.{slice_split, All, AllByRecursion}
 use Rattle.std.specs.Str.Lines.{strip_carriage_return}
 use Rattle.std.proofs.lemmas.List.Splits.{slice_split_at, slice_split_none, length-slice_split}
-use Rattle.std.proofs.lemmas.List.Elements.{recursion_from_All, All-from_recursion}
 use Rattle.sk_lex.specs.Words.{is_blank, is_empty, words_in}
 use Rattle.sk_lang.specs.Lines.{is_line_feed, without_empty_end, lines_in}
 use Rattle.sk_lang.specs.Canonical.{spaced, ended_lines}
 
 -- a word: some bytes, and no blank
 pub record IsWord (word : List ℕ) : Type 0 where
-  some : is_empty word ≡ false
-  solid : All (λ b. is_blank b ≡ false) word
+  pub some : is_empty word ≡ false
+  pub solid : All (λ b. is_blank b ≡ false) word
 
 -- words with one space between are those words
 pub words_in-spaced : (word : List ℕ) (words : List (List ℕ)) → IsWord word → AllByRecursion IsWord words → words_in (spaced (word ∷ words)) ≡ word ∷ words
@@ -21,8 +20,8 @@ words_in-spaced word (next ∷ words) is all =
 
 -- a line: no line feed, and no carriage return at its end
 pub record IsLine (line : List ℕ) : Type 0 where
-  solid : All (λ b. is_line_feed b ≡ false) line
-  plain : strip_carriage_return line ≡ line
+  pub solid : All (λ b. is_line_feed b ≡ false) line
+  pub plain : strip_carriage_return line ≡ line
 
 without_end_lines : (line : List ℕ) (parts : List (List ℕ)) → 0 < length parts → without_empty_end (line ∷ parts) ≡ line ∷ without_empty_end parts
 without_end_lines line [] more = absurd (omega arith)

@@ -1,18 +1,15 @@
 -- The error of a line is a refusal of the text.
-use Rattle.std.proofs.Common.{◌≡◌, ℕ, ◌+◌, ◌<◌, ◌≤◌, Bool, false, List, [], length, Option, Some, Result, Ok, Err, IfErr, refl, sym, subst, arith, ◌∷◌}
+use Rattle.std.proofs.Common.{◌≡◌, ℕ, ◌+◌, ◌<◌, ◌≤◌, false, List, [], length, refl, arith, ◌∷◌}
 use Rattle.sk_base.specs.declared.Sketch.{Sketch}
-use Rattle.sk_lang.specs.declared.code.ReadError.{ReadError}
 use Rattle.sk_lang.specs.declared.entry.EntryError.{EntryError}
 use Rattle.sk_lang.specs.declared.entry.EntryError.TheVariants.{Refused, NoMemory}
-use Rattle.sk_lang.specs.declared.code.Code.{Code}
-use Rattle.sk_lang.specs.declared.code.Code.TheVariants.{E16, E18}
 use Rattle.sk_lang.specs.declared.progress.Progress.{Progress}
 use Rattle.sk_lang.specs.declared.progress.Progress.TheVariants.{Before, Within, After}
 use Rattle.sk_lang.specs.Lines.{IsFirstLine}
 use Rattle.sk_lang.specs.Codes.{code_of}
 use Rattle.sk_lang.specs.Entry.{IsRefusal}
-use Rattle.sk_lang.specs.Reading.{IsRefusalOf, Refuses, has_ended}
-use Rattle.sk_lang.specs.Front.{IsFrontRefusal, RefusesFront}
+use Rattle.sk_lang.specs.Reading.{IsRefusalOf, has_ended}
+use Rattle.sk_lang.specs.Front.{IsFrontRefusal}
 use Rattle.sk_lang.specs.Computed.{error_at, without_end}
 use Rattle.sk_lang.proofs.Standing.{StandsAt, refused_here, front_refused_here, front_empty_here, front_unended_here}
 

@@ -1,5 +1,5 @@
 -- A text is read as a sound sketch with an element, line by line.
-use Rattle.std.proofs.Common.{◌≡◌, ◌≢◌, ℕ, ◌+◌, ◌<◌, ◌≤◌, Bool, true, false, not, cond, List, [], ◌∷◌, ◌++◌, length, Option, Some, None, refl, sym, ap, subst, ◌∙◌, arith, bytes_eq, codes, IsTrue}
+use Rattle.std.proofs.Common.{◌≡◌, ◌≢◌, ℕ, ◌+◌, ◌<◌, ◌≤◌, Bool, true, false, not, cond, List, [], ◌∷◌, ◌++◌, length, Option, Some, None, refl, sym, ap, subst, arith, bytes_eq, codes, IsTrue}
 use Rattle.std.specs.Prelude.{All}
 use Rattle.std.proofs.lemmas.List.{length_push}
 use Rattle.std.proofs.lemmas.List.Elements.{All-nil, All-push, All-weaker}
@@ -24,7 +24,7 @@ use Rattle.sk_lang.specs.declared.progress.Progress.TheVariants.{Before, Within,
 use Rattle.sk_lang.specs.Lines.{lines_in}
 use Rattle.sk_lang.specs.Keywords.{keyword_of, declares}
 use Rattle.sk_lang.specs.FirstCode.{first_code}
-use Rattle.sk_lang.specs.Codes.{code_of, rows_within, other_rows, word_rows, is_none_left, entry_rows}
+use Rattle.sk_lang.specs.Codes.{code_of, rows_within, word_rows, is_none_left, entry_rows}
 use Rattle.sk_lang.specs.Meaning.{shape_drawn, rule_asked, element_with, constraint_with, entry_made, added, next_elem, next_con, empty_sketch, progress_within, progress_after_words, progress_after}
 use Rattle.sk_lang.specs.Reading.{Reads, HaveNoCode, progress_along}
 use Rattle.sk_lang.proofs.Passing.{passed, passes_from}

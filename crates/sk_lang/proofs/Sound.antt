@@ -1,11 +1,8 @@
 -- A text that is read is read as a sound sketch.
-use Rattle.std.proofs.Common.{◌≡◌, ◌≢◌, ℕ, ◌+◌, ◌<◌, ◌≤◌, Bool, true, false, not, ◌&&◌, ◌||◌, cond, nat_le, List, [], ◌∷◌, ◌++◌, length, Option, Some, None, is_none, refl, sym, ap, subst, ◌∙◌, arith, bytes_eq, IsTrue}
-use Rattle.std.specs.Prelude.{All, ◌⊎◌}
+use Rattle.std.proofs.Common.{◌≡◌, ◌≢◌, ℕ, ◌<◌, Bool, true, false, not, ◌&&◌, ◌||◌, nat_le, List, [], ◌∷◌, length, Option, Some, None, is_none, refl, ap, subst, arith, IsTrue}
+use Rattle.std.specs.Prelude.{All}
 use Rattle.std.specs.Ordering.{int_eq}
-use Rattle.std.specs.Option.{option_map}
 use Rattle.std.proofs.lemmas.Bool.Decides.{nat_tests, Decides-int_eq}
-use Rattle.std.proofs.lemmas.List.{length_push}
-use Rattle.std.proofs.lemmas.List.Elements.{All-nil, All-push, All-weaker}
 use Rattle.sk_base.specs.declared.Elem.{Elem}
 use Rattle.sk_base.specs.declared.ConId.{ConId}
 use Rattle.sk_base.specs.declared.Um.{Um}
@@ -18,32 +15,21 @@ use Rattle.sk_base.specs.declared.Rule.TheVariants as rule
 use Rattle.sk_base.specs.declared.Sketch.{Sketch}
 use Rattle.sk_base.specs.Labels.{is_name}
 use Rattle.sk_base.specs.SoundSketch.{IsSoundSketch, IsSoundShape, IsSoundRule, MayBeApart, MayLieOn, MayBeTangent, AreCircles, AreLines, MayNest}
-use Rattle.sk_base.proofs.Pairs.{pairs_none}
-use Rattle.sk_lex.specs.Words.{words_in, is_too_long, has_wrong_byte}
-use Rattle.sk_lang.specs.declared.code.Code.{Code}
-use Rattle.sk_lang.specs.declared.code.Code.TheVariants.{E2, E3, E15, E17, E18, E19}
 use Rattle.sk_lang.specs.declared.keyword.Keyword.{Keyword}
 use Rattle.sk_lang.specs.declared.keyword.Keyword.TheVariants.{Point, Line, Circle, Distance, On, Tangent, Outside, Inside, Angle}
 use Rattle.sk_lang.specs.declared.entry.Entry.{Entry}
 use Rattle.sk_lang.specs.declared.entry.Entry.TheVariants as entry
-use Rattle.sk_lang.specs.declared.progress.Progress.{Progress}
-use Rattle.sk_lang.specs.declared.progress.Progress.TheVariants.{Before, Within, After}
-use Rattle.sk_lang.specs.Lines.{lines_in}
-use Rattle.sk_lang.specs.Keywords.{keyword_of, declares, places}
 use Rattle.sk_lang.specs.Kinds.{takes}
 use Rattle.sk_lang.specs.Named.{element_named, number_named}
 use Rattle.sk_lang.specs.Quantities.{um, ratio}
-use Rattle.sk_lang.specs.Conditions.{kinds_fit, radius_of, radii_equal, has_equal_radii}
-use Rattle.sk_lang.specs.FirstCode.{first_code}
-use Rattle.sk_lang.specs.Codes.{code_of, rows_within, other_rows, word_rows, is_none_left}
-use Rattle.sk_lang.specs.Meaning.{shape_drawn, rule_asked, element_with, constraint_with, entry_made, added, next_elem, next_con, empty_sketch, progress_within, progress_after_words, progress_after}
+use Rattle.sk_lang.specs.Conditions.{kinds_fit, radius_of, radii_equal}
+use Rattle.sk_lang.specs.Meaning.{entry_made, added}
 use Rattle.sk_lang.specs.Entry.{entry_code, IsEntryOf}
-use Rattle.sk_lang.specs.Reading.{Reads, HaveNoCode, progress_along}
-use Rattle.sk_lang.proofs.Passing.{passed, Passes, passes_from}
+use Rattle.sk_lang.proofs.Passing.{Passes}
 use Rattle.sk_lang.proofs.Declaring.{first_of_two, free_from, declares_by}
 use Rattle.sk_lang.proofs.Amounts.{coordinate_within, length_from_to, ratio_sound}
 use Rattle.sk_lang.proofs.Fitting.{may_be_apart, may_lie_on, may_be_tangent, are_circles, are_lines, may_nest}
-use Rattle.sk_lang.proofs.Growing.{with_element, with_constraint, IsNewElement, IsNewConstraint, with_element_sound, with_constraint_sound, may_join}
+use Rattle.sk_lang.proofs.Growing.{with_element_sound, with_constraint_sound, may_join}
 
 -- numbers that are above those of the sketch
 pub record AreAbove (s : Sketch) (elem : Elem) (con : ConId) : Type 0 where

@@ -1,5 +1,5 @@
 -- Where the reading of a text stands: the front that was read, and the rest.
-use Rattle.std.proofs.Common.{◌≡◌, ℕ, zero, suc, ◌+◌, ◌-◌, ◌<◌, ◌≤◌, Bool, true, false, not, ◌&&◌, List, [], ◌∷◌, ◌++◌, length, take, drop, Option, Some, None, refl, sym, ap, subst, ◌∙◌, arith, ◌⊎◌, inl, inr, append_assoc, append-nil, length-append}
+use Rattle.std.proofs.Common.{◌≡◌, ℕ, ◌+◌, ◌-◌, ◌<◌, ◌≤◌, false, List, [], ◌∷◌, ◌++◌, length, take, drop, Some, None, refl, sym, ap, subst, ◌∙◌, arith, ◌⊎◌, inl, inr, append_assoc, append-nil, length-append}
 use Rattle.std.specs.List.{list_all}
 use Rattle.std.proofs.Math.Seq.{take-append_seam, take-length}
 use Rattle.std.proofs.lemmas.List.{drop_all, take-append-drop}
@@ -12,7 +12,7 @@ use Rattle.sk_lang.specs.declared.progress.Progress.TheVariants.{Before, Within,
 use Rattle.sk_lang.specs.Lines.{lines_in, EndsLine, IsFirstLine}
 use Rattle.sk_lang.specs.Codes.{code_of}
 use Rattle.sk_lang.specs.Meaning.{progress_after}
-use Rattle.sk_lang.specs.Reading.{is_blank_line, progress_along, HaveNoCode, HasFirstCode, has_ended, Reads, Refuses, TooLong, Empty, AtLine, NoEnd}
+use Rattle.sk_lang.specs.Reading.{is_blank_line, progress_along, HaveNoCode, HasFirstCode, has_ended, Reads, Refuses, Empty, AtLine, NoEnd}
 use Rattle.sk_lang.specs.Front.{has_ended_by, ReadsFront, RefusesFront}
 use Rattle.sk_lang.proofs.WholeLines.{lines_in-append}
 use Rattle.sk_lang.proofs.Answered.{all_blank, still_before, clean_at, no_true}

@@ -1,6 +1,6 @@
 -- The canonical text of a sketch.
-use Rattle.std.specs.Prelude.{ℕ, ◌==◌, List, [], ◌∷◌, ◌++◌, map, Option, unwrap_or, codes}
-use Rattle.std.specs.List.{find, flat_map, join_with_byte}
+use Rattle.std.specs.Prelude.{ℕ, List, [], ◌∷◌, ◌++◌, map, unwrap_or, codes}
+use Rattle.std.specs.List.{flat_map, join_with_byte}
 use Rattle.std.specs.Option.{option_map}
 use Rattle.sk_base.specs.declared.Elem.{Elem}
 use Rattle.sk_base.specs.declared.Ratio.{Ratio}

@@ -1,5 +1,5 @@
 -- The codes of a line, in their order.
-use Rattle.std.specs.Prelude.{ℕ, Bool, true, false, ◌&&◌, ◌||◌, not, ◌==◌, nat_le, List, [], ◌∷◌, ◌++◌, drop, length, Option, Some, None, codes, bytes_eq, if◌then◌else◌}
+use Rattle.std.specs.Prelude.{ℕ, Bool, true, false, ◌&&◌, ◌||◌, not, ◌==◌, nat_le, List, [], ◌∷◌, ◌++◌, drop, length, Option, Some, None, codes, bytes_eq}
 use Rattle.std.specs.List.{list_any, zip}
 use Rattle.sk_base.specs.declared.Sketch.{Sketch}
 use Rattle.sk_lex.specs.Words.{is_too_long, has_wrong_byte, words_in}

@@ -14,3 +14,4 @@ pub mod Meaning
 pub mod Named
 pub mod Quantities
 pub mod Reading
+pub mod Renumbered

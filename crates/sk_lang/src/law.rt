@@ -2,7 +2,11 @@ ghost use Rattle.std.specs.Prelude.{◌≡◌, ◌<◌, ◌⊎◌, ℕ, List, le
 ghost use Rattle.sk_base.specs.declared.Sketch.{Sketch};
 ghost use Rattle.sk_base.specs.SoundSketch.{IsSoundSketch};
 ghost use Rattle.sk_lang.specs.declared.code.Code.{Code};
+ghost use Rattle.sk_lang.specs.Canonical.{canonical};
+ghost use Rattle.sk_lang.specs.declared.front.Front.{Front};
+ghost use Rattle.sk_lang.specs.Front.{ReadsFront, RefusesFront};
 ghost use Rattle.sk_lang.specs.Reading.{Reads, Refuses};
+ghost use Rattle.sk_lang.specs.Renumbered.{renumbered};
 
 /// Every text is read or refused, and not both, with one sketch or one refusal.
 pub fn one_answer()
@@ -12,8 +16,20 @@ pub fn one_answer()
     ensures not_both { (bytes : List ℕ) (s : Sketch) (n : ℕ) (code : Code) → Reads bytes s → Refuses bytes n code → ⊥ }
 {}
 
+/// A text has one front with a sketch or one refusal of it, and not both.
+pub fn one_front()
+    ensures one_front { (bytes : List ℕ) (f g : Front) → ReadsFront bytes f → ReadsFront bytes g → f ≡ g }
+    ensures one_refusal { (bytes : List ℕ) (n m : ℕ) (c d : Code) → RefusesFront bytes n c → RefusesFront bytes m d → (n ≡ m) × (c ≡ d) }
+    ensures not_both { (bytes : List ℕ) (f : Front) (n : ℕ) (code : Code) → ReadsFront bytes f → RefusesFront bytes n code → ⊥ }
+{}
+
 /// What a text is read as is a sound sketch with an element.
 pub fn readable_is_sound()
     ensures sound { (bytes : List ℕ) (s : Sketch) → Reads bytes s → IsSoundSketch s }
     ensures some { (bytes : List ℕ) (s : Sketch) → Reads bytes s → 0 < length s.elements }
+{}
+
+/// The canonical text of a sound sketch that has an element reads as that sketch, numbered anew from 1.
+pub fn written_reads_back()
+    ensures { (s : Sketch) → IsSoundSketch s → 0 < length s.elements → Reads (canonical s) (renumbered s) }
 {}

@@ -23,7 +23,7 @@ mod write;
 pub use code::{Code, ReadError, Refusal};
 pub use entry::{Entry, EntryError};
 pub use front::{Front, read_sketch_front};
-pub use law::{one_answer, readable_is_sound};
+pub use law::{one_answer, one_front, readable_is_sound, written_reads_back};
 pub use line::read_entry;
 pub use read::read_sketch;
 pub use write::{constraint_text, write_sketch};

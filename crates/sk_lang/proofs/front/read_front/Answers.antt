@@ -1,10 +1,9 @@
-use Rattle.std.proofs.Common.{◌≡◌, ◌+◌, ◌<◌, ◌≤◌, ℕ, List, [], length, false, sym, ap, subst, ◌∙◌, arith, refl}
+use Rattle.std.proofs.Common.{◌≡◌, ◌+◌, ℕ, List, [], sym, subst, ◌∙◌, arith, refl}
 use Rattle.std.proofs.lemmas.Bool.Decides.{nat_tests}
 use Rattle.sk_lang.specs.declared.progress.Progress.{Progress}
 use Rattle.sk_lang.specs.declared.progress.Progress.TheVariants.{After}
 use Rattle.sk_lang.specs.Meaning.{progress_after}
 use Rattle.sk_lang.specs.Reading.{TooLong}
-use Rattle.sk_lang.specs.Front.{IsFrontRefusal, RefusesFront}
 use Rattle.sk_lang.proofs.ReadErrors.{front_refusal_at, front_unended, ended_no_more, no_bytes}
 use Rattle.sk_lang.proofs.Standing.{StandsAt, stands_next, front_read_here}
 use Rattle.sk_lang.proofs.front.read_front.Goals as goal

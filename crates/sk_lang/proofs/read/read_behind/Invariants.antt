@@ -1,4 +1,4 @@
-use Rattle.std.proofs.Common.{◌≡◌, ◌+◌, ◌≤◌, length}
+use Rattle.std.proofs.Common.{◌+◌, ◌≤◌, length}
 use Rattle.sk_lang.specs.declared.progress.Progress.TheVariants.{After}
 use Rattle.sk_lang.proofs.Standing.{StandsAt}
 use Rattle.sk_lang.proofs.read.read_behind.Given as goal

@@ -1,6 +1,5 @@
 use Rattle.std.proofs.Common.{◌≡◌, None, map, sym, ap, ◌∙◌}
 use Rattle.std.specs.List.{find}
-use Rattle.sk_base.specs.declared.Element.{Element}
 use Rattle.sk_base.specs.declared.Sketch.{Sketch}
 use Rattle.sk_lang.specs.Index.{key_of}
 use Rattle.sk_lang.specs.Named.{element_named}
