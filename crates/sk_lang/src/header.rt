@@ -17,7 +17,7 @@ use sk_base::Sketch;
 use sk_lex::Word;
 use std::alloc::Global;
 
-/// Where the line after this one stands, where none with words came before.
+/// How far the text has been read behind a line before which no line has a word.
 pub(crate) fn after_header(alloc: Global, line: &[u8]) -> Result<Progress, EntryError>
     ensures clean { IfOk result (λ _. code_of Before line.now ≡ None) }
     ensures progress { IfOk result (λ after. after ≡ progress_after Before line.now) }

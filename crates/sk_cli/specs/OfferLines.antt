@@ -1,0 +1,105 @@
+-- What a line behind a sketch says, and its codes.
+use Rattle.std.specs.Prelude.{◌≡◌, ⊤, ℕ, Bool, true, false, ◌&&◌, ◌||◌, not, ◌==◌, List, [], ◌∷◌, ◌++◌, length, map, Option, Some, None, is_none, unwrap_or, codes, bytes_eq, if◌then◌else◌}
+use Rattle.std.specs.List.{list_any}
+use Rattle.std.specs.Option.{option_map}
+use Rattle.sk_base.specs.declared.Name.{Name}
+use Rattle.sk_base.specs.declared.Name.TheVariants.{Con, Step}
+use Rattle.sk_base.specs.ClusterNames.{is_named}
+use Rattle.sk_base.specs.Millimetres.{digits_of, at_most}
+use Rattle.sk_lex.specs.Words.{words_in}
+use Rattle.sk_rules.specs.Merges.{IsMergeOf}
+use Rattle.sk_lang.specs.declared.Code.{Code}
+use Rattle.sk_lang.specs.declared.Code.TheVariants.{E2, E3, E4, E8, E10, E17}
+use Rattle.sk_lang.specs.Codes.{byte_rows, is_none_left}
+use Rattle.sk_lang.specs.FirstCode.{first_code}
+use Rattle.sk_cli.specs.declared.offer_line.OfferLine.{OfferLine}
+use Rattle.sk_cli.specs.declared.offer_line.Place.{Place}
+use Rattle.sk_cli.specs.declared.offer_line.Place.TheVariants.{Among, Past}
+
+abbrev pub begins_with_zero : List ℕ → Bool
+begins_with_zero [] = false
+begins_with_zero (b ∷ bytes) = b == 48
+
+-- the number that one to `most` digits without a leading zero stand for, which isn't 0
+abbrev pub plain_number : ℕ → List ℕ → Option ℕ
+plain_number most bytes = if begins_with_zero bytes then None else digits_of most bytes
+
+-- the worker that a word is, from 1 to 64
+abbrev pub worker_of : List ℕ → Option ℕ
+worker_of word = at_most 64 (plain_number 2 word)
+
+-- the name of a cluster that a word is: `c` or `s` and a number from 1 to 999999
+abbrev pub name_of : List ℕ → Option Name
+name_of [] = None
+name_of (letter ∷ number) =
+    if letter == 99 then option_map Con (plain_number 6 number) else
+    if letter == 115 then option_map Step (plain_number 6 number) else None
+
+-- the name, where the word is one
+abbrev pub named : List ℕ → Name
+named word = unwrap_or (name_of word) (Con 0)
+
+-- E4: a word in a name's place isn't a name
+abbrev pub is_bad_name : List ℕ → Bool
+is_bad_name word = is_none (name_of word)
+
+-- E10: two of the names are one
+abbrev pub has_twins : List Name → Bool
+has_twins [] = false
+has_twins (n ∷ names) = is_named names n || has_twins names
+
+-- the codes of the words behind `offer`, in their order
+abbrev pub offer_rows : List (List ℕ) → List (Bool × Code)
+offer_rows [] = (true, E3) ∷ []
+offer_rows (worker ∷ names) =
+    (not (length names == 2) && not (length names == 3), E3) ∷
+    (is_none (worker_of worker), E8) ∷
+    (list_any is_bad_name names, E4) ∷
+    (has_twins (map named names), E10) ∷ []
+
+-- the codes of a line whose first word isn't `offer`
+abbrev pub end_rows : List ℕ → List (List ℕ) → List (Bool × Code)
+end_rows first rest =
+    (not (bytes_eq first (codes "end")), E2) ∷
+    (not (is_none_left rest), E3) ∷ []
+
+-- the codes of a line with words
+abbrev pub word_rows : Place → List (List ℕ) → List (Bool × Code)
+word_rows place [] = []
+word_rows Among (first ∷ rest) = if bytes_eq first (codes "offer") then offer_rows rest else end_rows first rest
+word_rows Past (first ∷ rest) = (true, E17) ∷ []
+
+-- the code of a line
+abbrev pub code_of : Place → List ℕ → Option Code
+code_of place line = first_code (byte_rows line ++ word_rows place (words_in line))
+
+abbrev pub place_after_words : Place → List (List ℕ) → Place
+place_after_words place [] = place
+place_after_words Among (first ∷ rest) = if bytes_eq first (codes "offer") then Among else Past
+place_after_words Past (first ∷ rest) = Past
+
+-- where the line behind a line without a code stands
+abbrev pub place_after : Place → List ℕ → Place
+place_after place line = place_after_words place (words_in line)
+
+-- what the words behind `offer` say: the worker, and the merge of the names
+abbrev pub IsOfferOf : List (List ℕ) → OfferLine → Type 0
+IsOfferOf [] offer = ⊥
+IsOfferOf (worker ∷ names) offer = (worker_of worker ≡ Some offer.worker) × IsMergeOf (map named names) offer.merge
+
+-- the same, one by one
+abbrev pub AreOffersOf : List (List (List ℕ)) → List OfferLine → Type 0
+AreOffersOf [] [] = ⊤
+AreOffersOf [] (offer ∷ offers) = ⊥
+AreOffersOf (words ∷ more) [] = ⊥
+AreOffersOf (words ∷ more) (offer ∷ offers) = IsOfferOf words offer × AreOffersOf more offers
+
+-- the words behind `offer`, of a line that begins with it
+abbrev pub behind_offer : List (List ℕ) → List (List (List ℕ))
+behind_offer [] = []
+behind_offer (first ∷ rest) = if bytes_eq first (codes "offer") then rest ∷ [] else []
+
+-- and of each such line
+abbrev pub offered : List (List ℕ) → List (List (List ℕ))
+offered [] = []
+offered (line ∷ lines) = behind_offer (words_in line) ++ offered lines

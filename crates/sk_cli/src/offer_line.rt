@@ -1,0 +1,253 @@
+// One line among offers.
+ghost use Rattle.std.specs.Prelude.{◌≡◌, ◌≤◌, ◌<◌, ◌^◌, [], ◌∷◌, length, map, drop, Some, None, IfSome, IfOk, IfErr, MatchResult, bytes_eq};
+ghost use Rattle.std.specs.List.{slice_index_or, slice_range};
+ghost use Rattle.sk_lex.specs.Words.{bytes_of, words_in, StandInOrder};
+ghost use Rattle.sk_rules.specs.Merges.{IsMergeOf};
+ghost use Rattle.sk_lang.specs.declared.Code.TheVariants.{E3, E4, E8, E10};
+ghost use Rattle.sk_lang.specs.Codes.{byte_rows};
+ghost use Rattle.sk_lang.specs.FirstCode.{first_code};
+ghost use Rattle.sk_lang.specs.Entry.{IsRefusal};
+ghost use Rattle.sk_cli.specs.OfferLines.{begins_with_zero, plain_number, worker_of, name_of, has_twins, offer_rows, word_rows, code_of, IsOfferOf};
+ghost use Rattle.sk_cli.specs.declared.offer_line.Place.TheVariants.{Among};
+ghost use Rattle.sk_cli.specs.OfferReading.{AddsWords, Adds, IsWithOffer};
+
+use sk_base::{List, Name, digits_of};
+use sk_lang::{Code, EntryError};
+use sk_lex::{LexFault, Word, Words, words_of};
+use sk_rules::Merge;
+use std::alloc::Global;
+
+/// The greatest worker.
+const MOST_WORKER: u64 = 64;
+
+/// A merge that a worker, from 1 to 64, offers.
+#[derive(Clone, Copy, Debug, PartialEq, Eq)]
+pub struct OfferLine {
+    pub worker: u8,
+    pub merge: Merge,
+}
+
+/// Where a line stands: among the offers, or past their `end`.
+#[derive(Clone, Copy, Debug, PartialEq, Eq)]
+pub(crate) enum Place {
+    Among,
+    Past,
+}
+
+/// The offers that were read, and where the next line stands.
+#[derive(Drop)]
+pub(crate) struct SoFar {
+    pub(crate) place: Place,
+    pub(crate) offers: List<OfferLine>,
+}
+
+/// What was read behind the next line.
+pub(crate) fn after_line(alloc: Global, so_far: SoFar, line: &[u8]) -> Result<SoFar, EntryError>
+    ensures adds { IfOk result (Adds so_far line.now) }
+    ensures refused { IfErr result (IsRefusal (code_of so_far.place line.now)) }
+{
+    let words = split(alloc, line)?;
+    let words = words.items.as_slice();
+    if words.is_empty() {
+        return Ok(so_far);
+    }
+    match so_far.place {
+        Place::Among => after_words(so_far.offers, line, words),
+        Place::Past => Err(EntryError::Refused(Code::E17)),
+    }
+}
+
+/// What was read behind the words of a line among the offers.
+fn after_words(
+    offers: List<OfferLine>,
+    line: &[u8],
+    words: &[Word],
+) -> Result<SoFar, EntryError>
+    requires some { 0 < length words.now }
+    requires order { StandInOrder 0 words.now (length line.now) }
+    ensures { let ws = map (bytes_of line.now) words.now in MatchResult result
+        (AddsWords (record { place = Among; offers = offers }) ws)
+        (IsRefusal (first_code (word_rows Among ws))) }
+{
+    let first = word(line, words, 0);
+    if is(first, "offer") {
+        return with_offer(offers, line, words);
+    }
+    if !is(first, "end") {
+        return Err(EntryError::Refused(Code::E2));
+    }
+    if words.len() != 1 {
+        return Err(EntryError::Refused(Code::E3));
+    }
+    Ok(SoFar {
+        place: Place::Past,
+        offers,
+    })
+}
+
+/// The offers with that of a line at their end.
+fn with_offer(
+    mut offers: List<OfferLine>,
+    line: &[u8],
+    words: &[Word],
+) -> Result<SoFar, EntryError>
+    requires some { 0 < length words.now }
+    requires order { StandInOrder 0 words.now (length line.now) }
+    ensures { let rest = drop 1 (map (bytes_of line.now) words.now) in MatchResult result
+        (IsWithOffer offers rest)
+        (IsRefusal (first_code (offer_rows rest))) }
+{
+    match offer_of(line, words) {
+        Ok(offer) => {
+            offers.push(offer)?;
+            Ok(SoFar {
+                place: Place::Among,
+                offers,
+            })
+        }
+        Err(code) => Err(EntryError::Refused(code)),
+    }
+}
+
+/// What a line offers that begins with `offer`.
+fn offer_of(line: &[u8], words: &[Word]) -> Result<OfferLine, Code>
+    requires some { 0 < length words.now }
+    requires order { StandInOrder 0 words.now (length line.now) }
+    ensures { let rest = drop 1 (map (bytes_of line.now) words.now) in MatchResult result
+        (λ offer. (first_code (offer_rows rest) ≡ None) × IsOfferOf rest offer)
+        (λ code. first_code (offer_rows rest) ≡ Some code) }
+{
+    if words.len() != 4 && words.len() != 5 {
+        return Err(Code::E3);
+    }
+    let worker = word(line, words, 1);
+    let x = word(line, words, 2);
+    let y = word(line, words, 3);
+    if words.len() == 4 {
+        return offer_of_two(worker, x, y);
+    }
+    let z = word(line, words, 4);
+    offer_of_three(worker, x, y, z)
+}
+
+/// The offer of two clusters, by the words of its line.
+fn offer_of_two(worker: &[u8], x: &[u8], y: &[u8]) -> Result<OfferLine, Code>
+    ensures { let rest = worker.now ∷ x.now ∷ y.now ∷ [] in MatchResult result
+        (λ offer. (first_code (offer_rows rest) ≡ None) × IsOfferOf rest offer)
+        (λ code. first_code (offer_rows rest) ≡ Some code) }
+{
+    let worker = worker_of(worker)?;
+    let x = name_of(x)?;
+    let y = name_of(y)?;
+    let merge = Merge::two(x, y).ok_or(Code::E10)?;
+    Ok(OfferLine { worker, merge })
+}
+
+/// The offer of three clusters, by the words of its line.
+fn offer_of_three(worker: &[u8], x: &[u8], y: &[u8], z: &[u8]) -> Result<OfferLine, Code>
+    ensures { let rest = worker.now ∷ x.now ∷ y.now ∷ z.now ∷ [] in MatchResult result
+        (λ offer. (first_code (offer_rows rest) ≡ None) × IsOfferOf rest offer)
+        (λ code. first_code (offer_rows rest) ≡ Some code) }
+{
+    let worker = worker_of(worker)?;
+    let x = name_of(x)?;
+    let y = name_of(y)?;
+    let z = name_of(z)?;
+    let merge = Merge::three(x, y, z).ok_or(Code::E10)?;
+    Ok(OfferLine { worker, merge })
+}
+
+/// The worker that a word is.
+fn worker_of(word: &[u8]) -> Result<u8, Code>
+    ensures { MatchResult result
+        (λ worker. worker_of word.now ≡ Some worker)
+        (λ code. (worker_of word.now ≡ None) × (code ≡ E8)) }
+{
+    match plain_number(2, word) {
+        Some(worker) if worker <= MOST_WORKER => Ok(worker as u8),
+        _ => Err(Code::E8),
+    }
+}
+
+/// The name of a cluster that a word is.
+fn name_of(word: &[u8]) -> Result<Name, Code>
+    ensures { MatchResult result
+        (λ name. name_of word.now ≡ Some name)
+        (λ code. (name_of word.now ≡ None) × (code ≡ E4)) }
+{
+    match word {
+        [b'c', number @ ..] => Ok(Name::Con(number_of(number)?)),
+        [b's', number @ ..] => Ok(Name::Step(number_of(number)?)),
+        _ => Err(Code::E4),
+    }
+}
+
+/// The number in the name of a cluster.
+fn number_of(word: &[u8]) -> Result<u32, Code>
+    ensures { MatchResult result
+        (λ number. plain_number 6 word.now ≡ Some number)
+        (λ code. (plain_number 6 word.now ≡ None) × (code ≡ E4)) }
+{
+    match plain_number(6, word) {
+        Some(number) => Ok(number as u32),
+        None => Err(Code::E4),
+    }
+}
+
+/// The number that one to `most` digits stand for, the first of them not 0.
+fn plain_number(most: usize, word: &[u8]) -> Option<u64>
+    requires { most ≤ 18 }
+    ensures value { result ≡ plain_number most word.now }
+    ensures below { IfSome result (λ number. number < 10 ^ most) }
+{
+    if begins_with_zero(word) {
+        return None;
+    }
+    digits_of(most, word)
+}
+
+fn begins_with_zero(word: &[u8]) -> bool
+    ensures { result ≡ begins_with_zero word.now }
+{
+    matches!(word, [b'0', ..])
+}
+
+/// The words of a line.
+fn split(alloc: Global, line: &[u8]) -> Result<Words, EntryError>
+    ensures words { IfOk result (λ words. map (bytes_of line.now) words.items ≡ words_in line.now) }
+    ensures order { IfOk result (λ words. StandInOrder 0 words.items (length line.now)) }
+    ensures fine { IfOk result (λ _. first_code (byte_rows line.now) ≡ None) }
+    ensures refused { IfErr result (IsRefusal (first_code (byte_rows line.now))) }
+{
+    match words_of(alloc, line) {
+        Ok(words) => Ok(words),
+        Err(LexFault::LineTooLong) => Err(EntryError::Refused(Code::E15)),
+        Err(LexFault::NotAscii) => Err(EntryError::Refused(Code::E19)),
+        Err(LexFault::NoMemory) => Err(EntryError::NoMemory),
+    }
+}
+
+/// The bytes of the word at a place.
+fn word<'a>(line: &'a [u8], words: &[Word], i: usize) -> &'a [u8]
+    requires below { i < length words.now }
+    requires order { StandInOrder 0 words.now (length line.now) }
+    ensures { result.now ≡ slice_index_or (map (bytes_of line.now) words.now) i [] }
+{
+    let word = words[i];
+    between(line, word.start as usize, word.end as usize)
+}
+
+fn between(line: &[u8], start: usize, end: usize) -> &[u8]
+    requires rising { start ≤ end }
+    requires within { end ≤ length line.now }
+    ensures { result.now ≡ slice_range line.now start end }
+{
+    &line[start..end]
+}
+
+/// Whether the word is this text.
+fn is(word: &[u8], text: &str) -> bool
+    ensures { result ≡ bytes_eq word.now text.now }
+{
+    word == text.as_bytes()
+}
