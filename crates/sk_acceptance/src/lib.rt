@@ -11,6 +11,8 @@ mod faults;
 #[cfg(test)]
 mod lists;
 #[cfg(test)]
+mod offers;
+#[cfg(test)]
 mod one_byte;
 #[cfg(test)]
 mod plans;

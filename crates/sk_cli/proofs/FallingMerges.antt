@@ -1,6 +1,6 @@
 -- Two or three names that differ have one merge.
-use Rattle.std.proofs.Common.{◌≡◌, ◌≢◌, ◌⊎◌, inl, inr, ◌<◌, ◌≤◌, ℕ, Bool, true, false, List, [], ◌∷◌, length, refl, sym, ap, subst, ◌∙◌, arith}
-use Rattle.std.specs.Prelude.{⊤, Contains, ◌↔◌, ◌||◌}
+use Rattle.std.proofs.Common.{◌≡◌, ◌≢◌, ◌⊎◌, inl, inr, ◌<◌, ℕ, Bool, true, false, List, [], ◌∷◌, refl, sym, ap, subst, ◌∙◌, arith}
+use Rattle.std.specs.Prelude.{⊤, Contains, ◌||◌}
 use Rattle.std.proofs.lemmas.Bool.Decides.{nat_tests}
 use Rattle.sk_base.specs.declared.Name.{Name}
 use Rattle.sk_base.specs.declared.Name.TheVariants.{Con, Step}
@@ -74,23 +74,14 @@ one_merge names m n left right =
     same_merge m n (same_names (names_of m) (names_of n) (all_fall m left.falls) (all_fall n right.falls)
     (λ k h. (right.same k).1 ((left.same k).0 h)) (λ k h. (left.same k).1 ((right.same k).0 h)))
 
+three_ways : (j k : ℕ) → (j ≡ k) ⊎ ((j < k) ⊎ (k < j))
+three_ways j k = grind (arith, nat_tests)
+
 below_total : (x y : Name) → (x ≡ y) ⊎ (IsBelow x y ⊎ IsBelow y x)
-below_total (Con j) (Con k) = by_number (numbers j k)
-  where
-    numbers : (j k : ℕ) → (j ≡ k) ⊎ ((j < k) ⊎ (k < j))
-    numbers j k = grind (arith, nat_tests)
-    by_number : (j ≡ k) ⊎ ((j < k) ⊎ (k < j)) → (Con j ≡ Con k) ⊎ ((j < k) ⊎ (k < j))
-    by_number (inl same) = inl (ap Con same)
-    by_number (inr other) = inr other
+below_total (Con j) (Con k) = elim (three_ways j k) [ inl same ↦ inl (ap Con same) | inr other ↦ inr other ]
 below_total (Con j) (Step k) = inr (inl tt)
 below_total (Step j) (Con k) = inr (inr tt)
-below_total (Step j) (Step k) = by_number (numbers j k)
-  where
-    numbers : (j k : ℕ) → (j ≡ k) ⊎ ((j < k) ⊎ (k < j))
-    numbers j k = grind (arith, nat_tests)
-    by_number : (j ≡ k) ⊎ ((j < k) ⊎ (k < j)) → (Step j ≡ Step k) ⊎ ((j < k) ⊎ (k < j))
-    by_number (inl same) = inl (ap Step same)
-    by_number (inr other) = inr other
+below_total (Step j) (Step k) = elim (three_ways j k) [ inl same ↦ inl (ap Step same) | inr other ↦ inr other ]
 
 -- the higher one and the lower one
 record Ordered (x y : Name) : Type 0 where

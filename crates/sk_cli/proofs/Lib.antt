@@ -1,3 +1,11 @@
+pub mod Answering
+pub mod FallingMerges
+pub mod FittingOffers
+pub mod LineCounts
+pub mod OfferAnswers
+pub mod OfferBytes
+pub mod OffersSoFar
+pub mod OneOffering
 pub mod OneOutcome
 pub mod Runs
 pub mod Strides

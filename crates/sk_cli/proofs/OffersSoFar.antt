@@ -1,13 +1,10 @@
 -- What was read of the text behind a sketch, line by line.
-use Rattle.std.proofs.Common.{◌≡◌, ℕ, ◌+◌, ◌≤◌, List, [], ◌∷◌, ◌++◌, length, Some, None, refl, sym, ap, subst, ◌∙◌, arith, append_assoc, append-nil, length-append}
+use Rattle.std.proofs.Common.{◌≡◌, ℕ, ◌+◌, ◌≤◌, List, [], ◌∷◌, ◌++◌, length, None, refl, sym, ap, subst, ◌∙◌, arith, append_assoc, append-nil, length-append}
 use Rattle.sk_lex.specs.Words.{words_in}
-use Rattle.sk_lang.specs.declared.Code.{Code}
 use Rattle.sk_lang.specs.declared.Code.TheVariants.{E16}
 use Rattle.sk_lang.specs.declared.EntryError.{EntryError}
 use Rattle.sk_lang.specs.declared.EntryError.TheVariants.{Refused, NoMemory}
 use Rattle.sk_lang.specs.Lines.{lines_in}
-use Rattle.sk_lang.specs.Codes.{byte_rows}
-use Rattle.sk_lang.specs.FirstCode.{first_code}
 use Rattle.sk_lang.specs.Entry.{IsRefusal}
 use Rattle.sk_lang.specs.Computed.{error_at}
 use Rattle.sk_cli.specs.declared.offer_line.OfferLine.{OfferLine}

@@ -1,6 +1,6 @@
 -- Words ask for one thing at most, and with an input they have one outcome at most.
-use Rattle.std.proofs.Common.{◌≡◌, ◌⊎◌, inl, inr, ℕ, ◌≤◌, List, [], ◌∷◌, refl, sym, ap, ◌∙◌, subst, arith, lit≤}
-use Rattle.std.specs.Prelude.{All, map}
+use Rattle.std.proofs.Common.{◌≡◌, ◌⊎◌, inl, inr, ℕ, ◌≤◌, List, [], ◌∷◌, ◌++◌, refl, sym, ap, ◌∙◌, subst, arith, lit≤}
+use Rattle.std.specs.Prelude.{All, map, drop}
 use Rattle.std.specs.Fmt.{decimal}
 use Rattle.std.specs.Str.Parse.{AllDigits}
 use Rattle.std.specs.Char.{digit_value}
@@ -29,10 +29,18 @@ use Rattle.sk_tree.specs.LegalPlan.{IsLegalPlan, merge_told}
 use Rattle.sk_plan.specs.DrawnChoice.{HasDrawnChoice}
 use Rattle.sk_plan.specs.Judged.{IsTheJudgement}
 use Rattle.sk_report.specs.PlanReport.{plan_report}
+use Rattle.sk_lang.specs.declared.Front.{Front}
+use Rattle.sk_lang.specs.Front.{ReadsFront, RefusesFront}
+use Rattle.sk_offers.specs.Offering.{starting_table}
+use Rattle.sk_cli.specs.declared.offer_line.OfferLine.{OfferLine}
+use Rattle.sk_cli.specs.OfferReading.{ReadsOffers, RefusesOffers}
+use Rattle.sk_cli.specs.OffersReport.{IsReportOnOffers, IsOffersReport, IsRefusedAt, IsOffersRefusal, IsOffersAnswer}
+use Rattle.sk_cli.proofs.OfferAnswers.{one_list, one_refusal as one_refusal_behind, not_both as not_both_behind}
+use Rattle.sk_cli.proofs.OneOffering.{same_lines}
 use Rattle.sk_worklist.specs.declared.Order.{Order}
 use Rattle.sk_worklist.specs.declared.Order.TheVariants.{First, Last, Stride}
 use Rattle.sk_cli.specs.declared.command.Command.{Command}
-use Rattle.sk_cli.specs.declared.command.Command.TheVariants.{Check, Plan}
+use Rattle.sk_cli.specs.declared.command.Command.TheVariants.{Check, Plan, Offers}
 use Rattle.sk_cli.specs.declared.request.Request.{Request}
 use Rattle.sk_cli.specs.declared.status.Status.{Status}
 use Rattle.sk_cli.specs.declared.status.Status.TheVariants.{Done, Refused, NotWell}
@@ -44,7 +52,12 @@ one_command : (c d : Command) → command_word c ≡ command_word d → c ≡ d
 one_command Check Check same = refl
 one_command Check Plan same = cc
 one_command Plan Check same = cc
+one_command Check Offers same = cc
 one_command Plan Plan same = refl
+one_command Plan Offers same = cc
+one_command Offers Check same = cc
+one_command Offers Plan same = cc
+one_command Offers Offers same = refl
 
 -- no number is spelled with such a first byte
 no_letter : (c k : ℕ) (rest : List ℕ) → 10 ≤ digit_value c → k ≤ 65535 → c ∷ rest ≡ decimal k → ⊥
@@ -114,7 +127,7 @@ same_refusal one_refusal bytes text another (r, refuses, is) (q, refuses', is') 
 no_report : NotBoth → (bytes text another : List ℕ) → IsReport bytes text → IsRefusalText bytes another → ⊥
 no_report not_both bytes text another (s, j, reads, judged, is) (r, refuses, is') = not_both bytes s r.line r.code reads refuses
 
--- the laws on plans
+-- further laws of the layers below
 abbrev SoundRead : Type 0
 SoundRead = (bytes : List ℕ) (s : Sketch) → Reads bytes s → IsSoundSketch s
 
@@ -126,12 +139,18 @@ abbrev OneRun : Type 0
 OneRun = (g : Graph) (f : Clusters) (p : Choosing) (ms ns : List Merge) (one other : Clusters) (last end : Choosing)
     → IsRun place_of next_call g f p ms one last → IsRun place_of next_call g f p ns other end → (ms ≡ ns) × (one ≡ other) × (last ≡ end)
 
-pub record PlanLaws : Type 0 where
+pub record FrontLaws : Type 0 where
+  pub one_front : (bytes : List ℕ) (f g : Front) → ReadsFront bytes f → ReadsFront bytes g → f ≡ g
+  pub one_refusal : (bytes : List ℕ) (n m : ℕ) (c d : Code) → RefusesFront bytes n c → RefusesFront bytes m d → (n ≡ m) × (c ≡ d)
+  pub not_both : (bytes : List ℕ) (f : Front) (n : ℕ) (code : Code) → ReadsFront bytes f → RefusesFront bytes n code → ⊥
+
+pub record LowerLaws : Type 0 where
   pub sound : SoundRead
   pub plan : OnePlan
   pub run : OneRun
+  pub front : FrontLaws
 
-same_plan_report : PlanLaws → (order : Order) (s : Sketch) → IsSoundGraph (graph_of s) → (p q : ThePlan) → IsPlanBy order s p → IsPlanBy order s q → plan_report s p ≡ plan_report s q
+same_plan_report : LowerLaws → (order : Order) (s : Sketch) → IsSoundGraph (graph_of s) → (p q : ThePlan) → IsPlanBy order s p → IsPlanBy order s q → plan_report s p ≡ plan_report s q
 same_plan_report laws order s sound p q first second =
     let merges = laws.run (graph_of s) (initial_clusters (graph_of s)) (record { order = order; call = 0 }) (map merge_told p.steps) (map merge_told q.steps) first.end second.end first.last second.last first.run second.run in
     ap (λ z. plan_report s z) (laws.plan (graph_of s) s p q sound first.legal second.legal merges.0 first.drawn second.drawn)
@@ -146,7 +165,7 @@ not_well_too : OneJudgement → (order : Order) (s : Sketch) (text another : Lis
 not_well_too law order s text another (p, (k, judged', well), by, is) (j, judged, not_well, is') =
     not_well (subst (λ (z : Judgement). z.verdict ≡ Well) (same_judgement law (graph_of s) k j judged' judged) well)
 
-same_planned : OneJudgement → PlanLaws → (order : Order) (s : Sketch) → IsSoundGraph (graph_of s) → (status other : Status) (text another : List ℕ)
+same_planned : OneJudgement → LowerLaws → (order : Order) (s : Sketch) → IsSoundGraph (graph_of s) → (status other : Status) (text another : List ℕ)
     → IsPlanOrReport order s status text → IsPlanOrReport order s other another → (status ≡ other) × (text ≡ another)
 same_planned law laws order s sound status other text another first second =
     elim (told_planned order s status text first) [
@@ -166,7 +185,7 @@ told_plan : (order : Order) (bytes : List ℕ) (status : Status) (text : List �
 told_plan order bytes Refused text answer = inl (refl, answer)
 told_plan order bytes status text answer = inr answer
 
-same_plan_answer : OneSketch → OneRefusal → NotBoth → OneJudgement → PlanLaws → (order : Order) (bytes : List ℕ) (status other : Status) (text another : List ℕ)
+same_plan_answer : OneSketch → OneRefusal → NotBoth → OneJudgement → LowerLaws → (order : Order) (bytes : List ℕ) (status other : Status) (text another : List ℕ)
     → IsPlanAnswer order bytes status text → IsPlanAnswer order bytes other another → (status ≡ other) × (text ≡ another)
 same_plan_answer one_sketch one_refusal not_both law laws order bytes status other text another first second =
     elim (told_plan order bytes status text first) [
@@ -182,13 +201,68 @@ same_plan_answer one_sketch one_refusal not_both law laws order bytes status oth
       ]
     ]
 
+-- the report on some offers
+same_report_on : OneJudgement → (s : Sketch) (os : List OfferLine) (text another : List ℕ) → IsReportOnOffers s os text → IsReportOnOffers s os another → text ≡ another
+same_report_on law s os text another one other =
+    one.is
+    ∙ ap (λ lines. lines ++ check_report s one.judgement)
+    (same_lines os (starting_table (graph_of s)) (starting_table (graph_of s)) one.board other.board one.lines other.lines refl refl one.answered other.answered)
+    ∙ ap (λ j. other.lines ++ check_report s j) (same_judgement law (graph_of s) one.judgement other.judgement one.judged other.judged)
+    ∙ sym other.is
+
+same_offers_report : LowerLaws → OneJudgement → (bytes text another : List ℕ) → IsOffersReport bytes text → IsOffersReport bytes another → text ≡ another
+same_offers_report laws law bytes text another (f, os, reads, reads_os, report) (g, ps, reads', reads_ps, report') =
+    let front_is : f ≡ g = laws.front.one_front bytes f g reads reads' in
+    let moved : ReadsOffers (drop g.used bytes) os = subst (λ (z : Front). ReadsOffers (drop z.used bytes) os) front_is reads_os in
+    let offers_are : os ≡ ps = one_list (drop g.used bytes) os ps moved reads_ps in
+    same_report_on law g.sketch ps text another
+    (subst (λ (zs : List OfferLine). IsReportOnOffers g.sketch zs text) offers_are (subst (λ (z : Front). IsReportOnOffers z.sketch os text) front_is report)) report'
+
+same_place : LowerLaws → (bytes : List ℕ) (r q : Refusal) → IsRefusedAt bytes r → IsRefusedAt bytes q → (r.line ≡ q.line) × (r.code ≡ q.code)
+same_place laws bytes r q (inl one) (inl other) = laws.front.one_refusal bytes r.line q.line r.code q.code one other
+same_place laws bytes r q (inl one) (inr (g, reads, refuses)) = absurd (laws.front.not_both bytes g r.line r.code reads one)
+same_place laws bytes r q (inr (f, reads, refuses)) (inl other) = absurd (laws.front.not_both bytes f q.line q.code reads other)
+same_place laws bytes r q (inr (f, reads, refuses)) (inr (g, reads', refuses')) =
+    let front_is : f ≡ g = laws.front.one_front bytes f g reads reads' in
+    one_refusal_behind g.lines (drop g.used bytes) r.line q.line r.code q.code
+    (subst (λ (z : Front). RefusesOffers z.lines (drop z.used bytes) r.line r.code) front_is refuses) refuses'
+
+not_read_and_refused : LowerLaws → (bytes text another : List ℕ) → IsOffersReport bytes text → IsOffersRefusal bytes another → ⊥
+not_read_and_refused laws bytes text another (f, os, reads, reads_os, report) (r, inl refuses, is) = laws.front.not_both bytes f r.line r.code reads refuses
+not_read_and_refused laws bytes text another (f, os, reads, reads_os, report) (r, inr (g, reads', refuses), is) =
+    let front_is : f ≡ g = laws.front.one_front bytes f g reads reads' in
+    not_both_behind g.lines (drop g.used bytes) os r.line r.code
+    (subst (λ (z : Front). ReadsOffers (drop z.used bytes) os) front_is reads_os) refuses
+
+told_offers : (bytes : List ℕ) (status : Status) (text : List ℕ) → IsOffersAnswer bytes status text → ((status ≡ Done) × IsOffersReport bytes text) ⊎ ((status ≡ Refused) × IsOffersRefusal bytes text)
+told_offers bytes Done text answer = inl (refl, answer)
+told_offers bytes Refused text answer = inr (refl, answer)
+told_offers bytes status text answer = absurd answer
+
+same_offers : LowerLaws → OneJudgement → (bytes : List ℕ) (status other : Status) (text another : List ℕ)
+    → IsOffersAnswer bytes status text → IsOffersAnswer bytes other another → (status ≡ other) × (text ≡ another)
+same_offers laws law bytes status other text another first second =
+    elim (told_offers bytes status text first) [
+      | inl (done, report) ↦ elim (told_offers bytes other another second) [
+        | inl (done', report') ↦ (done ∙ sym done', same_offers_report laws law bytes text another report report')
+        | inr (refused, line) ↦ absurd (not_read_and_refused laws bytes text another report line)
+      ]
+      | inr (refused, (r, at, is)) ↦ elim (told_offers bytes other another second) [
+        | inl (done, report) ↦ absurd (not_read_and_refused laws bytes another text report (r, at, is))
+        | inr (refused', (q, at', is')) ↦
+            let same = same_place laws bytes r q at at' in
+            let make : ℕ → Code → Refusal = λ n c. record { line = n; code = c } in
+            (refused ∙ sym refused', is ∙ ap (λ n. refusal_line (make n r.code)) same.0 ∙ ap (λ c. refusal_line (make q.line c)) same.1 ∙ sym is')
+      ]
+    ]
+
 -- a report or a refusal
 told : (bytes : List ℕ) (status : Status) (text : List ℕ) → IsCheckAnswer bytes status text → ((status ≡ Done) × IsReport bytes text) ⊎ ((status ≡ Refused) × IsRefusalText bytes text)
 told bytes Done text answer = inl (refl, answer)
 told bytes Refused text answer = inr (refl, answer)
 told bytes status text answer = absurd answer
 
-same_answer : OneSketch → OneRefusal → NotBoth → OneJudgement → PlanLaws → (command : Command) (order : Order) (bytes : List ℕ) (status other : Status) (text another : List ℕ)
+same_answer : OneSketch → OneRefusal → NotBoth → OneJudgement → LowerLaws → (command : Command) (order : Order) (bytes : List ℕ) (status other : Status) (text another : List ℕ)
     → IsAnswerOf command order bytes status text → IsAnswerOf command order bytes other another → (status ≡ other) × (text ≡ another)
 same_answer one_sketch one_refusal not_both law laws Check order bytes status other text another first second =
     elim (told bytes status text first) [
@@ -201,10 +275,11 @@ same_answer one_sketch one_refusal not_both law laws Check order bytes status ot
         | inr refused' ↦ (refused.0 ∙ sym refused'.0, same_refusal one_refusal bytes text another refused.1 refused'.1)
       ]
     ]
+same_answer one_sketch one_refusal not_both law laws Offers order bytes status other text another first second = same_offers laws law bytes status other text another first second
 same_answer one_sketch one_refusal not_both law laws Plan order bytes status other text another first second =
     same_plan_answer one_sketch one_refusal not_both law laws order bytes status other text another first second
 
-pub same_outcome : OneSketch → OneRefusal → NotBoth → OneJudgement → PlanLaws → (words : List (List ℕ)) (bytes : List ℕ) (status other : Status) (text another : List ℕ)
+pub same_outcome : OneSketch → OneRefusal → NotBoth → OneJudgement → LowerLaws → (words : List (List ℕ)) (bytes : List ℕ) (status other : Status) (text another : List ℕ)
     → IsOutcome words bytes status text → IsOutcome words bytes other another → (status ≡ other) × (text ≡ another)
 same_outcome one_sketch one_refusal not_both law laws words bytes status other text another first second =
     elim first [

@@ -6,10 +6,13 @@ use Rattle.std.proofs.lemmas.List.{append-nil, take_all, length-take}
 use Rattle.std.specs.Io.KnownBytes.{Appends}
 use Rattle.sk_io.specs.Transfer.{TakesUpTo}
 use Rattle.sk_lang.specs.declared.Code.{Code}
+use Rattle.sk_lang.specs.declared.Refusal.{Refusal}
 use Rattle.sk_lang.specs.Reading.{Refuses, TooLong, Empty, AtLine, NoEnd}
+use Rattle.sk_lang.specs.Front.{RefusesFront}
+use Rattle.sk_cli.specs.OffersReport.{IsRefusedAt}
 use Rattle.sk_worklist.specs.declared.Order.{Order}
 use Rattle.sk_cli.specs.declared.command.Command.{Command}
-use Rattle.sk_cli.specs.declared.command.Command.TheVariants.{Check, Plan}
+use Rattle.sk_cli.specs.declared.command.Command.TheVariants.{Check, Plan, Offers}
 use Rattle.sk_cli.specs.declared.request.Request.{Request}
 use Rattle.sk_cli.specs.declared.status.Status.{Status}
 use Rattle.sk_cli.specs.declared.status.Status.TheVariants.{Done, Refused, Usage, ReadFault, WriteFault, NoMemory, NotWell, StepFault, Tolerance}
@@ -38,12 +41,25 @@ still_refused text bytes long longer line code (Empty fits blank) = absurd (omeg
 still_refused text bytes long longer line code (AtLine fits some before at what first) = absurd (omega (arith, long, fits))
 still_refused text bytes long longer line code (NoEnd fits some clean open_end) = absurd (omega (arith, long, fits))
 
+still_front : (text bytes : List ℕ) → length text ≡ 1048577 → 1048577 ≤ length bytes → (line : ℕ) (code : Code) → Refuses text line code → RefusesFront bytes line code
+still_front text bytes long longer line code (TooLong more) = record { refuses = TooLong (omega (arith, longer)); before_end = refl }
+still_front text bytes long longer line code (Empty fits blank) = absurd (omega (arith, long, fits))
+still_front text bytes long longer line code (AtLine fits some before at what first) = absurd (omega (arith, long, fits))
+still_front text bytes long longer line code (NoEnd fits some clean open_end) = absurd (omega (arith, long, fits))
+
+still_refused_at : (text bytes : List ℕ) → length text ≡ 1048577 → 1048577 ≤ length bytes → (r : Refusal) → IsRefusedAt text r → IsRefusedAt bytes r
+still_refused_at text bytes long longer r (inl refuses) = inl (still_front text bytes long longer r.line r.code refuses.refuses)
+still_refused_at text bytes long longer r (inr behind) = absurd (omega (arith, long, behind.1.fits))
+
 still_answered : (text bytes : List ℕ) → length text ≡ 1048577 → 1048577 ≤ length bytes → (command : Command) (order : Order) (status : Status) (out : List ℕ) → IsAnswerOf command order text status out → IsAnswerOf command order bytes status out
 still_answered text bytes long longer Check order Done out answer = absurd (omega (arith, long, answer.2.fits))
 still_answered text bytes long longer Check order Refused out answer = (answer.0, still_refused text bytes long longer answer.0.line answer.0.code answer.1, answer.2)
 still_answered text bytes long longer Check order status out answer = absurd answer
 still_answered text bytes long longer Plan order Refused out answer = (answer.0, still_refused text bytes long longer answer.0.line answer.0.code answer.1, answer.2)
 still_answered text bytes long longer Plan order status out answer = absurd (omega (arith, long, answer.1.fits))
+still_answered text bytes long longer Offers order Done out answer = absurd (omega (arith, long, answer.2.fits))
+still_answered text bytes long longer Offers order Refused out answer = (answer.0, still_refused_at text bytes long longer answer.0 answer.1, answer.2)
+still_answered text bytes long longer Offers order status out answer = absurd answer
 
 -- an answer to what was taken is one to all
 answer_of_front : (text bytes : List ℕ) → text ≡ take 1048577 bytes → (request : Request) (status : Status) (out : List ℕ) → IsAnswer request text status out → IsAnswer request bytes status out
@@ -59,14 +75,17 @@ answer_of_front text bytes front request status out answer =
 no_read_fault : (command : Command) (order : Order) (bytes text : List ℕ) → ¬ IsAnswerOf command order bytes ReadFault text
 no_read_fault Check order bytes text answer = answer
 no_read_fault Plan order bytes text answer = answer.2
+no_read_fault Offers order bytes text answer = answer
 
 no_want : (command : Command) (order : Order) (bytes text : List ℕ) → ¬ IsAnswerOf command order bytes NoMemory text
 no_want Check order bytes text answer = answer
 no_want Plan order bytes text answer = answer.2
+no_want Offers order bytes text answer = answer
 
 no_write_fault : (command : Command) (order : Order) (bytes text : List ℕ) → ¬ IsAnswerOf command order bytes WriteFault text
 no_write_fault Check order bytes text answer = answer
 no_write_fault Plan order bytes text answer = answer.2
+no_write_fault Offers order bytes text answer = answer
 
 outcome_no_read_fault : (words : List (List ℕ)) (bytes text : List ℕ) → ¬ IsOutcome words bytes ReadFault text
 outcome_no_read_fault words bytes text outcome = elim outcome [ inl asked ↦ no_read_fault asked.0.command asked.0.order bytes text asked.2 | inr usage ↦ (let same = usage.1 in cc) ]

@@ -10,7 +10,7 @@ use Rattle.std.proofs.lemmas.Fmt.{decimal-digits_value, first_decimal, length-de
 use Rattle.std.proofs.lemmas.Str.Parse.{IsNumeralModel}
 use Rattle.sk_base.specs.Millimetres.{is_digits, digits_of}
 use Rattle.sk_base.proofs.Decimals.{both, is_digits_all}
-use Rattle.sk_lang.proofs.NumberBack.{digits_of-decimal}
+use Rattle.sk_text.proofs.ReadBack.{digits_of-decimal}
 use Rattle.sk_cli.specs.Asking.{LeadsWithZero}
 
 own : IsNumeralModel (AllDigits 10) (digits_value 10)

@@ -1,5 +1,8 @@
 pub mod Asking
 pub mod Commands
 pub mod Ending
+pub mod OfferLines
+pub mod OfferReading
+pub mod OffersReport
 pub mod Outcome
 pub mod StatusCodes

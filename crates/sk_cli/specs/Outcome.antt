@@ -18,11 +18,12 @@ use Rattle.sk_report.specs.CheckReport.{check_report}
 use Rattle.sk_report.specs.PlanReport.{plan_report}
 use Rattle.sk_report.specs.RefusalLine.{refusal_line}
 use Rattle.sk_cli.specs.declared.command.Command.{Command}
-use Rattle.sk_cli.specs.declared.command.Command.TheVariants.{Check, Plan}
+use Rattle.sk_cli.specs.declared.command.Command.TheVariants.{Check, Plan, Offers}
 use Rattle.sk_cli.specs.declared.request.Request.{Request}
 use Rattle.sk_cli.specs.declared.status.Status.{Status}
 use Rattle.sk_cli.specs.declared.status.Status.TheVariants.{Done, Refused, Usage, NotWell}
 use Rattle.sk_cli.specs.Asking.{Asks, AreOfForm}
+use Rattle.sk_cli.specs.OffersReport.{IsOffersAnswer}
 
 abbrev pub usage_line : List ℕ
 usage_line = codes "usage: sketch check|plan|solve|dxf|offers|session|grow [order=first|last|0..65535] [bits=16|27|38] [within=1..1000000] [n=3..1000]\n"
@@ -68,10 +69,11 @@ abbrev pub IsPlanAnswer : Order → List ℕ → Status → List ℕ → Type 0
 IsPlanAnswer order bytes Refused text = IsRefusalText bytes text
 IsPlanAnswer order bytes status text = (s : Sketch) × Reads bytes s × IsPlanOrReport order s status text
 
--- what a command answers to an input. The report of `check` is the same for every order.
+-- what a command answers to an input. What `check` and `offers` answer is the same for every order.
 abbrev pub IsAnswerOf : Command → Order → List ℕ → Status → List ℕ → Type 0
 IsAnswerOf Check order bytes status text = IsCheckAnswer bytes status text
 IsAnswerOf Plan order bytes status text = IsPlanAnswer order bytes status text
+IsAnswerOf Offers order bytes status text = IsOffersAnswer bytes status text
 
 abbrev pub IsAnswer : Request → List ℕ → Status → List ℕ → Type 0
 IsAnswer request bytes status text = IsAnswerOf request.command request.order bytes status text

@@ -10,6 +10,8 @@ pub enum Command {
     Check,
     /// Plans the construction of a sketch.
     Plan,
+    /// Answers merges that workers offer, and judges the sketch.
+    Offers,
 }
 
 /// The command that the word names.
@@ -21,6 +23,8 @@ pub fn command_of(word: &str) -> Option<Command>
         Some(Command::Check)
     } else if word == "plan" {
         Some(Command::Plan)
+    } else if word == "offers" {
+        Some(Command::Offers)
     } else {
         None
     }

@@ -5,7 +5,7 @@ ghost use Rattle.sk_cli.specs.declared.status.Status.{Status};
 ghost use Rattle.sk_cli.specs.Asking.{Asks};
 ghost use Rattle.sk_cli.specs.Outcome.{IsOutcome};
 
-use sk_lang::{one_answer, readable_is_sound};
+use sk_lang::{one_answer, one_front, readable_is_sound};
 use sk_plan::one_plan;
 use sk_verdict::one_judgement;
 use sk_worklist::{Chosen, one_run};
@@ -24,6 +24,7 @@ pub fn one_outcome()
     one_answer();
     one_judgement();
     readable_is_sound();
+    one_front();
     one_plan();
     one_run::<Chosen>();
 }

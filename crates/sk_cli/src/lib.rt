@@ -5,6 +5,9 @@ mod answer;
 mod check;
 mod command;
 mod law;
+mod offer_line;
+mod offering;
+mod offers;
 mod plan;
 mod request;
 mod status;
@@ -12,6 +15,8 @@ mod top;
 
 pub use command::Command;
 pub use law::{one_outcome, one_request};
+pub use offer_line::OfferLine;
+pub use offers::{one_reading_of_offers, read_offers};
 pub use request::{Request, request_of};
 pub use status::Status;
 pub use top::run;

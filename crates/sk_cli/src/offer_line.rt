@@ -2,12 +2,11 @@
 ghost use Rattle.std.specs.Prelude.{◌≡◌, ◌≤◌, ◌<◌, ◌^◌, [], ◌∷◌, length, map, drop, Some, None, IfSome, IfOk, IfErr, MatchResult, bytes_eq};
 ghost use Rattle.std.specs.List.{slice_index_or, slice_range};
 ghost use Rattle.sk_lex.specs.Words.{bytes_of, words_in, StandInOrder};
-ghost use Rattle.sk_rules.specs.Merges.{IsMergeOf};
-ghost use Rattle.sk_lang.specs.declared.Code.TheVariants.{E3, E4, E8, E10};
+ghost use Rattle.sk_lang.specs.declared.Code.TheVariants.{E4, E8};
 ghost use Rattle.sk_lang.specs.Codes.{byte_rows};
 ghost use Rattle.sk_lang.specs.FirstCode.{first_code};
 ghost use Rattle.sk_lang.specs.Entry.{IsRefusal};
-ghost use Rattle.sk_cli.specs.OfferLines.{begins_with_zero, plain_number, worker_of, name_of, has_twins, offer_rows, word_rows, code_of, IsOfferOf};
+ghost use Rattle.sk_cli.specs.OfferLines.{begins_with_zero, plain_number, worker_of, name_of, offer_rows, word_rows, code_of, IsOfferOf};
 ghost use Rattle.sk_cli.specs.declared.offer_line.Place.TheVariants.{Among};
 ghost use Rattle.sk_cli.specs.OfferReading.{AddsWords, Adds, IsWithOffer};
 
@@ -58,11 +57,7 @@ pub(crate) fn after_line(alloc: Global, so_far: SoFar, line: &[u8]) -> Result<So
 }
 
 /// What was read behind the words of a line among the offers.
-fn after_words(
-    offers: List<OfferLine>,
-    line: &[u8],
-    words: &[Word],
-) -> Result<SoFar, EntryError>
+fn after_words(offers: List<OfferLine>, line: &[u8], words: &[Word]) -> Result<SoFar, EntryError>
     requires some { 0 < length words.now }
     requires order { StandInOrder 0 words.now (length line.now) }
     ensures { let ws = map (bytes_of line.now) words.now in MatchResult result
@@ -86,11 +81,7 @@ fn after_words(
 }
 
 /// The offers with that of a line at their end.
-fn with_offer(
-    mut offers: List<OfferLine>,
-    line: &[u8],
-    words: &[Word],
-) -> Result<SoFar, EntryError>
+fn with_offer(mut offers: List<OfferLine>, line: &[u8], words: &[Word]) -> Result<SoFar, EntryError>
     requires some { 0 < length words.now }
     requires order { StandInOrder 0 words.now (length line.now) }
     ensures { let rest = drop 1 (map (bytes_of line.now) words.now) in MatchResult result

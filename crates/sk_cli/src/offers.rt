@@ -15,11 +15,7 @@ use std::alloc::Global;
 
 /// Reads the offers that stand behind the `end` of a sketch, up to their own `end`. The lines are numbered
 /// from `first` + 1.
-pub fn read_offers(
-    alloc: Global,
-    bytes: &[u8],
-    first: u32,
-) -> Result<List<OfferLine>, ReadError>
+pub fn read_offers(alloc: Global, bytes: &[u8], first: u32) -> Result<List<OfferLine>, ReadError>
     requires { first + length (lines_in bytes.now) < 4294967295 }
     ensures reads { IfOk result (ReadsOffers bytes.now) }
     ensures refuses { IfErr result (IsOfferRefusal first bytes.now) }

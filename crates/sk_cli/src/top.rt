@@ -10,6 +10,7 @@ ghost use Rattle.sk_cli.specs.Ending.{IsTold, Ends, HasInput, Sends};
 use crate::answer::Answer;
 use crate::check::check;
 use crate::command::Command;
+use crate::offering::offers;
 use crate::plan::plan;
 use crate::request::{Request, request_of};
 use crate::status::Status;
@@ -76,6 +77,7 @@ fn answer(alloc: Global, request: Request, bytes: &[u8]) -> Result<Answer, NoMem
     match request.command {
         Command::Check => check(alloc, request.order, bytes),
         Command::Plan => plan(alloc, request.order, bytes),
+        Command::Offers => offers(alloc, request.order, bytes),
     }
 }
 

@@ -4,4 +4,9 @@ use Rattle.sk_cli.proofs.law.one_outcome.Goals as goal
 pub returns : goal.returns
 returns c =
     same_outcome c.one_answer.ensures.one_sketch c.one_answer.ensures.one_refusal c.one_answer.ensures.not_both c.one_judgement.ensures
-    (record { sound = c.readable_is_sound.ensures.sound; plan = c.one_plan.ensures; run = c.one_run.ensures })
+    (record {
+      sound = c.readable_is_sound.ensures.sound;
+      plan = c.one_plan.ensures;
+      run = c.one_run.ensures;
+      front = record { one_front = c.one_front.ensures.one_front; one_refusal = c.one_front.ensures.one_refusal; not_both = c.one_front.ensures.not_both };
+    })

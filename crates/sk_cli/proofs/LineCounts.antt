@@ -1,0 +1,39 @@
+-- How many lines a text has at most.
+use Rattle.std.proofs.Common.{ℕ, ◌+◌, ◌<◌, ◌≤◌, Bool, true, false, cond, List, [], ◌∷◌, length, take, drop, arith, length-drop}
+use Rattle.std.specs.List.{slice_split, onto_first}
+use Rattle.std.specs.Str.Lines.{strip_carriage_return}
+use Rattle.std.proofs.lemmas.List.{length-map, length-take-le}
+use Rattle.std.proofs.lemmas.List.Splits.{length-slice_split}
+use Rattle.sk_lang.specs.declared.Front.{Front}
+use Rattle.sk_lang.specs.Front.{ReadsFront}
+use Rattle.sk_lang.specs.Lines.{is_line_feed, without_empty_end, lines_in}
+use Rattle.sk_lang.proofs.LineByLine.{without_end-cons}
+
+few_onto : (b : ℕ) (parts : List (List ℕ)) (n : ℕ) → 0 < length parts → length (without_empty_end parts) ≤ n → length (without_empty_end (onto_first b parts)) ≤ n + 1
+few_onto b [] n some few = absurd (omega arith)
+few_onto b (first ∷ []) n some few = omega arith
+few_onto b (first ∷ next ∷ more) n some few = omega (arith, few)
+
+few_parts : (bytes : List ℕ) → length (without_empty_end (slice_split is_line_feed bytes)) ≤ length bytes
+few_parts [] = omega arith
+few_parts (b ∷ bytes) = by (is_line_feed b) (few_parts bytes)
+  where
+    by : (t : Bool) → length (without_empty_end (slice_split is_line_feed bytes)) ≤ length bytes → length (without_empty_end (cond t ([] ∷ slice_split is_line_feed bytes) (onto_first b (slice_split is_line_feed bytes)))) ≤ length (b ∷ bytes)
+    by true few =
+        let some : 0 < length (slice_split is_line_feed bytes) = omega (arith, length-slice_split is_line_feed bytes) in
+        rw (without_end-cons [] (slice_split is_line_feed bytes) some) (omega (arith, few))
+    by false few =
+        let some : 0 < length (slice_split is_line_feed bytes) = omega (arith, length-slice_split is_line_feed bytes) in
+        let onto = few_onto b (slice_split is_line_feed bytes) (length bytes) some few in omega (arith, onto)
+
+-- each line has a byte of its own
+pub few_lines : (bytes : List ℕ) → length (lines_in bytes) ≤ length bytes
+few_lines bytes = rw (length-map (without_empty_end (slice_split is_line_feed bytes)) strip_carriage_return) (few_parts bytes)
+
+-- the lines behind the front of a text have numbers
+pub room_behind : (bytes : List ℕ) (front : Front) → ReadsFront bytes front → front.lines + length (lines_in (drop front.used bytes)) < 4294967295
+room_behind bytes front reads =
+    let before = few_lines (take front.used bytes) in
+    let behind = few_lines (drop front.used bytes) in
+    let taken = length-take-le front.used bytes reads.within in
+    omega (arith, before, behind, taken, length-drop front.used bytes, reads.count, reads.within, reads.fits)

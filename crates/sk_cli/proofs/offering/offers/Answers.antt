@@ -1,0 +1,33 @@
+use Rattle.std.proofs.Common.{◌≡◌, ◌-◌, ◌+◌, ◌<◌, ℕ, List, sym, subst, length, take, drop, arith, length-drop}
+use Rattle.std.specs.Prelude.{All}
+use Rattle.std.proofs.lemmas.List.{take_all}
+use Rattle.sk_lang.specs.Lines.{lines_in}
+use Rattle.sk_cli.specs.declared.offer_line.OfferLine.{OfferLine}
+use Rattle.sk_cli.specs.OfferReading.{ReadsOffers}
+use Rattle.sk_cli.specs.OffersReport.{FitsBoard, IsReportOnOffers}
+use Rattle.sk_cli.proofs.FittingOffers.{read_fit}
+use Rattle.sk_cli.proofs.LineCounts.{room_behind}
+use Rattle.sk_cli.proofs.offering.offers.Goals as goal
+
+-- what stands behind so many bytes
+rest_of : (used : ℕ) (bytes : List ℕ) → take (length bytes - used) (drop used bytes) ≡ drop used bytes
+rest_of used bytes = take_all (length bytes - used) (drop used bytes) (omega (arith, length-drop used bytes))
+
+pub read_offers-requires : goal.read_offers-requires
+read_offers-requires c =
+    subst (λ (rest : List ℕ). c.in-Ok.front.lines + length (lines_in rest) < 4294967295) (sym (rest_of c.in-Ok.front.used c.args.bytes.now))
+    (room_behind c.args.bytes.now c.in-Ok.front c.in-Ok.ensures.reads)
+
+pub report-requires-clause-fit : goal.report-requires-clause-fit
+report-requires-clause-fit c =
+    subst (λ (os : List OfferLine). All (λ o. FitsBoard o) os) (sym c.as_slice.ensures)
+    (read_fit (take (length c.args.bytes.now - c.in-Ok.front.used) (drop c.in-Ok.front.used c.args.bytes.now)) c.in-Ok-read_offers.offers c.in-Ok-read_offers.ensures.reads)
+
+pub returns-in-Ok-read_offers : goal.returns-in-Ok-read_offers
+returns-in-Ok-read_offers c = (
+  c.in-Ok.front,
+  c.in-Ok-read_offers.offers,
+  c.in-Ok.ensures.reads,
+  subst (λ (rest : List ℕ). ReadsOffers rest c.in-Ok-read_offers.offers) (rest_of c.in-Ok.front.used c.args.bytes.now) c.in-Ok-read_offers.ensures.reads,
+  subst (λ (os : List OfferLine). IsReportOnOffers c.in-Ok.front.sketch os c.in_ok-report-in-Ok-read_offers.field-0) c.as_slice.ensures c.in_ok-report-in-Ok-read_offers.ensures,
+)
