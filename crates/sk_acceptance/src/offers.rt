@@ -53,3 +53,54 @@ fn the_report_is_the_same_for_every_order(rt: HostRuntime) -> Result<(), Fail> {
     }
     Ok(())
 }
+
+/// Whatever pair or triple of the clusters is offered first, and in whatever order its names stand, the
+/// report that follows is the same. A triangle merge is taken although a pair of clusters could merge.
+#[test]
+fn every_offer_comes_to_the_same_report(rt: HostRuntime) -> Result<(), Fail> {
+    let alloc = rt.alloc();
+    let sketch: &[u8] =
+        b"sketch 1\npoint A 0 0\npoint B 4 0\npoint C 4 3\ndistance A B 4\ndistance A C 5\ndistance B C 3\ndistance B A 4\nend\n";
+    let report: &[u8] =
+        b"verdict over\nelements 3\nconstraints 4\nparts 1\npart 1 over elements 3 held 4 due 3 : A B C\n";
+    let rows: [(&[u8], &[u8]); 14] = [
+        (b"", b""),
+        (b"offer 1 c4 c1\n", b"offer 1 taken s1\n"),
+        (b"offer 64 c1 c4\n", b"offer 64 taken s1\n"),
+        (b"offer 2 c2 c1\n", b"offer 2 idle\n"),
+        (b"offer 2 c1 c3\n", b"offer 2 idle\n"),
+        (b"offer 2 c3 c2\n", b"offer 2 idle\n"),
+        (b"offer 2 c4 c2\n", b"offer 2 idle\n"),
+        (b"offer 2 c3 c4\n", b"offer 2 idle\n"),
+        (b"offer 3 c1 c2 c3\n", b"offer 3 taken s1\n"),
+        (b"offer 3 c3 c4 c2\n", b"offer 3 taken s1\n"),
+        (b"offer 3 c4 c2 c1\n", b"offer 3 idle\n"),
+        (b"offer 3 c4 c3 c1\n", b"offer 3 idle\n"),
+        (
+            b"offer 4 c3 c2 c1\noffer 5 c1 c4\noffer 6 s1 c4\noffer 7 s2 c5\n",
+            b"offer 4 taken s1\noffer 5 stale c1\noffer 6 taken s2\noffer 7 stale c5\n",
+        ),
+        (
+            b"offer 4 c4 c1\noffer 5 s1 c3 c2\noffer 6 s1 s2\n",
+            b"offer 4 taken s1\noffer 5 taken s2\noffer 6 stale s1\n",
+        ),
+    ];
+    let orders: [&[&str]; 3] = [
+        &["offers"],
+        &["offers", "order=last"],
+        &["offers", "order=5"],
+    ];
+    for words in orders {
+        for (offers, lines) in rows {
+            let mut input = Vec::new(alloc);
+            input.extend_from_slice(sketch)?;
+            input.extend_from_slice(offers)?;
+            input.extend_from_slice(b"end\n")?;
+            let mut written = Vec::new(alloc);
+            written.extend_from_slice(lines)?;
+            written.extend_from_slice(report)?;
+            answers(&rt, alloc, words, input.as_slice(), 0, written.as_slice())?;
+        }
+    }
+    Ok(())
+}
