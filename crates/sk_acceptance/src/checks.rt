@@ -4,7 +4,15 @@ use std::test::Fail;
 
 #[test]
 fn drawings_get_their_reports(rt: HostRuntime) -> Result<(), Fail> {
-    let rows: [(&[u8], &[u8]); 7] = [
+    let rows: [(&[u8], &[u8]); 9] = [
+        (
+            b"sketch 1\npoint A 0 0\npoint B 40 0\npoint C 40 25\npoint D 0 25\nline S 0 0 40 0\nline E 40 0 40 25\nline N 40 25 0 25\nline W 0 25 0 0\non A S\non A W\non B S\non B E\non C E\non C N\non D N\non D W\nangle S E 1/0\nangle E N 1/0\nangle N W 1/0\ndistance A B 40\ndistance B C 25\nend\n",
+            b"verdict well\nelements 8\nconstraints 13\nparts 1\npart 1 sound elements 8 held 13 due 13 : A B C D S E N W\n",
+        ),
+        (
+            b"sketch 1\nline X 0 0 100 0\nline Y 0 0 0 80\ncircle H 30 8 5\nangle X Y 1/0\ntangent X H\ndistance H Y 30\nend\n",
+            b"verdict well\nelements 3\nconstraints 3\nparts 1\npart 1 sound elements 3 held 3 due 3 : X Y H\n",
+        ),
         (
             b"sketch 1\npoint A 7 7\nend\n",
             b"verdict well\nelements 1\nconstraints 0\nparts 1\npart 1 sound elements 1 held 0 due 0 : A\n",
