@@ -47,7 +47,7 @@ below_power most bytes all short =
     let below = digits_value-lt 10 bytes all in
     let wider = pow-le-pow_right {n = 10} (omega arith) short in omega (arith, below, wider)
 
--- the digits before one of at most 18
-pub front_below : (bytes : List ℕ) (i : ℕ) → AllDigits 10 bytes → length bytes ≤ 18 → i < length bytes → digits_value 10 (take i bytes) < 100000000000000000
+-- the digits before one of at most 19
+pub front_below : (bytes : List ℕ) (i : ℕ) → AllDigits 10 bytes → length bytes ≤ 19 → i < length bytes → digits_value 10 (take i bytes) < 1000000000000000000
 front_below bytes i all short below =
-    below_power 17 (take i bytes) (all_digits-take i bytes all) (rw (length-take-le i bytes (omega arith)) (omega arith))
+    below_power 18 (take i bytes) (all_digits-take i bytes all) (rw (length-take-le i bytes (omega arith)) (omega arith))

@@ -29,6 +29,11 @@ module _ {X : Type 0} (p : X → Bool) where
             | inr rest ↦ below later rest
           ]
 
+  -- where nothing in the list has the property, nothing is found
+  pub nothing_found : (xs : List X) → ((x : X) → Contains xs x → p x ≡ false) → find p xs ≡ None
+  nothing_found [] fails = refl
+  nothing_found (y ∷ xs) fails = rw (fails y (contains_head y xs)) (nothing_found xs (λ x x_in. fails x (contains_later y xs x x_in)))
+
 module _ {X : Type 0} (number : X → ℕ) where
   -- an item of a rising list is the one that is found by its number
   pub found_rising : (xs : List X) → IsRising number xs → (x : X) → Contains xs x → find (λ y. number y == number x) xs ≡ Some x

@@ -1,5 +1,7 @@
 pub mod Decimals
+pub mod Distinct
 pub mod Finding
+pub mod Halves
 pub mod Members
 pub mod Pairs
 pub mod Searches

@@ -55,6 +55,7 @@ pub struct Sketch {
 
 impl Sketch {
     ghost use Rattle.sk_base.specs.Drawn.{element_of};
+    ghost use Rattle.sk_base.specs.Rising.{IsRising};
 
     /// The element of that number, if the sketch has one.
     pub fn element(&self, e: Elem) -> Option<&Element>
@@ -64,5 +65,17 @@ impl Sketch {
             .as_slice()
             .iter()
             .find(|element| element.number.0 == e.0)
+    }
+
+    /// The same where the elements rise by number, by a search by halves.
+    pub fn look_up(&self, e: Elem) -> Option<&Element>
+        requires { IsRising (λ (x : Element). x.number.0) self.now.elements }
+        ensures { option_copied result ≡ element_of self.now e }
+    {
+        let elements = self.elements.as_slice();
+        match elements.binary_search_by_key(&e.0, |element| element.number.0) {
+            Ok(i) => Some(&elements[i]),
+            Err(_) => None,
+        }
     }
 }
