@@ -25,7 +25,7 @@ abbrev pub with_constraint : Sketch → Constraint → Sketch
 with_constraint s c = record s { constraints = s.constraints ++ c ∷ [] }
 
 -- what is drawn stays drawn
-drawn_still : (s : Sketch) (e : Element) (u : Elem) (shape : Shape) → shape_of s u ≡ Some shape → shape_of (with_element s e) u ≡ Some shape
+pub drawn_still : (s : Sketch) (e : Element) (u : Elem) (shape : Shape) → shape_of s u ≡ Some shape → shape_of (with_element s e) u ≡ Some shape
 drawn_still s e u shape is = by (element_of s u) refl is
   where
     by : (o : Option Element) → element_of s u ≡ o → option_map (λ (x : Element). x.shape) o ≡ Some shape → shape_of (with_element s e) u ≡ Some shape

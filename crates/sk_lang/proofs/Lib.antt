@@ -16,6 +16,7 @@ pub mod ReadBack
 pub mod ReadErrors
 pub mod Readable
 pub mod RulesAgain
+pub mod Said
 pub mod Sound
 pub mod Standing
 pub mod WholeLines

@@ -1,3 +1,4 @@
+pub mod ClusterWords
 pub mod Canonical
 pub mod CodeTexts
 pub mod Codes

@@ -19,7 +19,7 @@ const MOST_ELEMENTS: usize = 2000;
 const MOST_CONSTRAINTS: usize = 4000;
 
 /// The name that a word is.
-pub(crate) fn label(word: &[u8]) -> Result<Label, Code>
+pub fn label(word: &[u8]) -> Result<Label, Code>
     ensures { MatchResult result
         (λ label. (is_name word.now ≡ true) × (label ≡ word.now))
         (λ code. (is_name word.now ≡ false) × (code ≡ E4)) }
@@ -56,7 +56,7 @@ pub(crate) fn coordinate(word: &[u8]) -> Result<Um, Code>
 }
 
 /// A length or a radius, which isn't negative.
-pub(crate) fn length(word: &[u8]) -> Result<Um, Code>
+pub fn length(word: &[u8]) -> Result<Um, Code>
     ensures { MatchResult result
         (λ um. (mm_of word.now ≡ Some um.0) × (length_of word.now ≡ not_negative um.0) × (is_none (length_of word.now) ≡ false))
         (λ code. (length_of word.now ≡ None) × (code ≡ E8)) }
@@ -80,7 +80,7 @@ pub(crate) fn room_for_element<S: Scope>(s: &S) -> Result<(), Code>
 }
 
 /// Tests that a length or a radius isn't 0.
-pub(crate) fn not_zero(um: Um) -> Result<(), Code>
+pub fn not_zero(um: Um) -> Result<(), Code>
     ensures { MatchResult result
         (λ _. is_zero (not_negative um.0) ≡ false)
         (λ code. (is_zero (not_negative um.0) ≡ true) × (code ≡ E9)) }

@@ -1,6 +1,7 @@
 //! The sketch language: its reader and its writer.
 #![tactic(auto)]
 
+mod cluster_word;
 mod code;
 mod constraint;
 mod draft;
@@ -20,11 +21,14 @@ mod scope;
 mod within;
 mod write;
 
+pub use cluster_word::{name_of, plain_number};
 pub use code::{Code, ReadError, Refusal};
 pub use entry::{Entry, EntryError};
+pub use field::{label, length, not_zero};
 pub use front::{Front, read_sketch_front};
 pub use law::{one_answer, one_front, readable_is_sound, written_reads_back};
-pub use line::read_entry;
+pub use line::{read_entry, word};
+pub use ratio::slope;
 pub use read::read_sketch;
 pub use write::{constraint_text, write_sketch};
 

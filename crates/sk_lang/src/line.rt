@@ -186,7 +186,7 @@ fn lacks_radius(keyword: Keyword, count: usize) -> bool
 }
 
 /// The bytes of the word at a place.
-pub(crate) fn word<'a>(line: &'a [u8], words: &[Word], i: usize) -> &'a [u8]
+pub fn word<'a>(line: &'a [u8], words: &[Word], i: usize) -> &'a [u8]
     requires below { i < length words.now }
     requires order { StandInOrder 0 words.now (length line.now) }
     ensures { result.now ≡ slice_index_or (map (bytes_of line.now) words.now) i [] }

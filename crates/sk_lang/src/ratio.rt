@@ -12,7 +12,7 @@ use sk_base::{Ratio, digits_of, split_sign};
 const MOST_PART: u64 = 10_000;
 
 /// The ratio of an angle, which is its slope.
-pub(crate) fn slope(word: &[u8]) -> Result<Ratio, Code>
+pub fn slope(word: &[u8]) -> Result<Ratio, Code>
     ensures { MatchResult result
         (λ slope. (slope ≡ ratio word.now) × (is_none (ratio_of word.now) ≡ false)
         × (is_zero (option_map (λ parts. parts.0) (ratio_of word.now)) ≡ int_eq slope.p (pos 0)))

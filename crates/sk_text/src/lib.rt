@@ -1,10 +1,12 @@
 //! Numbers, appended to a text in their exact spelling.
 #![tactic(auto)]
 
+mod cluster;
 mod law;
 mod puts;
 mod spelling;
 
+pub use cluster::cluster_name;
 pub use law::coordinates_read_back;
 pub use puts::Puts;
 pub use sk_base::{NoMemory, Text};
