@@ -105,6 +105,17 @@ owned_from made (b ∷ bs) k h =
       | inr later ↦ inr (later.0, contains_later b bs later.0 later.1, later.2)
     ]
 
+held_from : (made : Body) (bodies : List Body) (e : Elem) → Contains (fold join made bodies).elements e → Contains made.elements e ⊎ ((x : Body) × Contains bodies x × Contains x.elements e)
+held_from made [] e h = inl h
+held_from made (b ∷ bs) e h =
+    elim (held_from (join made b) bs e h) [
+      | inl made_now ↦ elim (union_cases elem_number made.elements b.elements e made_now) [
+        | inl before ↦ inl before
+        | inr here ↦ inr (b, contains_head b bs, here)
+      ]
+      | inr later ↦ inr (later.0, contains_later b bs later.0 later.1, later.2)
+    ]
+
 rising_from : (made : Body) (bodies : List Body) → IsRisingBody made → ((x : Body) → Contains bodies x → IsRisingBody x) → IsRisingBody (fold join made bodies)
 rising_from made [] r each = r
 rising_from made (b ∷ bs) r each = rising_from (join made b) bs (rising_join made b (each b (contains_head b bs))) (λ x h. each x (contains_later b bs x h))
@@ -121,6 +132,9 @@ whole_within bodies {c} each = whole_within_from nothing bodies (nothing_within 
 
 pub owner_of : (bodies : List Body) (k : ConId) → Contains (join_all bodies).owned k → (x : Body) × Contains bodies x × Contains x.owned k
 owner_of bodies k h = elim (owned_from nothing bodies k h) [ inl none ↦ absurd (contains_none k none) | inr found ↦ found ]
+
+pub holder_of : (bodies : List Body) (e : Elem) → Contains (join_all bodies).elements e → (x : Body) × Contains bodies x × Contains x.elements e
+holder_of bodies e h = elim (held_from nothing bodies e h) [ inl none ↦ absurd (contains_none e none) | inr found ↦ found ]
 
 pub rising_whole : (bodies : List Body) → ((x : Body) → Contains bodies x → IsRisingBody x) → IsRisingBody (join_all bodies)
 rising_whole bodies each = rising_from nothing bodies (record { elements = rising_none elem_number; owned = rising_none con_number }) each

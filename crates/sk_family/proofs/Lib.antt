@@ -2,5 +2,10 @@ pub mod Shares
 pub mod Bodies
 pub mod Splits
 pub mod Soundness
+pub mod Starting
+pub mod Sorting
+pub mod Dissolving
 pub mod Wholes
 pub mod Naming
+pub mod Halving
+pub mod Taking

@@ -1,6 +1,6 @@
 -- The order of names, and what a name tells of a sound family.
 use Rattle.std.proofs.Common.{◌≡◌, ◌≢◌, inl, inr, refl, ℕ, ◌<◌, Bool, true, false, List, [], ◌∷◌, ap, sym, subst, ◌∙◌, arith, length, get_or}
-use Rattle.std.specs.Prelude.{Contains, ◌||◌}
+use Rattle.std.specs.Prelude.{Contains, AllPairs, not, ◌||◌}
 use Rattle.std.proofs.lemmas.Bool.Decides.{nat_tests}
 use Rattle.sk_base.specs.declared.Name.{Name}
 use Rattle.sk_base.specs.declared.Name.TheVariants.{Con, Step}
@@ -8,6 +8,7 @@ use Rattle.sk_base.specs.ClusterNames.{IsBelow, name_eq, is_named}
 use Rattle.sk_family.specs.declared.cluster.Cluster.{Cluster}
 use Rattle.sk_family.specs.Body.{Body}
 use Rattle.sk_family.specs.Clusters.{Clusters, body_of, named, IsNamed, IsSound}
+pub use Rattle.sk_family.specs.Clusters.{ByName}
 use Rattle.sk_base.proofs.Members.{contains_none, contains_head, contains_later, contains_cases, contains_filtered, filtered_from}
 use Rattle.sk_base.proofs.Pairs.{pairs_tell, pairs_same, pairs_filter}
 
@@ -63,9 +64,6 @@ named_among (m ∷ ms) n h =
     told true h = refl
     told false h = h
 
-abbrev pub ByName : Cluster → Cluster → Type 0
-ByName a b = IsBelow a.name b.name
-
 module _ (f : Clusters) (sound : IsSound f) where
   pub one_of_name : (n : Name) (a b : Cluster) → IsNamed f n a → IsNamed f n b → a ≡ b
   one_of_name n a b a_is b_is =
@@ -92,3 +90,22 @@ module _ (f : Clusters) (sound : IsSound f) where
       (pairs_filter ByName (λ (c : Cluster). is_named names c.name) f.live sound.names_rise) in_order
       (λ c h. (let was = filtered_from (λ (d : Cluster). is_named names d.name) f.live c h in only c was.0 (among_named names c.name was.1)))
       (λ c h. contains_filtered (λ (d : Cluster). is_named names d.name) f.live c (have c h).0 (named_among names c.name (have c h).1))
+
+pub unnamed_true : (names : List Name) (n : Name) → ¬ Contains names n → not (is_named names n) ≡ true
+unnamed_true names n apart = told (is_named names n) refl
+  where
+    told : (b : Bool) → is_named names n ≡ b → not (is_named names n) ≡ true
+    told true is = absurd (apart (among_named names n is))
+    told false is = ap not is
+
+pub not_named : (names : List Name) (n : Name) → not (is_named names n) ≡ true → ¬ Contains names n
+not_named names n h n_in = (let both : not true ≡ true = sym (ap not (named_among names n n_in)) ∙ h in absurd (cc))
+
+-- two clusters of one name, where names rise, are one
+pub one_by_name : (clusters : List Cluster) → AllPairs ByName clusters → (a b : Cluster) → Contains clusters a → Contains clusters b → a.name ≡ b.name → a ≡ b
+one_by_name clusters rise a b a_in b_in named =
+    elim (pairs_tell ByName clusters rise a b a_in b_in) [
+      | inl same ↦ same
+      | inr (inl before) ↦ absurd (below_differs a.name b.name before named)
+      | inr (inr after) ↦ absurd (below_differs b.name a.name after (sym named))
+    ]

@@ -1,6 +1,6 @@
 -- What is made from a sound family is sound.
 use Rattle.std.proofs.Common.{◌≡◌, inl, inr, ℕ, ◌<◌, true, false, List, [], ◌∷◌, length, get_or, refl, ap, sym, subst, ◌∙◌, arith, ◌≤◌, length-append}
-use Rattle.std.specs.Prelude.{Contains, map, not, All, ◌||◌}
+use Rattle.std.specs.Prelude.{Contains, map, not, All, AllPairs, ◌≢◌, ◌⊎◌}
 use Rattle.std.proofs.lemmas.List.Elements.{Contains-push_cases, Contains-get_or, All-head, All-tail}
 use Rattle.std.proofs.lemmas.Bool.Decides.{nat_tests}
 use Rattle.std.proofs.lemmas.List.{length-map}
@@ -16,10 +16,11 @@ use Rattle.sk_base.specs.Numbering.{elem_number, con_number}
 use Rattle.sk_family.specs.declared.cluster.Cluster.{Cluster}
 use Rattle.sk_family.specs.Body.{Body, IsRisingBody, starting}
 use Rattle.sk_family.specs.Clusters.{Clusters, body_of, start_of, initial_clusters, named, unnamed, made_of, whole_from, replaced, CanBeReplaced, IsSound, IsLive}
-use Rattle.sk_base.proofs.Members.{contains_none, contains_head, contains_one, mapped_from, contains_mapped, contains_filtered, filtered_from}
+use Rattle.sk_base.proofs.Members.{contains_none, contains_head, contains_later, contains_one, mapped_from, contains_mapped, contains_filtered, filtered_from}
 use Rattle.sk_base.proofs.Pairs.{pairs_push, pairs_filter, pairs_map}
 use Rattle.sk_base.proofs.Unions.{rising_none, rising_cons, rising_union, rising_apart}
 use Rattle.sk_family.proofs.Bodies.{each_within, owner_of}
+use Rattle.sk_family.proofs.Naming.{named_among}
 use Rattle.sk_family.proofs.Wholes.{made_rises}
 
 pub rising_starting : (e : Edge) → IsRisingBody (starting e)
@@ -28,7 +29,7 @@ rising_starting e = record {
   owned = rising_cons con_number e.id [] (rising_none con_number) (λ y h. absurd (contains_none y h));
 }
 
-con_inside : (j k : ℕ) → Con j ≡ Con k → j ≡ k
+pub con_inside : (j k : ℕ) → Con j ≡ Con k → j ≡ k
 con_inside j k e = cc
 
 pub sound_initial : (g : Graph) → IsSoundGraph g → IsSound (initial_clusters g)
@@ -54,17 +55,20 @@ sound_initial g sound_graph = (let rises : HasRisingEdges g = sound_graph.edges_
       let found = mapped_from start_of g.edges c c_in in
       let never : Con found.0.id.0 ≡ Step k = ap (λ (z : Cluster). z.name) found.2 ∙ named in
       absurd (cc));
+  merged_own_two = λ c k c_in named. (
+      let found = mapped_from start_of g.edges c c_in in
+      let never : Con found.0.id.0 ≡ Step k = ap (λ (z : Cluster). z.name) found.2 ∙ named in
+      absurd (cc));
 })
 
-contains_some : {X : Type 0} (xs : List X) (x : X) → Contains xs x → 0 < length xs
+-- a list with two different items has two places
+two_in : {X : Type 0} (xs : List X) (a b : X) → a ≢ b → Contains xs a → Contains xs b → 1 < length xs
+two_in [] a b differ a_in b_in = absurd (contains_none a a_in)
+two_in (x ∷ []) a b differ a_in b_in = absurd (differ (sym (contains_one x a a_in) ∙ contains_one x b b_in))
+two_in (x ∷ y ∷ rest) a b differ a_in b_in = omega arith
+
+pub contains_some : {X : Type 0} (xs : List X) (x : X) → Contains xs x → 0 < length xs
 contains_some xs x (k, below, is) = omega arith
-
-name_eq_itself : (n : Name) → name_eq n n ≡ true
-name_eq_itself (Con k) = grind (arith, nat_tests)
-name_eq_itself (Step k) = grind (arith, nat_tests)
-
-named_first : (n : Name) (names : List Name) → is_named (n ∷ names) n ≡ true
-named_first n names = ap (λ b. b || is_named names n) (name_eq_itself n)
 
 -- no live name is the next step's
 other_than_next : (next : ℕ) (n : Name) → ((k : ℕ) → n ≡ Step k → k < next) → name_eq n (Step next) ≡ false
@@ -86,6 +90,9 @@ below_next next (Step j) below = below j refl
 
 step_inside : (j k : ℕ) → Step j ≡ Step k → j ≡ k
 step_inside j k e = cc
+
+pub some_of : {f : Clusters} {names : List Name} → CanBeReplaced f names → 0 < length names
+some_of can = elim can.two_or_three [ inl two ↦ omega arith | inr three ↦ omega arith ]
 
 module _ (f : Clusters) (names : List Name) (sound : IsSound f) where
   whole : Cluster
@@ -112,6 +119,16 @@ module _ (f : Clusters) (names : List Name) (sound : IsSound f) where
       let never : false ≡ true = subst (λ b. not b ≡ true) is_one was.1 in
       absurd (cc)
 
+  -- a cluster of one of the names is among the named ones
+  is_named_one : (n : Name) → Contains names n → (live : IsLive f n) → Contains (named names f.live) live.0
+  is_named_one n n_in live =
+      contains_filtered (λ (d : Cluster). is_named names d.name) f.live live.0 live.1.lives
+      (named_among names live.0.name (subst (λ m. Contains names m) (sym live.1.has_name) n_in))
+
+  whole_owns_of : (c : Cluster) → Contains (named names f.live) c → (k : ConId) → Contains c.owned k → Contains (made_of names f.live).owned k
+  whole_owns_of c c_in k k_in =
+      (each_within (map body_of (named names f.live)) (body_of c) (contains_mapped body_of (named names f.live) c c_in)).owned k k_in
+
   -- where some are named, some live one is
   some_named : 0 < length names → All (λ n. IsLive f n) names → (c : Cluster) × Contains (named names f.live) c
   some_named some live = first_of names refl some live
@@ -120,16 +137,33 @@ module _ (f : Clusters) (names : List Name) (sound : IsSound f) where
       first_of [] is some live = absurd (omega arith)
       first_of (n ∷ ns) is some live =
           let first = All-head (λ m. IsLive f m) n ns live in
-          let passes : is_named names first.0.name ≡ true =
-          subst (λ (ms : List Name). is_named ms first.0.name ≡ true) is
-          (subst (λ m. is_named (n ∷ ns) m ≡ true) (sym first.1.has_name) (named_first n ns)) in
-          (first.0, contains_filtered (λ (d : Cluster). is_named names d.name) f.live first.0 first.1.lives passes)
+          (first.0, is_named_one n (subst (λ ms. Contains ms n) is (contains_head n ns)) first)
 
   whole_owns : 0 < length names → All (λ n. IsLive f n) names → (k : ConId) × Contains (made_of names f.live).owned k
   whole_owns some live =
       let first = some_named some live in
       let own = sound.each_owns first.0 (filtered_from (λ (d : Cluster). is_named names d.name) f.live first.0 first.1).0 in
-      (own.0, (each_within (map body_of (named names f.live)) (body_of first.0) (contains_mapped body_of (named names f.live) first.0 first.1)).owned own.0 own.1)
+      (own.0, whole_owns_of first.0 first.1 own.0 own.1)
+
+  -- two different clusters own two different constraints
+  whole_owns_two : CanBeReplaced f names → 1 < length (made_of names f.live).owned
+  whole_owns_two can = first_two names refl can.two_or_three can.all_live can.differ
+    where
+      first_two : (ns : List Name) → ns ≡ names → (length ns ≡ 2) ⊎ (length ns ≡ 3) → All (λ n. IsLive f n) ns → AllPairs (λ (m n : Name). m ≢ n) ns → 1 < length (made_of names f.live).owned
+      first_two [] is many live differ = absurd (elim many [ inl two ↦ omega arith | inr three ↦ omega arith ])
+      first_two (n ∷ []) is many live differ = absurd (elim many [ inl two ↦ omega arith | inr three ↦ omega arith ])
+      first_two (n ∷ m ∷ ns) is many live differ =
+          let first = All-head (λ l. IsLive f l) n (m ∷ ns) live in
+          let second = All-head (λ l. IsLive f l) m ns (All-tail (λ l. IsLive f l) n (m ∷ ns) live) in
+          let own = sound.each_owns first.0 first.1.lives in
+          let other = sound.each_owns second.0 second.1.lives in
+          two_in (made_of names f.live).owned own.0 other.0
+          (λ same. differ 0 1 n (omega arith) (omega arith)
+          (sym first.1.has_name
+          ∙ ap (λ (c : Cluster). c.name) (sound.owned_apart first.0 second.0 other.0 first.1.lives second.1.lives (subst (λ k. Contains first.0.owned k) same own.1) other.1)
+          ∙ second.1.has_name))
+          (whole_owns_of first.0 (is_named_one n (subst (λ ms. Contains ms n) is (contains_head n (m ∷ ns))) first) own.0 own.1)
+          (whole_owns_of second.0 (is_named_one m (subst (λ ms. Contains ms m) is (contains_later n (m ∷ ns) m (contains_head m ns))) second) other.0 other.1)
 
   -- the whole takes the place of at least one
   no_more : 0 < length names → All (λ n. IsLive f n) names → length (replaced f names).live ≤ length f.live
@@ -140,9 +174,9 @@ module _ (f : Clusters) (names : List Name) (sound : IsSound f) where
       let some_one : 0 < length (named names f.live) = contains_some (named names f.live) first.0 first.1 in
       omega (arith, both, size, some_one)
 
-  pub sound_replaced : 0 < length names → All (λ n. IsLive f n) names → IsSound (replaced f names)
+  pub sound_replaced : CanBeReplaced f names → IsSound (replaced f names)
   unfolding whole
-  sound_replaced some live = record {
+  sound_replaced can = (let some = some_of can in let live = can.all_live in record {
     few = (let fewer = no_more some live in let few = sound.few in omega arith);
     names_rise = pairs_push (λ (a b : Cluster). IsBelow a.name b.name) (unnamed names f.live) whole
         (pairs_filter (λ (a b : Cluster). IsBelow a.name b.name) (λ (d : Cluster). not (is_named names d.name)) f.live sound.names_rise)
@@ -173,10 +207,11 @@ module _ (f : Clusters) (names : List Name) (sound : IsSound f) where
       | inl old ↦ (let below : k < f.next_step = sound.steps_below c k (stayed c old).0 has_name in omega arith)
       | inr is ↦ (let level : f.next_step ≡ k = step_inside f.next_step k (ap (λ (d : Cluster). d.name) is ∙ has_name) in omega arith)
     ];
-  }
-
-pub some_of : {f : Clusters} {names : List Name} → CanBeReplaced f names → 0 < length names
-some_of can = elim can.two_or_three [ inl two ↦ omega arith | inr three ↦ omega arith ]
+    merged_own_two = λ c k c_in has_name. elim (Contains-push_cases (unnamed names f.live) whole c c_in) [
+      | inl old ↦ sound.merged_own_two c k (stayed c old).0 has_name
+      | inr is ↦ subst (λ (d : Cluster). 1 < length d.owned) is (whole_owns_two can)
+    ];
+  })
 
 -- the starting clusters hold the starting bodies
 pub starting_bodies : (es : List Edge) → map body_of (map start_of es) ≡ map starting es

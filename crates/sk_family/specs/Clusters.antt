@@ -1,5 +1,5 @@
 -- A family as contracts see it.
-use Rattle.std.specs.Prelude.{◌≡◌, ◌≢◌, ◌⊎◌, ◌+◌, ◌<◌, ◌^◌, ℕ, not, List, [], ◌∷◌, ◌++◌, length, map, filter, All, AllPairs, Contains}
+use Rattle.std.specs.Prelude.{◌≡◌, ◌≢◌, ◌⊎◌, ◌+◌, ◌<◌, ◌^◌, ℕ, not, List, [], ◌∷◌, ◌++◌, length, map, filter, All, AllPairs, Contains, Some, slice_get}
 use Rattle.sk_base.specs.declared.Name.{Name}
 use Rattle.sk_base.specs.declared.Name.TheVariants.{Con, Step}
 use Rattle.sk_base.specs.declared.ConId.{ConId}
@@ -7,7 +7,7 @@ use Rattle.sk_base.specs.declared.Edge.{Edge}
 use Rattle.sk_base.specs.declared.Graph.{Graph}
 use Rattle.sk_base.specs.ClusterNames.{IsBelow, is_named}
 use Rattle.sk_family.specs.declared.cluster.Cluster.{Cluster}
-use Rattle.sk_family.specs.Body.{Body, IsRisingBody, join_all, starting}
+use Rattle.sk_family.specs.Body.{Body, IsRisingBody, join, join_all, starting}
 
 -- the live clusters by rising name, and the next step's number
 pub record Clusters : Type 0 where
@@ -64,11 +64,23 @@ pub record IsNamed (f : Clusters) (n : Name) (c : Cluster) : Type 0 where
 abbrev pub IsLive : Clusters → Name → Type 0
 IsLive f n = (c : Cluster) × IsNamed f n c
 
+-- the cluster of that name is joined to the body, or none has it and the body stays
+abbrev pub AddsNamed : List Cluster → Name → Body → Body → Type 0
+AddsNamed clusters n old new =
+    ((c : Cluster) × Contains clusters c × (c.name ≡ n) × (new ≡ join (body_of c) old)) ⊎ (((c : Cluster) → Contains clusters c → c.name ≢ n) × (new ≡ old))
+
+-- a cluster of that name stands at the place
+abbrev pub IsAt : List Cluster → ℕ → Name → Type 0
+IsAt clusters place n = (c : Cluster) × (slice_get clusters place ≡ Some c) × (c.name ≡ n)
+
 -- they are two or three, all live, and no two of them the same
 pub record CanBeReplaced (f : Clusters) (names : List Name) : Type 0 where
   pub two_or_three : (length names ≡ 2) ⊎ (length names ≡ 3)
   pub all_live : All (λ n. IsLive f n) names
   pub differ : AllPairs (λ (m n : Name). m ≢ n) names
+
+abbrev pub ByName : Cluster → Cluster → Type 0
+ByName a b = IsBelow a.name b.name
 
 -- what every family keeps to
 pub record IsSound (f : Clusters) : Type 0 where
@@ -79,3 +91,4 @@ pub record IsSound (f : Clusters) : Type 0 where
   pub owned_apart : (a b : Cluster) (k : ConId) → Contains f.live a → Contains f.live b → Contains a.owned k → Contains b.owned k → a ≡ b
   pub starts_own_their_own : (c : Cluster) (k : ℕ) → Contains f.live c → c.name ≡ Con k → c.owned ≡ record { 0 = k } ∷ []
   pub steps_below : (c : Cluster) (k : ℕ) → Contains f.live c → c.name ≡ Step k → k < f.next_step
+  pub merged_own_two : (c : Cluster) (k : ℕ) → Contains f.live c → c.name ≡ Step k → 1 < length c.owned

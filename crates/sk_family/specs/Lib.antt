@@ -1,3 +1,5 @@
 pub mod Body
 pub mod Clusters
 pub mod Sharing
+pub mod Starting
+pub mod Starts

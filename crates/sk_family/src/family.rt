@@ -1,13 +1,17 @@
 // The family of clusters, as a store sorted by name.
-ghost use Rattle.std.specs.Prelude.{◌≡◌, ◌↔◌, ◌<◌, [], ◌∷◌, ◌++◌, All, IfOk, IfSome, IfNone, OnOk, OnErr, IsTrue, length, slice_get, Contains, false};
+ghost use Rattle.std.specs.Prelude.{◌≡◌, ◌↔◌, ◌+◌, ◌≤◌, ◌<◌, [], ◌∷◌, ◌++◌, All, AllPairs, IfOk, IfSome, IfNone, OnOk, OnErr, IsTrue, length, slice_get, Contains, false};
 ghost use Rattle.sk_base.specs.SoundGraph.{IsSoundGraph};
-ghost use Rattle.sk_base.specs.ClusterNames.{is_named};
-ghost use Rattle.sk_family.specs.Body.{IsRisingBody, initial_bodies};
-ghost use Rattle.sk_family.specs.Clusters.{initial_clusters, replaced, whole_from, bodies, body_of, live_names, unnamed, CanBeReplaced, IsSound, IsLive, IsNamed};
+ghost use Rattle.sk_base.specs.ClusterNames.{IsBelow, is_named};
+ghost use Rattle.sk_family.specs.declared.cluster.Cluster.{Cluster as AnyCluster};
+ghost use Rattle.sk_family.specs.Body.{IsRisingBody, initial_bodies, join};
+ghost use Rattle.sk_family.specs.Clusters.{AddsNamed, initial_clusters, replaced, whole_from, bodies, body_of, live_names, unnamed, ByName, CanBeReplaced, IsAt, IsSound, IsLive, IsNamed};
+ghost use Rattle.sk_family.specs.Starts.{IsFree, HasStart, CanBeDissolved, IsDissolved};
 
 use crate::cluster::Cluster;
+use crate::order::place_of;
+use crate::start::{put_in_order, start_of, starts_of};
 use crate::union::union_of;
-use sk_base::{Graph, List, Name, NoMemory};
+use sk_base::{ConId, Edge, Graph, List, Name, NoMemory};
 use std::alloc::Global;
 use std::marker::Model;
 
@@ -37,13 +41,7 @@ pub fn initial(alloc: Global, graph: &Graph) -> Result<Family, NoMemory>
 {
     let mut clusters = Vec::new(alloc);
     for edge in graph.edges.as_slice() {
-        let mut owned = List::new(alloc);
-        owned.push(edge.id)?;
-        clusters.push(Cluster {
-            name: Name::Con(edge.id.0),
-            elements: union_of(alloc, &[edge.u], &[edge.v])?,
-            owned,
-        })?;
+        clusters.push(start_of(alloc, edge)?)?;
     }
     Ok(Family {
         alloc,
@@ -99,6 +97,16 @@ impl Family {
         find(self.clusters.as_slice(), name)
     }
 
+    /// The live clusters but those below the name, by rising name.
+    pub fn from(&self, name: Name) -> &[Cluster]
+        ensures live { (c : AnyCluster) → Contains result.now c ↔ (Contains self.now.live c × ¬ IsBelow c.name name) }
+        ensures rise { AllPairs ByName result.now }
+        ensures sound { IsSound self.now }
+    {
+        let clusters = self.clusters.as_slice();
+        &clusters[place_of(clusters, name)..]
+    }
+
     /// Puts one cluster in the place of those named, and answers its name, the next step's. It has
     /// their elements and their owned constraints. After `NoMemory` the family is unchanged.
     pub fn replace(&mut self, from: &[Name]) -> Result<Name, NoMemory>
@@ -115,20 +123,65 @@ impl Family {
         self.next += 1;
         Ok(name)
     }
+
+    /// Puts in the starting cluster of a constraint that no cluster owns or is named by. After
+    /// `NoMemory` the family is unchanged.
+    pub fn adopt(&mut self, edge: &Edge) -> Result<(), NoMemory>
+        requires free { IsFree self.old edge.now.id }
+        requires room { length self.old.live < 4294967295 }
+        ensures ok { OnOk result (HasStart edge.now self.old self.new) }
+        ensures count { OnOk result (length self.new.live ≡ length self.old.live + 1) }
+        ensures err { OnErr result (self.new ≡ self.old) }
+        ensures sound { IsSound self.new }
+    {
+        let start = start_of(self.alloc, edge)?;
+        let place = place_of(self.clusters.as_slice(), start.name);
+        self.clusters.insert(place, start)?;
+        Ok(())
+    }
+
+    /// Puts the starting clusters of the constraints that the cluster owns, but for one, in its
+    /// place. After `NoMemory` the family is unchanged.
+    pub fn dissolve(&mut self, name: Name, without: ConId, graph: &Graph) -> Result<(), NoMemory>
+        requires graph { IsSoundGraph graph.now }
+        requires owner { CanBeDissolved graph.now self.old name without }
+        ensures ok { OnOk result (IsDissolved graph.now name without self.old self.new) }
+        ensures count { OnOk result ((c : AnyCluster) → IsNamed self.old name c → length self.new.live + 2 ≤ length self.old.live + length c.owned) }
+        ensures err { OnErr result (self.new ≡ self.old) }
+        ensures sound { IsSound self.new }
+    {
+        let mut clusters = match self.cluster(name) {
+            Some(owner) => starts_of(self.alloc, owner.owned.as_slice(), without, graph)?,
+            None => unreachable!(),
+        };
+        clusters.append(&mut self.clusters)?;
+        clusters.retain(|cluster| !cluster.name.is_among(&[name]));
+        put_in_order(&mut clusters);
+        self.clusters = clusters;
+        Ok(())
+    }
 }
 
-/// The first cluster of that name.
+/// The cluster of that name.
 fn find(clusters: &[Cluster], name: Name) -> Option<&Cluster>
+    requires { AllPairs ByName clusters.now }
     ensures none { IfNone result (All (λ (c : Cluster). ¬ (c.name ≡ name)) clusters.now) }
     ensures lives { IfSome result (λ c. Contains clusters.now c.now) }
     ensures has_name { IfSome result (λ c. c.now.name ≡ name) }
 {
-    for cluster in clusters {
-        if cluster.name == name {
-            return Some(cluster);
-        }
+    let place = place_of(clusters, name);
+    let cluster = clusters.get(place)?;
+    if has_name(cluster, name) {
+        Some(cluster)
+    } else {
+        None
     }
-    None
+}
+
+fn has_name(cluster: &Cluster, name: Name) -> bool
+    ensures { IsTrue result ↔ (cluster.now.name ≡ name) }
+{
+    cluster.name == name
 }
 
 /// The cluster that those of these names make.
@@ -138,31 +191,83 @@ fn whole_of(
     name: Name,
     from: &[Name],
 ) -> Result<Cluster, NoMemory>
-    requires { All (λ c. IsRisingBody (body_of c)) clusters.now }
+    requires by_name { AllPairs ByName clusters.now }
+    requires rise { All (λ c. IsRisingBody (body_of c)) clusters.now }
     ensures { IfOk result (λ whole. whole ≡ whole_from name from.now clusters.now) }
 {
-    let mut elements = List::new(alloc);
-    let mut owned = List::new(alloc);
-    for cluster in clusters {
-        if cluster.name.is_among(from) {
-            elements = union_of(alloc, elements.as_slice(), cluster.elements.as_slice())?;
-            owned = union_of(alloc, owned.as_slice(), cluster.owned.as_slice())?;
-        }
-    }
-    Ok(Cluster {
+    let mut whole = Cluster {
         name,
-        elements,
-        owned,
-    })
+        elements: List::new(alloc),
+        owned: List::new(alloc),
+    };
+    for part in from {
+        add_named(alloc, &mut whole, clusters, *part)?;
+    }
+    Ok(whole)
+}
+
+/// Adds the elements and the owned constraints of the cluster of that name.
+fn add_named(
+    alloc: Global,
+    whole: &mut Cluster,
+    clusters: &[Cluster],
+    name: Name,
+) -> Result<(), NoMemory>
+    requires by_name { AllPairs ByName clusters.now }
+    requires rise { All (λ c. IsRisingBody (body_of c)) clusters.now }
+    requires rises { IsRisingBody (body_of whole.old) }
+    ensures name { OnOk result (whole.new.name ≡ whole.old.name) }
+    ensures body { OnOk result (AddsNamed clusters.now name (body_of whole.old) (body_of whole.new)) }
+{
+    match find(clusters, name) {
+        Some(part) => add(alloc, whole, part),
+        None => Ok(()),
+    }
+}
+
+fn add(alloc: Global, whole: &mut Cluster, part: &Cluster) -> Result<(), NoMemory>
+    requires part { IsRisingBody (body_of part.now) }
+    requires rises { IsRisingBody (body_of whole.old) }
+    ensures name { OnOk result (whole.new.name ≡ whole.old.name) }
+    ensures body { OnOk result (body_of whole.new ≡ join (body_of part.now) (body_of whole.old)) }
+{
+    whole.elements = union_of(alloc, part.elements.as_slice(), whole.elements.as_slice())?;
+    whole.owned = union_of(alloc, part.owned.as_slice(), whole.owned.as_slice())?;
+    Ok(())
 }
 
 /// Takes the clusters of these names out, and puts another in at the end.
 fn put_in_place(clusters: &mut Vec<Cluster>, from: &[Name], whole: Cluster) -> Result<(), NoMemory>
-    requires { is_named from.now whole.name ≡ false }
+    requires by_name { AllPairs ByName clusters.old.items }
+    requires last { (c : AnyCluster) → Contains clusters.old.items c → IsBelow c.name whole.name }
+    requires apart { is_named from.now whole.name ≡ false }
     ensures ok { OnOk result (clusters.new.items ≡ unnamed from.now clusters.old.items ++ whole ∷ []) }
     ensures err { OnErr result (clusters.new.items ≡ clusters.old.items) }
 {
     clusters.push(whole)?;
-    clusters.retain(|cluster| !cluster.name.is_among(from));
+    for name in from {
+        take_out(clusters, *name);
+    }
     Ok(())
+}
+
+/// Takes the cluster of that name out.
+fn take_out(clusters: &mut Vec<Cluster>, name: Name)
+    requires { AllPairs ByName clusters.old.items }
+    ensures { clusters.new.items ≡ unnamed (name ∷ []) clusters.old.items }
+{
+    let place = place_of(clusters.as_slice(), name);
+    if is_at(clusters.as_slice(), place, name) {
+        let _cluster = clusters.remove(place);
+    }
+}
+
+/// Whether a cluster of that name stands at the place.
+fn is_at(clusters: &[Cluster], place: usize, name: Name) -> bool
+    ensures { IsTrue result ↔ IsAt clusters.now place name }
+{
+    match clusters.get(place) {
+        Some(cluster) => cluster.name == name,
+        None => false,
+    }
 }

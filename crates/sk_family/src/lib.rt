@@ -3,6 +3,8 @@
 
 mod cluster;
 mod family;
+mod order;
+mod start;
 mod union;
 
 pub use cluster::{Cluster, Overlap, common};

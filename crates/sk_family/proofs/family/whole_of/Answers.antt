@@ -1,35 +1,28 @@
-use Rattle.std.proofs.Common.{sym, subst, ◌∙◌, take, List}
-use Rattle.std.proofs.lemmas.List.Elements.{All-take}
+use Rattle.std.proofs.Common.{◌∙◌, sym, subst, refl, List, []}
+use Rattle.sk_base.specs.declared.Name.TheVariants.{Con}
 use Rattle.sk_base.specs.declared.Elem.{Elem}
 use Rattle.sk_base.specs.declared.ConId.{ConId}
-use Rattle.sk_base.specs.Numbering.{elem_number, con_number}
-use Rattle.sk_family.specs.declared.cluster.Cluster.{Cluster}
-use Rattle.sk_base.specs.Rising.{IsRising}
-use Rattle.sk_family.specs.Body.{IsRisingBody}
 use Rattle.sk_family.specs.Clusters.{body_of}
-use Rattle.sk_family.proofs.Wholes.{made_rises}
+use Rattle.sk_family.proofs.Wholes.{MakesSoFar, makes_nothing, makes_more, makes_whole}
 use Rattle.sk_family.proofs.family.whole_of.Goals as goal
 
-pub union_of-requires-clause-xs_rise : goal.union_of-requires-clause-xs_rise
-union_of-requires-clause-xs_rise c =
-    let so_far = made_rises c.args.from.now (take c.loop-cluster.cluster-index c.args.clusters.now)
-    (All-take (λ (d : Cluster). IsRisingBody (body_of d)) c.loop-cluster.cluster-index c.args.clusters.now c.requires) in
-    subst (λ (es : List Elem). IsRising elem_number es) (sym (c.as_slice.ensures ∙ c.loop-cluster.invariant.elements)) so_far.elements
+pub loop-part-init : goal.loop-part-init
+loop-part-init c = record {
+  name = refl;
+  makes = subst (λ (es : List Elem). MakesSoFar c.args.from.now c.args.clusters.now [] (record { elements = es; owned = c.new-2.result })) (sym c.new.ensures)
+      (subst (λ (ks : List ConId). MakesSoFar c.args.from.now c.args.clusters.now [] (record { elements = []; owned = ks })) (sym c.new-2.ensures)
+      (makes_nothing c.args.from.now c.args.clusters.now));
+}
 
-pub union_of-requires-clause-ys_rise : goal.union_of-requires-clause-ys_rise
-union_of-requires-clause-ys_rise c =
-    let at_item : IsRisingBody (body_of c.cluster-item.result) =
-    subst (λ (d : Cluster). IsRisingBody (body_of d)) (sym c.cluster-item.is) (c.requires c.loop-cluster.cluster-index c.cluster-item.result c.loop-cluster-test.true) in
-    subst (λ (es : List Elem). IsRising elem_number es) (sym c.as_slice-then-is_among.ensures) at_item.elements
+pub loop-part-preserved : goal.loop-part-preserved
+loop-part-preserved c = record {
+  name = c.in_ok-add_named.ensures.name ∙ c.loop-part.invariant.name;
+  makes = makes_more c.args.from.now c.args.clusters.now c.requires.by_name c.requires.rise c.loop-part.part-index (Con 0) c.loop-part-test.true (body_of c.loop-part.whole) (body_of c.add_named.new.whole)
+      c.loop-part.invariant.makes c.in_ok-add_named.ensures.body;
+}
 
-pub union_of-requires-then-is_among-clause-xs_rise : goal.union_of-requires-then-is_among-clause-xs_rise
-union_of-requires-then-is_among-clause-xs_rise c =
-    let so_far = made_rises c.args.from.now (take c.loop-cluster.cluster-index c.args.clusters.now)
-    (All-take (λ (d : Cluster). IsRisingBody (body_of d)) c.loop-cluster.cluster-index c.args.clusters.now c.requires) in
-    subst (λ (ks : List ConId). IsRising con_number ks) (sym (c.as_slice-then-is_among-2.ensures ∙ c.loop-cluster.invariant.owned)) so_far.owned
+pub add_named-requires-clause-rises : goal.add_named-requires-clause-rises
+add_named-requires-clause-rises c = c.loop-part.invariant.makes.rises
 
-pub union_of-requires-then-is_among-clause-ys_rise : goal.union_of-requires-then-is_among-clause-ys_rise
-union_of-requires-then-is_among-clause-ys_rise c =
-    let at_item : IsRisingBody (body_of c.cluster-item.result) =
-    subst (λ (d : Cluster). IsRisingBody (body_of d)) (sym c.cluster-item.is) (c.requires c.loop-cluster.cluster-index c.cluster-item.result c.loop-cluster-test.true) in
-    subst (λ (ks : List ConId). IsRising con_number ks) (sym c.as_slice-then-is_among-3.ensures) at_item.owned
+pub returns : goal.returns
+returns c = makes_whole c.args.from.now c.args.clusters.now c.requires.by_name c.requires.rise c.loop-part.part-index c.loop-part-test.false c.loop-part.whole c.args.name c.loop-part.invariant.name c.loop-part.invariant.makes

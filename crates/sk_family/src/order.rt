@@ -1,0 +1,28 @@
+// The search for a name among clusters.
+ghost use Rattle.std.specs.Prelude.{◌≤◌, AllPairs, Contains, length, take, drop};
+ghost use Rattle.sk_base.specs.ClusterNames.{IsBelow};
+ghost use Rattle.sk_family.specs.declared.cluster.Cluster.{Cluster as AnyCluster};
+ghost use Rattle.sk_family.specs.Clusters.{ByName};
+
+use crate::cluster::Cluster;
+use sk_base::Name;
+
+/// The place of the name: after all clusters below it.
+pub(crate) fn place_of(clusters: &[Cluster], name: Name) -> usize
+    requires { AllPairs ByName clusters.now }
+    ensures within { result ≤ length clusters.now }
+    ensures before { (c : AnyCluster) → Contains (take result clusters.now) c → IsBelow c.name name }
+    ensures after { (c : AnyCluster) → Contains (drop result clusters.now) c → ¬ IsBelow c.name name }
+{
+    let mut low = 0;
+    let mut high = clusters.len();
+    while low < high {
+        let middle = low + (high - low) / 2;
+        if clusters[middle].name.is_below(name) {
+            low = middle + 1;
+        } else {
+            high = middle;
+        }
+    }
+    low
+}
