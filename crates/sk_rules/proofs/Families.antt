@@ -10,7 +10,7 @@ use Rattle.sk_base.specs.Numbering.{elem_number, con_number}
 use Rattle.sk_base.proofs.Members.{contains_none, contains_head, contains_one, mapped_from}
 use Rattle.sk_base.proofs.Unions.{rising_none, rising_cons, rising_union, rising_apart}
 use Rattle.sk_family.proofs.Bodies.{each_within, owner_of, rising_whole}
-use Rattle.sk_rules.specs.Reach.{CanMerge, Step, Reach, stays, goes}
+use Rattle.sk_rules.specs.Reach.{StepBy, ReachBy, Step, Reach, either_rule, stays, goes}
 
 -- bodies that rise, each owning something, and no two the same thing
 pub record IsFamily (f : List Body) : Type 0 where
@@ -18,17 +18,25 @@ pub record IsFamily (f : List Body) : Type 0 where
   pub owns : (x : Body) → Contains f x → (k : ConId) × Contains x.owned k
   pub apart : (x y : Body) (k : ConId) → Contains f x → Contains f y → Contains x.owned k → Contains y.owned k → x ≡ y
 
--- what holds after each merge of a family where it held, holds of what merging leads to
+-- what holds after each merge by a rule of a family where it held, holds of what merging leads to
+pub kept_by : (rule : List Body → List Body → Type 0) (P : List Body → Type 0) → ((old new : List Body) → StepBy rule old new → P old → P new)
+    → (f n : List Body) → ReachBy rule f n → P f → P n
+kept_by rule P keeps f n stays h = h
+kept_by rule P keeps f n (goes {mid = mid} one rest) h = kept_by rule P keeps mid n rest (keeps f mid one h)
+
 pub kept_along : (g : Graph) (P : List Body → Type 0) → ((old new : List Body) → Step g old new → P old → P new) → (f n : List Body) → Reach g f n → P f → P n
-kept_along g P keeps f n stays h = h
-kept_along g P keeps f n (goes {mid = mid} one rest) h = kept_along g P keeps mid n rest (keeps f mid one h)
+kept_along g = kept_by (either_rule g)
+
+-- what may merge by the rule is not nothing
+abbrev pub NamesSome : (List Body → List Body → Type 0) → Type 0
+NamesSome rule = (f some : List Body) → rule f some → (x : Body) × Contains some x
 
 -- two or three bodies that may merge are some
-some_merges : (g : Graph) (merged : List Body) → CanMerge g merged → (x : Body) × Contains merged x
-some_merges g [] h = absurd h
-some_merges g (a ∷ rest) h = (a, contains_head a rest)
+pub some_merges : (g : Graph) → NamesSome (either_rule g)
+some_merges g f [] h = absurd h
+some_merges g f (a ∷ rest) h = (a, contains_head a rest)
 
-module _ (g : Graph) (old new : List Body) (m : Step g old new) (family : IsFamily old) where
+module _ (rule : List Body → List Body → Type 0) (some : NamesSome rule) (old new : List Body) (m : StepBy rule old new) (family : IsFamily old) where
   whole : Body
   whole = join_all m.merged
 
@@ -38,7 +46,7 @@ module _ (g : Graph) (old new : List Body) (m : Step g old new) (family : IsFami
   whole_owns : (k : ConId) × Contains whole.owned k
   unfolding whole
   whole_owns =
-      let first = some_merges g m.merged m.can_merge in
+      let first = some old m.merged m.can_merge in
       let owned = family.owns first.0 (m.among first.0 first.1) in
       (owned.0, (each_within m.merged first.0 first.1).owned owned.0 owned.1)
 
@@ -50,9 +58,9 @@ module _ (g : Graph) (old new : List Body) (m : Step g old new) (family : IsFami
       let same : owner.0 ≡ y = family.apart owner.0 y k (m.among owner.0 owner.1) y_in owner.2 y_k in
       y_other (subst (λ z. Contains m.merged z) same owner.1)
 
-  pub step_family : IsFamily new
+  pub step_family_by : IsFamily new
   unfolding whole
-  step_family = record {
+  step_family_by = record {
     rising = λ x h. elim ((m.replaces x).0 h) [
       | inl is ↦ subst (λ z. IsRisingBody z) (sym is) (rising_whole m.merged merged_rises)
       | inr stayed ↦ family.rising x stayed.0
@@ -72,6 +80,9 @@ module _ (g : Graph) (old new : List Body) (m : Step g old new) (family : IsFami
       ]
     ];
   }
+
+pub step_family : (g : Graph) (old new : List Body) → Step g old new → IsFamily old → IsFamily new
+step_family g = step_family_by (either_rule g) (some_merges g)
 
 rising_one : {X : Type 0} (number : X → ℕ) (x : X) → (i j : ℕ) (d : X) → i < j → j < length (x ∷ []) → number (get_or (x ∷ []) i d) < number (get_or (x ∷ []) j d)
 rising_one number x = rising_cons number x [] (rising_none number) (λ y h. absurd (contains_none y h))

@@ -4,3 +4,6 @@ pub mod NormalForm
 pub mod Merging
 pub mod Counting
 pub mod Excesses
+pub mod Keeping
+pub mod KeptFamily
+pub mod KeptClusters

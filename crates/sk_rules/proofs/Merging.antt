@@ -124,7 +124,7 @@ module _ (f : Clusters) (sound : IsSound f) (names : List Name) where
       (contains_mapped body_of f.live found.0 (filtered_from (λ (d : Cluster). is_named names d.name) f.live found.0 found.1).0)
 
 module _ (g : Graph) (f : Clusters) (sound : IsSound f) where
-  bodies_differ : (a b : Cluster) → Contains f.live a → Contains f.live b → IsBelow a.name b.name → body_of a ≢ body_of b
+  pub bodies_differ : (a b : Cluster) → Contains f.live a → Contains f.live b → IsBelow a.name b.name → body_of a ≢ body_of b
   bodies_differ a b a_in b_in before same =
       below_differs a.name b.name before (ap (λ (c : Cluster). c.name) (one_of_body f sound a b a_in b_in same))
 

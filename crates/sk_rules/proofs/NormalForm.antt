@@ -1,5 +1,6 @@
 -- All normal families of a graph are the same, by containment: where each body of a family lies in
--- one of a closed family, it does after a merge too.
+-- one of a closed family, it does after a merge too. That is proved for every rule by which what may
+-- merge in a family lies in one body of each closed family around it.
 use Rattle.std.proofs.Common.{◌≡◌, ◌⊎◌, inl, inr, List, [], ◌∷◌, refl, sym, subst, ◌∙◌}
 use Rattle.std.specs.Prelude.{Contains}
 use Rattle.sk_base.specs.declared.Elem.{Elem}
@@ -9,14 +10,20 @@ use Rattle.sk_family.specs.Body.{Body, join_all, initial_bodies, SameBodies}
 use Rattle.sk_base.proofs.Members.{contains_none, contains_head, contains_later, contains_one, contains_cases}
 use Rattle.sk_family.proofs.Bodies.{Within, within_itself, within_along, each_within, whole_within, same_within, body_settles}
 use Rattle.sk_rules.specs.Rules.{IsShared, SharesTwo, MeetsInThree}
-use Rattle.sk_rules.specs.Reach.{CanMerge, AreAmong, Step, Reach, IsClosed, IsNormal}
-use Rattle.sk_rules.proofs.Families.{IsFamily, initial_family, step_family, kept_along}
+use Rattle.sk_rules.specs.Reach.{CanMerge, AreAmong, StepBy, ReachBy, IsClosedBy, IsNormalBy, Reach, IsClosed, IsNormal, either_rule}
+use Rattle.sk_rules.proofs.Families.{IsFamily, NamesSome, some_merges, initial_family, step_family_by, kept_by}
 
 -- each body of f lies in one of n
 abbrev pub IsCovered : List Body → List Body → Type 0
 IsCovered f n = (x : Body) → Contains f x → (y : Body) × Contains n y × Within x y
 
-shared_within : {a b c d : Body} → Within a c → Within b d → (e : Elem) → IsShared a.elements b.elements e → IsShared c.elements d.elements e
+-- what may merge in a family lies in one body of each closed family that covers it
+abbrev pub Gathers : (List Body → List Body → Type 0) → Type 0
+Gathers rule =
+    (f n : List Body) → IsCovered f n → IsClosedBy rule n → (some : List Body) → AreAmong some f → rule f some
+    → (y : Body) × Contains n y × ((x : Body) → Contains some x → Within x y)
+
+pub shared_within : {a b c d : Body} → Within a c → Within b d → (e : Elem) → IsShared a.elements b.elements e → IsShared c.elements d.elements e
 shared_within p q e h = (p.elements e h.0, q.elements e h.1)
 
 shares_within : {a b c d : Body} → Within a c → Within b d → SharesTwo a.elements b.elements → SharesTwo c.elements d.elements
@@ -36,7 +43,7 @@ meets_within g in_p in_q in_r (a, b, c, m) = (
   },
 )
 
-two_among : (f : List Body) (a b : Body) → Contains f a → Contains f b → AreAmong (a ∷ b ∷ []) f
+pub two_among : (f : List Body) (a b : Body) → Contains f a → Contains f b → AreAmong (a ∷ b ∷ []) f
 two_among f a b a_in b_in x h =
     elim (contains_cases a (b ∷ []) x h) [
       | inl is ↦ subst (λ z. Contains f z) is a_in
@@ -101,7 +108,7 @@ module _ (g : Graph) (n : List Body) (closed : IsClosed g n) where
       ]
 
   -- what may merge lies in one body of the closed family, where each lies in one
-  one_around : (merged : List Body) → CanMerge g merged → IsCovered merged n → (y : Body) × Contains n y × ((x : Body) → Contains merged x → Within x y)
+  pub one_around : (merged : List Body) → CanMerge g merged → IsCovered merged n → (y : Body) × Contains n y × ((x : Body) → Contains merged x → Within x y)
   one_around [] can covered = absurd can
   one_around (a ∷ []) can covered = absurd can
   one_around (a ∷ b ∷ []) can covered =
@@ -132,15 +139,8 @@ module _ (g : Graph) (n : List Body) (closed : IsClosed g n) where
       )
   one_around (a ∷ b ∷ c ∷ d ∷ rest) can covered = absurd can
 
-  -- a merge keeps a family inside a closed one
-  pub step_inside : (old new : List Body) → Step g old new → IsCovered old n → IsCovered new n
-  step_inside old new m covered x x_in =
-      elim ((m.replaces x).0 x_in) [
-        | inr stayed ↦ covered x stayed.0
-        | inl is ↦ (
-            let around = one_around m.merged m.can_merge (λ y h. covered y (m.among y h)) in
-            (around.0, around.1, subst (λ z. Within z around.0) (sym is) (whole_within m.merged around.2)))
-      ]
+pub either_gathers : (g : Graph) → Gathers (either_rule g)
+either_gathers g f n covered closed some among can = one_around g n closed some can (λ x h. covered x (among x h))
 
 -- either it is among them, or it is not
 pub among_settles : (bodies : List Body) (x : Body) → Contains bodies x ⊎ (¬ Contains bodies x)
@@ -154,14 +154,6 @@ among_settles (b ∷ bs) x =
       ]
     ]
 
--- what a merge leaves covers what was there
-pub step_covers : (g : Graph) (old new : List Body) → Step g old new → IsCovered old new
-step_covers g old new m x x_in =
-    elim (among_settles m.merged x) [
-      | inl merged ↦ (join_all m.merged, (m.replaces (join_all m.merged)).1 (inl refl), each_within m.merged x merged)
-      | inr stays_out ↦ (x, (m.replaces x).1 (inr (x_in, stays_out)), within_itself x)
-    ]
-
 covers_along : (f m n : List Body) → IsCovered f m → IsCovered m n → IsCovered f n
 covers_along f m n p q x x_in =
     let y = p x x_in in
@@ -171,28 +163,58 @@ covers_along f m n p q x x_in =
 covers_itself : (f : List Body) → IsCovered f f
 covers_itself f x x_in = (x, x_in, within_itself x)
 
-pub reach_covers : (g : Graph) (f n : List Body) → Reach g f n → IsCovered f n
-reach_covers g f n reached =
-    kept_along g (λ m. IsCovered f m) (λ old new one covered. covers_along f old new covered (step_covers g old new one)) f n reached (covers_itself f)
+module _ (rule : List Body → List Body → Type 0) where
+  -- what a merge leaves covers what was there
+  step_covers : (old new : List Body) → StepBy rule old new → IsCovered old new
+  step_covers old new m x x_in =
+      elim (among_settles m.merged x) [
+        | inl merged ↦ (join_all m.merged, (m.replaces (join_all m.merged)).1 (inl refl), each_within m.merged x merged)
+        | inr stays_out ↦ (x, (m.replaces x).1 (inr (x_in, stays_out)), within_itself x)
+      ]
 
--- each body of one normal family lies in one of the other
-normal_covered : (g : Graph) (one other : List Body) → IsNormal g one → IsNormal g other → IsCovered one other
-normal_covered g one other p q =
-    kept_along g (λ m. IsCovered m other) (step_inside g other q.closed) (initial_bodies g) one p.reached (reach_covers g (initial_bodies g) other q.reached)
+  pub covers_by : (f n : List Body) → ReachBy rule f n → IsCovered f n
+  covers_by f n reached =
+      kept_by rule (λ m. IsCovered f m) (λ old new one covered. covers_along f old new covered (step_covers old new one)) f n reached (covers_itself f)
+
+  pub family_by : NamesSome rule → (g : Graph) (f : List Body) → HasRisingEdges g → ReachBy rule (initial_bodies g) f → IsFamily f
+  family_by some g f rises reached = kept_by rule IsFamily (step_family_by rule some) (initial_bodies g) f reached (initial_family g rises)
+
+  module _ (gathers : Gathers rule) where
+    -- a merge keeps a family inside a closed one
+    step_inside : (n : List Body) → IsClosedBy rule n → (old new : List Body) → StepBy rule old new → IsCovered old n → IsCovered new n
+    step_inside n closed old new m covered x x_in =
+        elim ((m.replaces x).0 x_in) [
+          | inr stayed ↦ covered x stayed.0
+          | inl is ↦ (
+              let around = gathers old n covered closed m.merged m.among m.can_merge in
+              (around.0, around.1, subst (λ z. Within z around.0) (sym is) (whole_within m.merged around.2)))
+        ]
+
+    -- each body of what merging leads to lies in one of each normal family
+    pub covered_by : (g : Graph) (f n : List Body) → ReachBy rule (initial_bodies g) f → IsNormalBy rule g n → IsCovered f n
+    covered_by g f n reached normal =
+        kept_by rule (λ m. IsCovered m n) (step_inside n normal.closed) (initial_bodies g) f reached (covers_by (initial_bodies g) n normal.reached)
+
+    module _ (some : NamesSome rule) (g : Graph) (rises : HasRisingEdges g) where
+      normal_inside : (one other : List Body) → IsNormalBy rule g one → IsNormalBy rule g other → (x : Body) → Contains one x → Contains other x
+      normal_inside one other p q x x_in =
+          let ours = family_by some g one rises p.reached in
+          let theirs = family_by some g other rises q.reached in
+          let y = covered_by g one other p.reached q x x_in in
+          let z = covered_by g other one q.reached p y.0 y.1 in
+          let k = ours.owns x x_in in
+          let back : x ≡ z.0 = ours.apart x z.0 k.0 x_in z.1 k.1 (z.2.owned k.0 (y.2.owned k.0 k.1)) in
+          let same : x ≡ y.0 = same_within x y.0 (ours.rising x x_in) (theirs.rising y.0 y.1) y.2 (subst (λ w. Within y.0 w) (sym back) z.2) in
+          subst (λ w. Contains other w) (sym same) y.1
+
+      pub same_by : (one other : List Body) → IsNormalBy rule g one → IsNormalBy rule g other → SameBodies one other
+      same_by one other p q x = (normal_inside one other p q x, normal_inside other one q p x)
+
+pub reach_covers : (g : Graph) (f n : List Body) → Reach g f n → IsCovered f n
+reach_covers g = covers_by (either_rule g)
 
 pub reached_family : (g : Graph) (f : List Body) → HasRisingEdges g → Reach g (initial_bodies g) f → IsFamily f
-reached_family g f rises reached = kept_along g IsFamily (step_family g) (initial_bodies g) f reached (initial_family g rises)
-
-normal_inside : (g : Graph) (one other : List Body) → HasRisingEdges g → IsNormal g one → IsNormal g other → (x : Body) → Contains one x → Contains other x
-normal_inside g one other rises p q x x_in =
-    let ours = reached_family g one rises p.reached in
-    let theirs = reached_family g other rises q.reached in
-    let y = normal_covered g one other p q x x_in in
-    let z = normal_covered g other one q p y.0 y.1 in
-    let k = ours.owns x x_in in
-    let back : x ≡ z.0 = ours.apart x z.0 k.0 x_in z.1 k.1 (z.2.owned k.0 (y.2.owned k.0 k.1)) in
-    let same : x ≡ y.0 = same_within x y.0 (ours.rising x x_in) (theirs.rising y.0 y.1) y.2 (subst (λ w. Within y.0 w) (sym back) z.2) in
-    subst (λ w. Contains other w) (sym same) y.1
+reached_family g = family_by (either_rule g) (some_merges g) g
 
 pub normal_same : (g : Graph) (one other : List Body) → HasRisingEdges g → IsNormal g one → IsNormal g other → SameBodies one other
-normal_same g one other rises p q x = (normal_inside g one other rises p q x, normal_inside g other one rises q p x)
+normal_same g one other rises p q = same_by (either_rule g) (either_gathers g) (some_merges g) g rises one other p q

@@ -18,26 +18,46 @@ AreAmong some family = (x : Body) → Contains some x → Contains family x
 abbrev pub Replaces : List Body → List Body → List Body → Type 0
 Replaces old merged new = (x : Body) → Contains new x ↔ ((x ≡ join_all merged) ⊎ (Contains old x × ¬ Contains merged x))
 
--- one merge by either rule
-pub record Step (g : Graph) (old new : List Body) : Type 0 where
+-- one merge by a rule, which tells which bodies of a family may merge
+pub record StepBy (rule : List Body → List Body → Type 0) (old new : List Body) : Type 0 where
   pub merged : List Body
-  pub can_merge : CanMerge g merged
+  pub can_merge : rule old merged
   pub among : AreAmong merged old
   pub replaces : Replaces old merged new
 
+-- finitely many merges by a rule lead from one family to the other
+pub data ReachBy (rule : List Body → List Body → Type 0) : List Body → List Body → Type 0 where
+  stays : {f : List Body} → ReachBy rule f f
+  goes : {f mid new : List Body} → StepBy rule f mid → ReachBy rule mid new → ReachBy rule f new
+
+-- no bodies of the family may merge by the rule
+abbrev pub IsClosedBy : (List Body → List Body → Type 0) → List Body → Type 0
+IsClosedBy rule f = (some : List Body) → AreAmong some f → ¬ rule f some
+
+-- the two rules together look at the bodies alone, whatever family they are of
+abbrev pub either_rule : Graph → List Body → List Body → Type 0
+either_rule g family some = CanMerge g some
+
+-- one merge by either rule
+abbrev pub Step : Graph → List Body → List Body → Type 0
+Step g old new = StepBy (either_rule g) old new
+
 -- finitely many merges lead from one family to the other
-pub data Reach (g : Graph) : List Body → List Body → Type 0 where
-  stays : {f : List Body} → Reach g f f
-  goes : {f mid new : List Body} → Step g f mid → Reach g mid new → Reach g f new
+abbrev pub Reach : Graph → List Body → List Body → Type 0
+Reach g f new = ReachBy (either_rule g) f new
 
 -- no two or three of the family's bodies may merge
 abbrev pub IsClosed : Graph → List Body → Type 0
-IsClosed g f = (some : List Body) → AreAmong some f → ¬ CanMerge g some
+IsClosed g f = IsClosedBy (either_rule g) f
+
+-- merging by the rule leads from the graph's start to the family, and no further
+pub record IsNormalBy (rule : List Body → List Body → Type 0) (g : Graph) (f : List Body) : Type 0 where
+  pub reached : ReachBy rule (initial_bodies g) f
+  pub closed : IsClosedBy rule f
 
 -- merging leads from the graph's start to the family, and no further
-pub record IsNormal (g : Graph) (f : List Body) : Type 0 where
-  pub reached : Reach g (initial_bodies g) f
-  pub closed : IsClosed g f
+abbrev pub IsNormal : Graph → List Body → Type 0
+IsNormal g f = IsNormalBy (either_rule g) g f
 
 -- each normal family of the graph holds the same bodies
 abbrev pub IsTheOnlyNormal : Graph → List Body → Type 0

@@ -1,9 +1,16 @@
 // The laws on families, each the contract of a function with nothing to do.
-ghost use Rattle.std.specs.Prelude.{◌≡◌, ◌≢◌, ◌*◌, pos, ◌+ℤ◌, List, [], ◌∷◌, Contains, length};
+ghost use Rattle.std.specs.Prelude.{◌≡◌, ◌≢◌, ◌≤◌, ◌*◌, pos, ◌+ℤ◌, List, [], ◌∷◌, Contains, length};
+ghost use Rattle.sk_base.specs.declared.Name.{Name};
+ghost use Rattle.sk_base.specs.declared.ConId.{ConId};
+ghost use Rattle.sk_base.specs.declared.Edge.{Edge};
 ghost use Rattle.sk_base.specs.declared.Graph.{Graph};
 ghost use Rattle.sk_base.specs.SoundGraph.{HasRisingEdges, HasTwoEnds};
 ghost use Rattle.sk_family.specs.Body.{Body, SameBodies, initial_bodies, join_all};
-ghost use Rattle.sk_rules.specs.Reach.{Reach, IsNormal};
+ghost use Rattle.sk_family.specs.declared.Cluster.{Cluster};
+ghost use Rattle.sk_family.specs.Clusters.{Clusters, IsSound, bodies};
+ghost use Rattle.sk_family.specs.Starts.{HasStart, IsDissolved};
+ghost use Rattle.sk_rules.specs.Reach.{AreAmong, Reach, IsNormal};
+ghost use Rattle.sk_rules.specs.Keeping.{IsReached, CarriesOver, Completes, HasOneMore, HasAllBut, KeepsKinds};
 ghost use Rattle.sk_rules.specs.Excess.{OwnsEnough, held, excess_of, shared_by_two, shared_by_three};
 
 /// Whatever merges are taken, and in whatever order: where no rule holds any more, the same
@@ -27,4 +34,30 @@ pub fn excess_of_merges()
         → (excess_of (join_all (a ∷ b ∷ [])) +ℤ pos 3) ≡ ((excess_of a +ℤ excess_of b) +ℤ pos (2 * shared_by_two a b)) }
     ensures triangle { (g : Graph) (f : List Body) → HasRisingEdges g → Reach g (initial_bodies g) f → (a b c : Body) → Contains f a → Contains f b → Contains f c → a ≢ b → b ≢ c → c ≢ a
         → (excess_of (join_all (a ∷ b ∷ c ∷ [])) +ℤ pos 6) ≡ ((excess_of a +ℤ (excess_of b +ℤ excess_of c)) +ℤ pos (2 * shared_by_three a b c)) }
+{}
+
+/// When a graph's constraints change, clusters may be kept: with each constraint that they do not
+/// own as a starting cluster beside them, they are again a family that merging leads to.
+pub fn kept_clusters()
+    ensures { (old new : Graph) (f kept completed : List Body) → HasRisingEdges new → IsReached old f → AreAmong kept f → ((x : Body) → Contains kept x → CarriesOver old new x) → Completes new kept completed → IsReached new completed }
+{}
+
+/// How a family that merging leads to follows a change of its graph, and is again such a family: it
+/// adopts the start of a new constraint; the cluster that owned a dropped one is dissolved; and
+/// nothing is done where each constraint starts as it did.
+pub fn kept_family()
+    ensures adopts { (old new : Graph) (f after : Clusters) (e : Edge) → HasRisingEdges old → HasRisingEdges new → KeepsKinds old new → IsSound after
+        → Reach old (initial_bodies old) (bodies f) → HasOneMore e old new → HasStart e f after → Reach new (initial_bodies new) (bodies after) }
+    ensures dissolves { (old new : Graph) (f after : Clusters) (n : Name) (k : ConId) → HasRisingEdges old → HasRisingEdges new → KeepsKinds old new → IsSound f → IsSound after
+        → Reach old (initial_bodies old) (bodies f) → HasAllBut k old new → (d : IsDissolved new n k f after) → Contains d.owner.owned k → Reach new (initial_bodies new) (bodies after) }
+    ensures unchanged { (old new : Graph) (f : Clusters) → HasRisingEdges new → KeepsKinds old new → IsSound f
+        → Reach old (initial_bodies old) (bodies f) → initial_bodies old ≡ initial_bodies new → Reach new (initial_bodies new) (bodies f) }
+{}
+
+/// Each constraint is owned by a cluster, and what a cluster owns are constraints, no more than there
+/// are.
+pub fn owners()
+    ensures owner { (g : Graph) (f : Clusters) (e : Edge) → Reach g (initial_bodies g) (bodies f) → Contains g.edges e → (c : Cluster) × Contains f.live c × Contains c.owned e.id }
+    ensures owned { (g : Graph) (f : Clusters) (c : Cluster) (k : ConId) → HasRisingEdges g → Reach g (initial_bodies g) (bodies f) → Contains f.live c → Contains c.owned k → (e : Edge) × Contains g.edges e × (e.id ≡ k) }
+    ensures few { (g : Graph) (f : Clusters) (c : Cluster) → HasRisingEdges g → IsSound f → Reach g (initial_bodies g) (bodies f) → Contains f.live c → length c.owned ≤ length g.edges }
 {}

@@ -10,7 +10,7 @@ use sk_base::{Elem, Graph, Name, NoMemory};
 use sk_family::Family;
 
 /// Two or three clusters that are to merge. The names fall.
-#[derive(Clone, Copy, PartialEq, Eq, Debug)]
+#[derive(Clone, Copy, PartialEq, Eq, PartialOrd, Ord, Debug)]
 pub enum Merge {
     Two(Name, Name),
     Three(Name, Name, Name),
@@ -44,22 +44,12 @@ fn falling(x: Name, y: Name) -> Option<(Name, Name)>
     ensures falls { IfSome result (λ p. IsBelow p.1 p.0) }
     ensures same { IfSome result (λ p. ((p.0 ≡ x) × (p.1 ≡ y)) ⊎ ((p.0 ≡ y) × (p.1 ≡ x))) }
 {
-    if is_below(y, x) {
+    if y.is_below(x) {
         Some((x, y))
-    } else if is_below(x, y) {
+    } else if x.is_below(y) {
         Some((y, x))
     } else {
         None
-    }
-}
-
-fn is_below(x: Name, y: Name) -> bool
-    ensures { IsTrue result ↔ IsBelow x y }
-{
-    match (x, y) {
-        (Name::Con(j), Name::Con(k)) | (Name::Step(j), Name::Step(k)) => j < k,
-        (Name::Con(_), Name::Step(_)) => true,
-        (Name::Step(_), Name::Con(_)) => false,
     }
 }
 
