@@ -15,18 +15,18 @@ use Rattle.sk_rules.specs.Merges.{names_of, merged}
 use Rattle.sk_worklist.specs.Choices.{NamesBefore, ComesFirst, CanTake, IsFirstPair, AreTriples, AreChoices}
 use Rattle.sk_worklist.specs.Run.{PicksLead}
 
-below_tells : (m n : Name) → IsBelow m n ⊎ ((m ≡ n) ⊎ IsBelow n m)
+pub below_tells : (m n : Name) → IsBelow m n ⊎ ((m ≡ n) ⊎ IsBelow n m)
 below_tells (Con j) (Con k) = elim (which j k) [ inl less ↦ inl less | inr (inl level) ↦ inr (inl (ap Con level)) | inr (inr more) ↦ inr (inr more) ]
 below_tells (Con j) (Step k) = inl tt
 below_tells (Step j) (Con k) = inr (inr tt)
 below_tells (Step j) (Step k) = elim (which j k) [ inl less ↦ inl less | inr (inl level) ↦ inr (inl (ap Step level)) | inr (inr more) ↦ inr (inr more) ]
 
-names_irreflexive : (ns : List Name) → ¬ NamesBefore ns ns
+pub names_irreflexive : (ns : List Name) → ¬ NamesBefore ns ns
 names_irreflexive [] h = h
 names_irreflexive (n ∷ ns) (inl below) = below_irreflexive n below
 names_irreflexive (n ∷ ns) (inr (same, rest)) = names_irreflexive ns rest
 
-names_asymmetric : (ms ns : List Name) → NamesBefore ms ns → ¬ NamesBefore ns ms
+pub names_asymmetric : (ms ns : List Name) → NamesBefore ms ns → ¬ NamesBefore ns ms
 names_asymmetric [] [] h g = h
 names_asymmetric [] (n ∷ ns) h g = g
 names_asymmetric (m ∷ ms) [] h g = h
@@ -73,10 +73,10 @@ choices_are_one g f one other (inr ours) (inr theirs) =
     pairs_same ComesFirst (λ m. names_irreflexive (names_of m)) (λ m n. names_asymmetric (names_of m) (names_of n)) one other ours.in_order theirs.in_order
     (λ m h. (theirs.exactly m).1 ((ours.exactly m).0 h)) (λ m h. (ours.exactly m).1 ((theirs.exactly m).0 h))
 
-some_inside : {X : Type 0} (x y : X) → Some x ≡ Some y → x ≡ y
+pub some_inside : {X : Type 0} (x y : X) → Some x ≡ Some y → x ≡ y
 some_inside x y e = cc
 
-nothing_picked : (n : ℕ) (m : Merge) → slice_get [] n ≡ Some m → ⊥
+pub nothing_picked : (n : ℕ) (m : Merge) → slice_get [] n ≡ Some m → ⊥
 nothing_picked n m e = cc
 
 module _ {P : Type 0} (answer : P → ℕ → ℕ) (after : P → ℕ → P) (g : Graph) where

@@ -1,9 +1,7 @@
 -- Runs that go on, and what the choices tell.
-use Rattle.std.proofs.Common.{◌≡◌, inl, inr, refl, ℕ, suc, get_or, ◌<◌, List, [], ◌∷◌, ◌++◌, ap, sym, subst, ◌∙◌, length, arith, length-append}
-use Rattle.std.specs.Prelude.{◌==◌, true, Contains, map, slice_get, Some, Result, Ok, Err, OnErr}
+use Rattle.std.proofs.Common.{◌≡◌, inl, inr, ℕ, ◌+◌, ◌<◌, ◌≤◌, List, [], ◌∷◌, ◌++◌, ap, sym, subst, ◌∙◌, length, arith, length-append}
+use Rattle.std.specs.Prelude.{Contains, map, slice_get, Some, Result, Ok, Err, OnErr}
 use Rattle.std.proofs.lemmas.List.{map-append}
-use Rattle.std.proofs.lemmas.Bool.Decides.{nat_tests}
-use Rattle.std.proofs.lemmas.Option.{slice_get-get_or}
 use Rattle.sk_base.specs.declared.Name.TheVariants.{Step as StepName}
 use Rattle.sk_base.specs.declared.Graph.{Graph}
 use Rattle.sk_family.specs.Body.{Body}
@@ -14,20 +12,16 @@ use Rattle.sk_rules.specs.declared.Taken.{Taken}
 use Rattle.sk_rules.specs.Merges.{Falls, Holds, merged, names_of}
 use Rattle.sk_rules.specs.Taking.{IsTaken, Leads}
 use Rattle.sk_rules.specs.Reach.{Step, Reach, stays, goes, IsClosed}
-use Rattle.sk_rules.proofs.Merging.{merge_lessens, closed_by_merges}
+use Rattle.sk_rules.proofs.Merging.{merge_lessens, closed_by_merges, can_be_replaced}
+use Rattle.sk_family.proofs.Soundness.{sound_replaced}
 use Rattle.sk_worklist.specs.Choices.{CanTake, AreChoices}
 use Rattle.sk_worklist.specs.Run.{PicksLead, merge_of}
+use Rattle.sk_worklist.specs.Turns.{Answers}
+use Rattle.sk_worklist.proofs.Holding.{in_list}
 
 pub on_err : {T E P : Type 0} (r : Result T E) → P → OnErr r P
 on_err (Ok x) h = tt
 on_err (Err e) h = h
-
-pub empty_of : {X : Type 0} (xs : List X) → (length xs == 0) ≡ true → xs ≡ []
-empty_of [] h = refl
-empty_of (x ∷ xs) h = absurd (long (length xs) h)
-  where
-    long : (n : ℕ) → (suc n == 0) ≡ true → ⊥
-    long n h = grind (arith, nat_tests)
 
 pub reach_more : (g : Graph) (f m n : List Body) → Reach g f m → Step g m n → Reach g f n
 reach_more g f m n stays one = goes one stays
@@ -76,20 +70,39 @@ module _ {P : Type 0} (answer : P → ℕ → ℕ) (after : P → ℕ → P) (g 
   picks_more f p (n ∷ ms) mid q (first, first_are, first_picked, rest) choices are m picked =
       (first, first_are, first_picked, picks_more (merged f n) (after p (length first)) ms mid q rest choices are m picked)
 
+  picked_can : (f : Clusters) (p : P) (choices : List Merge) → AreChoices g f choices → (m : Merge) → slice_get choices (answer p (length choices)) ≡ Some m → CanTake g f m
+  picked_can f p choices are m picked = choice_can g f choices are m (in_list choices (answer p (length choices)) m picked)
+
+  -- the choice that was answered may be taken
+  pub answer_can : (f : Clusters) (p : P) (m : Merge) (q : P) → Answers answer after g f p (Some m) q → CanTake g f m
+  answer_can f p m q (choices, are, picked, q_is) = picked_can f p choices are m picked
+
   -- the same, as a turn of the loop has it
   pub picks_turn : (f : Clusters) (p : P) (taken : List Taken) (mid : Clusters) (q : P) → PicksLead answer after g f p (map merge_of taken) mid q
-      → (choices : List Merge) → AreChoices g mid choices → (count place : ℕ) → count ≡ length choices → place ≡ answer q count → place < length choices
-      → (t : Taken) (d : Merge) → t.merge ≡ get_or choices place d
-      → (new : Clusters) → new ≡ merged mid (get_or choices place d) → (last : P) → last ≡ after q count
-      → PicksLead answer after g f p (map merge_of (taken ++ t ∷ [])) new last
-  picks_turn f p taken mid q so_far choices are count place count_is place_is in_range t d t_is new new_is last last_is =
-      let at_place : answer q (length choices) ≡ place = ap (λ n. answer q n) (sym count_is) ∙ sym place_is in
-      let found : slice_get choices place ≡ Some (get_or choices place d) = slice_get-get_or choices place d in_range in
-      let picked : slice_get choices (answer q (length choices)) ≡ Some t.merge = ap (λ k. slice_get choices k) at_place ∙ found ∙ ap Some (sym t_is) in
-      let more = picks_more f p (map merge_of taken) mid q so_far choices are t.merge picked in
-      let with_list : PicksLead answer after g f p (map merge_of (taken ++ t ∷ [])) (merged mid t.merge) (after q (length choices)) =
-      subst (λ ms. PicksLead answer after g f p ms (merged mid t.merge) (after q (length choices))) (sym (map-append merge_of taken (t ∷ []))) more in
-      let with_family : PicksLead answer after g f p (map merge_of (taken ++ t ∷ [])) new (after q (length choices)) =
-      subst (λ (e : Clusters). PicksLead answer after g f p (map merge_of (taken ++ t ∷ [])) e (after q (length choices)))
-      (ap (λ (m : Merge). merged mid m) t_is ∙ sym new_is) with_list in
-      subst (λ (r : P). PicksLead answer after g f p (map merge_of (taken ++ t ∷ [])) new r) (ap (λ n. after q n) (sym count_is) ∙ sym last_is) with_family
+      → (m : Merge) (last : P) → Answers answer after g mid q (Some m) last → (new : Clusters) → new ≡ merged mid m → PicksLead answer after g f p (map merge_of taken ++ m ∷ []) new last
+  picks_turn f p taken mid q so_far m last (choices, are, picked, last_is) new new_is =
+      subst (λ (r : P). PicksLead answer after g f p (map merge_of taken ++ m ∷ []) new r) (sym last_is)
+      (subst (λ (e : Clusters). PicksLead answer after g f p (map merge_of taken ++ m ∷ []) e (after q (length choices))) (sym new_is)
+      (picks_more f p (map merge_of taken) mid q so_far choices are m picked))
+
+  -- with the merge that was taken put down
+  pub picks_taken : (f : Clusters) (p : P) (taken : List Taken) (t : Taken) (m : Merge) → t.merge ≡ m → (new : Clusters) (last : P)
+      → PicksLead answer after g f p (map merge_of taken ++ m ∷ []) new last → PicksLead answer after g f p (map merge_of (taken ++ t ∷ [])) new last
+  picks_taken f p taken t m is new last leads =
+      subst (λ ms. PicksLead answer after g f p ms new last) (sym (map-append merge_of taken (t ∷ []) ∙ ap (λ (n : Merge). map merge_of taken ++ n ∷ []) is)) leads
+
+  -- picked choices lead to a sound family
+  pub picks_sound : (f end : Clusters) (p last : P) (ms : List Merge) → IsSound f → PicksLead answer after g f p ms end last → IsSound end
+  picks_sound f end p last [] sound (is, same) = subst (λ e. IsSound e) (sym is) sound
+  picks_sound f end p last (m ∷ ms) sound (choices, are, picked, rest) =
+      let can = picked_can f p choices are m picked in
+      picks_sound (merged f m) end (after p (length choices)) last ms (sound_replaced f (names_of m) sound (can_be_replaced g f m can.0 can.1)) rest
+
+  -- each merge takes one number, and leaves fewer clusters
+  pub picks_room : (f end : Clusters) (p last : P) (ms : List Merge) → IsSound f → PicksLead answer after g f p ms end last → end.next_step + length end.live ≤ f.next_step + length f.live
+  picks_room f end p last [] sound (is, same) = subst (λ (e : Clusters). e.next_step + length e.live ≤ f.next_step + length f.live) (sym is) (omega arith)
+  picks_room f end p last (m ∷ ms) sound (choices, are, picked, rest) =
+      let can = picked_can f p choices are m picked in
+      let fewer = merge_lessens g f sound m can.0 can.1 in
+      let later = picks_room (merged f m) end (after p (length choices)) last ms (sound_replaced f (names_of m) sound (can_be_replaced g f m can.0 can.1)) rest in
+      omega arith

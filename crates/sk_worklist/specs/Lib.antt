@@ -1,5 +1,7 @@
 pub mod Choices
 pub mod Orders
 pub mod Run
-pub mod Scan
 pub mod TrialGraphs
+pub mod Indexed
+pub mod Gather
+pub mod Turns

@@ -9,8 +9,8 @@ ghost use Rattle.sk_rules.specs.Taking.{IsTaken, Leads};
 ghost use Rattle.sk_worklist.specs.Choices.{CanTake};
 ghost use Rattle.sk_worklist.specs.Run.{IsRun, IsOnTheWay, merge_of};
 
-use crate::choices::choices_of;
 use crate::picker::Picker;
+use crate::worklist::Worklist;
 use sk_base::{Graph, List, NoMemory};
 use sk_family::Family;
 use sk_rules::{Merge, Taken, applies, do_merge};
@@ -30,20 +30,24 @@ pub fn close_family<P: Picker>(
     ensures closed { OnOk result (IsClosed graph.now (bodies family.new)) }
     ensures normal { OnOk result (Reach graph.now (initial_bodies graph.now) (bodies family.old) → IsNormal graph.now (bodies family.new)) }
     ensures only { OnOk result (HasRisingEdges graph.now → Reach graph.now (initial_bodies graph.now) (bodies family.old) → IsTheOnlyNormal graph.now (bodies family.new)) }
+    ensures room { OnOk result (family.new.next_step + length family.new.live ≤ 4294967296) }
+    ensures no_more { OnOk result (length family.new.live ≤ length family.old.live) }
     ensures err { OnErr result (IsOnTheWay P.answer P.after graph.now family.old picker.old family.new) }
 
     // Whatever the result.
     ensures reached { Reach graph.now (bodies family.old) (bodies family.new) }
 {
     let mut taken = List::new(alloc);
+    let mut work = Worklist::of(alloc, family, graph)?;
     loop {
-        let choices = choices_of(alloc, family, graph)?;
-        if choices.is_empty() {
+        let choice = work.choice(family, picker)?;
+        let Some(merge) = choice else {
             return Ok(taken);
-        }
-        let place = picker.pick(choices.len() as u64);
-        let merge = choices.as_slice()[place as usize];
-        taken.push(take(family, graph, merge)?)?;
+        };
+        work.leave(family, merge);
+        let done = take(family, graph, merge)?;
+        work.enter(family, merge)?;
+        taken.push(done)?;
     }
 }
 

@@ -1,0 +1,77 @@
+-- Lists of merges that grow in a loop.
+use Rattle.std.proofs.Common.{◌≡◌, inl, inr, ℕ, ◌+◌, ◌<◌, ◌≤◌, List, [], ◌∷◌, ◌++◌, length, get_or, take, sym, subst, ◌∙◌, ap}
+use Rattle.std.specs.Prelude.{◌↔◌, Contains}
+use Rattle.std.proofs.lemmas.List.{take_all, take_more}
+use Rattle.std.proofs.lemmas.List.Elements.{Contains-append_left, Contains-append_right, Contains-append_cases}
+use Rattle.sk_base.proofs.Members.{contains_none, contains_head, contains_one}
+use Rattle.sk_rules.specs.declared.Merge.{Merge}
+use Rattle.sk_rules.specs.declared.Merge.TheVariants.{Three}
+use Rattle.std.specs.Prelude.{Some}
+use Rattle.slab.specs.Slab.{get}
+use Rattle.sk_base.specs.declared.Elem.{Elem}
+use Rattle.sk_family.specs.declared.Cluster.{Cluster}
+use Rattle.sk_worklist.specs.declared.index.Index.{Index}
+use Rattle.sk_worklist.specs.Gather.{GrowsBy, FromSome, ThirdAt, WithCorner, SecondAt}
+use Rattle.sk_base.specs.ClusterNames.{IsBelow}
+
+pub some_inside : {X : Type 0} {p q : X} → Some p ≡ Some q → p ≡ q
+some_inside h = cc
+
+pub grows_none : (kind : Merge → Type 0) (old : List Merge) → ((m : Merge) → ¬ kind m) → GrowsBy kind old old
+grows_none kind old none m = ((λ h. inl h), (λ h. elim h [ inl was ↦ was | inr is ↦ absurd (none m is) ]))
+
+pub grows_one : (kind : Merge → Type 0) (old : List Merge) (one : Merge) → kind one → ((m : Merge) → kind m → m ≡ one) → GrowsBy kind old (old ++ one ∷ [])
+grows_one kind old one is only m = (
+  (λ h. elim (Contains-append_cases old (one ∷ []) m h) [ inl was ↦ inl was | inr new ↦ inr (subst (λ n. kind n) (contains_one one m new) is) ]),
+  (λ h. elim h [
+    | inl was ↦ Contains-append_left old (one ∷ []) m was
+    | inr new ↦ subst (λ n. Contains (old ++ one ∷ []) n) (sym (only m new)) (Contains-append_right old (one ∷ []) one (contains_head one []))
+  ]),
+)
+
+pub grows_same : (kind other : Merge → Type 0) (old new : List Merge) → ((m : Merge) → kind m ↔ other m) → GrowsBy kind old new → GrowsBy other old new
+grows_same kind other old new same grows m = (
+  (λ h. elim ((grows m).0 h) [ inl was ↦ inl was | inr is ↦ inr ((same m).0 is) ]),
+  (λ h. elim h [ inl was ↦ (grows m).1 (inl was) | inr is ↦ (grows m).1 (inr ((same m).1 is)) ]),
+)
+
+module _ {X : Type 0} (kind : X → Merge → Type 0) (xs : List X) where
+  pub grows_start : (old : List Merge) → GrowsBy (FromSome kind (take 0 xs)) old old
+  grows_start old = grows_none (FromSome kind (take 0 xs)) old (λ m (x, x_in, is). contains_none x x_in)
+
+  -- one more item
+  pub grows_step : (old mid new : List Merge) (i : ℕ) (d : X) → i < length xs → GrowsBy (FromSome kind (take i xs)) old mid → GrowsBy (kind (get_or xs i d)) mid new
+      → GrowsBy (FromSome kind (take (i + 1) xs)) old new
+  grows_step old mid new i d i_in so_far one m =
+      let split : take (i + 1) xs ≡ take i xs ++ get_or xs i d ∷ [] = take_more xs i d i_in in (
+        (λ h. elim ((one m).0 h) [
+          | inl was ↦ elim ((so_far m).0 was) [
+            | inl first ↦ inl first
+            | inr (x, x_in, is) ↦ inr (x, subst (λ l. Contains l x) (sym split) (Contains-append_left (take i xs) (get_or xs i d ∷ []) x x_in), is)
+          ]
+          | inr is ↦ inr (get_or xs i d, subst (λ l. Contains l (get_or xs i d)) (sym split) (Contains-append_right (take i xs) (get_or xs i d ∷ []) (get_or xs i d) (contains_head (get_or xs i d) [])), is)
+        ]),
+        (λ h. elim h [
+          | inl first ↦ (one m).1 (inl ((so_far m).1 (inl first)))
+          | inr (x, x_in, is) ↦ elim (Contains-append_cases (take i xs) (get_or xs i d ∷ []) x (subst (λ l. Contains l x) split x_in)) [
+            | inl before ↦ (one m).1 (inl ((so_far m).1 (inr (x, before, is))))
+            | inr here ↦ (one m).1 (inr (subst (λ y. kind y m) (sym (contains_one (get_or xs i d) x here)) is))
+          ]
+        ]),
+      )
+
+  pub grows_end : (old new : List Merge) (i : ℕ) → length xs ≤ i → GrowsBy (FromSome kind (take i xs)) old new → GrowsBy (FromSome kind xs) old new
+  grows_end old new i over so_far = subst (λ l. GrowsBy (FromSome kind l) old new) (take_all i xs over) so_far
+
+-- the triple with a third cluster is that of the one at the key
+pub third_only : (ix : Index) (x y z : Cluster) (a b : Elem) (k : ℕ) → get ix.live k ≡ Some z → (m : Merge) → ThirdAt ix x y a b k m → m ≡ Three x.name y.name z.name
+third_only ix x y z a b k is m (z', z'_is, third, m_is) =
+    let same : Some z' ≡ Some z = sym z'_is ∙ is in
+    m_is ∙ ap (λ (w : Cluster). Three x.name y.name w.name) (some_inside same)
+
+-- the triples with the cluster of the key as the second are those with that one
+pub second_same : (ix : Index) (x y : Cluster) (a : Elem) (k : ℕ) → get ix.live k ≡ Some y → IsBelow y.name x.name → (m : Merge) → WithCorner ix x y a m ↔ SecondAt ix x a k m
+second_same ix x y a k is below m = (
+  (λ with. (y, is, below, with)),
+  (λ (y', y'_is, y'_below, with). (let same : Some y' ≡ Some y = sym y'_is ∙ is in subst (λ (w : Cluster). WithCorner ix x w a m) (some_inside same) with)),
+)

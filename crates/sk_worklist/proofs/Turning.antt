@@ -1,0 +1,96 @@
+-- What a worklist finds at a turn.
+use Rattle.std.proofs.Common.{◌≡◌, inl, inr, refl, List, [], ◌++◌, sym, subst, ◌∙◌, ap}
+use Rattle.std.specs.Prelude.{◌↔◌, Contains, AllPairs, Result, Ok, Err, IfOk}
+use Rattle.sk_base.specs.declared.Name.{Name}
+use Rattle.sk_base.specs.declared.Name.TheVariants.{Step}
+use Rattle.sk_base.specs.declared.Graph.{Graph}
+use Rattle.sk_base.specs.ClusterNames.{IsBelow}
+use Rattle.sk_base.proofs.Members.{contains_none}
+use Rattle.sk_family.specs.declared.Cluster.{Cluster}
+use Rattle.sk_family.specs.Clusters.{Clusters, IsSound}
+use Rattle.sk_family.proofs.Naming.{below_irreflexive, below_asymmetric}
+use Rattle.sk_rules.specs.declared.Merge.{Merge}
+use Rattle.sk_rules.specs.declared.Merge.TheVariants.{Two}
+use Rattle.sk_worklist.specs.declared.index.Index.{Index}
+use Rattle.sk_worklist.specs.Choices.{CanTake, ComesFirst, IsFirstPair, AreTriples}
+use Rattle.sk_worklist.specs.Gather.{GrowsBy, FromSome, TriplesOf, Partner, IsPartner, TakesFrom, AreUncovered}
+use Rattle.sk_worklist.specs.Indexed.{AreKept, IsTriple, IsWithin, Knows, NoPairBelow, Represents, avoiding}
+use Rattle.sk_worklist.specs.Turns.{HasNoPair}
+use Rattle.sk_worklist.proofs.Gathered.{found_can, can_found, partner_can, can_partner}
+use Rattle.sk_worklist.proofs.Lefts.{is_it_below}
+use Rattle.sk_worklist.proofs.Mending.{kept_more, kept_are_choices, live_below_next, avoiding_none}
+
+pub both_ok : {T E : Type 0} (P Q R : T → Type 0) (r : Result T E) → IfOk r P → IfOk r Q → ((x : T) → P x → Q x → R x) → IfOk r R
+both_ok P Q R (Ok x) p q to = to x p q
+both_ok P Q R (Err e) p q to = tt
+
+module _ (ix : Index) (g : Graph) (f : Clusters) (sound : IsSound f) (r : Represents ix g f.live) (bound : Name) (rest : List Cluster)
+    (rest_is : (c : Cluster) → Contains rest c ↔ (Contains f.live c × ¬ IsBelow c.name bound)) where
+  -- where none of the rest has a partner up to a name, no pair below it may merge
+  pub no_pair_to : NoPairBelow f bound → (new : Name) → ((c : Cluster) (n : Name) → Contains rest c → IsBelow c.name new → ¬ Partner ix c n) → NoPairBelow f new
+  no_pair_to before new none x y x_in y_in x_new less two =
+      elim (is_it_below x.name bound) [
+        | inl below ↦ before x y x_in y_in below less two
+        | inr above ↦ none x y.name ((rest_is x).1 (x_in, above)) x_new
+            (can_partner ix g f sound r x x_in y.name (less, (x, y, record { lives = x_in; has_name = refl }, record { lives = y_in; has_name = refl }, two)))
+      ]
+
+  pub within_next : (x y : Name) → IsPartner ix rest x y → IsWithin f x
+  within_next x y p above =
+      below_asymmetric x (Step f.next_step) (subst (λ n. IsBelow n (Step f.next_step)) p.has_name (live_below_next g f sound p.greater ((rest_is p.greater).0 p.among).0)) above
+
+  pub first_is : NoPairBelow f bound → (x y : Name) → IsPartner ix rest x y → IsFirstPair g f (Two x y)
+  first_is before x y p = record {
+    can_take = subst (λ n. CanTake g f (Two n y)) p.has_name (partner_can ix g f sound r p.greater ((rest_is p.greater).0 p.among).0 y p.least.0);
+    is_pair = (x, y, refl);
+    first = λ m n can comes. none m n can comes;
+  }
+    where
+      below_x : NoPairBelow f x
+      below_x = no_pair_to before x (λ c n c_in below. p.first c n c_in below)
+
+      none : (m n : Name) → CanTake g f (Two m n) → ¬ ComesFirst (Two m n) (Two x y)
+      none m n (less, (a, b, a_is, b_is, two)) (inl m_x) =
+          below_x a b a_is.lives b_is.lives (subst (λ k. IsBelow k x) (sym a_is.has_name) m_x)
+          (subst (λ k. IsBelow k a.name) (sym b_is.has_name) (subst (λ k. IsBelow n k) (sym a_is.has_name) less)) two
+      none m n can (inr (same, inl n_y)) =
+          p.least.1 n (can_partner ix g f sound r p.greater ((rest_is p.greater).0 p.among).0 n (subst (λ k. CanTake g f (Two k n)) (same ∙ sym p.has_name) can)) n_y
+      none m n can (inr (same, inr (level, never))) = never
+
+  -- what the walks from the rest add is just what isn't covered
+  pub uncovered : (list found : List Merge) → GrowsBy (FromSome (TriplesOf ix) rest) [] list → ((m : Merge) → Contains found m ↔ Contains list m)
+      → (((m : Merge) → Contains list m → IsTriple m) → AllPairs ComesFirst found) → AreUncovered g f bound found
+  uncovered list found grows same order = record {
+    in_order = order (λ m m_in. triple m (from_list m m_in));
+    exactly = λ m. (
+      (λ h. from_list m ((same m).0 h)),
+      (λ (x, (x_in, above), takes). (same m).1 ((grows m).1 (inr (x, (rest_is x).1 (x_in, above), can_found ix g f sound r x x_in m takes)))),
+    );
+  }
+    where
+      from_list : (m : Merge) → Contains list m → (x : Cluster) × (Contains f.live x × ¬ IsBelow x.name bound) × TakesFrom g f x m
+      from_list m m_in =
+          elim ((grows m).0 m_in) [
+            | inl none ↦ absurd (contains_none m none)
+            | inr (x, x_in, is) ↦ (x, (rest_is x).0 x_in, found_can ix g f sound r x ((rest_is x).0 x_in).0 m is)
+          ]
+
+      triple : (m : Merge) → (x : Cluster) × (Contains f.live x × ¬ IsBelow x.name bound) × TakesFrom g f x m → IsTriple m
+      triple m (x, x_in, (can, (y, z, is))) = (x.name, y, z, is)
+
+-- once all triples are kept
+module _ (g : Graph) (f : Clusters) (sound : IsSound f) (clear covered : Name) (kept found all : List Merge) (gone none : List Name) (knows : Knows clear covered kept gone g f)
+    (uncovered : AreUncovered g f covered found) (all_is : all ≡ avoiding gone kept ++ found) (none_is : none ≡ []) where
+  all_kept : AreKept g f (λ x. IsBelow x (Step f.next_step)) all
+  all_kept = subst (λ l. AreKept g f (λ x. IsBelow x (Step f.next_step)) l) (sym all_is) (kept_more g f sound covered (avoiding gone kept) found knows.keeps uncovered)
+
+  pub knows_all : Knows clear (Step f.next_step) all none g f
+  knows_all = record {
+    clear_within = knows.clear_within;
+    covered_within = below_irreflexive (Step f.next_step);
+    no_pair = knows.no_pair;
+    keeps = subst (λ l. AreKept g f (λ x. IsBelow x (Step f.next_step)) l) (sym (ap (λ ns. avoiding ns all) none_is ∙ avoiding_none all)) all_kept;
+  }
+
+  pub all_are_choices : HasNoPair g f → AreTriples g f all
+  all_are_choices no_pair = kept_are_choices g f sound all no_pair all_kept

@@ -1,0 +1,81 @@
+-- Walks along the keys that are below a name.
+use Rattle.std.proofs.Common.{◌≡◌, ◌⊎◌, ◌∙◌, inl, inr, refl, ℕ, suc, ◌<◌, Bool, true, false, List, length, length-drop, get_or, take, drop, drop-cons, sym, subst, ap, arith}
+use Rattle.std.specs.Prelude.{◌↔◌, Contains, AllPairs, IsTrue, Some, slice_get}
+use Rattle.std.proofs.lemmas.List.Elements.{Contains-get_or}
+use Rattle.slab.specs.Slab.{get}
+use Rattle.sk_base.specs.declared.Name.{Name}
+use Rattle.sk_base.specs.ClusterNames.{IsBelow, is_named}
+use Rattle.sk_base.proofs.Members.{contains_head, contains_cases}
+use Rattle.sk_base.proofs.Pairs.{pairs_head}
+use Rattle.sk_base.proofs.Unions.{which}
+use Rattle.std.proofs.lemmas.Option.{slice_get-get_or}
+use Rattle.sk_family.specs.declared.Cluster.{Cluster}
+use Rattle.sk_family.proofs.Halving.{HoldsInFront}
+use Rattle.sk_family.proofs.Naming.{below_chain, below_irreflexive, among_named, named_among}
+use Rattle.sk_family.proofs.Splits.{in_take, in_either, pairs_drop}
+use Rattle.sk_rules.specs.declared.Merge.{Merge}
+use Rattle.sk_worklist.specs.declared.index.Index.{Index}
+use Rattle.sk_worklist.specs.Gather.{FromSome}
+use Rattle.sk_worklist.specs.Indexed.{IsBelowAt, RisesIn}
+use Rattle.sk_worklist.proofs.Holding.{in_list}
+use Rattle.sk_worklist.proofs.Least.{GivenBy}
+
+pub below_in_front : (ix : Index) (n : Name) (keys : List ℕ) → AllPairs (RisesIn ix.live) keys → ((k : ℕ) → Contains keys k → (c : Cluster) × (get ix.live k ≡ Some c)) → HoldsInFront (IsBelowAt ix n) keys
+below_in_front ix n keys order held i j d less j_in (c, c_is, below) =
+    let (b, b_is) = held (get_or keys i d) (Contains-get_or keys i d (omega arith)) in
+    (b, b_is, below_chain b.name c.name n (order i j d less j_in b c b_is c_is) below)
+
+-- the front up to a place are just those of a kind
+pub in_front_of : {X : Type 0} (P : X → Type 0) (xs : List X) (place : ℕ) → ((x : X) → Contains (take place xs) x → P x) → ((x : X) → Contains (drop place xs) x → ¬ P x)
+    → (x : X) → Contains (take place xs) x ↔ (Contains xs x × P x)
+in_front_of P xs place before after x = (
+  (λ h. (in_take place xs x h, before x h)),
+  (λ (x_in, is). elim (in_either place xs x x_in) [ inl front ↦ front | inr back ↦ absurd (after x back is) ]),
+)
+
+-- what the walk along the front gives is what the walk along all gives, where only the front gives any
+module _ (front all : List ℕ) (P : ℕ → Type 0) (front_is : (k : ℕ) → Contains front k ↔ (Contains all k × P k)) where
+  pub some_same : (kind : ℕ → Merge → Type 0) → ((k : ℕ) (m : Merge) → kind k m → P k) → (m : Merge) → FromSome kind front m ↔ FromSome kind all m
+  some_same kind only m = (
+    (λ (k, k_in, is). (k, ((front_is k).0 k_in).0, is)),
+    (λ (k, k_in, is). (k, (front_is k).1 (k_in, only k m is), is)),
+  )
+
+  pub given_same : (kind : ℕ → Name → Type 0) → ((k : ℕ) (n : Name) → kind k n → P k) → (n : Name) → GivenBy kind front n ↔ GivenBy kind all n
+  given_same kind only n = (
+    (λ (k, k_in, is). (k, ((front_is k).0 k_in).0, is)),
+    (λ (k, k_in, is). (k, (front_is k).1 (k_in, only k n is), is)),
+  )
+
+pub names_in_front : (name : Name) (names : List Name) → AllPairs IsBelow names → HoldsInFront (λ (n : Name). IsBelow n name) names
+names_in_front name names order i j d less j_in below = below_chain (get_or names i d) (get_or names j d) name (order i j d less j_in) below
+
+-- a name is one of some in order just where it stands at its place
+module _ (name : Name) (names : List Name) (order : AllPairs IsBelow names) (place : ℕ) (before : (n : Name) → Contains (take place names) n → IsBelow n name)
+    (after : (n : Name) → Contains (drop place names) n → ¬ IsBelow n name) where
+  stands : Contains names name → slice_get names place ≡ Some name
+  stands n_in =
+      elim (in_either place names name n_in) [
+        | inl front ↦ absurd (below_irreflexive name (before name front))
+        | inr back ↦ elim (which place (length names)) [
+          | inl within ↦ elim (contains_cases (get_or names place name) (drop (suc place) names) name (subst (λ l. Contains l name) (drop-cons names place name within) back)) [
+            | inl here ↦ slice_get-get_or names place name within ∙ ap Some here
+            | inr later ↦ absurd (after (get_or names place name)
+                (subst (λ l. Contains l (get_or names place name)) (sym (drop-cons names place name within)) (contains_head (get_or names place name) (drop (suc place) names)))
+                (pairs_head IsBelow (get_or names place name) (drop (suc place) names) (subst (λ l. AllPairs IsBelow l) (drop-cons names place name within) (pairs_drop IsBelow place names order)) name later))
+          ]
+          | inr past ↦ absurd (nothing_left past back)
+        ]
+      ]
+    where
+      nothing_left : (place ≡ length names) ⊎ (length names < place) → ¬ Contains (drop place names) name
+      nothing_left past (k, below, is) = (let long = length-drop place names in elim past [ inl level ↦ absurd (omega (arith, below, long, level)) | inr over ↦ absurd (omega (arith, below, long, over)) ])
+
+  pub among_is : (b : Bool) → (IsTrue b ↔ (slice_get names place ≡ Some name)) → b ≡ is_named names name
+  among_is b tests = told b (is_named names name) refl refl
+    where
+      told : (p q : Bool) → b ≡ p → is_named names name ≡ q → b ≡ is_named names name
+      told true true b_is q_is = b_is ∙ sym q_is
+      told false false b_is q_is = b_is ∙ sym q_is
+      told true false b_is q_is = (let found = in_list names place name (tests.0 b_is) in let both : true ≡ false = sym (named_among names name found) ∙ q_is in absurd (cc))
+      told false true b_is q_is = (let both : false ≡ true = sym b_is ∙ tests.1 (stands (among_named names name q_is)) in absurd (cc))

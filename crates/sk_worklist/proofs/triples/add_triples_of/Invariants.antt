@@ -1,0 +1,6 @@
+use Rattle.std.proofs.Common.{take}
+use Rattle.sk_worklist.specs.Gather.{GrowsBy, FromSome, AtCorner}
+use Rattle.sk_worklist.proofs.triples.add_triples_of.Given as goal
+
+abbrev pub invariant-loop-a : goal.invariant-loop-a
+invariant-loop-a l = GrowsBy (FromSome (AtCorner l.index l.x) (take l.a-index l.a-items)) l.fn.all l.all

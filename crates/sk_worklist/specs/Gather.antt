@@ -1,0 +1,88 @@
+-- The triples that a walk through the index from one cluster finds.
+use Rattle.std.specs.Prelude.{◌≡◌, ◌≢◌, ◌↔◌, ◌⊎◌, ℕ, List, Option, None, Some, Contains, AllPairs}
+use Rattle.slab.specs.Slab.{get}
+use Rattle.sk_base.specs.declared.Elem.{Elem}
+use Rattle.sk_base.specs.declared.Name.{Name}
+use Rattle.sk_base.specs.ClusterNames.{IsBelow}
+use Rattle.sk_rules.specs.Rules.{SharesTwo}
+use Rattle.sk_family.specs.declared.Cluster.{Cluster}
+use Rattle.sk_rules.specs.declared.Merge.{Merge}
+use Rattle.sk_rules.specs.declared.Merge.TheVariants.{Three}
+use Rattle.sk_worklist.specs.declared.index.Index.{Index}
+use Rattle.sk_worklist.specs.Choices.{CanTake, ComesFirst}
+use Rattle.sk_worklist.specs.Indexed.{holders_of, IsThirdIn}
+use Rattle.sk_base.specs.declared.Graph.{Graph}
+use Rattle.sk_family.specs.Clusters.{Clusters}
+
+-- new has what old has and the merges of that kind
+abbrev pub GrowsBy : (Merge → Type 0) → List Merge → List Merge → Type 0
+GrowsBy kind old new = (m : Merge) → Contains new m ↔ (Contains old m ⊎ kind m)
+
+-- what some item of the list gives
+abbrev pub FromSome : {X : Type 0} → (X → Merge → Type 0) → List X → Merge → Type 0
+FromSome kind xs m = (x : _) × Contains xs x × kind x m
+
+-- z is below y, and some corner between it and x makes a triangle with a and b
+abbrev pub IsThirdCluster : Index → Cluster → Cluster → Cluster → Elem → Elem → Type 0
+IsThirdCluster ix x y z a b = IsBelow z.name y.name × (a ≢ b) × IsThirdIn ix a b x.elements z.elements
+
+-- the triple of x, y and the cluster of that key
+abbrev pub ThirdAt : Index → Cluster → Cluster → Elem → Elem → ℕ → Merge → Type 0
+ThirdAt ix x y a b k m = (z : Cluster) × (get ix.live k ≡ Some z) × IsThirdCluster ix x y z a b × (m ≡ Three x.name y.name z.name)
+
+-- the triples of x and y with a and b as corners, and with a as the corner between the two
+abbrev pub WithCorners : Index → Cluster → Cluster → Elem → Elem → Merge → Type 0
+WithCorners ix x y a b = FromSome (ThirdAt ix x y a b) (holders_of ix b)
+
+abbrev pub WithCorner : Index → Cluster → Cluster → Elem → Merge → Type 0
+WithCorner ix x y a = FromSome (WithCorners ix x y a) y.elements
+
+-- the triples of x and the cluster of that key, as the second, with a between the two
+abbrev pub SecondAt : Index → Cluster → Elem → ℕ → Merge → Type 0
+SecondAt ix x a k m = (y : Cluster) × (get ix.live k ≡ Some y) × IsBelow y.name x.name × WithCorner ix x y a m
+
+-- all triples of x as the greatest, with a as a corner, and with any
+abbrev pub AtCorner : Index → Cluster → Elem → Merge → Type 0
+AtCorner ix x a = FromSome (SecondAt ix x a) (holders_of ix a)
+
+abbrev pub TriplesOf : Index → Cluster → Merge → Type 0
+TriplesOf ix x = FromSome (AtCorner ix x) x.elements
+
+-- the cluster of that key is below x and shares two elements with it, and is so named
+abbrev pub PartnerAt : Index → Cluster → ℕ → Name → Type 0
+PartnerAt ix x k n = (y : Cluster) × (get ix.live k ≡ Some y) × IsBelow y.name x.name × SharesTwo x.elements y.elements × (y.name ≡ n)
+
+abbrev pub PartnerOf : Index → Cluster → Elem → Name → Type 0
+PartnerOf ix x e n = (k : ℕ) × Contains (holders_of ix e) k × PartnerAt ix x k n
+
+abbrev pub Partner : Index → Cluster → Name → Type 0
+Partner ix x n = (e : Elem) × Contains x.elements e × PartnerOf ix x e n
+
+-- the least name of that kind, if there is one
+abbrev pub IsLeast : (Name → Type 0) → Option Name → Type 0
+IsLeast kind None = (n : Name) → ¬ kind n
+IsLeast kind (Some m) = kind m × ((n : Name) → kind n → ¬ IsBelow n m)
+
+-- the lesser of the two that are there
+abbrev pub IsLesser : Option Name → Option Name → Option Name → Type 0
+IsLesser None two r = r ≡ two
+IsLesser (Some m) None r = r ≡ Some m
+IsLesser (Some m) (Some n) r = ((r ≡ Some n) × IsBelow n m) ⊎ ((r ≡ Some m) × ¬ IsBelow n m)
+
+-- some cluster of these, with one of its partners
+pub record IsPartner (ix : Index) (clusters : List Cluster) (x y : Name) : Type 0 where
+  pub greater : Cluster
+  pub among : Contains clusters greater
+  pub has_name : greater.name ≡ x
+  pub least : IsLeast (Partner ix greater) (Some y)
+  -- and no cluster before it has one
+  pub first : (c : Cluster) (n : Name) → Contains clusters c → IsBelow c.name x → ¬ Partner ix c n
+
+-- the triples with that cluster as the greatest that may merge
+abbrev pub TakesFrom : Graph → Clusters → Cluster → Merge → Type 0
+TakesFrom g f x m = CanTake g f m × ((y : Name) × (z : Name) × (m ≡ Three x.name y z))
+
+-- just the triples whose greatest cluster isn't below the name, in order
+pub record AreUncovered (g : Graph) (f : Clusters) (bound : Name) (found : List Merge) : Type 0 where
+  pub in_order : AllPairs ComesFirst found
+  pub exactly : (m : Merge) → Contains found m ↔ ((x : Cluster) × (Contains f.live x × ¬ IsBelow x.name bound) × TakesFrom g f x m)

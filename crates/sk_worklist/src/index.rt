@@ -1,0 +1,324 @@
+// The index of a family: which clusters hold an element.
+ghost use Rattle.std.specs.Prelude.{◌≡◌, ◌≢◌, ◌↔◌, ◌⊎◌, ◌<◌, ◌≤◌, ◌++◌, ◌∷◌, [], AllPairs, take, drop, length, ℕ, IfOk, OnOk, IfSome, IfNone, IsTrue, Contains, option_copied, slice_get, Some, true};
+ghost use Rattle.sk_base.specs.declared.Elem.{Elem as Element};
+ghost use Rattle.sk_base.specs.declared.Name.{Name as ClusterName};
+ghost use Rattle.slab.specs.Slab.{get};
+ghost use Rattle.sk_worklist.specs.Indexed.{AllRise, HasElements, HoldersGrow, IsBelowAt, RisesIn, IsHeld, IsLast, IsIndex, IsLineAt, IsNamedAt, Represents, holders_of};
+ghost use Rattle.sk_base.specs.ClusterNames.{IsBelow};
+ghost use Rattle.sk_base.specs.Numbering.{elem_number};
+ghost use Rattle.sk_base.specs.Rising.{IsRising};
+ghost use Rattle.sk_base.specs.declared.Kind.TheVariants.{Line};
+ghost use Rattle.sk_family.specs.declared.Cluster.{Cluster as AnyCluster};
+
+use sk_base::{Elem, Graph, Kind, List, Name, NoMemory, Node};
+use sk_family::{Cluster, Family};
+use slab::Slab;
+use std::alloc::Global;
+
+/// The live clusters under keys, by number of an element the keys of those that hold it, and whether
+/// it is a line.
+#[derive(Drop)]
+pub(crate) struct Index {
+    alloc: Global,
+    live: Slab<Cluster>,
+    holders: Vec<Vec<usize>>,
+    lines: Vec<bool>,
+}
+
+impl Index {
+    /// The index of a family.
+    pub fn of(alloc: Global, family: &Family, graph: &Graph) -> Result<Index, NoMemory>
+        ensures { IfOk result (λ index. Represents index graph.now family.now.live) }
+    {
+        let mut index = Index {
+            alloc,
+            live: Slab::new(alloc),
+            holders: Vec::new(alloc),
+            lines: lines_of(alloc, graph.nodes.as_slice())?,
+        };
+        for cluster in family.clusters() {
+            index.put(cluster)?;
+        }
+        Ok(index)
+    }
+
+    /// Puts the last of these clusters in, whose name is above all in it.
+    pub fn put_last(&mut self, clusters: &[Cluster]) -> Result<(), NoMemory>
+        requires index { IsIndex self.old }
+        requires greatest { (c d : AnyCluster) → IsHeld self.old c → IsLast clusters.now d → IsBelow c.name d.name }
+        requires rise { AllRise clusters.now }
+        ensures index { OnOk result (IsIndex self.new) }
+        ensures held { OnOk result ((c : AnyCluster) → IsHeld self.new c ↔ (IsHeld self.old c ⊎ IsLast clusters.now c)) }
+        ensures lines { OnOk result (self.new.lines ≡ self.old.lines) }
+    {
+        match clusters.last() {
+            Some(last) => self.put(last),
+            None => Ok(()),
+        }
+    }
+
+    /// Puts a cluster in whose name is above all in it.
+    fn put(&mut self, cluster: &Cluster) -> Result<(), NoMemory>
+        requires index { IsIndex self.old }
+        requires greatest { (c : AnyCluster) → IsHeld self.old c → IsBelow c.name cluster.now.name }
+        requires rises { IsRising elem_number cluster.now.elements }
+        ensures index { OnOk result (IsIndex self.new) }
+        ensures held { OnOk result ((c : AnyCluster) → IsHeld self.new c ↔ (IsHeld self.old c ⊎ (c ≡ cluster.now))) }
+        ensures lines { OnOk result (self.new.lines ≡ self.old.lines) }
+    {
+        let copy = copy_of(self.alloc, cluster)?;
+        let key = self.live.insert(copy)?;
+        self.add_holders(cluster.elements.as_slice(), key)?;
+        Ok(())
+    }
+
+    fn add_holders(&mut self, elements: &[Elem], key: usize) -> Result<(), NoMemory>
+        requires { IsRising elem_number elements.now }
+        ensures live { OnOk result (self.new.live ≡ self.old.live) }
+        ensures lines { OnOk result (self.new.lines ≡ self.old.lines) }
+        ensures holders { OnOk result ((e : Element) (k : ℕ) → Contains (holders_of self.new e) k ↔ (Contains (holders_of self.old e) k ⊎ (Contains elements.now e × (k ≡ key)))) }
+        ensures order { OnOk result ((e : Element) → HoldersGrow self.old self.new key e) }
+    {
+        for elem in elements {
+            self.add_holder(*elem, key)?;
+        }
+        Ok(())
+    }
+
+    fn add_holder(&mut self, elem: Elem, key: usize) -> Result<(), NoMemory>
+        ensures live { OnOk result (self.new.live ≡ self.old.live) }
+        ensures lines { OnOk result (self.new.lines ≡ self.old.lines) }
+        ensures holders { OnOk result ((e : Element) (k : ℕ) → Contains (holders_of self.new e) k ↔ (Contains (holders_of self.old e) k ⊎ ((e ≡ elem) × (k ≡ key)))) }
+        ensures here { OnOk result (holders_of self.new elem ≡ holders_of self.old elem ++ key ∷ []) }
+        ensures others { OnOk result ((e : Element) → e ≢ elem → holders_of self.new e ≡ holders_of self.old e) }
+    {
+        self.make_room(elem)?;
+        self.holders[elem.0 as usize].push(key)?;
+        Ok(())
+    }
+
+    /// Makes room for the keys of an element.
+    fn make_room(&mut self, elem: Elem) -> Result<(), NoMemory>
+        ensures live { self.new.live ≡ self.old.live }
+        ensures lines { self.new.lines ≡ self.old.lines }
+        ensures holders { (e : Element) → holders_of self.new e ≡ holders_of self.old e }
+        ensures room { OnOk result (elem.0 < length self.new.holders.items) }
+    {
+        while self.holders.len() <= elem.0 as usize {
+            self.holders.push(Vec::new(self.alloc))?;
+        }
+        Ok(())
+    }
+
+    /// Takes the clusters of these names out.
+    pub fn take_out_all(&mut self, family: &Family, names: &[Name])
+        requires index { IsIndex self.old }
+        requires known { (c : AnyCluster) → IsHeld self.old c → Contains family.now.live c }
+        requires some { (n : ClusterName) → Contains names.now n → HasElements family.now n }
+        ensures index { IsIndex self.new }
+        ensures held { (c : AnyCluster) → IsHeld self.new c ↔ (IsHeld self.old c × ¬ Contains names.now c.name) }
+        ensures lines { self.new.lines ≡ self.old.lines }
+    {
+        for name in names {
+            self.take_out_named(family, *name);
+        }
+    }
+
+    fn take_out_named(&mut self, family: &Family, name: Name)
+        requires index { IsIndex self.old }
+        requires known { (c : AnyCluster) → IsHeld self.old c → Contains family.now.live c }
+        requires some { HasElements family.now name }
+        ensures index { IsIndex self.new }
+        ensures held { (c : AnyCluster) → IsHeld self.new c ↔ (IsHeld self.old c × (c.name ≢ name)) }
+        ensures lines { self.new.lines ≡ self.old.lines }
+    {
+        if let Some(cluster) = family.cluster(name) {
+            self.take_out(cluster);
+        }
+    }
+
+    /// Takes a cluster out that has a name of its own and an element.
+    fn take_out(&mut self, cluster: &Cluster)
+        requires index { IsIndex self.old }
+        requires alone { (c : AnyCluster) → IsHeld self.old c → c.name ≡ cluster.now.name → c ≡ cluster.now }
+        requires some { (e : Element) × Contains cluster.now.elements e }
+        ensures index { IsIndex self.new }
+        ensures held { (c : AnyCluster) → IsHeld self.new c ↔ (IsHeld self.old c × (c ≢ cluster.now)) }
+        ensures lines { self.new.lines ≡ self.old.lines }
+    {
+        if let Some(key) = self.key_of(cluster) {
+            self.drop_holders(cluster.elements.as_slice(), key);
+            let _cluster = self.live.try_remove(key);
+        }
+    }
+
+    /// The key of the cluster.
+    fn key_of(&self, cluster: &Cluster) -> Option<usize>
+        requires index { IsIndex self.now }
+        requires some { (e : Element) × Contains cluster.now.elements e }
+        ensures none { IfNone result (¬ IsHeld self.now cluster.now) }
+        ensures some { IfSome result (IsNamedAt self.now cluster.now.name) }
+    {
+        let last = cluster.elements.as_slice().last()?;
+        self.key_named(cluster.name, self.holders(*last))
+    }
+
+    /// The first of these keys whose cluster has that name.
+    fn key_named(&self, name: Name, keys: &[usize]) -> Option<usize>
+        ensures none { IfNone result ((k : ℕ) → Contains keys.now k → ¬ IsNamedAt self.now name k) }
+        ensures some { IfSome result (IsNamedAt self.now name) }
+    {
+        for key in keys {
+            if self.is_named_at(*key, name) {
+                return Some(*key);
+            }
+        }
+        None
+    }
+
+    /// Whether the cluster of that key has that name.
+    fn is_named_at(&self, key: usize, name: Name) -> bool
+        ensures { IsTrue result ↔ IsNamedAt self.now name key }
+    {
+        match self.live.get(key) {
+            Some(cluster) => cluster.name == name,
+            None => false,
+        }
+    }
+
+    fn drop_holders(&mut self, elements: &[Elem], key: usize)
+        ensures live { self.new.live ≡ self.old.live }
+        ensures lines { self.new.lines ≡ self.old.lines }
+        ensures holders { (e : Element) (k : ℕ) → Contains (holders_of self.new e) k ↔ (Contains (holders_of self.old e) k × ¬ (Contains elements.now e × (k ≡ key))) }
+        ensures order { (e : Element) → AllPairs (RisesIn self.old.live) (holders_of self.old e) → AllPairs (RisesIn self.old.live) (holders_of self.new e) }
+    {
+        for elem in elements {
+            self.drop_holder(*elem, key);
+        }
+    }
+
+    fn drop_holder(&mut self, elem: Elem, key: usize)
+        ensures live { self.new.live ≡ self.old.live }
+        ensures lines { self.new.lines ≡ self.old.lines }
+        ensures holders { (e : Element) (k : ℕ) → Contains (holders_of self.new e) k ↔ (Contains (holders_of self.old e) k × ¬ ((e ≡ elem) × (k ≡ key))) }
+        ensures order { (e : Element) → AllPairs (RisesIn self.old.live) (holders_of self.old e) → AllPairs (RisesIn self.old.live) (holders_of self.new e) }
+    {
+        let at = elem.0 as usize;
+        if at < self.holders.len() {
+            self.holders[at].retain(|held| *held != key);
+        }
+    }
+
+    /// The keys of the clusters that hold the element.
+    pub fn holders(&self, elem: Elem) -> &[usize]
+        ensures { result.now ≡ holders_of self.now elem }
+    {
+        match self.holders.as_slice().get(elem.0 as usize) {
+            Some(keys) => keys.as_slice(),
+            None => &[],
+        }
+    }
+
+    /// The keys of those of them that are below the name.
+    pub fn below(&self, elem: Elem, name: Name) -> &[usize]
+        requires { IsIndex self.now }
+        ensures { (k : ℕ) → Contains result.now k ↔ (Contains (holders_of self.now elem) k × IsBelowAt self.now name k) }
+    {
+        let keys = self.holders(elem);
+        &keys[..self.place_of(name, keys)]
+    }
+
+    /// The place of the name among clusters in order: after all that are below it.
+    fn place_of(&self, name: Name, keys: &[usize]) -> usize
+        requires in_order { AllPairs (RisesIn self.now.live) keys.now }
+        requires held { (k : ℕ) → Contains keys.now k → (c : AnyCluster) × (get self.now.live k ≡ Some c) }
+        ensures within { result ≤ length keys.now }
+        ensures before { (k : ℕ) → Contains (take result keys.now) k → IsBelowAt self.now name k }
+        ensures after { (k : ℕ) → Contains (drop result keys.now) k → ¬ IsBelowAt self.now name k }
+    {
+        let mut low = 0;
+        let mut high = keys.len();
+        while low < high {
+            let middle = low + (high - low) / 2;
+            if self.is_below_at(keys[middle], name) {
+                low = middle + 1;
+            } else {
+                high = middle;
+            }
+        }
+        low
+    }
+
+    /// Whether the cluster of that key is below the name.
+    fn is_below_at(&self, key: usize, name: Name) -> bool
+        ensures { IsTrue result ↔ IsBelowAt self.now name key }
+    {
+        match self.live.get(key) {
+            Some(cluster) => cluster.name.is_below(name),
+            None => false,
+        }
+    }
+
+    /// The cluster of that key.
+    pub fn held(&self, key: usize) -> Option<&Cluster>
+        ensures { option_copied result ≡ get self.now.live key }
+    {
+        self.live.get(key)
+    }
+
+    pub fn is_line(&self, elem: Elem) -> bool
+        ensures { IsTrue result ↔ IsLineAt self.now elem }
+    {
+        match self.lines.as_slice().get(elem.0 as usize) {
+            Some(is_line) => *is_line,
+            None => false,
+        }
+    }
+}
+
+/// Whether each element is a line.
+fn lines_of(alloc: Global, nodes: &[Node]) -> Result<Vec<bool>, NoMemory>
+    ensures { IfOk result (λ lines. (e : Element) → (slice_get lines.items e.0 ≡ Some true) ↔ Contains nodes.now (record { elem = e; kind = Line })) }
+{
+    let mut lines = Vec::new(alloc);
+    for node in nodes {
+        mark_if_line(&mut lines, *node)?;
+    }
+    Ok(lines)
+}
+
+/// Marks the element of the node if it is a line.
+fn mark_if_line(lines: &mut Vec<bool>, node: Node) -> Result<(), NoMemory>
+    ensures { OnOk result ((e : Element) → (slice_get lines.new.items e.0 ≡ Some true) ↔ ((slice_get lines.old.items e.0 ≡ Some true) ⊎ (node ≡ record { elem = e; kind = Line }))) }
+{
+    match node.kind {
+        Kind::Line => mark(lines, node.elem),
+        Kind::Point => Ok(()),
+    }
+}
+
+/// Marks one element.
+fn mark(lines: &mut Vec<bool>, elem: Elem) -> Result<(), NoMemory>
+    ensures { OnOk result ((e : Element) → (slice_get lines.new.items e.0 ≡ Some true) ↔ ((slice_get lines.old.items e.0 ≡ Some true) ⊎ (e ≡ elem))) }
+{
+    let at = elem.0 as usize;
+    while lines.len() <= at {
+        lines.push(false)?;
+    }
+    lines[at] = true;
+    Ok(())
+}
+
+fn copy_of(alloc: Global, cluster: &Cluster) -> Result<Cluster, NoMemory>
+    ensures { IfOk result (λ copy. copy ≡ cluster.now) }
+{
+    let mut elements = List::new(alloc);
+    elements.extend(cluster.elements.as_slice())?;
+    let mut owned = List::new(alloc);
+    owned.extend(cluster.owned.as_slice())?;
+    Ok(Cluster {
+        name: cluster.name,
+        elements,
+        owned,
+    })
+}

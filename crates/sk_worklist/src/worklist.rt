@@ -1,0 +1,161 @@
+// The worklist of a family that is being closed. A new cluster has the greatest name, so what is known
+// of the merges below a name stays known, but for those of the merged clusters.
+ghost use Rattle.std.specs.Prelude.{◌≡◌, ◌↔◌, ◌++◌, IfOk, OnOk, IfSome, IfNone, AllPairs, Contains, MatchResult};
+ghost use Rattle.sk_base.specs.declared.Graph.{Graph as AnyGraph};
+ghost use Rattle.sk_base.specs.ClusterNames.{IsBelow};
+ghost use Rattle.sk_family.specs.Clusters.{Clusters, IsSound};
+ghost use Rattle.sk_rules.specs.declared.Merge.{Merge as AnyMerge};
+ghost use Rattle.sk_rules.specs.Merges.{merged, names_of};
+ghost use Rattle.sk_worklist.specs.Choices.{AreTriples, CanTake, ComesFirst, IsFirstPair};
+ghost use Rattle.sk_worklist.specs.Gather.{AreUncovered};
+ghost use Rattle.sk_worklist.specs.Indexed.{IsIndex, Represents};
+ghost use Rattle.sk_worklist.specs.Turns.{Answers, Follows, HasLeft, HasNoPair};
+
+use crate::index::Index;
+use crate::kept::{drop_naming, in_order, names_in_order};
+use crate::partner::first_with_partner;
+use crate::picker::Picker;
+use crate::triples::add_triples_of_all;
+use sk_base::{Graph, List, Name, NoMemory};
+use sk_family::Family;
+use sk_rules::Merge;
+use std::alloc::Global;
+
+/// What is known of a family that is being closed.
+#[derive(Drop)]
+pub(crate) struct Worklist {
+    alloc: Global,
+    index: Index,
+    /// No pair whose greater cluster is below this name may merge.
+    clear: Name,
+    /// The triples whose greatest cluster is below this name are kept, in order.
+    covered: Name,
+    kept: Vec<Merge>,
+    /// The merged clusters that kept triples may still name.
+    gone: List<Name>,
+}
+
+impl Worklist {
+    /// The worklist of a family of which nothing is known yet.
+    pub fn of(alloc: Global, family: &Family, graph: &Graph) -> Result<Worklist, NoMemory>
+        ensures { IfOk result (λ work. Follows work graph.now family.now) }
+    {
+        Ok(Worklist {
+            alloc,
+            index: Index::of(alloc, family, graph)?,
+            clear: Name::Con(0),
+            covered: Name::Con(0),
+            kept: Vec::new(alloc),
+            gone: List::new(alloc),
+        })
+    }
+
+    /// The choice that the picker takes, if there is one.
+    pub fn choice<P: Picker>(
+        &mut self,
+        family: &Family,
+        picker: &mut P,
+    ) -> Result<Option<Merge>, NoMemory>
+        requires { IsIndex self.old.index }
+        ensures follows { OnOk result ((g : AnyGraph) → Follows self.old g family.now → Follows self.new g family.now) }
+        ensures answer { IfOk result (λ choice. (g : AnyGraph) → Follows self.old g family.now → Answers P.answer P.after g family.now picker.old choice picker.new) }
+        ensures sound { IsSound family.now }
+    {
+        match self.first_pair(family) {
+            Some(pair) => Ok(Some(pick_alone(pair, picker))),
+            None => {
+                self.keep_all(family)?;
+                Ok(self.pick_kept(picker))
+            }
+        }
+    }
+
+    /// One of the kept merges.
+    fn pick_kept<P: Picker>(&self, picker: &mut P) -> Option<Merge>
+        ensures { (g : AnyGraph) (f : Clusters) → AreTriples g f self.now.kept.items → Answers P.answer P.after g f picker.old result picker.new }
+    {
+        if self.kept.is_empty() {
+            return None;
+        }
+        let place = picker.pick(self.kept.len() as u64);
+        Some(self.kept[place as usize])
+    }
+
+    /// Takes the clusters of the merge out of the index.
+    pub fn leave(&mut self, family: &Family, merge: Merge)
+        requires { (g : AnyGraph) × (IsSound family.now × Follows self.old g family.now × CanTake g family.now merge) }
+        ensures { (g : AnyGraph) → Follows self.old g family.now → HasLeft self.new g family.now merge }
+    {
+        match merge {
+            Merge::Two(x, y) => self.index.take_out_all(family, &[x, y]),
+            Merge::Three(x, y, z) => self.index.take_out_all(family, &[x, y, z]),
+        }
+    }
+
+    /// Puts the cluster that the merge made into the index.
+    pub fn enter(&mut self, family: &Family, merge: Merge) -> Result<(), NoMemory>
+        requires { (g : AnyGraph) × (f : Clusters) × (IsSound f × HasLeft self.old g f merge × (family.now ≡ merged f merge)) }
+        ensures { OnOk result ((g : AnyGraph) (f : Clusters) → IsSound f → HasLeft self.old g f merge → family.now ≡ merged f merge → Follows self.new g family.now) }
+    {
+        self.index.put_last(family.clusters())?;
+        match merge {
+            Merge::Two(x, y) => self.gone.extend(&[x, y]),
+            Merge::Three(x, y, z) => self.gone.extend(&[x, y, z]),
+        }
+    }
+
+    /// The first pair that may merge.
+    fn first_pair(&mut self, family: &Family) -> Option<Merge>
+        requires { IsIndex self.old.index }
+        ensures index { self.new.index ≡ self.old.index }
+        ensures sound { IsSound family.now }
+        ensures none { IfNone result ((g : AnyGraph) → Follows self.old g family.now → Follows self.new g family.now × HasNoPair g family.now) }
+        ensures some { IfSome result (λ pair. (g : AnyGraph) → Follows self.old g family.now → Follows self.new g family.now × IsFirstPair g family.now pair) }
+    {
+        match first_with_partner(&self.index, family.from(self.clear)) {
+            Some((x, y)) => {
+                self.clear = x;
+                Some(Merge::Two(x, y))
+            }
+            None => {
+                self.clear = Name::Step(family.next_step());
+                None
+            }
+        }
+    }
+
+    /// Keeps all triples.
+    fn keep_all(&mut self, family: &Family) -> Result<(), NoMemory>
+        requires { IsIndex self.old.index }
+        ensures { OnOk result ((g : AnyGraph) → Follows self.old g family.now → HasNoPair g family.now → Follows self.new g family.now × AreTriples g family.now self.new.kept.items) }
+    {
+        let found = self.uncovered(family)?;
+        let gone = names_in_order(self.alloc, self.gone.as_slice())?;
+        drop_naming(&mut self.kept, gone.as_slice());
+        self.gone = List::new(self.alloc);
+        self.kept.extend_from_slice(found.as_slice())?;
+        self.covered = Name::Step(family.next_step());
+        Ok(())
+    }
+
+    /// The triples of the clusters that aren't covered, in order.
+    fn uncovered(&self, family: &Family) -> Result<Vec<Merge>, NoMemory>
+        requires { IsIndex self.now.index }
+        ensures found { IfOk result (λ found. (g : AnyGraph) → Represents self.now.index g family.now.live → AreUncovered g family.now self.now.covered found.items) }
+        ensures sound { IsSound family.now }
+    {
+        let mut found = List::new(self.alloc);
+        add_triples_of_all(&self.index, family.from(self.covered), &mut found)?;
+        in_order(self.alloc, found.as_slice())
+    }
+}
+
+/// The picker's answer where there is one choice alone.
+fn pick_alone<P: Picker>(pair: Merge, picker: &mut P) -> Merge
+    ensures same { result ≡ pair }
+    ensures answer { P.answer picker.old 1 ≡ 0 }
+    ensures after { picker.new ≡ P.after picker.old 1 }
+{
+    let _place = picker.pick(1);
+    pair
+}
