@@ -7,15 +7,9 @@ use Rattle.sk_base.specs.declared.sketch.Rule.{Rule}
 use Rattle.sk_base.specs.declared.sketch.Rule.TheVariants.{Distance, On, Tangent, Outside, Inside, Angle}
 use Rattle.sk_base.specs.declared.sketch.Sketch.{Sketch}
 use Rattle.sk_base.specs.Drawn.{shape_of, HasCentre, IsLine}
-use Rattle.sk_base.specs.SoundSketch.{IsSoundShape, IsSoundRule, MayBeApart, MayBeTangent, BothFit}
-use Rattle.sk_orient.specs.DrawnSigns.{IsOnPaper}
+use Rattle.sk_base.specs.SoundSketch.{IsSoundRule, MayBeApart, MayBeTangent, BothFit}
 use Rattle.sk_graph.specs.Fitting.{Fits}
 use Rattle.sk_graph.specs.SketchGraph.{is_line, first_of, second_of}
-
-pub on_paper : (x : Shape) → IsSoundShape x → IsOnPaper x
-on_paper (Point x y) sound = sound
-on_paper (Line x1 y1 x2 y2) sound = (sound.0, sound.1, sound.2, sound.3)
-on_paper (Circle x y r) sound = (sound.0, sound.1)
 
 pub line_if : (x : Shape) → is_line x ≡ true → IsLine x
 line_if (Point x y) is = cc

@@ -42,7 +42,7 @@ mapped_some f None y is = cc
 mapped_some f (Some x) y is = (x, refl, cc)
 
 -- what is drawn is an element of the sketch
-drawn_in : (s : Sketch) (e : Elem) (shape : Shape) → shape_of s e ≡ Some shape → (x : Element) × Contains s.elements x × (x.number ≡ e) × (x.shape ≡ shape)
+pub drawn_in : (s : Sketch) (e : Elem) (shape : Shape) → shape_of s e ≡ Some shape → (x : Element) × Contains s.elements x × (x.number ≡ e) × (x.shape ≡ shape)
 drawn_in s e shape is =
     let found = mapped_some (λ (x : Element). x.shape) (element_of s e) shape is in
     let among = found_in _ s.elements found.0 found.1 in
@@ -192,7 +192,7 @@ apart_id : (id : ConId) (u v : Elem) (len : ℤ) → (apart id u v len).id ≡ i
 apart_id id u v len = one_id id (nat_lt u.0 v.0) _ _ refl refl
 
 -- an edge has the number of its constraint
-edge_id : (id : ConId) (rule : Rule) (a b : Shape) → (edge_between id rule a b).id ≡ id
+pub edge_id : (id : ConId) (rule : Rule) (a b : Shape) → (edge_between id rule a b).id ≡ id
 edge_id id (Distance u v len) a b =
     one_id id (is_line a) _ (cond (is_line b) (beside id u v len.0 (side_drawn b a)) (apart id u v len.0)) refl
     (one_id id (is_line b) _ (apart id u v len.0) refl (apart_id id u v len.0))

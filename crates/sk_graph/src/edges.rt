@@ -46,7 +46,7 @@ fn shape(s: &Sketch, e: Elem) -> Shape
     ensures shape { shape_of s.now e ≡ Some result }
     ensures sound { IsSoundShape result }
 {
-    match s.element(e) {
+    match s.look_up(e) {
         Some(element) => element.shape,
         None => unreachable!(),
     }
@@ -75,7 +75,7 @@ fn edge_between(id: ConId, rule: Rule, a: Shape, b: Shape) -> Edge
 }
 
 /// A line and what is off it, or two points or centres.
-#[tactic(auto, using(crate::proofs::Fittings::on_paper, crate::proofs::Fittings::line_if, crate::proofs::Fittings::centre_unless, crate::proofs::Fittings::centre_beside))]
+#[tactic(auto, using(sk_orient::proofs::Papers::on_paper, crate::proofs::Fittings::line_if, crate::proofs::Fittings::centre_unless, crate::proofs::Fittings::centre_beside))]
 fn distance_edge(id: ConId, u: Elem, v: Elem, len: Um, a: Shape, b: Shape) -> Edge
     requires a { IsSoundShape a }
     requires b { IsSoundShape b }
@@ -104,7 +104,7 @@ fn on_edge(id: ConId, u: Elem, v: Elem, b: Shape) -> Edge
 }
 
 /// A line and a circle, in either order.
-#[tactic(auto, using(crate::proofs::Fittings::on_paper, crate::proofs::Fittings::line_if, crate::proofs::Fittings::centre_unless, crate::proofs::Fittings::centre_touched, crate::proofs::Fittings::line_touched))]
+#[tactic(auto, using(sk_orient::proofs::Papers::on_paper, crate::proofs::Fittings::line_if, crate::proofs::Fittings::centre_unless, crate::proofs::Fittings::centre_touched, crate::proofs::Fittings::line_touched))]
 fn tangent_edge(id: ConId, u: Elem, v: Elem, a: Shape, b: Shape) -> Edge
     requires a { IsSoundShape a }
     requires b { IsSoundShape b }

@@ -4,4 +4,5 @@
 mod edges;
 mod reduction;
 
+pub use edges::edge;
 pub use reduction::reduce;

@@ -1,3 +1,5 @@
 pub mod Trees
 pub mod Meeting
 pub mod LegalPlan
+pub mod PlanTree
+pub mod ByNumber

@@ -2,9 +2,11 @@
 #![tactic(auto)]
 
 mod joined;
+mod order;
 mod plan;
 mod tree;
 
 pub use joined::build;
+pub use order::in_order;
 pub use plan::{Choice, Plan, PlanStep};
 pub use tree::{Joint, Tree, height, leaf_tree, leaves, steps};
