@@ -1,0 +1,64 @@
+// What the drawing chooses where a step leaves something open.
+ghost use Rattle.std.specs.Prelude.{◌≡◌, ◌≢◌, ◌↔◌, [], ◌∷◌, not, IsTrue, IsSome, Some};
+ghost use Rattle.sk_base.specs.Drawn.{shape_of, IsLine, HasCentre};
+ghost use Rattle.sk_base.specs.SoundSketch.{IsSoundSketch};
+ghost use Rattle.sk_graph.specs.SketchGraph.{is_line};
+ghost use Rattle.sk_orient.specs.DrawnSigns.{IsOnPaper};
+ghost use Rattle.sk_tree.specs.ByNumber.{by_number};
+ghost use Rattle.sk_choice.specs.DrawnChoice.{drawn_choice, shapes_of};
+
+use sk_base::{Elem, Shape, Sketch};
+use sk_orient::{advance_drawn, turn_drawn};
+use sk_tree::{Choice, in_order};
+
+/// The choice of three drawn elements.
+pub fn choice_of(sketch: &Sketch, a: Elem, b: Elem, c: Elem) -> Choice
+    requires sound { IsSoundSketch sketch.now }
+    requires a_b { a ≢ b }
+    requires b_c { b ≢ c }
+    requires c_a { c ≢ a }
+    requires a_drawn { IsSome (shape_of sketch.now a) }
+    requires b_drawn { IsSome (shape_of sketch.now b) }
+    requires c_drawn { IsSome (shape_of sketch.now c) }
+    ensures { result ≡ drawn_choice (shapes_of sketch.now (by_number a b c)) }
+{
+    let (p, q, r) = in_order(a, b, c);
+    choice_between(shape(sketch, p), shape(sketch, q), shape(sketch, r))
+}
+
+/// How a drawn element is drawn.
+fn shape(sketch: &Sketch, e: Elem) -> &Shape
+    requires sound { IsSoundSketch sketch.now }
+    requires drawn { IsSome (shape_of sketch.now e) }
+    ensures shape { shape_of sketch.now e ≡ Some result.now }
+    ensures on_paper { IsOnPaper result.now }
+{
+    match sketch.look_up(e) {
+        Some(element) => &element.shape,
+        None => unreachable!(),
+    }
+}
+
+/// Three points turn, two points advance along a line, else nothing is open.
+fn choice_between(p: &Shape, q: &Shape, r: &Shape) -> Choice
+    requires p { IsOnPaper p.now }
+    requires q { IsOnPaper q.now }
+    requires r { IsOnPaper r.now }
+    ensures { result ≡ drawn_choice (p.now ∷ q.now ∷ r.now ∷ []) }
+{
+    match (is_line(p), is_line(q), is_line(r)) {
+        (false, false, false) => Choice::Turn(turn_drawn(p, q, r)),
+        (true, false, false) => Choice::Advance(advance_drawn(p, q, r)),
+        (false, true, false) => Choice::Advance(advance_drawn(q, p, r)),
+        (false, false, true) => Choice::Advance(advance_drawn(r, p, q)),
+        _ => Choice::Nothing,
+    }
+}
+
+fn is_line(shape: &Shape) -> bool
+    ensures computed { result ≡ is_line shape.now }
+    ensures line { IsTrue result ↔ IsLine shape.now }
+    ensures centre { IsTrue (not result) ↔ HasCentre shape.now }
+{
+    matches!(shape, Shape::Line { .. })
+}

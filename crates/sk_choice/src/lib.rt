@@ -1,0 +1,6 @@
+//! What the drawing chooses where a step leaves something open.
+#![tactic(auto)]
+
+mod choice;
+
+pub use choice::choice_of;
