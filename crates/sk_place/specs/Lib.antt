@@ -1,0 +1,9 @@
+pub mod Clusters
+pub mod Carrying
+pub mod Steps
+pub mod Trees
+pub mod Placing
+pub mod Running
+pub mod Nesting
+pub mod Rounding
+pub mod Slots

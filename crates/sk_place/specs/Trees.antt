@@ -1,0 +1,67 @@
+-- The boxes of a tree and its faults. Nothing here knows an order of work.
+use Rattle.std.specs.Prelude.{◌≡◌, ◌⊎◌, ◌==◌, ℕ, List, [], ◌∷◌, Option, Some, None, Result, Ok, Err, find}
+use Rattle.sk_base.specs.declared.Edge.{Edge}
+use Rattle.sk_base.specs.declared.Graph.{Graph}
+use Rattle.sk_base.specs.declared.Name.{Name}
+use Rattle.sk_base.specs.ClusterNames.{name_eq, IsBelow}
+use Rattle.sk_steps.specs.declared.BoxOf.{BoxOf}
+use Rattle.sk_steps.specs.Leaves.{leaf}
+use Rattle.sk_tree.specs.declared.PlanStep.{PlanStep}
+use Rattle.sk_tree.specs.declared.Tree.{Tree}
+use Rattle.sk_tree.specs.declared.Tree.TheVariants.{Leaf, Join'}
+use Rattle.sk_place.specs.declared.boxes.BoxAt.{BoxAt}
+use Rattle.sk_place.specs.declared.fault.StepFault.{StepFault}
+use Rattle.sk_place.specs.Clusters.{with_box}
+use Rattle.sk_place.specs.Steps.{joined}
+
+-- the constraint of this number, and the step of this name
+abbrev pub edge_of : Graph → ℕ → Option Edge
+edge_of g k = find (λ (e : Edge). e.id.0 == k) g.edges
+
+abbrev pub step_of : List PlanStep → Name → Option PlanStep
+step_of steps n = find (λ (s : PlanStep). name_eq s.step n) steps
+
+abbrev pub two_boxes : {G N : Type 0} → Edge → Result (BoxOf G × BoxOf G) N → Option (List (BoxAt G))
+two_boxes e (Ok found) = Some (with_box (record { elem = e.u; at = found.0 }) (record { elem = e.v; at = found.1 } ∷ []))
+two_boxes e (Err fault) = None
+
+-- the boxes of a constraint's two ends, in its frame
+abbrev pub frame_of : {G : Type 0} → ℕ → Option Edge → Option (List (BoxAt G))
+frame_of F (Some e) = two_boxes e (leaf F e.measure)
+frame_of F None = None
+
+-- what the step of this name makes of its three children's boxes: boxes, or a fault; nothing where a child has no boxes
+abbrev pub made : {G : Type 0} → ℕ → Option PlanStep → Option (List (BoxAt G)) → Option (List (BoxAt G)) → Option (List (BoxAt G)) → Option (Result (List (BoxAt G)) StepFault)
+made F (Some s) (Some one) (Some two) (Some three) = Some (joined F s one two three)
+made F (Some s) (Some one) (Some two) None = None
+made F (Some s) (Some one) None three = None
+made F (Some s) None two three = None
+made F None one two three = None
+
+abbrev pub boxes_in : {X E : Type 0} → Option (Result X E) → Option X
+boxes_in (Some (Ok x)) = Some x
+boxes_in (Some (Err e)) = None
+boxes_in None = None
+
+-- the boxes of a tree: a constraint's frame, or what a step makes of the boxes of its three children
+abbrev pub boxes : {G : Type 0} → ℕ → Graph → List PlanStep → Tree → Option (List (BoxAt G))
+boxes F g steps (Leaf c) = frame_of F (edge_of g c.0)
+boxes F g steps (Join' p step shared one two three) =
+    boxes_in (made F (step_of steps step) (boxes F g steps one) (boxes F g steps two) (boxes F g steps three))
+
+-- f is the fault of a join whose three children have boxes
+abbrev pub IsFault : Type 0 → ℕ → Graph → List PlanStep → Tree → StepFault → Type 0
+IsFault G F g steps (Leaf c) f = ⊥
+IsFault G F g steps (Join' p step shared one two three) f =
+    (made {G = G} F (step_of steps step) (boxes F g steps one) (boxes F g steps two) (boxes F g steps three) ≡ Some (Err f))
+    ⊎ (IsFault G F g steps one f ⊎ (IsFault G F g steps two f ⊎ IsFault G F g steps three f))
+
+-- no join of a lesser step has a fault
+pub record IsFirstFault (G : Type 0) (F : ℕ) (g : Graph) (steps : List PlanStep) (t : Tree) (f : StepFault) : Type 0 where
+  pub fails : IsFault G F g steps t f
+  pub first : (other : StepFault) → IsFault G F g steps t other → ¬ IsBelow other.step f.step
+
+-- the tree has these boxes, and no join of it has a fault
+pub record HasBoxes {G : Type 0} (F : ℕ) (g : Graph) (steps : List PlanStep) (t : Tree) (bs : List (BoxAt G)) : Type 0 where
+  pub are : boxes F g steps t ≡ Some bs
+  pub faultless : (f : StepFault) → ¬ IsFault G F g steps t f

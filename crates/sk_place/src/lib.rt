@@ -1,0 +1,17 @@
+//! The boxes that a plan gives to the elements of a drawing.
+#![tactic(auto)]
+
+mod boxes;
+mod carry;
+mod fault;
+mod joining;
+mod live;
+mod lookup;
+mod placing;
+mod rounding;
+mod setting;
+
+pub use boxes::{BoxAt, Boxes};
+pub use fault::{Phase, PlaceError, StepFault};
+pub use placing::place;
+pub use rounding::round;

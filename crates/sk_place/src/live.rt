@@ -1,0 +1,122 @@
+// The boxes of live clusters.
+ghost use Rattle.std.specs.Prelude.{◌≡◌, ◌≢◌, ℕ, ◌+◌, ◌∷◌, ◌++◌, [], length, IfOk, IfSome, OnOk, OnErr, None, Some, IsSome, Contains, slice_get, slice_set, slice_index_or};
+ghost use Rattle.sk_base.specs.declared.Edge.{Edge as OfEdge};
+ghost use Rattle.sk_base.specs.declared.Name.{Name as OfName};
+ghost use Rattle.sk_base.specs.SoundGraph.{IsSoundGraph};
+ghost use Rattle.sk_steps.specs.Leaves.{IsSoundMeasure};
+ghost use Rattle.sk_place.specs.Trees.{edge_of, frame_of};
+ghost use Rattle.sk_place.specs.Running.{held, IsThere};
+
+use crate::boxes::BoxAt;
+use crate::lookup::put;
+use sk_base::{Edge, Graph, List, Name, NoMemory};
+use sk_interval::Grid;
+use sk_steps::leaf_boxes;
+use slab::Slab;
+use std::alloc::Global;
+use std::marker::Model;
+
+/// The boxes of the clusters that steps have made, by the steps' numbers; nothing stands at 0, nor
+/// where a cluster is no longer live. The place of what is taken out goes to the next.
+#[derive(Drop)]
+pub(crate) struct Live<G: Grid> {
+    boxes: Slab<List<BoxAt<G>>>,
+    keys: List<Option<usize>>,
+}
+
+impl<G: Grid> Model for Live<G> {
+    ghost use Rattle.std.specs.Prelude.{List as Items, Option as Maybe};
+    ghost use Rattle.sk_place.specs.declared.boxes.BoxAt.{BoxAt};
+    ghost use Rattle.sk_place.specs.Slots.{slots_of, HaveOwnKeys};
+
+    ghost Value = { Items (Maybe (Items (BoxAt G))) };
+
+    ghost view = { λ live. slots_of live.boxes live.keys };
+
+    ghost invariant = { λ live. HaveOwnKeys live.boxes live.keys };
+}
+
+impl<G: Grid> Live<G> {
+    /// Nothing is made yet.
+    pub(crate) fn new(alloc: Global) -> Result<Live<G>, NoMemory>
+        ensures { IfOk result (λ live. live ≡ None ∷ []) }
+    {
+        let mut keys = List::new(alloc);
+        keys.push(None)?;
+        Ok(Live {
+            boxes: Slab::new(alloc),
+            keys,
+        })
+    }
+
+    /// Puts down what the next step made.
+    pub(crate) fn push(&mut self, boxes: List<BoxAt<G>>) -> Result<(), NoMemory>
+        ensures { OnOk result (self.new ≡ self.old ++ Some boxes ∷ []) }
+    {
+        let key = self.boxes.insert(boxes)?;
+        self.keys.push(Some(key))
+    }
+
+    /// Takes out what the step of this number made.
+    fn take(&mut self, step: usize) -> List<BoxAt<G>>
+        requires { IsSome (slice_index_or self.old step None) }
+        ensures boxes { slice_index_or self.old step None ≡ Some result }
+        ensures rest { self.new ≡ slice_set self.old step None }
+    {
+        match self.keys.set(step, None) {
+            Some(key) => self.boxes.remove(key),
+            None => unreachable!(),
+        }
+    }
+}
+
+/// The constraint of that number.
+fn edge_of(g: &Graph, k: u32) -> &Edge
+    requires sound { IsSoundGraph g.now }
+    requires found { IsSome (edge_of g.now k) }
+    ensures { edge_of g.now k ≡ Some result.now }
+{
+    let edges = g.edges.as_slice();
+    let place = edges.partition_point(|e| e.id.0 < k);
+    &edges[place]
+}
+
+/// The boxes of a constraint's two ends, in its frame.
+fn framed<G: Grid>(alloc: Global, edge: &Edge) -> Result<List<BoxAt<G>>, NoMemory>
+    requires { IsSoundMeasure edge.now.measure }
+    ensures { IfOk result (λ bs. frame_of G.BITS (Some edge.now) ≡ Some bs) }
+{
+    let (u, v) = leaf_boxes(edge);
+    let mut boxes = List::new(alloc);
+    boxes.push(BoxAt {
+        elem: edge.v,
+        at: v,
+    })?;
+    put(
+        &mut boxes,
+        BoxAt {
+            elem: edge.u,
+            at: u,
+        },
+    )?;
+    Ok(boxes)
+}
+
+/// The boxes of the live cluster of that name, which are no longer live where a step made them.
+pub(crate) fn taken<G: Grid>(
+    alloc: Global,
+    g: &Graph,
+    live: &mut Live<G>,
+    name: Name,
+) -> Result<List<BoxAt<G>>, NoMemory>
+    requires sound { IsSoundGraph g.now }
+    requires there { IsThere g.now live.old name }
+    ensures boxes { IfOk result (λ bs. held G.BITS g.now live.old name ≡ Some bs) }
+    ensures slots { length live.new ≡ length live.old }
+    ensures others { (n : OfName) → n ≢ name → held G.BITS g.now live.new n ≡ held G.BITS g.now live.old n }
+{
+    match name {
+        Name::Con(k) => framed(alloc, edge_of(g, k)),
+        Name::Step(k) => Ok(live.take(k as usize)),
+    }
+}
