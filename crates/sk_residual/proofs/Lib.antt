@@ -1,0 +1,11 @@
+pub mod LengthLemmas
+pub mod OffsetLemmas
+pub mod Bounds
+pub mod Placings
+pub mod Worsts
+pub mod Firsts
+pub mod Passings
+pub mod Drawings
+pub mod Comparisons
+pub mod InOrder
+pub mod OneMeasured

@@ -1,0 +1,15 @@
+-- The least number with which something holds, and the first item of a list that has a property.
+use Rattle.std.specs.Prelude.{ℕ, ◌≡◌, ◌≤◌, List, ◌∷◌, ◌++◌, Contains}
+
+-- it holds with n, and with no lesser number
+pub record IsLeast (P : ℕ → Type 0) (n : ℕ) : Type 0 where
+  pub holds : P n
+  pub least : (m : ℕ) → P m → n ≤ m
+
+-- x has the property, and no item before it has
+pub record IsFirst {X : Type 0} (P : X → Type 0) (xs : List X) (x : X) : Type 0 where
+  pub before : List X
+  pub after : List X
+  pub parts : xs ≡ before ++ x ∷ after
+  pub has : P x
+  pub none_before : (y : X) → Contains before y → ¬ P y

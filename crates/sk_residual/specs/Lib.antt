@@ -1,0 +1,7 @@
+pub mod Least
+pub mod Offsets
+pub mod Holding
+pub mod Placing
+pub mod Tolerances
+pub mod Turns
+pub mod Telling

@@ -1,0 +1,50 @@
+-- What the functions of this crate tell each other on the way.
+use Rattle.std.specs.Prelude.{◌≢◌, ℕ, List, Option, Some, None, IsSome, MatchOption}
+use Rattle.sk_base.specs.declared.ConId.{ConId}
+use Rattle.sk_base.specs.declared.Elem.{Elem}
+use Rattle.sk_base.specs.declared.Placed.{Placed}
+use Rattle.sk_base.specs.declared.Sketch.{Sketch}
+use Rattle.sk_base.specs.Drawn.{shape_of, IsLine, HasCentre}
+use Rattle.sk_graph.specs.SketchGraph.{drawn_as}
+use Rattle.sk_tree.specs.declared.PlanStep.{PlanStep}
+use Rattle.sk_residual.specs.declared.beyond.Beyond.{Beyond}
+use Rattle.sk_residual.specs.declared.spotted.Spotted.{Spotted}
+use Rattle.sk_residual.specs.declared.spotted.Spotted.TheVariants.{Con, Line}
+use Rattle.sk_residual.specs.declared.turned.Turned.{Turned}
+use Rattle.sk_residual.specs.declared.worst.Worst.{Worst}
+use Rattle.sk_residual.specs.Least.{IsLeast, IsFirst}
+use Rattle.sk_residual.specs.Tolerances.{Item, AllHold, IsWorstUnlessNone, IsFirstBeyond}
+use Rattle.sk_residual.specs.Turns.{IsTurned, AllAsDrawn}
+
+-- the least number within which all items hold, and the worst of them
+pub record IsTold (p : Placed) (items : List Item) (worst : Worst) : Type 0 where
+  pub least : IsLeast (AllHold p items) worst.least
+  pub at : IsWorstUnlessNone p items worst.least worst.at
+
+-- the constraint of that name
+abbrev pub constraint_of : Option Spotted → Option ConId
+constraint_of None = None
+constraint_of (Some (Con k)) = Some k
+constraint_of (Some (Line e)) = None
+
+-- all hold within the limit, or the first that doesn't is told
+abbrev pub IsSearched : Placed → List Item → ℕ → Option Beyond → Type 0
+IsSearched p items limit beyond = MatchOption beyond (AllHold p items limit) (IsFirstBeyond p items limit)
+
+-- all are as drawn, or the first that isn't is told
+abbrev pub IsCompared : List Turned → Option Turned → Type 0
+IsCompared signs turned = MatchOption turned (AllAsDrawn signs) (IsFirst IsTurned signs)
+
+-- drawn as a point or a circle
+abbrev pub IsDrawnPoint : Sketch → Elem → Type 0
+IsDrawnPoint s e = IsSome (shape_of s e) × HasCentre (drawn_as s e)
+
+abbrev pub IsDrawnLine : Sketch → Elem → Type 0
+IsDrawnLine s e = IsSome (shape_of s e) × IsLine (drawn_as s e)
+
+-- the three elements of the step are different, and drawn
+pub record HasCorners (s : Sketch) (step : PlanStep) : Type 0 where
+  pub differ : (step.a ≢ step.b) × (step.b ≢ step.c) × (step.c ≢ step.a)
+  pub a : IsSome (shape_of s step.a)
+  pub b : IsSome (shape_of s step.b)
+  pub c : IsSome (shape_of s step.c)

@@ -1,0 +1,110 @@
+-- What has a tolerance: the normals of the lines, and the constraints.
+use Rattle.std.specs.Prelude.{◌≡◌, ℕ, ◌<◌, List, [], ◌∷◌, ◌++◌, map, Contains, Option, MatchOption}
+use Rattle.std.specs.List.{flat_map}
+use Rattle.sk_base.specs.declared.Elem.{Elem}
+use Rattle.sk_base.specs.declared.Kind.{Kind}
+use Rattle.sk_base.specs.declared.Kind.TheVariants as kinds
+use Rattle.sk_base.specs.declared.Measure.{Measure}
+use Rattle.sk_base.specs.declared.Measure.TheVariants.{PointPoint, PointLine, LineLine}
+use Rattle.sk_base.specs.declared.Node.{Node}
+use Rattle.sk_base.specs.declared.Edge.{Edge}
+use Rattle.sk_base.specs.declared.Graph.{Graph}
+use Rattle.sk_base.specs.declared.Placed.{Placed}
+use Rattle.sk_base.specs.SoundGraph.{HasNode}
+use Rattle.sk_residual.specs.declared.spotted.Spotted.{Spotted}
+use Rattle.sk_residual.specs.declared.spotted.Spotted.TheVariants.{Con, Line}
+use Rattle.sk_residual.specs.declared.beyond.Beyond.{Beyond}
+use Rattle.sk_residual.specs.Least.{IsLeast, IsFirst}
+use Rattle.sk_residual.specs.Holding.{IsNormal, IsMet, tolerance_of}
+use Rattle.sk_residual.specs.Placing.{lies}
+
+pub data Item : Type 0 where
+  normal : Elem → Item
+  constraint : Edge → Item
+
+-- how the item is named
+abbrev pub name_of : Item → Spotted
+name_of (normal line) = Line line
+name_of (constraint e) = Con e.id
+
+-- where the elements are placed the item holds within n, which is a t or a w as the item asks
+abbrev pub Holds : Placed → Item → ℕ → Type 0
+Holds p (normal line) n = IsNormal (lies p line) n
+Holds p (constraint e) n = IsMet e.measure (lies p e.u) (lies p e.v) n
+
+-- n is the item's own least number
+abbrev pub IsOwnLeast : Placed → Item → ℕ → Type 0
+IsOwnLeast p item n = IsLeast (Holds p item) n
+
+-- each of the items holds within n
+abbrev pub AllHold : Placed → List Item → ℕ → Type 0
+AllHold p items n = (item : Item) → Contains items item → Holds p item n
+
+abbrev pub normal_of_kind : Elem → Kind → List Item
+normal_of_kind e kinds.Point = []
+normal_of_kind e kinds.Line = normal e ∷ []
+
+-- the normals of the lines, in order
+abbrev pub normals : List Node → List Item
+normals nodes = flat_map (λ (n : Node). normal_of_kind n.elem n.kind) nodes
+
+abbrev pub distance_of_measure : Edge → Measure → List Item
+distance_of_measure e (PointPoint len) = constraint e ∷ []
+distance_of_measure e (PointLine len side) = constraint e ∷ []
+distance_of_measure e (LineLine ratio sense) = []
+
+-- the constraints on a distance between two points or from a line, in order
+abbrev pub distances : List Edge → List Item
+distances edges = flat_map (λ (e : Edge). distance_of_measure e e.measure) edges
+
+abbrev pub angle_of_measure : Edge → Measure → List Item
+angle_of_measure e (PointPoint len) = []
+angle_of_measure e (PointLine len side) = []
+angle_of_measure e (LineLine ratio sense) = constraint e ∷ []
+
+-- the constraints on an angle, in order
+abbrev pub angles : List Edge → List Item
+angles edges = flat_map (λ (e : Edge). angle_of_measure e e.measure) edges
+
+-- what the tolerance of lengths is of
+abbrev pub lengthwise : Graph → List Item
+lengthwise g = distances g.edges
+
+-- what the tolerance of angles is of: the normals, then the angles
+abbrev pub anglewise : Graph → List Item
+anglewise g = normals g.nodes ++ angles g.edges
+
+-- all constraints, in order
+abbrev pub constraints : List Edge → List Item
+constraints edges = map (λ (e : Edge). constraint e) edges
+
+-- the normals, then all constraints
+abbrev pub everything : Graph → List Item
+everything g = normals g.nodes ++ constraints g.edges
+
+-- each normal holds within w, each constraint within t or w, as it asks
+pub record AllHoldWithin (p : Placed) (g : Graph) (t w : ℕ) : Type 0 where
+  pub lines : (line : Elem) → HasNode g line kinds.Line → Holds p (normal line) w
+  pub edges : (e : Edge) → Contains g.edges e → Holds p (constraint e) (tolerance_of e.measure t w)
+
+-- the first item whose own least number is n has that name
+pub record IsWorst (p : Placed) (items : List Item) (n : ℕ) (at : Spotted) : Type 0 where
+  pub item : Item
+  pub first : IsFirst (λ i. IsOwnLeast p i n) items item
+  pub named : name_of item ≡ at
+
+-- there is a worst item, unless there is no item
+abbrev pub IsWorstUnlessNone : Placed → List Item → ℕ → Option Spotted → Type 0
+IsWorstUnlessNone p items n worst = MatchOption worst (items ≡ []) (IsWorst p items n)
+
+-- the item's own least number is above the limit
+abbrev pub IsAbove : Placed → ℕ → Item → Type 0
+IsAbove p limit item = (n : ℕ) × IsOwnLeast p item n × (limit < n)
+
+-- the first item whose own least number is above the limit, and that number
+pub record IsFirstBeyond (p : Placed) (items : List Item) (limit : ℕ) (b : Beyond) : Type 0 where
+  pub item : Item
+  pub first : IsFirst (IsAbove p limit) items item
+  pub named : name_of item ≡ b.at
+  pub least : IsOwnLeast p item b.least
+  pub limited : b.limit ≡ limit

@@ -1,0 +1,62 @@
+// Whether constraints hold where their ends are placed, and their own least numbers.
+ghost use Rattle.std.specs.Prelude.{◌≡◌, ◌≤◌, ◌^◌, ◌↔◌, IsTrue, Contains};
+ghost use Rattle.sk_base.specs.declared.Graph.{Graph as OfGraph};
+ghost use Rattle.sk_base.specs.declared.Kind.TheVariants as kinds;
+ghost use Rattle.sk_base.specs.SoundGraph.{IsSoundGraph};
+ghost use Rattle.sk_residual.specs.Holding.{tolerance_of};
+ghost use Rattle.sk_residual.specs.Placing.{IsPlacedAs, EndsArePlaced, IsMeasurable};
+ghost use Rattle.sk_residual.specs.Tolerances.{normal, constraint, Holds, IsOwnLeast};
+
+use crate::measured::{is_met, least_of, least_of_normal};
+use crate::place::place;
+use sk_base::{Edge, Elem, Measure, Placed};
+
+/// Whether the constraint holds within `t`, or within `w` if it is an angle.
+pub fn meets(p: &Placed, e: &Edge, t: u64, w: u64) -> bool
+    requires edge { (g : OfGraph) × IsSoundGraph g × Contains g.edges e.now }
+    requires placed { EndsArePlaced p.now e.now.u e.now.v e.now.measure }
+    requires t { t ≤ 2 ^ 62 }
+    requires w { w ≤ 2 ^ 62 }
+    ensures { IsTrue result ↔ Holds p.now (constraint e.now) (tolerance_of e.now.measure t w) }
+{
+    is_met(
+        e.measure,
+        place(p, e.u),
+        place(p, e.v),
+        tolerance_of(e.measure, t, w),
+    )
+}
+
+/// Whether the line's normal holds within `w`.
+pub fn meets_normal(p: &Placed, line: Elem, w: u64) -> bool
+    requires { IsPlacedAs p.now line kinds.Line }
+    ensures { IsTrue result ↔ Holds p.now (normal line) w }
+{
+    own_least_of_normal(p, line) <= w
+}
+
+/// The one of the two tolerances that the measure has.
+fn tolerance_of(measure: Measure, t: u64, w: u64) -> u64
+    ensures { result ≡ tolerance_of measure t w }
+{
+    match measure {
+        Measure::PointPoint(_) | Measure::PointLine(_, _) => t,
+        Measure::LineLine(_, _) => w,
+    }
+}
+
+/// The constraint's own least number.
+pub(crate) fn own_least(p: &Placed, e: &Edge) -> u64
+    requires { IsMeasurable p.now e.now }
+    ensures { IsOwnLeast p.now (constraint e.now) result }
+{
+    least_of(e.measure, place(p, e.u), place(p, e.v))
+}
+
+/// The own least number of the line's normal.
+pub(crate) fn own_least_of_normal(p: &Placed, line: Elem) -> u64
+    requires { IsPlacedAs p.now line kinds.Line }
+    ensures { IsOwnLeast p.now (normal line) result }
+{
+    least_of_normal(place(p, line))
+}

@@ -1,0 +1,91 @@
+// The least tolerance of a placed sketch.
+ghost use Rattle.std.specs.Prelude.{◌≡◌, ◌++◌, List, Contains};
+ghost use Rattle.std.specs.Option.{option_map};
+ghost use Rattle.sk_base.specs.declared.Edge.{Edge as OfEdge};
+ghost use Rattle.sk_base.specs.declared.Node.{Node as OfNode};
+ghost use Rattle.sk_base.specs.SoundGraph.{IsSoundGraph};
+ghost use Rattle.sk_residual.specs.Least.{IsLeast};
+ghost use Rattle.sk_residual.specs.Placing.{IsPlacedAs, IsMeasurable, PlacesExactly};
+ghost use Rattle.sk_residual.specs.Tolerances.{Item, AllHold, AllHoldWithin, IsWorstUnlessNone, normals, distances, angles, lengthwise, anglewise};
+ghost use Rattle.sk_residual.specs.Telling.{IsTold, constraint_of};
+
+use crate::spotted::Spotted;
+use crate::worst::Worst;
+use sk_base::{ConId, Edge, Graph, Node, Placed};
+
+/// The least tolerances with which a placed sketch holds: `t` in nanometres for lengths and heights,
+/// `w` in parts per 10^9 for angles and the normals of lines. The worst of each is the first whose own
+/// least number is the tolerance.
+#[derive(Clone, Copy, Debug, PartialEq, Eq)]
+pub struct Tolerance {
+    pub t: u64,
+    pub w: u64,
+    pub worst_t: Option<ConId>,
+    pub worst_w: Option<Spotted>,
+}
+
+/// The least tolerances with which the sketch of that graph, so placed, holds, and what is worst.
+pub fn least(p: &Placed, g: &Graph) -> Tolerance
+    requires graph { IsSoundGraph g.now }
+    requires placed { PlacesExactly g.now p.now }
+    ensures t { IsLeast (AllHold p.now (lengthwise g.now)) result.t }
+    ensures w { IsLeast (AllHold p.now (anglewise g.now)) result.w }
+    ensures holds { AllHoldWithin p.now g.now result.t result.w }
+    ensures worst_t { IsWorstUnlessNone p.now (lengthwise g.now) result.t (option_map (λ k. Spotted.Con k) result.worst_t) }
+    ensures worst_w { IsWorstUnlessNone p.now (anglewise g.now) result.w result.worst_w }
+{
+    let lengthwise = worst_distance(p, g.edges.as_slice());
+    let anglewise = worst_angle(p, g.edges.as_slice(), worst_normal(p, g.nodes.as_slice()));
+    Tolerance {
+        t: lengthwise.least,
+        w: anglewise.least,
+        worst_t: constraint_of(lengthwise.at),
+        worst_w: anglewise.at,
+    }
+}
+
+/// The worst constraint on a distance.
+fn worst_distance(p: &Placed, edges: &[Edge]) -> Worst
+    requires { (e : OfEdge) → Contains edges.now e → IsMeasurable p.now e }
+    ensures { IsTold p.now (distances edges.now) result }
+{
+    let mut worst = Worst::none();
+    for e in edges {
+        worst = worst.with_distance(p, e);
+    }
+    worst
+}
+
+/// The worst normal of a line.
+fn worst_normal(p: &Placed, nodes: &[Node]) -> Worst
+    requires { (n : OfNode) → Contains nodes.now n → IsPlacedAs p.now n.elem n.kind }
+    ensures { IsTold p.now (normals nodes.now) result }
+{
+    let mut worst = Worst::none();
+    for node in nodes {
+        worst = worst.with_normal(p, node);
+    }
+    worst
+}
+
+/// The worst of what came before and of the constraints on an angle.
+fn worst_angle(p: &Placed, edges: &[Edge], before: Worst) -> Worst
+    requires { (e : OfEdge) → Contains edges.now e → IsMeasurable p.now e }
+    ensures { (items : List Item) → IsTold p.now items before → IsTold p.now (items ++ angles edges.now) result }
+{
+    let mut worst = before;
+    for e in edges {
+        worst = worst.with_angle(p, e);
+    }
+    worst
+}
+
+/// The constraint that is named, if it is one.
+fn constraint_of(named: Option<Spotted>) -> Option<ConId>
+    ensures { result ≡ constraint_of named }
+{
+    match named {
+        Some(Spotted::Con(k)) => Some(k),
+        Some(Spotted::Line(_)) | None => None,
+    }
+}

@@ -1,0 +1,200 @@
+// Which sign is turned over where a sketch is placed.
+ghost use Rattle.std.specs.Prelude.{◌≡◌, ◌≢◌, ◌↔◌, not, List, [], ◌∷◌, Contains, IsTrue, IsSome, IsNone, IfSome};
+ghost use Rattle.sk_base.specs.declared.Constraint.{Constraint as OfConstraint};
+ghost use Rattle.sk_base.specs.Drawn.{shape_of, IsLine, HasCentre};
+ghost use Rattle.sk_base.specs.SoundSketch.{IsSoundSketch, IsSoundRule, IsSoundRatio};
+ghost use Rattle.sk_graph.specs.SketchGraph.{graph_of, drawn_as, is_line};
+ghost use Rattle.sk_tree.specs.declared.PlanStep.{PlanStep as OfStep};
+ghost use Rattle.sk_tree.specs.ByNumber.{by_number};
+ghost use Rattle.sk_tree.specs.LegalPlan.{IsLegalPlan};
+ghost use Rattle.sk_residual.specs.Least.{IsFirst};
+ghost use Rattle.sk_residual.specs.Placing.{PlacesExactly};
+ghost use Rattle.sk_residual.specs.Turns.{senses, turn, advance, choices, angle_signs, step_signs, signs, value_of, IsAsDrawn, IsTurned, AllAsDrawn};
+ghost use Rattle.sk_residual.specs.Telling.{IsDrawnPoint, IsDrawnLine, HasCorners, IsCompared};
+
+use crate::place::{place, shape};
+use sk_base::{ConId, Constraint, Elem, Name, Placed, Ratio, Rule, Shape, Sign, Sketch};
+use sk_orient::{
+    advance_drawn, advance_placed, sense_drawn, sense_placed, turn_drawn, turn_placed,
+};
+use sk_tree::{Plan, PlanStep, in_order};
+
+/// A sign as it is drawn, where zero is plus, and as it is placed: −1, 0 or 1. It is that of the
+/// constraint or the step of that name.
+#[derive(Clone, Copy, Debug, PartialEq, Eq)]
+pub struct Turned {
+    pub at: Name,
+    pub drawn: Sign,
+    pub placed: i8,
+}
+
+/// The first sign that isn't placed as it is drawn: the sense of an angle, in order of number, and
+/// else the turn or the advance of a step.
+pub fn first_turned(p: &Placed, s: &Sketch, plan: &Plan) -> Option<Turned>
+    requires sketch { IsSoundSketch s.now }
+    requires placed { PlacesExactly (graph_of s.now) p.now }
+    requires plan { IsLegalPlan (graph_of s.now) plan.now }
+    ensures none { IsNone result ↔ AllAsDrawn (signs s.now p.now plan.now) }
+    ensures some { IfSome result (IsFirst IsTurned (signs s.now p.now plan.now)) }
+{
+    match turned_angle(p, s, s.constraints.as_slice()) {
+        Some(turned) => Some(turned),
+        None => turned_step(p, s, plan.steps.as_slice()),
+    }
+}
+
+/// The first angle whose sense is turned over.
+fn turned_angle(p: &Placed, s: &Sketch, constraints: &[Constraint]) -> Option<Turned>
+    requires sketch { IsSoundSketch s.now }
+    requires placed { PlacesExactly (graph_of s.now) p.now }
+    requires rules { (c : OfConstraint) → Contains constraints.now c → IsSoundRule s.now c.rule }
+    ensures { IsCompared (angle_signs s.now p.now constraints.now) result }
+{
+    for constraint in constraints {
+        if let Some(turned) = turned_sense(p, s, constraint) {
+            return Some(turned);
+        }
+    }
+    None
+}
+
+/// The first step whose choice is turned over.
+fn turned_step(p: &Placed, s: &Sketch, steps: &[PlanStep]) -> Option<Turned>
+    requires sketch { IsSoundSketch s.now }
+    requires placed { PlacesExactly (graph_of s.now) p.now }
+    requires corners { (step : OfStep) → Contains steps.now step → HasCorners s.now step }
+    ensures { IsCompared (step_signs s.now p.now steps.now) result }
+{
+    for step in steps {
+        if let Some(turned) = turned_choice(p, s, step) {
+            return Some(turned);
+        }
+    }
+    None
+}
+
+/// The sense of the constraint, if it is on an angle and turned over.
+fn turned_sense(p: &Placed, s: &Sketch, constraint: &Constraint) -> Option<Turned>
+    requires sketch { IsSoundSketch s.now }
+    requires placed { PlacesExactly (graph_of s.now) p.now }
+    requires rule { IsSoundRule s.now constraint.now.rule }
+    ensures { IsCompared (senses s.now p.now constraint.now.number constraint.now.rule) result }
+{
+    match constraint.rule {
+        Rule::Angle { l, m, ratio } => if_turned(sense(p, s, constraint.number, l, m, ratio)),
+        Rule::Distance { .. }
+        | Rule::On { .. }
+        | Rule::Tangent { .. }
+        | Rule::Outside { .. }
+        | Rule::Inside { .. } => None,
+    }
+}
+
+/// The choice of the step, if something is open and turned over.
+fn turned_choice(p: &Placed, s: &Sketch, step: &PlanStep) -> Option<Turned>
+    requires sketch { IsSoundSketch s.now }
+    requires placed { PlacesExactly (graph_of s.now) p.now }
+    requires corners { HasCorners s.now step.now }
+    ensures { IsCompared (choices s.now p.now step.now.step (by_number step.now.a step.now.b step.now.c)) result }
+{
+    let (x, y, z) = in_order(step.a, step.b, step.c);
+    turned_between(p, s, step.step, x, y, z)
+}
+
+/// Of three points the turn, of two points the advance along a line, if it is turned over.
+fn turned_between(p: &Placed, s: &Sketch, at: Name, x: Elem, y: Elem, z: Elem) -> Option<Turned>
+    requires sketch { IsSoundSketch s.now }
+    requires placed { PlacesExactly (graph_of s.now) p.now }
+    requires x { IsSome (shape_of s.now x) }
+    requires y { IsSome (shape_of s.now y) }
+    requires z { IsSome (shape_of s.now z) }
+    ensures { IsCompared (choices s.now p.now at (x ∷ y ∷ z ∷ [])) result }
+{
+    match (is_line(s, x), is_line(s, y), is_line(s, z)) {
+        (false, false, false) => if_turned(turn(p, s, at, x, y, z)),
+        (true, false, false) => if_turned(advance(p, s, at, x, y, z)),
+        (false, true, false) => if_turned(advance(p, s, at, y, x, z)),
+        (false, false, true) => if_turned(advance(p, s, at, z, x, y)),
+        _ => None,
+    }
+}
+
+/// The sign, if it isn't placed as drawn.
+fn if_turned(sign: Turned) -> Option<Turned>
+    ensures { IsCompared (sign ∷ []) result }
+{
+    if is_as_drawn(sign) { None } else { Some(sign) }
+}
+
+fn is_as_drawn(sign: Turned) -> bool
+    ensures { IsTrue result ↔ IsAsDrawn sign }
+{
+    sign.placed == value(sign.drawn)
+}
+
+fn value(sign: Sign) -> i8
+    ensures { result ≡ value_of sign }
+{
+    match sign {
+        Sign::Plus => 1,
+        Sign::Minus => -1,
+    }
+}
+
+fn is_line(s: &Sketch, e: Elem) -> bool
+    requires sketch { IsSoundSketch s.now }
+    requires drawn { IsSome (shape_of s.now e) }
+    ensures computed { result ≡ is_line (drawn_as s.now e) }
+    ensures line { IsTrue result ↔ IsLine (drawn_as s.now e) }
+    ensures centre { IsTrue (not result) ↔ HasCentre (drawn_as s.now e) }
+{
+    matches!(shape(s, e), Shape::Line { .. })
+}
+
+/// The sense of the angle from one line to another.
+fn sense(p: &Placed, s: &Sketch, number: ConId, l: Elem, m: Elem, ratio: Ratio) -> Turned
+    requires sketch { IsSoundSketch s.now }
+    requires placed { PlacesExactly (graph_of s.now) p.now }
+    requires l { IsDrawnLine s.now l }
+    requires m { IsDrawnLine s.now m }
+    requires ratio { IsSoundRatio ratio }
+    ensures { result ∷ [] ≡ senses s.now p.now number (Rule.Angle l m ratio) }
+{
+    Turned {
+        at: Name::Con(number.0),
+        drawn: sense_drawn(&shape(s, l), &shape(s, m), ratio),
+        placed: sense_placed(place(p, l), place(p, m), ratio),
+    }
+}
+
+/// The turn of three points.
+fn turn(p: &Placed, s: &Sketch, at: Name, x: Elem, y: Elem, z: Elem) -> Turned
+    requires sketch { IsSoundSketch s.now }
+    requires placed { PlacesExactly (graph_of s.now) p.now }
+    requires x { IsDrawnPoint s.now x }
+    requires y { IsDrawnPoint s.now y }
+    requires z { IsDrawnPoint s.now z }
+    ensures { result ≡ turn s.now p.now at x y z }
+{
+    Turned {
+        at,
+        drawn: turn_drawn(&shape(s, x), &shape(s, y), &shape(s, z)),
+        placed: turn_placed(place(p, x), place(p, y), place(p, z)),
+    }
+}
+
+/// The advance from `x` to `y` along the line.
+fn advance(p: &Placed, s: &Sketch, at: Name, line: Elem, x: Elem, y: Elem) -> Turned
+    requires sketch { IsSoundSketch s.now }
+    requires placed { PlacesExactly (graph_of s.now) p.now }
+    requires line { IsDrawnLine s.now line }
+    requires x { IsDrawnPoint s.now x }
+    requires y { IsDrawnPoint s.now y }
+    ensures { result ≡ advance s.now p.now at line x y }
+{
+    Turned {
+        at,
+        drawn: advance_drawn(&shape(s, line), &shape(s, x), &shape(s, y)),
+        placed: advance_placed(place(p, line), place(p, x), place(p, y)),
+    }
+}
