@@ -1,0 +1,47 @@
+use Rattle.std.proofs.Common.{rules, ◌*◌, ◌-ℤ◌, ◌*ℤ◌, FitsSigned, arith, to_z-of_z}
+use Rattle.std.proofs.lemmas.Int.{ints}
+use Rattle.std.specs.Int.{w128}
+use Rattle.sk_base.specs.Bounds.{IsWithin}
+use Rattle.sk_dxf.proofs.Products.{product_within, difference_within, fits}
+use Rattle.sk_dxf.proofs.rounding.difference_of_parts.Goals as goal
+
+pub overflow_sub-a : goal.overflow_sub-a
+overflow_sub-a c =
+    let r = c.requires in
+    let a : FitsSigned w128 c.args.a = omega (arith, ints) in
+    let x : FitsSigned w128 c.args.x = omega (arith, ints) in
+    let b : FitsSigned w128 c.args.b = omega (arith, ints) in
+    let y : FitsSigned w128 c.args.y = omega (arith, ints) in
+    let one : FitsSigned w128 (c.args.a *ℤ c.args.x) = fits _ _ (product_within 2000000000 9223372036854775807 _ _ r.a r.x) (omega arith) in
+    let two : FitsSigned w128 (c.args.b *ℤ c.args.y) = fits _ _ (product_within 2000000000 9223372036854775807 _ _ r.b r.y) (omega arith) in
+    simp to_z-of_z (fits _ _ (difference_within 2000000000 9223372036854775807 _ _ _ _ r.a r.x r.b r.y) (omega arith))
+
+pub returns-clause-value : goal.returns-clause-value
+returns-clause-value c =
+    let r = c.requires in
+    let a : FitsSigned w128 c.args.a = omega (arith, ints) in
+    let x : FitsSigned w128 c.args.x = omega (arith, ints) in
+    let b : FitsSigned w128 c.args.b = omega (arith, ints) in
+    let y : FitsSigned w128 c.args.y = omega (arith, ints) in
+    let one : FitsSigned w128 (c.args.a *ℤ c.args.x) = fits _ _ (product_within 2000000000 9223372036854775807 _ _ r.a r.x) (omega arith) in
+    let two : FitsSigned w128 (c.args.b *ℤ c.args.y) = fits _ _ (product_within 2000000000 9223372036854775807 _ _ r.b r.y) (omega arith) in
+    let all : FitsSigned w128 ((c.args.a *ℤ c.args.x) -ℤ (c.args.b *ℤ c.args.y)) = fits _ _ (difference_within 2000000000 9223372036854775807 _ _ _ _ r.a r.x r.b r.y) (omega arith) in
+    let result : FitsSigned w128 c.nearest.result = search rules in
+    let value = simp to_z-of_z at c.nearest.ensures.value in
+    simp to_z-of_z value
+
+pub returns-clause-within : goal.returns-clause-within
+returns-clause-within c = λ most x_within y_within.
+    let r = c.requires in
+    let a : FitsSigned w128 c.args.a = omega (arith, ints) in
+    let x : FitsSigned w128 c.args.x = omega (arith, ints) in
+    let b : FitsSigned w128 c.args.b = omega (arith, ints) in
+    let y : FitsSigned w128 c.args.y = omega (arith, ints) in
+    let one : FitsSigned w128 (c.args.a *ℤ c.args.x) = fits _ _ (product_within 2000000000 9223372036854775807 _ _ r.a r.x) (omega arith) in
+    let two : FitsSigned w128 (c.args.b *ℤ c.args.y) = fits _ _ (product_within 2000000000 9223372036854775807 _ _ r.b r.y) (omega arith) in
+    let all : FitsSigned w128 ((c.args.a *ℤ c.args.x) -ℤ (c.args.b *ℤ c.args.y)) = fits _ _ (difference_within 2000000000 9223372036854775807 _ _ _ _ r.a r.x r.b r.y) (omega arith) in
+    let result : FitsSigned w128 c.nearest.result = search rules in
+    let short = difference_within 2000000000 most _ _ _ _ r.a x_within r.b y_within in
+    let short' : IsWithin (1000000000 * (4 * most)) ((c.args.a *ℤ c.args.x) -ℤ (c.args.b *ℤ c.args.y)) = (omega (arith, ints, short.0, short.1), omega (arith, ints, short.0, short.1)) in
+    let within = simp to_z-of_z at c.nearest.ensures.within (4 * most) in
+    simp to_z-of_z (within short')

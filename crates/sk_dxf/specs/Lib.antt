@@ -1,0 +1,5 @@
+pub mod Courses
+pub mod Entities
+pub mod Neighbours
+pub mod Rounding
+pub mod Segments

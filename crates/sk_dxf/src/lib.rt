@@ -1,0 +1,16 @@
+//! A placed sketch as DXF: the entities of its points, circles and lines.
+#![tactic(auto)]
+
+mod course;
+mod drawing;
+mod entities;
+mod law;
+mod neighbours;
+mod pairs;
+mod rounding;
+mod segment;
+#[cfg(test)]
+mod tests;
+
+pub use drawing::dxf_text;
+pub use law::{rounding_is_nearest, segments_span_the_neighbours};
