@@ -1,0 +1,4 @@
+pub mod Growing
+pub mod PointNames
+pub mod Ranges
+pub mod Soundness

@@ -1,0 +1,11 @@
+//! The datum sketch: two axes at a right angle, and points that are measured from both.
+#![tactic(auto)]
+
+mod constraints;
+mod datum;
+mod elements;
+mod lengths;
+#[cfg(test)]
+mod tests;
+
+pub use datum::datum_sketch;
