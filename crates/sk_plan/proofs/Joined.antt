@@ -8,7 +8,7 @@ use Rattle.sk_base.specs.declared.Graph.{Graph}
 use Rattle.sk_base.specs.SoundGraph.{IsSoundGraph}
 use Rattle.sk_family.specs.Body.{Body, initial_bodies}
 use Rattle.sk_family.specs.Clusters.{Clusters, body_of, bodies, initial_clusters, named, IsSound}
-use Rattle.sk_family.proofs.Soundness.{sound_initial, sound_replaced, some_of, starting_bodies}
+use Rattle.sk_family.proofs.Soundness.{sound_initial, sound_replaced, starting_bodies}
 use Rattle.sk_rules.specs.declared.Merge.{Merge}
 use Rattle.sk_rules.specs.declared.Merge.TheVariants.{Two, Three}
 use Rattle.sk_rules.specs.declared.Shared.{Shared}
@@ -35,7 +35,7 @@ taken_holds g f t taken = least_holds g f t.merge t.shared taken.shared
 pub sound_taken : (g : Graph) (f : Clusters) (t : Taken) → IsSound f → IsTaken g f t → IsSound (merged f t.merge)
 sound_taken g f t sound taken =
     let can = can_be_replaced g f t.merge taken.falls (taken_holds g f t taken) in
-    sound_replaced f (names_of t.merge) sound (some_of can) can.all_live
+    sound_replaced f (names_of t.merge) sound can
 
 abbrev pub step_taken : (g : Graph) (f : Clusters) (t : Taken) → IsSound f → IsTaken g f t → Step g (bodies f) (bodies (merged f t.merge))
 step_taken g f t sound taken = merge_steps g f sound t.merge taken.falls (taken_holds g f t taken)

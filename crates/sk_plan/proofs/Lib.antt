@@ -8,9 +8,6 @@ pub mod Finished
 pub mod Planned
 pub mod PlanTrees
 pub mod Keeping
-pub mod Ordering
-pub mod Papers
-pub mod DrawnKinds
 pub mod Stepping
 pub mod Wells
 pub mod WellRuns

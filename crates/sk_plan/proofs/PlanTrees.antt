@@ -1,14 +1,14 @@
 -- The tree of a legal plan.
-use Rattle.std.proofs.Common.{◌≡◌, ◌≢◌, inl, inr, ℕ, ◌+◌, ◌*◌, ◌<◌, ◌≤◌, true, false, List, [], ◌∷◌, ◌++◌, length, length-append, refl, ap, sym, subst, ◌∙◌, arith}
+use Rattle.std.proofs.Common.{◌≡◌, ◌≢◌, ◌⊎◌, inl, inr, ℕ, ◌+◌, ◌*◌, ◌<◌, ◌≤◌, true, false, List, [], ◌∷◌, ◌++◌, length, length-append, refl, ap, sym, subst, ◌∙◌, arith}
 use Rattle.std.specs.Prelude.{◌↔◌, Contains, AllPairs, map, Option, Some, None, IsNone, IfSome, slice_get}
 use Rattle.std.specs.Option.{option_map}
-use Rattle.std.proofs.lemmas.List.{length-map}
+use Rattle.std.proofs.lemmas.List.{length-map, map-append}
 use Rattle.std.proofs.lemmas.List.Elements.{Contains-append_cases, Contains-append_left, Contains-append_right}
 use Rattle.sk_base.specs.declared.ConId.{ConId}
 use Rattle.sk_base.specs.declared.Edge.{Edge}
 use Rattle.sk_base.specs.declared.Graph.{Graph}
 use Rattle.sk_base.specs.SoundGraph.{IsSoundGraph}
-use Rattle.sk_base.proofs.Members.{contains_none, contains_head, contains_later, contains_cases}
+use Rattle.sk_base.proofs.Members.{contains_none, contains_head, contains_later, contains_cases, contains_mapped}
 use Rattle.sk_base.proofs.Pairs.{pairs_none, pairs_cons, pairs_tail, pairs_head, pairs_map}
 use Rattle.sk_base.specs.Numbering.{con_number}
 use Rattle.sk_family.specs.declared.Cluster.{Cluster}
@@ -20,44 +20,31 @@ use Rattle.sk_tree.specs.declared.Tree.{Tree}
 use Rattle.sk_tree.specs.declared.Tree.TheVariants.{Leaf, Join'}
 use Rattle.sk_tree.specs.LegalPlan.{taken_told, numbers_of, IsLegalPlan}
 use Rattle.sk_tree.specs.Trees.{leaves_of, step_count, IsTreeOf, AreJoins}
+use Rattle.sk_tree.proofs.SomeTrees.{tree_of_taken}
 use Rattle.sk_plan.specs.Leaves.{HasLeaves}
-use Rattle.sk_plan.specs.PlanTree.{merges_told, IsPlanTree}
+use Rattle.sk_tree.specs.PlanTree.{merges_told, IsPlanTree}
+use Rattle.sk_base.proofs.Distinct.{no_longer, same_length}
 use Rattle.sk_plan.proofs.Legal.{Arrives, arrives}
 use Rattle.sk_plan.proofs.Finished.{grown, clusters_left, last_leaves, no_steps}
 
--- where no item stands twice, a list is no longer than one that has all its items
-module _ {X : Type 0} where
-  split_at : (ys : List X) (x : X) → Contains ys x → (p : List X) × (q : List X) × (ys ≡ p ++ x ∷ q)
-  split_at [] x h = absurd (contains_none x h)
-  split_at (y ∷ ys) x h =
-      elim (contains_cases y ys x h) [
-        | inl here ↦ ([], ys, ap (λ z. z ∷ ys) here)
-        | inr later ↦ (let rest = split_at ys x later in (y ∷ rest.0, rest.1, ap (λ zs. y ∷ zs) rest.2))
-      ]
+-- the last merge that steps tell is that of the last step
+record IsLastStep (ss : List PlanStep) (last : Taken) : Type 0 where
+  front : List PlanStep
+  end : PlanStep
+  parts : ss ≡ front ++ end ∷ []
+  told : taken_told end ≡ last
 
-  other_side : (p q : List X) (x y : X) → x ≢ y → Contains (p ++ x ∷ q) y → Contains (p ++ q) y
-  other_side p q x y differ h =
-      elim (Contains-append_cases p (x ∷ q) y h) [
-        | inl left ↦ Contains-append_left p q y left
-        | inr right ↦ elim (contains_cases x q y right) [
-          | inl here ↦ absurd (differ here)
-          | inr later ↦ Contains-append_right p q y later
-        ]
-      ]
+last_step : (ss : List PlanStep) (before : List Taken) (last : Taken) → map taken_told ss ≡ before ++ last ∷ [] → IsLastStep ss last
+last_step [] [] last is = cc
+last_step [] (b ∷ before) last is = cc
+last_step (s ∷ []) [] last is = record { front = []; end = s; parts = refl; told = cc }
+last_step (s ∷ x ∷ ss) [] last is = cc
+last_step (s ∷ ss) (b ∷ before) last is =
+    let rest = last_step ss before last (cc) in record { front = s ∷ rest.front; end = rest.end; parts = ap (λ zs. s ∷ zs) rest.parts; told = rest.told }
 
-  no_longer : (xs ys : List X) → AllPairs (λ x y. x ≢ y) xs → ((x : X) → Contains xs x → Contains ys x) → length xs ≤ length ys
-  no_longer [] ys distinct within = omega arith
-  no_longer (x ∷ xs) ys distinct within =
-      let split = split_at ys x (within x (contains_head x xs)) in
-      let rest = no_longer xs (split.0 ++ split.1) (pairs_tail (λ v w. v ≢ w) x xs distinct)
-      (λ y y_in. other_side split.0 split.1 x y (pairs_head (λ v w. v ≢ w) x xs distinct y y_in)
-      (subst (λ zs. Contains zs y) split.2 (within y (contains_later x xs y y_in)))) in
-      let whole = ap (λ zs. length zs) split.2 in
-      omega (arith, length-append split.0 (x ∷ split.1), length-append split.0 split.1)
-
-  same_length : (xs ys : List X) → AllPairs (λ x y. x ≢ y) xs → AllPairs (λ x y. x ≢ y) ys → ((x : X) → Contains xs x ↔ Contains ys x) → length xs ≡ length ys
-  same_length xs ys d e same =
-      let to = no_longer xs ys d (λ x. (same x).0) in let from = no_longer ys xs e (λ x. (same x).1) in omega arith
+last_of : (s : PlanStep) (ss : List PlanStep) → (front : List PlanStep) × (end : PlanStep) × (s ∷ ss ≡ front ++ end ∷ [])
+last_of s [] = ([], s, refl)
+last_of s (x ∷ ss) = (let rest = last_of x ss in (s ∷ rest.0, rest.1, ap (λ zs. s ∷ zs) rest.2))
 
 -- a tree has two leaves more than twice its joins
 leaf_count : (t : Tree) → length (leaves_of t) ≡ 2 * step_count t + 1
@@ -104,7 +91,9 @@ module _ (g : Graph) (p : Plan) (sound : IsSoundGraph g) (legal : IsLegalPlan g 
     | inl (c, alone, nodes) ↦
         let leaves = last_leaves g sound (merges_told p) way.end way.leads way.once c alone nodes before last is t tree in
         record {
-          tree = inl (before, last, is, tree);
+          tree =
+              let end = last_step p.steps before last is in
+              inl (end.front, end.end, end.parts, subst (λ (x : Taken). IsTreeOf (merges_told p) x.step t) (sym end.told) tree);
           leaves = subst (λ ks. HasLeaves t ks) (sym legal.leaves) leaves;
           steps =
               let many = same_length (leaves_of t) (numbers_of g) leaves.once numbers_differ leaves.just in
@@ -142,7 +131,8 @@ module _ (g : Graph) (p : Plan) (sound : IsSoundGraph g) (legal : IsLegalPlan g 
 
   -- the leaves of each tree of the plan are all constraints
   pub tree_leaves : (t : Tree) → IsPlanTree p t → HasLeaves t p.leaves
-  tree_leaves t (inl (before, last, is, tree)) = (last_tree before last is t tree).leaves
+  tree_leaves t (inl (before, last, is, tree)) =
+      (last_tree (map taken_told before) (taken_told last) (ap (λ (ss : List PlanStep). map taken_told ss) is ∙ map-append taken_told before (last ∷ [])) t tree).leaves
   tree_leaves t (inr (k, none, is, t_is)) = subst (λ (u : Tree). HasLeaves u p.leaves) (sym t_is) (lone_leaves k is)
 
   -- the leaf of the only constraint
@@ -161,6 +151,27 @@ module _ (g : Graph) (p : Plan) (sound : IsSoundGraph g) (legal : IsLegalPlan g 
         steps = sym (ap (λ (ss : List PlanStep). length ss) (no_items p.steps none));
       }
       told (k ∷ j ∷ ks) is few = (let many = ap (λ (is : List ConId). length is) is in absurd (omega arith))
+
+  -- a plan with a leaf has a tree
+  pub some_plan_tree : ¬ (p.leaves ≡ []) → (t : Tree) × IsPlanTree p t
+  some_plan_tree some = elim (no_last p.steps) [
+    | inl none ↦ lone p.leaves refl (few_leaves none) none
+    | inr (front, end, parts) ↦
+        let told : Contains (merges_told p) (taken_told end) =
+        subst (λ (ss : List PlanStep). Contains (map taken_told ss) (taken_told end)) (sym parts)
+        (contains_mapped taken_told (front ++ end ∷ []) end (Contains-append_right front (end ∷ []) end (contains_head end []))) in
+        let found = tree_of_taken (merges_told p) plan_joins (taken_told end) told in
+        (found.0, inl (front, end, parts, found.1))
+  ]
+    where
+      no_last : (ss : List PlanStep) → (ss ≡ []) ⊎ ((front : List PlanStep) × (end : PlanStep) × (ss ≡ front ++ end ∷ []))
+      no_last [] = inl refl
+      no_last (s ∷ ss) = inr (last_of s ss)
+
+      lone : (ks : List ConId) → p.leaves ≡ ks → length p.leaves ≤ 1 → p.steps ≡ [] → (t : Tree) × IsPlanTree p t
+      lone [] is few none = absurd (some is)
+      lone (k ∷ []) is few none = (Leaf k, inr (k, none, is, refl))
+      lone (k ∷ j ∷ ks) is few none = (let many = ap (λ (is : List ConId). length is) is in absurd (omega arith))
 
 pub none_alone : (ks : List ConId) → IsNone (option_map (λ (k : ConId). Leaf k) (slice_get ks 0)) ↔ (ks ≡ [])
 none_alone [] = ((λ h. refl), (λ h. refl))

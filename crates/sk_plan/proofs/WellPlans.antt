@@ -30,7 +30,7 @@ use Rattle.sk_verdict.specs.Parts.{IsNamedByNone, IsPart, AreOfOnePart, elem_of,
 use Rattle.sk_verdict.specs.Judging.{IsJudgement, verdict_on}
 use Rattle.sk_verdict.proofs.Judgements.{judgement_moves}
 use Rattle.sk_plan.specs.Judged.{IsTheJudgement, IsWell}
-use Rattle.sk_plan.specs.PlanTree.{merges_told}
+use Rattle.sk_tree.specs.PlanTree.{merges_told}
 use Rattle.sk_plan.proofs.Joined.{run_reaches}
 use Rattle.sk_plan.proofs.Legal.{Arrives, arrives}
 use Rattle.sk_plan.proofs.Finished.{clusters_left, one_normal, one_not_over}

@@ -1,7 +1,6 @@
 //! Construction plans, and what they tell of the drawing.
 #![tactic(auto)]
 
-mod choice;
 mod error;
 mod law;
 mod making;

@@ -7,7 +7,7 @@ ghost use Rattle.sk_graph.specs.SketchGraph.{graph_of};
 ghost use Rattle.sk_rules.specs.Taking.{Leads};
 ghost use Rattle.sk_worklist.specs.Run.{IsRun};
 ghost use Rattle.sk_tree.specs.LegalPlan.{numbers_of, merge_told, taken_told, AreLegalSteps, IsLegalPlan, IsWhole};
-ghost use Rattle.sk_plan.specs.DrawnChoice.{HasDrawnChoice};
+ghost use Rattle.sk_choice.specs.DrawnChoice.{HasDrawnChoice};
 ghost use Rattle.sk_plan.specs.Judged.{IsWell, TellsWhy};
 ghost use Rattle.sk_plan.specs.Runs.{EachTakesOnce};
 

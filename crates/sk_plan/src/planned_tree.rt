@@ -6,7 +6,7 @@ ghost use Rattle.sk_base.specs.SoundGraph.{IsSoundGraph};
 ghost use Rattle.sk_tree.specs.Trees.{step_count};
 ghost use Rattle.sk_tree.specs.LegalPlan.{taken_told, IsLegalPlan};
 ghost use Rattle.sk_plan.specs.Leaves.{HasLeaves};
-ghost use Rattle.sk_plan.specs.PlanTree.{IsPlanTree};
+ghost use Rattle.sk_tree.specs.PlanTree.{IsPlanTree};
 
 use sk_base::{ConId, List, NoMemory};
 use sk_rules::{Merge, Shared, Taken};

@@ -8,9 +8,9 @@ ghost use Rattle.sk_family.specs.Clusters.{IsLive, IsNamed};
 ghost use Rattle.sk_rules.specs.Taking.{IsTaken};
 ghost use Rattle.sk_tree.specs.LegalPlan.{taken_told, IsKept};
 ghost use Rattle.sk_plan.specs.Runs.{TakesOnce};
-ghost use Rattle.sk_plan.specs.DrawnChoice.{AreDrawn, HasDrawnChoice};
+ghost use Rattle.sk_choice.specs.DrawnChoice.{AreDrawn, HasDrawnChoice};
 
-use crate::choice::choice_of;
+use sk_choice::choice_of;
 use sk_base::{Name, Sketch};
 use sk_family::Family;
 use sk_rules::{Merge, Taken};
