@@ -1,0 +1,170 @@
+-- What edits leave of the drawing: the shapes that rules name, and so the rules and the edges.
+use Rattle.std.proofs.Common.{◌≡◌, ◌≢◌, inl, inr, ℕ, ◌<◌, ◌==◌, Bool, true, false, cond, List, [], ◌∷◌, ◌++◌, length, get_or, refl, ap, sym, subst, ◌∙◌, arith}
+use Rattle.std.specs.Prelude.{All, Contains, IsTrue, Option, Some, None, find, filter, map, not}
+use Rattle.sk_base.specs.Labels.{is_name}
+use Rattle.std.specs.Option.{option_map}
+use Rattle.std.proofs.lemmas.Bool.Decides.{nat_tests}
+use Rattle.std.proofs.lemmas.List.{length-map}
+use Rattle.std.proofs.lemmas.List.Filters.{length-filter_both}
+use Rattle.std.proofs.lemmas.List.Elements.{All-filter, All-map, All-weaker, All-contains, Contains-get_or}
+use Rattle.sk_base.specs.declared.Elem.{Elem}
+use Rattle.sk_base.specs.declared.ConId.{ConId}
+use Rattle.sk_base.specs.declared.Um.{Um}
+use Rattle.sk_base.specs.declared.Ratio.{Ratio}
+use Rattle.sk_base.specs.declared.Element.{Element}
+use Rattle.sk_base.specs.declared.Constraint.{Constraint}
+use Rattle.sk_base.specs.declared.Shape.{Shape}
+use Rattle.sk_base.specs.declared.Rule.{Rule}
+use Rattle.sk_base.specs.declared.Rule.TheVariants as rule
+use Rattle.sk_base.specs.declared.Sketch.{Sketch}
+use Rattle.sk_base.specs.Drawn.{element_of, shape_of}
+use Rattle.sk_base.specs.Numbering.{elem_number, elem_exact}
+use Rattle.sk_base.specs.SoundSketch.{IsSoundSketch, IsSoundRule, IsSoundShape, IsSoundRatio, IsLength, BothFit, MayJoin, MayBeApart, MayLieOn, MayBeTangent, AreCircles, MayNest, AreLines}
+use Rattle.sk_base.proofs.Members.{contains_head, contains_later, filtered_from}
+use Rattle.sk_base.proofs.Pairs.{pairs_map, pairs_filter}
+use Rattle.sk_graph.specs.SketchGraph.{first_of, second_of, edge_of, edge_between, drawn_as}
+use Rattle.sk_graph.proofs.Fittings.{rule_drawn}
+use Rattle.sk_lang.proofs.Growing.{drawn_still}
+use Rattle.sk_session.specs.declared.edit.Edit.{Edit}
+use Rattle.sk_session.specs.declared.edit.Edit.TheVariants as edit
+use Rattle.sk_session.specs.Edits.{applied, changed, with_length, with_ratio, element_number, constraint_number}
+use Rattle.sk_session.specs.Changes.{without}
+use Rattle.sk_session.specs.Making.{IsPossible, IsUnused}
+use Rattle.sk_session.proofs.Places.{other_passes}
+
+-- both elements of the rule are drawn alike in the two sketches
+pub record DrawnAlike (s t : Sketch) (r : Rule) : Type 0 where
+  pub first : shape_of t (first_of r) ≡ shape_of s (first_of r)
+  pub second : shape_of t (second_of r) ≡ shape_of s (second_of r)
+
+joins_alike : (s t : Sketch) (fits : Shape → Shape → Type 0) (u v : Elem) → shape_of t u ≡ shape_of s u → shape_of t v ≡ shape_of s v → MayJoin s fits u v → MayJoin t fits u v
+joins_alike s t fits u v u_is v_is joins =
+    (joins.0, subst (λ (b : Option Shape). BothFit fits (shape_of t u) b) (sym v_is) (subst (λ (a : Option Shape). BothFit fits a (shape_of s v)) (sym u_is) joins.1))
+
+pub rule_alike : (s t : Sketch) (r : Rule) → DrawnAlike s t r → IsSoundRule s r → IsSoundRule t r
+rule_alike s t (rule.Distance u v len) alike sound = (joins_alike s t MayBeApart u v alike.first alike.second sound.0, sound.1)
+rule_alike s t (rule.On u v) alike sound = joins_alike s t MayLieOn u v alike.first alike.second sound
+rule_alike s t (rule.Tangent u v) alike sound = joins_alike s t MayBeTangent u v alike.first alike.second sound
+rule_alike s t (rule.Outside u v) alike sound = joins_alike s t AreCircles u v alike.first alike.second sound
+rule_alike s t (rule.Inside u v) alike sound = joins_alike s t MayNest u v alike.first alike.second sound
+rule_alike s t (rule.Angle l m ratio) alike sound = (joins_alike s t AreLines l m alike.first alike.second sound.0, sound.1)
+
+pub edge_alike : (s t : Sketch) (c : Constraint) → DrawnAlike s t c.rule → edge_of t c ≡ edge_of s c
+edge_alike s t c alike =
+    let first : drawn_as t (first_of c.rule) ≡ drawn_as s (first_of c.rule) = rw alike.first in
+    let second : drawn_as t (second_of c.rule) ≡ drawn_as s (second_of c.rule) = rw alike.second in
+    ap (λ (a : Shape). edge_between c.number c.rule a (drawn_as t (second_of c.rule))) first
+    ∙ ap (λ (b : Shape). edge_between c.number c.rule (drawn_as s (first_of c.rule)) b) second
+
+-- with one more element each rule is drawn as before
+pub drawn_on : (s : Sketch) (e : Element) (r : Rule) → IsSoundRule s r → DrawnAlike s (applied (edit.Element e) s) r
+drawn_on s e r sound =
+    let drawn = rule_drawn s r sound in
+    record {
+      first = drawn_still s e (first_of r) drawn.first drawn.first_is ∙ sym drawn.first_is;
+      second = drawn_still s e (second_of r) drawn.second drawn.second_is ∙ sym drawn.second_is;
+    }
+
+-- without another element
+found_without : (xs : List Element) (x u : Elem) → u ≢ x → find (λ (y : Element). y.number.0 == u.0) (without element_number x.0 xs) ≡ find (λ (y : Element). y.number.0 == u.0) xs
+found_without [] x u differ = refl
+found_without (y ∷ xs) x u differ = told (y.number.0 == x.0) refl (found_without xs x u differ)
+  where
+    told : (t : Bool) → (y.number.0 == x.0) ≡ t → find (λ (z : Element). z.number.0 == u.0) (without element_number x.0 xs) ≡ find (λ (z : Element). z.number.0 == u.0) xs
+        → find (λ (z : Element). z.number.0 == u.0) (cond (not t) (y ∷ without element_number x.0 xs) (without element_number x.0 xs)) ≡ find (λ (z : Element). z.number.0 == u.0) (y ∷ xs)
+    told true is rest =
+        let level : y.number.0 ≡ x.0 = grind (arith, nat_tests) in
+        let apart : u.0 ≢ x.0 = λ same. differ (elem_exact u x same) in
+        let other : (y.number.0 == u.0) ≡ false = grind (arith, nat_tests) in
+        rest ∙ sym (rw other)
+    told false is rest = ap (λ o. cond (y.number.0 == u.0) (Some y) o) rest
+
+pub drawn_without : (s : Sketch) (x : Elem) (r : Rule) → first_of r ≢ x → second_of r ≢ x → DrawnAlike s (applied (edit.Erased x) s) r
+drawn_without s x r first second = record {
+  first = ap (λ o. option_map (λ (y : Element). y.shape) o) (found_without s.elements x (first_of r) first);
+  second = ap (λ o. option_map (λ (y : Element). y.shape) o) (found_without s.elements x (second_of r) second);
+}
+
+-- where the elements are the same, all is drawn alike
+pub drawn_same : (s : Sketch) (cs : List Constraint) (r : Rule) → DrawnAlike s (record { elements = s.elements; constraints = cs }) r
+drawn_same s cs r = record { first = refl; second = refl }
+
+length_sound : (s : Sketch) (len : Um) (r : Rule) → IsLength len → IsSoundRule s r → IsSoundRule s (with_length len r)
+length_sound s len (rule.Distance u v old) fine sound = (sound.0, fine)
+length_sound s len (rule.On u v) fine sound = sound
+length_sound s len (rule.Tangent u v) fine sound = sound
+length_sound s len (rule.Outside u v) fine sound = sound
+length_sound s len (rule.Inside u v) fine sound = sound
+length_sound s len (rule.Angle l m ratio) fine sound = sound
+
+ratio_sound : (s : Sketch) (ratio : Ratio) (r : Rule) → IsSoundRatio ratio → IsSoundRule s r → IsSoundRule s (with_ratio ratio r)
+ratio_sound s ratio (rule.Distance u v old) fine sound = sound
+ratio_sound s ratio (rule.On u v) fine sound = sound
+ratio_sound s ratio (rule.Tangent u v) fine sound = sound
+ratio_sound s ratio (rule.Outside u v) fine sound = sound
+ratio_sound s ratio (rule.Inside u v) fine sound = sound
+ratio_sound s ratio (rule.Angle l m old) fine sound = (sound.0, fine)
+
+changed_sound : (s : Sketch) (k : ConId) (change : Rule → Rule) → ((r : Rule) → IsSoundRule s r → IsSoundRule s (change r)) → (c : Constraint) → IsSoundRule s c.rule → IsSoundRule s (changed k change c).rule
+changed_sound s k change keeps c sound = told (c.number.0 == k.0)
+  where
+    told : (t : Bool) → IsSoundRule s (cond t (change c.rule) c.rule)
+    told true = keeps c.rule sound
+    told false = sound
+
+-- changed rules leave the sketch sound
+rules_changed : (s : Sketch) (k : ConId) (change : Rule → Rule) → IsSoundSketch s → ((r : Rule) → IsSoundRule s r → IsSoundRule s (change r)) → IsSoundSketch (record { elements = s.elements; constraints = map (changed k change) s.constraints })
+rules_changed s k change sound keeps =
+    let t : Sketch = record { elements = s.elements; constraints = map (changed k change) s.constraints } in
+    record {
+      elements_rise = sound.elements_rise;
+      constraints_rise = pairs_map (λ (x y : Constraint). x.number.0 < y.number.0) (changed k change) s.constraints sound.constraints_rise;
+      labels_are_names = sound.labels_are_names;
+      labels_differ = sound.labels_differ;
+      few_elements = sound.few_elements;
+      few_constraints = rw length-map sound.few_constraints;
+      shapes_sound = sound.shapes_sound;
+      rules_sound = All-map (λ (x : Constraint). IsSoundRule t x.rule) (changed k change) s.constraints
+          (All-weaker (λ (x : Constraint). IsSoundRule s x.rule) (λ (x : Constraint). IsSoundRule t (changed k change x).rule)
+          (λ x fine. rule_alike s t (changed k change x).rule (drawn_same s t.constraints (changed k change x).rule) (changed_sound s k change keeps x fine)) s.constraints sound.rules_sound);
+    }
+
+-- an edit other than a line leaves a sound sketch sound
+pub drop_sound : (s : Sketch) (k : ConId) → IsSoundSketch s → IsSoundSketch (applied (edit.Dropped k) s)
+drop_sound s k sound =
+    let t : Sketch = applied (edit.Dropped k) s in
+    record {
+      elements_rise = sound.elements_rise;
+      constraints_rise = pairs_filter (λ (x y : Constraint). x.number.0 < y.number.0) (λ (c : Constraint). not (c.number.0 == k.0)) s.constraints sound.constraints_rise;
+      labels_are_names = sound.labels_are_names;
+      labels_differ = sound.labels_differ;
+      few_elements = sound.few_elements;
+      few_constraints = (let both = length-filter_both (λ (c : Constraint). c.number.0 == k.0) (λ (c : Constraint). not (c.number.0 == k.0)) (λ c. refl) s.constraints in let few = sound.few_constraints in omega arith);
+      shapes_sound = sound.shapes_sound;
+      rules_sound = All-filter (λ (c : Constraint). not (c.number.0 == k.0)) (λ (x : Constraint). IsSoundRule t x.rule) s.constraints
+          (All-weaker (λ (x : Constraint). IsSoundRule s x.rule) (λ (x : Constraint). IsSoundRule t x.rule) (λ x fine. rule_alike s t x.rule (drawn_same s t.constraints x.rule) fine) s.constraints sound.rules_sound);
+    }
+
+pub length_set_sound : (s : Sketch) (k : ConId) (len : Um) → IsLength len → IsSoundSketch s → IsSoundSketch (applied (edit.Length k len) s)
+length_set_sound s k len fine sound = rules_changed s k (with_length len) sound (λ r. length_sound s len r fine)
+
+pub ratio_set_sound : (s : Sketch) (k : ConId) (ratio : Ratio) → IsSoundRatio ratio → IsSoundSketch s → IsSoundSketch (applied (edit.Turned k ratio) s)
+ratio_set_sound s k ratio fine sound = rules_changed s k (with_ratio ratio) sound (λ r. ratio_sound s ratio r fine)
+
+pub erase_sound : (s : Sketch) (x : Elem) → IsUnused s x → IsSoundSketch s → IsSoundSketch (applied (edit.Erased x) s)
+erase_sound s x unused sound =
+    let t : Sketch = applied (edit.Erased x) s in
+    let p : Element → Bool = λ (e : Element). not (e.number.0 == x.0) in
+    record {
+      elements_rise = pairs_filter (λ (y z : Element). y.number.0 < z.number.0) p s.elements sound.elements_rise;
+      constraints_rise = sound.constraints_rise;
+      labels_are_names = All-filter p (λ (y : Element). IsTrue (is_name y.label)) s.elements sound.labels_are_names;
+      labels_differ = pairs_filter (λ (y z : Element). y.label ≢ z.label) p s.elements sound.labels_differ;
+      few_elements = (let both = length-filter_both (λ (e : Element). e.number.0 == x.0) p (λ e. refl) s.elements in let few = sound.few_elements in omega arith);
+      few_constraints = sound.few_constraints;
+      shapes_sound = All-filter p (λ (y : Element). IsSoundShape y.shape) s.elements sound.shapes_sound;
+      rules_sound = λ i d i_in. (
+          let c = get_or s.constraints i d in
+          let free = unused c (Contains-get_or s.constraints i d i_in) in
+          rule_alike s t c.rule (drawn_without s x c.rule free.0 free.1) (sound.rules_sound i d i_in));
+    }

@@ -1,0 +1,12 @@
+pub mod Places
+pub mod Drawing
+pub mod Graphs
+pub mod Following
+pub mod Owners
+pub mod Setting
+pub mod Undoing
+pub mod Consistency
+pub mod Numbers
+pub mod Coding
+pub mod Possible
+pub mod Exactly

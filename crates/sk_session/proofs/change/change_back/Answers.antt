@@ -1,0 +1,74 @@
+use Rattle.std.proofs.Common.{◌≡◌, ap, sym, subst, ◌∙◌, refl}
+use Rattle.sk_base.specs.declared.Sketch.{Sketch}
+use Rattle.sk_base.specs.SoundSketch.{IsSoundSketch}
+use Rattle.sk_session.specs.declared.edit.Edit.{Edit}
+use Rattle.sk_session.specs.Making.{FollowsBack}
+use Rattle.sk_session.proofs.Undoing.{retold, element_back, constraint_back, owner_back, none_dropped, dropped_back, start_back, length_in, ratio_in, length_back, ratio_back, none_erased, erased_back}
+use Rattle.sk_session.proofs.change.change_back.Goals as goal
+
+pub add_constraint-requires-clause-other : goal.add_constraint-requires-clause-other
+add_constraint-requires-clause-other c =
+    none_dropped _ _ _ _ (retold _ _ _ _ _ _ c.in-Dropped.is c.constraint_in.ensures c.requires.led.1)
+
+pub exchange-requires-clause-rise : goal.exchange-requires-clause-rise
+exchange-requires-clause-rise c =
+    let led = c.requires.led.1 in
+    let sound : IsSoundSketch c.args.sketch.now = subst (λ (s : Sketch). IsSoundSketch s) (sym led.is) led.can.stays_sound in sound.constraints_rise
+
+pub exchange-requires-clause-some : goal.exchange-requires-clause-some
+exchange-requires-clause-some c =
+    length_in _ _ _ _ _ (retold _ _ _ _ _ _ c.in-Length.is c.constraint_in-in-Length.ensures c.requires.led.1)
+
+pub put-requires-clause-other : goal.put-requires-clause-other
+put-requires-clause-other c =
+    none_erased _ _ _ _ (retold _ _ _ _ _ _ c.in-Erased.is c.element_in.ensures c.requires.led.1)
+
+pub returns-in-Element-clause-ok : goal.returns-in-Element-clause-ok
+returns-in-Element-clause-ok c before led = (
+  element_back _ _ _ _ (retold _ _ _ _ _ _ c.in-Element.is refl led) _ c.take.ensures.rest,
+  subst (λ (e : Edit). FollowsBack e before c.args.family.now c.args.family.now) (sym c.in-Element.is) refl,
+)
+
+pub returns-in_ok-remove_constraint-in-Constraint-clause-ok : goal.returns-in_ok-remove_constraint-in-Constraint-clause-ok
+returns-in_ok-remove_constraint-in-Constraint-clause-ok c before led =
+    let told = retold _ _ _ _ _ _ c.in-Constraint.is refl led in (
+      c.in_ok-remove_constraint-in-Constraint.ensures.ok ∙ constraint_back _ _ _ _ told,
+      subst (λ (e : Edit). FollowsBack e before c.args.family.now c.remove_constraint.new.family) (sym c.in-Constraint.is)
+          (owner_back _ _ _ _ told _ _ c.in_ok-remove_constraint-in-Constraint.ensures.dissolves),
+    )
+
+pub returns-in_ok-add_constraint-in-Dropped-clause-ok : goal.returns-in_ok-add_constraint-in-Dropped-clause-ok
+returns-in_ok-add_constraint-in-Dropped-clause-ok c before led =
+    let told = retold _ _ _ _ _ _ c.in-Dropped.is c.constraint_in.ensures led in
+    let ok = c.in_ok-add_constraint-in-Dropped.ensures in (
+      dropped_back _ _ _ _ told _ ok.elements ok.rise ok.put,
+      subst (λ (e : Edit). FollowsBack e before c.args.family.now c.add_constraint.new.family) (sym c.in-Dropped.is) (start_back _ _ _ _ told _ _ ok.starts),
+    )
+
+pub returns-in-Length-clause-ok : goal.returns-in-Length-clause-ok
+returns-in-Length-clause-ok c before led = (
+  length_back _ _ _ _ _ (retold _ _ _ _ _ _ c.in-Length.is c.constraint_in-in-Length.ensures led) _ c.exchange.ensures.new,
+  subst (λ (e : Edit). FollowsBack e before c.args.family.now c.args.family.now) (sym c.in-Length.is) refl,
+)
+
+pub returns-in_ok-put-in-Erased-clause-ok : goal.returns-in_ok-put-in-Erased-clause-ok
+returns-in_ok-put-in-Erased-clause-ok c before led =
+    let ok = c.in_ok-put-in-Erased.ensures in (
+      erased_back _ _ _ _ (retold _ _ _ _ _ _ c.in-Erased.is c.element_in.ensures led) _ ok.rise ok.put,
+      subst (λ (e : Edit). FollowsBack e before c.args.family.now c.args.family.now) (sym c.in-Erased.is) refl,
+    )
+
+pub exchange-requires-in-Turned-clause-some : goal.exchange-requires-in-Turned-clause-some
+exchange-requires-in-Turned-clause-some c =
+    ratio_in _ _ _ _ _ (retold _ _ _ _ _ _ c.in-Turned.is c.constraint_in-in-Turned.ensures c.requires.led.1)
+
+pub returns-in-Turned-clause-ok : goal.returns-in-Turned-clause-ok
+returns-in-Turned-clause-ok c before led = (
+  ratio_back _ _ _ _ _ (retold _ _ _ _ _ _ c.in-Turned.is c.constraint_in-in-Turned.ensures led) _ c.exchange-in-Turned.ensures.new,
+  subst (λ (e : Edit). FollowsBack e before c.args.family.now c.args.family.now) (sym c.in-Turned.is) refl,
+)
+
+pub exchange-requires-in-Turned-clause-rise : goal.exchange-requires-in-Turned-clause-rise
+exchange-requires-in-Turned-clause-rise c =
+    let led = c.requires.led.1 in
+    let sound : IsSoundSketch c.args.sketch.now = subst (λ (s : Sketch). IsSoundSketch s) (sym led.is) led.can.stays_sound in sound.constraints_rise

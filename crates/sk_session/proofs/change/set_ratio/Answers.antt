@@ -1,0 +1,22 @@
+use Rattle.std.proofs.Common.{◌≡◌, ap, sym, subst, ◌∙◌, List}
+use Rattle.std.specs.Prelude.{Contains, map}
+use Rattle.sk_base.specs.declared.Constraint.{Constraint}
+use Rattle.sk_base.specs.declared.Rule.{Rule}
+use Rattle.sk_base.specs.Numbering.{con_exact}
+use Rattle.sk_session.specs.Changes.{with_item}
+use Rattle.sk_session.specs.Edits.{changed, constraint_number, with_ratio}
+use Rattle.sk_session.proofs.Setting.{set_one}
+use Rattle.sk_session.proofs.change.set_ratio.Goals as goal
+
+pub returns-clause-ok : goal.returns-clause-ok
+returns-clause-ok c =
+    let cs = c.args.sketch.now.constraints in
+    let k = c.args.number in
+    let old = c.get-old.result in
+    let old_in : Contains cs old = subst (λ (xs : List Constraint). Contains xs old) c.as_slice.ensures c.get-old.ensures.0 in
+    let is = con_exact old.number k c.get-old.ensures.1 in
+    let made : c.exchange.new.items ≡ map (changed k (with_ratio c.args.ratio)) cs =
+    c.exchange.ensures.new
+    ∙ ap (λ (r : Rule). with_item constraint_number (record { number = k; rule = r }) cs) c.with_ratio-rule.ensures
+    ∙ set_one k (with_ratio c.args.ratio) old cs c.requires.sound.constraints_rise old_in is in
+    ap (λ (xs : List Constraint). record { elements = c.args.sketch.now.elements; constraints = xs }) made

@@ -1,0 +1,255 @@
+// Changes of a sketch, and of the kept family with it.
+ghost use Rattle.std.specs.Prelude.{◌≡◌, ◌≢◌, ◌↔◌, ◌+◌, ◌*◌, ◌<◌, ◌≤◌, Contains, length, OnOk, OnErr, IfOk, IfSome, IfNone, IsTrue};
+ghost use Rattle.sk_base.specs.declared.Constraint.{Constraint as AConstraint};
+ghost use Rattle.sk_base.specs.declared.Sketch.{Sketch as ASketch};
+ghost use Rattle.sk_base.specs.Rising.{IsRising};
+ghost use Rattle.sk_base.specs.SoundSketch.{IsSoundSketch, IsSoundRule};
+ghost use Rattle.sk_family.specs.declared.Cluster.{Cluster as ACluster};
+ghost use Rattle.sk_family.specs.Body.{initial_bodies};
+ghost use Rattle.sk_family.specs.Clusters.{IsSound, IsNamed, bodies};
+ghost use Rattle.sk_family.specs.Starts.{HasStart};
+ghost use Rattle.sk_rules.specs.Reach.{Reach};
+ghost use Rattle.sk_graph.specs.SketchGraph.{edge_of, graph_of};
+ghost use Rattle.sk_session.specs.Changes.{HasItem, without};
+ghost use Rattle.sk_session.specs.Edits.{applied, constraint_number, element_number, with_length, with_ratio};
+ghost use Rattle.sk_session.specs.Former.{IsFormer, LeadsTo};
+ghost use Rattle.sk_session.specs.Making.{CanMake, Follows, FollowsBack, DissolvesOwner, HasConstraint, IsReachedIn};
+ghost use Rattle.sk_session.specs.declared.edit.Edit.TheVariants as an_edit;
+ghost use Rattle.sk_session.specs.declared.edit.Former.TheVariants as a_former;
+ghost use Rattle.sk_base.specs.declared.Element.{Element as AnElement};
+
+use crate::edit::{Edit, Former};
+use crate::numbered::{exchange, get, put, take};
+use sk_base::{ConId, Constraint, Element, Name, NoMemory, Ratio, Rule, Sketch, Um};
+use sk_family::{Cluster, Family};
+use sk_graph::{edge, reduce};
+use std::alloc::Global;
+
+/// Adds a constraint, and its starting cluster. After `NoMemory` both are unchanged.
+pub(crate) fn add_constraint(
+    sketch: &mut Sketch,
+    family: &mut Family,
+    constraint: Constraint,
+) -> Result<(), NoMemory>
+    requires sound { IsSoundSketch sketch.old }
+    requires rule { IsSoundRule sketch.old constraint.rule }
+    requires other { (x : AConstraint) → Contains sketch.old.constraints x → x.number.0 ≢ constraint.number.0 }
+    requires reached { IsReachedIn sketch.old family.old }
+    requires room { length family.old.live < 4294967295 }
+    requires named { IsSound family.old }
+    ensures elements { sketch.new.elements ≡ sketch.old.elements }
+    ensures rise { OnOk result (IsRising constraint_number sketch.new.constraints) }
+    ensures put { OnOk result (HasItem constraint sketch.old.constraints sketch.new.constraints) }
+    ensures starts { OnOk result (HasStart (edge_of sketch.old constraint) family.old family.new) }
+    ensures count { OnOk result (length family.new.live ≡ length family.old.live + 1) }
+    ensures err { OnErr result (sketch.new ≡ sketch.old) }
+    ensures family_err { OnErr result (family.new ≡ family.old) }
+    ensures family_sound { IsSound family.new }
+{
+    let start = edge(sketch, &constraint);
+    put(&mut sketch.constraints, constraint)?;
+    match family.adopt(&start) {
+        Ok(()) => Ok(()),
+        Err(NoMemory) => {
+            take(&mut sketch.constraints, constraint.number.0);
+            Err(NoMemory)
+        }
+    }
+}
+
+/// Takes a constraint out, and dissolves the cluster that owns it. After `NoMemory` both are
+/// unchanged.
+pub(crate) fn remove_constraint(
+    alloc: Global,
+    sketch: &mut Sketch,
+    family: &mut Family,
+    number: ConId,
+) -> Result<Constraint, NoMemory>
+    requires sound { IsSoundSketch sketch.old }
+    requires some { HasConstraint sketch.old number }
+    requires reached { IsReachedIn sketch.old family.old }
+    requires room { length family.old.live ≤ 4294963297 }
+    requires named { IsSound family.old }
+    ensures taken { IfOk result (λ c. Contains sketch.old.constraints c × (c.number ≡ number)) }
+    ensures ok { OnOk result (sketch.new ≡ applied (an_edit.Dropped number) sketch.old) }
+    ensures dissolves { OnOk result (DissolvesOwner (graph_of sketch.old) number family.old family.new) }
+    ensures count { OnOk result (length family.new.live + 1 ≤ length family.old.live + 4000) }
+    ensures err { OnErr result (sketch.new ≡ sketch.old) }
+    ensures family_err { OnErr result (family.new ≡ family.old) }
+    ensures family_sound { IsSound family.new }
+{
+    let graph = reduce(alloc, sketch)?;
+    let name = owner(family, number);
+    family.dissolve(name, number, &graph)?;
+    Ok(take(&mut sketch.constraints, number.0))
+}
+
+/// The name of the cluster that owns the constraint.
+fn owner(family: &Family, number: ConId) -> Name
+    requires { (c : ACluster) × Contains family.now.live c × Contains c.owned number }
+    ensures { (c : ACluster) × IsNamed family.now result c × Contains c.owned number }
+{
+    match owner_in(family.clusters(), number) {
+        Some(cluster) => cluster.name,
+        None => unreachable!(),
+    }
+}
+
+/// The first cluster that owns the constraint.
+fn owner_in(clusters: &[Cluster], number: ConId) -> Option<&Cluster>
+    ensures none { IfNone result ((c : ACluster) → Contains clusters.now c → ¬ Contains c.owned number) }
+    ensures lives { IfSome result (λ c. Contains clusters.now c.now) }
+    ensures owns { IfSome result (λ c. Contains c.now.owned number) }
+{
+    for cluster in clusters {
+        if owns(cluster, number) {
+            return Some(cluster);
+        }
+    }
+    None
+}
+
+fn owns(cluster: &Cluster, number: ConId) -> bool
+    ensures { IsTrue result ↔ Contains cluster.now.owned number }
+{
+    cluster.owned.as_slice().contains(&number)
+}
+
+/// Gives a distance a new length, and answers the constraint as it was.
+fn set_length(sketch: &mut Sketch, number: ConId, len: Um) -> Constraint
+    requires sound { IsSoundSketch sketch.old }
+    requires some { HasConstraint sketch.old number }
+    ensures former { Contains sketch.old.constraints result × (result.number ≡ number) }
+    ensures ok { sketch.new ≡ applied (an_edit.Length number len) sketch.old }
+{
+    let old = get(sketch.constraints.as_slice(), number.0);
+    let rule = with_length(old.rule, len);
+    exchange(&mut sketch.constraints, Constraint { number, rule })
+}
+
+/// Gives an angle a new ratio, and answers the constraint as it was.
+fn set_ratio(sketch: &mut Sketch, number: ConId, ratio: Ratio) -> Constraint
+    requires sound { IsSoundSketch sketch.old }
+    requires some { HasConstraint sketch.old number }
+    ensures former { Contains sketch.old.constraints result × (result.number ≡ number) }
+    ensures ok { sketch.new ≡ applied (an_edit.Turned number ratio) sketch.old }
+{
+    let old = get(sketch.constraints.as_slice(), number.0);
+    let rule = with_ratio(old.rule, ratio);
+    exchange(&mut sketch.constraints, Constraint { number, rule })
+}
+
+fn with_length(rule: Rule, len: Um) -> Rule
+    ensures { result ≡ with_length len rule }
+{
+    match rule {
+        Rule::Distance { u, v, .. } => Rule::Distance { u, v, len },
+        other => other,
+    }
+}
+
+fn with_ratio(rule: Rule, ratio: Ratio) -> Rule
+    ensures { result ≡ with_ratio ratio rule }
+{
+    match rule {
+        Rule::Angle { l, m, .. } => Rule::Angle { l, m, ratio },
+        other => other,
+    }
+}
+
+/// Makes the edit in the sketch and in the kept family, and answers what stood before. After
+/// `NoMemory` both are unchanged.
+pub(crate) fn change(
+    alloc: Global,
+    sketch: &mut Sketch,
+    family: &mut Family,
+    edit: &Edit,
+) -> Result<Former, NoMemory>
+    requires can { CanMake edit.now sketch.old }
+    requires reached { IsReachedIn sketch.old family.old }
+    requires room { length family.old.live ≤ 4294963297 }
+    requires named { IsSound family.old }
+    ensures ok { OnOk result (sketch.new ≡ applied edit.now sketch.old) }
+    ensures former { IfOk result (IsFormer edit.now sketch.old) }
+    ensures follows { OnOk result (Follows edit.now sketch.old family.old family.new) }
+    ensures count { OnOk result (length family.new.live ≤ length family.old.live + 3999) }
+    ensures err { OnErr result (sketch.new ≡ sketch.old) }
+    ensures family_err { OnErr result (family.new ≡ family.old) }
+    ensures family_sound { IsSound family.new }
+{
+    match *edit {
+        Edit::Element(element) => {
+            put(&mut sketch.elements, element)?;
+            Ok(Former::Nothing)
+        }
+        Edit::Constraint(constraint) => {
+            add_constraint(sketch, family, constraint)?;
+            Ok(Former::Nothing)
+        }
+        Edit::Dropped(number) => {
+            let constraint = remove_constraint(alloc, sketch, family, number)?;
+            Ok(Former::Constraint(constraint))
+        }
+        Edit::Length(number, len) => Ok(Former::Constraint(set_length(sketch, number, len))),
+        Edit::Turned(number, ratio) => Ok(Former::Constraint(set_ratio(sketch, number, ratio))),
+        Edit::Erased(number) => Ok(Former::Element(take(&mut sketch.elements, number.0))),
+    }
+}
+
+/// Takes back the edit that led to the sketch, and answers nothing but the sketch before. After
+/// `NoMemory` the sketch and the family are unchanged.
+pub(crate) fn change_back(
+    alloc: Global,
+    sketch: &mut Sketch,
+    family: &mut Family,
+    edit: &Edit,
+    former: &Former,
+) -> Result<(), NoMemory>
+    requires led { (before : ASketch) × LeadsTo edit.now former.now before sketch.old }
+    requires reached { IsReachedIn sketch.old family.old }
+    requires room { length family.old.live ≤ 4294963297 }
+    requires named { IsSound family.old }
+    ensures ok { OnOk result ((before : ASketch) → LeadsTo edit.now former.now before sketch.old → (sketch.new ≡ before) × FollowsBack edit.now before family.old family.new) }
+    ensures count { OnOk result (length family.new.live ≤ length family.old.live + 3999) }
+    ensures err { OnErr result (sketch.new ≡ sketch.old) }
+    ensures family_err { OnErr result (family.new ≡ family.old) }
+    ensures family_sound { IsSound family.new }
+{
+    match *edit {
+        Edit::Element(element) => {
+            take(&mut sketch.elements, element.number.0);
+        }
+        Edit::Constraint(constraint) => {
+            remove_constraint(alloc, sketch, family, constraint.number)?;
+        }
+        Edit::Dropped(_) => add_constraint(sketch, family, constraint_in(former))?,
+        Edit::Length(_, _) => {
+            exchange(&mut sketch.constraints, constraint_in(former));
+        }
+        Edit::Turned(_, _) => {
+            exchange(&mut sketch.constraints, constraint_in(former));
+        }
+        Edit::Erased(_) => put(&mut sketch.elements, element_in(former))?,
+    }
+    Ok(())
+}
+
+fn constraint_in(former: &Former) -> Constraint
+    requires { (c : AConstraint) × (former.now ≡ a_former.Constraint c) }
+    ensures { former.now ≡ a_former.Constraint result }
+{
+    match *former {
+        Former::Constraint(constraint) => constraint,
+        Former::Nothing | Former::Element(_) => unreachable!(),
+    }
+}
+
+fn element_in(former: &Former) -> Element
+    requires { (e : AnElement) × (former.now ≡ a_former.Element e) }
+    ensures { former.now ≡ a_former.Element result }
+{
+    match *former {
+        Former::Element(element) => element,
+        Former::Nothing | Former::Constraint(_) => unreachable!(),
+    }
+}

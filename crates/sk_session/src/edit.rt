@@ -1,0 +1,28 @@
+use sk_base::{ConId, Constraint, Elem, Element, Ratio, Um};
+
+/// One accepted edit: an element line, a constraint line, a drop of a constraint, a new length of a
+/// distance, a new ratio of an angle, or an erasure of an element.
+#[derive(Clone, Copy, Debug, PartialEq, Eq)]
+pub enum Edit {
+    Element(Element),
+    Constraint(Constraint),
+    Dropped(ConId),
+    Length(ConId, Um),
+    Turned(ConId, Ratio),
+    Erased(Elem),
+}
+
+/// What an edit took away or changed, as it stood before.
+#[derive(Clone, Copy, Debug, PartialEq, Eq)]
+pub(crate) enum Former {
+    Nothing,
+    Element(Element),
+    Constraint(Constraint),
+}
+
+/// An edit that stands, with what undoing it puts back.
+#[derive(Clone, Copy, Debug, PartialEq, Eq)]
+pub(crate) struct Done {
+    pub(crate) edit: Edit,
+    pub(crate) former: Former,
+}

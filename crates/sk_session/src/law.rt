@@ -1,0 +1,44 @@
+// Laws of edits.
+ghost use Rattle.std.specs.Prelude.{◌≡◌, ◌↔◌, ℕ, List, Some};
+ghost use Rattle.sk_lang.specs.declared.Code.{Code};
+ghost use Rattle.sk_session.specs.declared.reply.Reply.{Reply as AReply};
+ghost use Rattle.sk_session.specs.declared.reply.Reply.TheVariants as a_reply;
+ghost use Rattle.sk_session.specs.Commands.{code_in};
+ghost use Rattle.sk_session.specs.State.{State};
+ghost use Rattle.sk_session.specs.Replies.{Answers};
+ghost use Rattle.sk_base.specs.declared.Sketch.{Sketch};
+ghost use Rattle.sk_base.specs.declared.ConId.{ConId};
+ghost use Rattle.sk_base.specs.declared.Elem.{Elem};
+ghost use Rattle.sk_base.specs.declared.Um.{Um};
+ghost use Rattle.sk_base.specs.declared.Ratio.{Ratio};
+ghost use Rattle.sk_base.specs.SoundSketch.{IsSoundSketch, IsLength, IsSoundRatio};
+ghost use Rattle.sk_family.specs.Body.{initial_bodies};
+ghost use Rattle.sk_family.specs.Clusters.{Clusters, IsSound, bodies};
+ghost use Rattle.sk_rules.specs.Reach.{Reach};
+ghost use Rattle.sk_graph.specs.SketchGraph.{graph_of};
+ghost use Rattle.sk_session.specs.declared.edit.Edit.{Edit as AnEdit};
+ghost use Rattle.sk_session.specs.declared.edit.Edit.TheVariants as an_edit;
+ghost use Rattle.sk_session.specs.Edits.{applied};
+ghost use Rattle.sk_session.specs.Making.{CanMake, IsUnused, Follows, FollowsBack};
+
+/// Edits other than lines leave a sound sketch sound.
+pub fn stays_sound()
+    ensures dropped { (s : Sketch) (k : ConId) → IsSoundSketch s → IsSoundSketch (applied (an_edit.Dropped k) s) }
+    ensures length { (s : Sketch) (k : ConId) (len : Um) → IsLength len → IsSoundSketch s → IsSoundSketch (applied (an_edit.Length k len) s) }
+    ensures turned { (s : Sketch) (k : ConId) (ratio : Ratio) → IsSoundRatio ratio → IsSoundSketch s → IsSoundSketch (applied (an_edit.Turned k ratio) s) }
+    ensures erased { (s : Sketch) (x : Elem) → IsUnused s x → IsSoundSketch s → IsSoundSketch (applied (an_edit.Erased x) s) }
+{}
+
+/// The kept family follows each edit, and its undoing, and is then one that merges of the initial
+/// family of the new sketch lead to.
+pub fn kept_along()
+    ensures follows { (edit : AnEdit) (s : Sketch) (old new : Clusters) → IsSound old → IsSound new → CanMake edit s → Reach (graph_of s) (initial_bodies (graph_of s)) (bodies old)
+        → Follows edit s old new → Reach (graph_of (applied edit s)) (initial_bodies (graph_of (applied edit s))) (bodies new) }
+    ensures follows_back { (edit : AnEdit) (s : Sketch) (old new : Clusters) → IsSound old → IsSound new → CanMake edit s
+        → Reach (graph_of (applied edit s)) (initial_bodies (graph_of (applied edit s))) (bodies old) → FollowsBack edit s old new → Reach (graph_of s) (initial_bodies (graph_of s)) (bodies new) }
+{}
+
+/// A line is refused exactly where it has a code, and with that code.
+pub fn refused_exactly()
+    ensures { (old new : State) (line : List ℕ) (answer : AReply) (code : Code) → Answers old line answer new → (answer ≡ a_reply.Refused code) ↔ (code_in old line ≡ Some code) }
+{}

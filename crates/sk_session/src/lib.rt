@@ -1,0 +1,18 @@
+//! A session of edits, each of which can be undone, with a family of clusters that is kept.
+#![tactic(auto)]
+
+mod change;
+mod command;
+mod edit;
+mod law;
+mod lines;
+mod numbered;
+mod reading;
+mod reply;
+mod session;
+
+pub use edit::Edit;
+pub use law::{kept_along, refused_exactly, stays_sound};
+pub use reply::Reply;
+pub use session::Session;
+

@@ -1,0 +1,204 @@
+// Lines that drop, set or erase.
+ghost use Rattle.std.specs.Prelude.{◌≡◌, ◌==◌, ◌||◌, ◌<◌, ◌≤◌, [], ◌∷◌, length, map, drop, find, true, false, Some, None, Ok, Err, is_none, MatchResult, IfOk, IfErr, option_copied};
+ghost use Rattle.sk_base.specs.declared.Constraint.{Constraint as AConstraint};
+ghost use Rattle.sk_base.specs.SoundSketch.{IsSoundSketch};
+ghost use Rattle.sk_lex.specs.Words.{bytes_of, StandInOrder};
+ghost use Rattle.sk_lang.specs.FirstCode.{first_code};
+ghost use Rattle.sk_lang.specs.Named.{element_named};
+ghost use Rattle.std.specs.Option.{option_map};
+ghost use Rattle.sk_lang.specs.Conditions.{is_zero};
+ghost use Rattle.sk_lang.specs.Quantities.{length_of, ratio_of, um, ratio};
+ghost use Rattle.sk_lang.specs.declared.Code.TheVariants.{E6, E8, E9, S1, S2};
+ghost use Rattle.sk_session.specs.declared.edit.Edit.TheVariants as an_edit;
+ghost use Rattle.sk_session.specs.declared.command.Change.TheVariants as a_change;
+ghost use Rattle.sk_base.specs.declared.Element.{Element as AnElement};
+ghost use Rattle.sk_graph.specs.SketchGraph.{first_of, second_of};
+ghost use Rattle.sk_session.specs.Commands.{value_rows, setting, from_made, begins_with_zero, number_of, constraint_with, is_used, change_rows, edit_made};
+ghost use Rattle.sk_session.specs.Making.{CanMake};
+
+use crate::command::Change;
+use crate::edit::Edit;
+use sk_base::{ConId, Constraint, Elem, Element, Label, Rule, Sketch, digits_of};
+use sk_lang::{Code, label, length, not_zero, slope, word};
+use sk_lex::Word;
+
+/// The number that a word is.
+fn number_of(word: &[u8]) -> Result<ConId, Code>
+    ensures { MatchResult result (λ k. number_of word.now ≡ Some k.0) (λ code. (number_of word.now ≡ None) × (code ≡ E8)) }
+{
+    if begins_with_zero(word) {
+        return Err(Code::E8);
+    }
+    match digits_of(7, word) {
+        Some(n) => Ok(ConId(n as u32)),
+        None => Err(Code::E8),
+    }
+}
+
+fn begins_with_zero(word: &[u8]) -> bool
+    ensures { result ≡ begins_with_zero word.now }
+{
+    match word {
+        [] => false,
+        [first, ..] => *first == b'0',
+    }
+}
+
+/// The constraint of that number.
+fn numbered(sketch: &Sketch, number: ConId) -> Result<Constraint, Code>
+    ensures { MatchResult result (λ c. constraint_with sketch.now number ≡ Some c) (λ code. (constraint_with sketch.now number ≡ None) × (code ≡ S1)) }
+{
+    match find_numbered(sketch, number) {
+        Some(constraint) => Ok(*constraint),
+        None => Err(Code::S1),
+    }
+}
+
+fn find_numbered(sketch: &Sketch, number: ConId) -> Option<&Constraint>
+    ensures { option_copied result ≡ constraint_with sketch.now number }
+{
+    sketch
+        .constraints
+        .as_slice()
+        .iter()
+        .find(|constraint| constraint.number.0 == number.0)
+}
+
+/// The element of that name.
+fn named(sketch: &Sketch, name: Label) -> Result<Elem, Code>
+    ensures { MatchResult result (λ x. (e : AnElement) × (element_named sketch.now name ≡ Some e) × (e.number ≡ x)) (λ code. (element_named sketch.now name ≡ None) × (code ≡ E6)) }
+{
+    match find_named(sketch, name) {
+        Some(element) => Ok(element.number),
+        None => Err(Code::E6),
+    }
+}
+
+fn find_named(sketch: &Sketch, name: Label) -> Option<&Element>
+    ensures { option_copied result ≡ element_named sketch.now name }
+{
+    sketch
+        .elements
+        .as_slice()
+        .iter()
+        .find(|element| name.as_bytes() == element.label.as_bytes())
+}
+
+/// Whether a constraint uses the element.
+fn is_used(sketch: &Sketch, elem: Elem) -> bool
+    ensures { result ≡ is_used sketch.now elem }
+{
+    sketch
+        .constraints
+        .as_slice()
+        .iter()
+        .any(|constraint| uses(constraint, elem))
+}
+
+fn uses(constraint: &Constraint, elem: Elem) -> bool
+    ensures { result ≡ ((first_of constraint.now.rule).0 == elem.0) || ((second_of constraint.now.rule).0 == elem.0) }
+{
+    match constraint.rule {
+        Rule::Distance { u, v, .. }
+        | Rule::On { u, v }
+        | Rule::Tangent { u, v }
+        | Rule::Outside { u, v }
+        | Rule::Inside { u, v } => u.0 == elem.0 || v.0 == elem.0,
+        Rule::Angle { l, m, .. } => l.0 == elem.0 || m.0 == elem.0,
+    }
+}
+
+/// The drop that a line says, by the word behind the first.
+fn read_drop(sketch: &Sketch, number: &[u8]) -> Result<Edit, Code>
+    ensures { result ≡ from_made (first_code (change_rows sketch.now a_change.Drop (number.now ∷ []))) (edit_made sketch.now a_change.Drop (number.now ∷ [])) }
+{
+    let number = number_of(number)?;
+    numbered(sketch, number)?;
+    Ok(Edit::Dropped(number))
+}
+
+/// The new value that a line says.
+fn read_set(sketch: &Sketch, number: &[u8], value: &[u8]) -> Result<Edit, Code>
+    ensures { result ≡ from_made (first_code (change_rows sketch.now a_change.Set (number.now ∷ value.now ∷ []))) (edit_made sketch.now a_change.Set (number.now ∷ value.now ∷ [])) }
+{
+    let number = number_of(number)?;
+    let constraint = numbered(sketch, number)?;
+    set_value(constraint.rule, number, value)
+}
+
+/// The new value that a rule gets.
+fn set_value(rule: Rule, number: ConId, value: &[u8]) -> Result<Edit, Code>
+    ensures { result ≡ from_made (first_code (value_rows (Some rule) value.now)) (setting (Some rule) number value.now) }
+{
+    match rule {
+        Rule::Distance { .. } => new_length(number, value),
+        Rule::Angle { .. } => new_ratio(number, value),
+        Rule::On { .. } | Rule::Tangent { .. } | Rule::Outside { .. } | Rule::Inside { .. } => {
+            Err(Code::S4)
+        }
+    }
+}
+
+fn new_length(number: ConId, value: &[u8]) -> Result<Edit, Code>
+    ensures { result ≡ from_made (first_code ((is_none (length_of value.now), E8) ∷ (is_zero (length_of value.now), E9) ∷ [])) (Some (an_edit.Length number (um value.now))) }
+{
+    let len = length(value)?;
+    not_zero(len)?;
+    Ok(Edit::Length(number, len))
+}
+
+fn new_ratio(number: ConId, value: &[u8]) -> Result<Edit, Code>
+    ensures { result ≡ from_made (first_code ((is_none (ratio_of value.now), E8) ∷ (is_zero (option_map (λ parts. parts.0) (ratio_of value.now)), E9) ∷ [])) (Some (an_edit.Turned number (ratio value.now))) }
+{
+    let ratio = slope(value)?;
+    if ratio.p == 0 {
+        return Err(Code::E9);
+    }
+    Ok(Edit::Turned(number, ratio))
+}
+
+/// The erasure that a line says.
+fn read_erase(sketch: &Sketch, name: &[u8]) -> Result<Edit, Code>
+    ensures { result ≡ from_made (first_code (change_rows sketch.now a_change.Erase (name.now ∷ []))) (edit_made sketch.now a_change.Erase (name.now ∷ [])) }
+{
+    let name = label(name)?;
+    let number = named(sketch, name)?;
+    if is_used(sketch, number) {
+        return Err(Code::S2);
+    }
+    Ok(Edit::Erased(number))
+}
+
+/// The edit that a line says, by its words.
+pub(crate) fn read_change(
+    sketch: &Sketch,
+    change: Change,
+    line: &[u8],
+    words: &[Word],
+) -> Result<Edit, Code>
+    requires some { 0 < length words.now }
+    requires order { StandInOrder 0 words.now (length line.now) }
+    ensures { let rest = drop 1 (map (bytes_of line.now) words.now) in result ≡ from_made (first_code (change_rows sketch.now change rest)) (edit_made sketch.now change rest) }
+{
+    let count = words.len() - 1;
+    match change {
+        Change::Drop => {
+            if count != 1 {
+                return Err(Code::E3);
+            }
+            read_drop(sketch, word(line, words, 1))
+        }
+        Change::Set => {
+            if count != 2 {
+                return Err(Code::E3);
+            }
+            read_set(sketch, word(line, words, 1), word(line, words, 2))
+        }
+        Change::Erase => {
+            if count != 1 {
+                return Err(Code::E3);
+            }
+            read_erase(sketch, word(line, words, 1))
+        }
+    }
+}

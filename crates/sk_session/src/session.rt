@@ -1,0 +1,232 @@
+// A session: the edits that stand, with the sketch that they make and the family of clusters that is
+// kept. Each standing edit has beside it what it took away or changed, so that an undo costs no more
+// than the edit.
+ghost use Rattle.std.specs.Prelude.{◌≡◌, ◌+◌, ◌<◌, ◌≤◌, ◌++◌, [], ◌∷◌, IfOk, OnOk, OnErr, length};
+ghost use Rattle.std.specs.Vec.{vec_len, vec_capacity};
+ghost use Rattle.sk_family.specs.Clusters.{initial_clusters};
+ghost use Rattle.sk_graph.specs.SketchGraph.{graph_of};
+ghost use Rattle.sk_session.specs.Edits.{empty, sketch_of, next_element, next_constraint};
+ghost use Rattle.sk_base.specs.SoundSketch.{IsSoundSketch};
+ghost use Rattle.sk_lang.specs.Codes.{is_none_left};
+ghost use Rattle.sk_session.specs.Making.{CanMake, IsReachedIn};
+ghost use Rattle.sk_session.specs.Standing.{Gives, element_after, constraint_after, element_before, constraint_before};
+ghost use Rattle.sk_session.specs.State.{sketch_in, Accepts, TakesBack, IsHeldUp};
+ghost use Rattle.sk_session.specs.Replies.{Checks, Plans};
+
+use crate::change::{change, change_back};
+use crate::edit::{Done, Edit, Former};
+use crate::reply::Reply;
+use sk_base::{List, NoMemory, Sketch};
+use sk_family::{Family, initial};
+use sk_graph::reduce;
+use sk_plan::{PlanError, plan_of};
+use sk_verdict::judge;
+use sk_worklist::{Chosen, Order, close_family};
+use std::alloc::Global;
+use std::marker::Model;
+
+#[derive(Drop)]
+pub struct Session {
+    alloc: Global,
+    order: Order,
+    done: Vec<Done>,
+    sketch: Sketch,
+    next_elem: u32,
+    next_con: u32,
+    count: u32,
+    family: Family,
+}
+
+impl Model for Session {
+    ghost use Rattle.sk_session.specs.Standing.{edits_of, IsConsistent};
+    ghost use Rattle.sk_session.specs.State.{State};
+
+    ghost Value = { State };
+
+    ghost view = { λ s. record { order = s.order; edits = edits_of s.done.items; count = s.count; family = s.family } };
+
+    ghost invariant = { λ s. IsConsistent s.done.items s.sketch s.next_elem s.next_con s.count s.family };
+}
+
+impl Session {
+    /// A session with the sketch without elements.
+    pub fn new(alloc: Global, order: Order) -> Result<Session, NoMemory>
+        ensures { IfOk result (λ s. s ≡ record { order = order; edits = []; count = 0; family = initial_clusters (graph_of empty) }) }
+    {
+        let sketch = Sketch {
+            elements: List::new(alloc),
+            constraints: List::new(alloc),
+        };
+        let family = initial(alloc, &reduce(alloc, &sketch)?)?;
+        Ok(Session {
+            alloc,
+            order,
+            done: Vec::new(alloc),
+            sketch,
+            next_elem: 1,
+            next_con: 1,
+            count: 0,
+            family,
+        })
+    }
+
+    /// The sketch that the standing edits make.
+    pub fn sketch(&self) -> &Sketch
+        ensures sketch { result.now ≡ sketch_in self.now }
+        ensures sound { IsSoundSketch result.now }
+    {
+        &self.sketch
+    }
+
+    /// The kept family, one that merges of the sketch's initial family lead to.
+    pub fn family(&self) -> &Family
+        ensures family { result.now ≡ self.now.family }
+        ensures reached { IsReachedIn (sketch_in self.now) self.now.family }
+    {
+        &self.family
+    }
+
+    /// The number of the next element line.
+    pub(crate) fn next_elem(&self) -> u32
+        ensures { result ≡ next_element self.now.edits }
+    {
+        self.next_elem
+    }
+
+    /// The number of the next constraint line.
+    pub(crate) fn next_con(&self) -> u32
+        ensures { result ≡ next_constraint self.now.edits }
+    {
+        self.next_con
+    }
+
+    /// Whether no edit stands.
+    pub(crate) fn has_no_edit(&self) -> bool
+        ensures { result ≡ is_none_left self.now.edits }
+    {
+        self.done.is_empty()
+    }
+
+    pub(crate) fn alloc(&self) -> Global {
+        self.alloc
+    }
+
+    /// How many edits and undos were accepted.
+    pub(crate) fn count(&self) -> u32
+        ensures { result ≡ self.now.count }
+    {
+        self.count
+    }
+
+    /// Makes one more edit stand.
+    pub(crate) fn make(&mut self, edit: Edit) -> Result<(), NoMemory>
+        requires can { CanMake edit (sketch_in self.old) }
+        requires given { Gives edit self.old.edits }
+        requires room { self.old.count < 1000000 }
+        ensures ok { OnOk result (Accepts self.old edit self.new) }
+        ensures err { OnErr result (self.new ≡ self.old) }
+    {
+        self.done.reserve(1)?;
+        let former = change(self.alloc, &mut self.sketch, &mut self.family, &edit)?;
+        self.next_elem = element_after(&edit, self.next_elem);
+        self.next_con = constraint_after(&edit, self.next_con);
+        self.count += 1;
+        put_last(&mut self.done, edit, former);
+        Ok(())
+    }
+
+    /// Takes back the last edit that stands.
+    pub(crate) fn undo(&mut self) -> Result<(), NoMemory>
+        requires some { 0 < length self.old.edits }
+        requires room { self.old.count < 1000000 }
+        ensures ok { OnOk result (TakesBack self.old self.new) }
+        ensures err { OnErr result (self.new ≡ self.old) }
+    {
+        let last = self.done.len() - 1;
+        let Done { edit, former } = &self.done[last];
+        change_back(self.alloc, &mut self.sketch, &mut self.family, edit, former)?;
+        self.next_elem = element_before(edit, self.next_elem);
+        self.next_con = constraint_before(edit, self.next_con);
+        self.count += 1;
+        self.done.truncate(last);
+        Ok(())
+    }
+
+    /// The judgement on the sketch, where the kept family is closed.
+    pub(crate) fn check(&mut self) -> Result<Reply, NoMemory>
+        requires { 0 < length (sketch_in self.old).elements }
+        ensures ok { IfOk result (λ answer. Checks self.old answer self.new) }
+        ensures err { OnErr result (IsHeldUp self.old self.new) }
+    {
+        let graph = reduce(self.alloc, &self.sketch)?;
+        let mut picker = Chosen::new(self.order);
+        close_family(self.alloc, &mut self.family, &graph, &mut picker)?;
+        let judgement = judge(self.alloc, &self.family, &graph)?;
+        Ok(Reply::Checked(judgement))
+    }
+
+    /// The plan of the sketch, or the judgement on it.
+    pub(crate) fn plan(&self) -> Result<Reply, NoMemory>
+        requires { 0 < length (sketch_in self.now).elements }
+        ensures { IfOk result (Plans self.now) }
+    {
+        let graph = reduce(self.alloc, &self.sketch)?;
+        let mut picker = Chosen::new(self.order);
+        match plan_of(self.alloc, &self.sketch, &graph, &mut picker) {
+            Ok(plan) => Ok(Reply::Planned(plan)),
+            Err(PlanError::NotWell(judgement)) => Ok(Reply::NotWell(judgement)),
+            Err(PlanError::NoMemory) => Err(NoMemory),
+        }
+    }
+}
+
+/// Appends where there is room.
+fn put_last(done: &mut Vec<Done>, edit: Edit, former: Former)
+    requires { vec_len done.old < vec_capacity done.old }
+    ensures { done.new.items ≡ done.old.items ++ record { edit = edit; former = former } ∷ [] }
+{
+    match done.push(Done { edit, former }) {
+        Ok(()) => {}
+        Err(_) => unreachable!(),
+    }
+}
+
+/// The next numbers behind an edit.
+fn element_after(edit: &Edit, next: u32) -> u32
+    requires { next ≤ 1000001 }
+    ensures { result ≡ element_after edit.now next }
+{
+    match edit {
+        Edit::Element(_) => next + 1,
+        _ => next,
+    }
+}
+
+fn constraint_after(edit: &Edit, next: u32) -> u32
+    requires { next ≤ 1000001 }
+    ensures { result ≡ constraint_after edit.now next }
+{
+    match edit {
+        Edit::Constraint(_) => next + 1,
+        _ => next,
+    }
+}
+
+/// The next numbers before an edit.
+fn element_before(edit: &Edit, next: u32) -> u32
+    ensures { result ≡ element_before edit.now next }
+{
+    match edit {
+        Edit::Element(_) => next.saturating_sub(1),
+        _ => next,
+    }
+}
+
+fn constraint_before(edit: &Edit, next: u32) -> u32
+    ensures { result ≡ constraint_before edit.now next }
+{
+    match edit {
+        Edit::Constraint(_) => next.saturating_sub(1),
+        _ => next,
+    }
+}
