@@ -3,7 +3,7 @@ use Rattle.std.specs.Prelude.{ℕ, List, ◌++◌, codes}
 use Rattle.std.specs.Fmt.{decimal}
 use Rattle.sk_offers.specs.declared.Answer.{Answer}
 use Rattle.sk_offers.specs.declared.Answer.TheVariants.{Taken, Stale, Idle}
-use Rattle.sk_report.specs.ClusterName.{cluster_name}
+use Rattle.sk_text.specs.ClusterName.{cluster_name}
 
 abbrev pub answer_words : Answer → List ℕ
 answer_words (Taken n) = codes "taken " ++ cluster_name n

@@ -1,5 +1,7 @@
 pub mod AnswerLine
 pub mod CheckReport
-pub mod ClusterName
+pub mod FaultLines
 pub mod PlanReport
 pub mod RefusalLine
+pub mod ReplyLines
+pub mod SolveReport

@@ -2,9 +2,9 @@
 ghost use Rattle.std.specs.Prelude.{◌≡◌, IfOk, string_bytes};
 ghost use Rattle.sk_report.specs.AnswerLine.{answer_words, answer_line};
 
-use crate::cluster::cluster_name;
 use sk_base::{NoMemory, Text};
 use sk_offers::Answer;
+use sk_text::cluster_name;
 use std::alloc::Global;
 
 /// The one line that answers an offer of that worker.

@@ -79,7 +79,8 @@ pub(crate) fn put_names(text: &mut Text, s: &Sketch, elements: &[Elem]) -> Resul
     Ok(())
 }
 
-fn put_name(text: &mut Text, s: &Sketch, e: Elem) -> Result<(), NoMemory>
+/// Puts a space and the element's name.
+pub(crate) fn put_name(text: &mut Text, s: &Sketch, e: Elem) -> Result<(), NoMemory>
     ensures { OnOk result (text.new ≡ text.old ++ 32 ∷ name_of s.now e) }
 {
     text.put(b" ")?;

@@ -4,9 +4,9 @@ ghost use Rattle.std.specs.List.{flat_map};
 ghost use Rattle.sk_report.specs.PlanReport.{constraint_of, constraint_words, leaf_line, sign_text, choice_words, joins_words, keeps_words, step_line, plan_counts, plan_report};
 
 use crate::check::put_names;
-use crate::cluster::cluster_name;
 use sk_base::{ConId, Constraint, NoMemory, Sign, Sketch, Text};
 use sk_lang::constraint_text;
+use sk_text::cluster_name;
 use sk_tree::{Choice, Plan, PlanStep};
 use std::alloc::Global;
 
@@ -64,7 +64,7 @@ fn put_constraint(alloc: Global, text: &mut Text, s: &Sketch, number: ConId) -> 
     }
 }
 
-fn constraint_of(s: &Sketch, number: ConId) -> Option<&Constraint>
+pub(crate) fn constraint_of(s: &Sketch, number: ConId) -> Option<&Constraint>
     ensures { option_copied result ≡ constraint_of s.now number }
 {
     s.constraints
