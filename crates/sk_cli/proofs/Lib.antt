@@ -1,11 +1,17 @@
 pub mod Answering
+pub mod CommandWords
 pub mod FallingMerges
 pub mod FittingOffers
+pub mod KeyNames
+pub mod KeyValues
+pub mod Keys
 pub mod LineCounts
 pub mod OfferAnswers
 pub mod OfferBytes
 pub mod OffersSoFar
 pub mod OneOffering
 pub mod OneOutcome
+pub mod OnePlacement
+pub mod Placements
 pub mod Runs
 pub mod Strides

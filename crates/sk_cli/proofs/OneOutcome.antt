@@ -1,5 +1,5 @@
 -- Words ask for one thing at most, and with an input they have one outcome at most.
-use Rattle.std.proofs.Common.{◌≡◌, ◌⊎◌, inl, inr, ℕ, ◌≤◌, List, [], ◌∷◌, ◌++◌, refl, sym, ap, ◌∙◌, subst, arith, lit≤}
+use Rattle.std.proofs.Common.{◌≡◌, ◌⊎◌, inl, inr, ℕ, ◌≤◌, List, [], ◌∷◌, ◌++◌, refl, sym, ap, ◌∙◌, subst, arith, lit≤, lit<}
 use Rattle.std.specs.Prelude.{All, map, drop}
 use Rattle.std.specs.Fmt.{decimal}
 use Rattle.std.specs.Str.Parse.{AllDigits}
@@ -26,8 +26,8 @@ use Rattle.sk_worklist.specs.Orders.{Choosing, place_of, next_call}
 use Rattle.sk_worklist.specs.Run.{IsRun}
 use Rattle.sk_tree.specs.declared.Plan.{Plan as ThePlan}
 use Rattle.sk_tree.specs.LegalPlan.{IsLegalPlan, merge_told}
-use Rattle.sk_plan.specs.DrawnChoice.{HasDrawnChoice}
-use Rattle.sk_plan.specs.Judged.{IsTheJudgement}
+use Rattle.sk_choice.specs.DrawnChoice.{HasDrawnChoice}
+use Rattle.sk_plan.specs.Judged.{IsTheJudgement, IsWell}
 use Rattle.sk_report.specs.PlanReport.{plan_report}
 use Rattle.sk_lang.specs.declared.Front.{Front}
 use Rattle.sk_lang.specs.Front.{ReadsFront, RefusesFront}
@@ -40,24 +40,20 @@ use Rattle.sk_cli.proofs.OneOffering.{same_lines}
 use Rattle.sk_worklist.specs.declared.Order.{Order}
 use Rattle.sk_worklist.specs.declared.Order.TheVariants.{First, Last, Stride}
 use Rattle.sk_cli.specs.declared.command.Command.{Command}
-use Rattle.sk_cli.specs.declared.command.Command.TheVariants.{Check, Plan, Offers}
+use Rattle.sk_cli.specs.declared.command.Command.TheVariants.{Check, Plan, Solve, Offers}
 use Rattle.sk_cli.specs.declared.request.Request.{Request}
 use Rattle.sk_cli.specs.declared.status.Status.{Status}
 use Rattle.sk_cli.specs.declared.status.Status.TheVariants.{Done, Refused, NotWell}
-use Rattle.sk_cli.specs.Commands.{command_word}
-use Rattle.sk_cli.specs.Asking.{IsOrder, HasOrder, Asks}
-use Rattle.sk_cli.specs.Outcome.{IsReport, IsRefusalText, IsCheckAnswer, IsPlanBy, IsPlanReport, IsReportNotWell, IsPlanAnswer, IsPlanOrReport, IsAnswer, IsAnswerOf, IsOutcome}
-
-one_command : (c d : Command) → command_word c ≡ command_word d → c ≡ d
-one_command Check Check same = refl
-one_command Check Plan same = cc
-one_command Plan Check same = cc
-one_command Check Offers same = cc
-one_command Plan Plan same = refl
-one_command Plan Offers same = cc
-one_command Offers Check same = cc
-one_command Offers Plan same = cc
-one_command Offers Offers same = refl
+use Rattle.sk_cli.specs.declared.bits.Bits.{Bits}
+use Rattle.sk_cli.specs.declared.bits.Bits.TheVariants.{Sixteen, TwentySeven, ThirtyEight}
+use Rattle.sk_cli.specs.declared.placing.Placement.{Placement}
+use Rattle.sk_cli.specs.Asking.{OrderKey, BitsKey, WithinKey, values_of, IsOrder, IsBits, IsLimit, Asks}
+use Rattle.sk_cli.specs.Grids.{grid_of, digits_of}
+use Rattle.sk_cli.specs.Solving.{IsPlacement, status_of, solve_words}
+use Rattle.sk_cli.proofs.CommandWords.{other_letter, one_command}
+use Rattle.sk_cli.proofs.KeyValues.{one_said}
+use Rattle.sk_cli.proofs.OnePlacement.{same_placement}
+use Rattle.sk_cli.specs.Outcome.{IsReport, IsRefusalText, IsCheckAnswer, IsPlanBy, IsPlanReport, IsReportNotWell, IsPlanAnswer, IsPlanOrReport, IsSolved, IsSolveAnswer, IsAnswer, IsAnswerOf, IsOutcome}
 
 -- no number is spelled with such a first byte
 no_letter : (c k : ℕ) (rest : List ℕ) → 10 ≤ digit_value c → k ≤ 65535 → c ∷ rest ≡ decimal k → ⊥
@@ -78,22 +74,30 @@ one_order value (Stride k) Last first second = absurd (no_letter 108 k _ (lit≤
 one_order value (Stride k) (Stride j) first second =
     ap Stride (decimal_injective k j (omega (arith, first.1)) (omega (arith, second.1)) (sym first.0 ∙ second.0))
 
-keys_order : (keys : List (List ℕ)) (one other : Order) → HasOrder keys one → HasOrder keys other → one ≡ other
-keys_order [] one other first second = first ∙ sym second
-keys_order (word ∷ []) one other first second =
-    let here = first.1 in
-    let there = second.1 in
-    let same : first.0 ≡ second.0 = cc in
-    one_order second.0 one other (subst (λ value. IsOrder value one) same first.2) second.2
-keys_order (word ∷ another ∷ words) one other first second = absurd first
+one_bits : (value : List ℕ) (one other : Bits) → IsBits value one → IsBits value other → one ≡ other
+one_bits value Sixteen Sixteen first second = refl
+one_bits value Sixteen TwentySeven first second = absurd (other_letter 49 50 _ _ (lit< tt) (sym first ∙ second))
+one_bits value Sixteen ThirtyEight first second = absurd (other_letter 49 51 _ _ (lit< tt) (sym first ∙ second))
+one_bits value TwentySeven Sixteen first second = absurd (other_letter 49 50 _ _ (lit< tt) (sym second ∙ first))
+one_bits value TwentySeven TwentySeven first second = refl
+one_bits value TwentySeven ThirtyEight first second = absurd (other_letter 50 51 _ _ (lit< tt) (sym first ∙ second))
+one_bits value ThirtyEight Sixteen first second = absurd (other_letter 49 51 _ _ (lit< tt) (sym second ∙ first))
+one_bits value ThirtyEight TwentySeven first second = absurd (other_letter 50 51 _ _ (lit< tt) (sym second ∙ first))
+one_bits value ThirtyEight ThirtyEight first second = refl
+
+one_limit : (value : List ℕ) (one other : ℕ) → IsLimit value one → IsLimit value other → one ≡ other
+one_limit value one other first second = decimal_injective one other (omega (arith, first.2)) (omega (arith, second.2)) (sym first.0 ∙ second.0)
 
 pub same_request : (words : List (List ℕ)) (one other : Request) → Asks words one → Asks words other → one ≡ other
 same_request [] one other first second = absurd first
 same_request (command ∷ keys) one other first second =
     let command_is = one_command one.command other.command (sym first.0 ∙ second.0) in
-    let order_is = keys_order keys one.order other.order first.1 second.1 in
-    let make : Command → Order → Request = λ c o. record { command = c; order = o } in
-    ap (λ c. make c one.order) command_is ∙ ap (λ o. make other.command o) order_is
+    let order_is = one_said IsOrder one_order First (values_of OrderKey keys) one.order other.order first.1.order second.1.order in
+    let bits_is = one_said IsBits one_bits ThirtyEight (values_of BitsKey keys) one.bits other.bits first.1.bits second.1.bits in
+    let within_is = one_said IsLimit one_limit 1000 (values_of WithinKey keys) one.within other.within first.1.within second.1.within in
+    let make : Command → Order → Bits → ℕ → Request = λ c o b w. record { command = c; order = o; bits = b; within = w } in
+    ap (λ c. make c one.order one.bits one.within) command_is ∙ ap (λ o. make other.command o one.bits one.within) order_is
+    ∙ ap (λ b. make other.command other.order b one.within) bits_is ∙ ap (λ w. make other.command other.order other.bits w) within_is
 
 -- the laws of the layers below
 abbrev OneSketch : Type 0
@@ -150,10 +154,13 @@ pub record LowerLaws : Type 0 where
   pub run : OneRun
   pub front : FrontLaws
 
-same_plan_report : LowerLaws → (order : Order) (s : Sketch) → IsSoundGraph (graph_of s) → (p q : ThePlan) → IsPlanBy order s p → IsPlanBy order s q → plan_report s p ≡ plan_report s q
-same_plan_report laws order s sound p q first second =
+same_plan : LowerLaws → (order : Order) (s : Sketch) → IsSoundGraph (graph_of s) → (p q : ThePlan) → IsPlanBy order s p → IsPlanBy order s q → p ≡ q
+same_plan laws order s sound p q first second =
     let merges = laws.run (graph_of s) (initial_clusters (graph_of s)) (record { order = order; call = 0 }) (map merge_told p.steps) (map merge_told q.steps) first.end second.end first.last second.last first.run second.run in
-    ap (λ z. plan_report s z) (laws.plan (graph_of s) s p q sound first.legal second.legal merges.0 first.drawn second.drawn)
+    laws.plan (graph_of s) s p q sound first.legal second.legal merges.0 first.drawn second.drawn
+
+same_plan_report : LowerLaws → (order : Order) (s : Sketch) → IsSoundGraph (graph_of s) → (p q : ThePlan) → IsPlanBy order s p → IsPlanBy order s q → plan_report s p ≡ plan_report s q
+same_plan_report laws order s sound p q first second = ap (λ z. plan_report s z) (same_plan laws order s sound p q first second)
 
 -- a plan, or a report where the verdict isn't well
 told_planned : (order : Order) (s : Sketch) (status : Status) (text : List ℕ) → IsPlanOrReport order s status text → ((status ≡ Done) × IsPlanReport order s text) ⊎ ((status ≡ NotWell) × IsReportNotWell s text)
@@ -198,6 +205,49 @@ same_plan_answer one_sketch one_refusal not_both law laws order bytes status oth
         | inr (t, reads', told') ↦
             same_planned law laws order t (graph_is_sound t (laws.sound bytes t reads')) status other text another
             (subst (λ z. IsPlanOrReport order z status text) (one_sketch bytes s t reads reads') told) told'
+      ]
+    ]
+
+-- what is told of a placed plan
+abbrev Words : Type 0
+Words = Sketch → ThePlan → Placement → List ℕ
+
+still_well : OneJudgement → (s : Sketch) (text : List ℕ) → IsWell (graph_of s) → IsReportNotWell s text → ⊥
+still_well law s text (k, judged', well) (j, judged, not_well, is) = not_well (subst (λ (z : Judgement). z.verdict ≡ Well) (same_judgement law (graph_of s) k j judged' judged) well)
+
+same_solved : OneJudgement → LowerLaws → (words : Words) (request : Request) (s : Sketch) → IsSoundGraph (graph_of s) → (status other : Status) (text another : List ℕ)
+    → IsSolved words request s status text → IsSolved words request s other another → (status ≡ other) × (text ≡ another)
+same_solved law laws words request s sound status other text another (inl (p, q, placed, is, text_is)) (inl (p', q', placed', is', text_is')) =
+    let plan_is = same_plan laws request.order s sound p p' placed.plan placed'.plan in
+    let placement_is : q ≡ q' = same_placement (grid_of request.bits) (digits_of request.bits) request.within s p' sound placed'.plan.legal q q'
+    (subst (λ (z : ThePlan). IsPlacement (grid_of request.bits) (digits_of request.bits) request.within s z q) plan_is placed.placed) placed'.placed in (
+      is ∙ ap status_of placement_is ∙ sym is',
+      text_is ∙ ap (λ z. words s z q) plan_is ∙ ap (λ z. words s p' z) placement_is ∙ sym text_is',
+    )
+same_solved law laws words request s sound status other text another (inl (p, q, placed, is, text_is)) (inr (short, report)) = absurd (still_well law s another placed.well report)
+same_solved law laws words request s sound status other text another (inr (short, report)) (inl (p, q, placed, is, text_is)) = absurd (still_well law s text placed.well report)
+same_solved law laws words request s sound status other text another (inr (short, (j, judged, not_well, is))) (inr (short', (k, judged', not_well', is'))) =
+    (short ∙ sym short', is ∙ ap (λ z. check_report s z) (same_judgement law (graph_of s) j k judged judged') ∙ sym is')
+
+-- a refusal, or what is told of a sketch
+told_solve : (request : Request) (bytes : List ℕ) (status : Status) (text : List ℕ) → IsSolveAnswer request bytes status text
+    → ((status ≡ Refused) × IsRefusalText bytes text) ⊎ ((s : Sketch) × Reads bytes s × IsSolved (solve_words (digits_of request.bits)) request s status text)
+told_solve request bytes Refused text answer = inl (refl, answer)
+told_solve request bytes status text answer = inr answer
+
+same_solve_answer : OneSketch → OneRefusal → NotBoth → OneJudgement → LowerLaws → (request : Request) (bytes : List ℕ) (status other : Status) (text another : List ℕ)
+    → IsSolveAnswer request bytes status text → IsSolveAnswer request bytes other another → (status ≡ other) × (text ≡ another)
+same_solve_answer one_sketch one_refusal not_both law laws request bytes status other text another first second =
+    elim (told_solve request bytes status text first) [
+      | inl (refused, line) ↦ elim (told_solve request bytes other another second) [
+        | inl (refused', line') ↦ (refused ∙ sym refused', same_refusal one_refusal bytes text another line line')
+        | inr (s, reads, told) ↦ absurd (not_both bytes s line.0.line line.0.code reads line.1)
+      ]
+      | inr (s, reads, told) ↦ elim (told_solve request bytes other another second) [
+        | inl (refused, line) ↦ absurd (not_both bytes s line.0.line line.0.code reads line.1)
+        | inr (t, reads', told') ↦
+            same_solved law laws (solve_words (digits_of request.bits)) request t (graph_is_sound t (laws.sound bytes t reads')) status other text another
+            (subst (λ z. IsSolved (solve_words (digits_of request.bits)) request z status text) (one_sketch bytes s t reads reads') told) told'
       ]
     ]
 
@@ -262,9 +312,9 @@ told bytes Done text answer = inl (refl, answer)
 told bytes Refused text answer = inr (refl, answer)
 told bytes status text answer = absurd answer
 
-same_answer : OneSketch → OneRefusal → NotBoth → OneJudgement → LowerLaws → (command : Command) (order : Order) (bytes : List ℕ) (status other : Status) (text another : List ℕ)
-    → IsAnswerOf command order bytes status text → IsAnswerOf command order bytes other another → (status ≡ other) × (text ≡ another)
-same_answer one_sketch one_refusal not_both law laws Check order bytes status other text another first second =
+same_answer : OneSketch → OneRefusal → NotBoth → OneJudgement → LowerLaws → (command : Command) (request : Request) (bytes : List ℕ) (status other : Status) (text another : List ℕ)
+    → IsAnswerOf command request bytes status text → IsAnswerOf command request bytes other another → (status ≡ other) × (text ≡ another)
+same_answer one_sketch one_refusal not_both law laws Check request bytes status other text another first second =
     elim (told bytes status text first) [
       | inl done ↦ elim (told bytes other another second) [
         | inl done' ↦ (done.0 ∙ sym done'.0, same_report one_sketch law bytes text another done.1 done'.1)
@@ -275,9 +325,11 @@ same_answer one_sketch one_refusal not_both law laws Check order bytes status ot
         | inr refused' ↦ (refused.0 ∙ sym refused'.0, same_refusal one_refusal bytes text another refused.1 refused'.1)
       ]
     ]
-same_answer one_sketch one_refusal not_both law laws Offers order bytes status other text another first second = same_offers laws law bytes status other text another first second
-same_answer one_sketch one_refusal not_both law laws Plan order bytes status other text another first second =
-    same_plan_answer one_sketch one_refusal not_both law laws order bytes status other text another first second
+same_answer one_sketch one_refusal not_both law laws Offers request bytes status other text another first second = same_offers laws law bytes status other text another first second
+same_answer one_sketch one_refusal not_both law laws Solve request bytes status other text another first second =
+    same_solve_answer one_sketch one_refusal not_both law laws request bytes status other text another first second
+same_answer one_sketch one_refusal not_both law laws Plan request bytes status other text another first second =
+    same_plan_answer one_sketch one_refusal not_both law laws request.order bytes status other text another first second
 
 pub same_outcome : OneSketch → OneRefusal → NotBoth → OneJudgement → LowerLaws → (words : List (List ℕ)) (bytes : List ℕ) (status other : Status) (text another : List ℕ)
     → IsOutcome words bytes status text → IsOutcome words bytes other another → (status ≡ other) × (text ≡ another)
@@ -286,7 +338,7 @@ same_outcome one_sketch one_refusal not_both law laws words bytes status other t
       | inl asked ↦ elim second [
         | inl asked' ↦
             let request_is = same_request words asked.0 asked'.0 asked.1 asked'.1 in
-            same_answer one_sketch one_refusal not_both law laws asked'.0.command asked'.0.order bytes status other text another
+            same_answer one_sketch one_refusal not_both law laws asked'.0.command asked'.0 bytes status other text another
             (subst (λ (z : Request). IsAnswer z bytes status text) request_is asked.2) asked'.2
         | inr usage ↦ absurd (usage.0 (asked.0, asked.1))
       ]

@@ -5,19 +5,22 @@ use Rattle.std.proofs.lemmas.Bool.{cases_lt}
 use Rattle.std.proofs.lemmas.List.{append-nil, take_all, length-take}
 use Rattle.std.specs.Io.KnownBytes.{Appends}
 use Rattle.sk_io.specs.Transfer.{TakesUpTo}
+use Rattle.sk_base.specs.declared.Sketch.{Sketch}
 use Rattle.sk_lang.specs.declared.Code.{Code}
 use Rattle.sk_lang.specs.declared.Refusal.{Refusal}
 use Rattle.sk_lang.specs.Reading.{Refuses, TooLong, Empty, AtLine, NoEnd}
 use Rattle.sk_lang.specs.Front.{RefusesFront}
 use Rattle.sk_cli.specs.OffersReport.{IsRefusedAt}
-use Rattle.sk_worklist.specs.declared.Order.{Order}
 use Rattle.sk_cli.specs.declared.command.Command.{Command}
-use Rattle.sk_cli.specs.declared.command.Command.TheVariants.{Check, Plan, Offers}
+use Rattle.sk_cli.specs.declared.command.Command.TheVariants.{Check, Plan, Solve, Offers}
+use Rattle.sk_cli.specs.declared.placing.Placement.{Placement}
 use Rattle.sk_cli.specs.declared.request.Request.{Request}
 use Rattle.sk_cli.specs.declared.status.Status.{Status}
 use Rattle.sk_cli.specs.declared.status.Status.TheVariants.{Done, Refused, Usage, ReadFault, WriteFault, NoMemory, NotWell, StepFault, Tolerance}
 use Rattle.sk_cli.specs.Asking.{Asks, AreOfForm}
-use Rattle.sk_cli.specs.Outcome.{IsOutcome, IsAnswer, IsAnswerOf, usage_line}
+use Rattle.sk_cli.specs.Grids.{digits_of}
+use Rattle.sk_cli.specs.Solving.{status_of, solve_words}
+use Rattle.sk_cli.specs.Outcome.{IsOutcome, IsAnswer, IsAnswerOf, IsSolved, usage_line}
 use Rattle.sk_cli.specs.Ending.{IsTold, Ends, Sends}
 
 -- the bytes that are told, or any
@@ -51,15 +54,17 @@ still_refused_at : (text bytes : List ℕ) → length text ≡ 1048577 → 10485
 still_refused_at text bytes long longer r (inl refuses) = inl (still_front text bytes long longer r.line r.code refuses.refuses)
 still_refused_at text bytes long longer r (inr behind) = absurd (omega (arith, long, behind.1.fits))
 
-still_answered : (text bytes : List ℕ) → length text ≡ 1048577 → 1048577 ≤ length bytes → (command : Command) (order : Order) (status : Status) (out : List ℕ) → IsAnswerOf command order text status out → IsAnswerOf command order bytes status out
-still_answered text bytes long longer Check order Done out answer = absurd (omega (arith, long, answer.2.fits))
-still_answered text bytes long longer Check order Refused out answer = (answer.0, still_refused text bytes long longer answer.0.line answer.0.code answer.1, answer.2)
-still_answered text bytes long longer Check order status out answer = absurd answer
-still_answered text bytes long longer Plan order Refused out answer = (answer.0, still_refused text bytes long longer answer.0.line answer.0.code answer.1, answer.2)
-still_answered text bytes long longer Plan order status out answer = absurd (omega (arith, long, answer.1.fits))
-still_answered text bytes long longer Offers order Done out answer = absurd (omega (arith, long, answer.2.fits))
-still_answered text bytes long longer Offers order Refused out answer = (answer.0, still_refused_at text bytes long longer answer.0 answer.1, answer.2)
-still_answered text bytes long longer Offers order status out answer = absurd answer
+still_answered : (text bytes : List ℕ) → length text ≡ 1048577 → 1048577 ≤ length bytes → (command : Command) (request : Request) (status : Status) (out : List ℕ) → IsAnswerOf command request text status out → IsAnswerOf command request bytes status out
+still_answered text bytes long longer Check request Done out answer = absurd (omega (arith, long, answer.2.fits))
+still_answered text bytes long longer Check request Refused out answer = (answer.0, still_refused text bytes long longer answer.0.line answer.0.code answer.1, answer.2)
+still_answered text bytes long longer Check request status out answer = absurd answer
+still_answered text bytes long longer Plan request Refused out answer = (answer.0, still_refused text bytes long longer answer.0.line answer.0.code answer.1, answer.2)
+still_answered text bytes long longer Plan request status out answer = absurd (omega (arith, long, answer.1.fits))
+still_answered text bytes long longer Solve request Refused out answer = (answer.0, still_refused text bytes long longer answer.0.line answer.0.code answer.1, answer.2)
+still_answered text bytes long longer Solve request status out answer = absurd (omega (arith, long, answer.1.fits))
+still_answered text bytes long longer Offers request Done out answer = absurd (omega (arith, long, answer.2.fits))
+still_answered text bytes long longer Offers request Refused out answer = (answer.0, still_refused_at text bytes long longer answer.0 answer.1, answer.2)
+still_answered text bytes long longer Offers request status out answer = absurd answer
 
 -- an answer to what was taken is one to all
 answer_of_front : (text bytes : List ℕ) → text ≡ take 1048577 bytes → (request : Request) (status : Status) (out : List ℕ) → IsAnswer request text status out → IsAnswer request bytes status out
@@ -67,31 +72,52 @@ answer_of_front text bytes front request status out answer =
     elim (cases_lt 1048577 (length bytes)) [
       | inl more ↦
           let long : length text ≡ 1048577 = ap length front ∙ length-take 1048577 bytes ∙ omega arith in
-          still_answered text bytes long (omega (arith, more)) request.command request.order status out answer
+          still_answered text bytes long (omega (arith, more)) request.command request status out answer
       | inr few ↦ let whole : text ≡ bytes = front ∙ take_all 1048577 bytes few in rw whole at answer
     ]
 
+-- the statuses that are told of a sketch that is read
+abbrev IsSolveStatus : Status → Type 0
+IsSolveStatus Done = Unit {0}
+IsSolveStatus NotWell = Unit {0}
+IsSolveStatus StepFault = Unit {0}
+IsSolveStatus Tolerance = Unit {0}
+IsSolveStatus status = ⊥
+
+placement_told : (placement : Placement) → IsSolveStatus (status_of placement)
+placement_told (Placement.Fault f) = tt
+placement_told (Placement.Beyond b) = tt
+placement_told (Placement.Turned t) = tt
+placement_told (Placement.Holds at t) = tt
+
+solved_told : (request : Request) (s : Sketch) (status : Status) (text : List ℕ) → IsSolved (solve_words (digits_of request.bits)) request s status text → IsSolveStatus status
+solved_told request s status text (inl (p, placement, placed, is, text_is)) = subst (λ z. IsSolveStatus z) (sym is) (placement_told placement)
+solved_told request s status text (inr (is, report)) = subst (λ z. IsSolveStatus z) (sym is) tt
+
 -- no answer is a fault or that memory ran out
-no_read_fault : (command : Command) (order : Order) (bytes text : List ℕ) → ¬ IsAnswerOf command order bytes ReadFault text
-no_read_fault Check order bytes text answer = answer
-no_read_fault Plan order bytes text answer = answer.2
-no_read_fault Offers order bytes text answer = answer
+no_read_fault : (command : Command) (request : Request) (bytes text : List ℕ) → ¬ IsAnswerOf command request bytes ReadFault text
+no_read_fault Check request bytes text answer = answer
+no_read_fault Plan request bytes text answer = answer.2
+no_read_fault Solve request bytes text answer = solved_told request answer.0 ReadFault text answer.2
+no_read_fault Offers request bytes text answer = answer
 
-no_want : (command : Command) (order : Order) (bytes text : List ℕ) → ¬ IsAnswerOf command order bytes NoMemory text
-no_want Check order bytes text answer = answer
-no_want Plan order bytes text answer = answer.2
-no_want Offers order bytes text answer = answer
+no_want : (command : Command) (request : Request) (bytes text : List ℕ) → ¬ IsAnswerOf command request bytes NoMemory text
+no_want Check request bytes text answer = answer
+no_want Plan request bytes text answer = answer.2
+no_want Solve request bytes text answer = solved_told request answer.0 NoMemory text answer.2
+no_want Offers request bytes text answer = answer
 
-no_write_fault : (command : Command) (order : Order) (bytes text : List ℕ) → ¬ IsAnswerOf command order bytes WriteFault text
-no_write_fault Check order bytes text answer = answer
-no_write_fault Plan order bytes text answer = answer.2
-no_write_fault Offers order bytes text answer = answer
+no_write_fault : (command : Command) (request : Request) (bytes text : List ℕ) → ¬ IsAnswerOf command request bytes WriteFault text
+no_write_fault Check request bytes text answer = answer
+no_write_fault Plan request bytes text answer = answer.2
+no_write_fault Solve request bytes text answer = solved_told request answer.0 WriteFault text answer.2
+no_write_fault Offers request bytes text answer = answer
 
 outcome_no_read_fault : (words : List (List ℕ)) (bytes text : List ℕ) → ¬ IsOutcome words bytes ReadFault text
-outcome_no_read_fault words bytes text outcome = elim outcome [ inl asked ↦ no_read_fault asked.0.command asked.0.order bytes text asked.2 | inr usage ↦ (let same = usage.1 in cc) ]
+outcome_no_read_fault words bytes text outcome = elim outcome [ inl asked ↦ no_read_fault asked.0.command asked.0 bytes text asked.2 | inr usage ↦ (let same = usage.1 in cc) ]
 
 outcome_no_want : (words : List (List ℕ)) (bytes text : List ℕ) → ¬ IsOutcome words bytes NoMemory text
-outcome_no_want words bytes text outcome = elim outcome [ inl asked ↦ no_want asked.0.command asked.0.order bytes text asked.2 | inr usage ↦ (let same = usage.1 in cc) ]
+outcome_no_want words bytes text outcome = elim outcome [ inl asked ↦ no_want asked.0.command asked.0 bytes text asked.2 | inr usage ↦ (let same = usage.1 in cc) ]
 
 -- how a call ends that sends the text of its outcome
 sent_ends : (words : List (List ℕ)) (bytes : List ℕ) (old new : Option (List ℕ)) (given : Status) (text : List ℕ) (result : Status)
@@ -145,4 +171,4 @@ usage_room words left text room each no_form is_usage = let told = told_bytes le
 -- no answer is that the sink failed
 pub no_fault : (request : Request) (bytes : List ℕ) (given : Status) (text : List ℕ) → IsAnswer request bytes given text → ¬ (given ≡ WriteFault)
 no_fault request bytes given text answer same =
-    no_write_fault request.command request.order bytes text (subst (λ status. IsAnswer request bytes status text) same answer)
+    no_write_fault request.command request bytes text (subst (λ status. IsAnswer request bytes status text) same answer)

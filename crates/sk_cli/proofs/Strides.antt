@@ -1,6 +1,6 @@
--- The digits of a stride.
-use Rattle.std.proofs.Common.{◌≡◌, inl, inr, ℕ, zero, suc, ◌<◌, ◌≤◌, Bool, true, false, ◌&&◌, cond, List, length, get_or, refl, sym, ap, ◌∙◌, subst, arith, nat_le}
-use Rattle.std.specs.Prelude.{Some, None}
+-- Numbers by their digits.
+use Rattle.std.proofs.Common.{◌≡◌, inl, inr, ℕ, zero, suc, ◌<◌, ◌≤◌, ◌^◌, Bool, true, false, ◌&&◌, cond, List, length, get_or, refl, sym, ap, ◌∙◌, subst, arith, nat_le}
+use Rattle.std.specs.Prelude.{Option, Some, None, IfSome, IfNone, ◌≢◌}
 use Rattle.std.specs.Fmt.{decimal}
 use Rattle.std.specs.Str.Parse.{digits_value, AllDigits}
 use Rattle.std.specs.List.{list_all}
@@ -23,26 +23,33 @@ some_digit most value is =
     grind (arith, nat_tests, inner.0)
 
 -- digits without a leading zero are what is written of their number
-pub spelled : (value : List ℕ) (n : ℕ) → digits_of 5 value ≡ Some n → n ≤ 65535 → ¬ LeadsWithZero value → value ≡ decimal n
-spelled value n read few plain = by_digits (is_digits 5 value) refl read
+pub spelled : (most : ℕ) (value : List ℕ) (n : ℕ) → digits_of most value ≡ Some n → n < 2 ^ 64 → ¬ LeadsWithZero value → value ≡ decimal n
+spelled most value n read few plain = by_digits (is_digits most value) refl read
   where
-    by_digits : (b : Bool) → is_digits 5 value ≡ b → cond b (Some (digits_value 10 value)) None ≡ Some n → value ≡ decimal n
+    by_digits : (b : Bool) → is_digits most value ≡ b → cond b (Some (digits_value 10 value)) None ≡ Some n → value ≡ decimal n
     by_digits false not_digits is = cc
     by_digits true are_digits is =
         let number : digits_value 10 value ≡ n = cc in
-        let some = some_digit 5 value are_digits in
+        let some = some_digit most value are_digits in
         let alone : get_or value 0 0 ≡ 48 → length value ≡ 1 = λ leads. elim (eqb_tells (length value) 1) [ inl one ↦ one.1 | inr more ↦ absurd (plain (let other = more.1 in omega (arith, some, other), leads)) ] in
-        sym (decimal-digits_value own value (is_digits_all 5 value are_digits).0 some alone (omega (arith, number, few))) ∙ ap decimal number
+        sym (decimal-digits_value own value (is_digits_all most value are_digits).0 some alone (omega (arith, number, few))) ∙ ap decimal number
 
 -- what is written of a number reads as it
-pub read_back : (value : List ℕ) (k : ℕ) → k ≤ 65535 → value ≡ decimal k → digits_of 5 value ≡ Some k
-read_back value k few is = subst (λ bytes. digits_of 5 bytes ≡ Some k) (sym is) (digits_of-decimal 5 k (omega arith) (omega (arith, few)) (omega (arith, few)))
+pub read_back : (most : ℕ) (value : List ℕ) (k : ℕ) → 0 < most → k < 10 ^ most → k < 2 ^ 64 → value ≡ decimal k → digits_of most value ≡ Some k
+read_back most value k some few wide is = subst (λ bytes. digits_of most bytes ≡ Some k) (sym is) (digits_of-decimal most k some few wide)
 
 -- and has no leading zero
-pub no_zero_leads : (value : List ℕ) (k : ℕ) → k ≤ 65535 → value ≡ decimal k → ¬ LeadsWithZero value
+pub no_zero_leads : (value : List ℕ) (k : ℕ) → k < 2 ^ 64 → value ≡ decimal k → ¬ LeadsWithZero value
 no_zero_leads value zero few is leads =
     let short = length-decimal-le 1 0 (omega arith) (omega arith) (omega arith) in
     let long = subst (λ bytes. 1 < length bytes) is leads.0 in omega (arith, short, long)
 no_zero_leads value (suc k) few is leads =
-    let first = first_decimal (suc k) (omega arith) (omega (arith, few)) in
+    let first = first_decimal (suc k) (omega arith) few in
     let zero_first = subst (λ bytes. get_or bytes 0 0 ≡ 48) is leads.1 in omega (arith, first, zero_first)
+
+-- what digits are read as is what they spell; where they aren't read they spell no such number
+pub if_spelled : (most : ℕ) (value : List ℕ) (r : Option ℕ) → 0 < most → 10 ^ most ≤ 2 ^ 64 → r ≡ digits_of most value → IfSome r (λ n. n < 10 ^ most) → ¬ LeadsWithZero value
+    → IfSome r (λ n. value ≡ decimal n) × IfNone r ((n : ℕ) → n < 10 ^ most → value ≢ decimal n)
+if_spelled most value (Some n) some small read below plain = (spelled most value n (sym read) (omega (arith, below, small)) plain, tt)
+if_spelled most value None some small read below plain =
+    (tt, λ n few is. (let back = read_back most value n some few (omega (arith, few, small)) is in let never = read in cc))

@@ -1,8 +1,13 @@
 -- What the words of the command line ask for.
-use Rattle.std.specs.Prelude.{◌≡◌, ◌≤◌, ◌<◌, ℕ, slice_index, length, List, [], ◌∷◌, ◌++◌, codes}
+use Rattle.std.specs.Prelude.{◌≡◌, ◌==◌, ◌≤◌, ◌<◌, ℕ, slice_index, length, Bool, true, false, if◌then◌else◌, List, [], ◌∷◌, Option, None, Some, IsTrue, IsSome, All, codes}
+use Rattle.std.specs.List.{filter_map}
 use Rattle.std.specs.Fmt.{decimal}
 use Rattle.sk_worklist.specs.declared.Order.{Order}
 use Rattle.sk_worklist.specs.declared.Order.TheVariants.{First, Last, Stride}
+use Rattle.sk_cli.specs.declared.bits.Bits.{Bits}
+use Rattle.sk_cli.specs.declared.bits.Bits.TheVariants.{Sixteen, TwentySeven, ThirtyEight}
+use Rattle.sk_cli.specs.declared.command.Command.{Command}
+use Rattle.sk_cli.specs.declared.command.Command.TheVariants.{Check, Plan, Solve, Offers}
 use Rattle.sk_cli.specs.declared.request.Request.{Request}
 use Rattle.sk_cli.specs.Commands.{command_word}
 
@@ -12,20 +17,74 @@ IsOrder value First = value ≡ codes "first"
 IsOrder value Last = value ≡ codes "last"
 IsOrder value (Stride k) = (value ≡ decimal k) × (k ≤ 65535)
 
+abbrev pub IsBits : List ℕ → Bits → Type 0
+IsBits value Sixteen = value ≡ codes "16"
+IsBits value TwentySeven = value ≡ codes "27"
+IsBits value ThirtyEight = value ≡ codes "38"
+
+-- a number from 1 to 1000000, spelled in the same way
+abbrev pub IsLimit : List ℕ → ℕ → Type 0
+IsLimit value n = (value ≡ decimal n) × (1 ≤ n) × (n ≤ 1000000)
+
 -- a zero stands before other digits
 abbrev pub LeadsWithZero : List ℕ → Type 0
 LeadsWithZero value = (1 < length value) × (slice_index value 0 ≡ 48)
 
--- there is at most one key, `order=`, and without it the order is `first`
-abbrev pub HasOrder : List (List ℕ) → Order → Type 0
-HasOrder [] order = order ≡ First
-HasOrder (word ∷ []) order = (value : List ℕ) × (word ≡ codes "order=" ++ value) × IsOrder value order
-HasOrder (word ∷ another ∷ words) order = ⊥
+pub data Key : Type 0 where
+  OrderKey : Key
+  BitsKey : Key
+  WithinKey : Key
+
+abbrev pub key_name : Key → List ℕ
+key_name OrderKey = codes "order="
+key_name BitsKey = codes "bits="
+key_name WithinKey = codes "within="
+
+-- the keys of a command
+abbrev pub takes : Command → Key → Bool
+takes Check OrderKey = true
+takes Check BitsKey = false
+takes Check WithinKey = false
+takes Plan OrderKey = true
+takes Plan BitsKey = false
+takes Plan WithinKey = false
+takes Offers OrderKey = true
+takes Offers BitsKey = false
+takes Offers WithinKey = false
+takes Solve key = true
+
+-- what stands behind the name that a word begins with
+abbrev pub behind : List ℕ → List ℕ → Option (List ℕ)
+behind [] word = Some word
+behind (b ∷ name) [] = None
+behind (b ∷ name) (c ∷ word) = if c == b then behind name word else None
+
+-- the word begins with the name of a key of the command
+abbrev pub IsKeyOf : Command → List ℕ → Type 0
+IsKeyOf command word = (key : Key) × IsTrue (takes command key) × IsSome (behind (key_name key) word)
+
+-- the values of a key, as often as it stands
+abbrev pub values_of : Key → List (List ℕ) → List (List ℕ)
+values_of key words = filter_map (behind (key_name key)) words
+
+-- a key says what its value says, or what holds without it; it doesn't stand twice
+abbrev pub Says : {X : Type 0} → (List ℕ → X → Type 0) → X → List (List ℕ) → X → Type 0
+Says Is default [] x = x ≡ default
+Says Is default (value ∷ []) x = Is value x
+Says Is default (value ∷ another ∷ values) x = ⊥
+
+-- the words are keys of the command, in any order, and this is what they say. Without them the order is `first`, the
+-- grid has 38 binary digits, and the limit is 1000
+pub record HasKeys (words : List (List ℕ)) (request : Request) : Type 0 where
+  pub known : All (λ word. IsKeyOf request.command word) words
+  pub order : Says IsOrder First (values_of OrderKey words) request.order
+  pub bits : Says IsBits ThirtyEight (values_of BitsKey words) request.bits
+  pub within : Says IsLimit 1000 (values_of WithinKey words) request.within
 
 -- the first word is that of the command, and the others are its keys
 abbrev pub Asks : List (List ℕ) → Request → Type 0
 Asks [] request = ⊥
-Asks (command ∷ keys) request = (command ≡ command_word request.command) × HasOrder keys request.order
+Asks (command ∷ keys) request = (command ≡ command_word request.command) × HasKeys keys request
 
 -- the words are of the form
 abbrev pub AreOfForm : List (List ℕ) → Type 0

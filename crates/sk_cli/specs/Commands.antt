@@ -1,9 +1,10 @@
 -- The words of commands.
 use Rattle.std.specs.Prelude.{ℕ, List, codes}
 use Rattle.sk_cli.specs.declared.command.Command.{Command}
-use Rattle.sk_cli.specs.declared.command.Command.TheVariants.{Check, Plan, Offers}
+use Rattle.sk_cli.specs.declared.command.Command.TheVariants.{Check, Plan, Solve, Offers}
 
 abbrev pub command_word : Command → List ℕ
 command_word Check = codes "check"
 command_word Plan = codes "plan"
+command_word Solve = codes "solve"
 command_word Offers = codes "offers"

@@ -1,8 +1,12 @@
 pub mod Asking
 pub mod Commands
 pub mod Ending
+pub mod Grids
 pub mod OfferLines
 pub mod OfferReading
 pub mod OffersReport
 pub mod Outcome
+pub mod Settings
+pub mod Solving
 pub mod StatusCodes
+pub mod Told

@@ -10,38 +10,16 @@ use Rattle.sk_lex.specs.Words.{words_in}
 use Rattle.sk_rules.specs.Merges.{IsMergeOf}
 use Rattle.sk_lang.specs.declared.Code.{Code}
 use Rattle.sk_lang.specs.declared.Code.TheVariants.{E2, E3, E4, E8, E10, E17}
+pub use Rattle.sk_lang.specs.ClusterWords.{begins_with_zero, plain_number, name_of, named, is_bad_name}
 use Rattle.sk_lang.specs.Codes.{byte_rows, is_none_left}
 use Rattle.sk_lang.specs.FirstCode.{first_code}
 use Rattle.sk_cli.specs.declared.offer_line.OfferLine.{OfferLine}
 use Rattle.sk_cli.specs.declared.offer_line.Place.{Place}
 use Rattle.sk_cli.specs.declared.offer_line.Place.TheVariants.{Among, Past}
 
-abbrev pub begins_with_zero : List ℕ → Bool
-begins_with_zero [] = false
-begins_with_zero (b ∷ bytes) = b == 48
-
--- the number that one to `most` digits without a leading zero stand for, which isn't 0
-abbrev pub plain_number : ℕ → List ℕ → Option ℕ
-plain_number most bytes = if begins_with_zero bytes then None else digits_of most bytes
-
 -- the worker that a word is, from 1 to 64
 abbrev pub worker_of : List ℕ → Option ℕ
 worker_of word = at_most 64 (plain_number 2 word)
-
--- the name of a cluster that a word is: `c` or `s` and a number from 1 to 999999
-abbrev pub name_of : List ℕ → Option Name
-name_of [] = None
-name_of (letter ∷ number) =
-    if letter == 99 then option_map Con (plain_number 6 number) else
-    if letter == 115 then option_map Step (plain_number 6 number) else None
-
--- the name, where the word is one
-abbrev pub named : List ℕ → Name
-named word = unwrap_or (name_of word) (Con 0)
-
--- E4: a word in a name's place isn't a name
-abbrev pub is_bad_name : List ℕ → Bool
-is_bad_name word = is_none (name_of word)
 
 -- E10: two of the names are one
 abbrev pub has_twins : List Name → Bool

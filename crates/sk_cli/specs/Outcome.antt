@@ -12,18 +12,22 @@ use Rattle.sk_verdict.specs.declared.Judgement.{Judgement}
 use Rattle.sk_verdict.specs.declared.Verdict.TheVariants.{Well}
 use Rattle.sk_tree.specs.declared.Plan.{Plan as ThePlan}
 use Rattle.sk_tree.specs.LegalPlan.{IsLegalPlan, merge_told}
-use Rattle.sk_plan.specs.DrawnChoice.{HasDrawnChoice}
+use Rattle.sk_choice.specs.DrawnChoice.{HasDrawnChoice}
 use Rattle.sk_plan.specs.Judged.{IsTheJudgement, IsWell}
 use Rattle.sk_report.specs.CheckReport.{check_report}
 use Rattle.sk_report.specs.PlanReport.{plan_report}
 use Rattle.sk_report.specs.RefusalLine.{refusal_line}
+use Rattle.sk_cli.specs.declared.bits.Bits.{Bits}
 use Rattle.sk_cli.specs.declared.command.Command.{Command}
-use Rattle.sk_cli.specs.declared.command.Command.TheVariants.{Check, Plan, Offers}
+use Rattle.sk_cli.specs.declared.command.Command.TheVariants.{Check, Plan, Solve, Offers}
+use Rattle.sk_cli.specs.declared.placing.Placement.{Placement}
 use Rattle.sk_cli.specs.declared.request.Request.{Request}
 use Rattle.sk_cli.specs.declared.status.Status.{Status}
 use Rattle.sk_cli.specs.declared.status.Status.TheVariants.{Done, Refused, Usage, NotWell}
 use Rattle.sk_cli.specs.Asking.{Asks, AreOfForm}
+use Rattle.sk_cli.specs.Grids.{grid_of, digits_of}
 use Rattle.sk_cli.specs.OffersReport.{IsOffersAnswer}
+use Rattle.sk_cli.specs.Solving.{IsPlacement, status_of, solve_words}
 
 abbrev pub usage_line : List ℕ
 usage_line = codes "usage: sketch check|plan|solve|dxf|offers|session|grow [order=first|last|0..65535] [bits=16|27|38] [within=1..1000000] [n=3..1000]\n"
@@ -69,14 +73,32 @@ abbrev pub IsPlanAnswer : Order → List ℕ → Status → List ℕ → Type 0
 IsPlanAnswer order bytes Refused text = IsRefusalText bytes text
 IsPlanAnswer order bytes status text = (s : Sketch) × Reads bytes s × IsPlanOrReport order s status text
 
+-- the verdict is well, and the plan of the run by the order is placed so on the grid
+pub record IsPlacedPlan (request : Request) (s : Sketch) (p : ThePlan) (placement : Placement) : Type 0 where
+  pub well : IsWell (graph_of s)
+  pub plan : IsPlanBy request.order s p
+  pub placed : IsPlacement (grid_of request.bits) (digits_of request.bits) request.within s p placement
+
+-- what is told of the placed plan; or the verdict isn't well, and this is the check report
+abbrev pub IsSolved : (Sketch → ThePlan → Placement → List ℕ) → Request → Sketch → Status → List ℕ → Type 0
+IsSolved words request s status text =
+    ((p : ThePlan) × (placement : Placement) × IsPlacedPlan request s p placement × (status ≡ status_of placement) × (text ≡ words s p placement))
+    ⊎ ((status ≡ NotWell) × IsReportNotWell s text)
+
+-- what `solve` answers to an input
+abbrev pub IsSolveAnswer : Request → List ℕ → Status → List ℕ → Type 0
+IsSolveAnswer request bytes Refused text = IsRefusalText bytes text
+IsSolveAnswer request bytes status text = (s : Sketch) × Reads bytes s × IsSolved (solve_words (digits_of request.bits)) request s status text
+
 -- what a command answers to an input. What `check` and `offers` answer is the same for every order.
-abbrev pub IsAnswerOf : Command → Order → List ℕ → Status → List ℕ → Type 0
-IsAnswerOf Check order bytes status text = IsCheckAnswer bytes status text
-IsAnswerOf Plan order bytes status text = IsPlanAnswer order bytes status text
-IsAnswerOf Offers order bytes status text = IsOffersAnswer bytes status text
+abbrev pub IsAnswerOf : Command → Request → List ℕ → Status → List ℕ → Type 0
+IsAnswerOf Check request bytes status text = IsCheckAnswer bytes status text
+IsAnswerOf Plan request bytes status text = IsPlanAnswer request.order bytes status text
+IsAnswerOf Solve request bytes status text = IsSolveAnswer request bytes status text
+IsAnswerOf Offers request bytes status text = IsOffersAnswer bytes status text
 
 abbrev pub IsAnswer : Request → List ℕ → Status → List ℕ → Type 0
-IsAnswer request bytes status text = IsAnswerOf request.command request.order bytes status text
+IsAnswer request bytes status text = IsAnswerOf request.command request bytes status text
 
 -- the status and the text that the words and the bytes of the input give
 abbrev pub IsOutcome : List (List ℕ) → List ℕ → Status → List ℕ → Type 0

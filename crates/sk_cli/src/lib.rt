@@ -2,21 +2,29 @@
 #![tactic(auto)]
 
 mod answer;
+mod bits;
 mod check;
 mod command;
 mod law;
 mod offer_line;
 mod offering;
 mod offers;
+mod placing;
 mod plan;
+mod reply;
 mod request;
+mod settings;
+mod solve;
 mod status;
 mod top;
 
+pub use bits::Bits;
 pub use command::Command;
 pub use law::{one_outcome, one_request};
 pub use offer_line::OfferLine;
 pub use offers::{one_reading_of_offers, read_offers};
+pub use reply::told_text;
+pub use placing::Placement;
 pub use request::{Request, request_of};
 pub use status::Status;
 pub use top::run;

@@ -1,17 +1,17 @@
 // One line among offers.
-ghost use Rattle.std.specs.Prelude.{◌≡◌, ◌≤◌, ◌<◌, ◌^◌, [], ◌∷◌, length, map, drop, Some, None, IfSome, IfOk, IfErr, MatchResult, bytes_eq};
+ghost use Rattle.std.specs.Prelude.{◌≡◌, ◌≤◌, ◌<◌, [], ◌∷◌, length, map, drop, Some, None, IfSome, IfOk, IfErr, MatchResult, bytes_eq};
 ghost use Rattle.std.specs.List.{slice_index_or, slice_range};
 ghost use Rattle.sk_lex.specs.Words.{bytes_of, words_in, StandInOrder};
-ghost use Rattle.sk_lang.specs.declared.Code.TheVariants.{E4, E8};
+ghost use Rattle.sk_lang.specs.declared.Code.TheVariants.{E8};
 ghost use Rattle.sk_lang.specs.Codes.{byte_rows};
 ghost use Rattle.sk_lang.specs.FirstCode.{first_code};
 ghost use Rattle.sk_lang.specs.Entry.{IsRefusal};
-ghost use Rattle.sk_cli.specs.OfferLines.{begins_with_zero, plain_number, worker_of, name_of, offer_rows, word_rows, code_of, IsOfferOf};
+ghost use Rattle.sk_cli.specs.OfferLines.{worker_of, offer_rows, word_rows, code_of, IsOfferOf};
 ghost use Rattle.sk_cli.specs.declared.offer_line.Place.TheVariants.{Among};
 ghost use Rattle.sk_cli.specs.OfferReading.{AddsWords, Adds, IsWithOffer};
 
-use sk_base::{List, Name, digits_of};
-use sk_lang::{Code, EntryError};
+use sk_base::List;
+use sk_lang::{Code, EntryError, name_of, plain_number};
 use sk_lex::{LexFault, Word, Words, words_of};
 use sk_rules::Merge;
 use std::alloc::Global;
@@ -158,49 +158,6 @@ fn worker_of(word: &[u8]) -> Result<u8, Code>
         Some(worker) if worker <= MOST_WORKER => Ok(worker as u8),
         _ => Err(Code::E8),
     }
-}
-
-/// The name of a cluster that a word is.
-fn name_of(word: &[u8]) -> Result<Name, Code>
-    ensures { MatchResult result
-        (λ name. name_of word.now ≡ Some name)
-        (λ code. (name_of word.now ≡ None) × (code ≡ E4)) }
-{
-    match word {
-        [b'c', number @ ..] => Ok(Name::Con(number_of(number)?)),
-        [b's', number @ ..] => Ok(Name::Step(number_of(number)?)),
-        _ => Err(Code::E4),
-    }
-}
-
-/// The number in the name of a cluster.
-fn number_of(word: &[u8]) -> Result<u32, Code>
-    ensures { MatchResult result
-        (λ number. plain_number 6 word.now ≡ Some number)
-        (λ code. (plain_number 6 word.now ≡ None) × (code ≡ E4)) }
-{
-    match plain_number(6, word) {
-        Some(number) => Ok(number as u32),
-        None => Err(Code::E4),
-    }
-}
-
-/// The number that one to `most` digits stand for, the first of them not 0.
-fn plain_number(most: usize, word: &[u8]) -> Option<u64>
-    requires { most ≤ 18 }
-    ensures value { result ≡ plain_number most word.now }
-    ensures below { IfSome result (λ number. number < 10 ^ most) }
-{
-    if begins_with_zero(word) {
-        return None;
-    }
-    digits_of(most, word)
-}
-
-fn begins_with_zero(word: &[u8]) -> bool
-    ensures { result ≡ begins_with_zero word.now }
-{
-    matches!(word, [b'0', ..])
 }
 
 /// The words of a line.

@@ -13,6 +13,7 @@ use crate::command::Command;
 use crate::offering::offers;
 use crate::plan::plan;
 use crate::request::{Request, request_of};
+use crate::solve::solve;
 use crate::status::Status;
 use sk_base::NoMemory;
 use sk_io::{ReadEnd, Sink, Source, read_all, write_all};
@@ -77,6 +78,7 @@ fn answer(alloc: Global, request: Request, bytes: &[u8]) -> Result<Answer, NoMem
     match request.command {
         Command::Check => check(alloc, request.order, bytes),
         Command::Plan => plan(alloc, request.order, bytes),
+        Command::Solve => solve(alloc, request, bytes),
         Command::Offers => offers(alloc, request.order, bytes),
     }
 }

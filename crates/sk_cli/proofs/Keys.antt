@@ -1,0 +1,64 @@
+-- Keys that are read one after another.
+use Rattle.std.proofs.Common.{◌≡◌, ℕ, ◌+◌, ◌<◌, List, [], ◌∷◌, ◌++◌, length, get_or, take, drop, refl, ap, sym, subst, ◌∙◌}
+use Rattle.std.specs.Prelude.{All, map, Option, Some, None, IfNone, unwrap_or}
+use Rattle.std.proofs.lemmas.List.Elements.{All-nil, All-cons, All-contains, All-append, Contains-append_right}
+use Rattle.std.proofs.lemmas.List.{take_more, drop_more, map-append, take-append-drop}
+use Rattle.sk_base.proofs.Members.{contains_head}
+use Rattle.sk_worklist.specs.declared.Order.{Order}
+use Rattle.sk_worklist.specs.declared.Order.TheVariants.{First}
+use Rattle.sk_cli.specs.declared.bits.Bits.{Bits}
+use Rattle.sk_cli.specs.declared.bits.Bits.TheVariants.{ThirtyEight}
+use Rattle.sk_cli.specs.declared.command.Command.{Command}
+use Rattle.sk_cli.specs.declared.request.Request.{Request}
+use Rattle.sk_cli.specs.declared.settings.Settings.{Settings}
+use Rattle.sk_cli.specs.Asking.{Key, OrderKey, BitsKey, WithinKey, key_name, behind, values_of, IsKeyOf, IsOrder, IsBits, IsLimit, Says, HasKeys}
+use Rattle.sk_cli.specs.Settings.{IsSet, Sets, AreSet, Adds}
+use Rattle.sk_cli.proofs.KeyValues.{values_more, set_more, set_back, said}
+
+-- one word more
+pub set_step : (command : Command) (words : List (List ℕ)) (word : List ℕ) (before after : Settings) → AreSet command words before → Adds command word before after → AreSet command (words ++ word ∷ []) after
+set_step command words word before after set adds = record {
+  known = All-append (λ w. IsKeyOf command w) words (word ∷ []) set.known (All-cons (λ w. IsKeyOf command w) word [] adds.known (All-nil (λ w. IsKeyOf command w)));
+  order = subst (λ vs. IsSet IsOrder vs after.order) (sym (values_more OrderKey words word [])) (set_more IsOrder (values_of OrderKey words) (behind (key_name OrderKey) word) before.order after.order set.order adds.order);
+  bits = subst (λ vs. IsSet IsBits vs after.bits) (sym (values_more BitsKey words word [])) (set_more IsBits (values_of BitsKey words) (behind (key_name BitsKey) word) before.bits after.bits set.bits adds.bits);
+  within = subst (λ vs. IsSet IsLimit vs after.within) (sym (values_more WithinKey words word [])) (set_more IsLimit (values_of WithinKey words) (behind (key_name WithinKey) word) before.within after.within set.within adds.within);
+}
+
+-- a word that adds nothing stands in no words that are asked with
+pub no_request : (command : Command) (words : List (List ℕ)) (word : List ℕ) (rest : List (List ℕ)) (before : Settings) → AreSet command words before
+    → ((after : Settings) → Adds command word before after → ⊥) → (request : Request) → request.command ≡ command → HasKeys (words ++ word ∷ rest) request → ⊥
+no_request command words word rest before set none request is keys =
+    let P : List ℕ → Type 0 = λ w. IsKeyOf request.command w in
+    let known = All-contains P (words ++ word ∷ rest) word keys.known (Contains-append_right words (word ∷ rest) word (contains_head word rest)) in
+    let order = set_back IsOrder First request.order (values_of OrderKey words) (behind (key_name OrderKey) word) (values_of OrderKey rest) before.order
+    (subst (λ vs. Says IsOrder First vs request.order) (values_more OrderKey words word rest) keys.order) set.order in
+    let bits = set_back IsBits ThirtyEight request.bits (values_of BitsKey words) (behind (key_name BitsKey) word) (values_of BitsKey rest) before.bits
+    (subst (λ vs. Says IsBits ThirtyEight vs request.bits) (values_more BitsKey words word rest) keys.bits) set.bits in
+    let within = set_back IsLimit 1000 request.within (values_of WithinKey words) (behind (key_name WithinKey) word) (values_of WithinKey rest) before.within
+    (subst (λ vs. Says IsLimit 1000 vs request.within) (values_more WithinKey words word rest) keys.within) set.within in
+    none (record { order = order.0; bits = bits.0; within = within.0 }) (record { known = subst (λ c. IsKeyOf c word) is known; order = order.1; bits = bits.1; within = within.1 })
+
+-- what the words set is what they say
+pub keys_of : (command : Command) (words : List (List ℕ)) (settings : Settings) (order : Order) (bits : Bits) (within : ℕ) → AreSet command words settings
+    → order ≡ unwrap_or settings.order First → bits ≡ unwrap_or settings.bits ThirtyEight → within ≡ unwrap_or settings.within 1000
+    → HasKeys words (record { command = command; order = order; bits = bits; within = within })
+keys_of command words settings order bits within set order_is bits_is within_is = record {
+  known = set.known;
+  order = subst (λ o. Says IsOrder First (values_of OrderKey words) o) (sym order_is) (said IsOrder First (values_of OrderKey words) settings.order set.order);
+  bits = subst (λ o. Says IsBits ThirtyEight (values_of BitsKey words) o) (sym bits_is) (said IsBits ThirtyEight (values_of BitsKey words) settings.bits set.bits);
+  within = subst (λ o. Says IsLimit 1000 (values_of WithinKey words) o) (sym within_is) (said IsLimit 1000 (values_of WithinKey words) settings.within set.within);
+}
+
+-- where a loop over the words stands
+module _ {X : Type 0} (bytes : X → List ℕ) (xs : List X) (i : ℕ) (x : X) (within : i < length xs) (is : x ≡ get_or xs i x) where
+  pub mapped_more : map bytes (take (i + 1) xs) ≡ map bytes (take i xs) ++ bytes x ∷ []
+  mapped_more = ap (map bytes) (take_more xs i x within ∙ ap (λ y. take i xs ++ y ∷ []) (sym is)) ∙ map-append bytes (take i xs) (x ∷ [])
+
+  pub mapped_parts : map bytes xs ≡ map bytes (take i xs) ++ bytes x ∷ map bytes (drop (i + 1) xs)
+  mapped_parts =
+      ap (map bytes) (sym (take-append-drop i xs) ∙ ap (λ ys. take i xs ++ ys) (drop_more xs i x within ∙ ap (λ y. y ∷ drop (i + 1) xs) (sym is)))
+      ∙ map-append bytes (take i xs) (x ∷ drop (i + 1) xs)
+
+pub if_none : {T : Type 0} (r : Option T) (P : Type 0) → P → IfNone r P
+if_none None P p = p
+if_none (Some x) P p = tt

@@ -1,0 +1,32 @@
+-- What the keys that were read so far say.
+use Rattle.std.specs.Prelude.{◌≡◌, ℕ, List, [], ◌∷◌, Option, None, Some, All}
+use Rattle.sk_worklist.specs.declared.Order.{Order}
+use Rattle.sk_cli.specs.declared.bits.Bits.{Bits}
+use Rattle.sk_cli.specs.declared.command.Command.{Command}
+use Rattle.sk_cli.specs.declared.settings.Settings.{Settings}
+use Rattle.sk_cli.specs.Asking.{Key, OrderKey, BitsKey, WithinKey, key_name, behind, IsKeyOf, values_of, IsOrder, IsBits, IsLimit}
+
+-- nothing is set without a value, and with one value what it says
+abbrev pub IsSet : {X : Type 0} → (List ℕ → X → Type 0) → List (List ℕ) → Option X → Type 0
+IsSet Is [] None = Unit {0}
+IsSet Is (value ∷ []) (Some x) = Is value x
+IsSet Is _ _ = ⊥
+
+-- the words are keys of the command, and this is what they set
+pub record AreSet (command : Command) (words : List (List ℕ)) (settings : Settings) : Type 0 where
+  pub known : All (λ word. IsKeyOf command word) words
+  pub order : IsSet IsOrder (values_of OrderKey words) settings.order
+  pub bits : IsSet IsBits (values_of BitsKey words) settings.bits
+  pub within : IsSet IsLimit (values_of WithinKey words) settings.within
+
+-- a value sets what wasn't set; without one it stays
+abbrev pub Sets : {X : Type 0} → (List ℕ → X → Type 0) → Option (List ℕ) → Option X → Option X → Type 0
+Sets Is None before after = after ≡ before
+Sets {X} Is (Some value) before after = (x : X) × Is value x × (before ≡ None) × (after ≡ Some x)
+
+-- one more word is a key of the command, and this is what it sets
+pub record Adds (command : Command) (word : List ℕ) (before after : Settings) : Type 0 where
+  pub known : IsKeyOf command word
+  pub order : Sets IsOrder (behind (key_name OrderKey) word) before.order after.order
+  pub bits : Sets IsBits (behind (key_name BitsKey) word) before.bits after.bits
+  pub within : Sets IsLimit (behind (key_name WithinKey) word) before.within after.within

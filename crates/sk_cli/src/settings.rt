@@ -1,0 +1,181 @@
+// What the keys of the command line set.
+ghost use Rattle.std.specs.Prelude.{◌≡◌, ◌≤◌, ◌<◌, ◌^◌, ◌≢◌, ℕ, List, map, string_bytes, None, Some, IfSome, IfNone, IsTrue, ◌↔◌, codes};
+ghost use Rattle.std.specs.Fmt.{decimal};
+ghost use Rattle.sk_worklist.specs.declared.Order.{Order as AnyOrder};
+ghost use Rattle.sk_cli.specs.declared.bits.Bits.{Bits as AnyBits};
+ghost use Rattle.sk_cli.specs.declared.request.Request.{Request as AnyRequest};
+ghost use Rattle.sk_cli.specs.declared.settings.Settings.{Settings as OtherSettings};
+ghost use Rattle.sk_cli.specs.Asking.{behind, HasKeys, IsOrder, IsBits, IsLimit, LeadsWithZero};
+ghost use Rattle.sk_cli.specs.Settings.{AreSet, Adds};
+
+use crate::bits::Bits;
+use crate::command::Command;
+use sk_base::digits_of;
+use sk_worklist::Order;
+
+const MOST_STRIDE: u64 = 65_535;
+
+const MOST_LIMIT: u64 = 1_000_000;
+
+/// What the keys say that were read, each where it stands.
+#[derive(Clone, Copy, Debug, PartialEq, Eq)]
+pub(crate) struct Settings {
+    pub(crate) order: Option<Order>,
+    pub(crate) bits: Option<Bits>,
+    pub(crate) within: Option<u64>,
+}
+
+/// What the words set, if they are keys of the command and none stands twice.
+pub(crate) fn settings_of(command: Command, words: &[String]) -> Option<Settings>
+    ensures some { IfSome result (AreSet command (map string_bytes words.now)) }
+    ensures none { IfNone result ((request : AnyRequest) → request.command ≡ command → HasKeys (map string_bytes words.now) request → ⊥) }
+{
+    let mut settings = Settings {
+        order: None,
+        bits: None,
+        within: None,
+    };
+    for word in words {
+        settings = settings.with(command, word.as_str())?;
+    }
+    Some(settings)
+}
+
+impl Settings {
+    /// The settings with what the word says.
+    fn with(self, command: Command, word: &str) -> Option<Settings>
+        ensures some { IfSome result (Adds command word.now self) }
+        ensures none { IfNone result ((after : OtherSettings) → Adds command word.now self after → ⊥) }
+    {
+        if let Some(value) = behind(word, "order=") {
+            return self.with_order(value);
+        }
+        if !command.places() {
+            return None;
+        }
+        if let Some(value) = behind(word, "bits=") {
+            return self.with_bits(value);
+        }
+        self.with_within(behind(word, "within=")?)
+    }
+
+    fn with_order(self, value: &[u8]) -> Option<Settings>
+        ensures some { IfSome result (λ after. (order : AnyOrder) × IsOrder value.now order × (self.order ≡ None) × (after ≡ record self { order = Some order })) }
+        ensures none { IfNone result ((order : AnyOrder) → IsOrder value.now order → self.order ≡ None → ⊥) }
+    {
+        if self.order.is_some() {
+            return None;
+        }
+        let order = order_named(value)?;
+        Some(Settings {
+            order: Some(order),
+            ..self
+        })
+    }
+
+    fn with_bits(self, value: &[u8]) -> Option<Settings>
+        ensures some { IfSome result (λ after. (bits : AnyBits) × IsBits value.now bits × (self.bits ≡ None) × (after ≡ record self { bits = Some bits })) }
+        ensures none { IfNone result ((bits : AnyBits) → IsBits value.now bits → self.bits ≡ None → ⊥) }
+    {
+        if self.bits.is_some() {
+            return None;
+        }
+        let bits = bits_named(value)?;
+        Some(Settings {
+            bits: Some(bits),
+            ..self
+        })
+    }
+
+    fn with_within(self, value: &[u8]) -> Option<Settings>
+        ensures some { IfSome result (λ after. (within : ℕ) × IsLimit value.now within × (self.within ≡ None) × (after ≡ record self { within = Some within })) }
+        ensures none { IfNone result ((within : ℕ) → IsLimit value.now within → self.within ≡ None → ⊥) }
+    {
+        if self.within.is_some() {
+            return None;
+        }
+        let within = limit_of(value)?;
+        Some(Settings {
+            within: Some(within),
+            ..self
+        })
+    }
+}
+
+/// What stands behind the name that the word begins with.
+fn behind<'a>(word: &'a str, name: &str) -> Option<&'a [u8]>
+    ensures some { IfSome result (λ value. behind name.now word.now ≡ Some value.now) }
+    ensures none { IfNone result (behind name.now word.now ≡ None) }
+{
+    word.as_bytes().strip_prefix(name.as_bytes())
+}
+
+fn order_named(value: &[u8]) -> Option<Order>
+    ensures some { IfSome result (IsOrder value.now) }
+    ensures none { IfNone result ((order : AnyOrder) → IsOrder value.now order → ⊥) }
+{
+    if value == b"first".as_slice() {
+        Some(Order::First)
+    } else if value == b"last".as_slice() {
+        Some(Order::Last)
+    } else {
+        Some(Order::Stride(stride_of(value)?))
+    }
+}
+
+fn bits_named(value: &[u8]) -> Option<Bits>
+    ensures some { IfSome result (IsBits value.now) }
+    ensures none { IfNone result ((bits : AnyBits) → IsBits value.now bits → ⊥) }
+{
+    if value == b"16".as_slice() {
+        Some(Bits::Sixteen)
+    } else if value == b"27".as_slice() {
+        Some(Bits::TwentySeven)
+    } else if value == b"38".as_slice() {
+        Some(Bits::ThirtyEight)
+    } else {
+        None
+    }
+}
+
+fn stride_of(value: &[u8]) -> Option<u16>
+    ensures some { IfSome result (λ stride. (value.now ≡ decimal stride) × (stride ≤ 65535)) }
+    ensures none { IfNone result ((stride : ℕ) → stride ≤ 65535 → value.now ≢ decimal stride) }
+{
+    match number_of(5, value) {
+        Some(stride) if stride <= MOST_STRIDE => Some(stride as u16),
+        _ => None,
+    }
+}
+
+fn limit_of(value: &[u8]) -> Option<u64>
+    ensures some { IfSome result (IsLimit value.now) }
+    ensures none { IfNone result ((limit : ℕ) → IsLimit value.now limit → ⊥) }
+{
+    match number_of(7, value) {
+        Some(limit) if limit >= 1 && limit <= MOST_LIMIT => Some(limit),
+        _ => None,
+    }
+}
+
+/// The number that one to `most` digits spell, without a leading zero.
+fn number_of(most: usize, value: &[u8]) -> Option<u64>
+    requires some { 1 ≤ most }
+    requires few { most ≤ 18 }
+    requires small { 10 ^ most ≤ 2 ^ 64 }
+    ensures some { IfSome result (λ number. value.now ≡ decimal number) }
+    ensures below { IfSome result (λ number. number < 10 ^ most) }
+    ensures none { IfNone result ((number : ℕ) → number < 10 ^ most → value.now ≢ decimal number) }
+{
+    if leads_with_zero(value) {
+        return None;
+    }
+    digits_of(most, value)
+}
+
+/// Whether a zero stands before other digits.
+fn leads_with_zero(value: &[u8]) -> bool
+    ensures { IsTrue result ↔ LeadsWithZero value.now }
+{
+    value.len() > 1 && value[0] == b'0'
+}
