@@ -1,0 +1,5 @@
+pub mod Graphs
+pub mod Closing
+pub mod LeavingOut
+pub mod Holding
+pub mod Deciding

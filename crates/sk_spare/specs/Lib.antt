@@ -1,0 +1,3 @@
+pub mod Sparing
+pub mod SpareReport
+pub mod Trying

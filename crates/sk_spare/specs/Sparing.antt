@@ -1,0 +1,42 @@
+-- Which constraints of a graph may go.
+use Rattle.std.specs.Prelude.{◌≢◌, ◌↔◌, ◌⊎◌, ◌==◌, not, List, filter, Contains}
+use Rattle.sk_base.specs.declared.Elem.{Elem}
+use Rattle.sk_base.specs.declared.ConId.{ConId}
+use Rattle.sk_base.specs.declared.Edge.{Edge}
+use Rattle.sk_base.specs.declared.Graph.{Graph}
+use Rattle.sk_base.specs.Numbering.{con_number}
+use Rattle.sk_base.specs.Rising.{IsRising}
+use Rattle.sk_family.specs.Body.{Body}
+use Rattle.sk_rules.specs.Reach.{IsNormal}
+
+-- the graph without the constraint of that number
+abbrev pub without : ConId → Graph → Graph
+without k g = record { nodes = g.nodes; edges = filter (λ (e : Edge). not (e.id.0 == k.0)) g.edges }
+
+-- one of the family's bodies holds all of these elements
+abbrev pub HoldsAll : List Body → List Elem → Type 0
+HoldsAll f xs = (y : Body) × Contains f y × ((e : Elem) → Contains xs e → Contains y.elements e)
+
+-- m is f with the bodies of n in the place of x
+abbrev pub TakesPlace : List Body → Body → List Body → List Body → Type 0
+TakesPlace f x n m = (y : Body) → Contains m y ↔ ((Contains f y × (y ≢ x)) ⊎ Contains n y)
+
+-- the body that owns the constraint in a normal family of the graph
+pub record IsOwner (g : Graph) (f : List Body) (k : ConId) (x : Body) : Type 0 where
+  pub normal : IsNormal g f
+  pub in_family : Contains f x
+  pub owns : Contains x.owned k
+
+-- without the constraint, one body of the normal family still holds all elements of the body that owns it
+pub record IsSpare (g : Graph) (k : ConId) : Type 0 where
+  pub family : List Body
+  pub owner : Body
+  pub owns : IsOwner g family k owner
+  pub left : List Body
+  pub normal : IsNormal (without k g) left
+  pub holds : HoldsAll left owner.elements
+
+-- exactly the spare constraints, rising
+pub record AreSpares (g : Graph) (spares : List ConId) : Type 0 where
+  pub exactly : (k : ConId) → Contains spares k ↔ IsSpare g k
+  pub rise : IsRising con_number spares

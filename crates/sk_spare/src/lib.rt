@@ -1,0 +1,13 @@
+//! The constraints that a sketch can spare.
+#![tactic(auto)]
+
+mod law;
+mod spares;
+#[cfg(test)]
+mod tests;
+mod text;
+mod trial;
+
+pub use law::{one_list_of_spares, trials};
+pub use spares::spare;
+pub use text::spare_text;
