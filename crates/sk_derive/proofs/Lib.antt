@@ -1,0 +1,7 @@
+pub mod Tying
+pub mod WideForm
+pub mod Classing
+pub mod Finding
+pub mod WideRuns
+pub mod Comparing
+pub mod OneWideRun

@@ -1,0 +1,10 @@
+use Rattle.std.proofs.Common.{subst}
+use Rattle.sk_rules.specs.declared.merge.Merge.{Merge}
+use Rattle.sk_derive.specs.WideChoices.{CanTakeByTie}
+use Rattle.sk_derive.proofs.WideRuns.{tie_replaced}
+use Rattle.sk_derive.proofs.closing.take_by_tie.Goals as goal
+
+pub replace-requires-clause-from : goal.replace-requires-clause-from
+replace-requires-clause-from c =
+    let (g, can) = c.requires.can in
+    tie_replaced g c.args.family.now c.in-Two.x c.in-Two.y (subst (λ (m : Merge). CanTakeByTie g c.args.family.now m) c.in-Two.is can)

@@ -1,0 +1,35 @@
+// The laws on wide normal families and wide runs.
+ghost use Rattle.std.specs.Prelude.{◌≡◌, List, Contains};
+ghost use Rattle.sk_base.specs.declared.Graph.{Graph};
+ghost use Rattle.sk_base.specs.SoundGraph.{HasRisingEdges};
+ghost use Rattle.sk_family.specs.Body.{Body, SameBodies};
+ghost use Rattle.sk_family.specs.Clusters.{Clusters};
+ghost use Rattle.sk_rules.specs.declared.Merge.{Merge};
+ghost use Rattle.sk_rules.specs.Reach.{IsNormal};
+ghost use Rattle.sk_derive.specs.WideReach.{IsWideNormal, LiesIn};
+ghost use Rattle.sk_derive.specs.WideChoices.{AreWideChoices};
+ghost use Rattle.sk_derive.specs.WideRun.{IsWideRun};
+
+use sk_worklist::Picker;
+
+/// Whatever merges by the three rules are taken, and in whatever order: where no rule holds any more,
+/// the same clusters stand.
+pub fn one_wide_normal_form()
+    ensures { (g : Graph) (one other : List Body) → HasRisingEdges g → IsWideNormal g one → IsWideNormal g other → SameBodies one other }
+{}
+
+/// Each cluster that the first two rules lead to lies in one that the three lead to.
+pub fn normal_lies_in_wide()
+    ensures { (g : Graph) (f wide : List Body) → IsNormal g f → IsWideNormal g wide → (x : Body) → Contains f x → (y : Body) × Contains wide y × LiesIn x y }
+{}
+
+/// A family has one list of wide choices.
+pub fn one_list_of_wide_choices()
+    ensures { (g : Graph) (f : Clusters) (one other : List Merge) → AreWideChoices g f one → AreWideChoices g f other → one ≡ other }
+{}
+
+/// A picker has one wide run from a family and a state.
+pub fn one_wide_run<P: Picker>()
+    ensures { (g : Graph) (f : Clusters) (p : P) (ms ns : List Merge) (one other : Clusters) (last end : P) → IsWideRun P.answer P.after g f p ms one last → IsWideRun P.answer P.after g f p ns other end
+        → (ms ≡ ns) × (one ≡ other) × (last ≡ end) }
+{}

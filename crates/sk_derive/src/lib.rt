@@ -1,0 +1,13 @@
+//! Closing a family by a third rule besides, which adds up the angles of lines.
+#![tactic(auto)]
+
+mod classes;
+mod closing;
+mod law;
+mod lists;
+mod text;
+mod tie_merges;
+
+pub use closing::derive;
+pub use law::{normal_lies_in_wide, one_list_of_wide_choices, one_wide_normal_form, one_wide_run};
+pub use text::derive_text;

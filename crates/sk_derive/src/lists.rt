@@ -1,0 +1,60 @@
+// The lists of elements of clusters, in order.
+ghost use Rattle.std.specs.Prelude.{◌≡◌, ◌≤◌, IfOk, OnOk, insert, length};
+ghost use Rattle.sk_derive.specs.DerivedText.{comes_before as is_before, with_list, lists_in_order as all_in_order};
+
+use sk_base::{Elem, List, NoMemory};
+use sk_family::Cluster;
+use std::alloc::Global;
+
+/// The lists of elements of the clusters, in order.
+pub(crate) fn lists_in_order(
+    alloc: Global,
+    clusters: &[Cluster],
+) -> Result<List<List<Elem>>, NoMemory>
+    ensures { IfOk result (λ lists. lists ≡ all_in_order clusters.now) }
+{
+    let mut lists = List::new(alloc);
+    for cluster in clusters {
+        let mut copy = List::new(alloc);
+        copy.extend(cluster.elements.as_slice())?;
+        put_list(&mut lists, copy)?;
+    }
+    Ok(lists)
+}
+
+/// Puts a list at its place.
+fn put_list(lists: &mut List<List<Elem>>, list: List<Elem>) -> Result<(), NoMemory>
+    ensures { OnOk result (lists.new ≡ with_list lists.old list) }
+{
+    let place = place_of(lists.as_slice(), list.as_slice());
+    lists.insert(place, list)
+}
+
+/// The place of the list: before the first that doesn't come before it.
+fn place_of(lists: &[List<Elem>], list: &[Elem]) -> usize
+    ensures within { result ≤ length lists.now }
+    ensures place { insert lists.now result list.now ≡ with_list lists.now list.now }
+{
+    for (place, other) in lists.iter().enumerate() {
+        if !comes_before(other.as_slice(), list) {
+            return place;
+        }
+    }
+    lists.len()
+}
+
+/// Whether the one list comes before the other, compared place by place.
+fn comes_before(xs: &[Elem], ys: &[Elem]) -> bool
+    ensures { result ≡ is_before xs.now ys.now }
+{
+    let mut i = 0;
+    while i < xs.len() && i < ys.len() {
+        let x = xs[i].0;
+        let y = ys[i].0;
+        if x != y {
+            return x < y;
+        }
+        i += 1;
+    }
+    xs.len() < ys.len()
+}
