@@ -1,0 +1,52 @@
+-- Right steps that leave the whole are those of a legal plan, and what else an accepted claim says.
+use Rattle.std.proofs.Common.{◌≡◌, List, [], ◌∷◌, refl}
+use Rattle.std.specs.Prelude.{All, Contains}
+use Rattle.std.proofs.lemmas.List.Elements.{All-nil, All-cons, Contains-append_left, Contains-append_right}
+use Rattle.sk_base.specs.declared.Edge.{Edge}
+use Rattle.sk_base.specs.declared.Elem.{Elem}
+use Rattle.sk_base.specs.declared.Graph.{Graph}
+use Rattle.sk_base.specs.declared.Kind.TheVariants as kinds
+use Rattle.sk_base.specs.declared.Node.{Node}
+use Rattle.sk_base.specs.declared.Sketch.{Sketch}
+use Rattle.sk_base.specs.SoundGraph.{IsSoundGraph}
+use Rattle.sk_base.proofs.Members.{contains_head, contains_mapped}
+use Rattle.sk_choice.specs.DrawnChoice.{HasDrawnChoice}
+use Rattle.sk_family.specs.Clusters.{Clusters, initial_clusters}
+use Rattle.sk_graph.specs.SketchGraph.{graph_of}
+use Rattle.sk_residual.specs.Placing.{PlacesExactly}
+use Rattle.sk_residual.specs.Tolerances.{normal, constraint, normals, normal_of_kind, constraints, AllHoldWithin}
+use Rattle.sk_residual.proofs.Worsts.{contains_flat}
+use Rattle.sk_tree.specs.declared.PlanStep.{PlanStep}
+use Rattle.sk_tree.specs.LegalPlan.{IsWhole, AreLegalSteps, IsLegalPlan}
+use Rattle.sk_verify.specs.declared.claim.Claim.{Claim}
+use Rattle.sk_verify.specs.Claims.{IsFitting, plan_claimed}
+use Rattle.sk_verify.specs.Failing.{IsJoined, IsAccepted}
+use Rattle.sk_verify.specs.RightSteps.{AreRight, after, next_after}
+use Rattle.sk_verify.proofs.Complete.{told_exactly}
+
+legal_steps : (s : Sketch) (g : Graph) (f : Clusters) (steps : List PlanStep) → AreRight s g f steps → IsWhole g (after f steps) → AreLegalSteps g f steps
+legal_steps s g f [] right whole = whole
+legal_steps s g f (step ∷ steps) right whole = (right.0.legal, legal_steps s g (next_after f step) steps right.1 whole)
+
+pub legal_claimed : (s : Sketch) (g : Graph) (c : Claim) → IsJoined s g c → IsLegalPlan g (plan_claimed g c)
+legal_claimed s g c joined = record { leaves = refl; steps = legal_steps s g (initial_clusters g) c.steps joined.steps joined.whole }
+
+drawn_choices : (s : Sketch) (g : Graph) (f : Clusters) (steps : List PlanStep) → AreRight s g f steps → All (HasDrawnChoice s) steps
+drawn_choices s g f [] right = All-nil (HasDrawnChoice s)
+drawn_choices s g f (step ∷ steps) right = All-cons (HasDrawnChoice s) step steps right.0.drawn (drawn_choices s g (next_after f step) steps right.1)
+
+module _ (s : Sketch) (g : Graph) (c : Claim) (is : IsAccepted s g c) where
+  pub legal : IsLegalPlan g (plan_claimed g c)
+  legal = legal_claimed s g c is.met.complete.joined
+
+  pub drawn : All (HasDrawnChoice s) c.steps
+  drawn = drawn_choices s g (initial_clusters g) c.steps is.met.complete.joined.steps
+
+  pub placed : g ≡ graph_of s → IsSoundGraph g → IsFitting g c → PlacesExactly g c.at
+  placed same sound fits = told_exactly s g same sound c fits is.met.complete.told
+
+  pub holds : AllHoldWithin c.at g c.t c.w
+  holds = record {
+    lines = λ line node. is.met.holds (normal line) (Contains-append_left (normals g.nodes) (constraints g.edges) (normal line) (contains_flat (λ (n : Node). normal_of_kind n.elem n.kind) g.nodes (record { elem = line; kind = kinds.Line }) (normal line) node (contains_head (normal line) [])));
+    edges = λ e inside. is.met.holds (constraint e) (Contains-append_right (normals g.nodes) (constraints g.edges) (constraint e) (contains_mapped (λ (x : Edge). constraint x) g.edges e inside));
+  }

@@ -1,0 +1,23 @@
+//! A checker of claims: whether steps lead to the whole drawing, and places meet what is asked.
+#![tactic(auto)]
+
+mod checking;
+mod choosing;
+mod claim;
+mod failure;
+mod holding;
+mod keeping;
+mod law;
+mod meeting;
+mod number;
+mod step;
+mod stepping;
+mod texts;
+mod told;
+mod whole;
+
+pub use checking::verify;
+pub use claim::{Claim, Radius};
+pub use failure::{Failure, VerifyError};
+pub use law::{accepted, one_answer};
+pub use texts::{failure_text, verified_text};
