@@ -12,7 +12,7 @@ use std::alloc::Global;
 use std::test::Fail;
 
 /// The sketch that the text is read as.
-fn sketch_of(alloc: Global, bytes: &[u8]) -> Result<Sketch, Fail>
+pub(crate) fn sketch_of(alloc: Global, bytes: &[u8]) -> Result<Sketch, Fail>
     ensures sound { IfOk result (λ s. IsSoundSketch s) }
     ensures some { IfOk result (λ s. 0 < length s.elements) }
 {

@@ -6,8 +6,11 @@
 mod calls;
 #[cfg(test)]
 mod checks;
+mod claims;
 #[cfg(test)]
 mod damaged;
+#[cfg(test)]
+mod derived;
 #[cfg(test)]
 mod faults;
 #[cfg(test)]
@@ -17,10 +20,20 @@ mod offers;
 #[cfg(test)]
 mod one_byte;
 #[cfg(test)]
+mod placements;
+#[cfg(test)]
 mod plans;
 #[cfg(test)]
 mod refusals;
 #[cfg(test)]
 mod row;
 #[cfg(test)]
+mod sessions;
+#[cfg(test)]
+mod texts;
+#[cfg(test)]
+mod tolerances;
+#[cfg(test)]
 mod usage;
+
+pub use claims::accepted_is_well;
