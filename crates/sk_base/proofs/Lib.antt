@@ -4,6 +4,7 @@ pub mod Finding
 pub mod Halves
 pub mod Members
 pub mod Pairs
+pub mod Quotients
 pub mod Searches
 pub mod ShortNames
 pub mod Sizes

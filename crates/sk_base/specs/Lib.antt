@@ -4,6 +4,7 @@ pub mod Drawn
 pub mod LabelBack
 pub mod Labels
 pub mod Millimetres
+pub mod Nearest
 pub mod Numbering
 pub mod Padded
 pub mod Places

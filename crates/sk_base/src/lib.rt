@@ -12,6 +12,7 @@ mod millimetres;
 mod name;
 mod numbered;
 mod placed;
+mod rounding;
 mod sketch;
 mod text;
 
@@ -25,5 +26,6 @@ pub use millimetres::{BadNumber, parse_mm, split_sign};
 pub use name::Name;
 pub use numbered::{ConId, Elem, Numbered};
 pub use placed::{At, Placed, Spot};
+pub use rounding::{nearest, rounding_is_nearest};
 pub use sketch::{Constraint, Element, Rule, Shape, Sketch};
 pub use text::Text;
