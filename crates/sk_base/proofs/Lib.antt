@@ -1,11 +1,16 @@
 pub mod Decimals
 pub mod Distinct
+pub mod Filters
 pub mod Finding
 pub mod Halves
+pub mod ListOrder
 pub mod Members
+pub mod Numbers
 pub mod Pairs
 pub mod Quotients
+pub mod Ranges
 pub mod Searches
 pub mod ShortNames
 pub mod Sizes
+pub mod Splits
 pub mod Unions

@@ -1,5 +1,5 @@
 -- The elements of a sketch by their numbers, and what shapes they have.
-use Rattle.std.specs.Prelude.{◌==◌, Option, find}
+use Rattle.std.specs.Prelude.{◌==◌, Bool, true, false, Option, find, ℤ, pos}
 use Rattle.std.specs.Option.{option_map}
 use Rattle.sk_base.specs.declared.numbered.Elem.{Elem}
 use Rattle.sk_base.specs.declared.sketch.Element.{Element}
@@ -35,3 +35,14 @@ abbrev pub HasCentre : Shape → Type 0
 HasCentre (Point x y) = Unit {0}
 HasCentre (Line x1 y1 x2 y2) = ⊥
 HasCentre (Circle x y r) = Unit {0}
+
+abbrev pub is_line : Shape → Bool
+is_line (Point x y) = false
+is_line (Line x1 y1 x2 y2) = true
+is_line (Circle x y r) = false
+
+-- the radius of a circle in micrometres; a point and a line have none
+abbrev pub radius_of : Shape → ℤ
+radius_of (Point x y) = pos 0
+radius_of (Line x1 y1 x2 y2) = pos 0
+radius_of (Circle x y r) = r.0

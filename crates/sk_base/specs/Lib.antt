@@ -1,6 +1,7 @@
 pub mod Bounds
 pub mod ClusterNames
 pub mod Drawn
+pub mod ElementOrder
 pub mod LabelBack
 pub mod Labels
 pub mod Millimetres

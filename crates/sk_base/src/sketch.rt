@@ -14,6 +14,33 @@ pub enum Shape {
     Circle { x: Um, y: Um, r: Um },
 }
 
+impl Shape {
+    ghost use Rattle.std.specs.Prelude.{◌↔◌, not, IsTrue};
+    ghost use Rattle.sk_base.specs.Bounds.{IsFromTo};
+    ghost use Rattle.sk_base.specs.Drawn.{is_line, radius_of, IsLine, HasCentre};
+    ghost use Rattle.sk_base.specs.SoundSketch.{IsSoundShape};
+
+    /// Whether it is a line.
+    pub fn is_line(&self) -> bool
+        ensures computed { result ≡ is_line self.now }
+        ensures line { IsTrue result ↔ IsLine self.now }
+        ensures centre { IsTrue (not result) ↔ HasCentre self.now }
+    {
+        matches!(self, Shape::Line { .. })
+    }
+
+    /// The radius of a circle, in micrometres. A point and a line have none: 0.
+    pub fn radius(&self) -> i64
+        ensures radius { result ≡ radius_of self.now }
+        ensures bounded { IsSoundShape self.now → IsFromTo 0 1000000000 result }
+    {
+        match self {
+            Shape::Circle { r, .. } => r.0,
+            Shape::Point { .. } | Shape::Line { .. } => 0,
+        }
+    }
+}
+
 /// A named element.
 #[derive(Clone, Copy, Debug, PartialEq, Eq)]
 pub struct Element {

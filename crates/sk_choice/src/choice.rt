@@ -2,7 +2,6 @@
 ghost use Rattle.std.specs.Prelude.{◌≡◌, ◌≢◌, ◌↔◌, [], ◌∷◌, not, IsTrue, IsSome, Some};
 ghost use Rattle.sk_base.specs.Drawn.{shape_of, IsLine, HasCentre};
 ghost use Rattle.sk_base.specs.SoundSketch.{IsSoundSketch};
-ghost use Rattle.sk_graph.specs.SketchGraph.{is_line};
 ghost use Rattle.sk_orient.specs.DrawnSigns.{IsOnPaper};
 ghost use Rattle.sk_tree.specs.ByNumber.{by_number};
 ghost use Rattle.sk_choice.specs.DrawnChoice.{drawn_choice, shapes_of};
@@ -46,19 +45,11 @@ fn choice_between(p: &Shape, q: &Shape, r: &Shape) -> Choice
     requires r { IsOnPaper r.now }
     ensures { result ≡ drawn_choice (p.now ∷ q.now ∷ r.now ∷ []) }
 {
-    match (is_line(p), is_line(q), is_line(r)) {
+    match (p.is_line(), q.is_line(), r.is_line()) {
         (false, false, false) => Choice::Turn(turn_drawn(p, q, r)),
         (true, false, false) => Choice::Advance(advance_drawn(p, q, r)),
         (false, true, false) => Choice::Advance(advance_drawn(q, p, r)),
         (false, false, true) => Choice::Advance(advance_drawn(r, p, q)),
         _ => Choice::Nothing,
     }
-}
-
-fn is_line(shape: &Shape) -> bool
-    ensures computed { result ≡ is_line shape.now }
-    ensures line { IsTrue result ↔ IsLine shape.now }
-    ensures centre { IsTrue (not result) ↔ HasCentre shape.now }
-{
-    matches!(shape, Shape::Line { .. })
 }

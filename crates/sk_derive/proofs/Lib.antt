@@ -3,5 +3,4 @@ pub mod WideForm
 pub mod Classing
 pub mod Finding
 pub mod WideRuns
-pub mod Comparing
 pub mod OneWideRun

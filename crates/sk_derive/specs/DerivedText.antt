@@ -1,22 +1,15 @@
 -- The text of derived clusters.
-use Rattle.std.specs.Prelude.{ℕ, ◌+◌, ◌||◌, ◌&&◌, ◌==◌, nat_lt, if◌then◌else◌, Bool, true, false, List, [], ◌∷◌, ◌++◌, length, map, fold, codes, unwrap_or}
+use Rattle.std.specs.Prelude.{ℕ, ◌+◌, if◌then◌else◌, List, [], ◌∷◌, ◌++◌, length, map, fold, codes, unwrap_or}
 use Rattle.std.specs.Option.{option_map}
 use Rattle.std.specs.List.{flat_map}
 use Rattle.std.specs.Fmt.{decimal}
 use Rattle.sk_base.specs.declared.Elem.{Elem}
 use Rattle.sk_base.specs.declared.Element.{Element}
 use Rattle.sk_base.specs.declared.Sketch.{Sketch}
+use Rattle.sk_base.specs.ElementOrder.{comes_before}
 use Rattle.sk_base.specs.Drawn.{element_of}
 use Rattle.sk_family.specs.declared.Cluster.{Cluster}
 use Rattle.sk_family.specs.Clusters.{Clusters}
-
--- whether the one list comes before the other: the first place where they differ decides, and else the
--- shorter one comes before
-abbrev pub comes_before : List Elem → List Elem → Bool
-comes_before [] [] = false
-comes_before [] (y ∷ ys) = true
-comes_before (x ∷ xs) [] = false
-comes_before (x ∷ xs) (y ∷ ys) = nat_lt x.0 y.0 || ((x.0 == y.0) && comes_before xs ys)
 
 -- these lists with one more, before the first that doesn't come before it
 abbrev pub with_list : List (List Elem) → List Elem → List (List Elem)

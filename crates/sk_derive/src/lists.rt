@@ -1,8 +1,8 @@
 // The lists of elements of clusters, in order.
 ghost use Rattle.std.specs.Prelude.{◌≡◌, ◌≤◌, IfOk, OnOk, insert, length};
-ghost use Rattle.sk_derive.specs.DerivedText.{comes_before as is_before, with_list, lists_in_order as all_in_order};
+ghost use Rattle.sk_derive.specs.DerivedText.{with_list, lists_in_order as all_in_order};
 
-use sk_base::{Elem, List, NoMemory};
+use sk_base::{Elem, List, NoMemory, comes_before};
 use sk_family::Cluster;
 use std::alloc::Global;
 
@@ -41,20 +41,4 @@ fn place_of(lists: &[List<Elem>], list: &[Elem]) -> usize
         }
     }
     lists.len()
-}
-
-/// Whether the one list comes before the other, compared place by place.
-fn comes_before(xs: &[Elem], ys: &[Elem]) -> bool
-    ensures { result ≡ is_before xs.now ys.now }
-{
-    let mut i = 0;
-    while i < xs.len() && i < ys.len() {
-        let x = xs[i].0;
-        let y = ys[i].0;
-        if x != y {
-            return x < y;
-        }
-        i += 1;
-    }
-    xs.len() < ys.len()
 }

@@ -17,6 +17,7 @@ use Rattle.sk_base.specs.ClusterNames.{is_named}
 use Rattle.sk_base.specs.Numbering.{con_number, con_exact}
 use Rattle.sk_base.proofs.Finding.{found_rising}
 use Rattle.sk_base.proofs.Members.{contains_one, contains_head, mapped_from, contains_mapped, contains_filtered, filtered_from}
+use Rattle.sk_base.proofs.Numbers.{other_passes, passes_differ}
 use Rattle.sk_base.proofs.Pairs.{pairs_filter, pairs_map}
 use Rattle.sk_base.proofs.Unions.{rising_apart}
 use Rattle.sk_family.specs.declared.cluster.Cluster.{Cluster}
@@ -26,19 +27,8 @@ use Rattle.sk_family.specs.Starts.{IsOther, IsDissolved}
 use Rattle.sk_family.proofs.Naming.{ByName, below_differs, among_named, named_among}
 use Rattle.sk_family.proofs.Soundness.{contains_some}
 use Rattle.sk_family.proofs.Sorting.{HaveOtherNames}
-use Rattle.sk_family.proofs.Splits.{pairs_append}
+use Rattle.sk_base.proofs.Splits.{pairs_append}
 use Rattle.sk_family.proofs.Starting.{sound_with_starts}
-
--- numbers that differ pass the test
-other_number : (a b : ℕ) → a ≢ b → not (a == b) ≡ true
-other_number a b differ = told (a == b) refl
-  where
-    told : (t : Bool) → (a == b) ≡ t → not t ≡ true
-    told true is = absurd (differ (grind (arith, nat_tests)))
-    told false is = refl
-
-number_differs : (a b : ℕ) → not (a == b) ≡ true → a ≢ b
-number_differs a b passes same = (let is : (a == b) ≡ true = grind (arith, nat_tests) in let never : false ≡ true = subst (λ t. not t ≡ true) is passes in absurd (cc))
 
 not_is_false : (t : Bool) → t ≢ true → not t ≡ true
 not_is_false true never = absurd (never refl)
@@ -65,7 +55,7 @@ module _ (g : Graph) (rises : HasRisingEdges g) (f : Clusters) (sound : IsSound 
   number_left : (j : ConId) → Contains numbers j → Contains owner.owned j × (j ≢ k)
   number_left j j_in =
       let was = filtered_from (λ (i : ConId). not (i.0 == k.0)) owner.owned j j_in in
-      (was.0, λ same. number_differs j.0 k.0 was.1 (ap con_number same))
+      (was.0, λ same. passes_differ j.0 k.0 was.1 (ap con_number same))
 
   other_with : (j : ConId) → Contains numbers j → IsOther g owner k (edge_with g j) × ((edge_with g j).id ≡ j)
   other_with j j_in =
@@ -88,7 +78,7 @@ module _ (g : Graph) (rises : HasRisingEdges g) (f : Clusters) (sound : IsSound 
 
   start_in : (d : Edge) → IsOther g owner k d → Contains starts (start_of d)
   start_in d other =
-      let left : Contains numbers d.id = contains_filtered (λ (i : ConId). not (i.0 == k.0)) owner.owned d.id other.owned (other_number d.id.0 k.0 (λ same. other.differs (con_exact d.id k same))) in
+      let left : Contains numbers d.id = contains_filtered (λ (i : ConId). not (i.0 == k.0)) owner.owned d.id other.owned (other_passes d.id.0 k.0 (λ same. other.differs (con_exact d.id k same))) in
       subst (λ (e : Edge). Contains starts (start_of e)) (found_with d d.id other.is_edge refl) (contains_mapped (λ j. start_of (edge_with g j)) numbers d.id left)
 
   -- no live cluster is named by another constraint that the owner owns

@@ -8,7 +8,7 @@ use Rattle.sk_base.proofs.Unions.{which}
 use Rattle.sk_family.specs.declared.cluster.Cluster.{Cluster}
 use Rattle.sk_family.specs.Clusters.{ByName}
 use Rattle.sk_family.proofs.Naming.{below_chain, below_differs}
-use Rattle.sk_family.proofs.Splits.{in_drop, in_either, pairs_drop}
+use Rattle.sk_base.proofs.Splits.{in_drop, in_either, pairs_drop}
 use Rattle.sk_base.proofs.Members.{contains_head, contains_cases}
 use Rattle.sk_base.proofs.Pairs.{pairs_head}
 

@@ -1,6 +1,5 @@
 pub mod Shares
 pub mod Bodies
-pub mod Splits
 pub mod Soundness
 pub mod Starting
 pub mod Sorting

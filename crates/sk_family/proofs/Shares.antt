@@ -5,7 +5,8 @@ use Rattle.std.proofs.lemmas.List.{append-nil, take-append-drop}
 use Rattle.std.proofs.lemmas.List.Elements.{filter_more, filter-append}
 use Rattle.std.proofs.lemmas.List.Filters.{length-filter_both}
 use Rattle.sk_base.specs.declared.Elem.{Elem}
-use Rattle.sk_family.specs.Sharing.{is_elem, shared}
+use Rattle.sk_family.specs.Sharing.{shared}
+use Rattle.sk_base.specs.Numbering.{is_elem}
 
 module _ (xs ys : List Elem) (i : ℕ) (d : Elem) (i_in : i < length xs) where
   pub shared_more : is_elem ys (get_or xs i d) ≡ true → shared (take (i + 1) xs) ys ≡ shared (take i xs) ys ++ get_or xs i d ∷ []

@@ -14,7 +14,7 @@ use Rattle.sk_family.specs.Body.{IsRisingBody}
 use Rattle.sk_family.specs.Clusters.{Clusters, body_of, start_of, IsSound}
 use Rattle.sk_family.specs.Starts.{IsFree, HasStart}
 use Rattle.sk_family.proofs.Naming.{ByName}
-use Rattle.sk_family.proofs.Splits.{in_drop, in_inserted, pairs_inserted}
+use Rattle.sk_base.proofs.Splits.{in_drop, in_inserted, pairs_inserted}
 use Rattle.sk_family.proofs.Soundness.{rising_starting, con_inside}
 
 module _ (f new : Clusters) (sound : IsSound f) (Stays : Cluster → Type 0) (Starts : Edge → Type 0)

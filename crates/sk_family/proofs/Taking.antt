@@ -13,34 +13,9 @@ use Rattle.sk_base.proofs.Unions.{which}
 use Rattle.sk_family.specs.declared.cluster.Cluster.{Cluster}
 use Rattle.sk_family.specs.Clusters.{ByName, IsAt, unnamed}
 use Rattle.sk_family.proofs.Naming.{below_differs, unnamed_true, named_among}
-use Rattle.sk_family.proofs.Splits.{pairs_drop}
+use Rattle.sk_base.proofs.Filters.{filter_keeps, filter_both, neither}
+use Rattle.sk_base.proofs.Splits.{pairs_drop}
 use Rattle.sk_family.proofs.Halving.{none_past, none_other}
-
-module _ {X : Type 0} where
-  pub filter_keeps : (p : X → Bool) (xs : List X) → ((x : X) → Contains xs x → p x ≡ true) → filter p xs ≡ xs
-  filter_keeps p [] all = refl
-  filter_keeps p (x ∷ xs) all =
-      ap (λ b. cond b (x ∷ filter p xs) (filter p xs)) (all x (contains_head x xs)) ∙ ap (λ l. x ∷ l) (filter_keeps p xs (λ y y_in. all y (contains_later x xs y y_in)))
-
-  -- what passes both tests passes the one and then the other
-  pub filter_both : (p q r : X → Bool) → ((x : X) → r x ≡ (p x && q x)) → (xs : List X) → filter r xs ≡ filter q (filter p xs)
-  filter_both p q r both [] = refl
-  filter_both p q r both (x ∷ xs) = told (filter_both p q r both xs) (p x) refl (q x) refl
-    where
-      both_at : (a b : Bool) → p x ≡ a → q x ≡ b → r x ≡ (a && b)
-      both_at a b a_is b_is = both x ∙ ap (λ c. c && q x) a_is ∙ ap (λ c. a && c) b_is
-
-      told : filter r xs ≡ filter q (filter p xs) → (a : Bool) → p x ≡ a → (b : Bool) → q x ≡ b → filter r (x ∷ xs) ≡ filter q (filter p (x ∷ xs))
-      told rest false a_is b b_is =
-          ap (λ c. cond c (x ∷ filter r xs) (filter r xs)) (both_at false b a_is b_is) ∙ rest ∙ sym (ap (λ l. filter q l) (ap (λ c. cond c (x ∷ filter p xs) (filter p xs)) a_is))
-      told rest true a_is false b_is =
-          ap (λ c. cond c (x ∷ filter r xs) (filter r xs)) (both_at true false a_is b_is) ∙ rest
-          ∙ sym (ap (λ c. cond c (x ∷ filter q (filter p xs)) (filter q (filter p xs))) b_is)
-          ∙ sym (ap (λ l. filter q l) (ap (λ c. cond c (x ∷ filter p xs) (filter p xs)) a_is))
-      told rest true a_is true b_is =
-          ap (λ c. cond c (x ∷ filter r xs) (filter r xs)) (both_at true true a_is b_is) ∙ ap (λ l. x ∷ l) rest
-          ∙ sym (ap (λ c. cond c (x ∷ filter q (filter p xs)) (filter q (filter p xs))) b_is)
-          ∙ sym (ap (λ l. filter q l) (ap (λ c. cond c (x ∷ filter p xs) (filter p xs)) a_is))
 
 differ_kept : (name : Name) (clusters : List Cluster) → ((c : Cluster) → Contains clusters c → c.name ≢ name) → unnamed (name ∷ []) clusters ≡ clusters
 differ_kept name clusters differ =
@@ -77,10 +52,6 @@ module _ (clusters : List Cluster) (name : Name) (place : ℕ) (rise : AllPairs 
             | inr (inl level) ↦ none_past clusters name place before after (omega arith) c c_in
             | inr (inr past) ↦ none_past clusters name place before after (omega arith) c c_in
           ]
-
-pub neither : (a b : Bool) → not (a || b) ≡ (not a && not b)
-neither true b = refl
-neither false b = refl
 
 -- clusters without some names, and then without another
 pub unnamed_more : (some more : List Name) (clusters : List Cluster) → unnamed (some ++ more) clusters ≡ unnamed more (unnamed some clusters)

@@ -1,7 +1,8 @@
 // Clusters, and what two of them share.
 ghost use Rattle.std.specs.Prelude.{◌≡◌, ◌+◌, ◌<◌, ◌^◌, ◌∷◌, ◌++◌, [], List as Items, length};
 ghost use Rattle.sk_base.specs.declared.Elem.{Elem as Element};
-ghost use Rattle.sk_family.specs.Sharing.{is_elem, shared, overlap_of};
+ghost use Rattle.sk_family.specs.Sharing.{shared, overlap_of};
+ghost use Rattle.sk_base.specs.Numbering.{is_elem};
 
 use sk_base::{ConId, Elem, List, Name};
 
@@ -33,17 +34,11 @@ pub fn common(a: &Cluster, b: &Cluster) -> Overlap
         second: None,
     };
     for elem in a.elements.as_slice() {
-        if is_in(*elem, b.elements.as_slice()) {
+        if elem.is_among(b.elements.as_slice()) {
             overlap = overlap.with(*elem);
         }
     }
     overlap
-}
-
-fn is_in(elem: Elem, elements: &[Elem]) -> bool
-    ensures { result ≡ is_elem elements.now elem }
-{
-    elements.contains(&elem)
 }
 
 impl Overlap {

@@ -1,4 +1,3 @@
 pub mod Growing
 pub mod PointNames
-pub mod Ranges
 pub mod Soundness

@@ -24,7 +24,7 @@ use Rattle.sk_base.proofs.Members.{contains_cases, contains_later, contains_mapp
 use Rattle.sk_base.proofs.Pairs.{pairs_none, pairs_cons, pairs_map}
 use Rattle.sk_gen.specs.DatumSketch.{mm, x_axis, y_axis, x_of, y_of, point_elem, point_name, point, elements_of, right_angle, from_x, from_y, distances, constraints_of}
 use Rattle.sk_gen.proofs.PointNames.{point_is_named}
-use Rattle.sk_gen.proofs.Ranges.{range_between, range_all, range_pairs}
+use Rattle.sk_base.proofs.Ranges.{range_between, range_all, range_pairs}
 
 abbrev pub sketch_with : ℕ → Sketch
 sketch_with points = record { elements = elements_of points; constraints = constraints_of points }

@@ -9,7 +9,8 @@ use Rattle.sk_base.specs.declared.sketch.Sketch.{Sketch}
 use Rattle.sk_base.specs.Drawn.{shape_of, HasCentre, IsLine}
 use Rattle.sk_base.specs.SoundSketch.{IsSoundRule, MayBeApart, MayBeTangent, BothFit}
 use Rattle.sk_graph.specs.Fitting.{Fits}
-use Rattle.sk_graph.specs.SketchGraph.{is_line, first_of, second_of}
+use Rattle.sk_graph.specs.SketchGraph.{first_of, second_of}
+use Rattle.sk_base.specs.Drawn.{is_line}
 
 pub line_if : (x : Shape) → is_line x ≡ true → IsLine x
 line_if (Point x y) is = cc

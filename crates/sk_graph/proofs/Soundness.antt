@@ -34,7 +34,8 @@ use Rattle.sk_base.proofs.Finding.{found_in}
 use Rattle.sk_base.proofs.Members.{contains_mapped, mapped_from}
 use Rattle.sk_base.proofs.Pairs.{pairs_map}
 use Rattle.sk_graph.specs.Fitting.{Fits}
-use Rattle.sk_graph.specs.SketchGraph.{kind_of, node_of, is_line, radius_of, drawn_as, apart, beside, distance_edge, on_edge, tangent_edge, edge_between, first_of, second_of, edge_of, graph_of}
+use Rattle.sk_graph.specs.SketchGraph.{kind_of, node_of, drawn_as, apart, beside, distance_edge, on_edge, tangent_edge, edge_between, first_of, second_of, edge_of, graph_of}
+use Rattle.sk_base.specs.Drawn.{is_line, radius_of}
 use Rattle.sk_graph.proofs.Fittings.{rule_drawn}
 
 mapped_some : {X Y : Type 0} (f : X → Y) (o : Option X) (y : Y) → option_map f o ≡ Some y → (x : X) × (o ≡ Some x) × (f x ≡ y)

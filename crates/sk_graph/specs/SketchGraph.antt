@@ -1,6 +1,6 @@
 -- The constraint graph of a sketch: a node for each element, where a circle is its centre, and an edge
 -- for each constraint, each told by its own constraint and the shapes that this names.
-use Rattle.std.specs.Prelude.{Bool, true, false, nat_lt, if◌then◌else◌, ℤ, pos, ◌+ℤ◌, ◌-ℤ◌, map, unwrap_or, unsigned_abs}
+use Rattle.std.specs.Prelude.{nat_lt, if◌then◌else◌, ℤ, pos, ◌+ℤ◌, ◌-ℤ◌, map, unwrap_or, unsigned_abs}
 use Rattle.sk_base.specs.declared.numbered.Elem.{Elem}
 use Rattle.sk_base.specs.declared.numbered.ConId.{ConId}
 use Rattle.sk_base.specs.declared.measure.Um.{Um}
@@ -19,7 +19,7 @@ use Rattle.sk_base.specs.declared.sketch.Sketch.{Sketch}
 use Rattle.sk_base.specs.declared.graph.Node.{Node}
 use Rattle.sk_base.specs.declared.graph.Edge.{Edge}
 use Rattle.sk_base.specs.declared.graph.Graph.{Graph}
-use Rattle.sk_base.specs.Drawn.{shape_of}
+use Rattle.sk_base.specs.Drawn.{shape_of, is_line, radius_of}
 use Rattle.sk_orient.specs.DrawnSigns.{side_drawn, sense_drawn}
 
 -- a circle is its centre, a point
@@ -30,17 +30,6 @@ kind_of (Circle x y r) = kinds.Point
 
 abbrev pub node_of : Element → Node
 node_of e = record { elem = e.number; kind = kind_of e.shape }
-
-abbrev pub is_line : Shape → Bool
-is_line (Point x y) = false
-is_line (Line x1 y1 x2 y2) = true
-is_line (Circle x y r) = false
-
--- the radius of a circle; a point and a line have none
-abbrev pub radius_of : Shape → ℤ
-radius_of (Point x y) = pos 0
-radius_of (Line x1 y1 x2 y2) = pos 0
-radius_of (Circle x y r) = r.0
 
 -- how an element of that number is drawn; a sound sketch draws each element that a constraint names
 abbrev pub drawn_as : Sketch → Elem → Shape

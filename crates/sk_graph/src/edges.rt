@@ -4,7 +4,7 @@ ghost use Rattle.sk_base.specs.Bounds.{IsFromTo};
 ghost use Rattle.sk_base.specs.Drawn.{shape_of, HasCentre, IsLine};
 ghost use Rattle.sk_base.specs.SoundSketch.{IsSoundSketch, IsSoundShape, IsSoundRule, IsSoundRatio, MayBeApart, MayBeTangent, AreLines};
 ghost use Rattle.sk_graph.specs.Fitting.{Fits};
-ghost use Rattle.sk_graph.specs.SketchGraph.{is_line, radius_of, apart, beside, distance_edge, on_edge, tangent_edge, edge_between, first_of, second_of, edge_of};
+ghost use Rattle.sk_graph.specs.SketchGraph.{apart, beside, distance_edge, on_edge, tangent_edge, edge_between, first_of, second_of, edge_of};
 
 use sk_base::{ConId, Constraint, Edge, Elem, Measure, Rule, Shape, Sign, Sketch, Um};
 use sk_orient::{sense_drawn, side_drawn};
@@ -63,8 +63,8 @@ fn edge_between(id: ConId, rule: Rule, a: Shape, b: Shape) -> Edge
         Rule::Distance { u, v, len } => distance_edge(id, u, v, len, a, b),
         Rule::On { u, v } => on_edge(id, u, v, b),
         Rule::Tangent { u, v } => tangent_edge(id, u, v, a, b),
-        Rule::Outside { u, v } => apart(id, u, v, Um(radius(a) + radius(b))),
-        Rule::Inside { u, v } => apart(id, u, v, Um((radius(a) - radius(b)).abs())),
+        Rule::Outside { u, v } => apart(id, u, v, Um(a.radius() + b.radius())),
+        Rule::Inside { u, v } => apart(id, u, v, Um((a.radius() - b.radius()).abs())),
         Rule::Angle { l, m, ratio } => Edge {
             id,
             u: l,
@@ -82,9 +82,9 @@ fn distance_edge(id: ConId, u: Elem, v: Elem, len: Um, a: Shape, b: Shape) -> Ed
     requires fits { MayBeApart a b }
     ensures { result ≡ distance_edge id u v len a b }
 {
-    if is_line(a) {
+    if a.is_line() {
         beside(id, v, u, len, side_drawn(&a, &b))
-    } else if is_line(b) {
+    } else if b.is_line() {
         beside(id, u, v, len, side_drawn(&b, &a))
     } else {
         apart(id, u, v, len)
@@ -96,10 +96,10 @@ fn on_edge(id: ConId, u: Elem, v: Elem, b: Shape) -> Edge
     requires { IsSoundShape b }
     ensures { result ≡ on_edge id u v b }
 {
-    if is_line(b) {
+    if b.is_line() {
         beside(id, u, v, Um(0), Sign::Plus)
     } else {
-        apart(id, u, v, Um(radius(b)))
+        apart(id, u, v, Um(b.radius()))
     }
 }
 
@@ -111,10 +111,10 @@ fn tangent_edge(id: ConId, u: Elem, v: Elem, a: Shape, b: Shape) -> Edge
     requires fits { MayBeTangent a b }
     ensures { result ≡ tangent_edge id u v a b }
 {
-    if is_line(a) {
-        beside(id, v, u, Um(radius(b)), side_drawn(&a, &b))
+    if a.is_line() {
+        beside(id, v, u, Um(b.radius()), side_drawn(&a, &b))
     } else {
-        beside(id, u, v, Um(radius(a)), side_drawn(&b, &a))
+        beside(id, u, v, Um(a.radius()), side_drawn(&b, &a))
     }
 }
 
@@ -140,23 +140,5 @@ fn beside(id: ConId, p: Elem, line: Elem, len: Um, side: Sign) -> Edge
         u: p,
         v: line,
         measure: Measure::PointLine(len, side),
-    }
-}
-
-fn is_line(shape: Shape) -> bool
-    ensures { result ≡ is_line shape }
-{
-    matches!(shape, Shape::Line { .. })
-}
-
-/// The radius of a circle; a point and a line have none.
-fn radius(shape: Shape) -> i64
-    requires { IsSoundShape shape }
-    ensures radius { result ≡ radius_of shape }
-    ensures bounded { IsFromTo 0 1000000000 result }
-{
-    match shape {
-        Shape::Circle { r, .. } => r.0,
-        Shape::Point { .. } | Shape::Line { .. } => 0,
     }
 }

@@ -8,7 +8,7 @@ use Rattle.sk_base.specs.declared.Shape.TheVariants.{Point, Line, Circle}
 use Rattle.sk_base.specs.SoundSketch.{MayBeApart, MayLieOn, MayBeTangent, AreCircles, AreLines, MayNest}
 use Rattle.sk_lang.specs.declared.keyword.Keyword.TheVariants as word
 use Rattle.sk_lang.specs.Kinds.{takes}
-use Rattle.sk_lang.specs.Conditions.{radius_of}
+use Rattle.sk_base.specs.Drawn.{radius_of}
 
 pub may_be_apart : (u v : Shape) → takes word.Distance u v ≡ true → MayBeApart u v
 may_be_apart (Point x y) v is = inl tt

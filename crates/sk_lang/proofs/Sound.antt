@@ -22,7 +22,8 @@ use Rattle.sk_lang.specs.declared.entry.Entry.TheVariants as entry
 use Rattle.sk_lang.specs.Kinds.{takes}
 use Rattle.sk_lang.specs.Named.{element_named, number_named}
 use Rattle.sk_lang.specs.Quantities.{um, ratio}
-use Rattle.sk_lang.specs.Conditions.{kinds_fit, radius_of, radii_equal}
+use Rattle.sk_lang.specs.Conditions.{kinds_fit, radii_equal}
+use Rattle.sk_base.specs.Drawn.{radius_of}
 use Rattle.sk_lang.specs.Meaning.{entry_made, added}
 use Rattle.sk_lang.specs.Entry.{entry_code, IsEntryOf}
 use Rattle.sk_lang.proofs.Passing.{Passes}

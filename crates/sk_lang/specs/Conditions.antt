@@ -1,12 +1,11 @@
 -- When each code of a line's words comes.
-use Rattle.std.specs.Prelude.{ℕ, Bool, false, ◌&&◌, not, ◌==◌, List, [], ◌∷◌, Option, Some, None, is_some, is_none, bytes_eq, ℤ, pos}
+use Rattle.std.specs.Prelude.{ℕ, Bool, false, ◌&&◌, not, ◌==◌, List, [], ◌∷◌, Option, Some, None, is_some, is_none, bytes_eq}
 use Rattle.std.specs.Ordering.{int_eq}
 use Rattle.std.specs.Option.{option_map}
+use Rattle.sk_base.specs.Drawn.{radius_of}
 use Rattle.sk_base.specs.Labels.{is_name}
 use Rattle.sk_base.specs.Millimetres.{mm_of}
 use Rattle.sk_base.specs.declared.Element.{Element}
-use Rattle.sk_base.specs.declared.Shape.{Shape}
-use Rattle.sk_base.specs.declared.Shape.TheVariants as shape
 use Rattle.sk_base.specs.declared.Sketch.{Sketch}
 use Rattle.sk_lang.specs.declared.keyword.Keyword.{Keyword}
 use Rattle.sk_lang.specs.declared.keyword.Keyword.TheVariants.{Line, Circle, Inside}
@@ -60,10 +59,6 @@ abbrev pub is_zero_number : Field → Bool
 is_zero_number (Length, word) = is_zero (length_of word)
 is_zero_number (Slope, word) = is_zero (option_map (λ parts. parts.0) (ratio_of word))
 is_zero_number _ = false
-
-abbrev pub radius_of : Shape → ℤ
-radius_of (shape.Circle x y r) = r.0
-radius_of _ = pos 0
 
 abbrev pub radii_equal : Option Element → Option Element → Bool
 radii_equal (Some u) (Some v) = int_eq (radius_of u.shape) (radius_of v.shape)

@@ -2,12 +2,9 @@
 use Rattle.std.specs.Prelude.{Bool, true, false, ◌&&◌, ◌||◌, not}
 use Rattle.sk_base.specs.declared.Shape.{Shape}
 use Rattle.sk_base.specs.declared.Shape.TheVariants as shape
+use Rattle.sk_base.specs.Drawn.{is_line}
 use Rattle.sk_lang.specs.declared.keyword.Keyword.{Keyword}
 use Rattle.sk_lang.specs.declared.keyword.Keyword.TheVariants.{Distance, On, Tangent, Outside, Inside, Angle}
-
-abbrev pub is_line : Shape → Bool
-is_line (shape.Line x1 y1 x2 y2) = true
-is_line _ = false
 
 abbrev pub is_circle : Shape → Bool
 is_circle (shape.Circle x y r) = true

@@ -8,7 +8,7 @@ ghost use Rattle.sk_lang.specs.FirstCode.{first_code, unless};
 
 use crate::code::Code;
 use crate::field::{
-    declared, different, kinds, label, length, not_zero, radius, room_for_constraint,
+    declared, different, kinds, label, length, not_zero, room_for_constraint,
 };
 use crate::keyword::Keyword;
 use crate::ratio::slope;
@@ -138,7 +138,7 @@ pub(crate) fn read_inside<S: Scope>(
     let first = declared(s, u)?;
     let second = declared(s, v)?;
     kinds(Keyword::Inside, first, second)?;
-    if radius(&first.shape) == radius(&second.shape) {
+    if first.shape.radius() == second.shape.radius() {
         return Err(Code::E9);
     }
     different(u, v)?;

@@ -1,10 +1,10 @@
 ghost use Rattle.std.specs.Prelude.{◌≡◌, ◌==◌, nat_le, length, Some, None, is_some, is_none, true, false, Ok, Err, MatchResult, bytes_eq};
 ghost use Rattle.sk_base.specs.Labels.{is_name};
 ghost use Rattle.sk_base.specs.Millimetres.{mm_of};
-ghost use Rattle.sk_lang.specs.Kinds.{takes, is_line, is_circle};
+ghost use Rattle.sk_lang.specs.Kinds.{takes, is_circle};
 ghost use Rattle.sk_lang.specs.Quantities.{length_of, not_negative};
 ghost use Rattle.sk_lang.specs.Named.{element_named};
-ghost use Rattle.sk_lang.specs.Conditions.{is_zero, radius_of};
+ghost use Rattle.sk_lang.specs.Conditions.{is_zero};
 ghost use Rattle.sk_lang.specs.declared.code.Code.TheVariants.{E4, E5, E6, E7, E8, E9, E10, E13, E14};
 
 use crate::code::Code;
@@ -120,19 +120,13 @@ fn takes(keyword: Keyword, u: &Shape, v: &Shape) -> bool
     ensures { result ≡ takes keyword u.now v.now }
 {
     match keyword {
-        Keyword::Distance => !(is_line(u) && is_line(v)),
-        Keyword::On => !is_line(u) && (is_line(v) || (!is_circle(u) && is_circle(v))),
-        Keyword::Tangent => (is_line(u) && is_circle(v)) || (is_circle(u) && is_line(v)),
+        Keyword::Distance => !(u.is_line() && v.is_line()),
+        Keyword::On => !u.is_line() && (v.is_line() || (!is_circle(u) && is_circle(v))),
+        Keyword::Tangent => (u.is_line() && is_circle(v)) || (is_circle(u) && v.is_line()),
         Keyword::Outside | Keyword::Inside => is_circle(u) && is_circle(v),
-        Keyword::Angle => is_line(u) && is_line(v),
+        Keyword::Angle => u.is_line() && v.is_line(),
         Keyword::Point | Keyword::Line | Keyword::Circle => false,
     }
-}
-
-fn is_line(shape: &Shape) -> bool
-    ensures { result ≡ is_line shape.now }
-{
-    matches!(shape, Shape::Line { .. })
 }
 
 fn is_circle(shape: &Shape) -> bool
@@ -151,14 +145,4 @@ pub(crate) fn different(u: Label, v: Label) -> Result<(), Code>
         return Err(Code::E10);
     }
     Ok(())
-}
-
-/// The radius of a circle, or 0.
-pub(crate) fn radius(shape: &Shape) -> i64
-    ensures { result ≡ radius_of shape.now }
-{
-    match shape {
-        Shape::Circle { r, .. } => r.0,
-        _ => 0,
-    }
 }

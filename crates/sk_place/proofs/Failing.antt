@@ -14,7 +14,7 @@ use Rattle.sk_base.proofs.Members.{contains_none, contains_head, contains_later,
 use Rattle.sk_family.specs.declared.Cluster.{Cluster}
 use Rattle.sk_family.specs.Clusters.{Clusters, IsSound, IsLive, initial_clusters, start_of, unnamed, whole_from}
 use Rattle.sk_family.proofs.Naming.{among_named}
-use Rattle.sk_family.proofs.Splits.{in_drop}
+use Rattle.sk_base.proofs.Splits.{in_drop}
 use Rattle.sk_family.proofs.Soundness.{sound_replaced}
 use Rattle.sk_rules.specs.declared.Merge.TheVariants.{Three}
 use Rattle.sk_rules.specs.Merges.{Holds as MergeHolds, merged}

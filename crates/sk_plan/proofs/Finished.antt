@@ -25,12 +25,13 @@ use Rattle.sk_family.proofs.Soundness.{sound_initial}
 use Rattle.sk_rules.specs.declared.Taken.{Taken}
 use Rattle.sk_rules.specs.Merges.{names_of, merged}
 use Rattle.sk_rules.specs.Reach.{AreAmong, Step, Reach, IsClosed, IsNormal}
-use Rattle.sk_family.specs.Sharing.{is_elem}
+use Rattle.sk_base.specs.Numbering.{is_elem}
 use Rattle.sk_rules.specs.Excess.{held, OwnsEnough}
 use Rattle.sk_rules.specs.Taking.{Leads}
 use Rattle.sk_rules.proofs.Families.{kept_along}
 use Rattle.sk_rules.proofs.NormalForm.{reach_covers}
-use Rattle.sk_rules.proofs.Counting.{IsTight, owned_is_held, reached_tight, found_elem}
+use Rattle.sk_rules.proofs.Counting.{IsTight, owned_is_held, reached_tight}
+use Rattle.sk_base.proofs.Numbers.{found_elem}
 use Rattle.sk_tree.specs.declared.Tree.{Tree}
 use Rattle.sk_tree.specs.Trees.{IsTreeOf}
 use Rattle.sk_tree.specs.LegalPlan.{numbers_of, HasNodes}

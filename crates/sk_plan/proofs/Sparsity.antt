@@ -14,10 +14,11 @@ use Rattle.sk_family.specs.Body.{Body, join_all, starting, initial_bodies}
 use Rattle.sk_base.proofs.Members.{contains_none, contains_head, contains_later, contains_one, contains_cases, mapped_from}
 use Rattle.sk_family.proofs.Bodies.{each_within, owner_of}
 use Rattle.sk_rules.specs.Reach.{Reach, stays, goes, IsNormal}
-use Rattle.sk_family.specs.Sharing.{is_elem}
+use Rattle.sk_base.specs.Numbering.{is_elem}
 use Rattle.sk_rules.specs.Excess.{is_inside, held}
 use Rattle.sk_rules.proofs.Families.{edge_at}
-use Rattle.sk_rules.proofs.Counting.{elem_found, found_elem, both_true, ends_in, inside_owned}
+use Rattle.sk_rules.proofs.Counting.{both_true, ends_in, inside_owned}
+use Rattle.sk_base.proofs.Numbers.{elem_found, found_elem}
 use Rattle.sk_tree.specs.Meeting.{MeetsOnce}
 use Rattle.sk_plan.specs.Sparse.{AreDistinct, AreIn, AreLines, AreThreeMeetingOnce, EachMeetsOnce, HoldsNoneTooMany, IsSparse, HasFewAngles, IsSparseAmong, HasFewAnglesAmong}
 use Rattle.sk_plan.proofs.Counts.{both, count_within, count_spread, count_two, count_three, count_single, count_has_two}

@@ -10,8 +10,8 @@ ghost use Rattle.sk_tree.specs.LegalPlan.{taken_told, IsKept};
 ghost use Rattle.sk_plan.specs.Runs.{TakesOnce};
 ghost use Rattle.sk_choice.specs.DrawnChoice.{AreDrawn, HasDrawnChoice};
 
-use sk_choice::choice_of;
 use sk_base::{Name, Sketch};
+use sk_choice::choice_of;
 use sk_family::Family;
 use sk_rules::{Merge, Taken};
 use sk_tree::PlanStep;

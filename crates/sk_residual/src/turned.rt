@@ -3,7 +3,8 @@ ghost use Rattle.std.specs.Prelude.{◌≡◌, ◌≢◌, ◌↔◌, not, List, 
 ghost use Rattle.sk_base.specs.declared.Constraint.{Constraint as OfConstraint};
 ghost use Rattle.sk_base.specs.Drawn.{shape_of, IsLine, HasCentre};
 ghost use Rattle.sk_base.specs.SoundSketch.{IsSoundSketch, IsSoundRule, IsSoundRatio};
-ghost use Rattle.sk_graph.specs.SketchGraph.{graph_of, drawn_as, is_line};
+ghost use Rattle.sk_graph.specs.SketchGraph.{graph_of, drawn_as};
+ghost use Rattle.sk_base.specs.Drawn.{is_line};
 ghost use Rattle.sk_tree.specs.declared.PlanStep.{PlanStep as OfStep};
 ghost use Rattle.sk_tree.specs.ByNumber.{by_number};
 ghost use Rattle.sk_tree.specs.LegalPlan.{IsLegalPlan};
@@ -13,7 +14,7 @@ ghost use Rattle.sk_residual.specs.Turns.{senses, turn, advance, choices, angle_
 ghost use Rattle.sk_residual.specs.Telling.{IsDrawnPoint, IsDrawnLine, HasCorners, IsCompared};
 
 use crate::place::{place, shape};
-use sk_base::{ConId, Constraint, Elem, Name, Placed, Ratio, Rule, Shape, Sign, Sketch};
+use sk_base::{ConId, Constraint, Elem, Name, Placed, Ratio, Rule, Sign, Sketch};
 use sk_orient::{
     advance_drawn, advance_placed, sense_drawn, sense_placed, turn_drawn, turn_placed,
 };
@@ -148,7 +149,7 @@ fn is_line(s: &Sketch, e: Elem) -> bool
     ensures line { IsTrue result ↔ IsLine (drawn_as s.now e) }
     ensures centre { IsTrue (not result) ↔ HasCentre (drawn_as s.now e) }
 {
-    matches!(shape(s, e), Shape::Line { .. })
+    shape(s, e).is_line()
 }
 
 /// The sense of the angle from one line to another.

@@ -19,7 +19,8 @@ use Rattle.sk_family.proofs.Bodies.{each_within, owner_of}
 use Rattle.sk_base.proofs.Sizes.{union_shares_one, union_shares_two, union_apart, union_at_most}
 use Rattle.sk_rules.specs.Reach.{CanMerge, Step, Reach, IsNormal}
 use Rattle.sk_rules.specs.Excess.{is_inside, held, OwnsEnough}
-use Rattle.sk_family.specs.Sharing.{is_elem}
+use Rattle.sk_base.specs.Numbering.{is_elem}
+use Rattle.sk_base.proofs.Numbers.{elem_found, found_elem}
 use Rattle.sk_rules.proofs.Families.{IsFamily, step_family, initial_family, kept_along}
 use Rattle.sk_rules.proofs.NormalForm.{reach_covers, one_of_two}
 
@@ -131,26 +132,6 @@ inside_owned g f ends normal x x_in e e_in u_in v_in =
       },
     ) in
     subst (λ (z : Body). Contains z.owned e.id) (sym same) (around.2.owned e.id (contains_head e.id []))
-
-pub elem_found : (xs : List Elem) (x : Elem) → is_elem xs x ≡ true → Contains xs x
-elem_found [] x h = absurd (cc)
-elem_found (y ∷ ys) x h = told (y.0 == x.0) refl h (elem_found ys x)
-  where
-    told : (b : Bool) → (y.0 == x.0) ≡ b → (b || is_elem ys x) ≡ true → (is_elem ys x ≡ true → Contains ys x) → Contains (y ∷ ys) x
-    told true is h rest = (let same : y.0 ≡ x.0 = grind (arith, nat_tests) in subst (λ z. Contains (y ∷ ys) z) (elem_exact y x same) (contains_head y ys))
-    told false is h rest = contains_later y ys x (rest h)
-
-pub found_elem : (xs : List Elem) (x : Elem) → Contains xs x → is_elem xs x ≡ true
-found_elem [] x h = absurd (contains_none x h)
-found_elem (y ∷ ys) x h =
-    elim (contains_cases y ys x h) [
-      | inl here ↦ subst (λ (z : Elem). ((y.0 == z.0) || is_elem ys z) ≡ true) here (let itself : (y.0 == y.0) ≡ true = grind (arith, nat_tests) in ap (λ b. b || is_elem ys y) itself)
-      | inr later ↦ told (y.0 == x.0) (found_elem ys x later)
-    ]
-  where
-    told : (b : Bool) → is_elem ys x ≡ true → (b || is_elem ys x) ≡ true
-    told true h = refl
-    told false h = h
 
 pub both_true : (a b : Bool) → (a && b) ≡ true → (a ≡ true) × (b ≡ true)
 both_true true b h = (refl, h)

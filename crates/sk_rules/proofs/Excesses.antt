@@ -13,12 +13,14 @@ use Rattle.sk_base.proofs.Pairs.{pairs_filter}
 use Rattle.sk_base.proofs.Unions.{rising_union, rising_same, union_left, union_right, union_cases}
 use Rattle.sk_base.proofs.Sizes.{union_apart}
 use Rattle.sk_family.specs.Body.{Body, join, join_all, initial_bodies}
-use Rattle.sk_family.specs.Sharing.{is_elem, shared}
+use Rattle.sk_family.specs.Sharing.{shared}
+use Rattle.sk_base.specs.Numbering.{is_elem}
 use Rattle.sk_rules.specs.Reach.{Reach}
 use Rattle.sk_rules.specs.Excess.{excess_of, shared_by_two, shared_by_three}
 use Rattle.sk_rules.proofs.Families.{IsFamily}
 use Rattle.sk_rules.proofs.NormalForm.{reached_family}
-use Rattle.sk_rules.proofs.Counting.{owned_apart, elem_found, found_elem}
+use Rattle.sk_rules.proofs.Counting.{owned_apart}
+use Rattle.sk_base.proofs.Numbers.{elem_found, found_elem}
 
 not_there : (b : Bool) → not b ≡ true → b ≡ true → ⊥
 not_there true h t = absurd (cc)

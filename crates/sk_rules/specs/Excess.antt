@@ -4,7 +4,8 @@ use Rattle.sk_base.specs.declared.Elem.{Elem}
 use Rattle.sk_base.specs.declared.Edge.{Edge}
 use Rattle.sk_base.specs.declared.Graph.{Graph}
 use Rattle.sk_family.specs.Body.{Body, join}
-use Rattle.sk_family.specs.Sharing.{is_elem, shared}
+use Rattle.sk_family.specs.Sharing.{shared}
+use Rattle.sk_base.specs.Numbering.{is_elem}
 
 -- whether both ends are among the elements
 abbrev pub is_inside : List Elem → Edge → Bool

@@ -26,7 +26,7 @@ fn least_shared(xs: &[Elem], ys: &[Elem]) -> Option<Elem>
     ensures least { IfSome result (λ a. (e : Element) → IsShared xs.now ys.now e → a.0 ≤ e.0) }
 {
     for a in xs {
-        if is_in(*a, ys) {
+        if a.is_among(ys) {
             return Some(*a);
         }
     }
@@ -91,7 +91,7 @@ fn rest_of_triangle(
     ensures least_second { IfSome result (λ t. (q r : Element) → IsTriangle graph.now xs.now ys.now zs.now a q r → t.0.0 ≤ q.0) }
     ensures least_third { IfSome result (λ t. (r : Element) → IsTriangle graph.now xs.now ys.now zs.now a t.0 r → t.1.0 ≤ r.0) }
 {
-    if !is_in(a, ys) {
+    if !a.is_among(ys) {
         return None;
     }
     for b in ys {
@@ -116,7 +116,7 @@ fn third_corner(
     ensures triangle { IfSome result (IsTriangle graph.now xs.now ys.now zs.now a b) }
     ensures least { IfSome result (λ c. (r : Element) → IsTriangle graph.now xs.now ys.now zs.now a b r → c.0 ≤ r.0) }
 {
-    if !is_in(b, zs) {
+    if !b.is_among(zs) {
         return None;
     }
     for c in zs {
@@ -146,17 +146,11 @@ fn is_triangle(
         && !are_lines(graph, a, b, c)
 }
 
-fn is_in(elem: Elem, xs: &[Elem]) -> bool
-    ensures { IsTrue result ↔ Contains xs.now elem }
-{
-    xs.contains(&elem)
-}
-
 /// Whether the element is in both.
 fn is_shared(elem: Elem, xs: &[Elem], ys: &[Elem]) -> bool
     ensures { IsTrue result ↔ IsShared xs.now ys.now elem }
 {
-    xs.contains(&elem) && ys.contains(&elem)
+    elem.is_among(xs) && elem.is_among(ys)
 }
 
 fn are_different(a: Elem, b: Elem, c: Elem) -> bool

@@ -30,7 +30,7 @@ use Rattle.sk_session.specs.declared.edit.Edit.TheVariants as edit
 use Rattle.sk_session.specs.Edits.{applied, changed, with_length, with_ratio, element_number, constraint_number}
 use Rattle.sk_session.specs.Changes.{without}
 use Rattle.sk_session.specs.Making.{IsPossible, IsUnused}
-use Rattle.sk_session.proofs.Places.{other_passes}
+use Rattle.sk_base.proofs.Numbers.{other_passes}
 
 -- both elements of the rule are drawn alike in the two sketches
 pub record DrawnAlike (s t : Sketch) (r : Rule) : Type 0 where

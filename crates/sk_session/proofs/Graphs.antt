@@ -28,14 +28,15 @@ use Rattle.sk_rules.specs.Rules.{IsLine}
 use Rattle.sk_rules.specs.Keeping.{HasOneMore, HasAllBut, KeepsKinds}
 use Rattle.sk_rules.proofs.Families.{edge_at}
 use Rattle.sk_orient.specs.DrawnSigns.{side_drawn}
-use Rattle.sk_graph.specs.SketchGraph.{node_of, is_line, first_of, second_of, edge_of, edge_between, drawn_as, apart, beside, distance_edge, graph_of}
+use Rattle.sk_graph.specs.SketchGraph.{node_of, first_of, second_of, edge_of, edge_between, drawn_as, apart, beside, distance_edge, graph_of}
+use Rattle.sk_base.specs.Drawn.{is_line}
 use Rattle.sk_graph.proofs.Fittings.{rule_drawn}
 use Rattle.sk_graph.proofs.Soundness.{graph_is_sound, edge_id, drawn_in}
 use Rattle.sk_session.specs.declared.edit.Edit.{Edit}
 use Rattle.sk_session.specs.declared.edit.Edit.TheVariants as edit
 use Rattle.sk_session.specs.Edits.{applied, changed, with_length, with_ratio, element_number, constraint_number}
 use Rattle.sk_session.specs.Making.{IsPossible, IsUnused, HasConstraint, CanMake}
-use Rattle.sk_session.proofs.Places.{other_passes, passes_differ}
+use Rattle.sk_base.proofs.Numbers.{other_passes, passes_differ}
 use Rattle.sk_session.proofs.Drawing.{edge_alike, drawn_on, drawn_without}
 
 pub rises : (s : Sketch) → IsSoundSketch s → HasRisingEdges (graph_of s)

@@ -9,35 +9,14 @@ use Rattle.std.proofs.lemmas.List.Elements.{Contains-push, Contains-push_cases, 
 use Rattle.sk_base.proofs.Members.{contains_head, contains_later, contains_cases, contains_filtered, filtered_from}
 use Rattle.sk_base.proofs.Pairs.{pairs_tail, pairs_head, pairs_push, pairs_filter, pairs_same}
 use Rattle.sk_base.proofs.Unions.{which, rising_apart}
-use Rattle.sk_family.proofs.Splits.{in_inserted, pairs_inserted}
+use Rattle.sk_base.proofs.Filters.{filter_keeps}
+use Rattle.sk_base.proofs.Numbers.{other_passes, same_fails, passes_differ}
+use Rattle.sk_base.proofs.Splits.{taken_from, dropped_from, in_inserted, pairs_inserted}
 use Rattle.sk_session.specs.Changes.{HasItem, without, with_item}
-
-taken_from : {X : Type 0} (xs : List X) (i : ℕ) (x : X) → i ≤ length xs → Contains (take i xs) x → (k : ℕ) × (k < i) × (get_or xs k x ≡ x)
-taken_from xs i x i_in (k, below, is) = (let size = length-take i xs in let less : k < i = omega arith in (k, less, sym (get_or-take i xs k x less) ∙ is))
-
-dropped_from : {X : Type 0} (xs : List X) (i : ℕ) (x : X) → Contains (drop i xs) x → (k : ℕ) × (i ≤ k) × (k < length xs) × (get_or xs k x ≡ x)
-dropped_from xs i x (k, below, is) = (i + k, omega arith, let size = length-drop i xs in omega arith, sym (get_or-drop i xs k x) ∙ is)
-
-pub kept_all : {X : Type 0} (p : X → Bool) (xs : List X) → ((x : X) → Contains xs x → p x ≡ true) → filter p xs ≡ xs
-kept_all p [] passes = refl
-kept_all p (x ∷ xs) passes = rw (passes x (contains_head x xs)) (ap (λ ys. x ∷ ys) (kept_all p xs (λ y h. passes y (contains_later x xs y h))))
 
 pub same_all : {X : Type 0} (f : X → X) (xs : List X) → ((x : X) → Contains xs x → f x ≡ x) → map f xs ≡ xs
 same_all f [] same = refl
 same_all f (x ∷ xs) same = (let here = same x (contains_head x xs) in let rest = same_all f xs (λ y h. same y (contains_later x xs y h)) in cc)
-
-pub other_passes : (a b : ℕ) → a ≢ b → not (a == b) ≡ true
-other_passes a b differ = told (a == b) refl
-  where
-    told : (t : Bool) → (a == b) ≡ t → not t ≡ true
-    told true is = absurd (differ (grind (arith, nat_tests)))
-    told false is = refl
-
-pub same_fails : (a b : ℕ) → a ≡ b → not (a == b) ≡ false
-same_fails a b same = (let is : (a == b) ≡ true = grind (arith, nat_tests) in ap not is)
-
-pub passes_differ : (a b : ℕ) → not (a == b) ≡ true → a ≢ b
-passes_differ a b passes same = (let fails = same_fails a b same in let never : true ≡ false = sym passes ∙ fails in absurd (cc))
 
 module _ {X : Type 0} (number : X → ℕ) where
   -- the item at the place of the number, taken out
@@ -45,7 +24,7 @@ module _ {X : Type 0} (number : X → ℕ) where
   removed [] i n d rises i_in is = absurd (omega arith)
   removed (x ∷ xs) zero n d rises i_in is =
       rw (same_fails (number x) n is)
-      (sym (kept_all (λ y. not (number y == n)) xs (λ y y_in. other_passes (number y) n (λ same. (let less = pairs_head (λ a b. number a < number b) x xs rises y y_in in omega arith)))))
+      (sym (filter_keeps (λ y. not (number y == n)) xs (λ y y_in. other_passes (number y) n (λ same. (let less = pairs_head (λ a b. number a < number b) x xs rises y y_in in omega arith)))))
   removed (x ∷ xs) (suc i) n d rises i_in is =
       let less : number x < number (get_or xs i d) = pairs_head (λ a b. number a < number b) x xs rises (get_or xs i d) (i, omega arith, get_or_default xs i (get_or xs i d) d (omega arith)) in
       rw (other_passes (number x) n (λ same. omega arith))

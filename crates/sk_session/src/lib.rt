@@ -15,4 +15,3 @@ pub use edit::Edit;
 pub use law::{kept_along, refused_exactly, stays_sound};
 pub use reply::Reply;
 pub use session::Session;
-

@@ -12,7 +12,7 @@ use Rattle.sk_base.specs.Numbering.{con_number}
 use Rattle.sk_base.specs.Rising.{IsRising}
 use Rattle.sk_base.proofs.Members.{contains_head, mapped_from}
 use Rattle.sk_base.proofs.Pairs.{pairs_push}
-use Rattle.sk_family.proofs.Starting.{taken_from}
+use Rattle.sk_base.proofs.Splits.{taken_from}
 use Rattle.sk_family.specs.declared.Cluster.{Cluster}
 use Rattle.sk_family.specs.Body.{Body}
 use Rattle.sk_family.specs.Clusters.{Clusters, bodies, body_of}

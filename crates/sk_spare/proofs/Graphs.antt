@@ -13,51 +13,17 @@ use Rattle.sk_base.specs.declared.Elem.{Elem}
 use Rattle.sk_base.specs.SoundGraph.{IsSoundGraph, Measures}
 use Rattle.sk_base.specs.Numbering.{con_number, con_exact}
 use Rattle.sk_base.proofs.Members.{contains_none, contains_head, contains_later, contains_cases, contains_filtered, filtered_from}
+use Rattle.sk_base.proofs.Numbers.{other_passes, passes_differ, among_found, found_among}
 use Rattle.sk_base.proofs.Pairs.{pairs_filter}
 use Rattle.sk_rules.proofs.Counting.{both_true}
 use Rattle.sk_spare.specs.Sparing.{without}
 use Rattle.sk_spare.specs.Trying.{is_other, trial_graph}
 
--- numbers that differ pass the test, and no others
-other_number : (j k : ConId) → j ≢ k → not (j.0 == k.0) ≡ true
-other_number j k differ = told (j.0 == k.0) refl
-  where
-    told : (t : Bool) → (j.0 == k.0) ≡ t → not t ≡ true
-    told true is = absurd (differ (con_exact j k (grind (arith, nat_tests))))
-    told false is = refl
-
-number_differs : (j k : ConId) → not (j.0 == k.0) ≡ true → j ≢ k
-number_differs j k passes same =
-    let level : j.0 ≡ k.0 = ap con_number same in
-    let is : (j.0 == k.0) ≡ true = grind (arith, nat_tests) in
-    let never : false ≡ true = subst (λ t. not t ≡ true) is passes in absurd (cc)
-
--- a number is among some where the test says so
-among_found : (owned : List ConId) (k : ConId) → list_any (λ (j : ConId). j.0 == k.0) owned ≡ true → Contains owned k
-among_found [] k h = absurd (cc)
-among_found (j ∷ rest) k h = told (j.0 == k.0) refl h (among_found rest k)
-  where
-    told : (t : Bool) → (j.0 == k.0) ≡ t → (t || list_any (λ (i : ConId). i.0 == k.0) rest) ≡ true → (list_any (λ (i : ConId). i.0 == k.0) rest ≡ true → Contains rest k) → Contains (j ∷ rest) k
-    told true is h later = (let level : j.0 ≡ k.0 = grind (arith, nat_tests) in subst (λ z. Contains (j ∷ rest) z) (con_exact j k level) (contains_head j rest))
-    told false is h later = contains_later j rest k (later h)
-
-found_among : (owned : List ConId) (k : ConId) → Contains owned k → list_any (λ (j : ConId). j.0 == k.0) owned ≡ true
-found_among [] k h = absurd (contains_none k h)
-found_among (j ∷ rest) k h =
-    elim (contains_cases j rest k h) [
-      | inl here ↦ (let level : j.0 ≡ k.0 = ap con_number here in let is : (j.0 == k.0) ≡ true = grind (arith, nat_tests) in ap (λ t. t || list_any (λ (i : ConId). i.0 == k.0) rest) is)
-      | inr later ↦ told (j.0 == k.0) (found_among rest k later)
-    ]
-  where
-    told : (t : Bool) → list_any (λ (i : ConId). i.0 == k.0) rest ≡ true → (t || list_any (λ (i : ConId). i.0 == k.0) rest) ≡ true
-    told true h = refl
-    told false h = h
-
 module _ (g : Graph) (k : ConId) where
   pub in_without : (d : Edge) → Contains (without k g).edges d ↔ (Contains g.edges d × (d.id ≢ k))
   in_without d = (
-    (λ h. (let was = filtered_from (λ (e : Edge). not (e.id.0 == k.0)) g.edges d h in (was.0, number_differs d.id k was.1))),
-    (λ h. contains_filtered (λ (e : Edge). not (e.id.0 == k.0)) g.edges d h.0 (other_number d.id k h.1)),
+    (λ h. (let was = filtered_from (λ (e : Edge). not (e.id.0 == k.0)) g.edges d h in (was.0, λ same. passes_differ d.id.0 k.0 was.1 (ap con_number same)))),
+    (λ h. contains_filtered (λ (e : Edge). not (e.id.0 == k.0)) g.edges d h.0 (other_passes d.id.0 k.0 (λ same. h.1 (con_exact d.id k same)))),
   )
 
   pub in_trial : (owned : List ConId) (d : Edge) → Contains (trial_graph owned k g).edges d ↔ (Contains g.edges d × Contains owned d.id × (d.id ≢ k))
@@ -65,8 +31,8 @@ module _ (g : Graph) (k : ConId) where
     (λ h. (
         let was = filtered_from (is_other owned k) g.edges d h in
         let both = both_true (list_any (λ (j : ConId). j.0 == d.id.0) owned) (not (d.id.0 == k.0)) was.1 in
-        (was.0, among_found owned d.id both.0, number_differs d.id k both.1))),
-    (λ h. contains_filtered (is_other owned k) g.edges d h.0 (rw (found_among owned d.id h.1) (other_number d.id k h.2))),
+        (was.0, among_found con_number con_exact owned d.id both.0, λ same. passes_differ d.id.0 k.0 both.1 (ap con_number same)))),
+    (λ h. contains_filtered (is_other owned k) g.edges d h.0 (rw (found_among con_number owned d.id h.1) (other_passes d.id.0 k.0 (λ same. h.2 (con_exact d.id k same))))),
   )
 
 -- with some of its constraints a graph is sound

@@ -6,7 +6,7 @@ use Rattle.sk_base.specs.declared.ConId.{ConId}
 use Rattle.sk_base.specs.declared.Edge.{Edge}
 use Rattle.sk_base.specs.declared.Graph.{Graph}
 use Rattle.sk_family.specs.declared.Cluster.{Cluster}
-use Rattle.sk_family.specs.Sharing.{is_elem}
+use Rattle.sk_base.specs.Numbering.{is_elem}
 
 -- whether the constraint is one of these, and not the one of that number
 abbrev pub is_other : List ConId → ConId → Edge → Bool

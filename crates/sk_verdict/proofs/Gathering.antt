@@ -8,7 +8,7 @@ use Rattle.sk_base.specs.declared.Node.{Node}
 use Rattle.sk_base.specs.declared.Graph.{Graph}
 use Rattle.sk_base.proofs.Members.{contains_head, contains_mapped, mapped_from}
 use Rattle.sk_family.specs.declared.Cluster.{Cluster}
-use Rattle.sk_family.proofs.Splits.{pairs_across}
+use Rattle.sk_base.proofs.Splits.{pairs_across}
 use Rattle.sk_verdict.specs.declared.part.Part.{Part}
 use Rattle.sk_verdict.specs.Ordering.{AreInOrder}
 use Rattle.sk_verdict.specs.Parts.{IsNamedByNone, elem_of, part_with}

@@ -20,7 +20,7 @@ use Rattle.sk_verdict.specs.Ordering.{PartBefore}
 use Rattle.sk_verdict.specs.Parts.{IsPart, part_with}
 use Rattle.sk_verdict.specs.Building.{AreOfClusters, AddsLone, HasNoSingle, elements_of}
 use Rattle.sk_verdict.specs.Judging.{IsJudgement, IsOver, some_over, verdict_on}
-use Rattle.sk_verdict.proofs.ListOrder.{before_irreflexive, before_asymmetric}
+use Rattle.sk_base.proofs.ListOrder.{before_irreflexive, before_asymmetric}
 use Rattle.sk_verdict.proofs.Normals.{holds_enough, more_than_one}
 
 module _ (g : Graph) (f : Clusters) where

@@ -6,10 +6,11 @@ use Rattle.std.proofs.lemmas.List.Elements.{Contains-push_cases}
 use Rattle.sk_base.specs.declared.Elem.{Elem}
 use Rattle.sk_base.proofs.Members.{contains_cases}
 use Rattle.sk_base.proofs.Pairs.{pairs_head}
-use Rattle.sk_family.proofs.Splits.{in_drop, pairs_drop, pairs_inserted}
+use Rattle.sk_base.proofs.Splits.{in_drop, pairs_drop, pairs_inserted}
 use Rattle.sk_verdict.specs.declared.part.Part.{Part}
-use Rattle.sk_verdict.specs.Ordering.{ElementsBefore, PartBefore, AreInOrder}
-use Rattle.sk_verdict.proofs.ListOrder.{before_chain, before_unless}
+use Rattle.sk_verdict.specs.Ordering.{PartBefore, AreInOrder}
+use Rattle.sk_base.specs.ElementOrder.{ElementsBefore}
+use Rattle.sk_base.proofs.ListOrder.{before_chain, before_unless}
 
 module _ (parts : List Part) (elements : List Elem) where
   -- where the one at a place does not come before, none from there on does

@@ -2,10 +2,11 @@
 ghost use Rattle.std.specs.Prelude.{◌≡◌, ◌≢◌, ◌↔◌, ◌⊎◌, ◌≤◌, ◌<◌, ℕ, length, slice_get, OnOk, IsTrue, Some, Contains, take, drop};
 ghost use Rattle.sk_base.specs.declared.Elem.{Elem as Element};
 ghost use Rattle.sk_verdict.specs.declared.part.Part.{Part as ThePart};
-ghost use Rattle.sk_verdict.specs.Ordering.{ElementsBefore, PartBefore, AreInOrder};
+ghost use Rattle.sk_verdict.specs.Ordering.{PartBefore, AreInOrder};
+ghost use Rattle.sk_base.specs.ElementOrder.{ElementsBefore};
 
 use crate::part::Part;
-use sk_base::{Elem, List, NoMemory};
+use sk_base::{Elem, List, NoMemory, comes_before};
 
 /// Puts a part at its place. No other part has its elements.
 pub(crate) fn put(parts: &mut List<Part>, part: Part) -> Result<(), NoMemory>
@@ -31,11 +32,4 @@ fn place_of(parts: &[Part], elements: &[Elem]) -> usize
         }
     }
     parts.len()
-}
-
-/// Whether the one list comes before the other, compared place by place.
-fn comes_before(xs: &[Elem], ys: &[Elem]) -> bool
-    ensures { IsTrue result ↔ ElementsBefore xs.now ys.now }
-{
-    xs.cmp(&ys).is_lt()
 }

@@ -5,7 +5,7 @@ use Rattle.std.proofs.lemmas.List.{take_all, take_more}
 use Rattle.std.proofs.lemmas.List.Elements.{Contains-append_left, Contains-append_right, Contains-append_cases, Contains-get_or}
 use Rattle.sk_base.proofs.Members.{contains_head, contains_one, contains_cases}
 use Rattle.sk_base.proofs.Pairs.{pairs_head}
-use Rattle.sk_family.proofs.Splits.{in_either, pairs_across, pairs_drop}
+use Rattle.sk_base.proofs.Splits.{in_either, pairs_across, pairs_drop}
 
 module _ {X : Type 0} (xs : List X) (i : ℕ) (d : X) (i_in : i < length xs) where
   split : take (i + 1) xs ≡ take i xs ++ get_or xs i d ∷ []

@@ -9,8 +9,8 @@ use Rattle.sk_base.specs.declared.Graph.{Graph}
 use Rattle.sk_base.specs.ClusterNames.{IsBelow, is_named, name_eq}
 use Rattle.sk_family.specs.declared.Cluster.{Cluster}
 use Rattle.sk_family.specs.Clusters.{Clusters, IsNamed, IsSound, replaced}
-use Rattle.sk_family.proofs.Splits.{pairs_append}
-use Rattle.sk_family.proofs.Taking.{filter_both, neither}
+use Rattle.sk_base.proofs.Splits.{pairs_append}
+use Rattle.sk_base.proofs.Filters.{filter_both, neither}
 use Rattle.sk_family.proofs.Naming.{among_named, named_among}
 use Rattle.sk_family.proofs.Soundness.{below_next}
 use Rattle.sk_rules.specs.declared.Merge.{Merge}

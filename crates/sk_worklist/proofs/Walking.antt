@@ -12,7 +12,7 @@ use Rattle.std.proofs.lemmas.Option.{slice_get-get_or}
 use Rattle.sk_family.specs.declared.Cluster.{Cluster}
 use Rattle.sk_family.proofs.Halving.{HoldsInFront}
 use Rattle.sk_family.proofs.Naming.{below_chain, below_irreflexive, among_named, named_among}
-use Rattle.sk_family.proofs.Splits.{in_take, in_either, pairs_drop}
+use Rattle.sk_base.proofs.Splits.{in_take, in_either, pairs_drop}
 use Rattle.sk_rules.specs.declared.Merge.{Merge}
 use Rattle.sk_worklist.specs.declared.index.Index.{Index}
 use Rattle.sk_worklist.specs.Gather.{FromSome}

@@ -8,7 +8,8 @@ use Rattle.sk_base.specs.ClusterNames.{is_named}
 use Rattle.sk_base.proofs.Pairs.{pairs_push, pairs_filter}
 use Rattle.sk_family.specs.declared.cluster.Cluster.{Cluster}
 use Rattle.sk_family.specs.Clusters.{ByName, unnamed}
-use Rattle.sk_family.proofs.Taking.{filter_keeps, unnamed_more}
+use Rattle.sk_family.proofs.Taking.{unnamed_more}
+use Rattle.sk_base.proofs.Filters.{filter_keeps}
 use Rattle.sk_family.proofs.family.put_in_place.Goals as goal
 
 pub loop-name-init : goal.loop-name-init

@@ -1,6 +1,6 @@
 use Rattle.std.proofs.Common.{refl, sym, subst}
 use Rattle.sk_base.proofs.Searches.{refused}
-use Rattle.sk_verdict.specs.Ordering.{ElementsBefore}
+use Rattle.sk_base.specs.ElementOrder.{ElementsBefore}
 use Rattle.sk_verdict.proofs.Placing.{none_after, before_more}
 use Rattle.sk_verdict.proofs.store.place_of.Goals as goal
 

@@ -2,9 +2,10 @@ use Rattle.std.proofs.Common.{sym, subst, ◌≡◌, List, ◌⊎◌}
 use Rattle.std.specs.Prelude.{Contains, ◌↔◌, take, drop}
 use Rattle.sk_base.proofs.Searches.{on_ok}
 use Rattle.sk_base.specs.declared.Elem.{Elem}
-use Rattle.sk_family.proofs.Splits.{in_inserted}
+use Rattle.sk_base.proofs.Splits.{in_inserted}
 use Rattle.sk_verdict.specs.declared.part.Part.{Part}
-use Rattle.sk_verdict.specs.Ordering.{ElementsBefore, AreInOrder}
+use Rattle.sk_verdict.specs.Ordering.{AreInOrder}
+use Rattle.sk_base.specs.ElementOrder.{ElementsBefore}
 use Rattle.sk_verdict.proofs.Placing.{placed}
 use Rattle.sk_verdict.proofs.store.put.Goals as goal
 

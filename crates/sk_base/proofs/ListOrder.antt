@@ -1,15 +1,15 @@
 -- The order of lists of elements.
 use Rattle.std.proofs.Common.{◌≡◌, ◌≢◌, ◌⊎◌, inl, inr, refl, ◌<◌, List, [], ◌∷◌, ap, sym, ◌∙◌, arith}
-use Rattle.std.specs.Prelude.{ℕ, true}
+use Rattle.std.specs.Prelude.{ℕ, Bool, true, false, nat_lt, ◌==◌, ◌||◌, ◌&&◌}
 use Rattle.std.specs.declared.cmp.Ordering.{Ordering}
 use Rattle.std.specs.declared.cmp.Ordering.TheVariants.{Less, Equal, Greater}
 use Rattle.std.specs.Ordering.{ordering_then, nat_cmp, is_lt}
 use Rattle.std.specs.Cmp.Lexicographic.{slice_cmp}
 use Rattle.std.proofs.lemmas.Bool.Decides.{nat_tests}
-use Rattle.sk_base.specs.declared.Elem.{Elem}
+use Rattle.sk_base.specs.declared.numbered.Elem.{Elem}
 use Rattle.sk_base.specs.Numbering.{elem_exact}
 use Rattle.sk_base.proofs.Unions.{which}
-use Rattle.sk_verdict.specs.Ordering.{ElementsBefore}
+use Rattle.sk_base.specs.ElementOrder.{ElementsBefore, comes_before}
 
 pub before_irreflexive : (xs : List Elem) → ¬ ElementsBefore xs xs
 before_irreflexive [] h = h
@@ -76,6 +76,16 @@ lt_is_less Less h = refl
 lt_is_less Equal h = absurd (cc)
 lt_is_less Greater h = absurd (cc)
 
+same_first : (x y : ℕ) (b : Bool) → x ≡ y → b ≡ (nat_lt x y || ((x == y) && b))
+same_first x y true level = grind (arith, nat_tests)
+same_first x y false level = grind (arith, nat_tests)
+
+later_first : (x y : ℕ) (b : Bool) → y < x → false ≡ (nat_lt x y || ((x == y) && b))
+later_first x y b more = grind (arith, nat_tests)
+
+lesser_first : (x y : ℕ) (b : Bool) → x < y → (nat_lt x y || ((x == y) && b)) ≡ true
+lesser_first x y b less = grind (arith, nat_tests)
+
 -- what std compares as less comes before
 module _ (R : Elem → Elem → Ordering) (numbers : (x y : Elem) → R x y ≡ nat_cmp x.0 y.0) where
   pub less_is_before : (xs ys : List Elem) → slice_cmp R xs ys ≡ Less → ElementsBefore xs ys
@@ -94,3 +104,22 @@ module _ (R : Elem → Elem → Ordering) (numbers : (x y : Elem) → R x y ≡ 
   before_is_less (x ∷ xs) [] h = absurd h
   before_is_less (x ∷ xs) (y ∷ ys) (inl less) = rw numbers (less_then x.0 y.0 (slice_cmp R xs ys) less)
   before_is_less (x ∷ xs) (y ∷ ys) (inr (same, rest)) = rw numbers (level_then x.0 y.0 (slice_cmp R xs ys) (ap (λ (e : Elem). e.0) same) (before_is_less xs ys rest))
+
+-- the computed order is the order
+pub computed_before : (xs ys : List Elem) → comes_before xs ys ≡ true → ElementsBefore xs ys
+computed_before [] [] h = absurd (cc)
+computed_before [] (y ∷ ys) h = tt
+computed_before (x ∷ xs) [] h = absurd (cc)
+computed_before (x ∷ xs) (y ∷ ys) h =
+    elim (which x.0 y.0) [
+      | inl less ↦ inl less
+      | inr (inl level) ↦ inr (elem_exact x y level, computed_before xs ys (same_first x.0 y.0 (comes_before xs ys) level ∙ h))
+      | inr (inr more) ↦ absurd (let never = later_first x.0 y.0 (comes_before xs ys) more ∙ h in cc)
+    ]
+
+pub before_computed : (xs ys : List Elem) → ElementsBefore xs ys → comes_before xs ys ≡ true
+before_computed [] [] h = absurd h
+before_computed [] (y ∷ ys) h = refl
+before_computed (x ∷ xs) [] h = absurd h
+before_computed (x ∷ xs) (y ∷ ys) (inl less) = lesser_first x.0 y.0 (comes_before xs ys) less
+before_computed (x ∷ xs) (y ∷ ys) (inr (same, rest)) = sym (same_first x.0 y.0 (comes_before xs ys) (ap (λ (e : Elem). e.0) same)) ∙ before_computed xs ys rest

@@ -1,7 +1,7 @@
 -- Lists in front of a place, from it on, and one behind the other.
-use Rattle.std.proofs.Common.{◌≡◌, ◌⊎◌, inl, inr, ℕ, zero, suc, List, [], ◌∷◌, ◌++◌, subst, sym, take, drop}
+use Rattle.std.proofs.Common.{◌≡◌, ◌⊎◌, ◌∙◌, inl, inr, ℕ, zero, suc, ◌+◌, ◌<◌, ◌≤◌, List, [], ◌∷◌, ◌++◌, length, get_or, subst, sym, take, drop, arith}
 use Rattle.std.specs.Prelude.{Contains, AllPairs, insert, ◌↔◌}
-use Rattle.std.proofs.lemmas.List.{take-append-drop}
+use Rattle.std.proofs.lemmas.List.{take-append-drop, length-take, length-drop, get_or-take, get_or-drop}
 use Rattle.std.proofs.lemmas.List.Elements.{Contains-append_cases, Contains-append_left, Contains-append_right}
 use Rattle.sk_base.proofs.Members.{contains_none, contains_head, contains_later, contains_cases}
 use Rattle.sk_base.proofs.Pairs.{pairs_none, pairs_tail, pairs_head, pairs_cons}
@@ -12,6 +12,14 @@ module _ {X : Type 0} where
 
   pub in_drop : (i : ℕ) (xs : List X) (x : X) → Contains (drop i xs) x → Contains xs x
   in_drop i xs x h = subst (λ ys. Contains ys x) (take-append-drop i xs) (Contains-append_right (take i xs) (drop i xs) x h)
+
+  -- where an item in front of a place stands
+  pub taken_from : (xs : List X) (i : ℕ) (x : X) → i ≤ length xs → Contains (take i xs) x → (k : ℕ) × (k < i) × (get_or xs k x ≡ x)
+  taken_from xs i x i_in (k, below, is) = (let size = length-take i xs in let less : k < i = omega arith in (k, less, sym (get_or-take i xs k x less) ∙ is))
+
+  -- where an item from a place on stands
+  pub dropped_from : (xs : List X) (i : ℕ) (x : X) → Contains (drop i xs) x → (k : ℕ) × (i ≤ k) × (k < length xs) × (get_or xs k x ≡ x)
+  dropped_from xs i x (k, below, is) = (i + k, omega arith, let size = length-drop i xs in omega arith, sym (get_or-drop i xs k x) ∙ is)
 
   -- what is in a list is in front of a place, or not
   pub in_either : (i : ℕ) (xs : List X) (x : X) → Contains xs x → Contains (take i xs) x ⊎ Contains (drop i xs) x
