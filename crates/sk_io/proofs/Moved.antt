@@ -1,6 +1,6 @@
 -- What several calls move, one after another.
 use Rattle.std.proofs.Common.{◌≡◌, ℕ, ◌+◌, ◌-◌, List, ◌++◌, length, take, drop, arith, None, Some, Option, sym, ap, ◌∙◌}
-use Rattle.std.proofs.lemmas.List.{append_assoc, take-append-drop, drop-take, take-take, take_rest}
+use Rattle.std.proofs.lemmas.List.{append_assoc, take-append-drop, drop-take, drop-drop, take-take, take_rest}
 use Rattle.std.specs.Io.KnownBytes.{Appends, Consumes}
 
 -- what two calls append
@@ -26,3 +26,7 @@ pub next_front : (a b c : Option (List ℕ)) (xs : List ℕ) (d n : ℕ) → App
 next_front a b c xs d n one two =
     let rest = rw (take_rest xs d) at two in
     rw (← parts_of_front xs d n) (Appends-more a b c (take d xs) (take n (drop d xs)) one rest)
+
+-- what a read from a place on has taken off
+pub read_on : (bytes piece : List ℕ) (at n : ℕ) → take n piece ≡ take n (take (length bytes - at) (drop at bytes)) → drop at bytes ≡ take n piece ++ drop (at + n) bytes
+read_on bytes piece at n front = rw (front, take_rest, ← drop-drop n at bytes) (sym (take-append-drop n (drop at bytes)))

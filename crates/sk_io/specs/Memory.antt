@@ -1,5 +1,5 @@
 -- A source and a sink in memory, as their contracts see them.
-use Rattle.std.specs.Prelude.{ℕ, ◌+◌, ◌-◌, min, List, [], ◌∷◌, length}
+use Rattle.std.specs.Prelude.{◌≡◌, ℕ, ◌+◌, ◌-◌, min, List, [], ◌∷◌, length, filter, nat_le}
 use Rattle.sk_io.specs.declared.fault.TheConstants.{LAST_COUNT}
 
 -- a number of calls or faults, one later; at its last value it stays
@@ -26,10 +26,19 @@ pub record Store : Type 0 where
   pub calls : ℕ
   pub faults : ℕ
 
--- so many bytes are taken without a fault: the room that is left where no call is to fail
-abbrev pub room_if_sure : List ℕ → ℕ → ℕ
-room_if_sure [] room = room
-room_if_sure (f ∷ fails) room = 0
+-- the numbers of failing calls that are still to come: those from the next call's number on
+abbrev pub to_come : ℕ → List ℕ → List ℕ
+to_come calls fails = filter (λ number. nat_le (one_later calls) number) fails
 
+-- no read from here on fails
+abbrev pub IsSure : Stream → Type 0
+IsSure s = to_come s.calls s.fails ≡ []
+
+-- the room that is left where no failing call is still to come, else none
+abbrev pub room_if_none : List ℕ → ℕ → ℕ
+room_if_none [] room = room
+room_if_none (number ∷ numbers) room = 0
+
+-- so many bytes are taken without a fault
 abbrev pub sure_room : Store → ℕ
-sure_room s = room_if_sure s.fails (s.room - length s.written)
+sure_room s = room_if_none (to_come s.calls s.fails) (s.room - length s.written)

@@ -13,9 +13,9 @@ abbrev pub TakesUpTo : ℕ → Option (List ℕ) → Option (List ℕ) → List 
 TakesUpTo most None new text = ⊤
 TakesUpTo most (Some bytes) new text = (text ≡ take most bytes) × (new ≡ Some (drop most bytes))
 
--- some front of what a source had left is taken off
-abbrev pub TakesSome : Option (List ℕ) → Option (List ℕ) → Type 0
-TakesSome old new = (bytes : List ℕ) × Consumes old new bytes
+-- at most so many bytes of the front of what a source had left are taken off
+abbrev pub TakesAtMost : ℕ → Option (List ℕ) → Option (List ℕ) → Type 0
+TakesAtMost most old new = (bytes : List ℕ) × (length bytes ≤ most) × Consumes old new bytes
 
 -- a front of the bytes was appended
 abbrev pub AppendsFront : Option (List ℕ) → Option (List ℕ) → List ℕ → Type 0

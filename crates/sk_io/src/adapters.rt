@@ -1,6 +1,6 @@
-ghost use Rattle.std.specs.Prelude.{◌≡◌, None, is_err, if◌then◌else◌};
+ghost use Rattle.std.specs.Prelude.{◌≡◌, None, is_err, IsErr, if◌then◌else◌};
 ghost use Rattle.std.specs.Io.{ReadsAtMost};
-ghost use Rattle.sk_io.specs.Causes.{HasCause};
+ghost use Rattle.sk_io.specs.Causes.{AnswersFault};
 ghost use Rattle.sk_io.specs.Transfer.{WritesSome};
 ghost use Rattle.sk_io.specs.Memory.{one_later};
 
@@ -42,7 +42,7 @@ impl<R: Read> Source for StdSource<R> {
 
     fn read(&mut self, buf: &mut [u8]) -> Result<usize, Failed>
         ensures bound { ReadsAtMost result buf.new }
-        ensures cause { HasCause self.old self.new result }
+        ensures fault { AnswersFault (IsErr result) self.old self.new }
         ensures counted { self.new ≡ (if is_err result then one_later self.old else self.old) }
     {
         match self.inner.read(buf) {
@@ -88,7 +88,7 @@ impl<W: Write> Sink for StdSink<W> {
 
     fn write(&mut self, piece: &[u8]) -> Result<usize, Failed>
         ensures bound { WritesSome result piece.now }
-        ensures cause { HasCause self.old self.new result }
+        ensures fault { AnswersFault (IsErr result) self.old self.new }
         ensures counted { self.new ≡ (if is_err result then one_later self.old else self.old) }
     {
         if piece.is_empty() {

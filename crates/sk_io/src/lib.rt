@@ -3,6 +3,7 @@
 #![tactic(auto)]
 
 mod adapters;
+mod calls;
 mod fault;
 mod mem_sink;
 mod mem_source;

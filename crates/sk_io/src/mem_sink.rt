@@ -1,9 +1,10 @@
 ghost use Rattle.std.specs.Prelude.{◌≡◌, ◌<◌, ◌≤◌, ◌-◌, ◌+◌, ◌↔◌, ◌⊎◌, [], length, min, is_err, if◌then◌else◌, Some, IfOk, IsOk, IsErr, Contains};
 ghost use Rattle.std.specs.Io.KnownBytes.{WriteAppends};
-ghost use Rattle.sk_io.specs.Causes.{HasCause};
+ghost use Rattle.sk_io.specs.Causes.{AnswersFault};
 ghost use Rattle.sk_io.specs.Transfer.{WritesSome};
 ghost use Rattle.sk_io.specs.Memory.{one_later, calls_after, sure_room};
 
+use crate::calls::is_listed;
 use crate::fault::Failed;
 use crate::sink::Sink;
 use sk_base::{List, NoMemory};
@@ -67,7 +68,7 @@ impl Sink for MemSink {
     fn write(&mut self, piece: &[u8]) -> Result<usize, Failed>
         ensures bound { WritesSome result piece.now }
         ensures bytes { WriteAppends (Some self.old.written) (Some self.new.written) result piece.now }
-        ensures cause { HasCause self.old.faults self.new.faults result }
+        ensures fault { AnswersFault (IsErr result) self.old.faults self.new.faults }
         ensures sure { length piece.now ≤ sure_room self.old
             → (self.new.faults ≡ self.old.faults) × IsOk result
             × IfOk result (λ n. sure_room self.old ≤ sure_room self.new + n) }
@@ -86,7 +87,7 @@ impl Sink for MemSink {
             return Ok(0);
         }
         self.calls = self.calls.saturating_add(1);
-        if self.bytes.len() == self.room || self.fails.as_slice().contains(&self.calls) {
+        if self.bytes.len() == self.room || is_listed(self.fails.as_slice(), self.calls) {
             self.faults = self.faults.saturating_add(1);
             return Err(Failed);
         }

@@ -1,9 +1,10 @@
-ghost use Rattle.std.specs.Prelude.{◌≡◌, ◌<◌, ◌↔◌, [], length, min, take, is_err, if◌then◌else◌, Some, IfOk, IsOk, IsErr, Contains};
+ghost use Rattle.std.specs.Prelude.{◌≡◌, ◌<◌, ◌↔◌, length, min, take, is_err, if◌then◌else◌, Some, IfOk, IsOk, IsErr, Contains};
 ghost use Rattle.std.specs.Io.{ReadsAtMost};
 ghost use Rattle.std.specs.Io.KnownBytes.{ReadConsumes};
-ghost use Rattle.sk_io.specs.Causes.{HasCause};
-ghost use Rattle.sk_io.specs.Memory.{one_later, calls_after};
+ghost use Rattle.sk_io.specs.Causes.{AnswersFault};
+ghost use Rattle.sk_io.specs.Memory.{one_later, calls_after, IsSure};
 
+use crate::calls::is_listed;
 use crate::fault::Failed;
 use crate::source::Source;
 use sk_base::{List, NoMemory, Text};
@@ -62,14 +63,14 @@ impl Source for MemSource {
 
     ghost faults = { λ s. s.faults };
 
-    ghost is_sure = { λ s. s.fails ≡ [] };
+    ghost is_sure = { IsSure };
 
     fn read(&mut self, buf: &mut [u8]) -> Result<usize, Failed>
         ensures bound { ReadsAtMost result buf.new }
         ensures bytes { ReadConsumes (Some self.old.left) (Some self.new.left) result buf.new }
-        ensures cause { HasCause self.old.faults self.new.faults result }
-        ensures sure { self.old.fails ≡ []
-            → (self.new.fails ≡ []) × IsOk result × (self.new.faults ≡ self.old.faults) }
+        ensures fault { AnswersFault (IsErr result) self.old.faults self.new.faults }
+        ensures sure { IsSure self.old
+            → IsSure self.new × IsOk result × (self.new.faults ≡ self.old.faults) }
 
         // It fails exactly where the call's number is one of those, and else gives all that there is room for.
         ensures failed { IsErr result ↔ ((0 < length buf.old) × Contains self.old.fails (one_later self.old.calls)) }
@@ -83,7 +84,7 @@ impl Source for MemSource {
             return Ok(0);
         }
         self.calls = self.calls.saturating_add(1);
-        if self.fails.as_slice().contains(&self.calls) {
+        if is_listed(self.fails.as_slice(), self.calls) {
             self.faults = self.faults.saturating_add(1);
             return Err(Failed);
         }

@@ -1,7 +1,7 @@
-ghost use Rattle.std.specs.Prelude.{◌≡◌, ◌≤◌, ◌+◌, ℕ, List, length, IfOk, OnOk, OnErr, IsOk};
+ghost use Rattle.std.specs.Prelude.{◌≡◌, ◌≤◌, ◌+◌, ℕ, List, length, IfOk, OnOk, OnErr, IsOk, IsErr};
 ghost use Rattle.std.specs.declared.option.Option.{Option};
 ghost use Rattle.std.specs.Io.KnownBytes.{Appends, WriteAppends};
-ghost use Rattle.sk_io.specs.Causes.{HasCause};
+ghost use Rattle.sk_io.specs.Causes.{AnswersFault};
 ghost use Rattle.sk_io.specs.Transfer.{WritesSome, AppendsFront};
 
 use crate::fault::Failed;
@@ -21,7 +21,7 @@ pub trait Sink {
     fn write(&mut self, piece: &[u8]) -> Result<usize, Failed>
         ensures bound { WritesSome result piece.now }
         ensures bytes { WriteAppends (written self.old) (written self.new) result piece.now }
-        ensures cause { HasCause (faults self.old) (faults self.new) result }
+        ensures fault { AnswersFault (IsErr result) (faults self.old) (faults self.new) }
         ensures sure { length piece.now ≤ sure_room self.old
             → (faults self.new ≡ faults self.old) × IsOk result
             × IfOk result (λ n. sure_room self.old ≤ sure_room self.new + n) };
@@ -32,9 +32,10 @@ pub fn write_all<K: Sink>(sink: &mut K, bytes: &[u8]) -> Result<(), Failed>
     ensures ok { OnOk result (Appends (K.written sink.old) (K.written sink.new) bytes.now) }
     ensures err { OnErr result (AppendsFront (K.written sink.old) (K.written sink.new) bytes.now) }
 
-    ensures cause { HasCause (K.faults sink.old) (K.faults sink.new) result }
+    ensures fault { AnswersFault (IsErr result) (K.faults sink.old) (K.faults sink.new) }
     ensures sure { length bytes.now ≤ K.sure_room sink.old
-        → (K.faults sink.new ≡ K.faults sink.old) × IsOk result }
+        → (K.faults sink.new ≡ K.faults sink.old) × IsOk result
+        × (K.sure_room sink.old ≤ K.sure_room sink.new + length bytes.now) }
 {
     let mut done = 0;
     while done < bytes.len() {

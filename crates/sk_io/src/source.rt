@@ -1,9 +1,9 @@
-ghost use Rattle.std.specs.Prelude.{◌≡◌, ◌≤◌, ℕ, List, length, IfOk, OnErr, IsOk, IsErrOf};
+ghost use Rattle.std.specs.Prelude.{◌≡◌, ◌≤◌, ℕ, List, length, IfOk, IsOk, IsErr, IsErrOf};
 ghost use Rattle.std.specs.declared.option.Option.{Option};
 ghost use Rattle.std.specs.Io.{ReadsAtMost};
 ghost use Rattle.std.specs.Io.KnownBytes.{ReadConsumes};
-ghost use Rattle.sk_io.specs.Causes.{Rose, HasCause};
-ghost use Rattle.sk_io.specs.Transfer.{TakesUpTo, TakesSome};
+ghost use Rattle.sk_io.specs.Causes.{AnswersFault};
+ghost use Rattle.sk_io.specs.Transfer.{TakesUpTo, TakesAtMost};
 
 use crate::fault::{Failed, ReadEnd};
 use sk_base::{NoMemory, Text};
@@ -24,7 +24,7 @@ pub trait Source {
     fn read(&mut self, buf: &mut [u8]) -> Result<usize, Failed>
         ensures bound { ReadsAtMost result buf.new }
         ensures bytes { ReadConsumes (left self.old) (left self.new) result buf.new }
-        ensures cause { HasCause (faults self.old) (faults self.new) result }
+        ensures fault { AnswersFault (IsErr result) (faults self.old) (faults self.new) }
         ensures sure { is_sure self.old
             → is_sure self.new × IsOk result × (faults self.new ≡ faults self.old) };
 }
@@ -32,16 +32,14 @@ pub trait Source {
 /// The most bytes of one read.
 const CHUNK: usize = 4096;
 
-/// Takes bytes until the end of input, or until `most` were taken.
+/// Takes bytes until the end of input, or until `most` were taken. No more than `most` are taken off, whatever is answered.
 pub fn read_all<S: Source>(alloc: Global, source: &mut S, most: u64) -> Result<Text, ReadEnd>
     requires { most ≤ 1048577 }
     ensures taken { IfOk result (TakesUpTo most (S.left source.old) (S.left source.new)) }
     ensures bound { IfOk result (λ text. length text ≤ most) }
-    ensures err { OnErr result (TakesSome (S.left source.old) (S.left source.new)) }
+    ensures few { TakesAtMost most (S.left source.old) (S.left source.new) }
 
-    ensures later { S.faults source.old ≤ S.faults source.new }
-    ensures cause { IsErrOf result ReadEnd.ReadFault
-        → Rose (S.faults source.old) (S.faults source.new) }
+    ensures fault { AnswersFault (IsErrOf result ReadEnd.ReadFault) (S.faults source.old) (S.faults source.new) }
     ensures sure { S.is_sure source.old
         → (S.faults source.new ≡ S.faults source.old) × (IsErrOf result ReadEnd.ReadFault → ⊥) }
 {

@@ -1,4 +1,4 @@
-use Rattle.std.proofs.Common.{◌∙◌, ◌≡◌, ◌-◌, length, take, drop, arith}
+use Rattle.std.proofs.Common.{◌≡◌, ◌-◌, length, take, drop, arith}
 use Rattle.std.proofs.lemmas.List.{length-drop, take_rest}
 use Rattle.sk_io.proofs.Moved.{next_front}
 use Rattle.sk_io.proofs.sink.write_all.Goals as goal
@@ -11,9 +11,9 @@ loop-done-preserved g c =
     record {
       within = omega (arith, piece, count);
       appended = next_front _ _ _ c.args.bytes.now c.loop-done.done c.in_ok-done.field-0 c.loop-done.invariant.appended c.in_ok-done.ensures.bytes;
-      later = omega (arith, c.loop-done.invariant.later, c.in_ok-done.ensures.cause.later);
+      kept = grind (arith, c.in_ok-done.ensures.fault.later, c.in_ok-done.ensures.fault.told, c.loop-done.invariant.kept);
       sure = λ room.
           let before = c.loop-done.invariant.sure room in
-          let after = c.in_ok-done.ensures.sure (omega (arith, piece, before.1)) in
-          (after.0 ∙ before.0, omega (arith, before.1, after.2));
+          let after = c.in_ok-done.ensures.sure (omega (arith, piece, before, room)) in
+          omega (arith, before, after.2);
     }

@@ -6,8 +6,8 @@ abbrev pub invariant-loop-done : goal.invariant-loop-done
 invariant-loop-done g l = record {
   within : l.done ≤ length l.bytes;
   appended : Appends (g.K.Sink.written l.fn.sink) (g.K.Sink.written l.sink) (take l.done l.bytes);
-  later : g.K.Sink.faults l.fn.sink ≤ g.K.Sink.faults l.sink;
-  sure : length l.bytes ≤ g.K.Sink.sure_room l.fn.sink → (g.K.Sink.faults l.sink ≡ g.K.Sink.faults l.fn.sink) × (length l.bytes ≤ g.K.Sink.sure_room l.sink + l.done);
+  kept : g.K.Sink.faults l.sink ≡ g.K.Sink.faults l.fn.sink;
+  sure : length l.bytes ≤ g.K.Sink.sure_room l.fn.sink → g.K.Sink.sure_room l.fn.sink ≤ g.K.Sink.sure_room l.sink + l.done;
 }
 
 abbrev pub decreases-loop-done : goal.decreases-loop-done

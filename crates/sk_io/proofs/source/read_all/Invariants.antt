@@ -7,8 +7,8 @@ invariant-loop-chunk g l = record {
   few : length l.text ≤ l.most;
   chunk : length l.chunk ≡ 4096;
   taken : Consumes (g.S.Source.left l.fn.source) (g.S.Source.left l.source) l.text;
-  later : g.S.Source.faults l.fn.source ≤ g.S.Source.faults l.source;
-  sure : g.S.Source.is_sure l.fn.source → g.S.Source.is_sure l.source × (g.S.Source.faults l.source ≡ g.S.Source.faults l.fn.source);
+  kept : g.S.Source.faults l.source ≡ g.S.Source.faults l.fn.source;
+  sure : g.S.Source.is_sure l.fn.source → g.S.Source.is_sure l.source;
 }
 
 abbrev pub decreases-loop-chunk : goal.decreases-loop-chunk
