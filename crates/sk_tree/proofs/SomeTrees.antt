@@ -6,8 +6,7 @@ use Rattle.std.proofs.lemmas.List.{append-nil}
 use Rattle.std.proofs.lemmas.List.Elements.{Contains-append_right}
 use Rattle.sk_base.specs.declared.Name.{Name}
 use Rattle.sk_base.specs.declared.Name.TheVariants.{Con, Step}
-use Rattle.sk_base.specs.declared.ConId.{ConId}
-use Rattle.sk_base.proofs.Members.{contains_none, contains_head, contains_later, contains_cases}
+use Rattle.sk_base.proofs.Members.{contains_none, contains_head, contains_cases}
 use Rattle.sk_rules.specs.declared.Taken.{Taken}
 use Rattle.sk_rules.specs.declared.Merge.{Merge}
 use Rattle.sk_rules.specs.declared.Merge.TheVariants.{Three}

@@ -59,8 +59,21 @@ fn tree_of(alloc: Global, taken: &[Taken], name: Name) -> Result<Tree, NoMemory>
     }
 }
 
-/// Where the step of that name stands.
+/// Where the step of that name stands. Where the steps' names don't rise, as they may, it is found by a
+/// scan.
 fn place_of(taken: &[Taken], name: Name) -> usize
+    requires { (t : Merging) × Contains taken.now t × (t.step ≡ name) }
+    ensures inside { result < length taken.now }
+    ensures named { (t : Merging) × (slice_get taken.now result ≡ Some t) × (t.step ≡ name) }
+{
+    match taken.binary_search_by_key(&name, |merging| merging.step) {
+        Ok(place) => place,
+        Err(_) => scanned(taken, name),
+    }
+}
+
+/// Where the step of that name stands, by a scan.
+fn scanned(taken: &[Taken], name: Name) -> usize
     requires { (t : Merging) × Contains taken.now t × (t.step ≡ name) }
     ensures inside { result < length taken.now }
     ensures named { (t : Merging) × (slice_get taken.now result ≡ Some t) × (t.step ≡ name) }

@@ -2,11 +2,13 @@
 #![tactic(auto)]
 
 mod joined;
+mod law;
 mod order;
 mod plan;
 mod tree;
 
 pub use joined::build;
+pub use law::one_tree;
 pub use order::in_order;
 pub use plan::{Choice, Plan, PlanStep};
 pub use tree::{Joint, Tree, height, leaf_tree, leaves, steps};
