@@ -1,11 +1,12 @@
 // The edge of one constraint.
-ghost use Rattle.std.specs.Prelude.{◌≡◌, ◌≢◌, IsSome, Some};
+ghost use Rattle.std.specs.Prelude.{◌≡◌, ◌≢◌};
 ghost use Rattle.sk_base.specs.Bounds.{IsFromTo};
-ghost use Rattle.sk_base.specs.Drawn.{shape_of, HasCentre, IsLine};
+ghost use Rattle.sk_base.specs.Drawn.{HasCentre, IsLine};
 ghost use Rattle.sk_base.specs.SoundSketch.{IsSoundSketch, IsSoundShape, IsSoundRule, IsSoundRatio, MayBeApart, MayBeTangent, AreLines};
 ghost use Rattle.sk_graph.specs.Fitting.{Fits};
 ghost use Rattle.sk_graph.specs.SketchGraph.{apart, beside, distance_edge, on_edge, tangent_edge, edge_between, first_of, second_of, edge_of};
 
+use crate::drawn::shape;
 use sk_base::{ConId, Constraint, Edge, Elem, Measure, Rule, Shape, Sign, Sketch, Um};
 use sk_orient::{sense_drawn, side_drawn};
 
@@ -13,7 +14,8 @@ use sk_orient::{sense_drawn, side_drawn};
 pub fn edge(s: &Sketch, constraint: &Constraint) -> Edge
     requires sketch { IsSoundSketch s.now }
     requires rule { IsSoundRule s.now constraint.now.rule }
-    ensures { result ≡ edge_of s.now constraint.now }
+    ensures edge { result ≡ edge_of s.now constraint.now }
+    ensures number { result.id ≡ constraint.now.number }
 {
     let (first, second) = ends(constraint.rule);
     edge_between(
@@ -36,19 +38,6 @@ fn ends(rule: Rule) -> (Elem, Elem)
         | Rule::Outside { u, v }
         | Rule::Inside { u, v } => (u, v),
         Rule::Angle { l, m, .. } => (l, m),
-    }
-}
-
-/// How the element of that number is drawn.
-fn shape(s: &Sketch, e: Elem) -> Shape
-    requires sketch { IsSoundSketch s.now }
-    requires drawn { IsSome (shape_of s.now e) }
-    ensures shape { shape_of s.now e ≡ Some result }
-    ensures sound { IsSoundShape result }
-{
-    match s.look_up(e) {
-        Some(element) => element.shape,
-        None => unreachable!(),
     }
 }
 
