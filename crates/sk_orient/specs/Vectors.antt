@@ -24,6 +24,7 @@ cross v w = (v.x *ℤ w.y) -ℤ (v.y *ℤ w.x)
 abbrev pub dot : Vector → Vector → ℤ
 dot v w = (v.x *ℤ w.x) +ℤ (v.y *ℤ w.y)
 
--- q parts along and p parts across: above 0 where the angle of tangent p/q from the first to the second is turned to the left
+-- above 0 where the second goes forward along the first when that is turned by the angle of tangent p/q: by q parts
+-- along itself and p parts to its left
 abbrev pub rotation : Vector → Vector → Ratio → ℤ
 rotation v w ratio = (ratio.q *ℤ dot v w) +ℤ (ratio.p *ℤ cross v w)

@@ -16,7 +16,8 @@ pub fn side_drawn(line: &Shape, p: &Shape) -> Sign
     drawn_sign(cross(direction(line), way(place(line), place(p))))
 }
 
-/// The sense of the angle of tangent `r` from line `l` to line `m`.
+/// The sense of the angle of tangent `r` from line `l` to line `m`: Plus where `m` goes forward along
+/// `l` when that is turned by the angle, or straight across it.
 pub fn sense_drawn(l: &Shape, m: &Shape, r: Ratio) -> Sign
     requires l { IsLine l.now × IsOnPaper l.now }
     requires m { IsLine m.now × IsOnPaper m.now }

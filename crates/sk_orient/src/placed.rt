@@ -20,7 +20,8 @@ pub fn side_placed(line: At, p: At) -> i8
     placed_sign(height(line, p))
 }
 
-/// The sense of the angle of tangent `r` from line `l` to line `m`, 0 where there is none.
+/// The sense of the angle of tangent `r` from line `l` to line `m`: 1 where `m` goes forward along `l`
+/// when that is turned by the angle, 0 straight across it.
 pub fn sense_placed(l: At, m: At, r: Ratio) -> i8
     requires l { IsLine l × IsBounded l }
     requires m { IsLine m × IsBounded m }

@@ -42,7 +42,8 @@ pub fn dot(v: Vector, w: Vector) -> i128
     v.x * w.x + v.y * w.y
 }
 
-/// Above 0 where the angle from the first vector to the second, of this tangent, points along them.
+/// Above 0 where the second goes forward along the first when that is turned by the angle of this
+/// tangent.
 pub fn rotation(v: Vector, w: Vector, ratio: Ratio) -> i128
     requires v_short { IsShort 2000000000 v }
     requires w_short { IsShort 2000000000 w }
