@@ -1,2 +1,1 @@
-pub mod Papers
 pub mod DrawnKinds

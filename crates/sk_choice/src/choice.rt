@@ -1,5 +1,5 @@
 // What the drawing chooses where a step leaves something open.
-ghost use Rattle.std.specs.Prelude.{◌≡◌, ◌≢◌, ◌↔◌, [], ◌∷◌, not, IsTrue, IsSome, Some};
+ghost use Rattle.std.specs.Prelude.{◌≡◌, ◌≢◌, ◌↔◌, [], ◌∷◌, not, IsTrue, IsSome};
 ghost use Rattle.sk_base.specs.Drawn.{shape_of, IsLine, HasCentre};
 ghost use Rattle.sk_base.specs.SoundSketch.{IsSoundSketch};
 ghost use Rattle.sk_orient.specs.DrawnSigns.{IsOnPaper};
@@ -7,10 +7,12 @@ ghost use Rattle.sk_tree.specs.ByNumber.{by_number};
 ghost use Rattle.sk_choice.specs.DrawnChoice.{drawn_choice, shapes_of};
 
 use sk_base::{Elem, Shape, Sketch};
+use sk_graph::shape;
 use sk_orient::{advance_drawn, turn_drawn};
 use sk_tree::{Choice, in_order};
 
-/// The choice of three drawn elements.
+/// The choice of the drawing at three drawn elements: the turn of three points, the advance of two
+/// points along a line, both by rising number, or nothing.
 pub fn choice_of(sketch: &Sketch, a: Elem, b: Elem, c: Elem) -> Choice
     requires sound { IsSoundSketch sketch.now }
     requires a_b { a ≢ b }
@@ -22,20 +24,7 @@ pub fn choice_of(sketch: &Sketch, a: Elem, b: Elem, c: Elem) -> Choice
     ensures { result ≡ drawn_choice (shapes_of sketch.now (by_number a b c)) }
 {
     let (p, q, r) = in_order(a, b, c);
-    choice_between(shape(sketch, p), shape(sketch, q), shape(sketch, r))
-}
-
-/// How a drawn element is drawn.
-fn shape(sketch: &Sketch, e: Elem) -> &Shape
-    requires sound { IsSoundSketch sketch.now }
-    requires drawn { IsSome (shape_of sketch.now e) }
-    ensures shape { shape_of sketch.now e ≡ Some result.now }
-    ensures on_paper { IsOnPaper result.now }
-{
-    match sketch.look_up(e) {
-        Some(element) => &element.shape,
-        None => unreachable!(),
-    }
+    choice_between(&shape(sketch, p), &shape(sketch, q), &shape(sketch, r))
 }
 
 /// Three points turn, two points advance along a line, else nothing is open.
