@@ -4,8 +4,10 @@
 mod constraints;
 mod datum;
 mod elements;
+mod law;
 mod lengths;
 #[cfg(test)]
 mod tests;
 
 pub use datum::datum_sketch;
+pub use law::datum_sketch_is_sound;
