@@ -1,76 +1,72 @@
--- A search by halves for where a property ends that holds of a front of a list.
-use Rattle.std.proofs.Common.{◌≡◌, ◌≢◌, inl, inr, ℕ, suc, ◌+◌, ◌-◌, ◌<◌, ◌≤◌, List, ◌∷◌, length, length-drop, drop-cons, get_or, take, drop, ap, sym, subst, ◌∙◌, arith}
-use Rattle.std.specs.Prelude.{Contains, AllPairs, ◌↔◌}
+-- A search by halves for where a front of a list ends whose items pass a test.
+use Rattle.std.proofs.Common.{◌≡◌, ◌≢◌, inl, inr, refl, true, false, Bool, ℕ, suc, ◌+◌, ◌-◌, ◌<◌, ◌≤◌, List, ◌∷◌, length, length-drop, drop-cons, get_or, take, drop, ap, sym, subst, ◌∙◌, arith}
+use Rattle.std.specs.Prelude.{Contains, AllPairs, IsTrue, ◌↔◌}
+use Rattle.std.specs.List.Sorted.{IsPartitionedBy, IsPartitionPoint}
+use Rattle.std.proofs.lemmas.Bool.Decides.{nat_tests}
 use Rattle.std.proofs.lemmas.List.{get_or-take, get_or-drop, get_or_default, length-take, take_all}
 use Rattle.sk_base.specs.declared.Name.{Name}
+use Rattle.sk_base.specs.declared.Name.TheVariants.{Con, Step}
 use Rattle.sk_base.specs.ClusterNames.{IsBelow}
 use Rattle.sk_base.proofs.Unions.{which}
+use Rattle.sk_base.proofs.Searches.{refused}
 use Rattle.sk_family.specs.declared.cluster.Cluster.{Cluster}
 use Rattle.sk_family.specs.Clusters.{ByName}
+use Rattle.sk_family.specs.Starting.{is_before}
 use Rattle.sk_family.proofs.Naming.{below_chain, below_differs}
 use Rattle.sk_base.proofs.Splits.{in_drop, in_either, pairs_drop}
 use Rattle.sk_base.proofs.Members.{contains_head, contains_cases}
 use Rattle.sk_base.proofs.Pairs.{pairs_head}
 
-module _ {X : Type 0} (P : X → Type 0) (xs : List X) where
-  -- it holds before low, and not from high on
-  pub record EndsWithin (low high : ℕ) : Type 0 where
-    pub ordered : low ≤ high
-    pub within : high ≤ length xs
-    pub before : (k : ℕ) (d : X) → k < low → P (get_or xs k d)
-    pub after : (k : ℕ) (d : X) → high ≤ k → k < length xs → ¬ P (get_or xs k d)
+module _ {X : Type 0} (p : X → Bool) (xs : List X) where
+  -- where an item that passes stands behind others only that pass
+  pub passing_front : (R : X → X → Type 0) → AllPairs R xs → ((x y : X) → R x y → p y ≡ true → p x ≡ true) → IsPartitionedBy p xs
+  passing_front R pairs before i j d order j_in passes =
+      elim (which i j) [
+        | inl less ↦ before (get_or xs i d) (get_or xs j d) (pairs i j d less j_in) passes
+        | inr (inl level) ↦ subst (λ k. p (get_or xs k d) ≡ true) (sym level) passes
+        | inr (inr more) ↦ absurd (omega arith)
+      ]
 
-  -- where it holds at a place it holds before
-  abbrev pub HoldsInFront : Type 0
-  HoldsInFront = (i j : ℕ) (d : X) → i < j → j < length xs → P (get_or xs j d) → P (get_or xs i d)
+  module _ (place : ℕ) (point : IsPartitionPoint (λ y. p y ≡ true) (λ y. p y ≡ false) xs place) where
+    pub front_passes : (x : X) → Contains (take place xs) x → p x ≡ true
+    front_passes x (k, k_in, is) =
+        let short : length (take place xs) ≤ place = omega (arith, length-take place xs) in
+        let k_low : k < place = omega arith in
+        subst (λ y. p y ≡ true) (sym (get_or-take place xs k x k_low) ∙ is) (point.0 k x (omega arith) k_low)
 
-  module _ (front : HoldsInFront) (low high middle : ℕ) (so_far : EndsWithin low high) (from_low : low ≤ middle) (to_high : middle < high) (d : X) where
-    at_middle : (z : X) → get_or xs middle z ≡ get_or xs middle d
-    at_middle z = (let within = so_far.within in get_or_default xs middle z d (omega arith))
+    pub rest_fails : (x : X) → Contains (drop place xs) x → p x ≡ false
+    rest_fails x (k, k_in, is) =
+        let rest = length-drop place xs in
+        subst (λ y. p y ≡ false) (sym (get_or-drop place xs k x) ∙ is) (point.1 (place + k) x (omega arith) (omega arith))
 
-    pub narrows_up : P (get_or xs middle d) → EndsWithin (middle + 1) high
-    narrows_up holds = record {
-      ordered = omega arith;
-      within = so_far.within;
-      before = λ k z k_less. (
-          let within = so_far.within in
-          let here : P (get_or xs middle z) = subst (λ x. P x) (sym (at_middle z)) holds in
-          elim (which k middle) [
-            | inl below ↦ front k middle z below (omega arith) here
-            | inr (inl level) ↦ subst (λ j. P (get_or xs j z)) (sym level) here
-            | inr (inr above) ↦ absurd (omega arith)
-          ]);
-      after = so_far.after;
-    }
+pub before_below : (m n : Name) → is_before m n ≡ true → IsBelow m n
+before_below (Con j) (Con k) h = grind (arith, nat_tests)
+before_below (Con j) (Step k) h = tt
+before_below (Step j) (Con k) h = absurd (cc)
+before_below (Step j) (Step k) h = grind (arith, nat_tests)
 
-    pub narrows_down : ¬ P (get_or xs middle d) → EndsWithin low middle
-    narrows_down fails = record {
-      ordered = from_low;
-      within = (let within = so_far.within in omega arith);
-      before = so_far.before;
-      after = λ k z k_from k_in h. (
-          let here : ¬ P (get_or xs middle z) = λ p. fails (subst (λ x. P x) (at_middle z) p) in
-          elim (which k middle) [
-            | inl below ↦ absurd (omega arith)
-            | inr (inl level) ↦ here (subst (λ j. P (get_or xs j z)) level h)
-            | inr (inr above) ↦ here (front middle k z above k_in h)
-          ]);
-    }
+pub below_before : (m n : Name) → IsBelow m n → is_before m n ≡ true
+below_before (Con j) (Con k) h = grind (arith, nat_tests)
+below_before (Con j) (Step k) h = refl
+below_before (Step j) (Con k) h = absurd h
+below_before (Step j) (Step k) h = grind (arith, nat_tests)
 
-  module _ (low high : ℕ) (so_far : EndsWithin low high) (met : high ≤ low) where
-    pub met_before : (x : X) → Contains (take low xs) x → P x
-    met_before x (k, k_in, is) =
-        let short : length (take low xs) ≤ low = omega (arith, length-take low xs) in
-        let k_low : k < low = omega arith in
-        subst (λ y. P y) (sym (get_or-take low xs k x k_low) ∙ is) (so_far.before k x k_low)
+-- a test that tells whether the one name is below the other
+pub tells_before : (b : Bool) (m n : Name) → IsTrue b ↔ IsBelow m n → b ≡ is_before m n
+tells_before true m n told = sym (below_before m n (told.0 refl))
+tells_before false m n told = refused_before (is_before m n) refl
+  where
+    refused_before : (t : Bool) → is_before m n ≡ t → false ≡ is_before m n
+    refused_before true is = absurd (refused told.1 (before_below m n is))
+    refused_before false is = sym is
 
-    pub met_after : (x : X) → Contains (drop low xs) x → ¬ P x
-    met_after x (k, k_in, is) h =
-        let rest = length-drop low xs in
-        so_far.after (low + k) x (omega arith) (omega arith) (subst (λ y. P y) (sym is ∙ get_or-drop low xs k x) h)
+pub not_below : (m n : Name) → is_before m n ≡ false → ¬ IsBelow m n
+not_below m n fails below = (let passes : is_before m n ≡ true = below_before m n below in absurd (cc))
 
-pub below_in_front : (clusters : List Cluster) (name : Name) → AllPairs ByName clusters → HoldsInFront (λ (c : Cluster). IsBelow c.name name) clusters
-below_in_front clusters name rise i j d less j_in below = below_chain (get_or clusters i d).name (get_or clusters j d).name name (rise i j d less j_in) below
+pub names_partition : (clusters : List Cluster) (name : Name) → AllPairs ByName clusters → IsPartitionedBy (λ (c : Cluster). is_before c.name name) clusters
+names_partition clusters name rise =
+    passing_front (λ (c : Cluster). is_before c.name name) clusters ByName rise
+    (λ x y x_y y_name. below_before x.name name (below_chain x.name y.name name x_y (before_below y.name name y_name)))
 
 -- what a name's place says of the clusters
 module _ (clusters : List Cluster) (name : Name) (place : ℕ) (before : (c : Cluster) → Contains (take place clusters) c → IsBelow c.name name)

@@ -5,6 +5,7 @@ pub mod Starting
 pub mod Sorting
 pub mod Dissolving
 pub mod Wholes
+pub mod Rows
 pub mod Naming
 pub mod Halving
 pub mod Taking

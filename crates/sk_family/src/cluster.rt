@@ -1,7 +1,7 @@
 // Clusters, and what two of them share.
-ghost use Rattle.std.specs.Prelude.{◌≡◌, ◌+◌, ◌<◌, ◌^◌, ◌∷◌, ◌++◌, [], List as Items, length};
+ghost use Rattle.std.specs.Prelude.{◌≡◌, ◌<◌, ◌^◌, ◌∷◌, ◌++◌, [], List as Items, length};
 ghost use Rattle.sk_base.specs.declared.Elem.{Elem as Element};
-ghost use Rattle.sk_family.specs.Sharing.{shared, overlap_of};
+ghost use Rattle.sk_family.specs.Sharing.{shared, overlap_of, counted};
 ghost use Rattle.sk_base.specs.Numbering.{is_elem};
 
 use sk_base::{ConId, Elem, List, Name};
@@ -23,10 +23,11 @@ pub struct Overlap {
     pub second: Option<Elem>,
 }
 
-/// What the two clusters share.
+/// What the two clusters share. The count stays at the greatest `u32` where more are shared, which no
+/// two clusters of a sketch do.
 pub fn common(a: &Cluster, b: &Cluster) -> Overlap
-    requires fits { length (shared a.now.elements b.now.elements) < 2 ^ 32 }
-    ensures { result ≡ overlap_of (shared a.now.elements b.now.elements) }
+    ensures exact { length (shared a.now.elements b.now.elements) < 2 ^ 32 → result ≡ overlap_of (shared a.now.elements b.now.elements) }
+    ensures counted { result ≡ counted (shared a.now.elements b.now.elements) }
 {
     let mut overlap = Overlap {
         count: 0,
@@ -44,8 +45,7 @@ pub fn common(a: &Cluster, b: &Cluster) -> Overlap
 impl Overlap {
     /// The overlap with one more element, above those that it has.
     fn with(self, elem: Elem) -> Overlap
-        requires { self.count + 1 < 2 ^ 32 }
-        ensures { (both : Items Element) → self ≡ overlap_of both → result ≡ overlap_of (both ++ elem ∷ []) }
+        ensures { (both : Items Element) → self ≡ counted both → result ≡ counted (both ++ elem ∷ []) }
     {
         let (first, second) = match (self.first, self.second) {
             (None, _) => (Some(elem), None),
@@ -53,7 +53,7 @@ impl Overlap {
             (Some(first), Some(second)) => (Some(first), Some(second)),
         };
         Overlap {
-            count: self.count + 1,
+            count: self.count.saturating_add(1),
             first,
             second,
         }

@@ -1,15 +1,17 @@
 // The family of clusters, as a store sorted by name.
 ghost use Rattle.std.specs.Prelude.{◌≡◌, ◌↔◌, ◌+◌, ◌≤◌, ◌<◌, [], ◌∷◌, ◌++◌, All, AllPairs, IfOk, IfSome, IfNone, OnOk, OnErr, IsTrue, length, slice_get, Contains, false};
-ghost use Rattle.sk_base.specs.SoundGraph.{IsSoundGraph};
+ghost use Rattle.sk_base.specs.SoundGraph.{IsSoundGraph, HasRisingEdges};
 ghost use Rattle.sk_base.specs.ClusterNames.{IsBelow, is_named};
 ghost use Rattle.sk_family.specs.declared.cluster.Cluster.{Cluster as AnyCluster};
-ghost use Rattle.sk_family.specs.Body.{IsRisingBody, initial_bodies, join};
-ghost use Rattle.sk_family.specs.Clusters.{AddsNamed, initial_clusters, replaced, whole_from, bodies, body_of, live_names, unnamed, ByName, CanBeReplaced, IsAt, IsSound, IsLive, IsNamed};
+ghost use Rattle.sk_family.specs.Body.{IsRisingBody, initial_bodies, join, nothing};
+ghost use Rattle.sk_family.specs.Clusters.{AddsNamed, cluster_of, initial_clusters, replaced, whole_from, bodies, body_of, live_names, unnamed, ByName, CanBeReplaced, IsAt, IsSound, IsLive, IsNamed};
+ghost use Rattle.sk_family.specs.Starting.{starts_but};
 ghost use Rattle.sk_family.specs.Starts.{IsFree, HasStart, CanBeDissolved, IsDissolved};
 
 use crate::cluster::Cluster;
 use crate::order::place_of;
-use crate::start::{put_in_order, start_of, starts_of};
+use crate::row::Row;
+use crate::start::{exchange, start_of, starts_of};
 use crate::union::union_of;
 use sk_base::{ConId, Edge, Graph, List, Name, NoMemory};
 use std::alloc::Global;
@@ -19,7 +21,7 @@ use std::marker::Model;
 #[derive(Drop)]
 pub struct Family {
     alloc: Global,
-    clusters: Vec<Cluster>,
+    clusters: Row<Cluster>,
     next: u32,
 }
 
@@ -28,9 +30,9 @@ impl Model for Family {
 
     ghost Value = { Clusters };
 
-    ghost view = { λ f. record { live = f.clusters.items; next_step = f.next } };
+    ghost view = { λ f. record { live = f.clusters; next_step = f.next } };
 
-    ghost invariant = { λ f. IsSound (record { live = f.clusters.items; next_step = f.next }) };
+    ghost invariant = { λ f. IsSound (record { live = f.clusters; next_step = f.next }) };
 }
 
 /// The family of starting clusters: one for each constraint, of its two ends.
@@ -39,7 +41,7 @@ pub fn initial(alloc: Global, graph: &Graph) -> Result<Family, NoMemory>
     ensures clusters { IfOk result (λ f. f ≡ initial_clusters graph.now) }
     ensures bodies { IfOk result (λ f. bodies f ≡ initial_bodies graph.now) }
 {
-    let mut clusters = Vec::new(alloc);
+    let mut clusters = Row::new(alloc);
     for edge in graph.edges.as_slice() {
         clusters.push(start_of(alloc, edge)?)?;
     }
@@ -70,7 +72,7 @@ impl Family {
     pub fn count(&self) -> u32
         ensures { result ≡ length self.now.live }
     {
-        self.clusters.len() as u32
+        self.clusters.as_slice().len() as u32
     }
 
     /// The live name at place `i`, from 0, in rising order.
@@ -119,7 +121,7 @@ impl Family {
     {
         let name = Name::Step(self.next);
         let whole = whole_of(self.alloc, self.clusters.as_slice(), name, from)?;
-        put_in_place(&mut self.clusters, from, whole)?;
+        put_in_place(self.alloc, &mut self.clusters, from, whole)?;
         self.next += 1;
         Ok(name)
     }
@@ -150,15 +152,26 @@ impl Family {
         ensures err { OnErr result (self.new ≡ self.old) }
         ensures sound { IsSound self.new }
     {
-        let mut clusters = match self.cluster(name) {
-            Some(owner) => starts_of(self.alloc, owner.owned.as_slice(), without, graph)?,
-            None => unreachable!(),
-        };
-        clusters.append(&mut self.clusters)?;
-        clusters.retain(|cluster| !cluster.name.is_among(&[name]));
-        put_in_order(&mut clusters);
-        self.clusters = clusters;
+        let starts = self.starts_in(name, without, graph)?;
+        exchange(&mut self.clusters, name, starts)?;
         Ok(())
+    }
+
+    /// The starting clusters of the constraints that the cluster of that name owns, but for one.
+    fn starts_in(
+        &self,
+        name: Name,
+        without: ConId,
+        graph: &Graph,
+    ) -> Result<Vec<Cluster>, NoMemory>
+        requires graph { HasRisingEdges graph.now }
+        requires owner { CanBeDissolved graph.now self.now name without }
+        ensures { IfOk result (λ starts. (c : AnyCluster) → IsNamed self.now name c → starts.items ≡ starts_but graph.now without c.owned) }
+    {
+        match self.cluster(name) {
+            Some(owner) => starts_of(self.alloc, owner.owned.as_slice(), without, graph),
+            None => unreachable!(),
+        }
     }
 }
 
@@ -195,15 +208,22 @@ fn whole_of(
     requires rise { All (λ c. IsRisingBody (body_of c)) clusters.now }
     ensures { IfOk result (λ whole. whole ≡ whole_from name from.now clusters.now) }
 {
-    let mut whole = Cluster {
-        name,
-        elements: List::new(alloc),
-        owned: List::new(alloc),
-    };
+    let mut whole = empty(alloc, name);
     for part in from {
         add_named(alloc, &mut whole, clusters, *part)?;
     }
     Ok(whole)
+}
+
+/// A cluster of that name, with nothing in it.
+fn empty(alloc: Global, name: Name) -> Cluster
+    ensures { result ≡ cluster_of name nothing }
+{
+    Cluster {
+        name,
+        elements: List::new(alloc),
+        owned: List::new(alloc),
+    }
 }
 
 /// Adds the elements and the owned constraints of the cluster of that name.
@@ -237,28 +257,33 @@ fn add(alloc: Global, whole: &mut Cluster, part: &Cluster) -> Result<(), NoMemor
 }
 
 /// Takes the clusters of these names out, and puts another in at the end.
-fn put_in_place(clusters: &mut Vec<Cluster>, from: &[Name], whole: Cluster) -> Result<(), NoMemory>
-    requires by_name { AllPairs ByName clusters.old.items }
-    requires last { (c : AnyCluster) → Contains clusters.old.items c → IsBelow c.name whole.name }
+fn put_in_place(
+    alloc: Global,
+    clusters: &mut Row<Cluster>,
+    from: &[Name],
+    whole: Cluster,
+) -> Result<(), NoMemory>
+    requires by_name { AllPairs ByName clusters.old }
+    requires last { (c : AnyCluster) → Contains clusters.old c → IsBelow c.name whole.name }
     requires apart { is_named from.now whole.name ≡ false }
-    ensures ok { OnOk result (clusters.new.items ≡ unnamed from.now clusters.old.items ++ whole ∷ []) }
-    ensures err { OnErr result (clusters.new.items ≡ clusters.old.items) }
+    ensures ok { OnOk result (clusters.new ≡ unnamed from.now clusters.old ++ whole ∷ []) }
+    ensures err { OnErr result (clusters.new ≡ clusters.old) }
 {
     clusters.push(whole)?;
     for name in from {
-        take_out(clusters, *name);
+        take_out(alloc, clusters, *name);
     }
     Ok(())
 }
 
 /// Takes the cluster of that name out.
-fn take_out(clusters: &mut Vec<Cluster>, name: Name)
-    requires { AllPairs ByName clusters.old.items }
-    ensures { clusters.new.items ≡ unnamed (name ∷ []) clusters.old.items }
+fn take_out(alloc: Global, clusters: &mut Row<Cluster>, name: Name)
+    requires { AllPairs ByName clusters.old }
+    ensures { clusters.new ≡ unnamed (name ∷ []) clusters.old }
 {
     let place = place_of(clusters.as_slice(), name);
     if is_at(clusters.as_slice(), place, name) {
-        let _cluster = clusters.remove(place);
+        clusters.remove(place, empty(alloc, name));
     }
 }
 

@@ -4,9 +4,11 @@
 mod cluster;
 mod family;
 mod order;
+mod row;
 mod start;
 mod union;
 
 pub use cluster::{Cluster, Overlap, common};
 pub use family::{Family, initial};
+pub use row::Row;
 pub use union::union_of;

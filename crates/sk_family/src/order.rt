@@ -14,15 +14,5 @@ pub(crate) fn place_of(clusters: &[Cluster], name: Name) -> usize
     ensures before { (c : AnyCluster) → Contains (take result clusters.now) c → IsBelow c.name name }
     ensures after { (c : AnyCluster) → Contains (drop result clusters.now) c → ¬ IsBelow c.name name }
 {
-    let mut low = 0;
-    let mut high = clusters.len();
-    while low < high {
-        let middle = low + (high - low) / 2;
-        if clusters[middle].name.is_below(name) {
-            low = middle + 1;
-        } else {
-            high = middle;
-        }
-    }
-    low
+    clusters.partition_point(|cluster| cluster.name.is_below(name))
 }

@@ -1,5 +1,5 @@
 // The clusters in which constraints start, and clusters in order.
-ghost use Rattle.std.specs.Prelude.{◌≡◌, ◌≢◌, AllPairs, IfOk, IfSome, IfNone, map, filter, not, find, ◌==◌, Contains, option_copied};
+ghost use Rattle.std.specs.Prelude.{◌≡◌, ◌≢◌, ◌++◌, ◌∷◌, [], OnOk, OnErr, AllPairs, IfOk, IfSome, IfNone, map, filter, not, find, ◌==◌, Contains, option_copied};
 ghost use Rattle.std.specs.List.Sorted.{IsPermutation};
 ghost use Rattle.std.specs.Ordering.{is_lt};
 ghost use Rattle.sk_base.specs.declared.ConId.{ConId as Number};
@@ -7,10 +7,11 @@ ghost use Rattle.sk_base.specs.declared.Edge.{Edge as AnEdge};
 ghost use Rattle.sk_base.specs.ClusterNames.{IsBelow};
 ghost use Rattle.sk_base.specs.SoundGraph.{HasRisingEdges};
 ghost use Rattle.sk_family.specs.declared.cluster.Cluster.{Cluster as ACluster};
-ghost use Rattle.sk_family.specs.Clusters.{start_of};
+ghost use Rattle.sk_family.specs.Clusters.{start_of, unnamed};
 ghost use Rattle.sk_family.specs.Starting.{edge_with, starts_but, is_before};
 
 use crate::cluster::Cluster;
+use crate::row::Row;
 use crate::union::union_of;
 use sk_base::{ConId, Edge, Graph, List, Name, NoMemory};
 use std::alloc::Global;
@@ -73,8 +74,27 @@ fn edge_of(graph: &Graph, number: ConId) -> Option<&Edge>
     }
 }
 
+/// Puts these clusters in the place of the one of that name. After `NoMemory` all stand as they did.
+pub(crate) fn exchange(
+    clusters: &mut Row<Cluster>,
+    name: Name,
+    others: Vec<Cluster>,
+) -> Result<(), NoMemory>
+    requires { AllPairs (λ (a b : ACluster). a.name ≢ b.name) (unnamed (name ∷ []) (others.items ++ clusters.old)) }
+    ensures same { OnOk result (IsPermutation (unnamed (name ∷ []) (others.items ++ clusters.old)) clusters.new) }
+    ensures rise { OnOk result (AllPairs (λ (a b : ACluster). IsBelow a.name b.name) clusters.new) }
+    ensures err { OnErr result (clusters.new ≡ clusters.old) }
+{
+    let mut all = others;
+    clusters.append_to(&mut all)?;
+    all.retain(|cluster| !cluster.name.is_among(&[name]));
+    put_in_order(&mut all);
+    *clusters = Row::of(all);
+    Ok(())
+}
+
 /// Sorts the clusters by their names.
-pub(crate) fn put_in_order(clusters: &mut Vec<Cluster>)
+fn put_in_order(clusters: &mut Vec<Cluster>)
     requires { AllPairs (λ (a b : ACluster). a.name ≢ b.name) clusters.old.items }
     ensures same { IsPermutation clusters.old.items clusters.new.items }
     ensures rise { AllPairs (λ (a b : ACluster). IsBelow a.name b.name) clusters.new.items }

@@ -1,23 +1,11 @@
 use Rattle.std.proofs.Common.{◌≡◌, ap, sym, ◌∙◌, arith, length, get_or, take, true, List}
 use Rattle.sk_base.specs.declared.Elem.{Elem}
 use Rattle.sk_family.specs.declared.cluster.Overlap.{Overlap}
-use Rattle.sk_family.specs.Sharing.{shared, overlap_of}
+use Rattle.sk_family.specs.Sharing.{shared, counted}
 use Rattle.sk_base.specs.Numbering.{is_elem}
-use Rattle.sk_family.proofs.Shares.{shared_more, shared_same, shared_within}
+use Rattle.sk_family.proofs.Shares.{shared_more, shared_same}
 use Rattle.sk_family.proofs.cluster.common.Goals as goal
 use Rattle.sk_family.proofs.cluster.common.Goals.{then-is_among, else-is_among}
-
-pub with-overlap-requires : goal.with-overlap-requires
-with-overlap-requires c =
-    let xs = c.as_slice-elem-items.result.now in
-    let ys = c.args.b.now.elements in
-    let i = c.loop-elem.elem-index in
-    let here : is_elem ys (get_or xs i (record { 0 = 0 })) ≡ true =
-    ap (λ (zs : List Elem). is_elem zs (get_or xs i (record { 0 = 0 }))) (sym c.as_slice.ensures) ∙ sym c.is_among.ensures.computed ∙ c.if-is_among.true in
-    let within = shared_within xs ys i (record { 0 = 0 }) c.loop-elem-test.true here in
-    let all : length (shared xs ys) ≡ length (shared c.args.a.now.elements ys) = ap (λ (zs : List Elem). length (shared zs ys)) c.as_slice-elem-items.ensures in
-    let count : c.loop-elem.overlap.count ≡ length (shared (take i xs) ys) = ap (λ (o : Overlap). o.count) c.loop-elem.invariant in
-    omega (arith, within, all, count, c.requires)
 
 pub loop-elem-preserved : goal.loop-elem-preserved
 loop-elem-preserved c =
@@ -28,7 +16,7 @@ loop-elem-preserved c =
     c.is_among.ensures.computed ∙ ap (λ (zs : List Elem). is_elem zs (get_or xs i (record { 0 = 0 }))) c.as_slice.ensures in
     elim c.if-is_among.branch [
       | then-is_among w ↦ w.overlap-is ∙ w.with-overlap.ensures (shared (take i xs) ys) c.loop-elem.invariant
-          ∙ ap overlap_of (sym (shared_more xs ys i (record { 0 = 0 }) c.loop-elem-test.true (sym tells ∙ w.if-is_among.true)))
+          ∙ ap counted (sym (shared_more xs ys i (record { 0 = 0 }) c.loop-elem-test.true (sym tells ∙ w.if-is_among.true)))
       | else-is_among w ↦ w.overlap-is ∙ c.loop-elem.invariant
-          ∙ ap overlap_of (sym (shared_same xs ys i (record { 0 = 0 }) c.loop-elem-test.true (sym tells ∙ w.if-is_among.false)))
+          ∙ ap counted (sym (shared_same xs ys i (record { 0 = 0 }) c.loop-elem-test.true (sym tells ∙ w.if-is_among.false)))
     ]

@@ -1,17 +1,14 @@
-use Rattle.std.proofs.Common.{◌∙◌, sym, subst, refl, List, []}
+use Rattle.std.proofs.Common.{◌∙◌, ap, sym, subst, List, []}
 use Rattle.sk_base.specs.declared.Name.TheVariants.{Con}
-use Rattle.sk_base.specs.declared.Elem.{Elem}
-use Rattle.sk_base.specs.declared.ConId.{ConId}
+use Rattle.sk_family.specs.declared.cluster.Cluster.{Cluster}
 use Rattle.sk_family.specs.Clusters.{body_of}
 use Rattle.sk_family.proofs.Wholes.{MakesSoFar, makes_nothing, makes_more, makes_whole}
 use Rattle.sk_family.proofs.family.whole_of.Goals as goal
 
 pub loop-part-init : goal.loop-part-init
 loop-part-init c = record {
-  name = refl;
-  makes = subst (λ (es : List Elem). MakesSoFar c.args.from.now c.args.clusters.now [] (record { elements = es; owned = c.new-2.result })) (sym c.new.ensures)
-      (subst (λ (ks : List ConId). MakesSoFar c.args.from.now c.args.clusters.now [] (record { elements = []; owned = ks })) (sym c.new-2.ensures)
-      (makes_nothing c.args.from.now c.args.clusters.now));
+  name = ap (λ (d : Cluster). d.name) c.empty-whole.ensures;
+  makes = subst (λ (d : Cluster). MakesSoFar c.args.from.now c.args.clusters.now [] (body_of d)) (sym c.empty-whole.ensures) (makes_nothing c.args.from.now c.args.clusters.now);
 }
 
 pub loop-part-preserved : goal.loop-part-preserved

@@ -1,22 +1,20 @@
-use Rattle.std.proofs.Common.{◌+◌, ◌-◌, ◌/◌, refl, arith, ℕ}
-use Rattle.sk_base.proofs.Searches.{refused}
-use Rattle.sk_base.specs.ClusterNames.{IsBelow}
+use Rattle.std.proofs.Common.{rules, refl, true, false, ◌≡◌}
+use Rattle.std.specs.List.Sorted.{IsPartitionPoint}
+use Rattle.std.proofs.lemmas.List.Sorted.{IsPartitionPoint-from_clause}
 use Rattle.sk_family.specs.declared.cluster.Cluster.{Cluster}
-use Rattle.sk_family.proofs.Halving.{narrows_up, narrows_down, below_in_front}
+use Rattle.sk_family.specs.Starting.{is_before}
+use Rattle.sk_family.proofs.Halving.{front_passes, rest_fails, before_below, not_below, names_partition, tells_before}
 use Rattle.sk_family.proofs.order.place_of.Goals as goal
 
-pub loop-low-preserved-then-is_below : goal.loop-low-preserved-then-is_below
-loop-low-preserved-then-is_below c =
-    let middle : ℕ = c.loop-low.low + (c.loop-low.high - c.loop-low.low) / 2 in
-    let test = c.loop-low-test.true in
-    narrows_up (λ (x : Cluster). IsBelow x.name c.args.name) c.args.clusters.now (below_in_front c.args.clusters.now c.args.name c.requires) c.loop-low.low c.loop-low.high middle c.loop-low.invariant
-    (omega arith) (omega arith) c.index-clusters-middle.result
-    (c.if-is_below.ensures.0 refl)
+point : (c : goal.After-partition_point) → IsPartitionPoint (λ (x : Cluster). is_before x.name c.args.name ≡ true) (λ (x : Cluster). is_before x.name c.args.name ≡ false) c.args.clusters.now c.partition_point.result
+point c =
+    IsPartitionPoint-from_clause (λ (x : Cluster). is_before x.name c.args.name) c.args.clusters.now c.partition_point.result c.partition_point.ensures.partitioned
+    (names_partition c.args.clusters.now c.args.name c.requires) (λ a r f' called. search (rules, tells_before))
 
-pub loop-low-preserved : goal.loop-low-preserved
-loop-low-preserved c =
-    let middle : ℕ = c.loop-low.low + (c.loop-low.high - c.loop-low.low) / 2 in
-    let test = c.loop-low-test.true in
-    narrows_down (λ (x : Cluster). IsBelow x.name c.args.name) c.args.clusters.now (below_in_front c.args.clusters.now c.args.name c.requires) c.loop-low.low c.loop-low.high middle c.loop-low.invariant
-    (omega arith) (omega arith) c.index-clusters-middle.result
-    (refused c.if-is_below.ensures.1)
+pub returns-clause-before : goal.returns-clause-before
+returns-clause-before c x x_in =
+    before_below x.name c.args.name (front_passes (λ (y : Cluster). is_before y.name c.args.name) c.args.clusters.now c.partition_point.result (point c) x x_in)
+
+pub returns-clause-after : goal.returns-clause-after
+returns-clause-after c x x_in =
+    not_below x.name c.args.name (rest_fails (λ (y : Cluster). is_before y.name c.args.name) c.args.clusters.now c.partition_point.result (point c) x x_in)

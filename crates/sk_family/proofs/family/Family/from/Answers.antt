@@ -7,7 +7,7 @@ use Rattle.sk_family.proofs.family.Family.from.Goals as goal
 
 pub returns-clause-live : goal.returns-clause-live
 returns-clause-live c x =
-    let live : c.as_slice-clusters.result.now ≡ c.args.self.now.live = c.as_slice-clusters.ensures.value ∙ ap (λ (f : Clusters). f.live) c.self.view_is in
+    let live : c.as_slice-clusters.result.now ≡ c.args.self.now.live = c.as_slice-clusters.ensures ∙ ap (λ (f : Clusters). f.live) c.self.view_is in
     let rest = in_rest c.as_slice-clusters.result.now c.args.name c.place_of.result c.place_of.ensures.before c.place_of.ensures.after x in (
       (λ h. (subst (λ (l : List Cluster). Contains l x) live (rest.0 h).0, (rest.0 h).1)),
       (λ (x_in, above). rest.1 (subst (λ (l : List Cluster). Contains l x) (sym live) x_in, above)),
@@ -16,4 +16,4 @@ returns-clause-live c x =
 pub returns-clause-rise : goal.returns-clause-rise
 returns-clause-rise c =
     rest_rises c.as_slice-clusters.result.now c.args.name c.place_of.result c.place_of.ensures.before c.place_of.ensures.after
-    (subst (λ (l : List Cluster). AllPairs ByName l) (sym c.as_slice-clusters.ensures.value) c.self.invariant.names_rise)
+    (subst (λ (l : List Cluster). AllPairs ByName l) (sym c.as_slice-clusters.ensures) c.self.invariant.names_rise)
