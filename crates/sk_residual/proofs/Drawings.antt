@@ -3,7 +3,6 @@ use Rattle.std.proofs.Common.{◌≡◌, ◌==◌, pos, refl, sym, subst, arith}
 use Rattle.std.specs.Prelude.{Contains, Option, None, Some, IsSome, unwrap_or}
 use Rattle.std.specs.Option.{option_map}
 use Rattle.std.proofs.lemmas.Bool.Decides.{nat_tests}
-use Rattle.std.proofs.lemmas.List.Elements.{All-contains}
 use Rattle.sk_base.specs.declared.Elem.{Elem}
 use Rattle.sk_base.specs.declared.Element.{Element}
 use Rattle.sk_base.specs.declared.Kind.TheVariants as kinds
@@ -13,12 +12,9 @@ use Rattle.sk_base.specs.declared.Shape.TheVariants.{Point, Line, Circle}
 use Rattle.sk_base.specs.declared.Sketch.{Sketch}
 use Rattle.sk_base.specs.Drawn.{element_of, shape_of, IsLine, HasCentre}
 use Rattle.sk_base.specs.Numbering.{elem_exact}
-use Rattle.sk_base.specs.SoundSketch.{IsSoundShape, IsSoundSketch}
 use Rattle.sk_base.proofs.Finding.{found_in}
 use Rattle.sk_base.proofs.Members.{contains_mapped}
 use Rattle.sk_graph.specs.SketchGraph.{kind_of, node_of, drawn_as, graph_of}
-use Rattle.sk_orient.specs.DrawnSigns.{IsOnPaper}
-use Rattle.sk_orient.proofs.Papers.{on_paper}
 use Rattle.sk_residual.specs.Placing.{IsPlacedAs, PlacesExactly}
 use Rattle.sk_residual.specs.Telling.{IsDrawnPoint, IsDrawnLine}
 
@@ -37,11 +33,6 @@ drawn_by s e drawn = at (element_of s e) refl drawn
     at (Some x) is some = (
         let found = found_in (λ (y : Element). y.number.0 == e.0) s.elements x is in
         record { element = x; inside = found.0; number = grind (arith, nat_tests, found.1); drawn = refl })
-
-pub on_paper_of : (s : Sketch) (e : Elem) → IsSoundSketch s → IsSome (shape_of s e) → IsOnPaper (drawn_as s e)
-on_paper_of s e sound drawn =
-    let by = drawn_by s e drawn in
-    subst (λ shape. IsOnPaper shape) (sym by.drawn) (on_paper by.element.shape (All-contains (λ (y : Element). IsSoundShape y.shape) s.elements by.element sound.shapes_sound by.inside))
 
 module _ (s : Sketch) (p : Placed) (exactly : PlacesExactly (graph_of s) p) (e : Elem) where
   placed_as : IsSome (shape_of s e) → IsPlacedAs p e (kind_of (drawn_as s e))

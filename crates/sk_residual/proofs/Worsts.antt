@@ -21,7 +21,7 @@ use Rattle.sk_residual.specs.declared.spotted.Spotted.TheVariants.{Con, Line}
 use Rattle.sk_residual.proofs.Firsts.{appended}
 use Rattle.sk_residual.specs.Holding.{IsLength, IsOffset, IsNormal, IsMet, tolerance_of}
 use Rattle.sk_residual.specs.Placing.{lies}
-use Rattle.sk_residual.specs.Tolerances.{Item, normal, constraint, name_of, Holds, IsOwnLeast, AllHold, IsWorstUnlessNone, distances, distance_of_measure, lengthwise, anglewise, normals, angles, normal_of_kind, angle_of_measure, AllHoldWithin}
+use Rattle.sk_residual.specs.Tolerances.{Item, normal, constraint, name_of, Holds, IsOwnLeast, AllHold, IsMissed, IsWorst, IsWorstUnlessNone, distances, distance_of_measure, lengthwise, anglewise, normals, angles, normal_of_kind, angle_of_measure, AllHoldWithin}
 use Rattle.sk_residual.specs.Telling.{IsTold, constraint_of}
 
 -- what holds within n holds within more
@@ -154,3 +154,16 @@ all_hold_within p g t w lengths rest = record {
       (λ here. lengths (constraint e) (contains_flat (λ (x : Edge). distance_of_measure x x.measure) g.edges e (constraint e) h here))
       (λ here. rest (constraint e) (Contains-append_right (normals g.nodes) (angles g.edges) (constraint e) (contains_flat (λ (x : Edge). angle_of_measure x x.measure) g.edges e (constraint e) h here)));
 }
+
+-- a smaller number than the least leaves one out, the worst
+missed : (p : Placed) (items : List Item) (n : ℕ) (at : Spotted) → IsWorst p items n at → (m : ℕ) → m < n → IsMissed p items m
+missed p items n at worst m lt = (
+  worst.item,
+  subst (λ xs. Contains xs worst.item) (sym worst.first.parts) (Contains-append_right worst.first.before (worst.item ∷ worst.first.after) worst.item (contains_head worst.item worst.first.after)),
+  λ held. (let few : n ≤ m = worst.first.has.least m held in omega arith),
+)
+
+pub told_missed : (p : Placed) (items : List Item) (worst : ℕ) (at : Option Spotted) → IsTold p items (record { least = worst; at = at }) → (m : ℕ) → m < worst → IsMissed p items m
+told_missed p items worst None told m lt =
+    let none : worst ≤ 0 = told.least.least 0 (λ item h. absurd (contains_none item (subst (λ xs. Contains xs item) told.at h))) in absurd (omega arith)
+told_missed p items worst (Some at) told m lt = missed p items worst at told.at m lt

@@ -40,6 +40,10 @@ IsOwnLeast p item n = IsLeast (Holds p item) n
 abbrev pub AllHold : Placed → List Item → ℕ → Type 0
 AllHold p items n = (item : Item) → Contains items item → Holds p item n
 
+-- one of the items doesn't hold within n
+abbrev pub IsMissed : Placed → List Item → ℕ → Type 0
+IsMissed p items n = (item : Item) × Contains items item × ¬ Holds p item n
+
 abbrev pub normal_of_kind : Elem → Kind → List Item
 normal_of_kind e kinds.Point = []
 normal_of_kind e kinds.Line = normal e ∷ []

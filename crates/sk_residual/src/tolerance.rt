@@ -1,12 +1,12 @@
 // The least tolerance of a placed sketch.
-ghost use Rattle.std.specs.Prelude.{◌≡◌, ◌++◌, List, Contains};
+ghost use Rattle.std.specs.Prelude.{◌≡◌, ◌<◌, ◌++◌, ℕ, List, Contains};
 ghost use Rattle.std.specs.Option.{option_map};
 ghost use Rattle.sk_base.specs.declared.Edge.{Edge as OfEdge};
 ghost use Rattle.sk_base.specs.declared.Node.{Node as OfNode};
 ghost use Rattle.sk_base.specs.SoundGraph.{IsSoundGraph};
 ghost use Rattle.sk_residual.specs.Least.{IsLeast};
 ghost use Rattle.sk_residual.specs.Placing.{IsPlacedAs, IsMeasurable, PlacesExactly};
-ghost use Rattle.sk_residual.specs.Tolerances.{Item, AllHold, AllHoldWithin, IsWorstUnlessNone, normals, distances, angles, lengthwise, anglewise};
+ghost use Rattle.sk_residual.specs.Tolerances.{Item, AllHold, AllHoldWithin, IsMissed, IsWorstUnlessNone, normals, distances, angles, lengthwise, anglewise};
 ghost use Rattle.sk_residual.specs.Telling.{IsTold, constraint_of};
 
 use crate::spotted::Spotted;
@@ -31,6 +31,8 @@ pub fn least(p: &Placed, g: &Graph) -> Tolerance
     ensures t { IsLeast (AllHold p.now (lengthwise g.now)) result.t }
     ensures w { IsLeast (AllHold p.now (anglewise g.now)) result.w }
     ensures holds { AllHoldWithin p.now g.now result.t result.w }
+    ensures smaller_t { (m : ℕ) → m < result.t → IsMissed p.now (lengthwise g.now) m }
+    ensures smaller_w { (m : ℕ) → m < result.w → IsMissed p.now (anglewise g.now) m }
     ensures worst_t { IsWorstUnlessNone p.now (lengthwise g.now) result.t (option_map (λ k. Spotted.Con k) result.worst_t) }
     ensures worst_w { IsWorstUnlessNone p.now (anglewise g.now) result.w result.worst_w }
 {

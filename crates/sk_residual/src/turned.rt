@@ -13,8 +13,9 @@ ghost use Rattle.sk_residual.specs.Placing.{PlacesExactly};
 ghost use Rattle.sk_residual.specs.Turns.{senses, turn, advance, choices, angle_signs, step_signs, signs, value_of, IsAsDrawn, IsTurned, AllAsDrawn};
 ghost use Rattle.sk_residual.specs.Telling.{IsDrawnPoint, IsDrawnLine, HasCorners, IsCompared};
 
-use crate::place::{place, shape};
+use crate::place::place;
 use sk_base::{ConId, Constraint, Elem, Name, Placed, Ratio, Rule, Sign, Sketch};
+use sk_graph::shape;
 use sk_orient::{
     advance_drawn, advance_placed, sense_drawn, sense_placed, turn_drawn, turn_placed,
 };

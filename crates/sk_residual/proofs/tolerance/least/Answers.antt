@@ -3,7 +3,7 @@ use Rattle.std.specs.Prelude.{Contains}
 use Rattle.sk_base.specs.declared.Edge.{Edge}
 use Rattle.sk_base.specs.declared.Node.{Node}
 use Rattle.sk_residual.proofs.Placings.{measurable}
-use Rattle.sk_residual.proofs.Worsts.{worst_distance_named, all_hold_within}
+use Rattle.sk_residual.proofs.Worsts.{worst_distance_named, all_hold_within, told_missed}
 use Rattle.sk_residual.specs.Tolerances.{normals}
 use Rattle.sk_residual.proofs.tolerance.least.Goals as goal
 
@@ -26,3 +26,12 @@ returns-clause-holds c =
     let lengths = rw c.as_slice.ensures at c.worst_distance-lengthwise.ensures in
     let rest = rw (c.as_slice-2.ensures, c.as_slice-3.ensures) at (c.worst_angle-anglewise.ensures (normals c.as_slice-3.result.now) c.worst_normal.ensures) in
     all_hold_within c.args.p.now c.args.g.now c.worst_distance-lengthwise.result.least c.worst_angle-anglewise.result.least lengths.least.holds rest.least.holds
+
+pub returns-clause-smaller_t : goal.returns-clause-smaller_t
+returns-clause-smaller_t c m lt =
+    told_missed c.args.p.now _ c.worst_distance-lengthwise.result.least c.worst_distance-lengthwise.result.at (rw c.as_slice.ensures at c.worst_distance-lengthwise.ensures) m lt
+
+pub returns-clause-smaller_w : goal.returns-clause-smaller_w
+returns-clause-smaller_w c m lt =
+    told_missed c.args.p.now _ c.worst_angle-anglewise.result.least c.worst_angle-anglewise.result.at
+    (rw (c.as_slice-2.ensures, c.as_slice-3.ensures) at (c.worst_angle-anglewise.ensures (normals c.as_slice-3.result.now) c.worst_normal.ensures)) m lt

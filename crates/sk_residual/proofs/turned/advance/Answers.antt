@@ -1,14 +1,14 @@
-use Rattle.sk_residual.proofs.Drawings.{on_paper_of, placed_point, placed_line}
+use Rattle.sk_residual.proofs.Drawings.{placed_point, placed_line}
 use Rattle.sk_residual.proofs.turned.advance.Goals as goal
 
 pub advance_drawn-requires-clause-line : goal.advance_drawn-requires-clause-line
-advance_drawn-requires-clause-line c = rw c.shape.ensures (c.requires.line.1, on_paper_of c.args.s.now c.args.line c.requires.sketch c.requires.line.0)
+advance_drawn-requires-clause-line c = (rw c.shape.ensures.drawn c.requires.line.1, c.shape.ensures.on_paper)
 
 pub advance_drawn-requires-clause-p : goal.advance_drawn-requires-clause-p
-advance_drawn-requires-clause-p c = rw c.shape-2.ensures (c.requires.x.1, on_paper_of c.args.s.now c.args.x c.requires.sketch c.requires.x.0)
+advance_drawn-requires-clause-p c = (rw c.shape-2.ensures.drawn c.requires.x.1, c.shape-2.ensures.on_paper)
 
 pub advance_drawn-requires-clause-q : goal.advance_drawn-requires-clause-q
-advance_drawn-requires-clause-q c = rw c.shape-3.ensures (c.requires.y.1, on_paper_of c.args.s.now c.args.y c.requires.sketch c.requires.y.0)
+advance_drawn-requires-clause-q c = (rw c.shape-3.ensures.drawn c.requires.y.1, c.shape-3.ensures.on_paper)
 
 pub place-requires : goal.place-requires
 place-requires c = (_, placed_line c.args.s.now c.args.p.now c.requires.placed c.args.line c.requires.line)

@@ -1,11 +1,11 @@
-use Rattle.sk_residual.proofs.Drawings.{on_paper_of, placed_line}
+use Rattle.sk_residual.proofs.Drawings.{placed_line}
 use Rattle.sk_residual.proofs.turned.sense.Goals as goal
 
 pub sense_drawn-requires-clause-l : goal.sense_drawn-requires-clause-l
-sense_drawn-requires-clause-l c = rw c.shape.ensures (c.requires.l.1, on_paper_of c.args.s.now c.args.l c.requires.sketch c.requires.l.0)
+sense_drawn-requires-clause-l c = (rw c.shape.ensures.drawn c.requires.l.1, c.shape.ensures.on_paper)
 
 pub sense_drawn-requires-clause-m : goal.sense_drawn-requires-clause-m
-sense_drawn-requires-clause-m c = rw c.shape-2.ensures (c.requires.m.1, on_paper_of c.args.s.now c.args.m c.requires.sketch c.requires.m.0)
+sense_drawn-requires-clause-m c = (rw c.shape-2.ensures.drawn c.requires.m.1, c.shape-2.ensures.on_paper)
 
 pub place-requires : goal.place-requires
 place-requires c = (_, placed_line c.args.s.now c.args.p.now c.requires.placed c.args.l c.requires.l)

@@ -1,14 +1,14 @@
-use Rattle.sk_residual.proofs.Drawings.{on_paper_of, placed_point}
+use Rattle.sk_residual.proofs.Drawings.{placed_point}
 use Rattle.sk_residual.proofs.turned.turn.Goals as goal
 
 pub turn_drawn-requires-clause-p : goal.turn_drawn-requires-clause-p
-turn_drawn-requires-clause-p c = rw c.shape.ensures (c.requires.x.1, on_paper_of c.args.s.now c.args.x c.requires.sketch c.requires.x.0)
+turn_drawn-requires-clause-p c = (rw c.shape.ensures.drawn c.requires.x.1, c.shape.ensures.on_paper)
 
 pub turn_drawn-requires-clause-q : goal.turn_drawn-requires-clause-q
-turn_drawn-requires-clause-q c = rw c.shape-2.ensures (c.requires.y.1, on_paper_of c.args.s.now c.args.y c.requires.sketch c.requires.y.0)
+turn_drawn-requires-clause-q c = (rw c.shape-2.ensures.drawn c.requires.y.1, c.shape-2.ensures.on_paper)
 
 pub turn_drawn-requires-clause-r : goal.turn_drawn-requires-clause-r
-turn_drawn-requires-clause-r c = rw c.shape-3.ensures (c.requires.z.1, on_paper_of c.args.s.now c.args.z c.requires.sketch c.requires.z.0)
+turn_drawn-requires-clause-r c = (rw c.shape-3.ensures.drawn c.requires.z.1, c.shape-3.ensures.on_paper)
 
 pub place-requires : goal.place-requires
 place-requires c = (_, placed_point c.args.s.now c.args.p.now c.requires.placed c.args.x c.requires.x)
