@@ -1,5 +1,5 @@
 -- The merges of a legal plan and the drawing tell the whole plan.
-use Rattle.std.proofs.Common.{◌≡◌, ◌⊎◌, inl, inr, refl, ℕ, ◌<◌, List, [], ◌∷◌, ap, sym, subst, ◌∙◌, length, arith}
+use Rattle.std.proofs.Common.{◌≡◌, inl, inr, refl, List, [], ◌∷◌, ap, sym, subst, ◌∙◌, arith}
 use Rattle.std.specs.Prelude.{map, All, Contains}
 use Rattle.std.proofs.lemmas.List.Elements.{All-head, All-tail}
 use Rattle.sk_base.specs.declared.Elem.{Elem}

@@ -3,13 +3,13 @@ use Rattle.std.proofs.Common.{◌≡◌, ◌≢◌, ◌⊎◌, inl, inr, ℕ, �
 use Rattle.std.specs.Prelude.{◌↔◌, Contains, AllPairs, map, Option, Some, None, IsNone, IfSome, slice_get}
 use Rattle.std.specs.Option.{option_map}
 use Rattle.std.proofs.lemmas.List.{length-map, map-append}
-use Rattle.std.proofs.lemmas.List.Elements.{Contains-append_cases, Contains-append_left, Contains-append_right}
+use Rattle.std.proofs.lemmas.List.Elements.{Contains-append_left, Contains-append_right}
 use Rattle.sk_base.specs.declared.ConId.{ConId}
 use Rattle.sk_base.specs.declared.Edge.{Edge}
 use Rattle.sk_base.specs.declared.Graph.{Graph}
 use Rattle.sk_base.specs.SoundGraph.{IsSoundGraph}
-use Rattle.sk_base.proofs.Members.{contains_none, contains_head, contains_later, contains_cases, contains_mapped}
-use Rattle.sk_base.proofs.Pairs.{pairs_none, pairs_cons, pairs_tail, pairs_head, pairs_map}
+use Rattle.sk_base.proofs.Members.{contains_none, contains_head, contains_mapped}
+use Rattle.sk_base.proofs.Pairs.{pairs_none, pairs_cons, pairs_map}
 use Rattle.sk_base.specs.Numbering.{con_number}
 use Rattle.sk_family.specs.declared.Cluster.{Cluster}
 use Rattle.sk_family.specs.Clusters.{initial_clusters}
@@ -23,7 +23,7 @@ use Rattle.sk_tree.specs.Trees.{leaves_of, step_count, IsTreeOf, AreJoins}
 use Rattle.sk_tree.proofs.SomeTrees.{tree_of_taken}
 use Rattle.sk_plan.specs.Leaves.{HasLeaves}
 use Rattle.sk_tree.specs.PlanTree.{merges_told, IsPlanTree}
-use Rattle.sk_base.proofs.Distinct.{no_longer, same_length}
+use Rattle.sk_base.proofs.Distinct.{same_length}
 use Rattle.sk_plan.proofs.Legal.{Arrives, arrives}
 use Rattle.sk_plan.proofs.Finished.{grown, clusters_left, last_leaves, no_steps}
 

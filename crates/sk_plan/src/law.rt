@@ -1,5 +1,5 @@
 // What holds of every plan, and of every way of merging, whatever it is made by.
-ghost use Rattle.std.specs.Prelude.{◌≡◌, ◌-◌, ◌∷◌, [], List, All, Contains, map, length};
+ghost use Rattle.std.specs.Prelude.{◌≡◌, ◌≢◌, ◌-◌, ◌∷◌, [], List, All, Contains, map, length};
 ghost use Rattle.sk_base.specs.declared.Elem.{Elem};
 ghost use Rattle.sk_base.specs.declared.Graph.{Graph};
 ghost use Rattle.sk_base.specs.declared.Sketch.{Sketch};
@@ -24,12 +24,14 @@ ghost use Rattle.sk_plan.specs.Sparse.{AllOwnJustEnough, EachMeetsOnce, HoldsNon
 
 /// Only a graph with the verdict well has a legal plan. The plan has two steps fewer than the graph
 /// has nodes, or none for one node, each step is at three of the nodes, and the leaves of its tree are
-/// all constraints, each once. Of the graph, no k elements have more than 2k - 3 constraints among
-/// them, and no k lines more than k - 1 angles.
+/// all constraints, each once, and it has a tree unless it has no leaf. Of the graph, no k ≥ 2
+/// different elements have more than 2k - 3 constraints among them, and no k ≥ 1 different lines more
+/// than k - 1 angles.
 pub fn legal_plan()
     ensures well { (g : Graph) (p : Plan) → IsSoundGraph g → IsLegalPlan g p → IsWell g }
     ensures steps { (g : Graph) (p : Plan) → IsSoundGraph g → IsLegalPlan g p → length p.steps ≡ length g.nodes - 2 }
     ensures corners { (g : Graph) (p : Plan) → IsLegalPlan g p → (s : PlanStep) (e : Elem) → Contains p.steps s → Contains (s.a ∷ s.b ∷ s.c ∷ []) e → Contains (map elem_of g.nodes) e }
+    ensures tree { (g : Graph) (p : Plan) → IsSoundGraph g → IsLegalPlan g p → p.leaves ≢ [] → (t : Tree) × IsPlanTree p t }
     ensures leaves { (g : Graph) (p : Plan) → IsSoundGraph g → IsLegalPlan g p → (t : Tree) → IsPlanTree p t → HasLeaves t p.leaves }
     ensures elements { (g : Graph) (p : Plan) → IsSoundGraph g → IsLegalPlan g p → IsSparse g }
     ensures lines { (g : Graph) (p : Plan) → IsSoundGraph g → IsLegalPlan g p → HasFewAngles g }
@@ -48,9 +50,9 @@ pub fn joined_once()
     ensures joins { (g : Graph) (taken : List Taken) (end : Clusters) → IsSoundGraph g → Leads g (initial_clusters g) taken end → IsClosed g (bodies end) → HoldsNoneTooMany g (bodies end) → AreJoins taken }
 {}
 
-/// Where merging ends with no constraint too many, though perhaps in several clusters, no k elements
-/// of a cluster have more than 2k - 3 constraints among them, and no k lines of it more than k - 1
-/// angles.
+/// Where merging ends with no constraint too many, though perhaps in several clusters, no k ≥ 2
+/// different elements of a cluster have more than 2k - 3 constraints among them, and no k ≥ 1 different
+/// lines of it more than k - 1 angles.
 pub fn sparse_parts()
     ensures elements { (g : Graph) (f : List Body) → HasRisingEdges g → HasTwoEnds g → IsNormal g f → HoldsNoneTooMany g f → (x : Body) → Contains f x → IsSparseAmong g x.elements }
     ensures lines { (g : Graph) (f : List Body) → HasRisingEdges g → HasTwoEnds g → IsNormal g f → HoldsNoneTooMany g f → (x : Body) → Contains f x → HasFewAnglesAmong g x.elements }

@@ -7,9 +7,13 @@ ghost use Rattle.sk_graph.specs.SketchGraph.{graph_of};
 ghost use Rattle.sk_rules.specs.Taking.{Leads};
 ghost use Rattle.sk_worklist.specs.Run.{IsRun};
 ghost use Rattle.sk_tree.specs.LegalPlan.{numbers_of, merge_told, taken_told, AreLegalSteps, IsLegalPlan, IsWhole};
+ghost use Rattle.sk_tree.specs.declared.Tree.{Tree};
+ghost use Rattle.sk_tree.specs.PlanTree.{IsPlanTree};
 ghost use Rattle.sk_choice.specs.DrawnChoice.{HasDrawnChoice};
 ghost use Rattle.sk_plan.specs.Judged.{IsWell, TellsWhy};
+ghost use Rattle.sk_plan.specs.Leaves.{HasLeaves};
 ghost use Rattle.sk_plan.specs.Runs.{EachTakesOnce};
+ghost use Rattle.sk_plan.specs.Sparse.{IsSparse, HasFewAngles};
 
 use crate::error::PlanError;
 use crate::step::plan_step;
@@ -22,7 +26,8 @@ use sk_worklist::{Picker, close_family};
 use std::alloc::Global;
 
 /// The plan of the picker's run on the graph `g` of the sketch `s`. There is one exactly where the
-/// verdict is well; else the judgement tells why.
+/// verdict is well; else the judgement tells why. Where there is one, no k ≥ 2 different elements have
+/// more than 2k - 3 constraints among them, and no k ≥ 1 different lines more than k - 1 angles.
 pub fn plan_of<P: Picker>(
     alloc: Global,
     s: &Sketch,
@@ -36,6 +41,9 @@ pub fn plan_of<P: Picker>(
     ensures run { IfOk result (λ plan. (end : Clusters) × IsRun P.answer P.after g.now (initial_clusters g.now) p.old (map merge_told plan.steps) end p.new) }
     ensures drawn { IfOk result (λ plan. All (λ step. HasDrawnChoice s.now step) plan.steps) }
     ensures steps { IfOk result (λ plan. length plan.steps ≡ length s.now.elements - 2) }
+    ensures leaves { IfOk result (λ plan. (t : Tree) → IsPlanTree plan t → HasLeaves t (numbers_of g.now)) }
+    ensures sparse { OnOk result (IsSparse g.now) }
+    ensures few_angles { OnOk result (HasFewAngles g.now) }
     ensures well { OnOk result (IsWell g.now) }
     ensures not_well { IfErr result (λ error. TellsWhy g.now error) }
 {

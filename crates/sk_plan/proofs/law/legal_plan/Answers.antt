@@ -1,6 +1,6 @@
 use Rattle.sk_family.specs.Clusters.{initial_clusters}
 use Rattle.sk_plan.proofs.Legal.{corners_of}
-use Rattle.sk_plan.proofs.PlanTrees.{tree_leaves}
+use Rattle.sk_plan.proofs.PlanTrees.{tree_leaves, some_plan_tree}
 use Rattle.sk_plan.proofs.WellPlans.{plan_well}
 use Rattle.sk_plan.proofs.Planned.{plan_steps, plan_sparse, plan_few_angles}
 use Rattle.sk_plan.proofs.law.legal_plan.Goals as goal
@@ -22,3 +22,6 @@ returns-clause-elements c = plan_sparse
 
 pub returns-clause-lines : goal.returns-clause-lines
 returns-clause-lines c = plan_few_angles
+
+pub returns-clause-tree : goal.returns-clause-tree
+returns-clause-tree c = some_plan_tree
