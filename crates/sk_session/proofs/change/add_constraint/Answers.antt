@@ -1,19 +1,16 @@
 use Rattle.std.proofs.Common.{◌≡◌, inl, inr, refl, ap, sym, subst, ◌∙◌, List}
 use Rattle.sk_base.specs.declared.ConId.{ConId}
-use Rattle.sk_base.specs.declared.Edge.{Edge}
 use Rattle.sk_base.specs.declared.Constraint.{Constraint}
 use Rattle.sk_base.specs.declared.Sketch.{Sketch}
 use Rattle.sk_family.specs.Starts.{IsFree}
 use Rattle.sk_session.specs.Edits.{constraint_number}
-use Rattle.sk_session.proofs.Graphs.{id_of}
 use Rattle.sk_session.proofs.Owners.{free_number}
 use Rattle.sk_session.proofs.Places.{taken_back}
 use Rattle.sk_session.proofs.change.add_constraint.Goals as goal
 
 pub adopt-requires-clause-free : goal.adopt-requires-clause-free
 adopt-requires-clause-free c =
-    let id : c.edge-start.result.id ≡ c.args.constraint.number = ap (λ (e : Edge). e.id) c.edge-start.ensures ∙ id_of c.args.sketch.now c.args.constraint in
-    subst (λ (k : ConId). IsFree c.args.family.now k) (sym id)
+    subst (λ (k : ConId). IsFree c.args.family.now k) (sym c.edge-start.ensures.number)
     (free_number c.args.sketch.now c.requires.sound c.args.family.now c.requires.named c.requires.reached c.args.constraint.number c.requires.other)
 
 pub take-requires-clause-some : goal.take-requires-clause-some
