@@ -3,7 +3,8 @@ use Rattle.std.proofs.Common.{◌≡◌, ◌≢◌, inl, inr, refl, true, false,
 use Rattle.std.specs.Prelude.{Contains, AllPairs, IsTrue, ◌↔◌}
 use Rattle.std.specs.List.Sorted.{IsPartitionedBy, IsPartitionPoint}
 use Rattle.std.proofs.lemmas.Bool.Decides.{nat_tests}
-use Rattle.std.proofs.lemmas.List.{get_or-take, get_or-drop, get_or_default, length-take, take_all}
+use Rattle.std.proofs.lemmas.List.{get_or-take, get_or-drop, length-take, take_all}
+use Rattle.std.proofs.lemmas.List.Elements.{Contains-get_or}
 use Rattle.sk_base.specs.declared.Name.{Name}
 use Rattle.sk_base.specs.declared.Name.TheVariants.{Con, Step}
 use Rattle.sk_base.specs.ClusterNames.{IsBelow}
@@ -19,10 +20,10 @@ use Rattle.sk_base.proofs.Pairs.{pairs_head}
 
 module _ {X : Type 0} (p : X → Bool) (xs : List X) where
   -- where an item that passes stands behind others only that pass
-  pub passing_front : (R : X → X → Type 0) → AllPairs R xs → ((x y : X) → R x y → p y ≡ true → p x ≡ true) → IsPartitionedBy p xs
+  pub passing_front : (R : X → X → Type 0) → AllPairs R xs → ((x y : X) → Contains xs x → Contains xs y → R x y → p y ≡ true → p x ≡ true) → IsPartitionedBy p xs
   passing_front R pairs before i j d order j_in passes =
       elim (which i j) [
-        | inl less ↦ before (get_or xs i d) (get_or xs j d) (pairs i j d less j_in) passes
+        | inl less ↦ before (get_or xs i d) (get_or xs j d) (Contains-get_or xs i d (omega arith)) (Contains-get_or xs j d j_in) (pairs i j d less j_in) passes
         | inr (inl level) ↦ subst (λ k. p (get_or xs k d) ≡ true) (sym level) passes
         | inr (inr more) ↦ absurd (omega arith)
       ]
@@ -66,7 +67,7 @@ not_below m n fails below = (let passes : is_before m n ≡ true = below_before 
 pub names_partition : (clusters : List Cluster) (name : Name) → AllPairs ByName clusters → IsPartitionedBy (λ (c : Cluster). is_before c.name name) clusters
 names_partition clusters name rise =
     passing_front (λ (c : Cluster). is_before c.name name) clusters ByName rise
-    (λ x y x_y y_name. below_before x.name name (below_chain x.name y.name name x_y (before_below y.name name y_name)))
+    (λ x y x_in y_in x_y y_name. below_before x.name name (below_chain x.name y.name name x_y (before_below y.name name y_name)))
 
 -- what a name's place says of the clusters
 module _ (clusters : List Cluster) (name : Name) (place : ℕ) (before : (c : Cluster) → Contains (take place clusters) c → IsBelow c.name name)

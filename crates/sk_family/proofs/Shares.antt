@@ -14,18 +14,3 @@ module _ (xs ys : List Elem) (i : ℕ) (d : Elem) (i_in : i < length xs) where
 
   pub shared_same : is_elem ys (get_or xs i d) ≡ false → shared (take (i + 1) xs) ys ≡ shared (take i xs) ys
   shared_same other = rw (filter_more (is_elem ys) xs i d i_in, other, append-nil)
-
-  -- one more is no more than all
-  pub shared_within : is_elem ys (get_or xs i d) ≡ true → length (shared (take i xs) ys) + 1 ≤ length (shared xs ys)
-  shared_within here =
-      let more = ap length (shared_more here) ∙ length-append (shared (take i xs) ys) (get_or xs i d ∷ []) in
-      let whole : shared xs ys ≡ shared (take (i + 1) xs) ys ++ shared (drop (i + 1) xs) ys =
-      ap (filter (is_elem ys)) (sym (take-append-drop (i + 1) xs)) ∙ filter-append (is_elem ys) (take (i + 1) xs) (drop (i + 1) xs) in
-      let size = ap length whole ∙ length-append (shared (take (i + 1) xs) ys) (shared (drop (i + 1) xs) ys) in
-      omega (arith, more, size)
-
--- no more are shared than there are
-pub shared_at_most : (xs ys : List Elem) → length (shared xs ys) ≤ length xs
-shared_at_most xs ys =
-    let both = length-filter_both (is_elem ys) (λ x. not (is_elem ys x)) (λ x. refl) xs in
-    omega (arith, both)

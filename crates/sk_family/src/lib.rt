@@ -11,4 +11,3 @@ mod union;
 pub use cluster::{Cluster, Overlap, common};
 pub use family::{Family, initial};
 pub use row::Row;
-pub use union::union_of;

@@ -5,7 +5,7 @@ use sk_base::{List, NoMemory, Numbered};
 use std::alloc::Global;
 
 /// What is in either, rising.
-pub fn union_of<T: Numbered>(alloc: Global, xs: &[T], ys: &[T]) -> Result<List<T>, NoMemory>
+pub(crate) fn union_of<T: Numbered>(alloc: Global, xs: &[T], ys: &[T]) -> Result<List<T>, NoMemory>
     requires xs_rise { IsRising T.number xs.now }
     requires ys_rise { IsRising T.number ys.now }
     ensures { IfOk result (λ all. all ≡ union T.number xs.now ys.now) }

@@ -1,6 +1,6 @@
 -- The excess is never negative, and in a closed family the owned constraints are the held ones.
 use Rattle.std.proofs.Common.{◌≡◌, ◌≢◌, inl, inr, refl, ℕ, ◌+◌, ◌*◌, ◌<◌, ◌≤◌, Bool, true, false, List, [], ◌∷◌, length, ap, sym, subst, ◌∙◌, arith}
-use Rattle.std.specs.Prelude.{Contains, map, filter, ◌==◌, ◌&&◌, ◌||◌}
+use Rattle.std.specs.Prelude.{◌↔◌, Contains, map, filter, ◌==◌, ◌&&◌, ◌||◌}
 use Rattle.std.proofs.lemmas.List.{length-map}
 use Rattle.std.proofs.lemmas.List.Sums.{length-filter}
 use Rattle.std.proofs.lemmas.Bool.Decides.{nat_tests}
@@ -18,20 +18,16 @@ use Rattle.sk_base.proofs.Unions.{rising_union, rising_same, union_left, union_r
 use Rattle.sk_family.proofs.Bodies.{each_within, owner_of}
 use Rattle.sk_base.proofs.Sizes.{union_shares_one, union_shares_two, union_apart, union_at_most}
 use Rattle.sk_rules.specs.Reach.{CanMerge, Step, Reach, IsNormal}
-use Rattle.sk_rules.specs.Excess.{is_inside, held, OwnsEnough}
+use Rattle.sk_rules.specs.Excess.{is_inside, held, HasInside, OwnsEnough}
 use Rattle.sk_base.specs.Numbering.{is_elem}
 use Rattle.sk_base.proofs.Numbers.{elem_found, found_elem}
 use Rattle.sk_rules.proofs.Families.{IsFamily, step_family, initial_family, kept_along}
 use Rattle.sk_rules.proofs.NormalForm.{reach_covers, one_of_two}
 
--- the constraints that are owned are some of the graph's, with their ends inside
-abbrev pub HasItsEdge : Graph → Body → ConId → Type 0
-HasItsEdge g x k = (e : Edge) × Contains g.edges e × (e.id ≡ k) × Contains x.elements e.u × Contains x.elements e.v
-
 pub record IsTight (g : Graph) (f : List Body) : Type 0 where
   pub family : IsFamily f
   pub enough : (x : Body) → Contains f x → OwnsEnough x
-  pub edges : (x : Body) → Contains f x → (k : ConId) → Contains x.owned k → HasItsEdge g x k
+  pub edges : (x : Body) → Contains f x → (k : ConId) → Contains x.owned k → HasInside g x k
 
 module _ (f : List Body) (family : IsFamily f) where
   pub owned_apart : (a b : Body) → Contains f a → Contains f b → a ≢ b → (k : ConId) → Contains a.owned k → ¬ Contains b.owned k
@@ -91,7 +87,7 @@ step_tight g old new m tight = record {
         let owner = owner_of m.merged k (subst (λ (z : Body). Contains z.owned k) is x_k) in
         let was = tight.edges owner.0 (m.among owner.0 owner.1) k owner.2 in
         let inside = each_within m.merged owner.0 owner.1 in
-        subst (λ z. HasItsEdge g z k) (sym is) (was.0, was.1, was.2, inside.elements was.0.u was.3, inside.elements was.0.v was.4))
+        subst (λ z. HasInside g z k) (sym is) (was.0, was.1, was.2, inside.elements was.0.u was.3, inside.elements was.0.v was.4))
     | inr stayed ↦ tight.edges x stayed.0 k x_k
   ];
 }
@@ -111,7 +107,7 @@ initial_tight g rises = record {
       let found = mapped_from starting g.edges x x_in in
       let is : found.0.id ≡ k = contains_one found.0.id k (subst (λ (z : Body). Contains z.owned k) (sym found.2) x_k) in
       let ends = ends_in found.0 in
-      subst (λ z. HasItsEdge g z k) found.2 (found.0, found.1, is, ends.0, ends.1));
+      subst (λ z. HasInside g z k) found.2 (found.0, found.1, is, ends.0, ends.1));
 }
 
 pub reached_tight : (g : Graph) (f : List Body) → HasRisingEdges g → Reach g (initial_bodies g) f → IsTight g f
@@ -132,6 +128,13 @@ inside_owned g f ends normal x x_in e e_in u_in v_in =
       },
     ) in
     subst (λ (z : Body). Contains z.owned e.id) (sym same) (around.2.owned e.id (contains_head e.id []))
+
+-- and what a body owns there are just the constraints with both ends inside
+pub owned_inside : (g : Graph) (f : List Body) → HasRisingEdges g → HasTwoEnds g → IsNormal g f → (x : Body) → Contains f x → (k : ConId) → Contains x.owned k ↔ HasInside g x k
+owned_inside g f rises ends normal x x_in k = (
+  (reached_tight g f rises normal.reached).edges x x_in k,
+  (λ (e, e_in, is, u_in, v_in). subst (λ j. Contains x.owned j) is (inside_owned g f ends normal x x_in e e_in u_in v_in)),
+)
 
 pub both_true : (a b : Bool) → (a && b) ≡ true → (a ≡ true) × (b ≡ true)
 both_true true b h = (refl, h)

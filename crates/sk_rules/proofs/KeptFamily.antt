@@ -16,7 +16,8 @@ use Rattle.sk_rules.specs.Reach.{Step, Reach, IsClosed, IsNormal}
 use Rattle.sk_rules.specs.Keeping.{IsReached, IsOwned, HasOneMore, HasAllBut, KeepsKinds, Adopts, Dissolves}
 use Rattle.sk_rules.proofs.Families.{kept_along}
 use Rattle.sk_rules.proofs.NormalForm.{reach_covers, reached_family, normal_same}
-use Rattle.sk_rules.proofs.Counting.{HasItsEdge, reached_tight}
+use Rattle.sk_rules.specs.Excess.{HasInside}
+use Rattle.sk_rules.proofs.Counting.{reached_tight}
 use Rattle.sk_rules.proofs.Keeping.{others, same_start, reached_then, kept_is_reached}
 
 -- each element of each body is an end of a constraint
@@ -54,7 +55,7 @@ module _ (g : Graph) (f : List Body) (r : IsReached g f) where
       let around = reach_covers g (initial_bodies g) r.reached_as r.reach (starting d) (contains_mapped starting g.edges d d_in) in
       (around.0, (r.same around.0).0 around.1, around.2.owned d.id (contains_head d.id []))
 
-  pub reached_edge : HasRisingEdges g → (x : Body) (k : ConId) → Contains f x → Contains x.owned k → HasItsEdge g x k
+  pub reached_edge : HasRisingEdges g → (x : Body) (k : ConId) → Contains f x → Contains x.owned k → HasInside g x k
   reached_edge rises x k x_in x_k = (reached_tight g r.reached_as rises r.reach).edges x ((r.same x).1 x_in) k x_k
 
   pub reached_apart : HasRisingEdges g → (x y : Body) (k : ConId) → Contains f x → Contains f y → Contains x.owned k → Contains y.owned k → x ≡ y

@@ -7,3 +7,4 @@ pub mod Excesses
 pub mod Keeping
 pub mod KeptFamily
 pub mod KeptClusters
+pub mod LeastPairs

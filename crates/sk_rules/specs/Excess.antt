@@ -1,6 +1,7 @@
 -- How many constraints a body owns and holds, and how many its elements need.
-use Rattle.std.specs.Prelude.{ℕ, ℤ, pos, ◌-ℤ◌, ◌+◌, ◌*◌, ◌≤◌, ◌&&◌, Bool, List, length, count_by}
+use Rattle.std.specs.Prelude.{◌≡◌, ℕ, ℤ, Contains, pos, ◌-ℤ◌, ◌+◌, ◌*◌, ◌≤◌, ◌&&◌, Bool, List, length, count_by}
 use Rattle.sk_base.specs.declared.Elem.{Elem}
+use Rattle.sk_base.specs.declared.ConId.{ConId}
 use Rattle.sk_base.specs.declared.Edge.{Edge}
 use Rattle.sk_base.specs.declared.Graph.{Graph}
 use Rattle.sk_family.specs.Body.{Body, join}
@@ -29,3 +30,7 @@ shared_by_three a b c = shared_by_two a b + shared_by_two (join a b) c
 -- it owns at least 2n - 3 constraints for its n elements
 abbrev pub OwnsEnough : Body → Type 0
 OwnsEnough x = 2 * length x.elements ≤ length x.owned + 3
+
+-- the constraint of that number has both ends among the body's elements
+abbrev pub HasInside : Graph → Body → ConId → Type 0
+HasInside g x k = (e : Edge) × Contains g.edges e × (e.id ≡ k) × Contains x.elements e.u × Contains x.elements e.v

@@ -1,5 +1,5 @@
 // The laws on families, each the contract of a function with nothing to do.
-ghost use Rattle.std.specs.Prelude.{◌≡◌, ◌≢◌, ◌≤◌, ◌*◌, pos, ◌+ℤ◌, List, [], ◌∷◌, Contains, length};
+ghost use Rattle.std.specs.Prelude.{◌≡◌, ◌≢◌, ◌↔◌, ◌≤◌, ◌*◌, pos, ◌+ℤ◌, List, [], ◌∷◌, Contains, length};
 ghost use Rattle.sk_base.specs.declared.Name.{Name};
 ghost use Rattle.sk_base.specs.declared.ConId.{ConId};
 ghost use Rattle.sk_base.specs.declared.Edge.{Edge};
@@ -11,7 +11,7 @@ ghost use Rattle.sk_family.specs.Clusters.{Clusters, IsSound, bodies};
 ghost use Rattle.sk_family.specs.Starts.{HasStart, IsDissolved};
 ghost use Rattle.sk_rules.specs.Reach.{AreAmong, Reach, IsNormal};
 ghost use Rattle.sk_rules.specs.Keeping.{IsReached, CarriesOver, Completes, HasOneMore, HasAllBut, KeepsKinds};
-ghost use Rattle.sk_rules.specs.Excess.{OwnsEnough, held, excess_of, shared_by_two, shared_by_three};
+ghost use Rattle.sk_rules.specs.Excess.{OwnsEnough, HasInside, held, excess_of, shared_by_two, shared_by_three};
 
 /// Whatever merges are taken, and in whatever order: where no rule holds any more, the same
 /// clusters stand.
@@ -19,10 +19,12 @@ pub fn one_normal_form()
     ensures { (g : Graph) (one other : List Body) → HasRisingEdges g → IsNormal g one → IsNormal g other → SameBodies one other }
 {}
 
-/// Whatever merges are taken, no cluster has fewer than 2n - 3 constraints. Where no rule holds any
-/// more, it owns just those that it holds.
+/// Whatever merges are taken, no cluster has fewer than 2n - 3 constraints, and all that it owns have
+/// both ends in it. Where no rule holds any more, it owns just those that have.
 pub fn excess()
     ensures enough { (g : Graph) (f : List Body) → HasRisingEdges g → Reach g (initial_bodies g) f → (x : Body) → Contains f x → OwnsEnough x }
+    ensures inside { (g : Graph) (f : List Body) → HasRisingEdges g → Reach g (initial_bodies g) f → (x : Body) → Contains f x → (k : ConId) → Contains x.owned k → HasInside g x k }
+    ensures owned_inside { (g : Graph) (f : List Body) → HasRisingEdges g → HasTwoEnds g → IsNormal g f → (x : Body) → Contains f x → (k : ConId) → Contains x.owned k ↔ HasInside g x k }
     ensures owned_is_held { (g : Graph) (f : List Body) → HasRisingEdges g → HasTwoEnds g → IsNormal g f → (x : Body) → Contains f x → length x.owned ≡ held g x.elements }
 {}
 

@@ -80,7 +80,7 @@ pub fn applies(family: &Family, graph: &Graph, merge: Merge) -> Option<Shared>
         Merge::Two(x, y) => {
             let a = family.cluster(x)?;
             let b = family.cluster(y)?;
-            let (first, second) = least_pair(a.elements.as_slice(), b.elements.as_slice())?;
+            let (first, second) = least_pair(a, b)?;
             Some(Shared {
                 a: first,
                 b: second,

@@ -6,53 +6,18 @@ ghost use Rattle.sk_rules.specs.Rules.{IsLine, IsShared, IsTriangle, SharesTwo, 
 ghost use Rattle.sk_rules.specs.Merges.{IsLeastPair, IsLeastTriangle};
 
 use sk_base::{Elem, Graph, Kind, Node};
+use sk_family::{Cluster, common};
 
 /// The least two elements that are in both.
-pub(crate) fn least_pair(xs: &[Elem], ys: &[Elem]) -> Option<(Elem, Elem)>
-    requires { IsRising elem_number xs.now }
-    ensures none { IfNone result (¬ SharesTwo xs.now ys.now) }
-    ensures some { IfSome result (λ p. IsLeastPair xs.now ys.now p.0 p.1) }
+pub(crate) fn least_pair(a: &Cluster, b: &Cluster) -> Option<(Elem, Elem)>
+    requires { IsRising elem_number a.now.elements }
+    ensures none { IfNone result (¬ SharesTwo a.now.elements b.now.elements) }
+    ensures some { IfSome result (λ p. IsLeastPair a.now.elements b.now.elements p.0 p.1) }
 {
-    let a = least_shared(xs, ys)?;
-    let b = least_other(a, xs, ys)?;
-    Some((a, b))
-}
-
-/// The least element that is in both.
-fn least_shared(xs: &[Elem], ys: &[Elem]) -> Option<Elem>
-    requires { IsRising elem_number xs.now }
-    ensures none { IfNone result ((e : Element) → ¬ IsShared xs.now ys.now e) }
-    ensures shared { IfSome result (IsShared xs.now ys.now) }
-    ensures least { IfSome result (λ a. (e : Element) → IsShared xs.now ys.now e → a.0 ≤ e.0) }
-{
-    for a in xs {
-        if a.is_among(ys) {
-            return Some(*a);
-        }
-    }
-    None
-}
-
-/// The least element but that one that is in both.
-fn least_other(a: Elem, xs: &[Elem], ys: &[Elem]) -> Option<Elem>
-    requires { IsRising elem_number xs.now }
-    ensures none { IfNone result ((e : Element) → e ≢ a → ¬ IsShared xs.now ys.now e) }
-    ensures shared { IfSome result (IsShared xs.now ys.now) }
-    ensures other { IfSome result (λ b. b ≢ a) }
-    ensures least { IfSome result (λ b. (e : Element) → e ≢ a → IsShared xs.now ys.now e → b.0 ≤ e.0) }
-{
-    for b in xs {
-        if is_other_in(*b, a, ys) {
-            return Some(*b);
-        }
-    }
-    None
-}
-
-fn is_other_in(b: Elem, a: Elem, ys: &[Elem]) -> bool
-    ensures { IsTrue result ↔ ((b ≢ a) × Contains ys.now b) }
-{
-    b != a && ys.contains(&b)
+    let overlap = common(a, b);
+    let first = overlap.first?;
+    let second = overlap.second?;
+    Some((first, second))
 }
 
 /// The least three elements by which the triangle rule holds.

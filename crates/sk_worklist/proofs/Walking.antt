@@ -1,6 +1,7 @@
 -- Walks along the keys that are below a name.
 use Rattle.std.proofs.Common.{◌≡◌, ◌⊎◌, ◌∙◌, inl, inr, refl, ℕ, suc, ◌<◌, Bool, true, false, List, length, length-drop, get_or, take, drop, drop-cons, sym, subst, ap, arith}
-use Rattle.std.specs.Prelude.{◌↔◌, Contains, AllPairs, IsTrue, Some, slice_get}
+use Rattle.std.specs.Prelude.{◌↔◌, Contains, AllPairs, IsTrue, Option, None, Some, slice_get}
+use Rattle.std.specs.List.Sorted.{IsPartitionedBy}
 use Rattle.std.proofs.lemmas.List.Elements.{Contains-get_or}
 use Rattle.slab.specs.Slab.{get}
 use Rattle.sk_base.specs.declared.Name.{Name}
@@ -10,7 +11,8 @@ use Rattle.sk_base.proofs.Pairs.{pairs_head}
 use Rattle.sk_base.proofs.Unions.{which}
 use Rattle.std.proofs.lemmas.Option.{slice_get-get_or}
 use Rattle.sk_family.specs.declared.Cluster.{Cluster}
-use Rattle.sk_family.proofs.Halving.{HoldsInFront}
+use Rattle.sk_family.specs.Starting.{is_before}
+use Rattle.sk_family.proofs.Halving.{passing_front, before_below, below_before}
 use Rattle.sk_family.proofs.Naming.{below_chain, below_irreflexive, among_named, named_among}
 use Rattle.sk_base.proofs.Splits.{in_take, in_either, pairs_drop}
 use Rattle.sk_rules.specs.declared.Merge.{Merge}
@@ -20,10 +22,45 @@ use Rattle.sk_worklist.specs.Indexed.{IsBelowAt, RisesIn}
 use Rattle.sk_worklist.proofs.Holding.{in_list}
 use Rattle.sk_worklist.proofs.Least.{GivenBy}
 
-pub below_in_front : (ix : Index) (n : Name) (keys : List ℕ) → AllPairs (RisesIn ix.live) keys → ((k : ℕ) → Contains keys k → (c : Cluster) × (get ix.live k ≡ Some c)) → HoldsInFront (IsBelowAt ix n) keys
-below_in_front ix n keys order held i j d less j_in (c, c_is, below) =
-    let (b, b_is) = held (get_or keys i d) (Contains-get_or keys i d (omega arith)) in
-    (b, b_is, below_chain b.name c.name n (order i j d less j_in b c b_is c_is) below)
+abbrev is_below_in : Option Cluster → Name → Bool
+is_below_in None n = false
+is_below_in (Some c) n = is_before c.name n
+
+-- whether the cluster of that key is below the name
+abbrev pub below_at : Index → Name → ℕ → Bool
+below_at ix n k = is_below_in (get ix.live k) n
+
+passes_below : (o : Option Cluster) (n : Name) → is_below_in o n ≡ true → (c : Cluster) × (o ≡ Some c) × IsBelow c.name n
+passes_below None n passes = absurd (cc)
+passes_below (Some c) n passes = (c, refl, before_below c.name n passes)
+
+below_passes : (o : Option Cluster) (n : Name) (c : Cluster) → o ≡ Some c → IsBelow c.name n → is_below_in o n ≡ true
+below_passes o n c is below = ap (λ x. is_below_in x n) is ∙ below_before c.name n below
+
+module _ (ix : Index) (n : Name) where
+  pub at_below : (k : ℕ) → below_at ix n k ≡ true → IsBelowAt ix n k
+  at_below k = passes_below (get ix.live k) n
+
+  pub at_not_below : (k : ℕ) → below_at ix n k ≡ false → ¬ IsBelowAt ix n k
+  at_not_below k fails (c, is, below) = (let passes : below_at ix n k ≡ true = below_passes (get ix.live k) n c is below in absurd (cc))
+
+  pub keys_partition : (keys : List ℕ) → AllPairs (RisesIn ix.live) keys → ((k : ℕ) → Contains keys k → (c : Cluster) × (get ix.live k ≡ Some c)) → IsPartitionedBy (below_at ix n) keys
+  keys_partition keys order held =
+      passing_front (below_at ix n) keys (RisesIn ix.live) order
+      (λ j k j_in k_in rises passes.
+      let (b, b_is) = held j j_in in
+      let (c, c_is, below) = at_below k passes in
+      below_passes (get ix.live j) n b b_is (below_chain b.name c.name n (rises b c b_is c_is) below))
+
+-- a test that tells whether the cluster of a key is below a name
+pub tells_below : (b : Bool) (ix : Index) (n : Name) (k : ℕ) → IsTrue b ↔ IsBelowAt ix n k → b ≡ below_at ix n k
+tells_below b ix n k tests = told b (below_at ix n k) refl refl
+  where
+    told : (p q : Bool) → b ≡ p → below_at ix n k ≡ q → b ≡ below_at ix n k
+    told true true b_is q_is = b_is ∙ sym q_is
+    told false false b_is q_is = b_is ∙ sym q_is
+    told true false b_is q_is = absurd (at_not_below ix n k q_is (tests.0 b_is))
+    told false true b_is q_is = (let both : false ≡ true = sym b_is ∙ tests.1 (at_below ix n k q_is) in absurd (cc))
 
 -- the front up to a place are just those of a kind
 pub in_front_of : {X : Type 0} (P : X → Type 0) (xs : List X) (place : ℕ) → ((x : X) → Contains (take place xs) x → P x) → ((x : X) → Contains (drop place xs) x → ¬ P x)
@@ -47,8 +84,10 @@ module _ (front all : List ℕ) (P : ℕ → Type 0) (front_is : (k : ℕ) → C
     (λ (k, k_in, is). (k, (front_is k).1 (k_in, only k n is), is)),
   )
 
-pub names_in_front : (name : Name) (names : List Name) → AllPairs IsBelow names → HoldsInFront (λ (n : Name). IsBelow n name) names
-names_in_front name names order i j d less j_in below = below_chain (get_or names i d) (get_or names j d) name (order i j d less j_in) below
+pub rising_partition : (name : Name) (names : List Name) → AllPairs IsBelow names → IsPartitionedBy (λ (n : Name). is_before n name) names
+rising_partition name names order =
+    passing_front (λ (n : Name). is_before n name) names IsBelow order
+    (λ m n m_in n_in m_n n_name. below_before m name (below_chain m n name m_n (before_below n name n_name)))
 
 -- a name is one of some in order just where it stands at its place
 module _ (name : Name) (names : List Name) (order : AllPairs IsBelow names) (place : ℕ) (before : (n : Name) → Contains (take place names) n → IsBelow n name)

@@ -38,11 +38,13 @@ impl Chosen {
 }
 
 impl Picker for Chosen {
-    ghost use Rattle.sk_worklist.specs.Orders.{place_of, next_call};
+    ghost use Rattle.sk_worklist.specs.Orders.{place_of, next_call, place_below};
 
     ghost answer = { place_of };
 
     ghost after = { next_call };
+
+    ghost in_range = { place_below };
 
     fn pick(&mut self, count: u64) -> u64 {
         let place = match self.order {

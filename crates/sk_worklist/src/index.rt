@@ -236,17 +236,7 @@ impl Index {
         ensures before { (k : ℕ) → Contains (take result keys.now) k → IsBelowAt self.now name k }
         ensures after { (k : ℕ) → Contains (drop result keys.now) k → ¬ IsBelowAt self.now name k }
     {
-        let mut low = 0;
-        let mut high = keys.len();
-        while low < high {
-            let middle = low + (high - low) / 2;
-            if self.is_below_at(keys[middle], name) {
-                low = middle + 1;
-            } else {
-                high = middle;
-            }
-        }
-        low
+        keys.partition_point(|key| self.is_below_at(*key, name))
     }
 
     /// Whether the cluster of that key is below the name.

@@ -73,15 +73,5 @@ fn place_among(name: Name, names: &[Name]) -> usize
     ensures before { (n : AnyName) → Contains (take result names.now) n → IsBelow n name }
     ensures after { (n : AnyName) → Contains (drop result names.now) n → ¬ IsBelow n name }
 {
-    let mut low = 0;
-    let mut high = names.len();
-    while low < high {
-        let middle = low + (high - low) / 2;
-        if names[middle].is_below(name) {
-            low = middle + 1;
-        } else {
-            high = middle;
-        }
-    }
-    low
+    names.partition_point(|found| found.is_below(name))
 }

@@ -98,19 +98,5 @@ pub(crate) fn is_in_rising(elem: Elem, xs: &[Elem]) -> bool
     requires { IsRising elem_number xs.now }
     ensures { IsTrue result ↔ Contains xs.now elem }
 {
-    let mut low = 0;
-    let mut high = xs.len();
-    while low < high {
-        let middle = low + (high - low) / 2;
-        let found = xs[middle];
-        if found.0 == elem.0 {
-            return true;
-        }
-        if found.0 < elem.0 {
-            low = middle + 1;
-        } else {
-            high = middle;
-        }
-    }
-    false
+    xs.binary_search_by_key(&elem.0, |found| found.0).is_ok()
 }

@@ -14,4 +14,7 @@ pub trait Picker {
         ensures answer { result ≡ answer self.old count }
         ensures in_range { result < count }
         ensures after { self.new ≡ after self.old count };
+
+    /// In every state, the answer to a count is below it.
+    ghost in_range: { (p : Self) (count : ℕ) → 0 < count → answer p count < count };
 }

@@ -22,7 +22,11 @@ struct Listed {
 impl Picker for Listed {
     ghost answer = { λ p n. slice_index p.answers 0 % n };
 
+    ghost use Rattle.std.proofs.Math.Nat.{mod-lt};
+
     ghost after = { λ p n. record { answers = drop 1 p.answers } };
+
+    ghost in_range = { λ p n some. mod-lt (slice_index p.answers 0) some };
 
     fn pick(&mut self, count: u64) -> u64 {
         if self.answers.is_empty() {
@@ -247,9 +251,6 @@ fn merged_by(
 fn overlap_in(family: &Family, x: Name, y: Name) -> Option<Overlap> {
     let a = family.cluster(x)?;
     let b = family.cluster(y)?;
-    if a.elements.len() > 2000 {
-        return None;
-    }
     Some(common(a, b))
 }
 
