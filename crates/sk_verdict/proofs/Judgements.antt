@@ -10,7 +10,7 @@ use Rattle.sk_base.specs.SoundGraph.{IsSoundGraph}
 use Rattle.sk_base.proofs.Members.{contains_mapped, mapped_from}
 use Rattle.sk_base.proofs.Pairs.{pairs_same}
 use Rattle.sk_family.specs.Body.{Body, SameBodies}
-use Rattle.sk_family.specs.Clusters.{Clusters, body_of, bodies}
+use Rattle.sk_family.specs.Clusters.{Clusters, body_of, bodies, IsSound}
 use Rattle.sk_rules.specs.Reach.{IsNormal}
 use Rattle.sk_verdict.specs.declared.part.Part.{Part}
 use Rattle.sk_verdict.specs.declared.judgement.Judgement.{Judgement}
@@ -18,10 +18,10 @@ use Rattle.sk_verdict.specs.declared.judgement.Verdict.{Verdict}
 use Rattle.sk_verdict.specs.declared.judgement.Verdict.TheVariants.{Well, Over, Several}
 use Rattle.sk_verdict.specs.Ordering.{PartBefore}
 use Rattle.sk_verdict.specs.Parts.{IsPart, part_with}
-use Rattle.sk_verdict.specs.Building.{AreOfClusters, AddsLone, HasNoSingle, elements_of}
+use Rattle.sk_verdict.specs.Building.{AreOfClusters, AddsLone, HasNoSingle, elements_of, owned_part}
 use Rattle.sk_verdict.specs.Judging.{IsJudgement, IsOver, some_over, verdict_on}
 use Rattle.sk_base.proofs.ListOrder.{before_irreflexive, before_asymmetric}
-use Rattle.sk_verdict.proofs.Normals.{holds_enough, more_than_one}
+use Rattle.sk_verdict.proofs.Normals.{holds_enough, more_than_one, part_is}
 
 module _ (g : Graph) (f : Clusters) where
   -- the elements of a live cluster are those of a body
@@ -35,26 +35,45 @@ module _ (g : Graph) (f : Clusters) where
       let found = mapped_from body_of f.live x h in
       subst (λ (b : Body). Contains (map elements_of f.live) b.elements) found.2 (contains_mapped elements_of f.live found.0 found.1)
 
+  -- these are the parts of the clusters
+  abbrev pub AreTheClusters : List Part → Type 0
+  AreTheClusters parts = (p : Part) → Contains parts p ↔ (Contains (map elements_of f.live) p.elements × (p ≡ part_with g p.elements))
+
+  pub the_clusters : IsSoundGraph g → IsNormal g (bodies f) → IsSound f → (parts : List Part) → AreOfClusters f.live parts → AreTheClusters parts
+  the_clusters sound normal family parts of_clusters p = (
+    (λ h. (
+        let (c, c_in, is) = mapped_from owned_part f.live p ((of_clusters.exactly p).0 h) in
+        let same : part_with g c.elements ≡ p = sym (part_is g f sound normal family c c_in) ∙ is in (
+          subst (λ (q : Part). Contains (map elements_of f.live) q.elements) same (contains_mapped elements_of f.live c c_in),
+          subst (λ (q : Part). q ≡ part_with g q.elements) same refl,
+        ))),
+    (λ (p_in, is). (
+        let (c, c_in, same) = mapped_from elements_of f.live p.elements p_in in
+        (of_clusters.exactly p).1
+        (subst (λ (q : Part). Contains (map owned_part f.live) q) (part_is g f sound normal family c c_in ∙ ap (λ (xs : List Elem). part_with g xs) same ∙ sym is)
+        (contains_mapped owned_part f.live c c_in)))),
+  )
+
   -- the parts of the clusters and those of the lone elements are all
-  pub all_parts : (parts all : List Part) → AreOfClusters g f.live parts → AddsLone g g.nodes parts all → (p : Part) → Contains all p ↔ IsPart g (bodies f) p
+  pub all_parts : (parts all : List Part) → AreTheClusters parts → AddsLone g g.nodes parts all → (p : Part) → Contains all p ↔ IsPart g (bodies f) p
   all_parts parts all clusters lone p = (
     (λ h. elim ((lone.exactly p).0 h) [
-      | inl of_cluster ↦ (inl (body_with p.elements ((clusters.exactly p).0 of_cluster).0), ((clusters.exactly p).0 of_cluster).1)
+      | inl of_cluster ↦ (inl (body_with p.elements ((clusters p).0 of_cluster).0), ((clusters p).0 of_cluster).1)
       | inr (e, e_in, by_none, is) ↦ (
         inr (e, record { is_node = e_in; named_by_none = by_none }, ap (λ (q : Part). q.elements) is),
         subst (λ (q : Part). q ≡ part_with g q.elements) is refl,
       )
     ]),
     (λ (of_one, is). elim of_one [
-      | inl (x, x_in, same) ↦ (lone.exactly p).1 (inl ((clusters.exactly p).1 (subst (λ xs. Contains (map elements_of f.live) xs) same (with_body x x_in), is)))
+      | inl (x, x_in, same) ↦ (lone.exactly p).1 (inl ((clusters p).1 (subst (λ xs. Contains (map elements_of f.live) xs) same (with_body x x_in), is)))
       | inr (e, e_lone, same) ↦ (lone.exactly p).1 (inr (e, e_lone.is_node, e_lone.named_by_none, ap (λ (xs : List Elem). part_with g xs) same ∙ sym is))
     ]),
   )
 
   module _ (sound : IsSoundGraph g) (normal : IsNormal g (bodies f)) where
-    pub none_single : (parts : List Part) → AreOfClusters g f.live parts → HasNoSingle parts
+    pub none_single : (parts : List Part) → AreTheClusters parts → HasNoSingle parts
     none_single parts clusters p e p_in is =
-        let (x, x_in, same) = body_with p.elements ((clusters.exactly p).0 p_in).0 in
+        let (x, x_in, same) = body_with p.elements ((clusters p).0 p_in).0 in
         more_than_one g (bodies f) sound normal x x_in e (same ∙ is)
 
     -- each part holds at least what is due

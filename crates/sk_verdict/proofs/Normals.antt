@@ -1,6 +1,6 @@
 -- What a normal family of a sound graph tells of its clusters.
-use Rattle.std.proofs.Common.{◌≡◌, ◌≢◌, ◌+◌, ◌*◌, ◌≤◌, List, [], ◌∷◌, length, get_or, ap, sym, subst, ◌∙◌, arith}
-use Rattle.std.specs.Prelude.{Contains, All, AllPairs}
+use Rattle.std.proofs.Common.{◌≡◌, ◌≢◌, ℕ, ◌+◌, ◌-◌, ◌*◌, ◌≤◌, List, [], ◌∷◌, length, get_or, ap, sym, subst, ◌∙◌, arith}
+use Rattle.std.specs.Prelude.{Contains, AllPairs}
 use Rattle.std.proofs.lemmas.List.Elements.{Contains-get_or}
 use Rattle.sk_base.specs.declared.Elem.{Elem}
 use Rattle.sk_base.specs.declared.Graph.{Graph}
@@ -14,6 +14,9 @@ use Rattle.sk_rules.specs.Excess.{held}
 use Rattle.sk_rules.specs.Reach.{IsNormal}
 use Rattle.sk_rules.proofs.NormalForm.{one_of_two}
 use Rattle.sk_rules.proofs.Counting.{reached_tight, owned_is_held}
+use Rattle.sk_rules.proofs.KeptClusters.{owned_are_few}
+use Rattle.sk_verdict.specs.Parts.{part_with}
+use Rattle.sk_verdict.specs.Building.{owned_part}
 
 module _ (g : Graph) (f : List Body) (sound : IsSoundGraph g) (normal : IsNormal g f) where
   -- it holds at least what is due
@@ -63,8 +66,21 @@ module _ (g : Graph) (f : Clusters) (sound : IsSoundGraph g) (normal : IsNormal 
       let is : c ≡ d = one_of_body f family c d c_in d_in bodies_same in
       below_differs c.name d.name (family.names_rise i j z i_j j_in) (ap (λ (b : Cluster). b.name) is)
 
-  -- each cluster holds at least what is due
-  pub clusters_hold : All (λ (c : Cluster). 2 * length c.elements ≤ held g c.elements + 3) f.live
-  clusters_hold k z k_in =
-      let c = get_or f.live k z in
-      holds_enough g (bodies f) sound normal (body_of c) (contains_mapped body_of f.live c (Contains-get_or f.live k z k_in))
+  module _ (c : Cluster) (c_in : Contains f.live c) where
+    body_in : Contains (bodies f) (body_of c)
+    body_in = contains_mapped body_of f.live c c_in
+
+    pub cluster_holds : length c.owned ≡ held g c.elements
+    cluster_holds = owned_is_held g (bodies f) sound.edges_rise sound.two_ends normal (body_of c) body_in
+
+    pub cluster_enough : 2 * length c.elements ≤ length c.owned + 3
+    cluster_enough = (reached_tight g (bodies f) sound.edges_rise normal.reached).enough (body_of c) body_in
+
+    pub cluster_few : length c.owned ≤ 4000
+    cluster_few =
+        let few = owned_are_few g f normal.reached sound.edges_rise family c c_in in
+        let all = sound.few_edges in omega arith
+
+    -- its part is that of its elements
+    pub part_is : owned_part c ≡ part_with g c.elements
+    part_is = ap (λ (n : ℕ). record { elements = c.elements; held = n; due = 2 * length c.elements - 3 }) cluster_holds

@@ -1,5 +1,5 @@
 -- Parts that are put together one by one.
-use Rattle.std.specs.Prelude.{◌≡◌, ◌≢◌, ◌↔◌, ◌⊎◌, List, [], ◌∷◌, map, Contains}
+use Rattle.std.specs.Prelude.{◌≡◌, ◌≢◌, ◌↔◌, ◌⊎◌, ◌*◌, ◌-◌, length, List, [], ◌∷◌, map, Contains}
 use Rattle.sk_base.specs.declared.Elem.{Elem}
 use Rattle.sk_base.specs.declared.Node.{Node}
 use Rattle.sk_base.specs.declared.Graph.{Graph}
@@ -11,10 +11,14 @@ use Rattle.sk_verdict.specs.Parts.{IsNamedByNone, elem_of, part_with}
 abbrev pub elements_of : Cluster → List Elem
 elements_of c = c.elements
 
+-- the part of a cluster, where what it owns is what it holds
+abbrev pub owned_part : Cluster → Part
+owned_part c = record { elements = c.elements; held = length c.owned; due = 2 * length c.elements - 3 }
+
 -- one part for each of these clusters, in order
-pub record AreOfClusters (g : Graph) (clusters : List Cluster) (parts : List Part) : Type 0 where
+pub record AreOfClusters (clusters : List Cluster) (parts : List Part) : Type 0 where
   pub in_order : AreInOrder parts
-  pub exactly : (p : Part) → Contains parts p ↔ (Contains (map elements_of clusters) p.elements × (p ≡ part_with g p.elements))
+  pub exactly : (p : Part) → Contains parts p ↔ Contains (map owned_part clusters) p
 
 -- the part of one of these nodes, which no constraint names
 abbrev pub IsOfLone : Graph → List Node → Part → Type 0

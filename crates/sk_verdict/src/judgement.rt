@@ -4,14 +4,13 @@ ghost use Rattle.sk_base.specs.SoundGraph.{IsSoundGraph, HasRisingNodes};
 ghost use Rattle.sk_family.specs.declared.Cluster.{Cluster as TheCluster};
 ghost use Rattle.sk_family.specs.Body.{Body};
 ghost use Rattle.sk_family.specs.Clusters.{bodies};
-ghost use Rattle.sk_rules.specs.Excess.{held};
 ghost use Rattle.sk_rules.specs.Reach.{IsNormal};
 ghost use Rattle.sk_verdict.specs.Parts.{IsNamedByNone};
 ghost use Rattle.sk_verdict.specs.Ordering.{AreInOrder};
 ghost use Rattle.sk_verdict.specs.Building.{AreOfClusters, AddsLone, HasNoSingle};
 ghost use Rattle.sk_verdict.specs.Judging.{IsJudgement, IsOver, some_over, verdict_on};
 
-use crate::part::{Part, part_of};
+use crate::part::{Part, lone_part, part_of};
 use crate::store::put;
 use sk_base::{Elem, Graph, List, NoMemory};
 use sk_family::{Cluster, Family};
@@ -44,7 +43,7 @@ pub fn judge(alloc: Global, family: &Family, graph: &Graph) -> Result<Judgement,
     // It is the judgement on every normal family of the graph.
     ensures whichever { IfOk result (λ j. (other : Items Body) → IsNormal graph.now other → IsJudgement graph.now other j) }
 {
-    let mut parts = parts_of(alloc, graph, family.clusters())?;
+    let mut parts = parts_of(alloc, family.clusters())?;
     add_lone(alloc, graph, &mut parts)?;
     Ok(Judgement {
         verdict: verdict_of(parts.as_slice()),
@@ -53,18 +52,15 @@ pub fn judge(alloc: Global, family: &Family, graph: &Graph) -> Result<Judgement,
 }
 
 /// The parts of the clusters.
-fn parts_of(alloc: Global, graph: &Graph, clusters: &[Cluster]) -> Result<List<Part>, NoMemory>
-    requires enough { All (λ (c : TheCluster). 2 * length c.elements ≤ held graph.now c.elements + 3) clusters.now }
-    requires few { length graph.now.edges ≤ 4000 }
+fn parts_of(alloc: Global, clusters: &[Cluster]) -> Result<List<Part>, NoMemory>
+    requires enough { (c : TheCluster) → Contains clusters.now c → 2 * length c.elements ≤ length c.owned + 3 }
+    requires few { (c : TheCluster) → Contains clusters.now c → length c.owned ≤ 4000 }
     requires differ { AllPairs (λ (c d : TheCluster). c.elements ≢ d.elements) clusters.now }
-    ensures { IfOk result (AreOfClusters graph.now clusters.now) }
+    ensures { IfOk result (AreOfClusters clusters.now) }
 {
     let mut parts = List::new(alloc);
     for cluster in clusters {
-        put(
-            &mut parts,
-            part_of(alloc, graph, cluster.elements.as_slice())?,
-        )?;
+        put(&mut parts, part_of(alloc, cluster)?)?;
     }
     Ok(parts)
 }
@@ -72,14 +68,13 @@ fn parts_of(alloc: Global, graph: &Graph, clusters: &[Cluster]) -> Result<List<P
 /// Adds the parts of the lone elements.
 fn add_lone(alloc: Global, graph: &Graph, parts: &mut List<Part>) -> Result<(), NoMemory>
     requires rise { HasRisingNodes graph.now }
-    requires few { length graph.now.edges ≤ 4000 }
     requires in_order { AreInOrder parts.old }
     requires no_single { HasNoSingle parts.old }
     ensures { OnOk result (AddsLone graph.now graph.now.nodes parts.old parts.new) }
 {
     for node in graph.nodes.as_slice() {
         if is_named_by_none(graph, node.elem) {
-            put(parts, part_of(alloc, graph, &[node.elem])?)?;
+            put(parts, lone_part(alloc, node.elem)?)?;
         }
     }
     Ok(())

@@ -10,4 +10,4 @@ mod tests;
 
 pub use judgement::{Judgement, Verdict, judge};
 pub use law::one_judgement;
-pub use part::{Part, held_of};
+pub use part::Part;

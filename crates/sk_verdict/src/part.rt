@@ -1,9 +1,9 @@
 // A part of a family.
-ghost use Rattle.std.specs.Prelude.{◌≡◌, ◌+◌, ◌*◌, ◌≤◌, ◌<◌, ◌^◌, length, IfOk};
-ghost use Rattle.sk_rules.specs.Excess.{held};
-ghost use Rattle.sk_verdict.specs.Parts.{part_with};
+ghost use Rattle.std.specs.Prelude.{◌≡◌, ◌+◌, ◌*◌, ◌≤◌, ◌∷◌, [], length, IfOk};
+ghost use Rattle.sk_verdict.specs.Building.{owned_part};
 
-use sk_base::{Elem, Graph, List, NoMemory};
+use sk_base::{Elem, List, NoMemory};
+use sk_family::Cluster;
 use std::alloc::Global;
 
 /// A cluster or a lone element: its elements, rising, how many constraints it holds, and how many are
@@ -15,29 +15,30 @@ pub struct Part {
     pub due: u32,
 }
 
-/// The part of these elements.
-pub(crate) fn part_of(alloc: Global, graph: &Graph, elements: &[Elem]) -> Result<Part, NoMemory>
-    requires enough { 2 * length elements.now ≤ held graph.now elements.now + 3 }
-    requires few { length graph.now.edges ≤ 4000 }
-    ensures { IfOk result (λ part. part ≡ part_with graph.now elements.now) }
+/// The part of a cluster that owns what it holds.
+pub(crate) fn part_of(alloc: Global, cluster: &Cluster) -> Result<Part, NoMemory>
+    requires enough { 2 * length cluster.now.elements ≤ length cluster.now.owned + 3 }
+    requires few { length cluster.now.owned ≤ 4000 }
+    ensures { IfOk result (λ part. part ≡ owned_part cluster.now) }
 {
-    let mut copy = List::new(alloc);
-    copy.extend(elements)?;
+    let mut elements = List::new(alloc);
+    elements.extend(cluster.elements.as_slice())?;
     Ok(Part {
-        elements: copy,
-        held: held_of(graph, elements) as u32,
-        due: (2 * elements.len()).saturating_sub(3) as u32,
+        elements,
+        held: cluster.owned.len() as u32,
+        due: (2 * cluster.elements.len()).saturating_sub(3) as u32,
     })
 }
 
-/// How many constraints have both ends among the elements.
-pub fn held_of(graph: &Graph, elements: &[Elem]) -> usize
-    ensures { result ≡ held graph.now elements.now }
+/// The part of a lone element, which holds nothing and is due nothing.
+pub(crate) fn lone_part(alloc: Global, elem: Elem) -> Result<Part, NoMemory>
+    ensures { IfOk result (λ part. part ≡ record { elements = elem ∷ []; held = 0; due = 0 }) }
 {
-    graph
-        .edges
-        .as_slice()
-        .iter()
-        .filter(|edge| elements.contains(&edge.u) && elements.contains(&edge.v))
-        .count()
+    let mut elements = List::new(alloc);
+    elements.push(elem)?;
+    Ok(Part {
+        elements,
+        held: 0,
+        due: 0,
+    })
 }

@@ -1,5 +1,5 @@
 // Parts in order of their elements.
-ghost use Rattle.std.specs.Prelude.{◌≡◌, ◌≢◌, ◌↔◌, ◌⊎◌, ◌≤◌, ◌<◌, ℕ, length, slice_get, OnOk, IsTrue, Some, Contains, take, drop};
+ghost use Rattle.std.specs.Prelude.{◌≡◌, ◌≢◌, ◌↔◌, ◌⊎◌, ◌≤◌, length, OnOk, Contains, take, drop};
 ghost use Rattle.sk_base.specs.declared.Elem.{Elem as Element};
 ghost use Rattle.sk_verdict.specs.declared.part.Part.{Part as ThePart};
 ghost use Rattle.sk_verdict.specs.Ordering.{PartBefore, AreInOrder};
@@ -26,10 +26,5 @@ fn place_of(parts: &[Part], elements: &[Elem]) -> usize
     ensures before { (p : ThePart) → Contains (take result parts.now) p → ElementsBefore p.elements elements.now }
     ensures after { (p : ThePart) → Contains (drop result parts.now) p → ¬ ElementsBefore p.elements elements.now }
 {
-    for (place, part) in parts.iter().enumerate() {
-        if !comes_before(part.elements.as_slice(), elements) {
-            return place;
-        }
-    }
-    parts.len()
+    parts.partition_point(|part| comes_before(part.elements.as_slice(), elements))
 }

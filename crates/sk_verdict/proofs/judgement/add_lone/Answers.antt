@@ -6,9 +6,9 @@ use Rattle.sk_base.specs.declared.Kind.TheVariants.{Point}
 use Rattle.sk_base.proofs.Searches.{refused}
 use Rattle.sk_verdict.specs.declared.part.Part.{Part}
 use Rattle.sk_verdict.specs.Building.{AddsLone}
-use Rattle.sk_verdict.proofs.Gathering.{node_new, node_more, node_passed}
+use Rattle.sk_verdict.proofs.Gathering.{lone_part_is, node_new, node_more, node_passed}
 use Rattle.sk_verdict.proofs.judgement.add_lone.Goals as goal
-use Rattle.sk_verdict.proofs.judgement.add_lone.Goals.{then-is_named_by_none+in_ok-part_of+in_ok-put, else-is_named_by_none}
+use Rattle.sk_verdict.proofs.judgement.add_lone.Goals.{then-is_named_by_none+in_ok-lone_part+in_ok-put, else-is_named_by_none}
 
 first : Node
 first = record { elem = record { 0 = 0 }; kind = Point }
@@ -22,7 +22,7 @@ put-requires-clause-new c p p_in same =
     subst (λ (ns : List Node). AllPairs (λ (x y : Node). x.elem.0 < y.elem.0) ns) (sym c.as_slice-node-items.ensures) c.requires.rise in
     node_new c.args.graph.now nodes i (get_or nodes i first) c.loop-node-test.true (get_or_default nodes i (get_or nodes i first) first c.loop-node-test.true)
     c.args.parts.now c.loop-node.parts c.loop-node.invariant rise c.requires.no_single p p_in
-    (same ∙ ap (λ (q : Part). q.elements) c.in_ok-part_of.ensures)
+    (same ∙ ap (λ (q : Part). q.elements) c.in_ok-lone_part.ensures)
 
 pub loop-node-preserved : goal.loop-node-preserved
 unfolding first
@@ -32,9 +32,10 @@ loop-node-preserved c =
     let i = c.loop-node.node-index in
     let at_i = get_or_default nodes i (get_or nodes i first) first c.loop-node-test.true in
     elim c.if-is_named_by_none.branch [
-      | then-is_named_by_none+in_ok-part_of+in_ok-put w ↦ subst (λ (ps : List Part). AddsLone g (take (i + 1) nodes) c.args.parts.now ps) (sym w.parts-is)
+      | then-is_named_by_none+in_ok-lone_part+in_ok-put w ↦ subst (λ (ps : List Part). AddsLone g (take (i + 1) nodes) c.args.parts.now ps) (sym w.parts-is)
           (node_more g nodes i (get_or nodes i first) c.loop-node-test.true at_i c.args.parts.now c.loop-node.parts c.loop-node.invariant
-          (c.is_named_by_none.ensures.0 w.if-is_named_by_none.true) w.in_ok-part_of.field-0 w.in_ok-part_of.ensures
+          (c.is_named_by_none.ensures.0 w.if-is_named_by_none.true) w.in_ok-lone_part.field-0
+          (w.in_ok-lone_part.ensures ∙ lone_part_is g (get_or nodes i first).elem (c.is_named_by_none.ensures.0 w.if-is_named_by_none.true))
           w.put.new.parts w.in_ok-put.ensures.in_order w.in_ok-put.ensures.has)
       | else-is_named_by_none w ↦ subst (λ (ps : List Part). AddsLone g (take (i + 1) nodes) c.args.parts.now ps) (sym w.parts-is)
           (node_passed g nodes i (get_or nodes i first) c.loop-node-test.true at_i c.args.parts.now c.loop-node.parts c.loop-node.invariant

@@ -1,15 +1,24 @@
-use Rattle.std.proofs.Common.{refl, sym, subst}
-use Rattle.sk_base.proofs.Searches.{refused}
-use Rattle.sk_base.specs.ElementOrder.{ElementsBefore}
-use Rattle.sk_verdict.proofs.Placing.{none_after, before_more}
+use Rattle.std.proofs.Common.{rules, of_calls, true, false, ◌≡◌}
+use Rattle.std.specs.List.Sorted.{IsPartitionPoint}
+use Rattle.std.proofs.lemmas.List.Sorted.{IsPartitionPoint-from_clause}
+use Rattle.sk_family.proofs.Halving.{front_passes, rest_fails}
+use Rattle.sk_verdict.specs.declared.part.Part.{Part}
+use Rattle.sk_base.specs.ElementOrder.{comes_before as is_before}
+use Rattle.sk_base.proofs.ListOrder.{computed_before, before_computed}
+use Rattle.sk_verdict.proofs.Placing.{parts_partition}
 use Rattle.sk_verdict.proofs.store.place_of.Goals as goal
 
-pub returns-then-not-comes_before-clause-after : goal.returns-then-not-comes_before-clause-after
-returns-then-not-comes_before-clause-after c =
-    none_after c.args.parts.now c.args.elements.now c.requires c.loop-place.place c.index-parts-place.result c.loop-place-test.true (sym c.index-parts-place.is)
-    (λ h. refused c.if-not-comes_before.ensures.1 (subst (λ es. ElementsBefore es c.args.elements.now) (sym c.as_slice.ensures) h))
+point : (c : goal.After-partition_point) → IsPartitionPoint (λ (p : Part). is_before p.elements c.args.elements.now ≡ true) (λ (p : Part). is_before p.elements c.args.elements.now ≡ false) c.args.parts.now c.partition_point.result
+point c =
+    IsPartitionPoint-from_clause (λ (p : Part). is_before p.elements c.args.elements.now) c.args.parts.now c.partition_point.result c.partition_point.ensures.partitioned
+    (parts_partition c.args.elements.now c.args.parts.now c.requires) (λ a r f' called. (search (rules, of_calls), search (rules, of_calls)))
 
-pub loop-place-preserved : goal.loop-place-preserved
-loop-place-preserved c =
-    before_more c.args.parts.now c.args.elements.now c.loop-place.place c.index-parts-place.result c.loop-place-test.true (sym c.index-parts-place.is) c.loop-place.invariant
-    (subst (λ es. ElementsBefore es c.args.elements.now) c.as_slice.ensures (c.if-not-comes_before.ensures.0 refl))
+pub returns-clause-before : goal.returns-clause-before
+returns-clause-before c p p_in =
+    computed_before p.elements c.args.elements.now (front_passes (λ (q : Part). is_before q.elements c.args.elements.now) c.args.parts.now c.partition_point.result (point c) p p_in)
+
+pub returns-clause-after : goal.returns-clause-after
+returns-clause-after c p p_in before =
+    let fails = rest_fails (λ (q : Part). is_before q.elements c.args.elements.now) c.args.parts.now c.partition_point.result (point c) p p_in in
+    let passes = before_computed p.elements c.args.elements.now before in
+    cc
