@@ -30,6 +30,8 @@ mod row;
 #[cfg(test)]
 mod sessions;
 #[cfg(test)]
+mod spares;
+#[cfg(test)]
 mod texts;
 #[cfg(test)]
 mod tolerances;

@@ -12,6 +12,13 @@ use Rattle.std.proofs.lemmas.List.Elements.{Contains-get_or}
 use Rattle.sk_base.specs.Rising.{IsRising}
 use Rattle.sk_base.proofs.Finding.{found_rising, nothing_found}
 
+-- a rising list falls nowhere
+pub rising_up : {X : Type 0} (number : X → ℕ) (xs : List X) → IsRising number xs → IsNonDecreasingBy number xs
+rising_up number xs rises i j d le in_range = elim (cases_lt i j) [
+  | inl below ↦ (let up : number (get_or xs i d) < number (get_or xs j d) = rises i j d below in_range in omega arith)
+  | inr above ↦ (let same : i ≡ j = omega arith in rw same (omega arith))
+]
+
 module _ {X : Type 0} (number : X → ℕ) (xs : List X) (n : ℕ) where
   -- an item that is found has the number
   pub number_found : (i : ℕ) → HoldsAt (λ y. nat_cmp (number y) n ≡ Equal) xs i → (d : X) → number (get_or xs i d) ≡ n

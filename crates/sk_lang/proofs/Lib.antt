@@ -17,6 +17,7 @@ pub mod ReadErrors
 pub mod Readable
 pub mod RulesAgain
 pub mod Said
+pub mod SameEntries
 pub mod Sound
 pub mod Standing
 pub mod WholeLines

@@ -26,7 +26,7 @@ pub use code::{Code, ReadError, Refusal};
 pub use entry::{Entry, EntryError};
 pub use field::{label, length, not_zero};
 pub use front::{Front, read_sketch_front};
-pub use law::{one_answer, one_front, readable_is_sound, written_reads_back};
+pub use law::{one_answer, one_entry, one_front, readable_is_sound, written_reads_back};
 pub use line::{read_entry, word};
 pub use ratio::slope;
 pub use read::read_sketch;

@@ -125,7 +125,7 @@ reached_then g f new r one = record {
 }
 
 -- what may merge in the old graph may in the new one, where no element has become a line
-can_carry : (old new : Graph) (merged : List Body) → ((x : Body) → Contains merged x → (e : Elem) → Contains x.elements e → IsLine new e → IsLine old e) → CanMerge old merged → CanMerge new merged
+pub can_carry : (old new : Graph) (merged : List Body) → ((x : Body) → Contains merged x → (e : Elem) → Contains x.elements e → IsLine new e → IsLine old e) → CanMerge old merged → CanMerge new merged
 can_carry old new [] lines can = absurd can
 can_carry old new (a ∷ []) lines can = absurd can
 can_carry old new (a ∷ b ∷ []) lines can = can

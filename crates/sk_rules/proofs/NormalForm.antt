@@ -181,7 +181,7 @@ module _ (rule : List Body → List Body → Type 0) where
 
   module _ (gathers : Gathers rule) where
     -- a merge keeps a family inside a closed one
-    step_inside : (n : List Body) → IsClosedBy rule n → (old new : List Body) → StepBy rule old new → IsCovered old n → IsCovered new n
+    pub step_inside : (n : List Body) → IsClosedBy rule n → (old new : List Body) → StepBy rule old new → IsCovered old n → IsCovered new n
     step_inside n closed old new m covered x x_in =
         elim ((m.replaces x).0 x_in) [
           | inr stayed ↦ covered x stayed.0

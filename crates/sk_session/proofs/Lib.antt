@@ -10,3 +10,4 @@ pub mod Numbers
 pub mod Coding
 pub mod Possible
 pub mod Exactly
+pub mod OneReply

@@ -4,7 +4,7 @@ ghost use Rattle.sk_lang.specs.declared.Code.{Code};
 ghost use Rattle.sk_session.specs.declared.reply.Reply.{Reply as AReply};
 ghost use Rattle.sk_session.specs.declared.reply.Reply.TheVariants as a_reply;
 ghost use Rattle.sk_session.specs.Commands.{code_in};
-ghost use Rattle.sk_session.specs.State.{State};
+ghost use Rattle.sk_session.specs.State.{State, sketch_in, IsSameElse};
 ghost use Rattle.sk_session.specs.Replies.{Answers};
 ghost use Rattle.sk_base.specs.declared.Sketch.{Sketch};
 ghost use Rattle.sk_base.specs.declared.ConId.{ConId};
@@ -20,6 +20,11 @@ ghost use Rattle.sk_session.specs.declared.edit.Edit.{Edit as AnEdit};
 ghost use Rattle.sk_session.specs.declared.edit.Edit.TheVariants as an_edit;
 ghost use Rattle.sk_session.specs.Edits.{applied};
 ghost use Rattle.sk_session.specs.Making.{CanMake, IsUnused, Follows, FollowsBack};
+
+use sk_lang::one_entry;
+use sk_plan::one_plan;
+use sk_verdict::one_judgement;
+use sk_worklist::{Chosen, one_run};
 
 /// Edits other than lines leave a sound sketch sound.
 pub fn stays_sound()
@@ -42,3 +47,15 @@ pub fn kept_along()
 pub fn refused_exactly()
     ensures { (old new : State) (line : List ℕ) (answer : AReply) (code : Code) → Answers old line answer new → (answer ≡ a_reply.Refused code) ↔ (code_in old line ≡ Some code) }
 {}
+
+/// A line has at most one reply, and after it the order, the standing edits and the number of edits and undos
+/// are told by those before it. The kept family has no part in that.
+pub fn one_reply()
+    ensures { (old other new last : State) (line : List ℕ) (one said : AReply) → IsSoundSketch (sketch_in old) → IsSameElse old other → Answers old line one new → Answers other line said last
+        → (one ≡ said) × IsSameElse new last }
+{
+    one_entry();
+    one_judgement();
+    one_plan();
+    one_run::<Chosen>();
+}

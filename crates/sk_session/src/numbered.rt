@@ -1,5 +1,5 @@
 // Lists in order of number, and changes of one item.
-ghost use Rattle.std.specs.Prelude.{◌≡◌, ◌≢◌, ◌↔◌, ◌⊎◌, ◌<◌, ◌≤◌, ◌==◌, ℕ, Contains, length, filter, map, not, slice_index_or, OnOk, OnErr};
+ghost use Rattle.std.specs.Prelude.{◌≡◌, ◌≢◌, ◌↔◌, ◌⊎◌, ◌<◌, ◌≤◌, ◌==◌, ℕ, Contains, length, filter, find, map, not, slice_index_or, option_copied, OnOk, OnErr};
 ghost use Rattle.sk_base.specs.Rising.{IsRising};
 ghost use Rattle.sk_session.specs.Changes.{HasItem, without, with_item};
 
@@ -29,20 +29,14 @@ impl HasNumber for Constraint {
     }
 }
 
-/// How many items from the front have lesser numbers.
-pub(crate) fn place_of<T: HasNumber>(items: &[T], number: u32) -> usize
+/// How many items have lesser numbers: they stand in front.
+fn place_of<T: HasNumber>(items: &[T], number: u32) -> usize
+    requires rise { IsRising T.number items.now }
     ensures bound { result ≤ length items.now }
     ensures before { (k : ℕ) (d : T) → k < result → T.number (slice_index_or items.now k d) < number }
     ensures behind { (d : T) → result < length items.now → number ≤ T.number (slice_index_or items.now result d) }
 {
-    let mut place = 0;
-    for item in items {
-        if item.number() >= number {
-            return place;
-        }
-        place += 1;
-    }
-    place
+    items.partition_point(|item| item.number() < number)
 }
 
 /// Puts an item of another number in its place. After `NoMemory` the list is unchanged.
@@ -86,4 +80,15 @@ pub(crate) fn get<T: HasNumber>(items: &[T], number: u32) -> T
     ensures { Contains items.now result × (T.number result ≡ number) }
 {
     items[place_of(items, number)]
+}
+
+/// The item of the number, if there is one.
+pub(crate) fn item_of<T: HasNumber>(items: &[T], number: u32) -> Option<&T>
+    requires { IsRising T.number items.now }
+    ensures { option_copied result ≡ find (λ x. T.number x == number) items.now }
+{
+    match items.binary_search_by_key(&number, |item| item.number()) {
+        Ok(place) => Some(&items[place]),
+        Err(_) => None,
+    }
 }

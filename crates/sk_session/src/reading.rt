@@ -1,7 +1,7 @@
 // Lines that drop, set or erase.
 ghost use Rattle.std.specs.Prelude.{◌≡◌, ◌==◌, ◌||◌, ◌<◌, ◌≤◌, [], ◌∷◌, length, map, drop, find, true, false, Some, None, Ok, Err, is_none, MatchResult, IfOk, IfErr, option_copied};
 ghost use Rattle.sk_base.specs.declared.Constraint.{Constraint as AConstraint};
-ghost use Rattle.sk_base.specs.SoundSketch.{IsSoundSketch};
+ghost use Rattle.sk_base.specs.Rising.{IsRising};
 ghost use Rattle.sk_lex.specs.Words.{bytes_of, StandInOrder};
 ghost use Rattle.sk_lang.specs.FirstCode.{first_code};
 ghost use Rattle.sk_lang.specs.Named.{element_named};
@@ -14,10 +14,11 @@ ghost use Rattle.sk_session.specs.declared.command.Change.TheVariants as a_chang
 ghost use Rattle.sk_base.specs.declared.Element.{Element as AnElement};
 ghost use Rattle.sk_graph.specs.SketchGraph.{first_of, second_of};
 ghost use Rattle.sk_session.specs.Commands.{value_rows, setting, from_made, begins_with_zero, number_of, constraint_with, is_used, change_rows, edit_made};
-ghost use Rattle.sk_session.specs.Making.{CanMake};
+ghost use Rattle.sk_session.specs.Edits.{constraint_number};
 
 use crate::command::Change;
 use crate::edit::Edit;
+use crate::numbered::item_of;
 use sk_base::{ConId, Constraint, Elem, Element, Label, Rule, Sketch, digits_of};
 use sk_lang::{Code, label, length, not_zero, slope, word};
 use sk_lex::Word;
@@ -46,6 +47,7 @@ fn begins_with_zero(word: &[u8]) -> bool
 
 /// The constraint of that number.
 fn numbered(sketch: &Sketch, number: ConId) -> Result<Constraint, Code>
+    requires { IsRising constraint_number sketch.now.constraints }
     ensures { MatchResult result (λ c. constraint_with sketch.now number ≡ Some c) (λ code. (constraint_with sketch.now number ≡ None) × (code ≡ S1)) }
 {
     match find_numbered(sketch, number) {
@@ -55,13 +57,10 @@ fn numbered(sketch: &Sketch, number: ConId) -> Result<Constraint, Code>
 }
 
 fn find_numbered(sketch: &Sketch, number: ConId) -> Option<&Constraint>
+    requires { IsRising constraint_number sketch.now.constraints }
     ensures { option_copied result ≡ constraint_with sketch.now number }
 {
-    sketch
-        .constraints
-        .as_slice()
-        .iter()
-        .find(|constraint| constraint.number.0 == number.0)
+    item_of(sketch.constraints.as_slice(), number.0)
 }
 
 /// The element of that name.
@@ -110,6 +109,7 @@ fn uses(constraint: &Constraint, elem: Elem) -> bool
 
 /// The drop that a line says, by the word behind the first.
 fn read_drop(sketch: &Sketch, number: &[u8]) -> Result<Edit, Code>
+    requires { IsRising constraint_number sketch.now.constraints }
     ensures { result ≡ from_made (first_code (change_rows sketch.now a_change.Drop (number.now ∷ []))) (edit_made sketch.now a_change.Drop (number.now ∷ [])) }
 {
     let number = number_of(number)?;
@@ -119,6 +119,7 @@ fn read_drop(sketch: &Sketch, number: &[u8]) -> Result<Edit, Code>
 
 /// The new value that a line says.
 fn read_set(sketch: &Sketch, number: &[u8], value: &[u8]) -> Result<Edit, Code>
+    requires { IsRising constraint_number sketch.now.constraints }
     ensures { result ≡ from_made (first_code (change_rows sketch.now a_change.Set (number.now ∷ value.now ∷ []))) (edit_made sketch.now a_change.Set (number.now ∷ value.now ∷ [])) }
 {
     let number = number_of(number)?;
@@ -176,6 +177,7 @@ pub(crate) fn read_change(
     line: &[u8],
     words: &[Word],
 ) -> Result<Edit, Code>
+    requires rise { IsRising constraint_number sketch.now.constraints }
     requires some { 0 < length words.now }
     requires order { StandInOrder 0 words.now (length line.now) }
     ensures { let rest = drop 1 (map (bytes_of line.now) words.now) in result ≡ from_made (first_code (change_rows sketch.now change rest)) (edit_made sketch.now change rest) }

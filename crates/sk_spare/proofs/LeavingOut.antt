@@ -16,12 +16,12 @@ use Rattle.sk_base.proofs.Unions.{union_cases}
 use Rattle.sk_base.proofs.Distinct.{no_longer}
 use Rattle.sk_family.specs.Body.{Body, starting, initial_bodies, SameBodies}
 use Rattle.sk_family.proofs.Bodies.{Within, within_itself, whole_within, body_settles}
-use Rattle.sk_rules.specs.Reach.{Step, IsClosed, IsNormal}
+use Rattle.sk_rules.specs.Reach.{Step, IsClosed, IsNormal, either_rule}
 use Rattle.sk_rules.specs.Keeping.{IsReached, Dissolves}
 use Rattle.sk_rules.proofs.Families.{kept_along, edge_at}
-use Rattle.sk_rules.proofs.NormalForm.{IsCovered, step_inside, reach_covers, one_of_two, normal_same}
+use Rattle.sk_rules.proofs.NormalForm.{IsCovered, step_inside, either_gathers, one_around, reach_covers, one_of_two, normal_same}
 use Rattle.sk_rules.proofs.Counting.{IsTight, reached_tight, owned_is_held}
-use Rattle.sk_rules.proofs.Keeping.{others, reached_then}
+use Rattle.sk_rules.proofs.Keeping.{others, reached_then, can_carry}
 use Rattle.sk_rules.proofs.KeptFamily.{dissolved_is_reached}
 use Rattle.sk_verdict.specs.Judging.{IsOver}
 use Rattle.sk_verdict.specs.Parts.{part_with}
@@ -29,7 +29,7 @@ use Rattle.sk_verdict.proofs.Normals.{has_two}
 use Rattle.sk_spare.specs.Sparing.{without, HoldsAll, TakesPlace, IsOwner, IsSpare}
 use Rattle.sk_spare.specs.Trying.{trial_graph}
 use Rattle.sk_spare.proofs.Graphs.{in_without, in_trial, sound_without, sound_trial}
-use Rattle.sk_spare.proofs.Closing.{one_around, no_merge_of_one, can_carry, closed_same}
+use Rattle.sk_spare.proofs.Closing.{no_merge_of_one, closed_same}
 
 starting_within : (d : Edge) (x : Body) → Contains x.owned d.id → Contains x.elements d.u → Contains x.elements d.v → Within (starting d) x
 starting_within d x owned u_in v_in = record {
@@ -71,7 +71,7 @@ module _ (g : Graph) (f : List Body) (k : ConId) (x : Body) (sound : IsSoundGrap
     left_covered : IsCovered s.left f
     left_covered =
         kept_along (without k g) (λ m. IsCovered m f)
-        (step_inside (without k g) f (λ some among can. own.normal.closed some among (can_carry (without k g) g some (λ e line. line) can)))
+        (step_inside (either_rule (without k g)) (either_gathers (without k g)) f (λ some among can. own.normal.closed some among (can_carry (without k g) g some (λ y y_in e e_in line. line) can)))
         (initial_bodies (without k g)) s.left s.normal.reached (λ y y_in. (
         let found = mapped_from starting (without k g).edges y y_in in
         reach_covers g (initial_bodies g) f own.normal.reached y
@@ -168,7 +168,7 @@ module _ (g : Graph) (f : List Body) (k : ConId) (x : Body) (sound : IsSoundGrap
     ]),
     reached_then small (rest ++ m) (rest ++ new) reached (record {
       merged = one.merged;
-      can_merge = can_carry trial small one.merged (λ e line. line) one.can_merge;
+      can_merge = can_carry trial small one.merged (λ y y_in e e_in line. line) one.can_merge;
       among = λ y h. Contains-append_right rest m y (one.among y h);
       replaces = λ y. (
         (λ h. elim (Contains-append_cases rest new y h) [
@@ -200,7 +200,7 @@ module _ (g : Graph) (f : List Body) (k : ConId) (x : Body) (sound : IsSoundGrap
     closed_beside : IsClosed small (rest ++ n)
     closed_beside some among can =
         let of_both : (y : Body) → Contains some y → Contains rest y ⊎ Contains n y = λ y h. Contains-append_cases rest n y (among y h) in
-        let around = one_around g f some own.normal.closed (can_carry small g some (λ e line. line) can) (λ y h. elim (of_both y h) [
+        let around = one_around g f own.normal.closed some (can_carry small g some (λ y y_in e e_in line. line) can) (λ y h. elim (of_both y h) [
           | inl kept ↦ (y, ((in_rest y).0 kept).0, within_itself y)
           | inr made ↦ (x, own.in_family, beside.0 y made)
         ]) in
@@ -208,7 +208,7 @@ module _ (g : Graph) (f : List Body) (k : ConId) (x : Body) (sound : IsSoundGrap
           | inl is ↦ normal.closed some (λ y h. elim (of_both y h) [
             | inl kept ↦ absurd (not_within y kept (subst (λ z. Within y z) is (around.2 y h)))
             | inr made ↦ made
-          ]) (can_carry small trial some (λ e line. line) can)
+          ]) (can_carry small trial some (λ y y_in e e_in line. line) can)
           | inr differs ↦ no_merge_of_one small some around.0 can (λ y h. elim (of_both y h) [
             | inl kept ↦ (
                 let y_in = ((in_rest y).0 kept).0 in

@@ -3,8 +3,6 @@
 
 mod law;
 mod spares;
-#[cfg(test)]
-mod tests;
 mod text;
 mod trial;
 
