@@ -28,12 +28,6 @@ found_there number xs n place rises before behind x (k, k_len, is) number_is =
     let same : k ≡ place = omega arith in
     (omega arith, λ d. ap (λ (i : ℕ). get_or xs i d) (sym same) ∙ get_or_default xs k d x k_len ∙ is)
 
-pub rising_up : {X : Type 0} (number : X → ℕ) (xs : List X) → IsRising number xs → IsNonDecreasingBy number xs
-rising_up number xs rises i j d i_j j_len = elim (cases_lt i j) [
-  | inl below ↦ (let up : number (get_or xs i d) < number (get_or xs j d) = rises i j d below j_len in omega arith)
-  | inr above ↦ (let level : i ≡ j = omega arith in rw level (omega arith))
-]
-
 module _ {G : Type 0} where
   -- a held element has a box
   pub record IsBoxOf (bs : List (BoxAt G)) (e : Elem) (b : BoxAt G) : Type 0 where

@@ -1,5 +1,5 @@
 -- A line has one reply, and after it one list of standing edits: the kept family has no part in that.
-use Rattle.std.proofs.Common.{◌≡◌, ◌≢◌, ◌⊎◌, inl, inr, ℕ, ◌+◌, Bool, true, false, List, [], ◌∷◌, ◌++◌, Option, Some, None, map, refl, ap, sym, subst, ◌∙◌}
+use Rattle.std.proofs.Common.{◌≡◌, ◌≢◌, ◌⊎◌, inl, inr, ℕ, ◌+◌, Bool, true, false, List, [], ◌∷◌, ◌++◌, Option, Some, None, is_some, map, refl, ap, sym, subst, ◌∙◌}
 use Rattle.std.specs.Prelude.{All}
 use Rattle.std.proofs.lemmas.List.{same_from_push}
 use Rattle.sk_base.specs.declared.Elem.{Elem}
@@ -19,6 +19,7 @@ use Rattle.sk_lang.specs.declared.Entry.TheVariants as entry
 use Rattle.sk_lang.specs.Codes.{byte_rows}
 use Rattle.sk_lang.specs.Entry.{rows_of, IsOther, IsEntryOf}
 use Rattle.sk_lang.specs.FirstCode.{first_code}
+use Rattle.sk_lang.specs.Keywords.{keyword_of}
 use Rattle.sk_lex.specs.Words.{words_in}
 use Rattle.sk_graph.specs.SketchGraph.{graph_of}
 use Rattle.sk_graph.proofs.Soundness.{graph_is_sound}
@@ -44,23 +45,23 @@ use Rattle.sk_session.specs.Replies.{IsThePlan, Plans, Only, Stands, Obeys, Obey
 
 -- the laws of the layers below
 pub record Laws : Type 0 where
-  pub entry : (s : Sketch) (line : List ℕ) (elem : Elem) (con : ConId) (x y : Entry) → IsEntryOf s line elem con x → IsEntryOf s line elem con y → (x ≡ y) ⊎ (IsOther line x × IsOther line y)
-  pub judgement : (g : Graph) (one other : List Body) (j k : Judgement) → SameBodies one other → IsJudgement g one j → IsJudgement g other k → j ≡ k
-  pub run : (g : Graph) (f : Clusters) (p : Choosing) (ms ns : List Merge) (one other : Clusters) (last end : Choosing)
+  pub one_entry : (s : Sketch) (line : List ℕ) (elem : Elem) (con : ConId) (x y : Entry) → IsEntryOf s line elem con x → IsEntryOf s line elem con y → (x ≡ y) ⊎ (IsOther line x × IsOther line y)
+  pub one_judgement : (g : Graph) (one other : List Body) (j k : Judgement) → SameBodies one other → IsJudgement g one j → IsJudgement g other k → j ≡ k
+  pub one_run : (g : Graph) (f : Clusters) (p : Choosing) (ms ns : List Merge) (one other : Clusters) (last end : Choosing)
       → IsRun place_of next_call g f p ms one last → IsRun place_of next_call g f p ns other end → (ms ≡ ns) × (one ≡ other) × (last ≡ end)
-  pub plan : (g : Graph) (s : Sketch) (p q : Plan) → IsSoundGraph g → IsLegalPlan g p → IsLegalPlan g q → map merge_told p.steps ≡ map merge_told q.steps
-      → All (λ step. HasDrawnChoice s step) p.steps → All (λ step. HasDrawnChoice s step) q.steps → p ≡ q
+  pub one_plan : (g : Graph) (s : Sketch) (p q : Plan) → IsSoundGraph g → IsLegalPlan g p → IsLegalPlan g q → map merge_told p.steps ≡ map merge_told q.steps
+      → All (HasDrawnChoice s) p.steps → All (HasDrawnChoice s) q.steps → p ≡ q
 
 pub same_judgement : Laws → (g : Graph) (j k : Judgement) → IsTheJudgement g j → IsTheJudgement g k → j ≡ k
 same_judgement laws g j k first second =
-    laws.judgement g first.normal first.normal j k (λ x. ((λ h. h), (λ h. h))) (first.every first.normal first.is_normal) (second.every first.normal first.is_normal)
+    laws.one_judgement g first.normal first.normal j k (λ x. ((λ h. h), (λ h. h))) (first.every first.normal first.is_normal) (second.every first.normal first.is_normal)
 
 pub same_plan : Laws → (order : Order) (s : Sketch) → IsSoundGraph (graph_of s) → (p q : Plan) → IsThePlan order s p → IsThePlan order s q → p ≡ q
 same_plan laws order s sound p q first second =
     let (one, last, run) = first.run in
     let (other, end, run') = second.run in
-    let merges = laws.run (graph_of s) (initial_clusters (graph_of s)) (fresh order) (map merge_told p.steps) (map merge_told q.steps) one other last end run run' in
-    laws.plan (graph_of s) s p q sound first.legal second.legal merges.0 first.drawn second.drawn
+    let merges = laws.one_run (graph_of s) (initial_clusters (graph_of s)) (fresh order) (map merge_told p.steps) (map merge_told q.steps) one other last end run run' in
+    laws.one_plan (graph_of s) s p q sound first.legal second.legal merges.0 first.drawn second.drawn
 
 not_both : Laws → (order : Order) (s : Sketch) (p : Plan) (j : Judgement) → IsThePlan order s p → IsTheJudgement (graph_of s) j → j.verdict ≢ Well → ⊥
 not_both laws order s p j plan judged not_well =
@@ -166,7 +167,7 @@ module _ (laws : Laws) (old : State) (kept : Clusters) (sound : IsSoundSketch (s
 
   rows_alike : (ws : List (List ℕ)) → word_rows like ws ≡ word_rows old ws
   rows_alike [] = refl
-  rows_alike (first ∷ rest) = own_alike _ first rest
+  rows_alike (first ∷ rest) = own_alike (is_some (keyword_of first)) first rest
 
   code_alike : (line : List ℕ) → code_in like line ≡ code_in old line
   code_alike line = ap (λ rows. first_code ((byte_rows line ++ rows_of (sketch_in old) (words_in line)) ++ rows)) (rows_alike (words_in line))
@@ -177,7 +178,7 @@ module _ (laws : Laws) (old : State) (kept : Clusters) (sound : IsSoundSketch (s
   by_code_same : (line : List ℕ) (code : Option Code) (one other : Reply) (new last : State) → ByCode code old (Says line old one new) one new → ByCode code like (Says line like other last) other last → AreSame one other new last
   by_code_same line (Some code) one other new last h h' = only_same (reply.Refused code) one other new last h h'
   by_code_same line None one other new last (said, is, enters) (said', is', enters') =
-      elim (laws.entry (sketch_in old) line (next_elem old) (next_con old) said said' is is') [
+      elim (laws.one_entry (sketch_in old) line (next_elem old) (next_con old) said said' is is') [
         | inl same ↦ enters_same (words_in line) said' one other new last (subst (λ z. Enters old (words_in line) z one new) same enters) enters'
         | inr (first, second) ↦ words_same (words_in line) one other new last (other_enters old line (words_in line) said one new first enters) (other_enters like line (words_in line) said' other last second enters')
       ]

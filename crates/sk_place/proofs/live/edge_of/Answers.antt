@@ -2,7 +2,7 @@ use Rattle.std.proofs.Common.{◌≡◌, ◌<◌, length, get_or, Some, ltb, rul
 use Rattle.std.proofs.lemmas.List.Sorted.{IsPartitionPoint-from_clause, IsPartitionedBy-ltb}
 use Rattle.sk_base.specs.declared.Edge.{Edge}
 use Rattle.sk_place.specs.Trees.{edge_of}
-use Rattle.sk_place.proofs.Lookups.{rising_up}
+use Rattle.sk_base.proofs.Halves.{rising_up}
 use Rattle.sk_place.proofs.Edges.{edge_at}
 use Rattle.sk_place.proofs.live.edge_of.Goals as goal
 

@@ -2,7 +2,7 @@ use Rattle.std.proofs.Common.{ltb, arith, rules}
 use Rattle.std.proofs.lemmas.Bool.Decides.{nat_tests}
 use Rattle.std.proofs.lemmas.List.Sorted.{IsPartitionPoint-from_clause, IsPartitionedBy-ltb}
 use Rattle.sk_place.specs.Clusters.{number_of}
-use Rattle.sk_place.proofs.Lookups.{rising_up}
+use Rattle.sk_base.proofs.Halves.{rising_up}
 use Rattle.sk_place.proofs.lookup.place_of.Goals as goal
 
 pub returns : goal.returns
