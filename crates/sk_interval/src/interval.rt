@@ -13,14 +13,15 @@ use sk_base::Um;
 use sk_root::{root_ceil, root_floor};
 use std::marker::{Model, PhantomData};
 
-/// Why an operation has no interval.
+/// Why an operation has no interval. The ends are whole numbers of grid units, of which `2^BITS` stand
+/// for 1.
 #[derive(Clone, Copy, PartialEq, Eq, Debug)]
 pub enum Cause {
-    /// A divisor or a radicand that holds zero.
+    /// A divisor or a radicand that holds zero, by its ends.
     Flat { lo: i128, hi: i128 },
-    /// A radicand below zero.
+    /// A radicand below zero, by its ends.
     Gap { lo: i128, hi: i128 },
-    /// An end that passes the limit.
+    /// An end of the result passes the limit.
     Range,
 }
 
@@ -95,7 +96,7 @@ impl<G: Grid> Iv<G> {
         }
     }
 
-    /// The ends.
+    /// The ends, in grid units, of which `2^BITS` stand for 1.
     pub fn ends(&self) -> (i128, i128)
         ensures { result ≡ record { 0 = self.now.lo; 1 = self.now.hi } }
     {
@@ -128,7 +129,7 @@ impl<G: Grid> Iv<G> {
         self.lo.unsigned_abs().max(self.hi.unsigned_abs())
     }
 
-    /// The least interval around a length in millimetres.
+    /// The least interval around a length that is given in micrometres, in millimetres.
     pub fn of_um(v: Um) -> Iv<G>
         requires { unsigned_abs v.0 ≤ 2000000000 }
         ensures value { result ≡ of_micrometres G.BITS v.0 }

@@ -48,17 +48,21 @@ fn sums_products_and_quotients(rt: HostRuntime) -> Result<(), Fail> {
     Ok(())
 }
 
-/// What is refused, and what just isn't, on a grid.
-fn refuses<G: Grid>(rt: &impl Abort) -> Result<(), Fail> {
+/// What is refused, and what just isn't, on a grid with so many units to the millimetre.
+fn refuses<G: Grid>(rt: &impl Abort, unit: i128) -> Result<(), Fail> {
+    assert!(rt; 0 < unit && unit <= 274877906944);
     let (zero, one) = (Iv::<G>::whole(0), Iv::<G>::whole(1));
-    let (lo, hi) = one.neg().ends();
+    let below = Cause::Gap {
+        lo: -unit,
+        hi: -unit,
+    };
     let around_zero = Iv::<G>::of_um(Um(-1)).add(Iv::of_um(Um(1)))?;
     let large = Iv::<G>::whole(TWO_TO_25);
     let limit = large.mul(large)?;
     let larger = large.add(large)?;
     let table = [
         (zero.sqrt(), Some(Cause::Flat { lo: 0, hi: 0 })),
-        (one.neg().sqrt(), Some(Cause::Gap { lo, hi })),
+        (one.neg().sqrt(), Some(below)),
         (one.div(zero), Some(Cause::Flat { lo: 0, hi: 0 })),
         (one.div(around_zero), Some(Cause::Flat { lo: -1, hi: 1 })),
         (larger.mul(larger), Some(Cause::Range)),
@@ -84,7 +88,7 @@ fn refuses<G: Grid>(rt: &impl Abort) -> Result<(), Fail> {
 
 #[test]
 fn refusals_on_each_grid(rt: HostRuntime) -> Result<(), Fail> {
-    refuses::<G16>(&rt)?;
-    refuses::<G27>(&rt)?;
-    refuses::<G38>(&rt)
+    refuses::<G16>(&rt, 65536)?;
+    refuses::<G27>(&rt, 134217728)?;
+    refuses::<G38>(&rt, 274877906944)
 }
