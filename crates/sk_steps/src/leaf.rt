@@ -45,7 +45,7 @@ fn part<G: Grid>(n: i64, square: i64) -> Iv<G>
 }
 
 /// The other sign.
-fn opposite(sign: Sign) -> Sign
+pub fn opposite(sign: Sign) -> Sign
     ensures { result ≡ opposite sign }
 {
     match sign {

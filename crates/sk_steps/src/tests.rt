@@ -137,6 +137,38 @@ fn hole<G: Grid>() -> Result<BoxOf<G>, (What, Cause)> {
     })
 }
 
+/// The first step of a rectangle: the side that stands at a right angle on the lower one, through a corner of both.
+fn side<G: Grid>() -> Result<BoxOf<G>, (What, Cause)> {
+    let (u, v) = frame(Measure::PointLine(Um(0), Sign::Plus));
+    let (ux, wx) = frame(Measure::PointLine(Um(0), Sign::Plus));
+    let (vy, wy) = frame(Measure::LineLine(Ratio { p: 1, q: 0 }, Sign::Plus));
+    third_element(&Given {
+        u,
+        v,
+        ux,
+        wx,
+        vy,
+        wy,
+        root: Sign::Plus,
+    })
+}
+
+/// Its fourth step: the corner on the lower side, 40 to the left of the other.
+fn corner<G: Grid>() -> Result<BoxOf<G>, (What, Cause)> {
+    let (u, v) = frame(Measure::PointLine(Um(0), Sign::Plus));
+    let (wx, ux) = frame(Measure::PointPoint(Um(40000)));
+    let (wy, vy) = frame(Measure::PointLine(Um(0), Sign::Plus));
+    third_element(&Given {
+        u,
+        v,
+        ux,
+        wx,
+        vy,
+        wy,
+        root: Sign::Minus,
+    })
+}
+
 /// Lines and points on a grid with so many units to the millimetre; 0.6 and 0.8 are so many units, rounded down.
 fn lines<G: Grid>(
     rt: &impl Abort,
@@ -153,6 +185,10 @@ fn lines<G: Grid>(
     assert!(rt; are_near(a, -tenths_6) && are_near(b, tenths_8));
     assert_eq!(rt; c, below);
     assert_eq!(rt; ends_of(&hole::<G>()), Ok([thirty, five, (0, 0)]));
+
+    let (back, left) = ((-unit, -unit), (-40 * unit, -40 * unit));
+    assert_eq!(rt; ends_of(&side::<G>()), Ok([back, (0, 0), (0, 0)]));
+    assert_eq!(rt; ends_of(&corner::<G>()), Ok([left, (0, 0), (0, 0)]));
 
     let (_, line) = frame::<G>(Measure::LineLine(Ratio { p: 3, q: 4 }, Sign::Minus));
     assert_eq!(rt; ends_of(&Ok(line)), Ok(sloping));
