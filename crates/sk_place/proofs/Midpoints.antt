@@ -1,6 +1,5 @@
 -- Sizes of midpoints.
-use Rattle.std.proofs.Common.{◌≡◌, ℕ, ℤ, pos, ◌+ℤ◌, ◌*ℤ◌, ◌+◌, ◌*◌, ◌/◌, ◌^◌, ◌≤◌, ◌<◌, unsigned_abs, pow-add, arith, sym, ap, ◌∙◌}
-use Rattle.std.proofs.Math.Nat.{div-lt_iff_lt-mul}
+use Rattle.std.proofs.Common.{◌≡◌, ℕ, ℤ, pos, ◌+ℤ◌, ◌*ℤ◌, ◌+◌, ◌*◌, ◌/◌, ◌^◌, ◌≤◌, ◌<◌, unsigned_abs, pow-add, arith, refl, sym, ap, ◌∙◌}
 use Rattle.std.proofs.lemmas.Nat.{mul-le}
 use Rattle.std.proofs.lemmas.Int.{ints, unsigned_abs-mul}
 use Rattle.sk_interval.specs.Interval.{Interval}
@@ -9,22 +8,15 @@ use Rattle.std.proofs.Common.{List, [], ◌∷◌, ◌++◌, length, get_or, tak
 use Rattle.std.specs.Prelude.{map}
 use Rattle.std.proofs.lemmas.List.{take_more, map-append}
 use Rattle.sk_base.specs.declared.At.{At}
+use Rattle.sk_base.specs.declared.Kind.{Kind}
+use Rattle.sk_base.specs.declared.Node.{Node}
+use Rattle.sk_steps.specs.declared.BoxOf.{BoxOf}
+use Rattle.sk_steps.specs.declared.BoxOf.TheVariants.{Point, Line}
+use Rattle.sk_steps.specs.Boxes.{kind_of}
 use Rattle.sk_base.specs.declared.Spot.{Spot}
 use Rattle.sk_place.specs.declared.boxes.BoxAt.{BoxAt}
-use Rattle.sk_place.specs.Rounding.{IsWithin, nearest_size, rounded_box, rounded}
-
--- halves are rounded up to no more than a whole limit
-pub size_within : (F most : ℕ) (n : ℤ) → unsigned_abs n ≤ 2 * 2 ^ F * most → nearest_size F n ≤ most
-size_within F most n below =
-    let half : ℕ = 2 ^ F in
-    let positive : 0 < half = power_below 0 F (omega arith) in
-    let less : unsigned_abs n + half < (most + 1) * (2 * half) = omega (arith, below) in
-    let quotient : (unsigned_abs n + half) / (2 * half) < most + 1 = (div-lt_iff_lt-mul {k = 2 * half} {x = unsigned_abs n + half} {y = most + 1} (omega arith)).1 less in
-    omega arith
-
-pub record AreEnds (x : Interval) (k F : ℕ) : Type 0 where
-  pub lo : unsigned_abs x.lo ≤ 2 ^ (k + F)
-  pub hi : unsigned_abs x.hi ≤ 2 ^ (k + F)
+use Rattle.sk_place.specs.Clusters.{nodes_of}
+use Rattle.sk_place.specs.Rounding.{IsWithin, rounded_box, rounded, kind_at, nodes_at}
 
 pub ends_limit : (F : ℕ) (x : Interval) → F ≤ 38 → IsWithin 50 F x → (unsigned_abs x.lo ≤ 2 ^ 88) × (unsigned_abs x.hi ≤ 2 ^ 88)
 ends_limit F x few h = (let limit = end_limit F few in (omega (arith, h.0), omega (arith, h.1)))
@@ -45,7 +37,16 @@ parts_within k F parts most x h few =
         let second = mul-le (a * parts) (2 * b) most (2 * b) few (omega arith) in
         omega (arith, first, second)
 
--- ---- one more box
+kept_kind : {G : Type 0} (F : ℕ) (b : BoxOf G) → kind_at (rounded_box F b) ≡ kind_of b
+kept_kind F (Point x y) = refl
+kept_kind F (Line a b c) = refl
+
+-- the midpoints are of the same elements, each of its kind
+pub kept_nodes : {G : Type 0} (F : ℕ) (bs : List (BoxAt G)) → nodes_at (map (rounded F) bs) ≡ nodes_of bs
+kept_nodes F [] = refl
+kept_nodes F (b ∷ bs) =
+    let node : Kind → Node = λ k. record { elem = b.elem; kind = k } in
+    ap (λ k. node k ∷ nodes_at (map (rounded F) bs)) (kept_kind F b.at) ∙ ap (λ ns. node (kind_of b.at) ∷ ns) (kept_nodes F bs)
 
 pub round_more : {G : Type 0} (F : ℕ) (items : List (BoxAt G)) (i : ℕ) (b : BoxAt G) (spots : List Spot) (at : At) → i < length items → b ≡ get_or items i b
     → spots ≡ map (rounded F) (take i items) → at ≡ rounded_box F b.at → spots ++ record { elem = b.elem; at = at } ∷ [] ≡ map (rounded F) (take (i + 1) items)

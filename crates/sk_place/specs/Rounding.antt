@@ -1,7 +1,10 @@
 -- Midpoints, rounded to whole nanometres and to whole parts of 10^9.
-use Rattle.std.specs.Prelude.{ℕ, ℤ, pos, neg_ℤ, ◌+ℤ◌, ◌*ℤ◌, ◌+◌, ◌*◌, ◌/◌, ◌^◌, ◌≤◌, unsigned_abs, int_lt, List, All, if◌then◌else◌}
+use Rattle.std.specs.Prelude.{ℕ, ℤ, pos, ◌+ℤ◌, ◌*ℤ◌, ◌+◌, ◌*◌, ◌^◌, ◌≤◌, unsigned_abs, List, All, map}
 use Rattle.sk_base.specs.declared.At.{At}
+use Rattle.sk_base.specs.declared.Kind.{Kind}
+use Rattle.sk_base.specs.declared.Node.{Node}
 use Rattle.sk_base.specs.declared.Spot.{Spot}
+use Rattle.sk_base.specs.Nearest.{nearest}
 use Rattle.sk_interval.specs.Interval.{Interval}
 use Rattle.sk_steps.specs.declared.BoxOf.{BoxOf}
 use Rattle.sk_steps.specs.declared.BoxOf.TheVariants.{Point, Line}
@@ -19,17 +22,18 @@ IsBoundedBox F (Line a b c) = IsWithin 1 F a × IsWithin 1 F b × IsWithin 40 F 
 abbrev pub AreBounded : {G : Type 0} → ℕ → List (BoxAt G) → Type 0
 AreBounded F bs = All (λ b. IsBoundedBox F b.at) bs
 
--- the size of m / 2 ^ (F + 1), to the nearest whole number, halves up
-abbrev pub nearest_size : ℕ → ℤ → ℕ
-nearest_size F m = (unsigned_abs m + 2 ^ F) / (2 * 2 ^ F)
-
--- m / 2 ^ (F + 1), to the nearest whole number, halves away from zero
-abbrev pub nearest : ℕ → ℤ → ℤ
-nearest F m = if int_lt m (pos 0) then neg_ℤ (pos (nearest_size F m)) else pos (nearest_size F m)
-
--- the midpoint in so many parts of 1
+-- half the sum of the ends, in so many parts of 1, to the nearest whole number, halves away from zero
 abbrev pub midpoint : ℕ → ℕ → Interval → ℤ
-midpoint F parts x = nearest F ((x.lo +ℤ x.hi) *ℤ pos parts)
+midpoint F parts x = nearest (2 * 2 ^ F) ((x.lo +ℤ x.hi) *ℤ pos parts)
+
+-- a place is a point's or a line's
+abbrev pub kind_at : At → Kind
+kind_at (At.Point x y) = Kind.Point
+kind_at (At.Line a b c) = Kind.Line
+
+-- the elements that have places, each with its place's kind
+abbrev pub nodes_at : List Spot → List Node
+nodes_at spots = map (λ (s : Spot). record { elem = s.elem; kind = kind_at s.at }) spots
 
 -- lengths are in millimetres, and are given in nanometres
 abbrev pub rounded_box : {G : Type 0} → ℕ → BoxOf G → At

@@ -5,6 +5,7 @@ mod boxes;
 mod carry;
 mod fault;
 mod joining;
+mod law;
 mod live;
 mod lookup;
 mod placing;
@@ -13,5 +14,6 @@ mod setting;
 
 pub use boxes::{BoxAt, Boxes};
 pub use fault::{Phase, PlaceError, StepFault};
+pub use law::one_placing;
 pub use placing::place;
 pub use rounding::round;

@@ -2,17 +2,19 @@
 ghost use Rattle.std.specs.Prelude.{◌≡◌, ◌≤◌, ◌+◌, ◌*◌, ◌^◌, ℕ, pos, ◌+ℤ◌, ◌*ℤ◌, unsigned_abs, IfOk, All, map};
 ghost use Rattle.sk_base.specs.Bounds.{IsWithin as IsAtMost};
 ghost use Rattle.sk_base.specs.Places.{IsBounded};
-ghost use Rattle.sk_place.specs.Rounding.{IsWithin, IsBoundedBox, nearest_size, nearest, midpoint, rounded_box, rounded};
+ghost use Rattle.sk_base.specs.Nearest.{nearest};
+ghost use Rattle.sk_place.specs.Rounding.{IsWithin, IsBoundedBox, midpoint, rounded_box, rounded, nodes_at};
+ghost use Rattle.sk_place.specs.Clusters.{nodes_of};
 
 use crate::boxes::Boxes;
-use sk_base::{At, List, NoMemory, Placed, Spot};
+use sk_base::{At, List, NoMemory, Placed, Spot, nearest};
 use sk_interval::{Grid, Iv};
 use sk_steps::BoxOf;
 use std::alloc::Global;
 
 /// The number of the grid that stands for 1.
 #[tactic(auto, using(sk_interval::proofs::PowerLemmas::powers))]
-fn unit<G: Grid>() -> u128
+fn unit<G: Grid>() -> u64
     ensures value { result ≡ 2 ^ G.BITS }
     ensures positive { 256 ≤ result }
     ensures limit { result ≤ 2 ^ 38 }
@@ -20,24 +22,13 @@ fn unit<G: Grid>() -> u128
     1 << G::BITS
 }
 
-/// The size of `n / 2^(BITS + 1)`, to the nearest whole number, halves up.
-fn nearest_size<G: Grid>(n: i128) -> i64
+/// Half of so many grid units, to the nearest whole number, halves away from zero.
+fn halved<G: Grid>(n: i128) -> i64
     requires { unsigned_abs n ≤ 2 * 2 ^ G.BITS * 2 ^ 60 }
-    ensures value { result ≡ pos (nearest_size G.BITS n) }
-    ensures within { (most : ℕ) → unsigned_abs n ≤ 2 * 2 ^ G.BITS * most → nearest_size G.BITS n ≤ most }
-{
-    let half = unit::<G>();
-    ((n.unsigned_abs() + half) / (2 * half)) as i64
-}
-
-/// `n / 2^(BITS + 1)`, to the nearest whole number, halves away from zero.
-fn nearest<G: Grid>(n: i128) -> i64
-    requires { unsigned_abs n ≤ 2 * 2 ^ G.BITS * 2 ^ 60 }
-    ensures value { result ≡ nearest G.BITS n }
+    ensures value { result ≡ nearest (2 * 2 ^ G.BITS) n }
     ensures within { (most : ℕ) → unsigned_abs n ≤ 2 * 2 ^ G.BITS * most → IsAtMost most result }
 {
-    let size = nearest_size::<G>(n);
-    if n < 0 { -size } else { size }
+    nearest(n, 2 * unit::<G>()) as i64
 }
 
 /// The sum of the ends.
@@ -57,7 +48,7 @@ fn nanometres<G: Grid>(x: &Iv<G>) -> i64
     ensures value { result ≡ midpoint G.BITS 1000000 x.now }
     ensures within { IsAtMost 1152921504606846976 result }
 {
-    nearest::<G>(sum_of_ends(x) * 1_000_000)
+    halved::<G>(sum_of_ends(x) * 1_000_000)
 }
 
 /// The midpoint of a part of a normal, in parts of 10^9.
@@ -66,7 +57,7 @@ fn billionths<G: Grid>(x: &Iv<G>) -> i64
     ensures value { result ≡ midpoint G.BITS 1000000000 x.now }
     ensures within { IsAtMost 2000000000 result }
 {
-    nearest::<G>(sum_of_ends(x) * 1_000_000_000)
+    halved::<G>(sum_of_ends(x) * 1_000_000_000)
 }
 
 /// The midpoints of a box.
@@ -91,6 +82,7 @@ fn rounded_box<G: Grid>(b: &BoxOf<G>) -> At
 /// The midpoints of boxes: of each element in turn, a point of a point's box and a line of a line's.
 pub fn round<G: Grid>(alloc: Global, boxes: &Boxes<G>) -> Result<Placed, NoMemory>
     ensures value { IfOk result (λ placed. placed.spots ≡ map (rounded G.BITS) boxes.now) }
+    ensures nodes { IfOk result (λ placed. nodes_at placed.spots ≡ nodes_of boxes.now) }
     ensures bounded { IfOk result (λ placed. All (λ spot. IsBounded spot.at) placed.spots) }
 {
     let mut spots = List::new(alloc);

@@ -1,13 +1,13 @@
 // Who is who in a step.
 ghost use Rattle.std.specs.Prelude.{◌≡◌};
-ghost use Rattle.sk_place.specs.Steps.{setting, exchanged, ordered, chosen, opposite, is_opposite, root, given, HasCorners};
+ghost use Rattle.sk_place.specs.Steps.{setting, exchanged, ordered, chosen, is_opposite, root, given, HasCorners};
 
 use crate::boxes::BoxAt;
 use crate::carry::comes_first;
 use crate::lookup::box_of;
 use sk_base::{Elem, Kind, List, Sign};
 use sk_interval::Grid;
-use sk_steps::Given;
+use sk_steps::{Given, opposite};
 use sk_tree::{Choice, PlanStep};
 
 /// The three children of a step, and the elements that each two of them share: the kept one shares
@@ -81,16 +81,6 @@ fn chosen(choice: Choice) -> Sign
     match choice {
         Choice::Turn(sign) | Choice::Advance(sign) => sign,
         Choice::Nothing => Sign::Plus,
-    }
-}
-
-/// The other sign.
-fn opposite(sign: Sign) -> Sign
-    ensures { result ≡ opposite sign }
-{
-    match sign {
-        Sign::Plus => Sign::Minus,
-        Sign::Minus => Sign::Plus,
     }
 }
 

@@ -8,8 +8,8 @@ use Rattle.sk_place.proofs.rounding.billionths.Goals as goal
 pub sum_of_ends-requires : goal.sum_of_ends-requires
 sum_of_ends-requires g c = within_50 1 g.G.Grid.BITS c.args.x.now (lit≤ tt) c.requires
 
-pub nearest-requires : goal.nearest-requires
-nearest-requires g c =
+pub halved-requires : goal.halved-requires
+halved-requires g c =
     let limit = c.sum_of_ends.ensures.limit in
     let sum : FitsSigned w128 c.sum_of_ends.result = omega (arith, ints, limit) in
     let product : FitsSigned w128 (c.sum_of_ends.result *ℤ pos 1000000000) = omega (arith, ints, limit) in
@@ -22,6 +22,6 @@ returns-clause-within g c =
     let product : FitsSigned w128 (c.sum_of_ends.result *ℤ pos 1000000000) = omega (arith, ints, limit) in
     let below : unsigned_abs (c.sum_of_ends.result *ℤ pos 1000000000) ≤ 2 * 2 ^ g.G.Grid.BITS * 2000000000 =
     rw c.sum_of_ends.ensures.value (parts_within 1 g.G.Grid.BITS 1000000000 2000000000 c.args.x.now c.requires (lit≤ tt)) in
-    let within : IsAtMost 2000000000 c.nearest.result = c.nearest.ensures.within 2000000000 (simp to_z-of_z below) in
-    let fits : FitsSigned w64 c.nearest.result = omega (arith, ints, within) in
+    let within : IsAtMost 2000000000 c.halved.result = c.halved.ensures.within 2000000000 (simp to_z-of_z below) in
+    let fits : FitsSigned w64 c.halved.result = omega (arith, ints, within) in
     simp to_z-of_z within
