@@ -9,8 +9,10 @@ pub mod Numbers
 pub mod Pairs
 pub mod Quotients
 pub mod Ranges
+pub mod Rests
 pub mod Searches
 pub mod ShortNames
 pub mod Sizes
 pub mod Splits
+pub mod Tables
 pub mod Unions

@@ -5,7 +5,6 @@ pub mod FittingOffers
 pub mod KeyNames
 pub mod KeyValues
 pub mod Keys
-pub mod LineCounts
 pub mod OfferAnswers
 pub mod OfferBytes
 pub mod OffersSoFar

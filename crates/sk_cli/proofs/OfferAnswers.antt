@@ -12,7 +12,7 @@ use Rattle.sk_lang.specs.declared.Code.{Code}
 use Rattle.sk_lang.specs.declared.Code.TheVariants.{E3, E4, E8, E10, E15, E16, E19}
 use Rattle.sk_lang.specs.FirstCode.{first_code}
 use Rattle.sk_lang.specs.Lines.{lines_in}
-use Rattle.sk_lang.proofs.Passing.{passed}
+use Rattle.sk_base.proofs.Tables.{passed}
 use Rattle.sk_cli.specs.declared.offer_line.OfferLine.{OfferLine}
 use Rattle.sk_cli.specs.declared.offer_line.Place.{Place}
 use Rattle.sk_cli.specs.declared.offer_line.Place.TheVariants.{Among, Past}

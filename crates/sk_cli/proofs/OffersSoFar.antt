@@ -5,8 +5,7 @@ use Rattle.sk_lang.specs.declared.Code.TheVariants.{E16}
 use Rattle.sk_lang.specs.declared.EntryError.{EntryError}
 use Rattle.sk_lang.specs.declared.EntryError.TheVariants.{Refused, NoMemory}
 use Rattle.sk_lang.specs.Lines.{lines_in}
-use Rattle.sk_lang.specs.Entry.{IsRefusal}
-use Rattle.sk_lang.specs.Computed.{error_at}
+use Rattle.sk_lang.specs.Entry.{IsRefusal, error_at}
 use Rattle.sk_cli.specs.declared.offer_line.OfferLine.{OfferLine}
 use Rattle.sk_cli.specs.declared.offer_line.Place.{Place}
 use Rattle.sk_cli.specs.declared.offer_line.Place.TheVariants.{Among, Past}

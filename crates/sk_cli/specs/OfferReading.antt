@@ -1,6 +1,7 @@
 -- What the text behind a sketch is read as, and where it is refused.
 use Rattle.std.specs.Prelude.{◌≡◌, ⊤, ℕ, ◌+◌, List, [], ◌∷◌, ◌++◌, length, Some, None}
 use Rattle.sk_lex.specs.Words.{words_in}
+use Rattle.sk_lang.specs.LineCodes.{along, HaveNone, HasFirst}
 use Rattle.sk_lang.specs.Lines.{lines_in}
 use Rattle.sk_lang.specs.declared.Code.{Code}
 use Rattle.sk_lang.specs.declared.Code.TheVariants.{E16}
@@ -16,20 +17,15 @@ use Rattle.sk_cli.specs.OfferLines.{offer_rows, IsOfferOf, word_rows, code_of, p
 
 -- where the lines lead
 abbrev pub place_along : Place → List (List ℕ) → Place
-place_along place [] = place
-place_along place (line ∷ lines) = place_along (place_after place line) lines
+place_along place lines = along place_after place lines
 
 -- no line has a code, each where those before it lead
 abbrev pub HaveNoCode : Place → List (List ℕ) → Type 0
-HaveNoCode place [] = ⊤
-HaveNoCode place (line ∷ lines) = (code_of place line ≡ None) × HaveNoCode (place_after place line) lines
+HaveNoCode place lines = HaveNone code_of place_after place lines
 
 -- the lines before this one have no code, and it has one where they lead
-pub record HasFirstCode (lines : List (List ℕ)) (before : List (List ℕ)) (line : List ℕ) (code : Code) : Type 0 where
-  pub after : List (List ℕ)
-  pub parts : lines ≡ before ++ line ∷ after
-  pub clean : HaveNoCode Among before
-  pub code_is : code_of (place_along Among before) line ≡ Some code
+abbrev pub HasFirstCode : List (List ℕ) → List (List ℕ) → List ℕ → Code → Type 0
+HasFirstCode lines before line code = HasFirst code_of place_after Among lines before line code
 
 -- The text is read as the offers.
 pub record ReadsOffers (bytes : List ℕ) (offers : List OfferLine) : Type 0 where

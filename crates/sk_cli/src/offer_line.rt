@@ -1,9 +1,7 @@
 // One line among offers.
-ghost use Rattle.std.specs.Prelude.{◌≡◌, ◌≤◌, ◌<◌, [], ◌∷◌, length, map, drop, Some, None, IfSome, IfOk, IfErr, MatchResult, bytes_eq};
-ghost use Rattle.std.specs.List.{slice_index_or, slice_range};
-ghost use Rattle.sk_lex.specs.Words.{bytes_of, words_in, StandInOrder};
+ghost use Rattle.std.specs.Prelude.{◌≡◌, ◌<◌, [], ◌∷◌, length, map, drop, Some, None, IfOk, IfErr, MatchResult};
+ghost use Rattle.sk_lex.specs.Words.{bytes_of, StandInOrder};
 ghost use Rattle.sk_lang.specs.declared.Code.TheVariants.{E8};
-ghost use Rattle.sk_lang.specs.Codes.{byte_rows};
 ghost use Rattle.sk_lang.specs.FirstCode.{first_code};
 ghost use Rattle.sk_lang.specs.Entry.{IsRefusal};
 ghost use Rattle.sk_cli.specs.OfferLines.{worker_of, offer_rows, word_rows, code_of, IsOfferOf};
@@ -11,8 +9,8 @@ ghost use Rattle.sk_cli.specs.declared.offer_line.Place.TheVariants.{Among};
 ghost use Rattle.sk_cli.specs.OfferReading.{AddsWords, Adds, IsWithOffer};
 
 use sk_base::List;
-use sk_lang::{Code, EntryError, name_of, plain_number};
-use sk_lex::{LexFault, Word, Words, words_of};
+use sk_lang::{Code, EntryError, is_word, name_of, plain_number, split_words, word};
+use sk_lex::Word;
 use sk_rules::Merge;
 use std::alloc::Global;
 
@@ -45,7 +43,7 @@ pub(crate) fn after_line(alloc: Global, so_far: SoFar, line: &[u8]) -> Result<So
     ensures adds { IfOk result (Adds so_far line.now) }
     ensures refused { IfErr result (IsRefusal (code_of so_far.place line.now)) }
 {
-    let words = split(alloc, line)?;
+    let words = split_words(alloc, line)?;
     let words = words.items.as_slice();
     if words.is_empty() {
         return Ok(so_far);
@@ -65,10 +63,10 @@ fn after_words(offers: List<OfferLine>, line: &[u8], words: &[Word]) -> Result<S
         (IsRefusal (first_code (word_rows Among ws))) }
 {
     let first = word(line, words, 0);
-    if is(first, "offer") {
+    if is_word(first, "offer") {
         return with_offer(offers, line, words);
     }
-    if !is(first, "end") {
+    if !is_word(first, "end") {
         return Err(EntryError::Refused(Code::E2));
     }
     if words.len() != 1 {
@@ -158,44 +156,4 @@ fn worker_of(word: &[u8]) -> Result<u8, Code>
         Some(worker) if worker <= MOST_WORKER => Ok(worker as u8),
         _ => Err(Code::E8),
     }
-}
-
-/// The words of a line.
-fn split(alloc: Global, line: &[u8]) -> Result<Words, EntryError>
-    ensures words { IfOk result (λ words. map (bytes_of line.now) words.items ≡ words_in line.now) }
-    ensures order { IfOk result (λ words. StandInOrder 0 words.items (length line.now)) }
-    ensures fine { IfOk result (λ _. first_code (byte_rows line.now) ≡ None) }
-    ensures refused { IfErr result (IsRefusal (first_code (byte_rows line.now))) }
-{
-    match words_of(alloc, line) {
-        Ok(words) => Ok(words),
-        Err(LexFault::LineTooLong) => Err(EntryError::Refused(Code::E15)),
-        Err(LexFault::NotAscii) => Err(EntryError::Refused(Code::E19)),
-        Err(LexFault::NoMemory) => Err(EntryError::NoMemory),
-    }
-}
-
-/// The bytes of the word at a place.
-fn word<'a>(line: &'a [u8], words: &[Word], i: usize) -> &'a [u8]
-    requires below { i < length words.now }
-    requires order { StandInOrder 0 words.now (length line.now) }
-    ensures { result.now ≡ slice_index_or (map (bytes_of line.now) words.now) i [] }
-{
-    let word = words[i];
-    between(line, word.start as usize, word.end as usize)
-}
-
-fn between(line: &[u8], start: usize, end: usize) -> &[u8]
-    requires rising { start ≤ end }
-    requires within { end ≤ length line.now }
-    ensures { result.now ≡ slice_range line.now start end }
-{
-    &line[start..end]
-}
-
-/// Whether the word is this text.
-fn is(word: &[u8], text: &str) -> bool
-    ensures { result ≡ bytes_eq word.now text.now }
-{
-    word == text.as_bytes()
 }

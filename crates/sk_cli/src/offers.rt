@@ -1,96 +1,81 @@
-// The offers that stand behind a sketch.
-ghost use Rattle.std.specs.Prelude.{◌≡◌, ◌<◌, ◌+◌, ◌∷◌, ◌⊎◌, ℕ, List as Items, length, position, IfSome, IfOk, IfErr};
-ghost use Rattle.std.specs.Str.Lines.{strip_carriage_return};
-ghost use Rattle.sk_lang.specs.Lines.{is_line_feed, lines_in};
-ghost use Rattle.sk_lang.specs.declared.Code.{Code as AnyCode};
-ghost use Rattle.sk_lang.specs.declared.ReadError.TheVariants.{Refused};
-ghost use Rattle.sk_lang.specs.Computed.{error_at};
-ghost use Rattle.sk_cli.specs.declared.offer_line.OfferLine.{OfferLine as AnyOffer};
-ghost use Rattle.sk_cli.specs.OfferReading.{ReadsOffers, RefusesOffers, IsOfferRefusal};
+// The command `offers`.
+ghost use Rattle.std.specs.Prelude.{◌≡◌, ◌<◌, All, IfOk, length};
+ghost use Rattle.sk_base.specs.SoundSketch.{IsSoundSketch};
+ghost use Rattle.sk_report.specs.RefusalLine.{refusal_line};
+ghost use Rattle.sk_cli.specs.OffersReport.{FitsBoard, AreAnswered, IsReportOnOffers, IsOffersAnswer};
 
-use crate::offer_line::{OfferLine, Place, SoFar, after_line};
-use sk_base::List;
-use sk_lang::{Code, EntryError, ReadError, Refusal};
+use crate::answer::Answer;
+use crate::offer_line::OfferLine;
+use crate::offer_reading::read_offers;
+use crate::status::Status;
+use sk_base::{NoMemory, Sketch, Text};
+use sk_graph::reduce;
+use sk_lang::{ReadError, Refusal, read_sketch_front};
+use sk_offers::Board;
+use sk_report::{answer_text, check_text, refused_text};
+use sk_verdict::judge;
+use sk_worklist::{Chosen, Order};
 use std::alloc::Global;
 
-/// Reads the offers that stand behind the `end` of a sketch, up to their own `end`. The lines are numbered
-/// from `first` + 1.
-pub fn read_offers(alloc: Global, bytes: &[u8], first: u32) -> Result<List<OfferLine>, ReadError>
-    requires { first + length (lines_in bytes.now) < 4294967295 }
-    ensures reads { IfOk result (ReadsOffers bytes.now) }
-    ensures refuses { IfErr result (IsOfferRefusal first bytes.now) }
+/// The answer of `offers` to an input.
+pub fn offers(alloc: Global, order: Order, bytes: &[u8]) -> Result<Answer, NoMemory>
+    ensures { IfOk result (λ answer. IsOffersAnswer bytes.now answer.status answer.text) }
 {
-    let mut so_far = SoFar {
-        place: Place::Among,
-        offers: List::new(alloc),
+    let front = match read_sketch_front(alloc, bytes) {
+        Ok(front) => front,
+        Err(ReadError::Refused(refusal)) => return refused(alloc, &refusal),
+        Err(ReadError::NoMemory) => return Err(NoMemory),
     };
-    let mut number = first;
-    let mut rest = bytes;
-    while !rest.is_empty() {
-        let (line, after) = split_line(rest);
-        number += 1;
-        so_far = match after_line(alloc, so_far, line) {
-            Ok(further) => further,
-            Err(error) => return Err(error_at(number, error)),
-        };
-        rest = after;
-    }
-    match so_far.place {
-        Place::Among => Err(refused(number + 1, Code::E16)),
-        Place::Past => Ok(so_far.offers),
+    match read_offers(alloc, &bytes[front.used as usize..], front.lines) {
+        Ok(offers) => Ok(Answer {
+            status: Status::Done,
+            text: report(alloc, order, &front.sketch, offers.as_slice())?,
+        }),
+        Err(ReadError::Refused(refusal)) => refused(alloc, &refusal),
+        Err(ReadError::NoMemory) => Err(NoMemory),
     }
 }
 
-/// Every text is read as offers or refused, and not both, with one list of offers or one refusal.
-pub fn one_reading_of_offers()
-    ensures some { (first : ℕ) (bytes : Items ℕ) → ((offers : Items AnyOffer) × ReadsOffers bytes offers) ⊎ ((n : ℕ) × ((code : AnyCode) × RefusesOffers first bytes n code)) }
-    ensures one_list { (bytes : Items ℕ) (offers others : Items AnyOffer) → ReadsOffers bytes offers → ReadsOffers bytes others → offers ≡ others }
-    ensures one_refusal { (first : ℕ) (bytes : Items ℕ) (n m : ℕ) (c d : AnyCode) → RefusesOffers first bytes n c → RefusesOffers first bytes m d → (n ≡ m) × (c ≡ d) }
-    ensures not_both { (first : ℕ) (bytes : Items ℕ) (offers : Items AnyOffer) (n : ℕ) (code : AnyCode) → ReadsOffers bytes offers → RefusesOffers first bytes n code → ⊥ }
-{}
-
-/// The error of a line as that of the text.
-fn error_at(line: u32, error: EntryError) -> ReadError
-    ensures { result ≡ error_at line error }
+/// The refusal of the input.
+fn refused(alloc: Global, refusal: &Refusal) -> Result<Answer, NoMemory>
+    ensures status { IfOk result (λ answer. answer.status ≡ Status.Refused) }
+    ensures text { IfOk result (λ answer. answer.text ≡ refusal_line refusal.now) }
 {
-    match error {
-        EntryError::Refused(code) => refused(line, code),
-        EntryError::NoMemory => ReadError::NoMemory,
+    Ok(Answer {
+        status: Status::Refused,
+        text: refused_text(alloc, refusal)?,
+    })
+}
+
+/// A line for each offer, and then the check report of the sketch.
+fn report(
+    alloc: Global,
+    order: Order,
+    sketch: &Sketch,
+    offers: &[OfferLine],
+) -> Result<Text, NoMemory>
+    requires sound { IsSoundSketch sketch.now }
+    requires some { 0 < length sketch.now.elements }
+    requires fit { All (λ o. FitsBoard o) offers.now }
+    ensures { IfOk result (IsReportOnOffers sketch.now offers.now) }
+{
+    let mut board = Board::new(alloc, reduce(alloc, sketch)?)?;
+    let mut text = answers(alloc, &mut board, offers)?;
+    let finished = board.finish(&mut Chosen::new(order))?;
+    let judgement = judge(alloc, &finished.family, &finished.graph)?;
+    text.put(check_text(alloc, sketch, &judgement)?.as_bytes())?;
+    Ok(text)
+}
+
+/// A line for each offer that the board is made, one after another.
+fn answers(alloc: Global, board: &mut Board, offers: &[OfferLine]) -> Result<Text, NoMemory>
+    requires { All (λ o. FitsBoard o) offers.now }
+    ensures { IfOk result (AreAnswered board.old offers.now board.new) }
+{
+    let mut text = Text::new(alloc);
+    for offer in offers {
+        let answer = board.offer(offer.worker, offer.merge)?;
+        text.put(answer_text(alloc, offer.worker, &answer)?.as_bytes())?;
     }
-}
-
-fn refused(line: u32, code: Code) -> ReadError
-    ensures { result ≡ Refused (record { line = line; code = code }) }
-{
-    ReadError::Refused(Refusal { line, code })
-}
-
-/// The first line without its line end, and what follows it.
-fn split_line(bytes: &[u8]) -> (&[u8], &[u8])
-    requires { 0 < length bytes.now }
-    ensures lines { lines_in bytes.now ≡ result.0.now ∷ lines_in result.1.now }
-    ensures shorter { length result.1.now < length bytes.now }
-{
-    match first_line_feed(bytes) {
-        None => (without_return(bytes), &[]),
-        Some(end) => (without_return(&bytes[..end]), &bytes[end + 1..]),
-    }
-}
-
-/// The place of the first line feed.
-fn first_line_feed(bytes: &[u8]) -> Option<usize>
-    ensures value { result ≡ position is_line_feed bytes.now }
-    ensures below { IfSome result (λ end. end < length bytes.now) }
-{
-    bytes.iter().position(|b| *b == b'\n')
-}
-
-/// The line without the one carriage return at its end.
-fn without_return(line: &[u8]) -> &[u8]
-    ensures { result.now ≡ strip_carriage_return line.now }
-{
-    match line {
-        [rest @ .., b'\r'] => rest,
-        _ => line,
-    }
+    Ok(text)
 }

@@ -10,7 +10,7 @@ ghost use Rattle.sk_cli.specs.Ending.{IsTold, Ends, HasInput, Sends};
 use crate::answer::Answer;
 use crate::check::check;
 use crate::command::Command;
-use crate::offering::offers;
+use crate::offers::offers;
 use crate::plan::plan;
 use crate::request::{Request, request_of};
 use crate::solve::solve;

@@ -1,13 +1,10 @@
 -- The text of derived clusters.
-use Rattle.std.specs.Prelude.{ℕ, ◌+◌, if◌then◌else◌, List, [], ◌∷◌, ◌++◌, length, map, fold, codes, unwrap_or}
-use Rattle.std.specs.Option.{option_map}
-use Rattle.std.specs.List.{flat_map}
+use Rattle.std.specs.Prelude.{ℕ, ◌+◌, if◌then◌else◌, List, [], ◌∷◌, ◌++◌, length, map, fold, codes}
 use Rattle.std.specs.Fmt.{decimal}
 use Rattle.sk_base.specs.declared.Elem.{Elem}
-use Rattle.sk_base.specs.declared.Element.{Element}
 use Rattle.sk_base.specs.declared.Sketch.{Sketch}
 use Rattle.sk_base.specs.ElementOrder.{comes_before}
-use Rattle.sk_base.specs.Drawn.{element_of}
+use Rattle.sk_text.specs.ElementNames.{names_of}
 use Rattle.sk_family.specs.declared.Cluster.{Cluster}
 use Rattle.sk_family.specs.Clusters.{Clusters}
 
@@ -19,14 +16,6 @@ with_list (ys ∷ lists) xs = if comes_before ys xs then ys ∷ with_list lists 
 -- the lists of elements of these clusters, put in order one after another
 abbrev pub lists_in_order : List Cluster → List (List Elem)
 lists_in_order clusters = fold with_list [] (map (λ (c : Cluster). c.elements) clusters)
-
--- the name of the element that has the number
-abbrev pub name_of : Sketch → Elem → List ℕ
-name_of s number = unwrap_or (option_map (λ (element : Element). element.label) (element_of s number)) []
-
--- the names, each with a space before it
-abbrev pub names_of : Sketch → List Elem → List ℕ
-names_of s elements = flat_map (λ e. 32 ∷ name_of s e) elements
 
 abbrev pub cluster_head : ℕ → List ℕ
 cluster_head number = codes "cluster " ++ (decimal number ++ codes " :")

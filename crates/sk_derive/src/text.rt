@@ -1,10 +1,11 @@
 // The text of derived clusters.
-ghost use Rattle.std.specs.Prelude.{◌≡◌, ◌++◌, ◌∷◌, IfOk, OnOk};
-ghost use Rattle.sk_derive.specs.DerivedText.{name_of, names_of, cluster_head, cluster_line, cluster_lines, clusters_head, derived_text};
+ghost use Rattle.std.specs.Prelude.{◌≡◌, ◌++◌, IfOk, OnOk};
+ghost use Rattle.sk_derive.specs.DerivedText.{cluster_head, cluster_line, cluster_lines, clusters_head, derived_text};
 
 use crate::lists::lists_in_order;
 use sk_base::{Elem, List, NoMemory, Sketch, Text};
 use sk_family::Family;
+use sk_text::put_names;
 use std::alloc::Global;
 
 /// The number of clusters, then a line for each, in order of their elements. Lone elements aren't in
@@ -61,24 +62,4 @@ fn put_cluster_head(alloc: Global, text: &mut Text, number: usize) -> Result<(),
 {
     let head = format!(in alloc; "cluster {number} :")?;
     text.put(head.as_bytes())
-}
-
-/// Puts the names, each with a space before it.
-fn put_names(text: &mut Text, s: &Sketch, elements: &[Elem]) -> Result<(), NoMemory>
-    ensures { OnOk result (text.new ≡ text.old ++ names_of s.now elements.now) }
-{
-    for e in elements {
-        put_name(text, s, *e)?;
-    }
-    Ok(())
-}
-
-fn put_name(text: &mut Text, s: &Sketch, e: Elem) -> Result<(), NoMemory>
-    ensures { OnOk result (text.new ≡ text.old ++ 32 ∷ name_of s.now e) }
-{
-    text.put(b" ")?;
-    match s.element(e) {
-        Some(element) => text.put(element.label.as_bytes()),
-        None => Ok(()),
-    }
 }

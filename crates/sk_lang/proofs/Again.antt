@@ -29,7 +29,8 @@ use Rattle.sk_lang.specs.Codes.{code_of, word_rows}
 use Rattle.sk_lang.specs.Meaning.{progress_after, progress_after_words}
 use Rattle.sk_lang.specs.Canonical.{spaced, shape_words}
 use Rattle.sk_lang.specs.Renumbered.{elements_from}
-use Rattle.sk_lang.proofs.Finding.{found_among, same_bytes, equal_bytes}
+use Rattle.sk_base.proofs.Finding.{found_in}
+use Rattle.sk_lang.proofs.Finding.{same_bytes, equal_bytes}
 use Rattle.sk_lang.proofs.Passing.{Passes, passes_to}
 use Rattle.sk_lang.proofs.Written.{IsWrittenLine, literal, name_written, mm_written, magnitude_within, written_line}
 
@@ -69,7 +70,7 @@ elements_push n (x ∷ done) e =
 pub found_again : (u : Elem) (n : ℕ) (es : List Element) (e : Element) → AllPairs (λ (x y : Element). x.label ≢ y.label) es → find (λ (x : Element). nat_eq x.number.0 u.0) es ≡ Some e
     → find (λ (x : Element). bytes_eq e.label x.label) (elements_from n es) ≡ Some (let again : Element = record e { number = record { 0 = n + position_or_len (λ (x : Element). nat_eq x.number.0 u.0) es } } in again)
 found_again u n [] e differ is = cc
-found_again u n (x ∷ es) e differ is = by (nat_eq x.number.0 u.0) is (λ later. (found_again u (n + 1) es e (pairs_tail (λ (a b : Element). a.label ≢ b.label) x es differ) later, pairs_head (λ (a b : Element). a.label ≢ b.label) x es differ e (found_among (λ (y : Element). nat_eq y.number.0 u.0) es e later)))
+found_again u n (x ∷ es) e differ is = by (nat_eq x.number.0 u.0) is (λ later. (found_again u (n + 1) es e (pairs_tail (λ (a b : Element). a.label ≢ b.label) x es differ) later, pairs_head (λ (a b : Element). a.label ≢ b.label) x es differ e (found_in (λ (y : Element). nat_eq y.number.0 u.0) es e later).0))
   where
     by : (t : Bool) → cond t (Some x) (find (λ (y : Element). nat_eq y.number.0 u.0) es) ≡ Some e
         → (find (λ (y : Element). nat_eq y.number.0 u.0) es ≡ Some e → (find (λ (y : Element). bytes_eq e.label y.label) (elements_from (n + 1) es) ≡ Some (let again : Element = record e { number = record { 0 = n + 1 + position_or_len (λ (y : Element). nat_eq y.number.0 u.0) es } } in again)) × (x.label ≢ e.label))

@@ -15,7 +15,7 @@ use Rattle.sk_lang.specs.Meaning.{progress_after, progress_after_words, progress
 use Rattle.sk_lex.specs.Words.{is_too_long, has_wrong_byte, words_in}
 use Rattle.sk_lang.specs.Lines.{lines_in}
 use Rattle.sk_lang.specs.Reading.{is_blank_line, progress_along, HaveNoCode, HasFirstCode, has_ended, Reads, Refuses, TooLong, Empty, AtLine, NoEnd}
-use Rattle.sk_lang.specs.Computed.{Answer, or_code, at_end, read_from, reading}
+use Rattle.sk_lang.proofs.Computed.{Answer, or_code, at_end, read_from, reading}
 
 pub both : (a b : Bool) → (a && b) ≡ true → (a ≡ true) × (b ≡ true)
 both true b e = (refl, e)

@@ -20,7 +20,8 @@ use Rattle.sk_lang.specs.Named.{element_named}
 use Rattle.sk_lang.specs.FirstCode.{first_code}
 use Rattle.sk_lang.specs.Meaning.{shape_drawn, rule_asked, element_with, constraint_with, entry_made, progress_after, progress_after_words, progress_within}
 use Rattle.sk_lang.specs.Entry.{keyword_rows, rows_of, entry_code, IsKeywordEntry, IsEntryOfWords, IsEntryOf}
-use Rattle.sk_lang.proofs.Passing.{passed, Passes, passes_from}
+use Rattle.sk_base.proofs.Tables.{passed}
+use Rattle.sk_lang.proofs.Passing.{Passes, passes_from}
 
 -- an element or a constraint
 abbrev pub is_declared : Entry → Bool

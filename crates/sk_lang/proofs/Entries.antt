@@ -26,31 +26,6 @@ word_within from (word ∷ next ∷ more) to order zero d below =
     let start = order.2.0 in (order.1, omega arith)
 word_within from (word ∷ words) to order (suc i) d below = word_within word.end words to order.2 i d (omega arith)
 
-pub rest_two : (ws : List (List ℕ)) (a b : List ℕ) → length ws ≡ 3 → a ≡ get_or ws 1 [] → b ≡ get_or ws 2 [] → drop 1 ws ≡ a ∷ b ∷ []
-rest_two [] a b len p q = absurd (omega arith)
-rest_two (w0 ∷ []) a b len p q = absurd (omega arith)
-rest_two (w0 ∷ w1 ∷ []) a b len p q = absurd (omega arith)
-rest_two (w0 ∷ w1 ∷ w2 ∷ []) a b len p q = rw (p, q) refl
-rest_two (w0 ∷ w1 ∷ w2 ∷ w3 ∷ more) a b len p q = absurd (omega arith)
-
--- one place further
-more_at : (ws : List (List ℕ)) (w : List ℕ) (i : ℕ) → get_or (w ∷ ws) (i + 1) [] ≡ get_or ws i []
-more_at ws w i = rw add-one refl
-
-rest_first : (ws : List (List ℕ)) (n : ℕ) (a : List ℕ) (rest : List (List ℕ)) → length ws ≡ n + 2 → a ≡ get_or ws 1 [] → drop 1 (drop 1 ws) ≡ rest → drop 1 ws ≡ a ∷ rest
-rest_first [] n a rest len p q = absurd (omega arith)
-rest_first (w0 ∷ []) n a rest len p q = absurd (omega arith)
-rest_first (w0 ∷ w1 ∷ ws) n a rest len p q = rw (p, ← q) refl
-
-pub rest_three : (ws : List (List ℕ)) (a b c : List ℕ) → length ws ≡ 4 → a ≡ get_or ws 1 [] → b ≡ get_or ws 2 [] → c ≡ get_or ws 3 [] → drop 1 ws ≡ a ∷ b ∷ c ∷ []
-rest_three ws a b c len p q r = rest_first ws 2 a (b ∷ c ∷ []) len p (rest_two (drop 1 ws) b c (rw length-drop (omega arith)) (q ∙ sym (get_or-drop 1 ws 1 [])) (r ∙ sym (get_or-drop 1 ws 2 [])))
-
-pub rest_four : (ws : List (List ℕ)) (a b c d : List ℕ) → length ws ≡ 5 → a ≡ get_or ws 1 [] → b ≡ get_or ws 2 [] → c ≡ get_or ws 3 [] → d ≡ get_or ws 4 [] → drop 1 ws ≡ a ∷ b ∷ c ∷ d ∷ []
-rest_four ws a b c d len p q r s = rest_first ws 3 a (b ∷ c ∷ d ∷ []) len p (rest_three (drop 1 ws) b c d (rw length-drop (omega arith)) (q ∙ sym (get_or-drop 1 ws 1 [])) (r ∙ sym (get_or-drop 1 ws 2 [])) (s ∙ sym (get_or-drop 1 ws 3 [])))
-
-pub rest_five : (ws : List (List ℕ)) (a b c d e : List ℕ) → length ws ≡ 6 → a ≡ get_or ws 1 [] → b ≡ get_or ws 2 [] → c ≡ get_or ws 3 [] → d ≡ get_or ws 4 [] → e ≡ get_or ws 5 [] → drop 1 ws ≡ a ∷ b ∷ c ∷ d ∷ e ∷ []
-rest_five ws a b c d e len p q r s t = rest_first ws 4 a (b ∷ c ∷ d ∷ e ∷ []) len p (rest_four (drop 1 ws) b c d e (rw length-drop (omega arith)) (q ∙ sym (get_or-drop 1 ws 1 [])) (r ∙ sym (get_or-drop 1 ws 2 [])) (s ∙ sym (get_or-drop 1 ws 3 [])) (t ∙ sym (get_or-drop 1 ws 4 [])))
-
 pub element_reading : (code : Option Code) (e : Element) (made : Option Entry) → made ≡ Some (entry.Element e) → MatchResult (map_ok entry.Element (unless code e)) (λ en. (code ≡ None) × (made ≡ Some en)) (λ c. code ≡ Some c)
 element_reading None e made is = (refl, is)
 element_reading (Some c) e made is = refl

@@ -16,7 +16,8 @@ use Rattle.sk_base.specs.Drawn.{element_of, shape_of}
 use Rattle.sk_base.specs.SoundSketch.{IsSoundSketch, IsSoundShape, IsSoundRule, BothFit, MayJoin, MayBeApart, MayLieOn, MayBeTangent, AreCircles, AreLines, MayNest}
 use Rattle.sk_base.proofs.Pairs.{pairs_push}
 use Rattle.sk_lang.specs.Named.{element_named, number_named}
-use Rattle.sk_lang.proofs.Finding.{found_passes, found_among, fails_all, found_still, found_by_number, same_bytes, equal_bytes}
+use Rattle.sk_base.proofs.Finding.{found_in, none_found, found_rising}
+use Rattle.sk_lang.proofs.Finding.{found_still, same_bytes, equal_bytes}
 
 abbrev pub with_element : Sketch → Element → Sketch
 with_element s e = record s { elements = s.elements ++ e ∷ [] }
@@ -59,7 +60,7 @@ pub record IsNewElement (s : Sketch) (e : Element) : Type 0 where
 
 other_label : (s : Sketch) (e x : Element) → element_named s e.label ≡ None → Contains s.elements x → x.label ≢ e.label
 other_label s e x free among same =
-    let fails = fails_all (λ (y : Element). bytes_eq e.label y.label) s.elements x free among in
+    let fails = none_found (λ (y : Element). bytes_eq e.label y.label) s.elements free x among in
     let equal = equal_bytes e.label x.label (sym same) in cc
 
 pub with_element_sound : (s : Sketch) (e : Element) → IsSoundSketch s → IsNewElement s e → IsSoundSketch (with_element s e)
@@ -108,15 +109,15 @@ with_constraint_sound s c sound new =
 -- the element that has a name is the one of its number
 pub drawn_named : (s : Sketch) (name : List ℕ) (e : Element) → IsSoundSketch s → element_named s name ≡ Some e → element_of s e.number ≡ Some e
 drawn_named s name e sound is =
-    found_by_number (λ (x : Element). x.number.0) s.elements e sound.elements_rise (found_among (λ (x : Element). bytes_eq name x.label) s.elements e is)
+    found_rising (λ (x : Element). x.number.0) s.elements sound.elements_rise e (found_in (λ (x : Element). bytes_eq name x.label) s.elements e is).0
 
 -- two elements of different names may be joined where their shapes fit
 pub may_join : (s : Sketch) (fits : Shape → Shape → Type 0) (u v : List ℕ) (e f : Element) → IsSoundSketch s → element_named s u ≡ Some e → element_named s v ≡ Some f → bytes_eq u v ≡ false → fits e.shape f.shape → MayJoin s fits (number_named s u) (number_named s v)
 may_join s fits u v e f sound u_is v_is other fit =
     let e_of = drawn_named s u e sound u_is in
     let f_of = drawn_named s v f sound v_is in
-    let u_name = same_bytes u e.label (found_passes (λ (x : Element). bytes_eq u x.label) s.elements e u_is) in
-    let v_name = same_bytes v f.label (found_passes (λ (x : Element). bytes_eq v x.label) s.elements f v_is) in
+    let u_name = same_bytes u e.label (found_in (λ (x : Element). bytes_eq u x.label) s.elements e u_is).1 in
+    let v_name = same_bytes v f.label (found_in (λ (x : Element). bytes_eq v x.label) s.elements f v_is).1 in
     let apart : e.number ≢ f.number = λ same. (
     let one : Some e ≡ Some f = sym e_of ∙ ap (element_of s) same ∙ f_of in
     let element : e ≡ f = cc in

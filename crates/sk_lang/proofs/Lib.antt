@@ -2,6 +2,7 @@ pub mod Again
 pub mod Amounts
 pub mod Answered
 pub mod ByHash
+pub mod Computed
 pub mod Declaring
 pub mod Entries
 pub mod Examples
@@ -9,6 +10,7 @@ pub mod Finding
 pub mod Fitting
 pub mod Growing
 pub mod LineByLine
+pub mod LineCounts
 pub mod OneFront
 pub mod Passing
 pub mod RatioBack

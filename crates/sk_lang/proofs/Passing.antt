@@ -3,15 +3,12 @@ use Rattle.std.proofs.Common.{◌≡◌, ℕ, Bool, true, false, not, ◌&&◌, 
 use Rattle.std.specs.List.{list_any, zip}
 use Rattle.sk_base.specs.declared.Sketch.{Sketch}
 use Rattle.sk_lang.specs.declared.code.Code.{Code}
+use Rattle.sk_base.proofs.Tables.{passed}
 use Rattle.sk_lang.specs.declared.keyword.Keyword.{Keyword}
 use Rattle.sk_lang.specs.Keywords.{places, declares}
 use Rattle.sk_lang.specs.Conditions.{is_bad_name, is_taken, is_unknown, has_wrong_kinds, is_bad_number, is_zero_number, has_equal_radii, has_same_names, is_drawn_flat, lacks_radius}
 use Rattle.sk_lang.specs.FirstCode.{first_code}
 use Rattle.sk_lang.specs.Codes.{entry_rows}
-
-pub passed : (t : Bool) (code : Code) (rest : Option Code) → cond t (Some code) rest ≡ None → (t ≡ false) × (rest ≡ None)
-passed true code rest is = cc
-passed false code rest is = (refl, is)
 
 -- what each test of an entry says
 pub record Passes (s : Sketch) (k : Keyword) (rest : List (List ℕ)) : Type 0 where

@@ -10,7 +10,8 @@ use Rattle.sk_lang.specs.Codes.{code_of}
 use Rattle.sk_lang.specs.Entry.{IsRefusal}
 use Rattle.sk_lang.specs.Reading.{IsRefusalOf, has_ended}
 use Rattle.sk_lang.specs.Front.{IsFrontRefusal}
-use Rattle.sk_lang.specs.Computed.{error_at, without_end}
+use Rattle.sk_lang.specs.Entry.{error_at}
+use Rattle.sk_lang.specs.Front.{without_end}
 use Rattle.sk_lang.proofs.Standing.{StandsAt, refused_here, front_refused_here, front_empty_here, front_unended_here}
 
 pub refusal_at : (bytes rest line after : List ℕ) (progress : Progress) (count : ℕ) (error : EntryError) → length bytes ≤ 1048576 → StandsAt bytes rest progress count → 0 < length rest → IsFirstLine rest line after → IsRefusal (code_of progress line) error → IsRefusalOf bytes (error_at (count + 1) error)
@@ -31,7 +32,3 @@ pub ended_no_more : (progress : Progress) → ((s : Sketch) → progress ≡ Aft
 ended_no_more Before never = refl
 ended_no_more (Within s) never = refl
 ended_no_more (After s) never = absurd (never s refl)
-
-pub no_bytes : (bytes : List ℕ) → length bytes ≡ 0 → bytes ≡ []
-no_bytes [] none = refl
-no_bytes (b ∷ bytes) none = absurd (omega arith)

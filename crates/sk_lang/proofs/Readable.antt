@@ -27,7 +27,8 @@ use Rattle.sk_lang.specs.FirstCode.{first_code}
 use Rattle.sk_lang.specs.Codes.{code_of, rows_within, word_rows, is_none_left, entry_rows}
 use Rattle.sk_lang.specs.Meaning.{shape_drawn, rule_asked, element_with, constraint_with, entry_made, added, next_elem, next_con, empty_sketch, progress_within, progress_after_words, progress_after}
 use Rattle.sk_lang.specs.Reading.{Reads, HaveNoCode, progress_along}
-use Rattle.sk_lang.proofs.Passing.{passed, passes_from}
+use Rattle.sk_base.proofs.Tables.{passed}
+use Rattle.sk_lang.proofs.Passing.{passes_from}
 use Rattle.sk_lang.proofs.Declaring.{no_element}
 use Rattle.sk_lang.proofs.Sound.{AreAbove, grows}
 

@@ -29,7 +29,7 @@ use Rattle.sk_lang.specs.Codes.{code_of}
 use Rattle.sk_lang.specs.Meaning.{progress_after}
 use Rattle.sk_lang.specs.Canonical.{spaced, rule_words, ratio_text}
 use Rattle.sk_lang.specs.Renumbered.{elements_from, place_of, rule_renumbered, constraints_from}
-use Rattle.sk_lang.proofs.Finding.{found_passes, found_among}
+use Rattle.sk_base.proofs.Finding.{found_in}
 use Rattle.sk_lang.proofs.Fitting.{takes_apart, takes_on, takes_tangent, takes_outside, takes_angle, takes_inside}
 use Rattle.sk_lang.proofs.Passing.{Passes, passes_to}
 use Rattle.sk_lang.proofs.Written.{IsWrittenLine, literal, name_written, mm_written, magnitude_within, written_line}
@@ -48,10 +48,10 @@ record AreJoined (s : Sketch) (fits : Shape → Shape → Type 0) (u v : Elem) :
   apart : bytes_eq first.label second.label ≡ false
 
 numbered : (s : Sketch) (u : Elem) (e : Element) → element_of s u ≡ Some e → e.number.0 ≡ u.0
-numbered s u e is = let passes = found_passes (λ (x : Element). nat_eq x.number.0 u.0) s.elements e is in grind (arith, nat_tests)
+numbered s u e is = let passes = (found_in (λ (x : Element). nat_eq x.number.0 u.0) s.elements e is).1 in grind (arith, nat_tests)
 
 among : (s : Sketch) (u : Elem) (e : Element) → element_of s u ≡ Some e → Contains s.elements e
-among s u e is = found_among (λ (x : Element). nat_eq x.number.0 u.0) s.elements e is
+among s u e is = (found_in (λ (x : Element). nat_eq x.number.0 u.0) s.elements e is).0
 
 labels_apart : (s : Sketch) (u v : Elem) (e f : Element) → IsSoundSketch s → u ≢ v → element_of s u ≡ Some e → element_of s v ≡ Some f → e.label ≢ f.label
 labels_apart s u v e f sound other u_is v_is =

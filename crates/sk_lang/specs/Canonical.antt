@@ -1,7 +1,6 @@
 -- The canonical text of a sketch.
-use Rattle.std.specs.Prelude.{ℕ, List, [], ◌∷◌, ◌++◌, map, unwrap_or, codes}
+use Rattle.std.specs.Prelude.{ℕ, List, [], ◌∷◌, ◌++◌, map, codes}
 use Rattle.std.specs.List.{flat_map, join_with_byte}
-use Rattle.std.specs.Option.{option_map}
 use Rattle.sk_base.specs.declared.Elem.{Elem}
 use Rattle.sk_base.specs.declared.Ratio.{Ratio}
 use Rattle.sk_base.specs.declared.Shape.{Shape}
@@ -11,7 +10,7 @@ use Rattle.sk_base.specs.declared.Rule.TheVariants.{Distance, On, Tangent, Outsi
 use Rattle.sk_base.specs.declared.Element.{Element}
 use Rattle.sk_base.specs.declared.Constraint.{Constraint}
 use Rattle.sk_base.specs.declared.Sketch.{Sketch}
-use Rattle.sk_base.specs.Drawn.{element_of}
+use Rattle.sk_text.specs.ElementNames.{name_of}
 use Rattle.sk_text.specs.Spelling.{whole_text, mm_text}
 
 -- the words of an element's line
@@ -19,10 +18,6 @@ abbrev pub shape_words : List ℕ → Shape → List (List ℕ)
 shape_words name (Point x y) = codes "point" ∷ name ∷ mm_text x.0 ∷ mm_text y.0 ∷ []
 shape_words name (Line x1 y1 x2 y2) = codes "line" ∷ name ∷ mm_text x1.0 ∷ mm_text y1.0 ∷ mm_text x2.0 ∷ mm_text y2.0 ∷ []
 shape_words name (Circle x y r) = codes "circle" ∷ name ∷ mm_text x.0 ∷ mm_text y.0 ∷ mm_text r.0 ∷ []
-
--- the name of the element that has the number
-abbrev pub name_of : Sketch → Elem → List ℕ
-name_of s number = unwrap_or (option_map (λ (element : Element). element.label) (element_of s number)) []
 
 abbrev pub ratio_text : Ratio → List ℕ
 ratio_text ratio = whole_text ratio.p ++ 47 ∷ whole_text ratio.q

@@ -10,6 +10,8 @@ use Rattle.sk_lang.specs.declared.entry.Entry.{Entry}
 use Rattle.sk_lang.specs.declared.entry.Entry.TheVariants.{Blank, Other}
 use Rattle.sk_lang.specs.declared.entry.EntryError.{EntryError}
 use Rattle.sk_lang.specs.declared.entry.EntryError.TheVariants.{Refused, NoMemory}
+use Rattle.sk_lang.specs.declared.code.ReadError.{ReadError}
+use Rattle.sk_lang.specs.declared.code.ReadError.TheVariants as read
 use Rattle.sk_lang.specs.Keywords.{keyword_of}
 use Rattle.sk_lang.specs.Codes.{byte_rows, entry_rows}
 use Rattle.sk_lang.specs.FirstCode.{first_code}
@@ -48,3 +50,8 @@ IsEntryOf s line elem con entry = IsEntryOfWords s line (words_in line) elem con
 abbrev pub IsRefusal : Option Code → EntryError → Type 0
 IsRefusal code (Refused c) = code ≡ Some c
 IsRefusal code NoMemory = ⊤
+
+-- the error of a line, as that of the text
+abbrev pub error_at : ℕ → EntryError → ReadError
+error_at line (Refused code) = read.Refused (record { line = line; code = code })
+error_at line NoMemory = read.NoMemory

@@ -1,9 +1,11 @@
 -- A text that is read up to the `end` of its sketch.
-use Rattle.std.specs.Prelude.{◌≡◌, ◌⊎◌, ◌≤◌, ◌-◌, ℕ, ⊤, Bool, false, List, length, take}
+use Rattle.std.specs.Prelude.{◌≡◌, ◌⊎◌, ◌≤◌, ◌+◌, ◌-◌, ℕ, ⊤, Bool, false, List, length, take}
 use Rattle.sk_lang.specs.declared.code.Code.{Code}
 use Rattle.sk_lang.specs.declared.code.ReadError.{ReadError}
 use Rattle.sk_lang.specs.declared.code.ReadError.TheVariants.{Refused, NoMemory}
 use Rattle.sk_lang.specs.declared.front.Front.{Front}
+use Rattle.sk_lang.specs.declared.code.Code.TheVariants.{E16, E18}
+use Rattle.sk_lang.specs.declared.progress.Progress.{Progress}
 use Rattle.sk_lang.specs.declared.progress.Progress.TheVariants.{Before}
 use Rattle.sk_lang.specs.Lines.{lines_in, EndsLine}
 use Rattle.sk_lang.specs.Reading.{Reads, Refuses, has_ended, progress_along}
@@ -30,3 +32,8 @@ pub record RefusesFront (bytes : List ℕ) (line : ℕ) (code : Code) : Type 0 w
 abbrev pub IsFrontRefusal : List ℕ → ReadError → Type 0
 IsFrontRefusal bytes (Refused refusal) = RefusesFront bytes refusal.line refusal.code
 IsFrontRefusal bytes NoMemory = ⊤
+
+-- the refusal of a text that ends before its sketch does
+abbrev pub without_end : Progress → ℕ → ReadError
+without_end Before lines = Refused (record { line = 0; code = E18 })
+without_end _ lines = Refused (record { line = lines + 1; code = E16 })

@@ -2,7 +2,6 @@ pub mod ClusterWords
 pub mod Canonical
 pub mod CodeTexts
 pub mod Codes
-pub mod Computed
 pub mod Conditions
 pub mod Entry
 pub mod FirstCode
@@ -10,6 +9,7 @@ pub mod Front
 pub mod Index
 pub mod Keywords
 pub mod Kinds
+pub mod LineCodes
 pub mod Lines
 pub mod Meaning
 pub mod Named

@@ -77,3 +77,9 @@ progress_after_words (After s) (first ∷ rest) = After s
 -- where the line after this one stands
 abbrev pub progress_after : Progress → List ℕ → Progress
 progress_after progress line = progress_after_words progress (words_in line)
+
+-- how many elements and constraints there are
+abbrev pub size_of : Progress → ℕ
+size_of Before = 0
+size_of (Within s) = length s.elements + length s.constraints
+size_of (After s) = length s.elements + length s.constraints

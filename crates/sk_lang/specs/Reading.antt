@@ -7,6 +7,7 @@ use Rattle.sk_lang.specs.declared.code.Code.{Code}
 use Rattle.sk_lang.specs.declared.code.ReadError.{ReadError}
 use Rattle.sk_lang.specs.declared.code.ReadError.TheVariants.{Refused, NoMemory}
 use Rattle.sk_lang.specs.declared.code.Code.TheVariants.{E16, E18, E20}
+use Rattle.sk_lang.specs.LineCodes.{along, HaveNone, HasFirst}
 use Rattle.sk_lang.specs.Lines.{lines_in}
 use Rattle.sk_lang.specs.declared.progress.Progress.{Progress}
 use Rattle.sk_lang.specs.declared.progress.Progress.TheVariants.{Before, After}
@@ -19,20 +20,15 @@ is_blank_line line = not (is_too_long line) && not (has_wrong_byte line) && is_n
 
 -- where the lines lead
 abbrev pub progress_along : Progress → List (List ℕ) → Progress
-progress_along progress [] = progress
-progress_along progress (line ∷ lines) = progress_along (progress_after progress line) lines
+progress_along progress lines = along progress_after progress lines
 
 -- no line has a code, each where those before it lead
 abbrev pub HaveNoCode : Progress → List (List ℕ) → Type 0
-HaveNoCode progress [] = ⊤
-HaveNoCode progress (line ∷ lines) = (code_of progress line ≡ None) × HaveNoCode (progress_after progress line) lines
+HaveNoCode progress lines = HaveNone code_of progress_after progress lines
 
 -- the lines before this one have no code, and it has one where they lead
-pub record HasFirstCode (lines : List (List ℕ)) (before : List (List ℕ)) (line : List ℕ) (code : Code) : Type 0 where
-  pub after : List (List ℕ)
-  pub parts : lines ≡ before ++ line ∷ after
-  pub clean : HaveNoCode Before before
-  pub code_is : code_of (progress_along Before before) line ≡ Some code
+abbrev pub HasFirstCode : List (List ℕ) → List (List ℕ) → List ℕ → Code → Type 0
+HasFirstCode lines before line code = HasFirst code_of progress_after Before lines before line code
 
 abbrev pub has_ended : Progress → Bool
 has_ended (After s) = true

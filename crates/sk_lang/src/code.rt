@@ -1,5 +1,5 @@
 ghost use Rattle.std.specs.Prelude.{◌≡◌};
-ghost use Rattle.sk_lang.specs.declared.code.ReadError.TheVariants.{NoMemory};
+ghost use Rattle.sk_lang.specs.declared.code.ReadError.TheVariants.{NoMemory, Refused};
 
 use sk_base::NoMemory;
 use thiserror::Error;
@@ -143,6 +143,15 @@ pub enum ReadError {
     Refused(Refusal),
     #[error("memory ran out")]
     NoMemory,
+}
+
+impl ReadError {
+    /// The refusal of that line with that code.
+    pub fn refused(line: u32, code: Code) -> ReadError
+        ensures { result ≡ Refused (record { line = line; code = code }) }
+    {
+        ReadError::Refused(Refusal { line, code })
+    }
 }
 
 impl From<NoMemory> for ReadError {

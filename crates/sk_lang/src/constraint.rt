@@ -7,9 +7,7 @@ ghost use Rattle.sk_lang.specs.Codes.{entry_rows};
 ghost use Rattle.sk_lang.specs.FirstCode.{first_code, unless};
 
 use crate::code::Code;
-use crate::field::{
-    declared, different, kinds, label, length, not_zero, room_for_constraint,
-};
+use crate::field::{declared, different, kinds, label, length, not_zero, room_for_constraint};
 use crate::keyword::Keyword;
 use crate::ratio::slope;
 use crate::scope::Scope;

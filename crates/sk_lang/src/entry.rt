@@ -1,7 +1,7 @@
 ghost use Rattle.std.specs.Prelude.{◌≡◌};
 ghost use Rattle.sk_lang.specs.declared.entry.EntryError.TheVariants.{NoMemory};
 
-use crate::code::Code;
+use crate::code::{Code, ReadError};
 use sk_base::{Constraint, Element, NoMemory};
 use sk_lex::Words;
 use thiserror::Error;
@@ -24,6 +24,20 @@ pub enum EntryError {
     Refused(Code),
     #[error("memory ran out")]
     NoMemory,
+}
+
+impl EntryError {
+    ghost use Rattle.sk_lang.specs.Entry.{error_at};
+
+    /// The error of the line of that number, as that of its text.
+    pub fn at_line(self, line: u32) -> ReadError
+        ensures { result ≡ error_at line self }
+    {
+        match self {
+            EntryError::Refused(code) => ReadError::refused(line, code),
+            EntryError::NoMemory => ReadError::NoMemory,
+        }
+    }
 }
 
 impl From<NoMemory> for EntryError {

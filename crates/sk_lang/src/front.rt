@@ -1,13 +1,12 @@
-ghost use Rattle.std.specs.Prelude.{◌≡◌, ◌+◌, ◌<◌, ◌≤◌, length, None, Err, IfOk, IfErr};
+ghost use Rattle.std.specs.Prelude.{◌≡◌, ◌+◌, ◌<◌, ◌≤◌, length, drop, None, Err, IfOk, IfErr};
 ghost use Rattle.sk_base.specs.SoundSketch.{IsSoundSketch};
-ghost use Rattle.sk_lang.specs.declared.code.ReadError.TheVariants.{Refused};
+ghost use Rattle.sk_lang.specs.Lines.{lines_in};
 ghost use Rattle.sk_lang.specs.Codes.{code_of};
-ghost use Rattle.sk_lang.specs.Meaning.{progress_after};
+ghost use Rattle.sk_lang.specs.Meaning.{progress_after, size_of};
 ghost use Rattle.sk_lang.specs.Entry.{IsRefusal};
-ghost use Rattle.sk_lang.specs.Computed.{error_at, without_end, size_of};
-ghost use Rattle.sk_lang.specs.Front.{ReadsFront, IsFrontRefusal};
+ghost use Rattle.sk_lang.specs.Front.{without_end, ReadsFront, IsFrontRefusal};
 
-use crate::code::{Code, ReadError, Refusal};
+use crate::code::{Code, ReadError};
 use crate::entry::EntryError;
 use crate::header::{after_header, after_last};
 use crate::lines::split_line;
@@ -34,6 +33,7 @@ pub fn read_sketch_front(alloc: Global, bytes: &[u8]) -> Result<Front, ReadError
     ensures reads { IfOk result (ReadsFront bytes.now) }
     ensures sound { IfOk result (λ front. IsSoundSketch front.sketch) }
     ensures some { IfOk result (λ front. 0 < length front.sketch.elements) }
+    ensures lines { IfOk result (λ front. front.lines + length (lines_in (drop front.used bytes.now)) ≤ length bytes.now) }
     ensures refuses { IfErr result (IsFrontRefusal bytes.now) }
 {
     read_front(alloc, bytes)
@@ -46,7 +46,7 @@ pub(crate) fn read_front(alloc: Global, bytes: &[u8]) -> Result<Front, ReadError
     ensures refuses { IfErr result (IsFrontRefusal bytes.now) }
 {
     if bytes.len() > MOST_BYTES {
-        return Err(refused(0, Code::E20));
+        return Err(ReadError::refused(0, Code::E20));
     }
     let mut progress = Progress::Before;
     let mut lines = 0;
@@ -56,7 +56,7 @@ pub(crate) fn read_front(alloc: Global, bytes: &[u8]) -> Result<Front, ReadError
         lines += 1;
         let further = match after_line(alloc, progress, line) {
             Ok(further) => further,
-            Err(error) => return Err(error_at(lines, error)),
+            Err(error) => return Err(error.at_line(lines)),
         };
         match further {
             Progress::After(sketch) => {
@@ -80,25 +80,9 @@ fn without_end(progress: Progress, lines: u32) -> ReadError
     ensures { result ≡ without_end progress lines }
 {
     match progress {
-        Progress::Before => refused(0, Code::E18),
-        _ => refused(lines + 1, Code::E16),
+        Progress::Before => ReadError::refused(0, Code::E18),
+        _ => ReadError::refused(lines + 1, Code::E16),
     }
-}
-
-/// The error of a line as that of the text.
-pub(crate) fn error_at(line: u32, error: EntryError) -> ReadError
-    ensures { result ≡ error_at line error }
-{
-    match error {
-        EntryError::Refused(code) => refused(line, code),
-        EntryError::NoMemory => ReadError::NoMemory,
-    }
-}
-
-fn refused(line: u32, code: Code) -> ReadError
-    ensures { result ≡ Refused (record { line = line; code = code }) }
-{
-    ReadError::Refused(Refusal { line, code })
 }
 
 /// How far the text has been read behind the next line.

@@ -3,15 +3,13 @@ ghost use Rattle.sk_lex.specs.Words.{bytes_of, words_in, StandInOrder};
 ghost use Rattle.sk_lang.specs.declared.progress.Progress.TheVariants.{Before, After};
 ghost use Rattle.sk_base.specs.declared.Sketch.{Sketch};
 ghost use Rattle.sk_lang.specs.Codes.{code_of, is_header};
-ghost use Rattle.sk_lang.specs.Meaning.{progress_after};
+ghost use Rattle.sk_lang.specs.Meaning.{progress_after, size_of};
 ghost use Rattle.sk_lang.specs.Entry.{IsRefusal};
-ghost use Rattle.sk_lang.specs.Computed.{size_of};
 
 use crate::code::Code;
 use crate::draft::Draft;
 use crate::entry::EntryError;
-use crate::keyword::is;
-use crate::line::{split, word};
+use crate::lines::{is_word, split_words, word};
 use crate::progress::Progress;
 use sk_base::Sketch;
 use sk_lex::Word;
@@ -24,7 +22,7 @@ pub(crate) fn after_header(alloc: Global, line: &[u8]) -> Result<Progress, Entry
     ensures size { IfOk result (λ after. size_of after ≤ 1) }
     ensures refused { IfErr result (IsRefusal (code_of Before line.now)) }
 {
-    let words = split(alloc, line)?;
+    let words = split_words(alloc, line)?;
     if words.items.is_empty() {
         return Ok(Progress::Before);
     }
@@ -39,7 +37,9 @@ fn is_header(line: &[u8], words: &[Word]) -> bool
     requires { StandInOrder 0 words.now (length line.now) }
     ensures { result ≡ is_header (map (bytes_of line.now) words.now) }
 {
-    words.len() == 2 && is(word(line, words, 0), "sketch") && is(word(line, words, 1), "1")
+    words.len() == 2
+        && is_word(word(line, words, 0), "sketch")
+        && is_word(word(line, words, 1), "1")
 }
 
 /// How far the text has been read behind a line that follows the `end` of its sketch.
@@ -61,7 +61,7 @@ pub(crate) fn behind_end(alloc: Global, line: &[u8]) -> Result<(), EntryError>
     ensures blank { IfOk result (λ _. words_in line.now ≡ []) }
     ensures refused { IfErr result (λ error. (s : Sketch) → IsRefusal (code_of (After s) line.now) error) }
 {
-    let words = split(alloc, line)?;
+    let words = split_words(alloc, line)?;
     if words.items.is_empty() {
         return Ok(());
     }

@@ -1,5 +1,7 @@
-ghost use Rattle.std.specs.Prelude.{◌≡◌, bytes_eq};
+ghost use Rattle.std.specs.Prelude.{◌≡◌};
 ghost use Rattle.sk_lang.specs.Keywords.{keyword_of};
+
+use crate::lines::is_word;
 
 /// The first words of entries.
 #[derive(Clone, Copy, Debug, PartialEq, Eq)]
@@ -19,32 +21,25 @@ pub(crate) enum Keyword {
 pub(crate) fn keyword_of(word: &[u8]) -> Option<Keyword>
     ensures { result ≡ keyword_of word.now }
 {
-    if is(word, "point") {
+    if is_word(word, "point") {
         Some(Keyword::Point)
-    } else if is(word, "line") {
+    } else if is_word(word, "line") {
         Some(Keyword::Line)
-    } else if is(word, "circle") {
+    } else if is_word(word, "circle") {
         Some(Keyword::Circle)
-    } else if is(word, "distance") {
+    } else if is_word(word, "distance") {
         Some(Keyword::Distance)
-    } else if is(word, "on") {
+    } else if is_word(word, "on") {
         Some(Keyword::On)
-    } else if is(word, "tangent") {
+    } else if is_word(word, "tangent") {
         Some(Keyword::Tangent)
-    } else if is(word, "outside") {
+    } else if is_word(word, "outside") {
         Some(Keyword::Outside)
-    } else if is(word, "inside") {
+    } else if is_word(word, "inside") {
         Some(Keyword::Inside)
-    } else if is(word, "angle") {
+    } else if is_word(word, "angle") {
         Some(Keyword::Angle)
     } else {
         None
     }
-}
-
-/// Whether the word is this text.
-pub(crate) fn is(word: &[u8], text: &str) -> bool
-    ensures { result ≡ bytes_eq word.now text.now }
-{
-    word == text.as_bytes()
 }

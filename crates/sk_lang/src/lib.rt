@@ -27,10 +27,8 @@ pub use entry::{Entry, EntryError};
 pub use field::{label, length, not_zero};
 pub use front::{Front, read_sketch_front};
 pub use law::{one_answer, one_entry, one_front, readable_is_sound, written_reads_back};
-pub use line::{read_entry, word};
+pub use line::read_entry;
+pub use lines::{is_word, split_line, split_words, word};
 pub use ratio::slope;
 pub use read::read_sketch;
 pub use write::{constraint_text, write_sketch};
-
-#[cfg(test)]
-mod tests;

@@ -1,10 +1,9 @@
-ghost use Rattle.std.specs.Prelude.{◌≡◌, ◌<◌, ◌≤◌, [], length, map, drop, All, Some, None, IfOk, IfErr, MatchResult};
-ghost use Rattle.std.specs.List.{slice_index_or, slice_range};
+ghost use Rattle.std.specs.Prelude.{◌≡◌, ◌<◌, length, map, drop, All, Some, None, IfOk, IfErr, MatchResult};
 ghost use Rattle.sk_base.specs.SoundSketch.{IsSoundSketch};
-ghost use Rattle.sk_lex.specs.Words.{bytes_of, words_in, StandInOrder};
+ghost use Rattle.sk_lex.specs.Words.{bytes_of, StandInOrder};
 ghost use Rattle.sk_lang.specs.Keywords.{places};
 ghost use Rattle.sk_lang.specs.Conditions.{lacks_radius};
-ghost use Rattle.sk_lang.specs.Codes.{byte_rows, entry_rows};
+ghost use Rattle.sk_lang.specs.Codes.{entry_rows};
 ghost use Rattle.sk_lang.specs.FirstCode.{first_code};
 ghost use Rattle.sk_lang.specs.Meaning.{entry_made, added};
 ghost use Rattle.sk_lang.specs.FirstCode.{map_ok};
@@ -18,9 +17,10 @@ use crate::constraint::{
 use crate::element::{read_circle, read_line, read_point};
 use crate::entry::{Entry, EntryError};
 use crate::keyword::{Keyword, keyword_of};
+use crate::lines::{split_words, word};
 use crate::scope::Scope;
 use sk_base::{ConId, Constraint, Elem, Element, Sketch};
-use sk_lex::{LexFault, Word, Words, words_of};
+use sk_lex::Word;
 use std::alloc::Global;
 
 /// What a line says within the sketch: the declared element gets the number `elem`, the declared
@@ -55,7 +55,7 @@ pub(crate) fn entry_in<S: Scope>(
     ensures entry { IfOk result (IsEntryOf (S.so_far s.now) line.now elem con) }
     ensures refused { IfErr result (IsRefusal (entry_code (S.so_far s.now) line.now)) }
 {
-    let words = split(alloc, line)?;
+    let words = split_words(alloc, line)?;
     if words.items.is_empty() {
         return Ok(Entry::Blank);
     }
@@ -67,21 +67,6 @@ pub(crate) fn entry_in<S: Scope>(
                 Err(code) => Err(EntryError::Refused(code)),
             }
         }
-    }
-}
-
-/// The words of a line.
-pub(crate) fn split(alloc: Global, line: &[u8]) -> Result<Words, EntryError>
-    ensures words { IfOk result (λ words. map (bytes_of line.now) words.items ≡ words_in line.now) }
-    ensures order { IfOk result (λ words. StandInOrder 0 words.items (length line.now)) }
-    ensures fine { IfOk result (λ _. first_code (byte_rows line.now) ≡ None) }
-    ensures refused { IfErr result (IsRefusal (first_code (byte_rows line.now))) }
-{
-    match words_of(alloc, line) {
-        Ok(words) => Ok(words),
-        Err(LexFault::LineTooLong) => Err(EntryError::Refused(Code::E15)),
-        Err(LexFault::NotAscii) => Err(EntryError::Refused(Code::E19)),
-        Err(LexFault::NoMemory) => Err(EntryError::NoMemory),
     }
 }
 
@@ -158,7 +143,7 @@ fn constraint(read: Result<Constraint, Code>) -> Result<Entry, Code>
     }
 }
 
-/// How many words progress behind a keyword.
+/// How many words stand behind a keyword.
 fn places(keyword: Keyword) -> usize
     ensures { result ≡ length (places keyword) }
 {
@@ -183,22 +168,4 @@ fn lacks_radius(keyword: Keyword, count: usize) -> bool
         Keyword::Circle => count == 3,
         _ => false,
     }
-}
-
-/// The bytes of the word at a place.
-pub fn word<'a>(line: &'a [u8], words: &[Word], i: usize) -> &'a [u8]
-    requires below { i < length words.now }
-    requires order { StandInOrder 0 words.now (length line.now) }
-    ensures { result.now ≡ slice_index_or (map (bytes_of line.now) words.now) i [] }
-{
-    let word = words[i];
-    between(line, word.start as usize, word.end as usize)
-}
-
-fn between(line: &[u8], start: usize, end: usize) -> &[u8]
-    requires rising { start ≤ end }
-    requires within { end ≤ length line.now }
-    ensures { result.now ≡ slice_range line.now start end }
-{
-    &line[start..end]
 }

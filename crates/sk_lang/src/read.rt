@@ -4,7 +4,7 @@ ghost use Rattle.sk_lang.specs.Front.{ReadsFront};
 ghost use Rattle.sk_lang.specs.Reading.{Reads, IsRefusalOf};
 
 use crate::code::ReadError;
-use crate::front::{Front, error_at, read_front};
+use crate::front::{Front, read_front};
 use crate::header::behind_end;
 use crate::lines::split_line;
 use sk_base::Sketch;
@@ -35,7 +35,7 @@ fn read_behind(alloc: Global, bytes: &[u8], front: Front) -> Result<Sketch, Read
         number += 1;
         match behind_end(alloc, line) {
             Ok(()) => rest = after,
-            Err(error) => return Err(error_at(number, error)),
+            Err(error) => return Err(error.at_line(number)),
         }
     }
     Ok(front.sketch)

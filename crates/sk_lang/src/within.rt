@@ -3,15 +3,14 @@ ghost use Rattle.sk_lex.specs.Words.{StandInOrder, bytes_of};
 ghost use Rattle.sk_lang.specs.declared.progress.Progress.TheVariants.{Within, After};
 ghost use Rattle.sk_lang.specs.Codes.{code_of, other_rows};
 ghost use Rattle.sk_lang.specs.FirstCode.{first_code};
-ghost use Rattle.sk_lang.specs.Meaning.{progress_after};
+ghost use Rattle.sk_lang.specs.Meaning.{progress_after, size_of};
 ghost use Rattle.sk_lang.specs.Entry.{IsRefusal};
-ghost use Rattle.sk_lang.specs.Computed.{size_of};
 
 use crate::code::Code;
 use crate::draft::Draft;
 use crate::entry::{Entry, EntryError};
-use crate::keyword::is;
-use crate::line::{entry_in, word};
+use crate::line::entry_in;
+use crate::lines::{is_word, word};
 use crate::progress::Progress;
 use crate::scope::Scope;
 use sk_base::{ConId, Elem, Sketch};
@@ -44,7 +43,7 @@ fn after_end(sketch: Sketch, line: &[u8], words: &[Word]) -> Result<Progress, En
         (λ after. (first_code (other_rows sketch ws) ≡ None) × (after ≡ After sketch))
         (IsRefusal (first_code (other_rows sketch ws))) }
 {
-    if !is(word(line, words, 0), "end") {
+    if !is_word(word(line, words, 0), "end") {
         return Err(EntryError::Refused(Code::E2));
     }
     if words.len() != 1 {

@@ -1,9 +1,10 @@
 ghost use Rattle.std.specs.Prelude.{◌≡◌, ◌++◌, [], ◌∷◌, map, IfOk, OnOk};
 ghost use Rattle.sk_text.specs.Spelling.{mm_text};
-ghost use Rattle.sk_lang.specs.Canonical.{element_line, constraint_line, name_of, ratio_text, ended_lines, canonical};
+ghost use Rattle.sk_lang.specs.Canonical.{element_line, constraint_line, ratio_text, ended_lines, canonical};
+ghost use Rattle.sk_text.specs.ElementNames.{name_of};
 
 use sk_base::{Constraint, Elem, Element, NoMemory, Ratio, Rule, Shape, Sketch, Text, Um};
-use sk_text::Puts;
+use sk_text::{Puts, put_name};
 use std::alloc::Global;
 
 /// The canonical text of the sketch.
@@ -83,17 +84,6 @@ fn put_number(text: &mut Text, um: Um) -> Result<(), NoMemory>
 {
     text.put(b" ")?;
     text.put_mm(um)
-}
-
-/// Puts a space and the name of an element.
-fn put_name(text: &mut Text, s: &Sketch, number: Elem) -> Result<(), NoMemory>
-    ensures { OnOk result (text.new ≡ text.old ++ 32 ∷ name_of s.now number) }
-{
-    text.put(b" ")?;
-    match s.element(number) {
-        Some(element) => text.put(element.label.as_bytes()),
-        None => Ok(()),
-    }
 }
 
 /// Puts a space and a ratio.

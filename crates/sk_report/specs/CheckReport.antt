@@ -1,10 +1,8 @@
 -- The check report.
 use Rattle.std.specs.Prelude.{ℕ, ◌+◌, if◌then◌else◌, nat_lt, List, [], ◌∷◌, ◌++◌, length, codes}
-use Rattle.std.specs.List.{flat_map}
 use Rattle.std.specs.Fmt.{decimal}
-use Rattle.sk_base.specs.declared.Elem.{Elem}
 use Rattle.sk_base.specs.declared.Sketch.{Sketch}
-use Rattle.sk_lang.specs.Canonical.{name_of}
+use Rattle.sk_text.specs.ElementNames.{names_of}
 use Rattle.sk_verdict.specs.declared.Verdict.{Verdict}
 use Rattle.sk_verdict.specs.declared.Verdict.TheVariants.{Well, Over, Several}
 use Rattle.sk_verdict.specs.declared.Part.{Part}
@@ -19,11 +17,6 @@ verdict_word Several = codes "open"
 abbrev pub part_word : Part → List ℕ
 part_word p = if nat_lt p.due p.held then codes "over" else codes "sound"
 
--- the names, each with a space before it
-abbrev pub names_of : Sketch → List Elem → List ℕ
-names_of s elements = flat_map (λ e. 32 ∷ name_of s e) elements
-
--- what stands before the names of a part
 abbrev pub part_head : ℕ → Part → List ℕ
 part_head number p =
     codes "part " ++ (decimal number ++ (codes " " ++ (part_word p ++ (codes " elements " ++ (decimal (length p.elements)

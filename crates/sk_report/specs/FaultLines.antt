@@ -4,7 +4,7 @@ use Rattle.std.specs.Fmt.{decimal}
 use Rattle.sk_base.specs.declared.Constraint.{Constraint}
 use Rattle.sk_base.specs.declared.Rule.{Rule}
 use Rattle.sk_base.specs.declared.Sketch.{Sketch}
-use Rattle.sk_lang.specs.Canonical.{name_of}
+use Rattle.sk_text.specs.ElementNames.{name_of}
 use Rattle.sk_text.specs.Spelling.{whole_text}
 use Rattle.sk_interval.specs.declared.Cause.{Cause}
 use Rattle.sk_steps.specs.Words.{word_of}

@@ -9,7 +9,7 @@ use Rattle.sk_base.specs.declared.Placed.{Placed}
 use Rattle.sk_base.specs.declared.Shape.{Shape}
 use Rattle.sk_base.specs.declared.Sketch.{Sketch}
 use Rattle.sk_base.specs.Places.{place_of}
-use Rattle.sk_lang.specs.Canonical.{name_of}
+use Rattle.sk_text.specs.ElementNames.{name_of}
 use Rattle.sk_text.specs.Spelling.{whole_text}
 use Rattle.sk_tree.specs.declared.Plan.{Plan}
 use Rattle.sk_residual.specs.declared.Spotted.{Spotted}

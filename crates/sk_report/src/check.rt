@@ -1,9 +1,9 @@
 // The check report.
-ghost use Rattle.std.specs.Prelude.{◌≡◌, ◌++◌, ◌∷◌, IfOk, OnOk};
-ghost use Rattle.sk_lang.specs.Canonical.{name_of};
-ghost use Rattle.sk_report.specs.CheckReport.{verdict_word, part_word, names_of, part_head, part_line, part_lines, check_head, check_report};
+ghost use Rattle.std.specs.Prelude.{◌≡◌, ◌++◌, IfOk, OnOk};
+ghost use Rattle.sk_report.specs.CheckReport.{verdict_word, part_word, part_head, part_line, part_lines, check_head, check_report};
 
-use sk_base::{Elem, NoMemory, Sketch, Text};
+use sk_base::{NoMemory, Sketch, Text};
+use sk_text::put_names;
 use sk_verdict::{Judgement, Part, Verdict};
 use std::alloc::Global;
 
@@ -67,27 +67,6 @@ fn put_part_head(alloc: Global, text: &mut Text, number: usize, part: &Part) -> 
         "part {number} {word} elements {elements} held {held} due {due} :"
     )?;
     text.put(head.as_bytes())
-}
-
-/// Puts the names, each with a space before it.
-pub(crate) fn put_names(text: &mut Text, s: &Sketch, elements: &[Elem]) -> Result<(), NoMemory>
-    ensures { OnOk result (text.new ≡ text.old ++ names_of s.now elements.now) }
-{
-    for e in elements {
-        put_name(text, s, *e)?;
-    }
-    Ok(())
-}
-
-/// Puts a space and the element's name.
-pub(crate) fn put_name(text: &mut Text, s: &Sketch, e: Elem) -> Result<(), NoMemory>
-    ensures { OnOk result (text.new ≡ text.old ++ 32 ∷ name_of s.now e) }
-{
-    text.put(b" ")?;
-    match s.element(e) {
-        Some(element) => text.put(element.label.as_bytes()),
-        None => Ok(()),
-    }
 }
 
 fn verdict_word(verdict: Verdict) -> &'static str

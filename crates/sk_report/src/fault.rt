@@ -3,14 +3,13 @@ ghost use Rattle.std.specs.Prelude.{◌≡◌, ◌++◌, ◌∷◌, [], IfOk, On
 ghost use Rattle.sk_report.specs.FaultLines.{phase_word, cause_words, fault_head, bits_words, fault_line, rule_unit, constraint_unit, spotted_unit, passed_line, turned_line};
 ghost use Rattle.sk_report.specs.PlanReport.{sign_text};
 
-use crate::check::put_name;
 use crate::plan::constraint_of;
 use crate::solve::{put_number, put_spotted};
 use sk_base::{NoMemory, Rule, Sign, Sketch, Text};
 use sk_interval::Cause;
 use sk_place::{Phase, StepFault};
 use sk_residual::{Beyond, Spotted, Turned};
-use sk_text::cluster_name;
+use sk_text::{cluster_name, put_name};
 use std::alloc::Global;
 
 /// The one line that names the faulty step, the quantity that has no interval on that grid, and its

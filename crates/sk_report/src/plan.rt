@@ -3,10 +3,9 @@ ghost use Rattle.std.specs.Prelude.{◌≡◌, ◌++◌, IfOk, OnOk, option_copi
 ghost use Rattle.std.specs.List.{flat_map};
 ghost use Rattle.sk_report.specs.PlanReport.{constraint_of, constraint_words, leaf_line, sign_text, choice_words, joins_words, keeps_words, step_line, plan_counts, plan_report};
 
-use crate::check::put_names;
 use sk_base::{ConId, Constraint, NoMemory, Sign, Sketch, Text};
 use sk_lang::constraint_text;
-use sk_text::cluster_name;
+use sk_text::{cluster_name, put_names};
 use sk_tree::{Choice, Plan, PlanStep};
 use std::alloc::Global;
 

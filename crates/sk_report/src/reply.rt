@@ -2,9 +2,9 @@
 ghost use Rattle.std.specs.Prelude.{◌≡◌, IfOk};
 ghost use Rattle.sk_report.specs.ReplyLines.{done_line, declared_line, constrained_line, refused_line};
 
-use crate::check::put_name;
 use sk_base::{ConId, Elem, NoMemory, Sketch, Text};
 use sk_lang::Code;
+use sk_text::put_name;
 use std::alloc::Global;
 
 /// The answer to a change or an undo.

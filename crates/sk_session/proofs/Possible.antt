@@ -24,7 +24,7 @@ use Rattle.sk_lang.specs.FirstCode.{first_code}
 use Rattle.sk_lang.specs.Named.{element_named, number_named}
 use Rattle.sk_lang.specs.Quantities.{length_of, ratio_of, um, ratio}
 use Rattle.sk_lang.proofs.Amounts.{length_from_to, ratio_sound}
-use Rattle.sk_lang.proofs.Passing.{passed}
+use Rattle.sk_base.proofs.Tables.{passed}
 use Rattle.sk_graph.specs.SketchGraph.{first_of, second_of}
 use Rattle.sk_session.specs.declared.command.Change.{Change}
 use Rattle.sk_session.specs.declared.command.Change.TheVariants.{Drop, Set, Erase}

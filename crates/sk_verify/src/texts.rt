@@ -1,13 +1,12 @@
 // The one line that tells what a check of a claim found.
 ghost use Rattle.std.specs.Prelude.{◌≡◌, ◌++◌, IfOk, OnOk};
-ghost use Rattle.sk_lang.specs.Canonical.{name_of};
 ghost use Rattle.sk_text.specs.ClusterName.{cluster_name};
 ghost use Rattle.sk_verify.specs.Texts.{failing_words, failure_line, verified_line};
 
 use crate::claim::Claim;
 use crate::failure::Failure;
-use sk_base::{Elem, Name, NoMemory, Sketch, Text};
-use sk_text::cluster_name;
+use sk_base::{Name, NoMemory, Sketch, Text};
+use sk_text::{cluster_name, put_label};
 use std::alloc::Global;
 
 /// The line for a claim that fails.
@@ -43,11 +42,11 @@ fn put_failing(alloc: Global, text: &mut Text, s: &Sketch, f: Failure) -> Result
         Failure::Parts => text.put(b"parts"),
         Failure::Element(elem) => {
             text.put(b"element ")?;
-            put_element(text, s, elem)
+            put_label(text, s, elem)
         }
         Failure::Line(line) => {
             text.put(b"line ")?;
-            put_element(text, s, line)
+            put_label(text, s, line)
         }
         Failure::Con(number) => put_cluster(alloc, text, Name::Con(number.0)),
         Failure::Sign(name) => {
@@ -61,14 +60,4 @@ fn put_cluster(alloc: Global, text: &mut Text, name: Name) -> Result<(), NoMemor
     ensures { OnOk result (text.new ≡ text.old ++ cluster_name name) }
 {
     text.put(cluster_name(alloc, name)?.as_bytes())
-}
-
-/// Puts the element's name.
-fn put_element(text: &mut Text, s: &Sketch, e: Elem) -> Result<(), NoMemory>
-    ensures { OnOk result (text.new ≡ text.old ++ name_of s.now e) }
-{
-    match s.element(e) {
-        Some(element) => text.put(element.label.as_bytes()),
-        None => Ok(()),
-    }
 }

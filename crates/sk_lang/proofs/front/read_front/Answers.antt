@@ -1,10 +1,11 @@
 use Rattle.std.proofs.Common.{◌≡◌, ◌+◌, ℕ, List, [], sym, subst, ◌∙◌, arith, refl}
 use Rattle.std.proofs.lemmas.Bool.Decides.{nat_tests}
+use Rattle.std.proofs.lemmas.List.{nil_from_length}
 use Rattle.sk_lang.specs.declared.progress.Progress.{Progress}
 use Rattle.sk_lang.specs.declared.progress.Progress.TheVariants.{After}
 use Rattle.sk_lang.specs.Meaning.{progress_after}
 use Rattle.sk_lang.specs.Reading.{TooLong}
-use Rattle.sk_lang.proofs.ReadErrors.{front_refusal_at, front_unended, ended_no_more, no_bytes}
+use Rattle.sk_lang.proofs.ReadErrors.{front_refusal_at, front_unended, ended_no_more}
 use Rattle.sk_lang.proofs.Standing.{StandsAt, stands_next, front_read_here}
 use Rattle.sk_lang.proofs.front.read_front.Goals as goal
 
@@ -14,7 +15,7 @@ returns-then-bytes-gt-MOST_BYTES-clause-refuses c = rw c.refused.ensures (record
 pub returns-in-Err-clause-refuses : goal.returns-in-Err-clause-refuses
 returns-in-Err-clause-refuses c =
     let at = c.loop-rest.invariant in
-    rw c.error_at.ensures (front_refusal_at c.args.bytes.now c.loop-rest.rest.now c.split_line.result.0.now c.split_line.result.1.now c.loop-rest.progress c.loop-rest.lines c.in-Err.error
+    rw c.at_line.ensures (front_refusal_at c.args.bytes.now c.loop-rest.rest.now c.split_line.result.0.now c.split_line.result.1.now c.loop-rest.progress c.loop-rest.lines c.in-Err.error
     (omega arith) at.at (omega arith) c.split_line.ensures.first at.unended c.in-Err.ensures.refused)
 
 pub returns-in-After-clause-reads : goal.returns-in-After-clause-reads
@@ -38,6 +39,6 @@ loop-rest-preserved c =
 pub returns-clause-refuses : goal.returns-clause-refuses
 returns-clause-refuses c =
     let at = c.loop-rest.invariant in
-    let none : c.loop-rest.rest.now ≡ [] = no_bytes c.loop-rest.rest.now (grind (arith, nat_tests)) in
+    let none : c.loop-rest.rest.now ≡ [] = nil_from_length c.loop-rest.rest.now (grind (arith, nat_tests)) in
     let whole : StandsAt c.args.bytes.now [] c.loop-rest.progress c.loop-rest.lines = subst (λ (rest : List ℕ). StandsAt c.args.bytes.now rest c.loop-rest.progress c.loop-rest.lines) none at.at in
     rw c.without_end.ensures (front_unended c.args.bytes.now c.loop-rest.progress c.loop-rest.lines (omega arith) whole at.unended)

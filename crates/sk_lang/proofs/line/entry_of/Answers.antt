@@ -1,10 +1,11 @@
-use Rattle.std.proofs.Common.{◌≡◌, ◌-◌, map, length, refl, sym, ap, ◌∙◌, arith}
+use Rattle.std.proofs.Common.{[], ◌≡◌, ◌-◌, map, length, refl, sym, ap, ◌∙◌, arith}
 use Rattle.std.proofs.lemmas.List.{length-map}
 use Rattle.sk_lex.specs.Words.{bytes_of}
 use Rattle.sk_lang.specs.Keywords.{places}
 use Rattle.sk_lang.specs.FirstCode.{map_ok}
 use Rattle.sk_lang.specs.declared.entry.Entry.TheVariants as entry
-use Rattle.sk_lang.proofs.Entries.{rest_two, rest_three, rest_four, rest_five, element_reading, constraint_reading, wrong_count, early_circle, length_rest}
+use Rattle.sk_base.proofs.Rests.{rest_two, rest_three, rest_four, rest_five}
+use Rattle.sk_lang.proofs.Entries.{element_reading, constraint_reading, wrong_count, early_circle, length_rest}
 use Rattle.sk_lang.proofs.line.entry_of.Goals as goal
 
 pub returns-then-lacks_radius : goal.returns-then-lacks_radius
@@ -23,7 +24,7 @@ returns-in-Point g c =
     let places_are : c.places.result ≡ 3 = c.places.ensures ∙ ap (λ k. length (places k)) c.in-Point.is in
     let same = length-map c.args.words.now (bytes_of c.args.line.now) in
     let count : length ws ≡ 4 = omega arith in
-    let rest = rest_three ws c.word-first.result.now c.word-second.result.now c.word-third.result.now count c.word-first.ensures c.word-second.ensures c.word-third.ensures in
+    let rest = rest_three [] ws c.word-first.result.now c.word-second.result.now c.word-third.result.now count c.word-first.ensures c.word-second.ensures c.word-third.ensures in
     rw (c.element.ensures ∙ ap (map_ok entry.Element) c.read_point.ensures) (rw (rest, c.in-Point.is) (element_reading _ _ _ refl))
 
 pub returns-in-Line : goal.returns-in-Line
@@ -32,7 +33,7 @@ returns-in-Line g c =
     let places_are : c.places.result ≡ 5 = c.places.ensures ∙ ap (λ k. length (places k)) c.in-Line.is in
     let same = length-map c.args.words.now (bytes_of c.args.line.now) in
     let count : length ws ≡ 6 = omega arith in
-    let rest = rest_five ws c.word-first.result.now c.word-second.result.now c.word-third-in-Line.result.now c.word-fourth.result.now c.word-fifth.result.now count c.word-first.ensures c.word-second.ensures c.word-third-in-Line.ensures c.word-fourth.ensures c.word-fifth.ensures in
+    let rest = rest_five [] ws c.word-first.result.now c.word-second.result.now c.word-third-in-Line.result.now c.word-fourth.result.now c.word-fifth.result.now count c.word-first.ensures c.word-second.ensures c.word-third-in-Line.ensures c.word-fourth.ensures c.word-fifth.ensures in
     rw (c.element-in-Line.ensures ∙ ap (map_ok entry.Element) c.read_line.ensures) (rw (rest, c.in-Line.is) (element_reading _ _ _ refl))
 
 pub returns-in-Circle : goal.returns-in-Circle
@@ -41,7 +42,7 @@ returns-in-Circle g c =
     let places_are : c.places.result ≡ 4 = c.places.ensures ∙ ap (λ k. length (places k)) c.in-Circle.is in
     let same = length-map c.args.words.now (bytes_of c.args.line.now) in
     let count : length ws ≡ 5 = omega arith in
-    let rest = rest_four ws c.word-first.result.now c.word-second.result.now c.word-third-in-Circle.result.now c.word-fourth-in-Circle.result.now count c.word-first.ensures c.word-second.ensures c.word-third-in-Circle.ensures c.word-fourth-in-Circle.ensures in
+    let rest = rest_four [] ws c.word-first.result.now c.word-second.result.now c.word-third-in-Circle.result.now c.word-fourth-in-Circle.result.now count c.word-first.ensures c.word-second.ensures c.word-third-in-Circle.ensures c.word-fourth-in-Circle.ensures in
     rw (c.element-in-Circle.ensures ∙ ap (map_ok entry.Element) c.read_circle.ensures) (rw (rest, c.in-Circle.is) (element_reading _ _ _ refl))
 
 pub returns-in-Distance : goal.returns-in-Distance
@@ -50,7 +51,7 @@ returns-in-Distance g c =
     let places_are : c.places.result ≡ 3 = c.places.ensures ∙ ap (λ k. length (places k)) c.in-Distance.is in
     let same = length-map c.args.words.now (bytes_of c.args.line.now) in
     let count : length ws ≡ 4 = omega arith in
-    let rest = rest_three ws c.word-first.result.now c.word-second.result.now c.word-third-in-Distance.result.now count c.word-first.ensures c.word-second.ensures c.word-third-in-Distance.ensures in
+    let rest = rest_three [] ws c.word-first.result.now c.word-second.result.now c.word-third-in-Distance.result.now count c.word-first.ensures c.word-second.ensures c.word-third-in-Distance.ensures in
     rw (c.constraint.ensures ∙ ap (map_ok entry.Constraint) c.read_distance.ensures) (rw (rest, c.in-Distance.is) (constraint_reading _ _ _ refl))
 
 pub returns-in-On : goal.returns-in-On
@@ -59,7 +60,7 @@ returns-in-On g c =
     let places_are : c.places.result ≡ 2 = c.places.ensures ∙ ap (λ k. length (places k)) c.in-On.is in
     let same = length-map c.args.words.now (bytes_of c.args.line.now) in
     let count : length ws ≡ 3 = omega arith in
-    let rest = rest_two ws c.word-first.result.now c.word-second.result.now count c.word-first.ensures c.word-second.ensures in
+    let rest = rest_two [] ws c.word-first.result.now c.word-second.result.now count c.word-first.ensures c.word-second.ensures in
     rw (c.constraint-in-On.ensures ∙ ap (map_ok entry.Constraint) c.read_on.ensures) (rw (rest, c.in-On.is) (constraint_reading _ _ _ refl))
 
 pub returns-in-Tangent : goal.returns-in-Tangent
@@ -68,7 +69,7 @@ returns-in-Tangent g c =
     let places_are : c.places.result ≡ 2 = c.places.ensures ∙ ap (λ k. length (places k)) c.in-Tangent.is in
     let same = length-map c.args.words.now (bytes_of c.args.line.now) in
     let count : length ws ≡ 3 = omega arith in
-    let rest = rest_two ws c.word-first.result.now c.word-second.result.now count c.word-first.ensures c.word-second.ensures in
+    let rest = rest_two [] ws c.word-first.result.now c.word-second.result.now count c.word-first.ensures c.word-second.ensures in
     rw (c.constraint-in-Tangent.ensures ∙ ap (map_ok entry.Constraint) c.read_tangent.ensures) (rw (rest, c.in-Tangent.is) (constraint_reading _ _ _ refl))
 
 pub returns-in-Outside : goal.returns-in-Outside
@@ -77,7 +78,7 @@ returns-in-Outside g c =
     let places_are : c.places.result ≡ 2 = c.places.ensures ∙ ap (λ k. length (places k)) c.in-Outside.is in
     let same = length-map c.args.words.now (bytes_of c.args.line.now) in
     let count : length ws ≡ 3 = omega arith in
-    let rest = rest_two ws c.word-first.result.now c.word-second.result.now count c.word-first.ensures c.word-second.ensures in
+    let rest = rest_two [] ws c.word-first.result.now c.word-second.result.now count c.word-first.ensures c.word-second.ensures in
     rw (c.constraint-in-Outside.ensures ∙ ap (map_ok entry.Constraint) c.read_outside.ensures) (rw (rest, c.in-Outside.is) (constraint_reading _ _ _ refl))
 
 pub returns-in-Inside : goal.returns-in-Inside
@@ -86,7 +87,7 @@ returns-in-Inside g c =
     let places_are : c.places.result ≡ 2 = c.places.ensures ∙ ap (λ k. length (places k)) c.in-Inside.is in
     let same = length-map c.args.words.now (bytes_of c.args.line.now) in
     let count : length ws ≡ 3 = omega arith in
-    let rest = rest_two ws c.word-first.result.now c.word-second.result.now count c.word-first.ensures c.word-second.ensures in
+    let rest = rest_two [] ws c.word-first.result.now c.word-second.result.now count c.word-first.ensures c.word-second.ensures in
     rw (c.constraint-in-Inside.ensures ∙ ap (map_ok entry.Constraint) c.read_inside.ensures) (rw (rest, c.in-Inside.is) (constraint_reading _ _ _ refl))
 
 pub returns-in-Angle : goal.returns-in-Angle
@@ -95,5 +96,5 @@ returns-in-Angle g c =
     let places_are : c.places.result ≡ 3 = c.places.ensures ∙ ap (λ k. length (places k)) c.in-Angle.is in
     let same = length-map c.args.words.now (bytes_of c.args.line.now) in
     let count : length ws ≡ 4 = omega arith in
-    let rest = rest_three ws c.word-first.result.now c.word-second.result.now c.word-third-in-Angle.result.now count c.word-first.ensures c.word-second.ensures c.word-third-in-Angle.ensures in
+    let rest = rest_three [] ws c.word-first.result.now c.word-second.result.now c.word-third-in-Angle.result.now count c.word-first.ensures c.word-second.ensures c.word-third-in-Angle.ensures in
     rw (c.constraint-in-Angle.ensures ∙ ap (map_ok entry.Constraint) c.read_angle.ensures) (rw (rest, c.in-Angle.is) (constraint_reading _ _ _ refl))

@@ -1,10 +1,11 @@
 use Rattle.std.proofs.Common.{◌≡◌, ◌+◌, ◌-◌, ℕ, List, [], length, drop, ap, subst, arith, length-drop}
 use Rattle.std.proofs.lemmas.Bool.Decides.{nat_tests}
+use Rattle.std.proofs.lemmas.List.{nil_from_length}
 use Rattle.std.proofs.lemmas.List.{take_all}
 use Rattle.sk_lang.specs.declared.progress.Progress.{Progress}
 use Rattle.sk_lang.specs.declared.progress.Progress.TheVariants.{After}
 use Rattle.sk_lang.specs.Meaning.{progress_after, progress_after_words}
-use Rattle.sk_lang.proofs.ReadErrors.{refusal_at, no_bytes}
+use Rattle.sk_lang.proofs.ReadErrors.{refusal_at}
 use Rattle.sk_lang.proofs.Standing.{StandsAt, stands_next, stands_behind, reads_here}
 use Rattle.sk_lang.proofs.read.read_behind.Goals as goal
 
@@ -36,12 +37,12 @@ pub returns-in-Err-clause-refuses : goal.returns-in-Err-clause-refuses
 returns-in-Err-clause-refuses c =
     let at = c.loop-rest.invariant in
     let fits = c.requires.front.fits in
-    rw c.error_at.ensures (refusal_at c.args.bytes.now c.loop-rest.rest.now c.split_line.result.0.now c.split_line.result.1.now (After c.args.front.sketch) c.loop-rest.number c.in-Err.error
+    rw c.at_line.ensures (refusal_at c.args.bytes.now c.loop-rest.rest.now c.split_line.result.0.now c.split_line.result.1.now (After c.args.front.sketch) c.loop-rest.number c.in-Err.error
     fits at.at (grind (arith, nat_tests)) c.split_line.ensures.first (c.in-Err.ensures.refused c.args.front.sketch))
 
 pub returns-clause-reads : goal.returns-clause-reads
 returns-clause-reads c =
     let at = c.loop-rest.invariant in
-    let none : c.loop-rest.rest.now ≡ [] = no_bytes c.loop-rest.rest.now (grind (arith, nat_tests)) in
+    let none : c.loop-rest.rest.now ≡ [] = nil_from_length c.loop-rest.rest.now (grind (arith, nat_tests)) in
     let whole : StandsAt c.args.bytes.now [] (After c.args.front.sketch) c.loop-rest.number = subst (λ (rest : List ℕ). StandsAt c.args.bytes.now rest (After c.args.front.sketch) c.loop-rest.number) none at.at in
     reads_here c.args.bytes.now c.args.front.sketch c.loop-rest.number c.requires.front.fits whole

@@ -2,7 +2,7 @@ use Rattle.std.proofs.Common.{◌≡◌, ◌∷◌, [], ◌-◌, ℕ, List, map,
 use Rattle.std.proofs.lemmas.List.{length-map}
 use Rattle.sk_lex.specs.Words.{bytes_of}
 use Rattle.sk_lang.specs.FirstCode.{first_code}
-use Rattle.sk_lang.proofs.Entries.{rest_two}
+use Rattle.sk_base.proofs.Rests.{rest_two}
 use Rattle.sk_session.specs.Commands.{from_made, change_rows, edit_made}
 use Rattle.sk_session.proofs.reading.read_change.Goals as goal
 
@@ -16,7 +16,7 @@ pub returns-else-count-ne2 : goal.returns-else-count-ne2
 returns-else-count-ne2 c =
     let ws = map (bytes_of c.args.line.now) c.args.words.now in
     let same : length ws ≡ length c.args.words.now = rw length-map in
-    let rest = rest_two ws c.word-in-Set.result.now c.word-in-Set-2.result.now (omega arith) c.word-in-Set.ensures c.word-in-Set-2.ensures in
+    let rest = rest_two [] ws c.word-in-Set.result.now c.word-in-Set-2.result.now (omega arith) c.word-in-Set.ensures c.word-in-Set-2.ensures in
     rw (rest, c.in-Set.is) c.read_set.ensures
 
 pub returns-else-count-ne1-2 : goal.returns-else-count-ne1-2

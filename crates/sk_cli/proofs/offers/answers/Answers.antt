@@ -6,7 +6,7 @@ use Rattle.sk_report.specs.AnswerLine.{answer_line}
 use Rattle.sk_cli.specs.declared.offer_line.OfferLine.{OfferLine}
 use Rattle.sk_cli.specs.OffersReport.{AreAnswered}
 use Rattle.sk_cli.proofs.Answering.{answered_more}
-use Rattle.sk_cli.proofs.offering.answers.Goals as goal
+use Rattle.sk_cli.proofs.offers.answers.Goals as goal
 
 pub loop-offer-preserved : goal.loop-offer-preserved
 loop-offer-preserved c =

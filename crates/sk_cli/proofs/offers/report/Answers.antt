@@ -9,7 +9,7 @@ use Rattle.sk_offers.specs.Offering.{Table, starting_table}
 use Rattle.sk_plan.specs.Judged.{IsTheJudgement}
 use Rattle.sk_cli.specs.OffersReport.{AreAnswered}
 use Rattle.sk_cli.proofs.Answering.{answered_graph}
-use Rattle.sk_cli.proofs.offering.report.Goals as goal
+use Rattle.sk_cli.proofs.offers.report.Goals as goal
 
 -- the finished graph is that of the sketch
 same_graph : (c : goal.After-judge-arg-2-1) → c.in_ok-finished.finished.graph ≡ c.in_ok-reduce.field-0

@@ -4,7 +4,7 @@ use Rattle.std.specs.List.{slice_split, onto_first}
 use Rattle.std.specs.Str.Lines.{strip_carriage_return}
 use Rattle.std.proofs.lemmas.List.{length-map, length-take-le}
 use Rattle.std.proofs.lemmas.List.Splits.{length-slice_split}
-use Rattle.sk_lang.specs.declared.Front.{Front}
+use Rattle.sk_lang.specs.declared.front.Front.{Front}
 use Rattle.sk_lang.specs.Front.{ReadsFront}
 use Rattle.sk_lang.specs.Lines.{is_line_feed, without_empty_end, lines_in}
 use Rattle.sk_lang.proofs.LineByLine.{without_end-cons}
@@ -30,10 +30,10 @@ few_parts (b ∷ bytes) = by (is_line_feed b) (few_parts bytes)
 pub few_lines : (bytes : List ℕ) → length (lines_in bytes) ≤ length bytes
 few_lines bytes = rw (length-map (without_empty_end (slice_split is_line_feed bytes)) strip_carriage_return) (few_parts bytes)
 
--- the lines behind the front of a text have numbers
-pub room_behind : (bytes : List ℕ) (front : Front) → ReadsFront bytes front → front.lines + length (lines_in (drop front.used bytes)) < 4294967295
-room_behind bytes front reads =
+-- the lines of the front and those behind it are no more than the bytes
+pub few_behind : (bytes : List ℕ) (front : Front) → ReadsFront bytes front → front.lines + length (lines_in (drop front.used bytes)) ≤ length bytes
+few_behind bytes front reads =
     let before = few_lines (take front.used bytes) in
     let behind = few_lines (drop front.used bytes) in
     let taken = length-take-le front.used bytes reads.within in
-    omega (arith, before, behind, taken, length-drop front.used bytes, reads.count, reads.within, reads.fits)
+    omega (arith, before, behind, taken, length-drop front.used bytes, reads.count, reads.within)

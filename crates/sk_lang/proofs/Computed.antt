@@ -6,10 +6,6 @@ use Rattle.sk_lang.specs.declared.code.Code.TheVariants.{E16, E18, E20}
 use Rattle.sk_lang.specs.Lines.{lines_in}
 use Rattle.sk_lang.specs.declared.progress.Progress.{Progress}
 use Rattle.sk_lang.specs.declared.progress.Progress.TheVariants.{Before, Within, After}
-use Rattle.sk_lang.specs.declared.code.ReadError.{ReadError}
-use Rattle.sk_lang.specs.declared.code.ReadError.TheVariants as read
-use Rattle.sk_lang.specs.declared.entry.EntryError.{EntryError}
-use Rattle.sk_lang.specs.declared.entry.EntryError.TheVariants.{Refused, NoMemory}
 use Rattle.sk_lang.specs.Codes.{code_of}
 use Rattle.sk_lang.specs.Meaning.{progress_after}
 
@@ -34,19 +30,3 @@ read_from progress n (line ∷ lines) = or_code (code_of progress line) n (read_
 
 abbrev pub reading : List ℕ → Answer
 reading bytes = if nat_lt 1048576 (length bytes) then Err (0, E20) else read_from Before 1 (lines_in bytes)
-
--- the error of a line, as that of the text
-abbrev pub error_at : ℕ → EntryError → ReadError
-error_at line (Refused code) = read.Refused (record { line = line; code = code })
-error_at line NoMemory = read.NoMemory
-
--- the refusal of a text that ends before its sketch does
-abbrev pub without_end : Progress → ℕ → ReadError
-without_end Before lines = read.Refused (record { line = 0; code = E18 })
-without_end _ lines = read.Refused (record { line = lines + 1; code = E16 })
-
--- how many elements and constraints there are
-abbrev pub size_of : Progress → ℕ
-size_of Before = 0
-size_of (Within s) = length s.elements + length s.constraints
-size_of (After s) = length s.elements + length s.constraints

@@ -6,8 +6,7 @@ use Rattle.sk_cli.specs.declared.offer_line.OfferLine.{OfferLine}
 use Rattle.sk_cli.specs.OfferReading.{ReadsOffers}
 use Rattle.sk_cli.specs.OffersReport.{FitsBoard, IsReportOnOffers}
 use Rattle.sk_cli.proofs.FittingOffers.{read_fit}
-use Rattle.sk_cli.proofs.LineCounts.{room_behind}
-use Rattle.sk_cli.proofs.offering.offers.Goals as goal
+use Rattle.sk_cli.proofs.offers.offers.Goals as goal
 
 -- what stands behind so many bytes
 rest_of : (used : ℕ) (bytes : List ℕ) → take (length bytes - used) (drop used bytes) ≡ drop used bytes
@@ -16,7 +15,7 @@ rest_of used bytes = take_all (length bytes - used) (drop used bytes) (omega (ar
 pub read_offers-requires : goal.read_offers-requires
 read_offers-requires c =
     subst (λ (rest : List ℕ). c.in-Ok.front.lines + length (lines_in rest) < 4294967295) (sym (rest_of c.in-Ok.front.used c.args.bytes.now))
-    (room_behind c.args.bytes.now c.in-Ok.front c.in-Ok.ensures.reads)
+    (let few = c.in-Ok.ensures.lines in let fits = c.in-Ok.ensures.reads.fits in omega (arith, few, fits))
 
 pub report-requires-clause-fit : goal.report-requires-clause-fit
 report-requires-clause-fit c =
