@@ -158,12 +158,7 @@ impl Family {
     }
 
     /// The starting clusters of the constraints that the cluster of that name owns, but for one.
-    fn starts_in(
-        &self,
-        name: Name,
-        without: ConId,
-        graph: &Graph,
-    ) -> Result<Vec<Cluster>, NoMemory>
+    fn starts_in(&self, name: Name, without: ConId, graph: &Graph) -> Result<Vec<Cluster>, NoMemory>
         requires graph { HasRisingEdges graph.now }
         requires owner { CanBeDissolved graph.now self.now name without }
         ensures { IfOk result (λ starts. (c : AnyCluster) → IsNamed self.now name c → starts.items ≡ starts_but graph.now without c.owned) }

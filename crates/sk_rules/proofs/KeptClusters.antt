@@ -1,5 +1,5 @@
 -- What adopting and dissolving do to the bodies of a family.
-use Rattle.std.proofs.Common.{◌≡◌, ◌≢◌, ◌⊎◌, inl, inr, ℕ, ◌<◌, ◌≤◌, List, [], ◌∷◌, length, refl, ap, sym, subst, ◌∙◌, arith}
+use Rattle.std.proofs.Common.{◌≡◌, ◌⊎◌, inl, inr, ◌≤◌, List, [], ◌∷◌, length, refl, ap, sym, subst, ◌∙◌, arith}
 use Rattle.std.specs.Prelude.{Contains, map}
 use Rattle.std.proofs.lemmas.List.{length-map}
 use Rattle.sk_base.specs.declared.Name.{Name}
@@ -17,8 +17,8 @@ use Rattle.sk_family.specs.Starts.{HasStart, IsDissolved}
 use Rattle.sk_base.proofs.Members.{contains_head, contains_one, contains_mapped, mapped_from}
 use Rattle.sk_base.proofs.Pairs.{pairs_map, pairs_same}
 use Rattle.sk_family.proofs.Naming.{ByName, below_irreflexive, below_asymmetric, one_of_name, one_of_body}
-use Rattle.sk_family.proofs.Soundness.{con_inside, starting_bodies}
-use Rattle.sk_rules.specs.Reach.{Step as StepOf, Reach, stays, goes}
+use Rattle.sk_family.proofs.Soundness.{starting_bodies}
+use Rattle.sk_rules.specs.Reach.{Reach, stays, goes}
 use Rattle.sk_rules.specs.Keeping.{IsReached, HasOneMore, HasAllBut, KeepsKinds, Adopts, Dissolves}
 use Rattle.sk_rules.proofs.KeptFamily.{unchanged_is_reached, adopted_is_reached, dissolved_is_reached, each_owned, reached_edge}
 

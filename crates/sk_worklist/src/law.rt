@@ -8,12 +8,12 @@ ghost use Rattle.sk_worklist.specs.Run.{IsRun, PicksLead};
 
 use crate::picker::Picker;
 
-/// A family has one list of choices.
+/// A family has at most one list of choices.
 pub fn one_list_of_choices()
     ensures { (g : Graph) (f : Clusters) (one other : List Merge) → AreChoices g f one → AreChoices g f other → one ≡ other }
 {}
 
-/// A picker has one run from a family and a state.
+/// A picker has at most one run from a family and a state.
 pub fn one_run<P: Picker>()
     ensures { (g : Graph) (f : Clusters) (p : P) (ms ns : List Merge) (one other : Clusters) (last end : P) → IsRun P.answer P.after g f p ms one last → IsRun P.answer P.after g f p ns other end
         → (ms ≡ ns) × (one ≡ other) × (last ≡ end) }

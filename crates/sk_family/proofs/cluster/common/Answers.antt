@@ -1,6 +1,5 @@
-use Rattle.std.proofs.Common.{◌≡◌, ap, sym, ◌∙◌, arith, length, get_or, take, true, List}
+use Rattle.std.proofs.Common.{◌≡◌, ap, sym, ◌∙◌, get_or, take, List}
 use Rattle.sk_base.specs.declared.Elem.{Elem}
-use Rattle.sk_family.specs.declared.cluster.Overlap.{Overlap}
 use Rattle.sk_family.specs.Sharing.{shared, counted}
 use Rattle.sk_base.specs.Numbering.{is_elem}
 use Rattle.sk_family.proofs.Shares.{shared_more, shared_same}

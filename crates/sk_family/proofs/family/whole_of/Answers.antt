@@ -1,4 +1,4 @@
-use Rattle.std.proofs.Common.{◌∙◌, ap, sym, subst, List, []}
+use Rattle.std.proofs.Common.{◌∙◌, ap, sym, subst, []}
 use Rattle.sk_base.specs.declared.Name.TheVariants.{Con}
 use Rattle.sk_family.specs.declared.cluster.Cluster.{Cluster}
 use Rattle.sk_family.specs.Clusters.{body_of}

@@ -1,4 +1,4 @@
-use Rattle.std.proofs.Common.{rules, refl, true, false, ◌≡◌}
+use Rattle.std.proofs.Common.{rules, true, false, ◌≡◌}
 use Rattle.std.specs.List.Sorted.{IsPartitionPoint}
 use Rattle.std.proofs.lemmas.List.Sorted.{IsPartitionPoint-from_clause}
 use Rattle.sk_family.specs.declared.cluster.Cluster.{Cluster}

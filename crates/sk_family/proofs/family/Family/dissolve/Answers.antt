@@ -2,7 +2,7 @@ use Rattle.std.proofs.Common.{◌≡◌, ◌+◌, ◌≤◌, ◌++◌, ◌∷◌
 use Rattle.std.specs.Prelude.{AllPairs}
 use Rattle.std.specs.List.Sorted.{IsPermutation}
 use Rattle.sk_family.specs.declared.cluster.Cluster.{Cluster}
-use Rattle.sk_family.specs.Clusters.{Clusters, IsNamed, IsSound, unnamed}
+use Rattle.sk_family.specs.Clusters.{Clusters, IsNamed, unnamed}
 use Rattle.sk_family.specs.Starting.{starts_but}
 use Rattle.sk_family.specs.Starts.{IsDissolved}
 use Rattle.sk_family.proofs.Naming.{one_of_name}
