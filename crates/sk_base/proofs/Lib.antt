@@ -16,3 +16,4 @@ pub mod Sizes
 pub mod Splits
 pub mod Tables
 pub mod Unions
+pub mod NameOrder

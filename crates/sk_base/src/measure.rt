@@ -18,7 +18,8 @@ pub enum Kind {
     Line,
 }
 
-/// One of two sides, senses or turns. Plus is to the left.
+/// One of two sides, turns, advances or senses. Plus is to the left of a line or in a turn, and forward
+/// in an advance or a sense.
 #[derive(Clone, Copy, Debug, PartialEq, Eq)]
 pub enum Sign {
     Plus,

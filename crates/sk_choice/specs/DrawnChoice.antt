@@ -3,8 +3,7 @@ use Rattle.std.specs.Prelude.{◌≡◌, not, List, [], ◌∷◌, ◌++◌, fil
 use Rattle.sk_base.specs.declared.Elem.{Elem}
 use Rattle.sk_base.specs.declared.Shape.{Shape}
 use Rattle.sk_base.specs.declared.Sketch.{Sketch}
-use Rattle.sk_base.specs.Drawn.{shape_of}
-use Rattle.sk_base.specs.Drawn.{is_line}
+use Rattle.sk_base.specs.Drawn.{shape_of, is_line}
 use Rattle.sk_orient.specs.DrawnSigns.{turn_drawn, advance_drawn}
 use Rattle.sk_rules.specs.declared.Shared.{Shared}
 use Rattle.sk_tree.specs.declared.Choice.{Choice}

@@ -12,8 +12,8 @@ use Rattle.sk_base.specs.declared.Rule.TheVariants.{Distance, On, Tangent, Outsi
 use Rattle.sk_base.specs.declared.Sign.{Sign}
 use Rattle.sk_base.specs.declared.Sign.TheVariants.{Plus, Minus}
 use Rattle.sk_base.specs.declared.Sketch.{Sketch}
-use Rattle.sk_graph.specs.SketchGraph.{drawn_as}
 use Rattle.sk_base.specs.Drawn.{is_line}
+use Rattle.sk_graph.specs.SketchGraph.{drawn_as}
 use Rattle.sk_orient.specs.DrawnSigns.{sense_drawn, turn_drawn, advance_drawn}
 use Rattle.sk_orient.specs.PlacedSigns.{sense_placed, turn_placed, advance_placed}
 use Rattle.sk_tree.specs.declared.Plan.{Plan}

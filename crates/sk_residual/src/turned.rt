@@ -1,10 +1,9 @@
 // Which sign is turned over where a sketch is placed.
 ghost use Rattle.std.specs.Prelude.{◌≡◌, ◌≢◌, ◌↔◌, not, List, [], ◌∷◌, Contains, IsTrue, IsSome, IsNone, IfSome};
 ghost use Rattle.sk_base.specs.declared.Constraint.{Constraint as OfConstraint};
-ghost use Rattle.sk_base.specs.Drawn.{shape_of, IsLine, HasCentre};
+ghost use Rattle.sk_base.specs.Drawn.{shape_of, is_line, IsLine, HasCentre};
 ghost use Rattle.sk_base.specs.SoundSketch.{IsSoundSketch, IsSoundRule, IsSoundRatio};
 ghost use Rattle.sk_graph.specs.SketchGraph.{graph_of, drawn_as};
-ghost use Rattle.sk_base.specs.Drawn.{is_line};
 ghost use Rattle.sk_tree.specs.declared.PlanStep.{PlanStep as OfStep};
 ghost use Rattle.sk_tree.specs.ByNumber.{by_number};
 ghost use Rattle.sk_tree.specs.LegalPlan.{IsLegalPlan};

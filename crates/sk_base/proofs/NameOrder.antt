@@ -1,8 +1,8 @@
 -- Names that compare as equal are the same.
 use Rattle.std.proofs.Common.{◌≡◌, ap, sym, Equal}
 use Rattle.std.specs.Cmp.{ranked}
-use Rattle.sk_base.specs.declared.Name.{Name}
-use Rattle.sk_base.specs.declared.Name.TheVariants.{Con, Step}
+use Rattle.sk_base.specs.declared.name.Name.{Name}
+use Rattle.sk_base.specs.declared.name.Name.TheVariants.{Con, Step}
 use Rattle.sk_base.specs.contracts.name.NameOrd.TheImpl as names
 
 pub same_name : (m n : Name) → names.ghosts.cmp m n ≡ Equal → m ≡ n
