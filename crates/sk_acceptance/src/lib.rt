@@ -36,6 +36,8 @@ mod texts;
 #[cfg(test)]
 mod tolerances;
 #[cfg(test)]
+mod trees;
+#[cfg(test)]
 mod usage;
 
 pub use claims::accepted_is_well;

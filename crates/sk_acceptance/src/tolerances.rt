@@ -32,6 +32,10 @@ const PLATE: &[u8] =
 const BELT: &[u8] =
     b"sketch 1\ncircle H 0 0 5\ncircle K 5 0 2\nline T 0 -6 10 1.5\ndistance H K 5\ntangent T H\ntangent T K\nend\n";
 
+/// The angle has the tangent 3/4, and the line Y doesn't run through the origin.
+const WEDGE: &[u8] =
+    b"sketch 1\nline X 0 0 100 0\nline Y 5 0 85 60\npoint H 5 50\nangle X Y 3/4\ndistance H X 5\ndistance H Y 4\nend\n";
+
 const fn point(x: i64, y: i64) -> At {
     At::Point { x, y }
 }
@@ -288,6 +292,59 @@ fn a_turned_angle_comes_before_the_steps(rt: HostRuntime) -> Result<(), Fail> {
     };
     let exact = with_lines(0, 1, 0, Spotted::Line(Elem(5)));
     compares(&rt, rt.alloc(), RECTANGLE, &rectangle, exact, Some(turned))
+}
+
+/// The whole rectangle is turned over: each constraint holds, and the right angles turn to the right.
+#[test]
+fn a_rectangle_turned_over_is_told_by_its_angles(rt: HostRuntime) -> Result<(), Fail> {
+    let over = [
+        point(-40_000_000, 0),
+        point(0, 0),
+        point(0, -25_000_000),
+        point(-40_000_000, -25_000_000),
+        line(0, 1_000_000_000, 0),
+        line(1_000_000_000, 0, 0),
+        line(0, -1_000_000_000, 25_000_000),
+        line(-1_000_000_000, 0, 40_000_000),
+    ];
+    let turned = Turned {
+        at: Name::Con(9),
+        drawn: Sign::Plus,
+        placed: -1,
+    };
+    let exact = with_lines(0, 1, 0, Spotted::Line(Elem(5)));
+    compares(&rt, rt.alloc(), RECTANGLE, &over, exact, Some(turned))
+}
+
+/// As asked, with a normal of X that is off by 70, and with Y running back.
+#[test]
+fn an_angle_has_its_own_unit_and_sense(rt: HostRuntime) -> Result<(), Fail> {
+    let wedge = [
+        line(0, 1_000_000_000, 0),
+        line(-600_000_000, 800_000_000, -3_000_000),
+        point(5_000_000, 5_000_000),
+    ];
+    let exact = with_lines(0, 2, 0, Spotted::Line(Elem(1)));
+    compares(&rt, rt.alloc(), WEDGE, &wedge, exact, None)?;
+    let skew = [
+        line(70, 1_000_000_000, 0),
+        line(-600_000_000, 800_000_000, -3_000_000),
+        point(5_000_000, 5_000_000),
+    ];
+    let off = with_lines(1, 2, 50, Spotted::Con(ConId(1)));
+    compares(&rt, rt.alloc(), WEDGE, &skew, off, None)?;
+    let back = [
+        line(0, 1_000_000_000, 0),
+        line(600_000_000, -800_000_000, 3_000_000),
+        point(5_000_000, 5_000_000),
+    ];
+    let turned = Turned {
+        at: Name::Con(1),
+        drawn: Sign::Plus,
+        placed: -1,
+    };
+    let far = with_lines(8_000_000, 3, 0, Spotted::Line(Elem(1)));
+    compares(&rt, rt.alloc(), WEDGE, &back, far, Some(turned))
 }
 
 #[test]
