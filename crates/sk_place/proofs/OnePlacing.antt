@@ -1,5 +1,5 @@
 -- A plan has one placement at most on a grid.
-use Rattle.std.proofs.Common.{◌≡◌, ◌⊎◌, inl, inr, ℕ, ◌+◌, ◌<◌, List, [], ◌∷◌, Option, Some, Result, Ok, Err, refl, ap, sym, subst, ◌∙◌, arith}
+use Rattle.std.proofs.Common.{◌≡◌, inl, inr, ℕ, ◌+◌, List, [], ◌∷◌, Option, Some, Result, Ok, Err, refl, ap, sym, subst, ◌∙◌}
 use Rattle.std.specs.Prelude.{Contains}
 use Rattle.sk_base.specs.declared.ConId.{ConId}
 use Rattle.sk_base.specs.declared.Graph.{Graph}
@@ -15,11 +15,10 @@ use Rattle.sk_tree.specs.LegalPlan.{IsLegalPlan}
 use Rattle.sk_tree.specs.PlanTree.{IsPlanTree}
 use Rattle.sk_place.specs.declared.boxes.BoxAt.{BoxAt}
 use Rattle.sk_place.specs.declared.fault.StepFault.{StepFault}
-use Rattle.sk_place.specs.declared.fault.PlaceError.{PlaceError}
-use Rattle.sk_place.specs.declared.fault.PlaceError.TheVariants.{Fault, NoMemory}
+use Rattle.sk_place.specs.declared.fault.PlaceError.TheVariants.{Fault}
 use Rattle.sk_place.specs.Placing.{IsPlaced}
 use Rattle.sk_place.specs.Running.{HasTree}
-use Rattle.sk_place.specs.Trees.{edge_of, frame_of, step_of, made, boxes_in, boxes, IsFault, IsFirstFault, HasBoxes}
+use Rattle.sk_place.specs.Trees.{edge_of, frame_of, step_of, made, boxes_in, boxes, IsFault, IsFirstFault}
 use Rattle.sk_place.proofs.Joins.{here_named}
 use Rattle.sk_place.proofs.PlanSteps.{named_at, one_step, join_of, the_join, step_found}
 
