@@ -55,14 +55,14 @@ fn each_write_may_fail(rt: HostRuntime) -> Result<(), Fail> {
 fn faults_have_their_statuses(rt: HostRuntime) -> Result<(), Fail> {
     let alloc = rt.alloc();
     let words = strings(alloc, &["check"])?;
-    let rows: [(&[u64], u32, &[u64], u8, &[u8]); 4] = [
-        (&[1], 1000, &[], 3, b""),
-        (&[], 1000, &[1], 4, b""),
-        (&[], 5, &[], 4, b"verdi"),
-        (&[9], 1000, &[9], 0, LONE_POINT_REPORT),
+    let rows: [(&[u8], &[u64], u32, &[u64], u8, &[u8]); 4] = [
+        (TRIANGLE, &[1], 1000, &[], 3, b""),
+        (TRIANGLE, &[], 1000, &[1], 4, b""),
+        (TRIANGLE, &[], 5, &[], 4, b"verdi"),
+        (LONE_POINT, &[0, 9], 1000, &[0, 9], 0, LONE_POINT_REPORT),
     ];
-    for (failing_reads, room, failing_writes, status, written) in rows {
-        let mut source = MemSource::new(alloc, LONE_POINT, failing_reads)?;
+    for (input, failing_reads, room, failing_writes, status, written) in rows {
+        let mut source = MemSource::new(alloc, input, failing_reads)?;
         let mut sink = MemSink::new(alloc, room, failing_writes)?;
         let answer = run(alloc, words.as_slice(), &mut source, &mut sink);
         assert_eq!(rt; answer.code(), status);
