@@ -16,6 +16,8 @@ mod faults;
 #[cfg(test)]
 mod lists;
 #[cfg(test)]
+mod merges;
+#[cfg(test)]
 mod offers;
 #[cfg(test)]
 mod one_byte;
