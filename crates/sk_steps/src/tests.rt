@@ -186,10 +186,6 @@ fn lines<G: Grid>(
     assert_eq!(rt; c, below);
     assert_eq!(rt; ends_of(&hole::<G>()), Ok([thirty, five, (0, 0)]));
 
-    let (back, left) = ((-unit, -unit), (-40 * unit, -40 * unit));
-    assert_eq!(rt; ends_of(&side::<G>()), Ok([back, (0, 0), (0, 0)]));
-    assert_eq!(rt; ends_of(&corner::<G>()), Ok([left, (0, 0), (0, 0)]));
-
     let (_, line) = frame::<G>(Measure::LineLine(Ratio { p: 3, q: 4 }, Sign::Minus));
     assert_eq!(rt; ends_of(&Ok(line)), Ok(sloping));
     Ok(())
@@ -200,6 +196,23 @@ fn lines_on_each_grid(rt: HostRuntime) {
     assert!(rt; lines::<G16>(&rt, 65536, 39321, 52428).is_ok());
     assert!(rt; lines::<G27>(&rt, 134217728, 80530636, 107374182).is_ok());
     assert!(rt; lines::<G38>(&rt, 274877906944, 164926744166, 219902325555).is_ok());
+}
+
+/// A side and a corner of a rectangle on a grid with so many units to the millimetre.
+fn rectangle<G: Grid>(rt: &impl Abort, unit: i128) {
+    assert!(rt; 0 < unit && unit <= 274877906944);
+    let (back, left) = (-unit, -40 * unit);
+    let upright = [(back, back), (0, 0), (0, 0)];
+    assert_eq!(rt; ends_of(&side::<G>()), Ok(upright));
+    let end = [(left, left), (0, 0), (0, 0)];
+    assert_eq!(rt; ends_of(&corner::<G>()), Ok(end));
+}
+
+#[test]
+fn a_rectangle_on_each_grid(rt: HostRuntime) {
+    rectangle::<G16>(&rt, 65536);
+    rectangle::<G27>(&rt, 134217728);
+    rectangle::<G38>(&rt, 274877906944);
 }
 
 #[test]
