@@ -25,6 +25,8 @@ use sk_worklist::{Chosen, Order, close_family};
 use std::alloc::Global;
 use std::marker::Model;
 
+/// A session. It is seen as its order of merges, the edits that stand, how many edits and undos were
+/// accepted, and the kept family.
 #[derive(Drop)]
 pub struct Session {
     alloc: Global,
@@ -49,7 +51,7 @@ impl Model for Session {
 }
 
 impl Session {
-    /// A session with the sketch without elements.
+    /// A session with the sketch without elements. Its checks and plans merge in this order.
     pub fn new(alloc: Global, order: Order) -> Result<Session, NoMemory>
         ensures { IfOk result (λ s. s ≡ record { order = order; edits = []; count = 0; family = initial_clusters (graph_of empty) }) }
     {
