@@ -1,6 +1,6 @@
 -- Entries, by the words behind the first.
-use Rattle.std.proofs.Common.{◌≡◌, ℕ, zero, suc, ◌+◌, ◌-◌, ◌<◌, ◌≤◌, true, false, List, [], ◌∷◌, length, get_or, map, drop, Option, Some, None, MatchResult, refl, sym, ◌∙◌, arith, nat_eq, add-one, length-drop}
-use Rattle.std.proofs.lemmas.List.{get_or-drop, length-map}
+use Rattle.std.proofs.Common.{◌≡◌, ℕ, zero, suc, ◌-◌, ◌<◌, ◌≤◌, true, false, List, [], ◌∷◌, length, get_or, map, drop, Option, Some, None, MatchResult, refl, sym, arith, nat_eq, length-drop}
+use Rattle.std.proofs.lemmas.List.{length-map}
 use Rattle.sk_base.specs.declared.Element.{Element}
 use Rattle.sk_base.specs.declared.Constraint.{Constraint}
 use Rattle.sk_base.specs.declared.Sketch.{Sketch}

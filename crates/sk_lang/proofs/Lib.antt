@@ -4,6 +4,7 @@ pub mod Answered
 pub mod ByHash
 pub mod Computed
 pub mod Declaring
+pub mod Ends
 pub mod Entries
 pub mod Examples
 pub mod Finding

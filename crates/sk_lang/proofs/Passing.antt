@@ -1,8 +1,7 @@
 -- A line without a code passes each test, and a line that passes each test has no code.
-use Rattle.std.proofs.Common.{◌≡◌, ℕ, Bool, true, false, not, ◌&&◌, ◌||◌, cond, nat_le, nat_eq, List, length, Option, Some, None, refl, Option}
+use Rattle.std.proofs.Common.{◌≡◌, ℕ, false, not, ◌&&◌, ◌||◌, nat_le, nat_eq, List, length, None, refl}
 use Rattle.std.specs.List.{list_any, zip}
 use Rattle.sk_base.specs.declared.Sketch.{Sketch}
-use Rattle.sk_lang.specs.declared.code.Code.{Code}
 use Rattle.sk_base.proofs.Tables.{passed}
 use Rattle.sk_lang.specs.declared.keyword.Keyword.{Keyword}
 use Rattle.sk_lang.specs.Keywords.{places, declares}

@@ -1,5 +1,5 @@
 -- The error of a line is a refusal of the text.
-use Rattle.std.proofs.Common.{◌≡◌, ℕ, ◌+◌, ◌<◌, ◌≤◌, false, List, [], length, refl, arith, ◌∷◌}
+use Rattle.std.proofs.Common.{◌≡◌, ℕ, ◌+◌, ◌<◌, ◌≤◌, false, List, [], length, refl}
 use Rattle.sk_base.specs.declared.Sketch.{Sketch}
 use Rattle.sk_lang.specs.declared.entry.EntryError.{EntryError}
 use Rattle.sk_lang.specs.declared.entry.EntryError.TheVariants.{Refused, NoMemory}

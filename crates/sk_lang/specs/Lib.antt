@@ -3,6 +3,7 @@ pub mod Canonical
 pub mod CodeTexts
 pub mod Codes
 pub mod Conditions
+pub mod Ends
 pub mod Entry
 pub mod FirstCode
 pub mod Front

@@ -1,5 +1,5 @@
 -- What a text is read as, and where it is refused.
-use Rattle.std.specs.Prelude.{◌≡◌, ℕ, ◌+◌, ◌<◌, ◌≤◌, ⊤, Bool, true, false, ◌&&◌, not, List, [], ◌∷◌, ◌++◌, length, Some, None}
+use Rattle.std.specs.Prelude.{◌≡◌, ℕ, ◌+◌, ◌<◌, ◌≤◌, ⊤, Bool, true, false, ◌&&◌, not, List, length}
 use Rattle.std.specs.List.{list_all}
 use Rattle.sk_base.specs.declared.Sketch.{Sketch}
 use Rattle.sk_lex.specs.Words.{is_too_long, has_wrong_byte, words_in}

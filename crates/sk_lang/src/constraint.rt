@@ -1,9 +1,10 @@
-ghost use Rattle.std.specs.Prelude.{◌≡◌, [], ◌∷◌};
+ghost use Rattle.std.specs.Prelude.{◌≡◌, [], ◌∷◌, Some, MatchResult};
 ghost use Rattle.sk_base.specs.declared.Rule.TheVariants as rule;
-ghost use Rattle.sk_lang.specs.declared.keyword.Keyword.TheVariants.{Distance, On, Tangent, Outside, Inside, Angle};
+ghost use Rattle.sk_lang.specs.declared.keyword.Keyword.TheVariants.{Distance, Inside, Angle};
 ghost use Rattle.sk_lang.specs.Quantities.{um, ratio};
 ghost use Rattle.sk_lang.specs.Named.{number_named};
 ghost use Rattle.sk_lang.specs.Codes.{entry_rows};
+ghost use Rattle.sk_lang.specs.Ends.{end_rows, pair_rows, pair_rule, IsWithoutValue, AreEnds};
 ghost use Rattle.sk_lang.specs.FirstCode.{first_code, unless};
 
 use crate::code::Code;
@@ -11,7 +12,7 @@ use crate::field::{declared, different, kinds, label, length, not_zero, room_for
 use crate::keyword::Keyword;
 use crate::ratio::slope;
 use crate::scope::Scope;
-use sk_base::{ConId, Constraint, Rule};
+use sk_base::{ConId, Constraint, Elem, Element, Rule};
 
 /// A distance, by the words of its line.
 pub(crate) fn read_distance<S: Scope>(
@@ -24,11 +25,7 @@ pub(crate) fn read_distance<S: Scope>(
     ensures { result ≡ unless (first_code (entry_rows (S.so_far s.now) Distance (u.now ∷ v.now ∷ len.now ∷ [])))
         (record { number = number; rule = rule.Distance (number_named (S.so_far s.now) u.now) (number_named (S.so_far s.now) v.now) (um len.now) }) }
 {
-    let u = label(u)?;
-    let v = label(v)?;
-    let first = declared(s, u)?;
-    let second = declared(s, v)?;
-    kinds(Keyword::Distance, first, second)?;
+    let (first, second) = ends(s, Keyword::Distance, u, v)?;
     let len = length(len)?;
     not_zero(len)?;
     different(u, v)?;
@@ -43,82 +40,57 @@ pub(crate) fn read_distance<S: Scope>(
     })
 }
 
-/// An `on`, by the words of its line.
-pub(crate) fn read_on<S: Scope>(
+/// An `on`, a `tangent` or an `outside`, by the words of its line.
+pub(crate) fn read_pair<S: Scope>(
     s: &S,
+    keyword: Keyword,
     u: &[u8],
     v: &[u8],
     number: ConId,
 ) -> Result<Constraint, Code>
-    ensures { result ≡ unless (first_code (entry_rows (S.so_far s.now) On (u.now ∷ v.now ∷ [])))
-        (record { number = number; rule = rule.On (number_named (S.so_far s.now) u.now) (number_named (S.so_far s.now) v.now) }) }
+    requires { IsWithoutValue keyword }
+    ensures { result ≡ unless (first_code (pair_rows (S.so_far s.now) keyword u.now v.now))
+        (record { number = number; rule = pair_rule keyword (number_named (S.so_far s.now) u.now) (number_named (S.so_far s.now) v.now) }) }
 {
-    let u = label(u)?;
-    let v = label(v)?;
-    let first = declared(s, u)?;
-    let second = declared(s, v)?;
-    kinds(Keyword::On, first, second)?;
+    let (first, second) = ends(s, keyword, u, v)?;
     different(u, v)?;
     room_for_constraint(s)?;
     Ok(Constraint {
         number,
-        rule: Rule::On {
-            u: first.number,
-            v: second.number,
-        },
+        rule: pair_rule(keyword, first.number, second.number),
     })
 }
 
-/// A `tangent`, by the words of its line.
-pub(crate) fn read_tangent<S: Scope>(
-    s: &S,
-    u: &[u8],
-    v: &[u8],
-    number: ConId,
-) -> Result<Constraint, Code>
-    ensures { result ≡ unless (first_code (entry_rows (S.so_far s.now) Tangent (u.now ∷ v.now ∷ [])))
-        (record { number = number; rule = rule.Tangent (number_named (S.so_far s.now) u.now) (number_named (S.so_far s.now) v.now) }) }
+/// The rule of a constraint without a value.
+fn pair_rule(keyword: Keyword, u: Elem, v: Elem) -> Rule
+    requires { IsWithoutValue keyword }
+    ensures { result ≡ pair_rule keyword u v }
 {
-    let u = label(u)?;
-    let v = label(v)?;
-    let first = declared(s, u)?;
-    let second = declared(s, v)?;
-    kinds(Keyword::Tangent, first, second)?;
-    different(u, v)?;
-    room_for_constraint(s)?;
-    Ok(Constraint {
-        number,
-        rule: Rule::Tangent {
-            u: first.number,
-            v: second.number,
-        },
-    })
+    match keyword {
+        Keyword::On => Rule::On { u, v },
+        Keyword::Tangent => Rule::Tangent { u, v },
+        Keyword::Outside => Rule::Outside { u, v },
+        _ => unreachable!(),
+    }
 }
 
-/// An `outside`, by the words of its line.
-pub(crate) fn read_outside<S: Scope>(
-    s: &S,
+/// The two elements that a constraint names, whose kinds fit.
+fn ends<'a, S: Scope>(
+    s: &'a S,
+    keyword: Keyword,
     u: &[u8],
     v: &[u8],
-    number: ConId,
-) -> Result<Constraint, Code>
-    ensures { result ≡ unless (first_code (entry_rows (S.so_far s.now) Outside (u.now ∷ v.now ∷ [])))
-        (record { number = number; rule = rule.Outside (number_named (S.so_far s.now) u.now) (number_named (S.so_far s.now) v.now) }) }
+) -> Result<(&'a Element, &'a Element), Code>
+    ensures { MatchResult result
+        (λ ends. AreEnds (S.so_far s.now) keyword u.now v.now ends.0.now ends.1.now)
+        (λ code. first_code (end_rows (S.so_far s.now) keyword u.now v.now) ≡ Some code) }
 {
     let u = label(u)?;
     let v = label(v)?;
     let first = declared(s, u)?;
     let second = declared(s, v)?;
-    kinds(Keyword::Outside, first, second)?;
-    different(u, v)?;
-    room_for_constraint(s)?;
-    Ok(Constraint {
-        number,
-        rule: Rule::Outside {
-            u: first.number,
-            v: second.number,
-        },
-    })
+    kinds(keyword, first, second)?;
+    Ok((first, second))
 }
 
 /// An `inside`, by the words of its line.
@@ -131,11 +103,7 @@ pub(crate) fn read_inside<S: Scope>(
     ensures { result ≡ unless (first_code (entry_rows (S.so_far s.now) Inside (u.now ∷ v.now ∷ [])))
         (record { number = number; rule = rule.Inside (number_named (S.so_far s.now) u.now) (number_named (S.so_far s.now) v.now) }) }
 {
-    let u = label(u)?;
-    let v = label(v)?;
-    let first = declared(s, u)?;
-    let second = declared(s, v)?;
-    kinds(Keyword::Inside, first, second)?;
+    let (first, second) = ends(s, Keyword::Inside, u, v)?;
     if first.shape.radius() == second.shape.radius() {
         return Err(Code::E9);
     }
@@ -161,11 +129,7 @@ pub(crate) fn read_angle<S: Scope>(
     ensures { result ≡ unless (first_code (entry_rows (S.so_far s.now) Angle (l.now ∷ m.now ∷ word.now ∷ [])))
         (record { number = number; rule = rule.Angle (number_named (S.so_far s.now) l.now) (number_named (S.so_far s.now) m.now) (ratio word.now) }) }
 {
-    let l = label(l)?;
-    let m = label(m)?;
-    let first = declared(s, l)?;
-    let second = declared(s, m)?;
-    kinds(Keyword::Angle, first, second)?;
+    let (first, second) = ends(s, Keyword::Angle, l, m)?;
     let ratio = slope(word)?;
     if ratio.p == 0 {
         return Err(Code::E9);

@@ -136,12 +136,12 @@ fn is_circle(shape: &Shape) -> bool
 }
 
 /// Tests that the names differ.
-pub(crate) fn different(u: Label, v: Label) -> Result<(), Code>
+pub(crate) fn different(u: &[u8], v: &[u8]) -> Result<(), Code>
     ensures { MatchResult result
-        (λ _. bytes_eq u v ≡ false)
-        (λ code. (bytes_eq u v ≡ true) × (code ≡ E10)) }
+        (λ _. bytes_eq u.now v.now ≡ false)
+        (λ code. (bytes_eq u.now v.now ≡ true) × (code ≡ E10)) }
 {
-    if u.as_bytes() == v.as_bytes() {
+    if u == v {
         return Err(Code::E10);
     }
     Ok(())

@@ -11,9 +11,7 @@ ghost use Rattle.sk_lang.specs.declared.entry.Entry.TheVariants as entry;
 ghost use Rattle.sk_lang.specs.Entry.{entry_code, IsEntryOf, IsRefusal};
 
 use crate::code::Code;
-use crate::constraint::{
-    read_angle, read_distance, read_inside, read_on, read_outside, read_tangent,
-};
+use crate::constraint::{read_angle, read_distance, read_inside, read_pair};
 use crate::element::{read_circle, read_line, read_point};
 use crate::entry::{Entry, EntryError};
 use crate::keyword::{Keyword, keyword_of};
@@ -114,9 +112,9 @@ fn entry_of<S: Scope>(
             let third = word(line, words, 3);
             constraint(read_distance(s, first, second, third, con))
         }
-        Keyword::On => constraint(read_on(s, first, second, con)),
-        Keyword::Tangent => constraint(read_tangent(s, first, second, con)),
-        Keyword::Outside => constraint(read_outside(s, first, second, con)),
+        Keyword::On => constraint(read_pair(s, Keyword::On, first, second, con)),
+        Keyword::Tangent => constraint(read_pair(s, Keyword::Tangent, first, second, con)),
+        Keyword::Outside => constraint(read_pair(s, Keyword::Outside, first, second, con)),
         Keyword::Inside => constraint(read_inside(s, first, second, con)),
         Keyword::Angle => {
             let third = word(line, words, 3);

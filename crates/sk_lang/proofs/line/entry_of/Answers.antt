@@ -61,7 +61,7 @@ returns-in-On g c =
     let same = length-map c.args.words.now (bytes_of c.args.line.now) in
     let count : length ws ≡ 3 = omega arith in
     let rest = rest_two [] ws c.word-first.result.now c.word-second.result.now count c.word-first.ensures c.word-second.ensures in
-    rw (c.constraint-in-On.ensures ∙ ap (map_ok entry.Constraint) c.read_on.ensures) (rw (rest, c.in-On.is) (constraint_reading _ _ _ refl))
+    rw (c.constraint-in-On.ensures ∙ ap (map_ok entry.Constraint) c.read_pair.ensures) (rw (rest, c.in-On.is) (constraint_reading _ _ _ refl))
 
 pub returns-in-Tangent : goal.returns-in-Tangent
 returns-in-Tangent g c =
@@ -70,7 +70,7 @@ returns-in-Tangent g c =
     let same = length-map c.args.words.now (bytes_of c.args.line.now) in
     let count : length ws ≡ 3 = omega arith in
     let rest = rest_two [] ws c.word-first.result.now c.word-second.result.now count c.word-first.ensures c.word-second.ensures in
-    rw (c.constraint-in-Tangent.ensures ∙ ap (map_ok entry.Constraint) c.read_tangent.ensures) (rw (rest, c.in-Tangent.is) (constraint_reading _ _ _ refl))
+    rw (c.constraint-in-Tangent.ensures ∙ ap (map_ok entry.Constraint) c.read_pair-in-Tangent.ensures) (rw (rest, c.in-Tangent.is) (constraint_reading _ _ _ refl))
 
 pub returns-in-Outside : goal.returns-in-Outside
 returns-in-Outside g c =
@@ -79,7 +79,7 @@ returns-in-Outside g c =
     let same = length-map c.args.words.now (bytes_of c.args.line.now) in
     let count : length ws ≡ 3 = omega arith in
     let rest = rest_two [] ws c.word-first.result.now c.word-second.result.now count c.word-first.ensures c.word-second.ensures in
-    rw (c.constraint-in-Outside.ensures ∙ ap (map_ok entry.Constraint) c.read_outside.ensures) (rw (rest, c.in-Outside.is) (constraint_reading _ _ _ refl))
+    rw (c.constraint-in-Outside.ensures ∙ ap (map_ok entry.Constraint) c.read_pair-in-Outside.ensures) (rw (rest, c.in-Outside.is) (constraint_reading _ _ _ refl))
 
 pub returns-in-Inside : goal.returns-in-Inside
 returns-in-Inside g c =
