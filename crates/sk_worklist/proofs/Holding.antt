@@ -1,15 +1,22 @@
 -- Keys put behind those of an element, and taken out.
-use Rattle.std.proofs.Common.{◌≡◌, ◌≢◌, ◌⊎◌, inl, inr, ℕ, ◌<◌, ◌≤◌, List, [], ◌∷◌, ◌++◌, length, get_or, set, get_or-set_same, get_or-set_other, sym, subst, ◌∙◌, ap, arith}
-use Rattle.std.specs.Prelude.{◌↔◌, AllPairs, Contains, Option, None, Some, slice_get, filter, not, ◌==◌, true, IfNone}
-use Rattle.std.specs.declared.vec.Vec.{Vec}
+use Rattle.std.proofs.Common.{◌≡◌, ◌≢◌, ◌⊎◌, inl, inr, refl, zero, suc, Bool, true, false, cond, ℕ, ◌+◌, ◌<◌, ◌≤◌, List, [], ◌∷◌, ◌++◌, length, get_or, set, get_or-set_same, get_or-set_other, sym, subst, ◌∙◌, ap, arith}
+use Rattle.std.specs.Prelude.{◌↔◌, AllPairs, Contains, Option, None, Some, slice_get, filter, not, ◌==◌, IfNone, remove}
+use Rattle.std.specs.List.{position, position_from}
+use Rattle.std.proofs.lemmas.List.Quantifiers.{position-Some}
+use Rattle.std.proofs.lemmas.Iterator.Adapters.{position_from-zero}
 use Rattle.std.proofs.lemmas.Option.{slice_get-get_or, slice_get_past, slice_get_within, get_or_from_slice_get}
 use Rattle.std.proofs.lemmas.Bool.Decides.{nat_tests}
-use Rattle.std.proofs.lemmas.List.Elements.{Contains-append_left, Contains-append_right, Contains-append_cases}
+use Rattle.std.proofs.lemmas.List.Elements.{Contains-get_or, Contains-append_left, Contains-append_right, Contains-append_cases}
 use Rattle.std.proofs.lemmas.List.{length-set}
-use Rattle.sk_base.proofs.Members.{contains_none, contains_head, contains_one, contains_filtered, filtered_from, nat_settles}
-use Rattle.sk_base.proofs.Pairs.{pairs_filter}
+use Rattle.sk_base.proofs.Members.{contains_none, contains_head, contains_one, contains_cases, contains_filtered, filtered_from, nat_settles}
+use Rattle.sk_base.proofs.Pairs.{pairs_filter, pairs_head, pairs_tail}
 use Rattle.sk_base.proofs.Unions.{which}
-use Rattle.sk_worklist.specs.Indexed.{keys_in}
+use Rattle.slab.specs.Slab.{get}
+use Rattle.sk_base.specs.declared.Elem.{Elem}
+use Rattle.sk_family.proofs.Naming.{below_irreflexive}
+use Rattle.sk_family.proofs.Taking.{filter_keeps}
+use Rattle.sk_worklist.specs.declared.index.Index.{Index}
+use Rattle.sk_worklist.specs.Indexed.{IsIndex, holders_of, keys_in}
 
 module _ {X : Type 0} (xs : List X) (i : ℕ) (x : X) where
   pub get_set_same : i < length xs → slice_get (set xs i x) i ≡ Some x
@@ -29,8 +36,8 @@ module _ {X : Type 0} (xs : List X) (i : ℕ) (x : X) where
       ]
 
 -- the keys of the list that stands at a place
-pub grown_from : {A : Type 0} (all : List (Vec ℕ A)) (n : ℕ) (list : Vec ℕ A) → n < length all → list ≡ get_or all n list → list.items ≡ keys_in (slice_get all n)
-grown_from {A} all n list n_in is = ap (λ (v : Vec ℕ A). v.items) is ∙ sym (ap keys_in (slice_get-get_or all n list n_in))
+pub grown_from : (all : List (List ℕ)) (n : ℕ) (list : List ℕ) → n < length all → list ≡ get_or all n list → list ≡ keys_in (slice_get all n)
+grown_from all n list n_in is = is ∙ sym (ap keys_in (slice_get-get_or all n list n_in))
 
 differs : (k key : ℕ) → not (k == key) ≡ true → k ≢ key
 differs k key h same = grind (arith, nat_tests)
@@ -38,11 +45,11 @@ differs k key h same = grind (arith, nat_tests)
 passes : (k key : ℕ) → k ≢ key → not (k == key) ≡ true
 passes k key other = grind (arith, nat_tests)
 
-module _ {A : Type 0} (all : List (Vec ℕ A)) (n : ℕ) (n_in : n < length all) where
-  abbrev pub keys_at : List (Vec ℕ A) → ℕ → List ℕ
+module _ (all : List (List ℕ)) (n : ℕ) (n_in : n < length all) where
+  abbrev pub keys_at : List (List ℕ) → ℕ → List ℕ
   keys_at lists q = keys_in (slice_get lists q)
 
-  pub key_added : (key : ℕ) (grown : Vec ℕ A) → grown.items ≡ keys_at all n ++ key ∷ []
+  pub key_added : (key : ℕ) (grown : List ℕ) → grown ≡ keys_at all n ++ key ∷ []
       → (q k : ℕ) → Contains (keys_at (set all n grown) q) k ↔ (Contains (keys_at all q) k ⊎ ((q ≡ n) × (k ≡ key)))
   key_added key grown is q k =
       elim (nat_settles q n) [
@@ -65,7 +72,7 @@ module _ {A : Type 0} (all : List (Vec ℕ A)) (n : ℕ) (n_in : n < length all)
             ))
       ]
 
-  pub key_dropped : (key : ℕ) (left : Vec ℕ A) → left.items ≡ filter (λ (j : ℕ). not (j == key)) (keys_at all n)
+  pub key_dropped : (key : ℕ) (left : List ℕ) → left ≡ filter (λ (j : ℕ). not (j == key)) (keys_at all n)
       → (q k : ℕ) → Contains (keys_at (set all n left) q) k ↔ (Contains (keys_at all q) k × ¬ ((q ≡ n) × (k ≡ key)))
   key_dropped key left is q k =
       elim (nat_settles q n) [
@@ -84,7 +91,7 @@ module _ {A : Type 0} (all : List (Vec ℕ A)) (n : ℕ) (n_in : n < length all)
             ))
       ]
 
-  pub order_dropped : (key : ℕ) (left : Vec ℕ A) → left.items ≡ filter (λ (j : ℕ). not (j == key)) (keys_at all n)
+  pub order_dropped : (key : ℕ) (left : List ℕ) → left ≡ filter (λ (j : ℕ). not (j == key)) (keys_at all n)
       → (R : ℕ → ℕ → Type 0) (q : ℕ) → AllPairs R (keys_at all q) → AllPairs R (keys_at (set all n left) q)
   order_dropped key left is R q pairs =
       elim (nat_settles q n) [
@@ -93,8 +100,51 @@ module _ {A : Type 0} (all : List (Vec ℕ A)) (n : ℕ) (n_in : n < length all)
         | inr other ↦ subst (λ l. AllPairs R l) (sym (ap keys_in (get_set_other all n left q other))) pairs
       ]
 
+-- a key that stands at a place, taken out
+taken_at : (key : ℕ) (xs : List ℕ) (m : ℕ) → AllPairs (λ (j k : ℕ). j ≢ k) xs → m < length xs → get_or xs m key ≡ key → remove xs m ≡ filter (λ (j : ℕ). not (j == key)) xs
+taken_at key [] m differ within is = absurd (omega arith)
+taken_at key (x ∷ xs) zero differ within is =
+    let level : (x == key) ≡ true = grind (arith, nat_tests) in
+    sym (ap (λ b. cond (not b) (x ∷ filter (λ (j : ℕ). not (j == key)) xs) (filter (λ (j : ℕ). not (j == key)) xs)) level
+    ∙ filter_keeps (λ (j : ℕ). not (j == key)) xs (λ j j_in. passes j key (λ same. pairs_head (λ (p q : ℕ). p ≢ q) x xs differ j j_in (is ∙ sym same))))
+taken_at key (x ∷ xs) (suc m) differ within is =
+    let other : x ≢ key = pairs_head (λ (p q : ℕ). p ≢ q) x xs differ key (m, omega arith, is) in
+    let fails : (x == key) ≡ false = grind (arith, nat_tests) in
+    ap (λ l. x ∷ l) (taken_at key xs m (pairs_tail (λ (p q : ℕ). p ≢ q) x xs differ) (omega arith) is)
+    ∙ sym (ap (λ b. cond (not b) (x ∷ filter (λ (j : ℕ). not (j == key)) xs) (filter (λ (j : ℕ). not (j == key)) xs)) fails)
+
+pub key_within : (key : ℕ) (xs : List ℕ) (m : ℕ) → position (λ j. j == key) xs ≡ Some m → m < length xs
+key_within key xs m found = (position-Some (λ j. j == key) xs m key found).0
+
+pub key_taken : (key : ℕ) (xs : List ℕ) → AllPairs (λ (j k : ℕ). j ≢ k) xs → (m : ℕ) → position (λ j. j == key) xs ≡ Some m → remove xs m ≡ filter (λ (j : ℕ). not (j == key)) xs
+key_taken key xs differ m found =
+    let at = position-Some (λ j. j == key) xs m key found in
+    let test : (get_or xs m key == key) ≡ true = at.1 in
+    let level : get_or xs m key ≡ key = grind (arith, nat_tests) in
+    taken_at key xs m differ at.0 level
+
+none_from : (key i : ℕ) (xs : List ℕ) → position_from (λ j. j == key) i xs ≡ None → (j : ℕ) → Contains xs j → (j == key) ≡ false
+none_from key i [] none j j_in = absurd (contains_none j j_in)
+none_from key i (x ∷ xs) none j j_in = told (x == key) refl none (none_from key (i + 1) xs)
+  where
+    told : (b : Bool) → (x == key) ≡ b → cond b (Some i) (position_from (λ k. k == key) (i + 1) xs) ≡ None
+        → (position_from (λ k. k == key) (i + 1) xs ≡ None → (k : ℕ) → Contains xs k → (k == key) ≡ false) → (j == key) ≡ false
+    told true is here rest = absurd (cc)
+    told false is later rest = elim (contains_cases x xs j j_in) [ inl here ↦ subst (λ k. (k == key) ≡ false) here is | inr back ↦ rest later j back ]
+
+pub key_absent : (key : ℕ) (xs : List ℕ) → position (λ j. j == key) xs ≡ None → xs ≡ filter (λ (j : ℕ). not (j == key)) xs
+key_absent key xs none =
+    sym (filter_keeps (λ (j : ℕ). not (j == key)) xs (λ j j_in. ap not (none_from key 0 xs (sym (position_from-zero (λ k. k == key) xs) ∙ none) j j_in)))
+
+-- the keys of an element differ, since their clusters rise
+pub keys_differ : (ix : Index) → IsIndex ix → (e : Elem) → AllPairs (λ (j k : ℕ). j ≢ k) (holders_of ix e)
+keys_differ ix index e i j d i_j j_in same =
+    let keys = holders_of ix e in
+    let (c, c_is, _) = index.leads e (get_or keys i d) (Contains-get_or keys i d (omega arith)) in
+    below_irreflexive c.name (index.in_order e i j d i_j j_in c c c_is (ap (λ k. get ix.live k) (sym same) ∙ c_is))
+
 -- no key stands past the end
-pub nothing_there : {A : Type 0} (all : List (Vec ℕ A)) (n k : ℕ) → length all ≤ n → ¬ Contains (keys_in (slice_get all n)) k
+pub nothing_there : (all : List (List ℕ)) (n k : ℕ) → length all ≤ n → ¬ Contains (keys_in (slice_get all n)) k
 nothing_there all n k past h = contains_none k (subst (λ l. Contains l k) (ap keys_in (slice_get_past all n past)) h)
 
 pub none_then : {T P Q : Type 0} (o : Option T) → IfNone o P → (P → Q) → IfNone o Q

@@ -14,7 +14,6 @@ use Rattle.sk_rules.specs.declared.Merge.TheVariants.{Two, Three}
 use Rattle.sk_rules.specs.Rules.{SharesTwo, IsLine}
 use Rattle.sk_rules.specs.Merges.{names_of}
 use Rattle.slab.specs.Slab.{Slab, get}
-use Rattle.std.specs.declared.vec.Vec.{Vec}
 use Rattle.sk_worklist.specs.declared.index.Index.{Index}
 use Rattle.sk_worklist.specs.Choices.{CanTake, ComesFirst}
 
@@ -46,9 +45,9 @@ pub record AreKept (g : Graph) (f : Clusters) (kind : Name → Type 0) (kept : L
   pub all : (x y z : Name) → kind x → CanTake g f (Three x y z) → Contains kept (Three x y z)
 
 -- the keys of the clusters that hold the element
-abbrev pub keys_in : {A : Type 0} → Option (Vec ℕ A) → List ℕ
+abbrev pub keys_in : Option (List ℕ) → List ℕ
 keys_in None = []
-keys_in (Some keys) = keys.items
+keys_in (Some keys) = keys
 
 abbrev pub holders_of : Index → Elem → List ℕ
 holders_of ix e = keys_in (slice_get ix.holders.items e.0)

@@ -1,5 +1,5 @@
 // The index of a family: which clusters hold an element.
-ghost use Rattle.std.specs.Prelude.{◌≡◌, ◌≢◌, ◌↔◌, ◌⊎◌, ◌<◌, ◌≤◌, ◌++◌, ◌∷◌, [], AllPairs, take, drop, length, ℕ, IfOk, OnOk, IfSome, IfNone, IsTrue, Contains, option_copied, slice_get, Some, true};
+ghost use Rattle.std.specs.Prelude.{◌≡◌, ◌≢◌, ◌↔◌, ◌⊎◌, ◌<◌, ◌≤◌, ◌++◌, ◌∷◌, [], AllPairs, take, drop, length, ℕ, IfOk, OnOk, IfSome, IfNone, IsTrue, Contains, option_copied, slice_get, Some, true, filter, not, ◌==◌, position};
 ghost use Rattle.sk_base.specs.declared.Elem.{Elem as Element};
 ghost use Rattle.sk_base.specs.declared.Name.{Name as ClusterName};
 ghost use Rattle.slab.specs.Slab.{get};
@@ -11,7 +11,7 @@ ghost use Rattle.sk_base.specs.declared.Kind.TheVariants.{Line};
 ghost use Rattle.sk_family.specs.declared.Cluster.{Cluster as AnyCluster};
 
 use sk_base::{Elem, Graph, Kind, List, Name, NoMemory, Node};
-use sk_family::{Cluster, Family};
+use sk_family::{Cluster, Family, Row};
 use slab::Slab;
 use std::alloc::Global;
 
@@ -21,7 +21,7 @@ use std::alloc::Global;
 pub(crate) struct Index {
     alloc: Global,
     live: Slab<Cluster>,
-    holders: Vec<Vec<usize>>,
+    holders: Vec<Row<usize>>,
     lines: Vec<bool>,
 }
 
@@ -105,7 +105,7 @@ impl Index {
         ensures room { OnOk result (elem.0 < length self.new.holders.items) }
     {
         while self.holders.len() <= elem.0 as usize {
-            self.holders.push(Vec::new(self.alloc))?;
+            self.holders.push(Row::new(self.alloc))?;
         }
         Ok(())
     }
@@ -187,6 +187,7 @@ impl Index {
     }
 
     fn drop_holders(&mut self, elements: &[Elem], key: usize)
+        requires { (e : Element) → AllPairs (λ (j k : ℕ). j ≢ k) (holders_of self.old e) }
         ensures live { self.new.live ≡ self.old.live }
         ensures lines { self.new.lines ≡ self.old.lines }
         ensures holders { (e : Element) (k : ℕ) → Contains (holders_of self.new e) k ↔ (Contains (holders_of self.old e) k × ¬ (Contains elements.now e × (k ≡ key))) }
@@ -198,14 +199,16 @@ impl Index {
     }
 
     fn drop_holder(&mut self, elem: Elem, key: usize)
+        requires { AllPairs (λ (j k : ℕ). j ≢ k) (holders_of self.old elem) }
         ensures live { self.new.live ≡ self.old.live }
         ensures lines { self.new.lines ≡ self.old.lines }
         ensures holders { (e : Element) (k : ℕ) → Contains (holders_of self.new e) k ↔ (Contains (holders_of self.old e) k × ¬ ((e ≡ elem) × (k ≡ key))) }
         ensures order { (e : Element) → AllPairs (RisesIn self.old.live) (holders_of self.old e) → AllPairs (RisesIn self.old.live) (holders_of self.new e) }
+        ensures once { (e : Element) → AllPairs (λ (j k : ℕ). j ≢ k) (holders_of self.old e) → AllPairs (λ (j k : ℕ). j ≢ k) (holders_of self.new e) }
     {
         let at = elem.0 as usize;
         if at < self.holders.len() {
-            self.holders[at].retain(|held| *held != key);
+            drop_key(&mut self.holders[at], key);
         }
     }
 
@@ -264,6 +267,23 @@ impl Index {
             None => false,
         }
     }
+}
+
+/// Takes the key out of these, which differ.
+fn drop_key(keys: &mut Row<usize>, key: usize)
+    requires { AllPairs (λ (j k : ℕ). j ≢ k) keys.old }
+    ensures { keys.new ≡ filter (λ k. not (k == key)) keys.old }
+{
+    if let Some(place) = first_place(keys.as_slice(), key) {
+        keys.remove(place, 0);
+    }
+}
+
+/// The first place where the key stands.
+fn first_place(keys: &[usize], key: usize) -> Option<usize>
+    ensures { result ≡ position (λ k. k == key) keys.now }
+{
+    keys.iter().position(|held| *held == key)
 }
 
 /// Whether each element is a line.

@@ -7,7 +7,7 @@ use Rattle.sk_worklist.proofs.Removing.{drops_none, drops_more, drops_all}
 use Rattle.sk_worklist.proofs.index.Index.drop_holders.Goals as goal
 
 pub loop-elem-init : goal.loop-elem-init
-loop-elem-init c = record { live = refl; lines = refl; order = λ e h. h; drops = drops_none c.args.self.now c.args.elements.now c.args.key }
+loop-elem-init c = record { live = refl; lines = refl; order = λ e h. h; once = c.requires; drops = drops_none c.args.self.now c.args.elements.now c.args.key }
 
 pub loop-elem-preserved : goal.loop-elem-preserved
 loop-elem-preserved c = record {
@@ -17,6 +17,7 @@ loop-elem-preserved c = record {
       let live = c.loop-elem.invariant.live in
       subst (λ (s : Slab Cluster). AllPairs (RisesIn s) (holders_of c.drop_holder.new.self e)) live
       (c.drop_holder.ensures.order e (subst (λ (s : Slab Cluster). AllPairs (RisesIn s) (holders_of c.loop-elem.self e)) (sym live) (c.loop-elem.invariant.order e h))));
+  once = λ e. c.drop_holder.ensures.once e (c.loop-elem.invariant.once e);
   drops = drops_more c.args.self.now c.loop-elem.self c.drop_holder.new.self c.args.elements.now c.args.key c.loop-elem.elem-index (record { 0 = 0 }) c.loop-elem-test.true c.loop-elem.invariant.drops c.drop_holder.ensures.holders;
 }
 

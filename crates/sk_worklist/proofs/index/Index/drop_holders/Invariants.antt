@@ -1,4 +1,4 @@
-use Rattle.std.proofs.Common.{◌≡◌, take}
+use Rattle.std.proofs.Common.{◌≡◌, ◌≢◌, ℕ, take}
 use Rattle.std.specs.Prelude.{AllPairs}
 use Rattle.sk_base.specs.declared.Elem.{Elem}
 use Rattle.sk_worklist.specs.Indexed.{RisesIn, holders_of}
@@ -10,5 +10,6 @@ invariant-loop-elem l = record {
   live : l.self.live ≡ l.fn.self.live;
   lines : l.self.lines ≡ l.fn.self.lines;
   order : (e : Elem) → AllPairs (RisesIn l.fn.self.live) (holders_of l.fn.self e) → AllPairs (RisesIn l.fn.self.live) (holders_of l.self e);
+  once : (e : Elem) → AllPairs (λ (j k : ℕ). j ≢ k) (holders_of l.self e);
   drops : DropsKey l.fn.self l.self (take l.elem-index l.elements) l.key;
 }
