@@ -16,6 +16,7 @@ use Rattle.sk_lang.specs.Kinds.{takes}
 use Rattle.sk_lang.specs.Named.{element_named}
 use Rattle.sk_lang.specs.Conditions.{Field, is_bad_name, is_unknown, kinds_fit}
 
+-- both names, each in its place
 abbrev pub both_names : List ℕ → List ℕ → List Field
 both_names u v = (UsedName, u) ∷ (UsedName, v) ∷ []
 
@@ -45,6 +46,7 @@ IsWithoutValue _ = ⊥
 abbrev pub pair_rows : Sketch → Keyword → List ℕ → List ℕ → List (Bool × Code)
 pair_rows s k u v = end_rows s k u v ++ (bytes_eq u v, E10) ∷ (nat_le 4000 (length s.constraints), E14) ∷ []
 
+-- what such a constraint asks of the two elements
 abbrev pub pair_rule : Keyword → Elem → Elem → Rule
 pair_rule Tangent u v = rule.Tangent u v
 pair_rule Outside u v = rule.Outside u v

@@ -1,5 +1,7 @@
-ghost use Rattle.std.specs.Prelude.{◌≡◌, bytes_eq};
+ghost use Rattle.std.specs.Prelude.{◌≡◌};
 ghost use Rattle.sk_session.specs.Commands.{command_of};
+
+use sk_lang::is_word;
 
 /// What a line asks of a session that neither declares an element nor adds a constraint.
 #[derive(Clone, Copy, Debug, PartialEq, Eq)]
@@ -25,31 +27,25 @@ pub(crate) enum Change {
 pub(crate) fn command_of(word: &[u8]) -> Option<Command>
     ensures { result ≡ command_of word.now }
 {
-    if is(word, "drop") {
+    if is_word(word, "drop") {
         Some(Command::Change(Change::Drop))
-    } else if is(word, "set") {
+    } else if is_word(word, "set") {
         Some(Command::Change(Change::Set))
-    } else if is(word, "erase") {
+    } else if is_word(word, "erase") {
         Some(Command::Change(Change::Erase))
-    } else if is(word, "undo") {
+    } else if is_word(word, "undo") {
         Some(Command::Undo)
-    } else if is(word, "check") {
+    } else if is_word(word, "check") {
         Some(Command::Check)
-    } else if is(word, "plan") {
+    } else if is_word(word, "plan") {
         Some(Command::Plan)
-    } else if is(word, "solve") {
+    } else if is_word(word, "solve") {
         Some(Command::Solve)
-    } else if is(word, "write") {
+    } else if is_word(word, "write") {
         Some(Command::Write)
-    } else if is(word, "end") {
+    } else if is_word(word, "end") {
         Some(Command::End)
     } else {
         None
     }
-}
-
-fn is(word: &[u8], text: &str) -> bool
-    ensures { result ≡ bytes_eq word.now text.now }
-{
-    word == text.as_bytes()
 }

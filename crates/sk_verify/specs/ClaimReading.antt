@@ -2,6 +2,7 @@
 use Rattle.std.specs.Prelude.{◌≡◌, ⊤, ℕ, ◌+◌, List, [], ◌∷◌, ◌++◌, length, Option, Some, None}
 use Rattle.sk_base.specs.declared.Sketch.{Sketch}
 use Rattle.sk_lex.specs.Words.{words_in}
+use Rattle.sk_lang.specs.LineCodes.{along, HaveNone, HasFirst}
 use Rattle.sk_lang.specs.Lines.{lines_in}
 use Rattle.sk_lang.specs.declared.Code.{Code}
 use Rattle.sk_lang.specs.declared.Code.TheVariants.{E16}
@@ -13,22 +14,21 @@ use Rattle.sk_verify.specs.ClaimLines.{SoFar, code_of, with_line}
 abbrev pub nothing_yet : SoFar
 nothing_yet = record { steps = []; spots = []; radii = []; tolerances = None }
 
+-- what is claimed with one more line
+abbrev pub claimed_after : Sketch → SoFar → List ℕ → SoFar
+claimed_after s c line = with_line s c (words_in line)
+
 -- what the lines claim
 abbrev pub claimed_along : Sketch → SoFar → List (List ℕ) → SoFar
-claimed_along s c [] = c
-claimed_along s c (line ∷ lines) = claimed_along s (with_line s c (words_in line)) lines
+claimed_along s c lines = along (claimed_after s) c lines
 
 -- no line has a code, each behind those before it
 abbrev pub HaveNoCode : Sketch → SoFar → List (List ℕ) → Type 0
-HaveNoCode s c [] = ⊤
-HaveNoCode s c (line ∷ lines) = (code_of s c line ≡ None) × HaveNoCode s (with_line s c (words_in line)) lines
+HaveNoCode s c lines = HaveNone (code_of s) (claimed_after s) c lines
 
 -- the lines before this one have no code, and it has one behind them
-pub record HasFirstCode (s : Sketch) (lines : List (List ℕ)) (before : List (List ℕ)) (line : List ℕ) (code : Code) : Type 0 where
-  pub after : List (List ℕ)
-  pub parts : lines ≡ before ++ line ∷ after
-  pub clean : HaveNoCode s nothing_yet before
-  pub code_is : code_of s (claimed_along s nothing_yet before) line ≡ Some code
+abbrev pub HasFirstCode : Sketch → List (List ℕ) → List (List ℕ) → List ℕ → Code → Type 0
+HasFirstCode s lines before line code = HasFirst (code_of s) (claimed_after s) nothing_yet lines before line code
 
 -- the claim is what was read, with its tolerances
 pub record IsClaimOf (c : SoFar) (claim : Claim) : Type 0 where
