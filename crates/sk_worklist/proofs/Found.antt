@@ -1,5 +1,5 @@
 -- What a search by halves tells of an element.
-use Rattle.std.proofs.Common.{◌≡◌, ℕ, List, length, get_or, refl, subst}
+use Rattle.std.proofs.Common.{ℕ, List, length, get_or, refl, subst}
 use Rattle.std.specs.Prelude.{◌↔◌, Contains, IsTrue, Result, Ok, Err, is_ok}
 use Rattle.std.specs.List.Sorted.{IsBinarySearchResult, IsSearchInRange}
 use Rattle.std.specs.Ordering.{nat_cmp}

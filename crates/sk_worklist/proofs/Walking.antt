@@ -2,7 +2,6 @@
 use Rattle.std.proofs.Common.{◌≡◌, ◌⊎◌, ◌∙◌, inl, inr, refl, ℕ, suc, ◌<◌, Bool, true, false, List, length, length-drop, get_or, take, drop, drop-cons, sym, subst, ap, arith}
 use Rattle.std.specs.Prelude.{◌↔◌, Contains, AllPairs, IsTrue, Option, None, Some, slice_get}
 use Rattle.std.specs.List.Sorted.{IsPartitionedBy}
-use Rattle.std.proofs.lemmas.List.Elements.{Contains-get_or}
 use Rattle.slab.specs.Slab.{get}
 use Rattle.sk_base.specs.declared.Name.{Name}
 use Rattle.sk_base.specs.ClusterNames.{IsBelow, is_named}

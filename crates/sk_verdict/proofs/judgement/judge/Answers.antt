@@ -1,4 +1,4 @@
-use Rattle.std.proofs.Common.{◌≢◌, ◌+◌, ◌*◌, ◌≤◌, length, sym, subst, ap, ◌∙◌, List}
+use Rattle.std.proofs.Common.{◌≢◌, sym, subst, ap, ◌∙◌, List}
 use Rattle.std.specs.Prelude.{AllPairs, Contains}
 use Rattle.sk_family.specs.declared.Cluster.{Cluster}
 use Rattle.sk_family.specs.Clusters.{bodies}

@@ -1,8 +1,8 @@
-use Rattle.std.proofs.Common.{◌≡◌, ◌≢◌, ◌∙◌, ap, ◌==◌, ℕ, List, length, ◌<◌, ◌≤◌, arith, subst, sym}
+use Rattle.std.proofs.Common.{◌≢◌, ◌∙◌, ap, ◌==◌, ℕ, List, length, ◌<◌, ◌≤◌, arith, subst, sym}
 use Rattle.std.specs.Prelude.{AllPairs, filter, not}
 use Rattle.sk_base.specs.declared.Elem.{Elem}
 use Rattle.sk_base.specs.Numbering.{elem_exact}
-use Rattle.sk_worklist.specs.Indexed.{RisesIn, holders_of}
+use Rattle.sk_worklist.specs.Indexed.{RisesIn}
 use Rattle.sk_worklist.proofs.Holding.{key_dropped, order_dropped, nothing_there, grown_from}
 use Rattle.sk_worklist.proofs.index.Index.drop_holder.Goals as goal
 
