@@ -58,8 +58,8 @@ same_judgement laws g j k first second =
 
 pub same_plan : Laws → (order : Order) (s : Sketch) → IsSoundGraph (graph_of s) → (p q : Plan) → IsThePlan order s p → IsThePlan order s q → p ≡ q
 same_plan laws order s sound p q first second =
-    let (one, last, run) = first.run in
-    let (other, end, run') = second.run in
+    let (one, (last, run)) = first.run in
+    let (other, (end, run')) = second.run in
     let merges = laws.one_run (graph_of s) (initial_clusters (graph_of s)) (fresh order) (map merge_told p.steps) (map merge_told q.steps) one other last end run run' in
     laws.one_plan (graph_of s) s p q sound first.legal second.legal merges.0 first.drawn second.drawn
 
