@@ -3,8 +3,8 @@ use Rattle.std.proofs.Common.{◌≡◌, ◌≢◌, inl, inr, ℕ, Bool, true, f
 use Rattle.std.specs.Prelude.{Option, None, Some, IsSome, IsTrue, All, unwrap_or, option_to_list}
 use Rattle.std.specs.List.{filter_map, cons_option}
 use Rattle.std.proofs.lemmas.List.Elements.{filter_map-append}
-use Rattle.sk_cli.specs.Asking.{Key, OrderKey, BitsKey, WithinKey, key_name, behind, values_of, Says}
-use Rattle.sk_cli.specs.Settings.{IsSet, Sets}
+use Rattle.sk_cli.specs.Asking.{Key, OrderKey, BitsKey, WithinKey, key_name, behind, values_of, Says, IsSet}
+use Rattle.sk_cli.specs.Settings.{Sets}
 
 -- one word more has its value, or none
 pub values_more : (key : Key) (words : List (List ℕ)) (word : List ℕ) (rest : List (List ℕ))
@@ -33,6 +33,26 @@ module _ {X : Type 0} (Is : List ℕ → X → Type 0) where
   set_back default x [] (Some value) rest (Some y) says set = absurd set
   set_back default x (v ∷ []) (Some value) rest before says set = absurd says
   set_back default x (v ∷ w ∷ more) (Some value) rest before says set = absurd says
+
+  -- the same for a key without a default
+  pub set_back_alone : (x : Option X) (values : List (List ℕ)) (value : Option (List ℕ)) (rest : List (List ℕ)) (before : Option X)
+      → IsSet Is (values ++ cons_option value rest) x → IsSet Is values before → (after : Option X) × Sets Is value before after
+  set_back_alone x values None rest before says set = (before, refl)
+  set_back_alone None [] (Some value) [] None says set = absurd says
+  set_back_alone (Some y) [] (Some value) [] None says set = (Some y, (y, says, refl, refl))
+  set_back_alone x [] (Some value) (w ∷ rest) None says set = absurd says
+  set_back_alone x [] (Some value) rest (Some y) says set = absurd set
+  set_back_alone x (v ∷ []) (Some value) rest before says set = absurd says
+  set_back_alone x (v ∷ w ∷ more) (Some value) rest before says set = absurd says
+
+  pub one_set : ((value : List ℕ) (x y : X) → Is value x → Is value y → x ≡ y) → (values : List (List ℕ)) (x y : Option X) → IsSet Is values x → IsSet Is values y → x ≡ y
+  one_set one [] None None first second = refl
+  one_set one [] None (Some y) first second = absurd second
+  one_set one [] (Some x) y first second = absurd first
+  one_set one (v ∷ []) (Some x) (Some y) first second = ap Some (one v x y first second)
+  one_set one (v ∷ []) (Some x) None first second = absurd second
+  one_set one (v ∷ []) None y first second = absurd first
+  one_set one (v ∷ w ∷ more) x y first second = absurd first
 
   -- what is set is said
   pub said : (default : X) (values : List (List ℕ)) (found : Option X) → IsSet Is values found → Says Is default values (unwrap_or found default)

@@ -11,9 +11,10 @@ use Rattle.sk_cli.specs.declared.bits.Bits.TheVariants.{ThirtyEight}
 use Rattle.sk_cli.specs.declared.command.Command.{Command}
 use Rattle.sk_cli.specs.declared.request.Request.{Request}
 use Rattle.sk_cli.specs.declared.settings.Settings.{Settings}
-use Rattle.sk_cli.specs.Asking.{Key, OrderKey, BitsKey, WithinKey, key_name, behind, values_of, IsKeyOf, IsOrder, IsBits, IsLimit, Says, HasKeys}
-use Rattle.sk_cli.specs.Settings.{IsSet, Sets, AreSet, Adds}
-use Rattle.sk_cli.proofs.KeyValues.{values_more, set_more, set_back, said}
+use Rattle.sk_cli.specs.Asking.{Key, OrderKey, BitsKey, WithinKey, SizeKey, key_name, behind, values_of, IsKeyOf, IsOrder, IsBits, IsLimit, IsSize, IsSet, HasSize, Says, HasKeys}
+use Rattle.sk_cli.specs.Settings.{Sets, AreSet, Adds}
+use Rattle.sk_cli.proofs.KeyValues.{values_more, set_more, set_back, set_back_alone, said, one_set}
+use Rattle.sk_cli.proofs.Numbers.{one_size}
 
 -- one word more
 pub set_step : (command : Command) (words : List (List ℕ)) (word : List ℕ) (before after : Settings) → AreSet command words before → Adds command word before after → AreSet command (words ++ word ∷ []) after
@@ -22,6 +23,7 @@ set_step command words word before after set adds = record {
   order = subst (λ vs. IsSet IsOrder vs after.order) (sym (values_more OrderKey words word [])) (set_more IsOrder (values_of OrderKey words) (behind (key_name OrderKey) word) before.order after.order set.order adds.order);
   bits = subst (λ vs. IsSet IsBits vs after.bits) (sym (values_more BitsKey words word [])) (set_more IsBits (values_of BitsKey words) (behind (key_name BitsKey) word) before.bits after.bits set.bits adds.bits);
   within = subst (λ vs. IsSet IsLimit vs after.within) (sym (values_more WithinKey words word [])) (set_more IsLimit (values_of WithinKey words) (behind (key_name WithinKey) word) before.within after.within set.within adds.within);
+  size = subst (λ vs. IsSet IsSize vs after.size) (sym (values_more SizeKey words word [])) (set_more IsSize (values_of SizeKey words) (behind (key_name SizeKey) word) before.size after.size set.size adds.size);
 }
 
 -- a word that adds nothing stands in no words that are asked with
@@ -36,18 +38,29 @@ no_request command words word rest before set none request is keys =
     (subst (λ vs. Says IsBits ThirtyEight vs request.bits) (values_more BitsKey words word rest) keys.bits) set.bits in
     let within = set_back IsLimit 1000 request.within (values_of WithinKey words) (behind (key_name WithinKey) word) (values_of WithinKey rest) before.within
     (subst (λ vs. Says IsLimit 1000 vs request.within) (values_more WithinKey words word rest) keys.within) set.within in
-    none (record { order = order.0; bits = bits.0; within = within.0 }) (record { known = subst (λ c. IsKeyOf c word) is known; order = order.1; bits = bits.1; within = within.1 })
+    let size = set_back_alone IsSize request.size (values_of SizeKey words) (behind (key_name SizeKey) word) (values_of SizeKey rest) before.size
+    (subst (λ vs. IsSet IsSize vs request.size) (values_more SizeKey words word rest) keys.size) set.size in
+    none (record { order = order.0; bits = bits.0; within = within.0; size = size.0 })
+    (record { known = subst (λ c. IsKeyOf c word) is known; order = order.1; bits = bits.1; within = within.1; size = size.1 })
 
 -- what the words set is what they say
 pub keys_of : (command : Command) (words : List (List ℕ)) (settings : Settings) (order : Order) (bits : Bits) (within : ℕ) → AreSet command words settings
-    → order ≡ unwrap_or settings.order First → bits ≡ unwrap_or settings.bits ThirtyEight → within ≡ unwrap_or settings.within 1000
-    → HasKeys words (record { command = command; order = order; bits = bits; within = within })
-keys_of command words settings order bits within set order_is bits_is within_is = record {
+    → order ≡ unwrap_or settings.order First → bits ≡ unwrap_or settings.bits ThirtyEight → within ≡ unwrap_or settings.within 1000 → HasSize command settings.size
+    → HasKeys words (record { command = command; order = order; bits = bits; within = within; size = settings.size })
+keys_of command words settings order bits within set order_is bits_is within_is sized = record {
   known = set.known;
   order = subst (λ o. Says IsOrder First (values_of OrderKey words) o) (sym order_is) (said IsOrder First (values_of OrderKey words) settings.order set.order);
   bits = subst (λ o. Says IsBits ThirtyEight (values_of BitsKey words) o) (sym bits_is) (said IsBits ThirtyEight (values_of BitsKey words) settings.bits set.bits);
   within = subst (λ o. Says IsLimit 1000 (values_of WithinKey words) o) (sym within_is) (said IsLimit 1000 (values_of WithinKey words) settings.within set.within);
+  size = set.size;
+  sized = sized;
 }
+
+-- where no size is set, the words don't ask for what needs one
+pub no_size : (command : Command) (words : List (List ℕ)) (settings : Settings) → AreSet command words settings → ¬ HasSize command settings.size
+    → (request : Request) → request.command ≡ command → HasKeys words request → ⊥
+no_size command words settings set none request is keys =
+    none (rw (one_set IsSize one_size (values_of SizeKey words) settings.size request.size set.size keys.size, sym is) keys.sized)
 
 -- where a loop over the words stands
 module _ {X : Type 0} (bytes : X → List ℕ) (xs : List X) (i : ℕ) (x : X) (within : i < length xs) (is : x ≡ get_or xs i x) where

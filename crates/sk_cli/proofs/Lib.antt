@@ -5,6 +5,7 @@ pub mod FittingOffers
 pub mod KeyNames
 pub mod KeyValues
 pub mod Keys
+pub mod Numbers
 pub mod OfferAnswers
 pub mod OfferBytes
 pub mod OffersSoFar
@@ -12,5 +13,8 @@ pub mod OneOffering
 pub mod OneOutcome
 pub mod OnePlacement
 pub mod Placements
+pub mod Printed
 pub mod Runs
+pub mod Sizes
 pub mod Strides
+pub mod WhyEnds

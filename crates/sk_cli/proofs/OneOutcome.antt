@@ -1,10 +1,6 @@
 -- Words ask for one thing at most, and with an input they have one outcome at most.
-use Rattle.std.proofs.Common.{◌≡◌, ◌⊎◌, inl, inr, ℕ, ◌≤◌, List, [], ◌∷◌, ◌++◌, refl, sym, ap, ◌∙◌, subst, arith, lit≤, lit<}
+use Rattle.std.proofs.Common.{◌≡◌, ◌⊎◌, inl, inr, ℕ, ◌≤◌, List, [], ◌∷◌, ◌++◌, refl, sym, ap, ◌∙◌, subst, Option, arith}
 use Rattle.std.specs.Prelude.{All, map, drop}
-use Rattle.std.specs.Fmt.{decimal}
-use Rattle.std.specs.Str.Parse.{AllDigits}
-use Rattle.std.specs.Char.{digit_value}
-use Rattle.std.proofs.lemmas.Fmt.{decimal_injective, decimal_is_IsNumeral}
 use Rattle.sk_base.specs.declared.Sketch.{Sketch}
 use Rattle.sk_base.specs.declared.Graph.{Graph}
 use Rattle.sk_family.specs.Body.{Body, SameBodies}
@@ -40,53 +36,25 @@ use Rattle.sk_cli.proofs.OneOffering.{same_lines}
 use Rattle.sk_worklist.specs.declared.Order.{Order}
 use Rattle.sk_worklist.specs.declared.Order.TheVariants.{First, Last, Stride}
 use Rattle.sk_cli.specs.declared.command.Command.{Command}
-use Rattle.sk_cli.specs.declared.command.Command.TheVariants.{Check, Plan, Solve, Offers}
+use Rattle.sk_cli.specs.declared.command.Command.TheVariants.{Check, Plan, Solve, Dxf, Offers, Grow}
 use Rattle.sk_cli.specs.declared.request.Request.{Request}
 use Rattle.sk_cli.specs.declared.status.Status.{Status}
 use Rattle.sk_cli.specs.declared.status.Status.TheVariants.{Done, Refused, NotWell}
 use Rattle.sk_cli.specs.declared.bits.Bits.{Bits}
 use Rattle.sk_cli.specs.declared.bits.Bits.TheVariants.{Sixteen, TwentySeven, ThirtyEight}
 use Rattle.sk_cli.specs.declared.placing.Placement.{Placement}
-use Rattle.sk_cli.specs.Asking.{OrderKey, BitsKey, WithinKey, values_of, IsOrder, IsBits, IsLimit, Asks}
+use Rattle.sk_cli.specs.declared.solving.Report.{Report}
+use Rattle.sk_cli.specs.declared.solving.Report.TheVariants.{Places, Drawing, Sums}
+use Rattle.sk_cli.proofs.Sizes.{HasFitSize, size_fits, some_injective}
+use Rattle.sk_gen.specs.DatumSketch.{datum_sketch}
+use Rattle.sk_cli.specs.Asking.{OrderKey, BitsKey, WithinKey, SizeKey, values_of, IsOrder, IsBits, IsLimit, IsSize, Asks}
 use Rattle.sk_cli.specs.Grids.{grid_of, digits_of}
-use Rattle.sk_cli.specs.Solving.{IsPlacement, status_of, solve_words}
-use Rattle.sk_cli.proofs.CommandWords.{other_letter, one_command}
-use Rattle.sk_cli.proofs.KeyValues.{one_said}
+use Rattle.sk_cli.specs.Solving.{IsPlacement, status_of, placement_words}
+use Rattle.sk_cli.proofs.CommandWords.{one_command}
+use Rattle.sk_cli.proofs.KeyValues.{one_said, one_set}
+use Rattle.sk_cli.proofs.Numbers.{one_order, one_bits, one_limit, one_size}
 use Rattle.sk_cli.proofs.OnePlacement.{same_placement}
-use Rattle.sk_cli.specs.Outcome.{IsReport, IsRefusalText, IsCheckAnswer, IsPlanBy, IsPlanReport, IsReportNotWell, IsPlanAnswer, IsPlanOrReport, IsSolved, IsSolveAnswer, IsAnswer, IsAnswerOf, IsOutcome}
-
--- no number is spelled with such a first byte
-no_letter : (c k : ℕ) (rest : List ℕ) → 10 ≤ digit_value c → k ≤ 65535 → c ∷ rest ≡ decimal k → ⊥
-no_letter c k rest letter few is =
-    let numeral = decimal_is_IsNumeral k (omega (arith, few)) in
-    let digits = subst (λ bytes. AllDigits 10 bytes) (sym is) numeral.0.1 in
-    omega (arith, letter, digits.0)
-
-one_order : (value : List ℕ) (one other : Order) → IsOrder value one → IsOrder value other → one ≡ other
-one_order value First First first second = refl
-one_order value First Last first second = cc
-one_order value First (Stride k) first second = absurd (no_letter 102 k _ (lit≤ tt) second.1 (sym first ∙ second.0))
-one_order value Last First first second = cc
-one_order value Last Last first second = refl
-one_order value Last (Stride k) first second = absurd (no_letter 108 k _ (lit≤ tt) second.1 (sym first ∙ second.0))
-one_order value (Stride k) First first second = absurd (no_letter 102 k _ (lit≤ tt) first.1 (sym second ∙ first.0))
-one_order value (Stride k) Last first second = absurd (no_letter 108 k _ (lit≤ tt) first.1 (sym second ∙ first.0))
-one_order value (Stride k) (Stride j) first second =
-    ap Stride (decimal_injective k j (omega (arith, first.1)) (omega (arith, second.1)) (sym first.0 ∙ second.0))
-
-one_bits : (value : List ℕ) (one other : Bits) → IsBits value one → IsBits value other → one ≡ other
-one_bits value Sixteen Sixteen first second = refl
-one_bits value Sixteen TwentySeven first second = absurd (other_letter 49 50 _ _ (lit< tt) (sym first ∙ second))
-one_bits value Sixteen ThirtyEight first second = absurd (other_letter 49 51 _ _ (lit< tt) (sym first ∙ second))
-one_bits value TwentySeven Sixteen first second = absurd (other_letter 49 50 _ _ (lit< tt) (sym second ∙ first))
-one_bits value TwentySeven TwentySeven first second = refl
-one_bits value TwentySeven ThirtyEight first second = absurd (other_letter 50 51 _ _ (lit< tt) (sym first ∙ second))
-one_bits value ThirtyEight Sixteen first second = absurd (other_letter 49 51 _ _ (lit< tt) (sym second ∙ first))
-one_bits value ThirtyEight TwentySeven first second = absurd (other_letter 50 51 _ _ (lit< tt) (sym second ∙ first))
-one_bits value ThirtyEight ThirtyEight first second = refl
-
-one_limit : (value : List ℕ) (one other : ℕ) → IsLimit value one → IsLimit value other → one ≡ other
-one_limit value one other first second = decimal_injective one other (omega (arith, first.2)) (omega (arith, second.2)) (sym first.0 ∙ second.0)
+use Rattle.sk_cli.specs.Outcome.{IsReport, IsRefusalText, IsCheckAnswer, IsPlanBy, IsPlanReport, IsReportNotWell, IsPlanAnswer, IsPlanOrReport, IsSolved, IsSolveAnswer, IsGrowAnswer, IsAnswer, IsAnswerOf, IsOutcome}
 
 pub same_request : (words : List (List ℕ)) (one other : Request) → Asks words one → Asks words other → one ≡ other
 same_request [] one other first second = absurd first
@@ -95,24 +63,26 @@ same_request (command ∷ keys) one other first second =
     let order_is = one_said IsOrder one_order First (values_of OrderKey keys) one.order other.order first.1.order second.1.order in
     let bits_is = one_said IsBits one_bits ThirtyEight (values_of BitsKey keys) one.bits other.bits first.1.bits second.1.bits in
     let within_is = one_said IsLimit one_limit 1000 (values_of WithinKey keys) one.within other.within first.1.within second.1.within in
-    let make : Command → Order → Bits → ℕ → Request = λ c o b w. record { command = c; order = o; bits = b; within = w } in
-    ap (λ c. make c one.order one.bits one.within) command_is ∙ ap (λ o. make other.command o one.bits one.within) order_is
-    ∙ ap (λ b. make other.command other.order b one.within) bits_is ∙ ap (λ w. make other.command other.order other.bits w) within_is
+    let size_is = one_set IsSize one_size (values_of SizeKey keys) one.size other.size first.1.size second.1.size in
+    let make : Command → Order → Bits → ℕ → Option ℕ → Request = λ c o b w n. record { command = c; order = o; bits = b; within = w; size = n } in
+    ap (λ c. make c one.order one.bits one.within one.size) command_is ∙ ap (λ o. make other.command o one.bits one.within one.size) order_is
+    ∙ ap (λ b. make other.command other.order b one.within one.size) bits_is ∙ ap (λ w. make other.command other.order other.bits w one.size) within_is
+    ∙ ap (λ n. make other.command other.order other.bits other.within n) size_is
 
 -- the laws of the layers below
-abbrev OneSketch : Type 0
+abbrev pub OneSketch : Type 0
 OneSketch = (bytes : List ℕ) (s t : Sketch) → Reads bytes s → Reads bytes t → s ≡ t
 
-abbrev OneRefusal : Type 0
+abbrev pub OneRefusal : Type 0
 OneRefusal = (bytes : List ℕ) (n m : ℕ) (c d : Code) → Refuses bytes n c → Refuses bytes m d → (n ≡ m) × (c ≡ d)
 
-abbrev NotBoth : Type 0
+abbrev pub NotBoth : Type 0
 NotBoth = (bytes : List ℕ) (s : Sketch) (n : ℕ) (code : Code) → Reads bytes s → Refuses bytes n code → ⊥
 
-abbrev OneJudgement : Type 0
+abbrev pub OneJudgement : Type 0
 OneJudgement = (g : Graph) (one other : List Body) (j k : Judgement) → SameBodies one other → IsJudgement g one j → IsJudgement g other k → j ≡ k
 
-same_judgement : OneJudgement → (g : Graph) (j k : Judgement) → IsTheJudgement g j → IsTheJudgement g k → j ≡ k
+pub same_judgement : OneJudgement → (g : Graph) (j k : Judgement) → IsTheJudgement g j → IsTheJudgement g k → j ≡ k
 same_judgement law g j k first second =
     law g first.normal first.normal j k (λ x. (λ h. h, λ h. h)) (first.every first.normal first.is_normal) (second.every first.normal first.is_normal)
 
@@ -128,7 +98,7 @@ same_refusal one_refusal bytes text another (r, refuses, is) (q, refuses', is') 
     let make : ℕ → Code → Refusal = λ n c. record { line = n; code = c } in
     is ∙ ap (λ n. refusal_line (make n r.code)) same.0 ∙ ap (λ c. refusal_line (make q.line c)) same.1 ∙ sym is'
 
-no_report : NotBoth → (bytes text another : List ℕ) → IsReport bytes text → IsRefusalText bytes another → ⊥
+pub no_report : NotBoth → (bytes text another : List ℕ) → IsReport bytes text → IsRefusalText bytes another → ⊥
 no_report not_both bytes text another (s, j, reads, judged, is) (r, refuses, is') = not_both bytes s r.line r.code reads refuses
 
 -- further laws of the layers below
@@ -143,6 +113,9 @@ abbrev OneRun : Type 0
 OneRun = (g : Graph) (f : Clusters) (p : Choosing) (ms ns : List Merge) (one other : Clusters) (last end : Choosing)
     → IsRun place_of next_call g f p ms one last → IsRun place_of next_call g f p ns other end → (ms ≡ ns) × (one ≡ other) × (last ≡ end)
 
+abbrev SoundMade : Type 0
+SoundMade = (n : ℕ) → 3 ≤ n → n ≤ 1000 → IsSoundSketch (datum_sketch n)
+
 pub record FrontLaws : Type 0 where
   pub one_front : (bytes : List ℕ) (f g : Front) → ReadsFront bytes f → ReadsFront bytes g → f ≡ g
   pub one_refusal : (bytes : List ℕ) (n m : ℕ) (c d : Code) → RefusesFront bytes n c → RefusesFront bytes m d → (n ≡ m) × (c ≡ d)
@@ -153,8 +126,9 @@ pub record LowerLaws : Type 0 where
   pub plan : OnePlan
   pub run : OneRun
   pub front : FrontLaws
+  pub made : SoundMade
 
-same_plan : LowerLaws → (order : Order) (s : Sketch) → IsSoundGraph (graph_of s) → (p q : ThePlan) → IsPlanBy order s p → IsPlanBy order s q → p ≡ q
+pub same_plan : LowerLaws → (order : Order) (s : Sketch) → IsSoundGraph (graph_of s) → (p q : ThePlan) → IsPlanBy order s p → IsPlanBy order s q → p ≡ q
 same_plan laws order s sound p q first second =
     let merges = laws.run (graph_of s) (initial_clusters (graph_of s)) (record { order = order; call = 0 }) (map merge_told p.steps) (map merge_told q.steps) first.end second.end first.last second.last first.run second.run in
     laws.plan (graph_of s) s p q sound first.legal second.legal merges.0 first.drawn second.drawn
@@ -163,7 +137,7 @@ same_plan_report : LowerLaws → (order : Order) (s : Sketch) → IsSoundGraph (
 same_plan_report laws order s sound p q first second = ap (λ z. plan_report s z) (same_plan laws order s sound p q first second)
 
 -- a plan, or a report where the verdict isn't well
-told_planned : (order : Order) (s : Sketch) (status : Status) (text : List ℕ) → IsPlanOrReport order s status text → ((status ≡ Done) × IsPlanReport order s text) ⊎ ((status ≡ NotWell) × IsReportNotWell s text)
+pub told_planned : (order : Order) (s : Sketch) (status : Status) (text : List ℕ) → IsPlanOrReport order s status text → ((status ≡ Done) × IsPlanReport order s text) ⊎ ((status ≡ NotWell) × IsReportNotWell s text)
 told_planned order s Done text answer = inl (refl, answer)
 told_planned order s NotWell text answer = inr (refl, answer)
 told_planned order s status text answer = absurd answer
@@ -187,7 +161,7 @@ same_planned law laws order s sound status other text another first second =
     ]
 
 -- a refusal, or what is told of a sketch
-told_plan : (order : Order) (bytes : List ℕ) (status : Status) (text : List ℕ) → IsPlanAnswer order bytes status text
+pub told_plan : (order : Order) (bytes : List ℕ) (status : Status) (text : List ℕ) → IsPlanAnswer order bytes status text
     → ((status ≡ Refused) × IsRefusalText bytes text) ⊎ ((s : Sketch) × Reads bytes s × IsPlanOrReport order s status text)
 told_plan order bytes Refused text answer = inl (refl, answer)
 told_plan order bytes status text answer = inr answer
@@ -208,48 +182,54 @@ same_plan_answer one_sketch one_refusal not_both law laws order bytes status oth
       ]
     ]
 
--- what is told of a placed plan
-abbrev Words : Type 0
-Words = Sketch → ThePlan → Placement → List ℕ
-
-still_well : OneJudgement → (s : Sketch) (text : List ℕ) → IsWell (graph_of s) → IsReportNotWell s text → ⊥
+pub still_well : OneJudgement → (s : Sketch) (text : List ℕ) → IsWell (graph_of s) → IsReportNotWell s text → ⊥
 still_well law s text (k, judged', well) (j, judged, not_well, is) = not_well (subst (λ (z : Judgement). z.verdict ≡ Well) (same_judgement law (graph_of s) k j judged' judged) well)
 
-same_solved : OneJudgement → LowerLaws → (words : Words) (request : Request) (s : Sketch) → IsSoundGraph (graph_of s) → (status other : Status) (text another : List ℕ)
-    → IsSolved words request s status text → IsSolved words request s other another → (status ≡ other) × (text ≡ another)
-same_solved law laws words request s sound status other text another (inl (p, q, placed, is, text_is)) (inl (p', q', placed', is', text_is')) =
+same_solved : OneJudgement → LowerLaws → (report : Report) (request : Request) (s : Sketch) → IsSoundGraph (graph_of s) → (status other : Status) (text another : List ℕ)
+    → IsSolved report request s status text → IsSolved report request s other another → (status ≡ other) × (text ≡ another)
+same_solved law laws report request s sound status other text another (inl (p, q, placed, is, text_is)) (inl (p', q', placed', is', text_is')) =
     let plan_is = same_plan laws request.order s sound p p' placed.plan placed'.plan in
     let placement_is : q ≡ q' = same_placement (grid_of request.bits) (digits_of request.bits) request.within s p' sound placed'.plan.legal q q'
     (subst (λ (z : ThePlan). IsPlacement (grid_of request.bits) (digits_of request.bits) request.within s z q) plan_is placed.placed) placed'.placed in (
       is ∙ ap status_of placement_is ∙ sym is',
-      text_is ∙ ap (λ z. words s z q) plan_is ∙ ap (λ z. words s p' z) placement_is ∙ sym text_is',
+      text_is ∙ ap (λ z. placement_words report (digits_of request.bits) s z q) plan_is
+      ∙ ap (λ z. placement_words report (digits_of request.bits) s p' z) placement_is ∙ sym text_is',
     )
-same_solved law laws words request s sound status other text another (inl (p, q, placed, is, text_is)) (inr (short, report)) = absurd (still_well law s another placed.well report)
-same_solved law laws words request s sound status other text another (inr (short, report)) (inl (p, q, placed, is, text_is)) = absurd (still_well law s text placed.well report)
-same_solved law laws words request s sound status other text another (inr (short, (j, judged, not_well, is))) (inr (short', (k, judged', not_well', is'))) =
+same_solved law laws report request s sound status other text another (inl (p, q, placed, is, text_is)) (inr (short, report)) = absurd (still_well law s another placed.well report)
+same_solved law laws report request s sound status other text another (inr (short, report)) (inl (p, q, placed, is, text_is)) = absurd (still_well law s text placed.well report)
+same_solved law laws report request s sound status other text another (inr (short, (j, judged, not_well, is))) (inr (short', (k, judged', not_well', is'))) =
     (short ∙ sym short', is ∙ ap (λ z. check_report s z) (same_judgement law (graph_of s) j k judged judged') ∙ sym is')
 
 -- a refusal, or what is told of a sketch
-told_solve : (request : Request) (bytes : List ℕ) (status : Status) (text : List ℕ) → IsSolveAnswer request bytes status text
-    → ((status ≡ Refused) × IsRefusalText bytes text) ⊎ ((s : Sketch) × Reads bytes s × IsSolved (solve_words (digits_of request.bits)) request s status text)
-told_solve request bytes Refused text answer = inl (refl, answer)
-told_solve request bytes status text answer = inr answer
+pub told_solve : (report : Report) (request : Request) (bytes : List ℕ) (status : Status) (text : List ℕ) → IsSolveAnswer report request bytes status text
+    → ((status ≡ Refused) × IsRefusalText bytes text) ⊎ ((s : Sketch) × Reads bytes s × IsSolved report request s status text)
+told_solve report request bytes Refused text answer = inl (refl, answer)
+told_solve report request bytes status text answer = inr answer
 
-same_solve_answer : OneSketch → OneRefusal → NotBoth → OneJudgement → LowerLaws → (request : Request) (bytes : List ℕ) (status other : Status) (text another : List ℕ)
-    → IsSolveAnswer request bytes status text → IsSolveAnswer request bytes other another → (status ≡ other) × (text ≡ another)
-same_solve_answer one_sketch one_refusal not_both law laws request bytes status other text another first second =
-    elim (told_solve request bytes status text first) [
-      | inl (refused, line) ↦ elim (told_solve request bytes other another second) [
+same_solve_answer : OneSketch → OneRefusal → NotBoth → OneJudgement → LowerLaws → (report : Report) (request : Request) (bytes : List ℕ) (status other : Status) (text another : List ℕ)
+    → IsSolveAnswer report request bytes status text → IsSolveAnswer report request bytes other another → (status ≡ other) × (text ≡ another)
+same_solve_answer one_sketch one_refusal not_both law laws report request bytes status other text another first second =
+    elim (told_solve report request bytes status text first) [
+      | inl (refused, line) ↦ elim (told_solve report request bytes other another second) [
         | inl (refused', line') ↦ (refused ∙ sym refused', same_refusal one_refusal bytes text another line line')
         | inr (s, reads, told) ↦ absurd (not_both bytes s line.0.line line.0.code reads line.1)
       ]
-      | inr (s, reads, told) ↦ elim (told_solve request bytes other another second) [
+      | inr (s, reads, told) ↦ elim (told_solve report request bytes other another second) [
         | inl (refused, line) ↦ absurd (not_both bytes s line.0.line line.0.code reads line.1)
         | inr (t, reads', told') ↦
-            same_solved law laws (solve_words (digits_of request.bits)) request t (graph_is_sound t (laws.sound bytes t reads')) status other text another
-            (subst (λ z. IsSolved (solve_words (digits_of request.bits)) request z status text) (one_sketch bytes s t reads reads') told) told'
+            same_solved law laws report request t (graph_is_sound t (laws.sound bytes t reads')) status other text another
+            (subst (λ z. IsSolved report request z status text) (one_sketch bytes s t reads reads') told) told'
       ]
     ]
+
+-- what is answered of a sketch that was made
+same_grown : OneJudgement → LowerLaws → (request : Request) → HasFitSize request → (status other : Status) (text another : List ℕ)
+    → IsGrowAnswer request status text → IsGrowAnswer request other another → (status ≡ other) × (text ≡ another)
+same_grown law laws request fit status other text another (n, size, solved) (m, size', solved') =
+    let same : n ≡ m = some_injective (sym size ∙ size') in
+    let fits = fit m size' in
+    same_solved law laws Sums request (datum_sketch m) (graph_is_sound (datum_sketch m) (laws.made m fits.0 fits.1)) status other text another
+    (subst (λ k. IsSolved Sums request (datum_sketch k) status text) same solved) solved'
 
 -- the report on some offers
 same_report_on : OneJudgement → (s : Sketch) (os : List OfferLine) (text another : List ℕ) → IsReportOnOffers s os text → IsReportOnOffers s os another → text ≡ another
@@ -277,14 +257,14 @@ same_place laws bytes r q (inr (f, reads, refuses)) (inr (g, reads', refuses')) 
     one_refusal_behind g.lines (drop g.used bytes) r.line q.line r.code q.code
     (subst (λ (z : Front). RefusesOffers z.lines (drop z.used bytes) r.line r.code) front_is refuses) refuses'
 
-not_read_and_refused : LowerLaws → (bytes text another : List ℕ) → IsOffersReport bytes text → IsOffersRefusal bytes another → ⊥
+pub not_read_and_refused : LowerLaws → (bytes text another : List ℕ) → IsOffersReport bytes text → IsOffersRefusal bytes another → ⊥
 not_read_and_refused laws bytes text another (f, os, reads, reads_os, report) (r, inl refuses, is) = laws.front.not_both bytes f r.line r.code reads refuses
 not_read_and_refused laws bytes text another (f, os, reads, reads_os, report) (r, inr (g, reads', refuses), is) =
     let front_is : f ≡ g = laws.front.one_front bytes f g reads reads' in
     not_both_behind g.lines (drop g.used bytes) os r.line r.code
     (subst (λ (z : Front). ReadsOffers (drop z.used bytes) os) front_is reads_os) refuses
 
-told_offers : (bytes : List ℕ) (status : Status) (text : List ℕ) → IsOffersAnswer bytes status text → ((status ≡ Done) × IsOffersReport bytes text) ⊎ ((status ≡ Refused) × IsOffersRefusal bytes text)
+pub told_offers : (bytes : List ℕ) (status : Status) (text : List ℕ) → IsOffersAnswer bytes status text → ((status ≡ Done) × IsOffersReport bytes text) ⊎ ((status ≡ Refused) × IsOffersRefusal bytes text)
 told_offers bytes Done text answer = inl (refl, answer)
 told_offers bytes Refused text answer = inr (refl, answer)
 told_offers bytes status text answer = absurd answer
@@ -307,28 +287,31 @@ same_offers laws law bytes status other text another first second =
     ]
 
 -- a report or a refusal
-told : (bytes : List ℕ) (status : Status) (text : List ℕ) → IsCheckAnswer bytes status text → ((status ≡ Done) × IsReport bytes text) ⊎ ((status ≡ Refused) × IsRefusalText bytes text)
-told bytes Done text answer = inl (refl, answer)
-told bytes Refused text answer = inr (refl, answer)
-told bytes status text answer = absurd answer
+pub told_check : (bytes : List ℕ) (status : Status) (text : List ℕ) → IsCheckAnswer bytes status text → ((status ≡ Done) × IsReport bytes text) ⊎ ((status ≡ Refused) × IsRefusalText bytes text)
+told_check bytes Done text answer = inl (refl, answer)
+told_check bytes Refused text answer = inr (refl, answer)
+told_check bytes status text answer = absurd answer
 
-same_answer : OneSketch → OneRefusal → NotBoth → OneJudgement → LowerLaws → (command : Command) (request : Request) (bytes : List ℕ) (status other : Status) (text another : List ℕ)
+same_answer : OneSketch → OneRefusal → NotBoth → OneJudgement → LowerLaws → (command : Command) (request : Request) → HasFitSize request → (bytes : List ℕ) (status other : Status) (text another : List ℕ)
     → IsAnswerOf command request bytes status text → IsAnswerOf command request bytes other another → (status ≡ other) × (text ≡ another)
-same_answer one_sketch one_refusal not_both law laws Check request bytes status other text another first second =
-    elim (told bytes status text first) [
-      | inl done ↦ elim (told bytes other another second) [
+same_answer one_sketch one_refusal not_both law laws Check request fit bytes status other text another first second =
+    elim (told_check bytes status text first) [
+      | inl done ↦ elim (told_check bytes other another second) [
         | inl done' ↦ (done.0 ∙ sym done'.0, same_report one_sketch law bytes text another done.1 done'.1)
         | inr refused ↦ absurd (no_report not_both bytes text another done.1 refused.1)
       ]
-      | inr refused ↦ elim (told bytes other another second) [
+      | inr refused ↦ elim (told_check bytes other another second) [
         | inl done ↦ absurd (no_report not_both bytes another text done.1 refused.1)
         | inr refused' ↦ (refused.0 ∙ sym refused'.0, same_refusal one_refusal bytes text another refused.1 refused'.1)
       ]
     ]
-same_answer one_sketch one_refusal not_both law laws Offers request bytes status other text another first second = same_offers laws law bytes status other text another first second
-same_answer one_sketch one_refusal not_both law laws Solve request bytes status other text another first second =
-    same_solve_answer one_sketch one_refusal not_both law laws request bytes status other text another first second
-same_answer one_sketch one_refusal not_both law laws Plan request bytes status other text another first second =
+same_answer one_sketch one_refusal not_both law laws Offers request fit bytes status other text another first second = same_offers laws law bytes status other text another first second
+same_answer one_sketch one_refusal not_both law laws Solve request fit bytes status other text another first second =
+    same_solve_answer one_sketch one_refusal not_both law laws Places request bytes status other text another first second
+same_answer one_sketch one_refusal not_both law laws Dxf request fit bytes status other text another first second =
+    same_solve_answer one_sketch one_refusal not_both law laws Drawing request bytes status other text another first second
+same_answer one_sketch one_refusal not_both law laws Grow request fit bytes status other text another first second = same_grown law laws request fit status other text another first second
+same_answer one_sketch one_refusal not_both law laws Plan request fit bytes status other text another first second =
     same_plan_answer one_sketch one_refusal not_both law laws request.order bytes status other text another first second
 
 pub same_outcome : OneSketch → OneRefusal → NotBoth → OneJudgement → LowerLaws → (words : List (List ℕ)) (bytes : List ℕ) (status other : Status) (text another : List ℕ)
@@ -338,7 +321,7 @@ same_outcome one_sketch one_refusal not_both law laws words bytes status other t
       | inl asked ↦ elim second [
         | inl asked' ↦
             let request_is = same_request words asked.0 asked'.0 asked.1 asked'.1 in
-            same_answer one_sketch one_refusal not_both law laws asked'.0.command asked'.0 bytes status other text another
+            same_answer one_sketch one_refusal not_both law laws asked'.0.command asked'.0 (size_fits words asked'.0 asked'.1) bytes status other text another
             (subst (λ (z : Request). IsAnswer z bytes status text) request_is asked.2) asked'.2
         | inr usage ↦ absurd (usage.0 (asked.0, asked.1))
       ]

@@ -57,23 +57,23 @@ same_measured limit s p at (Holds y t) (Holds z u) first second =
     ap (λ x. Holds x t) (first.0 ∙ sym second.0) ∙ ap (λ x. Holds z x) (same_tolerance at (graph_of s) t u first.3 second.3)
 
 -- a fault, or what is measured
-told : (G : Type 0) (F limit : ℕ) (s : Sketch) (p : Plan) (q : Placement) → IsPlacement G F limit s p q
+pub told_placed : (G : Type 0) (F limit : ℕ) (s : Sketch) (p : Plan) (q : Placement) → IsPlacement G F limit s p q
     → ((f : StepFault) × (q ≡ Fault f) × IsPlaced {G = G} F (graph_of s) p (Err (errors.Fault f))) ⊎ ((bs : List (BoxAt G)) × IsPlaced F (graph_of s) p (Ok bs) × IsMeasured limit s p (midpoints F bs) q)
-told G F limit s p (Fault f) is = inl (f, refl, is)
-told G F limit s p (Beyond b) is = inr is
-told G F limit s p (Turned t) is = inr is
-told G F limit s p (Holds at t) is = inr is
+told_placed G F limit s p (Fault f) is = inl (f, refl, is)
+told_placed G F limit s p (Beyond b) is = inr is
+told_placed G F limit s p (Turned t) is = inr is
+told_placed G F limit s p (Holds at t) is = inr is
 
 pub same_placement : (G : Type 0) (F limit : ℕ) (s : Sketch) (p : Plan) → IsSoundGraph (graph_of s) → IsLegalPlan (graph_of s) p → (q r : Placement) → IsPlacement G F limit s p q → IsPlacement G F limit s p r → q ≡ r
 same_placement G F limit s p sound legal q r first second =
     let g = graph_of s in
     let tree = some_plan_tree g p sound legal in
-    elim (told G F limit s p q first) [
-      | inl (f, q_is, failed) ↦ elim (told G F limit s p r second) [
+    elim (told_placed G F limit s p q first) [
+      | inl (f, q_is, failed) ↦ elim (told_placed G F limit s p r second) [
         | inl (e, r_is, failed') ↦ q_is ∙ ap Fault (one_failure G F g p legal tree f e failed failed') ∙ sym r_is
         | inr (cs, placed', measured') ↦ absurd (not_both G F g p legal tree cs f placed' failed)
       ]
-      | inr (bs, placed, measured) ↦ elim (told G F limit s p r second) [
+      | inr (bs, placed, measured) ↦ elim (told_placed G F limit s p r second) [
         | inl (e, r_is, failed') ↦ absurd (not_both G F g p legal tree bs e placed failed')
         | inr (cs, placed', measured') ↦
             same_measured limit s p (midpoints F cs) q r

@@ -18,10 +18,11 @@ use Rattle.sk_place.specs.declared.BoxAt.{BoxAt}
 use Rattle.sk_place.specs.Clusters.{nodes_of}
 use Rattle.sk_place.specs.Placing.{IsPlaced}
 use Rattle.sk_place.specs.Rounding.{rounded, rounded_box}
+use Rattle.sk_dxf.specs.Courses.{HasBoundedPlaces}
 use Rattle.sk_residual.specs.Placing.{HasKind, AreSpotsOf}
 use Rattle.sk_cli.specs.declared.placing.Placement.{Placement}
 use Rattle.sk_cli.specs.declared.placing.Placement.TheVariants.{Fault, Beyond, Turned, Holds}
-use Rattle.sk_cli.specs.Solving.{midpoints, IsMeasured, IsPlacement}
+use Rattle.sk_cli.specs.Solving.{midpoints, IsMeasured, IsPlacement, LiesWithinBounds}
 
 kept_kind : {G : Type 0} (F : ℕ) (b : BoxOf G) → HasKind (kind_of b) (rounded_box F b)
 kept_kind F (Point x y) = tt
@@ -57,3 +58,10 @@ placement_of G F limit s p g boxes at placement graph placed spots measured =
     let make : List Spot → Placed = λ ss. record { spots = ss } in
     measured_there G F limit s p boxes placement (subst (λ h. IsPlaced F h p (Ok boxes)) graph placed)
     (subst (λ here. IsMeasured limit s p here placement) (ap make spots) measured)
+
+-- what is measured lies where elements lie
+pub measured_within : (limit : ℕ) (s : Sketch) (p : Plan) (at : Placed) (placement : Placement) → HasBoundedPlaces at → IsMeasured limit s p at placement → LiesWithinBounds placement
+measured_within limit s p at (Fault f) bounded measured = tt
+measured_within limit s p at (Beyond b) bounded measured = tt
+measured_within limit s p at (Turned t) bounded measured = tt
+measured_within limit s p at (Holds placed t) bounded measured = subst (λ here. HasBoundedPlaces here) (sym measured.0) bounded

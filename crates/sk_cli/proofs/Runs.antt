@@ -3,6 +3,7 @@
 use Rattle.std.proofs.Common.{◌≡◌, ℕ, ◌≤◌, List, [], length, take, refl, sym, subst, ap, ◌∙◌, inl, inr, arith, None, Some, Option}
 use Rattle.std.proofs.lemmas.Bool.{cases_lt}
 use Rattle.std.proofs.lemmas.List.{append-nil, take_all, length-take}
+use Rattle.std.specs.Prelude.{IfSome, drop}
 use Rattle.std.specs.Io.KnownBytes.{Appends}
 use Rattle.sk_io.specs.Transfer.{TakesUpTo}
 use Rattle.sk_base.specs.declared.Sketch.{Sketch}
@@ -12,14 +13,17 @@ use Rattle.sk_lang.specs.Reading.{Refuses, TooLong, Empty, AtLine, NoEnd}
 use Rattle.sk_lang.specs.Front.{RefusesFront}
 use Rattle.sk_cli.specs.OffersReport.{IsRefusedAt}
 use Rattle.sk_cli.specs.declared.command.Command.{Command}
-use Rattle.sk_cli.specs.declared.command.Command.TheVariants.{Check, Plan, Solve, Offers}
+use Rattle.sk_cli.specs.declared.command.Command.TheVariants.{Check, Plan, Solve, Dxf, Offers, Grow}
 use Rattle.sk_cli.specs.declared.placing.Placement.{Placement}
 use Rattle.sk_cli.specs.declared.request.Request.{Request}
+use Rattle.sk_cli.specs.declared.solving.Report.{Report}
+use Rattle.sk_cli.specs.declared.solving.Report.TheVariants.{Places, Drawing, Sums}
+use Rattle.sk_gen.specs.DatumSketch.{datum_sketch}
 use Rattle.sk_cli.specs.declared.status.Status.{Status}
 use Rattle.sk_cli.specs.declared.status.Status.TheVariants.{Done, Refused, Usage, ReadFault, WriteFault, NoMemory, NotWell, StepFault, Tolerance}
-use Rattle.sk_cli.specs.Asking.{Asks, AreOfForm}
-use Rattle.sk_cli.specs.Grids.{digits_of}
-use Rattle.sk_cli.specs.Solving.{status_of, solve_words}
+use Rattle.sk_cli.specs.Asking.{Asks, AreOfForm, TakesInput, AskForInput}
+use Rattle.sk_cli.proofs.OneOutcome.{same_request}
+use Rattle.sk_cli.specs.Solving.{status_of}
 use Rattle.sk_cli.specs.Outcome.{IsOutcome, IsAnswer, IsAnswerOf, IsSolved, usage_line}
 use Rattle.sk_cli.specs.Ending.{IsTold, Ends, Sends}
 
@@ -32,6 +36,11 @@ told_bytes (Some bytes) = (bytes, refl)
 taken_from : (most : ℕ) (left new : Option (List ℕ)) (text : List ℕ) → length text ≤ most → TakesUpTo most left new text → (bytes : List ℕ) × IsTold left bytes × (text ≡ take most bytes)
 taken_from most None new text few taken = (text, tt, sym (take_all most text few))
 taken_from most (Some bytes) new text few taken = (bytes, refl, taken.0)
+
+-- what was taken is gone from what is left
+pub read_told : (left behind : Option (List ℕ)) (taken : List ℕ) → TakesUpTo 1048577 left behind taken → IfSome left (λ bytes. behind ≡ Some (drop 1048577 bytes))
+read_told None behind taken takes = tt
+read_told (Some bytes) behind taken takes = takes.1
 
 nothing_gained : (a : Option (List ℕ)) → Appends a a []
 nothing_gained None = tt
@@ -62,6 +71,9 @@ still_answered text bytes long longer Plan request Refused out answer = (answer.
 still_answered text bytes long longer Plan request status out answer = absurd (omega (arith, long, answer.1.fits))
 still_answered text bytes long longer Solve request Refused out answer = (answer.0, still_refused text bytes long longer answer.0.line answer.0.code answer.1, answer.2)
 still_answered text bytes long longer Solve request status out answer = absurd (omega (arith, long, answer.1.fits))
+still_answered text bytes long longer Dxf request Refused out answer = (answer.0, still_refused text bytes long longer answer.0.line answer.0.code answer.1, answer.2)
+still_answered text bytes long longer Dxf request status out answer = absurd (omega (arith, long, answer.1.fits))
+still_answered text bytes long longer Grow request status out answer = answer
 still_answered text bytes long longer Offers request Done out answer = absurd (omega (arith, long, answer.2.fits))
 still_answered text bytes long longer Offers request Refused out answer = (answer.0, still_refused_at text bytes long longer answer.0 answer.1, answer.2)
 still_answered text bytes long longer Offers request status out answer = absurd answer
@@ -76,8 +88,22 @@ answer_of_front text bytes front request status out answer =
       | inr few ↦ let whole : text ≡ bytes = front ∙ take_all 1048577 bytes few in rw whole at answer
     ]
 
--- the statuses that are told of a sketch that is read
-abbrev IsSolveStatus : Status → Type 0
+-- an answer to what was taken is one to what is told
+told_answer : (left behind : Option (List ℕ)) (taken : List ℕ) (command : Command) (request : Request) (status : Status) (out : List ℕ) → request.command ≡ command
+    → length taken ≤ 1048577 → (TakesInput command → TakesUpTo 1048577 left behind taken) → IsAnswer request taken status out
+    → (bytes : List ℕ) × IsTold left bytes × IsAnswer request bytes status out
+told_answer left behind taken Grow request status out is few takes answer =
+    let told = told_bytes left in
+    (told.0, told.1, subst (λ c. IsAnswerOf c request told.0 status out) (sym is) (subst (λ c. IsAnswerOf c request taken status out) is answer))
+told_answer left behind taken command request status out is few takes answer =
+    let from = taken_from 1048577 left behind taken few (takes tt) in (from.0, from.1, answer_of_front taken from.0 from.2 request status out answer)
+
+-- words whose command takes no input don't ask for it
+pub asked_input : (words : List (List ℕ)) (request : Request) → Asks words request → AskForInput words → TakesInput request.command
+asked_input words request asks (other, other_asks, takes) = subst (λ (r : Request). TakesInput r.command) (same_request words other request other_asks asks) takes
+
+-- the statuses that are told of a sketch
+abbrev pub IsSolveStatus : Status → Type 0
 IsSolveStatus Done = Unit {0}
 IsSolveStatus NotWell = Unit {0}
 IsSolveStatus StepFault = Unit {0}
@@ -90,27 +116,33 @@ placement_told (Placement.Beyond b) = tt
 placement_told (Placement.Turned t) = tt
 placement_told (Placement.Holds at t) = tt
 
-solved_told : (request : Request) (s : Sketch) (status : Status) (text : List ℕ) → IsSolved (solve_words (digits_of request.bits)) request s status text → IsSolveStatus status
-solved_told request s status text (inl (p, placement, placed, is, text_is)) = subst (λ z. IsSolveStatus z) (sym is) (placement_told placement)
-solved_told request s status text (inr (is, report)) = subst (λ z. IsSolveStatus z) (sym is) tt
+pub solved_told : (report : Report) (request : Request) (s : Sketch) (status : Status) (text : List ℕ) → IsSolved report request s status text → IsSolveStatus status
+solved_told report request s status text (inl (p, placement, placed, is, text_is)) = subst (λ z. IsSolveStatus z) (sym is) (placement_told placement)
+solved_told report request s status text (inr (is, report)) = subst (λ z. IsSolveStatus z) (sym is) tt
 
 -- no answer is a fault or that memory ran out
 no_read_fault : (command : Command) (request : Request) (bytes text : List ℕ) → ¬ IsAnswerOf command request bytes ReadFault text
 no_read_fault Check request bytes text answer = answer
 no_read_fault Plan request bytes text answer = answer.2
-no_read_fault Solve request bytes text answer = solved_told request answer.0 ReadFault text answer.2
+no_read_fault Solve request bytes text answer = solved_told Places request answer.0 ReadFault text answer.2
+no_read_fault Dxf request bytes text answer = solved_told Drawing request answer.0 ReadFault text answer.2
+no_read_fault Grow request bytes text answer = solved_told Sums request (datum_sketch answer.0) ReadFault text answer.2
 no_read_fault Offers request bytes text answer = answer
 
 no_want : (command : Command) (request : Request) (bytes text : List ℕ) → ¬ IsAnswerOf command request bytes NoMemory text
 no_want Check request bytes text answer = answer
 no_want Plan request bytes text answer = answer.2
-no_want Solve request bytes text answer = solved_told request answer.0 NoMemory text answer.2
+no_want Solve request bytes text answer = solved_told Places request answer.0 NoMemory text answer.2
+no_want Dxf request bytes text answer = solved_told Drawing request answer.0 NoMemory text answer.2
+no_want Grow request bytes text answer = solved_told Sums request (datum_sketch answer.0) NoMemory text answer.2
 no_want Offers request bytes text answer = answer
 
 no_write_fault : (command : Command) (request : Request) (bytes text : List ℕ) → ¬ IsAnswerOf command request bytes WriteFault text
 no_write_fault Check request bytes text answer = answer
 no_write_fault Plan request bytes text answer = answer.2
-no_write_fault Solve request bytes text answer = solved_told request answer.0 WriteFault text answer.2
+no_write_fault Solve request bytes text answer = solved_told Places request answer.0 WriteFault text answer.2
+no_write_fault Dxf request bytes text answer = solved_told Drawing request answer.0 WriteFault text answer.2
+no_write_fault Grow request bytes text answer = solved_told Sums request (datum_sketch answer.0) WriteFault text answer.2
 no_write_fault Offers request bytes text answer = answer
 
 outcome_no_read_fault : (words : List (List ℕ)) (bytes text : List ℕ) → ¬ IsOutcome words bytes ReadFault text
@@ -140,12 +172,12 @@ usage_ends words left old new text result no_form is_usage sent =
     (told.0, ends.0, told.1, ends.1, ends.2)
 
 pub answer_ends : (words : List (List ℕ)) (left behind old new : Option (List ℕ)) (taken : List ℕ) (request : Request) (given : Status) (text : List ℕ) (result : Status)
-    → Asks words request → length taken ≤ 1048577 → TakesUpTo 1048577 left behind taken → IsAnswer request taken given text → Sends old new given text result
+    → Asks words request → length taken ≤ 1048577 → (TakesInput request.command → TakesUpTo 1048577 left behind taken) → IsAnswer request taken given text → Sends old new given text result
     → (bytes : List ℕ) × (gained : List ℕ) × IsTold left bytes × Appends old new gained × Ends words bytes result gained
 answer_ends words left behind old new taken request given text result asks few takes answer sent =
-    let from = taken_from 1048577 left behind taken few takes in
-    let ends = sent_ends words from.0 old new given text result (inl (request, asks, answer_of_front taken from.0 from.2 request given text answer)) sent in
-    (from.0, ends.0, from.1, ends.1, ends.2)
+    let told = told_answer left behind taken request.command request given text refl few takes answer in
+    let ends = sent_ends words told.0 old new given text result (inl (request, asks, told.2)) sent in
+    (told.0, ends.0, told.1, ends.1, ends.2)
 
 pub nothing_ends : (words : List (List ℕ)) (left old : Option (List ℕ)) (result : Status) → ((bytes : List ℕ) → Ends words bytes result [])
     → (bytes : List ℕ) × (gained : List ℕ) × IsTold left bytes × Appends old old gained × Ends words bytes result gained
@@ -158,10 +190,9 @@ no_form words none (request, asks) = none request asks
 -- the room that every outcome has is that of the answer to what was taken
 pub answer_room : (words : List (List ℕ)) (left behind : Option (List ℕ)) (taken : List ℕ) (request : Request) (given : Status) (text : List ℕ) (room : ℕ)
     → ((bytes out : List ℕ) (status : Status) → IsTold left bytes → IsOutcome words bytes status out → length out ≤ room)
-    → Asks words request → length taken ≤ 1048577 → TakesUpTo 1048577 left behind taken → IsAnswer request taken given text → length text ≤ room
+    → Asks words request → length taken ≤ 1048577 → (TakesInput request.command → TakesUpTo 1048577 left behind taken) → IsAnswer request taken given text → length text ≤ room
 answer_room words left behind taken request given text room each asks few takes answer =
-    let from = taken_from 1048577 left behind taken few takes in
-    each from.0 text given from.1 (inl (request, asks, answer_of_front taken from.0 from.2 request given text answer))
+    let told = told_answer left behind taken request.command request given text refl few takes answer in each told.0 text given told.1 (inl (request, asks, told.2))
 
 pub usage_room : (words : List (List ℕ)) (left : Option (List ℕ)) (text : List ℕ) (room : ℕ)
     → ((bytes out : List ℕ) (status : Status) → IsTold left bytes → IsOutcome words bytes status out → length out ≤ room)

@@ -7,24 +7,31 @@ use Rattle.sk_worklist.specs.declared.Order.TheVariants.{First, Last, Stride}
 use Rattle.sk_cli.specs.declared.bits.Bits.{Bits}
 use Rattle.sk_cli.specs.declared.bits.Bits.TheVariants.{Sixteen, TwentySeven, ThirtyEight}
 use Rattle.sk_cli.specs.declared.command.Command.{Command}
-use Rattle.sk_cli.specs.declared.command.Command.TheVariants.{Check, Plan, Solve, Offers}
+use Rattle.sk_cli.specs.declared.command.Command.TheVariants.{Check, Plan, Solve, Dxf, Offers, Grow}
 use Rattle.sk_cli.specs.declared.request.Request.{Request}
 use Rattle.sk_cli.specs.Commands.{command_word}
 
--- `first`, `last`, or a number from 0 to 65535 in decimal digits, without a sign and without a leading zero
+-- a number between two others in decimal digits, without a sign and without a leading zero
+abbrev pub IsNumber : ℕ → ℕ → List ℕ → ℕ → Type 0
+IsNumber least most value n = (value ≡ decimal n) × (least ≤ n) × (n ≤ most)
+
+-- `first`, `last`, or a number from 0 to 65535
 abbrev pub IsOrder : List ℕ → Order → Type 0
 IsOrder value First = value ≡ codes "first"
 IsOrder value Last = value ≡ codes "last"
-IsOrder value (Stride k) = (value ≡ decimal k) × (k ≤ 65535)
+IsOrder value (Stride k) = IsNumber 0 65535 value k
 
 abbrev pub IsBits : List ℕ → Bits → Type 0
 IsBits value Sixteen = value ≡ codes "16"
 IsBits value TwentySeven = value ≡ codes "27"
 IsBits value ThirtyEight = value ≡ codes "38"
 
--- a number from 1 to 1000000, spelled in the same way
 abbrev pub IsLimit : List ℕ → ℕ → Type 0
-IsLimit value n = (value ≡ decimal n) × (1 ≤ n) × (n ≤ 1000000)
+IsLimit value n = IsNumber 1 1000000 value n
+
+-- the number of elements of a sketch that is made
+abbrev pub IsSize : List ℕ → ℕ → Type 0
+IsSize value n = IsNumber 3 1000 value n
 
 -- a zero stands before other digits
 abbrev pub LeadsWithZero : List ℕ → Type 0
@@ -34,24 +41,38 @@ pub data Key : Type 0 where
   OrderKey : Key
   BitsKey : Key
   WithinKey : Key
+  SizeKey : Key
 
 abbrev pub key_name : Key → List ℕ
 key_name OrderKey = codes "order="
 key_name BitsKey = codes "bits="
 key_name WithinKey = codes "within="
+key_name SizeKey = codes "n="
 
--- the keys of a command
+-- it places the elements of a sketch
+abbrev pub places : Command → Bool
+places Check = false
+places Plan = false
+places Solve = true
+places Dxf = true
+places Offers = false
+places Grow = true
+
+-- it makes its sketch
+abbrev pub makes : Command → Bool
+makes Check = false
+makes Plan = false
+makes Solve = false
+makes Dxf = false
+makes Offers = false
+makes Grow = true
+
+-- the keys of a command: each takes an order, one that places elements a grid and a limit, one that makes a sketch its size
 abbrev pub takes : Command → Key → Bool
-takes Check OrderKey = true
-takes Check BitsKey = false
-takes Check WithinKey = false
-takes Plan OrderKey = true
-takes Plan BitsKey = false
-takes Plan WithinKey = false
-takes Offers OrderKey = true
-takes Offers BitsKey = false
-takes Offers WithinKey = false
-takes Solve key = true
+takes command OrderKey = true
+takes command BitsKey = places command
+takes command WithinKey = places command
+takes command SizeKey = makes command
 
 -- what stands behind the name that a word begins with
 abbrev pub behind : List ℕ → List ℕ → Option (List ℕ)
@@ -73,6 +94,17 @@ Says Is default [] x = x ≡ default
 Says Is default (value ∷ []) x = Is value x
 Says Is default (value ∷ another ∷ values) x = ⊥
 
+-- a key without a default is said by one value, and isn't said without a value; it doesn't stand twice
+abbrev pub IsSet : {X : Type 0} → (List ℕ → X → Type 0) → List (List ℕ) → Option X → Type 0
+IsSet Is [] None = Unit {0}
+IsSet Is (value ∷ []) (Some x) = Is value x
+IsSet Is _ _ = ⊥
+
+-- a sketch that is made has a size
+abbrev pub HasSize : Command → Option ℕ → Type 0
+HasSize Grow None = ⊥
+HasSize command size = Unit {0}
+
 -- the words are keys of the command, in any order, and this is what they say. Without them the order is `first`, the
 -- grid has 38 binary digits, and the limit is 1000
 pub record HasKeys (words : List (List ℕ)) (request : Request) : Type 0 where
@@ -80,6 +112,8 @@ pub record HasKeys (words : List (List ℕ)) (request : Request) : Type 0 where
   pub order : Says IsOrder First (values_of OrderKey words) request.order
   pub bits : Says IsBits ThirtyEight (values_of BitsKey words) request.bits
   pub within : Says IsLimit 1000 (values_of WithinKey words) request.within
+  pub size : IsSet IsSize (values_of SizeKey words) request.size
+  pub sized : HasSize request.command request.size
 
 -- the first word is that of the command, and the others are its keys
 abbrev pub Asks : List (List ℕ) → Request → Type 0
@@ -89,3 +123,12 @@ Asks (command ∷ keys) request = (command ≡ command_word request.command) × 
 -- the words are of the form
 abbrev pub AreOfForm : List (List ℕ) → Type 0
 AreOfForm words = (request : Request) × Asks words request
+
+-- a command that makes its sketch takes no input
+abbrev pub TakesInput : Command → Type 0
+TakesInput Grow = ⊥
+TakesInput command = Unit {0}
+
+-- the words are of the form, and their command takes the input
+abbrev pub AskForInput : List (List ℕ) → Type 0
+AskForInput words = (request : Request) × Asks words request × TakesInput request.command

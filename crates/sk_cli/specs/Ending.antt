@@ -4,7 +4,7 @@ use Rattle.std.specs.Io.KnownBytes.{Appends}
 use Rattle.sk_io.specs.Transfer.{AppendsFront}
 use Rattle.sk_cli.specs.declared.status.Status.{Status}
 use Rattle.sk_cli.specs.declared.status.Status.TheVariants.{ReadFault, WriteFault, NoMemory}
-use Rattle.sk_cli.specs.Asking.{AreOfForm}
+use Rattle.sk_cli.specs.Asking.{AskForInput}
 use Rattle.sk_cli.specs.Outcome.{IsOutcome}
 
 -- where it is told what a source has left, it is these bytes
@@ -14,7 +14,7 @@ IsTold (Some left) bytes = bytes ≡ left
 
 -- each status says what the sink gained: nothing, a front of the outcome's text, or all of it
 abbrev pub Ends : List (List ℕ) → List ℕ → Status → List ℕ → Type 0
-Ends words bytes ReadFault gained = AreOfForm words × (gained ≡ [])
+Ends words bytes ReadFault gained = AskForInput words × (gained ≡ [])
 Ends words bytes NoMemory gained = gained ≡ []
 Ends words bytes WriteFault gained =
     (status : Status) × (text : List ℕ) × (n : ℕ) × IsOutcome words bytes status text × (n ≤ length text) × (gained ≡ take n text)

@@ -1,7 +1,9 @@
 pub mod Asking
+pub mod Causes
 pub mod Commands
 pub mod Ending
 pub mod Grids
+pub mod Headline
 pub mod OfferLines
 pub mod OfferReading
 pub mod OffersReport

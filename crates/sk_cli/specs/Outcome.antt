@@ -1,5 +1,5 @@
 -- What a call answers and writes: a status and a text.
-use Rattle.std.specs.Prelude.{◌≡◌, ◌≢◌, ◌⊎◌, ℕ, List, All, map, codes}
+use Rattle.std.specs.Prelude.{◌≡◌, ◌≢◌, ◌⊎◌, ℕ, List, All, Some, map, codes}
 use Rattle.sk_base.specs.declared.Sketch.{Sketch}
 use Rattle.sk_lang.specs.declared.Refusal.{Refusal as OneRefusal}
 use Rattle.sk_lang.specs.Reading.{Reads, Refuses}
@@ -14,20 +14,23 @@ use Rattle.sk_tree.specs.declared.Plan.{Plan as ThePlan}
 use Rattle.sk_tree.specs.LegalPlan.{IsLegalPlan, merge_told}
 use Rattle.sk_choice.specs.DrawnChoice.{HasDrawnChoice}
 use Rattle.sk_plan.specs.Judged.{IsTheJudgement, IsWell}
+use Rattle.sk_gen.specs.DatumSketch.{datum_sketch}
 use Rattle.sk_report.specs.CheckReport.{check_report}
 use Rattle.sk_report.specs.PlanReport.{plan_report}
 use Rattle.sk_report.specs.RefusalLine.{refusal_line}
 use Rattle.sk_cli.specs.declared.bits.Bits.{Bits}
 use Rattle.sk_cli.specs.declared.command.Command.{Command}
-use Rattle.sk_cli.specs.declared.command.Command.TheVariants.{Check, Plan, Solve, Offers}
+use Rattle.sk_cli.specs.declared.command.Command.TheVariants.{Check, Plan, Solve, Dxf, Offers, Grow}
 use Rattle.sk_cli.specs.declared.placing.Placement.{Placement}
 use Rattle.sk_cli.specs.declared.request.Request.{Request}
+use Rattle.sk_cli.specs.declared.solving.Report.{Report}
+use Rattle.sk_cli.specs.declared.solving.Report.TheVariants.{Places, Drawing, Sums}
 use Rattle.sk_cli.specs.declared.status.Status.{Status}
 use Rattle.sk_cli.specs.declared.status.Status.TheVariants.{Done, Refused, Usage, NotWell}
 use Rattle.sk_cli.specs.Asking.{Asks, AreOfForm}
 use Rattle.sk_cli.specs.Grids.{grid_of, digits_of}
 use Rattle.sk_cli.specs.OffersReport.{IsOffersAnswer}
-use Rattle.sk_cli.specs.Solving.{IsPlacement, status_of, solve_words}
+use Rattle.sk_cli.specs.Solving.{IsPlacement, status_of, placement_words}
 
 abbrev pub usage_line : List ℕ
 usage_line = codes "usage: sketch check|plan|solve|dxf|offers|session|grow [order=first|last|0..65535] [bits=16|27|38] [within=1..1000000] [n=3..1000]\n"
@@ -79,23 +82,31 @@ pub record IsPlacedPlan (request : Request) (s : Sketch) (p : ThePlan) (placemen
   pub plan : IsPlanBy request.order s p
   pub placed : IsPlacement (grid_of request.bits) (digits_of request.bits) request.within s p placement
 
--- what is told of the placed plan; or the verdict isn't well, and this is the check report
-abbrev pub IsSolved : (Sketch → ThePlan → Placement → List ℕ) → Request → Sketch → Status → List ℕ → Type 0
-IsSolved words request s status text =
-    ((p : ThePlan) × (placement : Placement) × IsPlacedPlan request s p placement × (status ≡ status_of placement) × (text ≡ words s p placement))
+-- what is written of the placed plan; or the verdict isn't well, and this is the check report
+abbrev pub IsSolved : Report → Request → Sketch → Status → List ℕ → Type 0
+IsSolved report request s status text =
+    ((p : ThePlan) × (placement : Placement) × IsPlacedPlan request s p placement × (status ≡ status_of placement)
+        × (text ≡ placement_words report (digits_of request.bits) s p placement))
     ⊎ ((status ≡ NotWell) × IsReportNotWell s text)
 
--- what `solve` answers to an input
-abbrev pub IsSolveAnswer : Request → List ℕ → Status → List ℕ → Type 0
-IsSolveAnswer request bytes Refused text = IsRefusalText bytes text
-IsSolveAnswer request bytes status text = (s : Sketch) × Reads bytes s × IsSolved (solve_words (digits_of request.bits)) request s status text
+-- what `solve` and `dxf` answer to an input, each with its report
+abbrev pub IsSolveAnswer : Report → Request → List ℕ → Status → List ℕ → Type 0
+IsSolveAnswer report request bytes Refused text = IsRefusalText bytes text
+IsSolveAnswer report request bytes status text = (s : Sketch) × Reads bytes s × IsSolved report request s status text
 
--- what a command answers to an input. What `check` and `offers` answer is the same for every order.
+-- what `grow` answers: what `solve` would do with the datum sketch of that size, with the sums as its report
+abbrev pub IsGrowAnswer : Request → Status → List ℕ → Type 0
+IsGrowAnswer request status text = (n : ℕ) × (request.size ≡ Some n) × IsSolved Sums request (datum_sketch n) status text
+
+-- what a command answers to an input. What `check` and `offers` answer is the same for every order, and what `grow`
+-- answers is the same for every input.
 abbrev pub IsAnswerOf : Command → Request → List ℕ → Status → List ℕ → Type 0
 IsAnswerOf Check request bytes status text = IsCheckAnswer bytes status text
 IsAnswerOf Plan request bytes status text = IsPlanAnswer request.order bytes status text
-IsAnswerOf Solve request bytes status text = IsSolveAnswer request bytes status text
+IsAnswerOf Solve request bytes status text = IsSolveAnswer Places request bytes status text
+IsAnswerOf Dxf request bytes status text = IsSolveAnswer Drawing request bytes status text
 IsAnswerOf Offers request bytes status text = IsOffersAnswer bytes status text
+IsAnswerOf Grow request bytes status text = IsGrowAnswer request status text
 
 abbrev pub IsAnswer : Request → List ℕ → Status → List ℕ → Type 0
 IsAnswer request bytes status text = IsAnswerOf request.command request bytes status text

@@ -1,16 +1,10 @@
 -- What the keys that were read so far say.
-use Rattle.std.specs.Prelude.{◌≡◌, ℕ, List, [], ◌∷◌, Option, None, Some, All}
+use Rattle.std.specs.Prelude.{◌≡◌, ℕ, List, Option, None, Some, All}
 use Rattle.sk_worklist.specs.declared.Order.{Order}
 use Rattle.sk_cli.specs.declared.bits.Bits.{Bits}
 use Rattle.sk_cli.specs.declared.command.Command.{Command}
 use Rattle.sk_cli.specs.declared.settings.Settings.{Settings}
-use Rattle.sk_cli.specs.Asking.{Key, OrderKey, BitsKey, WithinKey, key_name, behind, IsKeyOf, values_of, IsOrder, IsBits, IsLimit}
-
--- nothing is set without a value, and with one value what it says
-abbrev pub IsSet : {X : Type 0} → (List ℕ → X → Type 0) → List (List ℕ) → Option X → Type 0
-IsSet Is [] None = Unit {0}
-IsSet Is (value ∷ []) (Some x) = Is value x
-IsSet Is _ _ = ⊥
+use Rattle.sk_cli.specs.Asking.{Key, OrderKey, BitsKey, WithinKey, SizeKey, key_name, behind, IsKeyOf, values_of, IsOrder, IsBits, IsLimit, IsSize, IsSet}
 
 -- the words are keys of the command, and this is what they set
 pub record AreSet (command : Command) (words : List (List ℕ)) (settings : Settings) : Type 0 where
@@ -18,6 +12,7 @@ pub record AreSet (command : Command) (words : List (List ℕ)) (settings : Sett
   pub order : IsSet IsOrder (values_of OrderKey words) settings.order
   pub bits : IsSet IsBits (values_of BitsKey words) settings.bits
   pub within : IsSet IsLimit (values_of WithinKey words) settings.within
+  pub size : IsSet IsSize (values_of SizeKey words) settings.size
 
 -- a value sets what wasn't set; without one it stays
 abbrev pub Sets : {X : Type 0} → (List ℕ → X → Type 0) → Option (List ℕ) → Option X → Option X → Type 0
@@ -30,3 +25,4 @@ pub record Adds (command : Command) (word : List ℕ) (before after : Settings) 
   pub order : Sets IsOrder (behind (key_name OrderKey) word) before.order after.order
   pub bits : Sets IsBits (behind (key_name BitsKey) word) before.bits after.bits
   pub within : Sets IsLimit (behind (key_name WithinKey) word) before.within after.within
+  pub size : Sets IsSize (behind (key_name SizeKey) word) before.size after.size

@@ -16,9 +16,14 @@ use Rattle.sk_residual.specs.Least.{IsLeast, IsFirst}
 use Rattle.sk_residual.specs.Tolerances.{AllHold, IsWorstUnlessNone, IsFirstBeyond, lengthwise, anglewise, everything}
 use Rattle.sk_residual.specs.Turns.{signs, IsTurned, AllAsDrawn}
 use Rattle.sk_report.specs.SolveReport.{solve_report}
+use Rattle.sk_report.specs.GrowReport.{grow_report}
+use Rattle.sk_dxf.specs.Courses.{HasBoundedPlaces}
+use Rattle.sk_dxf.specs.Entities.{dxf_of}
 use Rattle.sk_report.specs.FaultLines.{fault_line, passed_line, turned_line}
 use Rattle.sk_cli.specs.declared.placing.Placement.{Placement}
 use Rattle.sk_cli.specs.declared.placing.Placement.TheVariants.{Fault, Beyond, Turned, Holds}
+use Rattle.sk_cli.specs.declared.solving.Report.{Report}
+use Rattle.sk_cli.specs.declared.solving.Report.TheVariants.{Places, Drawing, Sums}
 use Rattle.sk_cli.specs.declared.status.Status.{Status}
 
 -- the elements of these boxes, each at the midpoint of its box
@@ -52,9 +57,20 @@ status_of (Beyond b) = Status.Tolerance
 status_of (Turned t) = Status.StepFault
 status_of (Holds at t) = Status.Done
 
--- what `solve` writes
-abbrev pub solve_words : ℕ → Sketch → ThePlan → Placement → List ℕ
-solve_words bits s p (Fault f) = fault_line s f bits
-solve_words bits s p (Beyond b) = passed_line s b
-solve_words bits s p (Turned t) = turned_line t
-solve_words bits s p (Holds at t) = solve_report s p bits at t
+-- what is written where elements lie so: the report of `solve`, the drawing, or the sums
+abbrev pub report_words : Report → ℕ → Sketch → ThePlan → Placed → Tolerance → List ℕ
+report_words Places bits s p at t = solve_report s p bits at t
+report_words Drawing bits s p at t = dxf_of s at
+report_words Sums bits s p at t = grow_report s p at t
+
+-- what is written of a placement: what failed, or else the report
+abbrev pub placement_words : Report → ℕ → Sketch → ThePlan → Placement → List ℕ
+placement_words report bits s p (Fault f) = fault_line s f bits
+placement_words report bits s p (Beyond b) = passed_line s b
+placement_words report bits s p (Turned t) = turned_line t
+placement_words report bits s p (Holds at t) = report_words report bits s p at t
+
+-- the numbers of placed elements are within the bounds of placed numbers
+abbrev pub LiesWithinBounds : Placement → Type 0
+LiesWithinBounds (Holds at t) = HasBoundedPlaces at
+LiesWithinBounds placement = Unit {0}

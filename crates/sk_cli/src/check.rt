@@ -8,13 +8,13 @@ ghost use Rattle.sk_report.specs.CheckReport.{check_report};
 ghost use Rattle.sk_plan.specs.Judged.{IsTheJudgement};
 ghost use Rattle.sk_cli.specs.Outcome.{IsReport, IsRefusalText, IsCheckAnswer};
 
-use crate::answer::Answer;
+use crate::answer::{Answer, refused};
 use crate::status::Status;
 use sk_base::{Graph, NoMemory, Sketch, Text};
 use sk_family::initial;
 use sk_graph::reduce;
 use sk_lang::{ReadError, read_sketch};
-use sk_report::{check_text, refused_text};
+use sk_report::check_text;
 use sk_verdict::{Judgement, judge};
 use sk_worklist::{Chosen, Order, close_family};
 use std::alloc::Global;
@@ -28,10 +28,7 @@ pub fn check(alloc: Global, order: Order, bytes: &[u8]) -> Result<Answer, NoMemo
             status: Status::Done,
             text: report(alloc, order, &sketch)?,
         }),
-        Err(ReadError::Refused(refusal)) => Ok(Answer {
-            status: Status::Refused,
-            text: refused_text(alloc, &refusal)?,
-        }),
+        Err(ReadError::Refused(refusal)) => refused(alloc, &refusal),
         Err(ReadError::NoMemory) => Err(NoMemory),
     }
 }

@@ -1,6 +1,6 @@
 // The commands by their words.
 ghost use Rattle.std.specs.Prelude.{◌≡◌, IfSome, IfNone};
-ghost use Rattle.sk_cli.specs.Asking.{takes, BitsKey};
+ghost use Rattle.sk_cli.specs.Asking.{places, makes};
 ghost use Rattle.sk_cli.specs.declared.command.Command.{Command as AnyCommand};
 ghost use Rattle.sk_cli.specs.Commands.{command_word};
 
@@ -13,18 +13,34 @@ pub enum Command {
     Plan,
     /// Places the elements of a sketch.
     Solve,
+    /// Places the elements of a sketch, and draws them.
+    Dxf,
     /// Answers merges that workers offer, and judges the sketch.
     Offers,
+    /// Makes a sketch, places its elements, and sums up where they lie.
+    Grow,
 }
 
 impl Command {
     /// Whether it places elements, and so takes a grid and a limit.
     pub(crate) fn places(self) -> bool
-        ensures { result ≡ takes self BitsKey }
+        ensures { result ≡ places self }
     {
         match self {
-            Command::Solve => true,
+            Command::Solve | Command::Dxf | Command::Grow => true,
             Command::Check | Command::Plan | Command::Offers => false,
+        }
+    }
+
+    /// Whether it makes its sketch, and so takes a size and no input.
+    pub(crate) fn makes(self) -> bool
+        ensures { result ≡ makes self }
+    {
+        match self {
+            Command::Grow => true,
+            Command::Check | Command::Plan | Command::Solve | Command::Dxf | Command::Offers => {
+                false
+            }
         }
     }
 }
@@ -40,8 +56,12 @@ pub fn command_of(word: &str) -> Option<Command>
         Some(Command::Plan)
     } else if word == "solve" {
         Some(Command::Solve)
+    } else if word == "dxf" {
+        Some(Command::Dxf)
     } else if word == "offers" {
         Some(Command::Offers)
+    } else if word == "grow" {
+        Some(Command::Grow)
     } else {
         None
     }

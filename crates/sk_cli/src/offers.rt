@@ -1,18 +1,17 @@
 // The command `offers`.
 ghost use Rattle.std.specs.Prelude.{◌≡◌, ◌<◌, All, IfOk, length};
 ghost use Rattle.sk_base.specs.SoundSketch.{IsSoundSketch};
-ghost use Rattle.sk_report.specs.RefusalLine.{refusal_line};
 ghost use Rattle.sk_cli.specs.OffersReport.{FitsBoard, AreAnswered, IsReportOnOffers, IsOffersAnswer};
 
-use crate::answer::Answer;
+use crate::answer::{Answer, refused};
 use crate::offer_line::OfferLine;
 use crate::offer_reading::read_offers;
 use crate::status::Status;
 use sk_base::{NoMemory, Sketch, Text};
 use sk_graph::reduce;
-use sk_lang::{ReadError, Refusal, read_sketch_front};
+use sk_lang::{ReadError, read_sketch_front};
 use sk_offers::Board;
-use sk_report::{answer_text, check_text, refused_text};
+use sk_report::{answer_text, check_text};
 use sk_verdict::judge;
 use sk_worklist::{Chosen, Order};
 use std::alloc::Global;
@@ -34,17 +33,6 @@ pub fn offers(alloc: Global, order: Order, bytes: &[u8]) -> Result<Answer, NoMem
         Err(ReadError::Refused(refusal)) => refused(alloc, &refusal),
         Err(ReadError::NoMemory) => Err(NoMemory),
     }
-}
-
-/// The refusal of the input.
-fn refused(alloc: Global, refusal: &Refusal) -> Result<Answer, NoMemory>
-    ensures status { IfOk result (λ answer. answer.status ≡ Status.Refused) }
-    ensures text { IfOk result (λ answer. answer.text ≡ refusal_line refusal.now) }
-{
-    Ok(Answer {
-        status: Status::Refused,
-        text: refused_text(alloc, refusal)?,
-    })
 }
 
 /// A line for each offer, and then the check report of the sketch.

@@ -6,7 +6,7 @@ ghost use Rattle.sk_graph.specs.SketchGraph.{graph_of};
 ghost use Rattle.sk_tree.specs.LegalPlan.{IsLegalPlan};
 ghost use Rattle.sk_residual.specs.Placing.{PlacesExactly};
 ghost use Rattle.sk_cli.specs.Grids.{grid_of, digits_of};
-ghost use Rattle.sk_cli.specs.Solving.{IsMeasured, IsPlacement};
+ghost use Rattle.sk_cli.specs.Solving.{IsMeasured, IsPlacement, LiesWithinBounds};
 
 use crate::bits::Bits;
 use sk_base::{Graph, NoMemory, Placed, Sketch};
@@ -40,7 +40,8 @@ pub(crate) fn placed(
     requires graph { g.now ≡ graph_of s.now }
     requires sound { IsSoundGraph g.now }
     requires legal { IsLegalPlan g.now p.now }
-    ensures { IfOk result (IsPlacement (grid_of bits) (digits_of bits) limit s.now p.now) }
+    ensures placement { IfOk result (IsPlacement (grid_of bits) (digits_of bits) limit s.now p.now) }
+    ensures bounded { IfOk result LiesWithinBounds }
 {
     match bits {
         Bits::Sixteen => placed_on::<G16>(alloc, limit, s, g, p),
@@ -61,7 +62,8 @@ fn placed_on<G: Grid>(
     requires graph { g.now ≡ graph_of s.now }
     requires sound { IsSoundGraph g.now }
     requires legal { IsLegalPlan g.now p.now }
-    ensures { IfOk result (IsPlacement G G.BITS limit s.now p.now) }
+    ensures placement { IfOk result (IsPlacement G G.BITS limit s.now p.now) }
+    ensures bounded { IfOk result LiesWithinBounds }
 {
     match place::<G>(alloc, p, g) {
         Ok(boxes) => {

@@ -3,13 +3,13 @@ ghost use Rattle.std.specs.Prelude.{◌<◌, length, IfOk};
 ghost use Rattle.sk_base.specs.SoundSketch.{IsSoundSketch};
 ghost use Rattle.sk_cli.specs.Outcome.{IsPlanAnswer, IsPlanOrReport};
 
-use crate::answer::Answer;
+use crate::answer::{Answer, refused};
 use crate::status::Status;
 use sk_base::{NoMemory, Sketch};
 use sk_graph::reduce;
 use sk_lang::{ReadError, read_sketch};
 use sk_plan::{PlanError, plan_of};
-use sk_report::{check_text, plan_text, refused_text};
+use sk_report::{check_text, plan_text};
 use sk_worklist::{Chosen, Order};
 use std::alloc::Global;
 
@@ -19,10 +19,7 @@ pub fn plan(alloc: Global, order: Order, bytes: &[u8]) -> Result<Answer, NoMemor
 {
     match read_sketch(alloc, bytes) {
         Ok(sketch) => planned(alloc, order, &sketch),
-        Err(ReadError::Refused(refusal)) => Ok(Answer {
-            status: Status::Refused,
-            text: refused_text(alloc, &refusal)?,
-        }),
+        Err(ReadError::Refused(refusal)) => refused(alloc, &refusal),
         Err(ReadError::NoMemory) => Err(NoMemory),
     }
 }

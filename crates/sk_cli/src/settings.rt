@@ -5,7 +5,7 @@ ghost use Rattle.sk_worklist.specs.declared.Order.{Order as AnyOrder};
 ghost use Rattle.sk_cli.specs.declared.bits.Bits.{Bits as AnyBits};
 ghost use Rattle.sk_cli.specs.declared.request.Request.{Request as AnyRequest};
 ghost use Rattle.sk_cli.specs.declared.settings.Settings.{Settings as OtherSettings};
-ghost use Rattle.sk_cli.specs.Asking.{behind, HasKeys, IsOrder, IsBits, IsLimit, LeadsWithZero};
+ghost use Rattle.sk_cli.specs.Asking.{makes, behind, HasKeys, IsNumber, IsOrder, IsBits, IsLimit, IsSize, LeadsWithZero};
 ghost use Rattle.sk_cli.specs.Settings.{AreSet, Adds};
 
 use crate::bits::Bits;
@@ -17,12 +17,17 @@ const MOST_STRIDE: u64 = 65_535;
 
 const MOST_LIMIT: u64 = 1_000_000;
 
+const LEAST_SIZE: u64 = 3;
+
+const MOST_SIZE: u64 = 1_000;
+
 /// What the keys say that were read, each where it stands.
 #[derive(Clone, Copy, Debug, PartialEq, Eq)]
 pub(crate) struct Settings {
     pub(crate) order: Option<Order>,
     pub(crate) bits: Option<Bits>,
     pub(crate) within: Option<u64>,
+    pub(crate) size: Option<u32>,
 }
 
 /// What the words set, if they are keys of the command and none stands twice.
@@ -34,6 +39,7 @@ pub(crate) fn settings_of(command: Command, words: &[String]) -> Option<Settings
         order: None,
         bits: None,
         within: None,
+        size: None,
     };
     for word in words {
         settings = settings.with(command, word.as_str())?;
@@ -49,6 +55,9 @@ impl Settings {
     {
         if let Some(value) = behind(word, "order=") {
             return self.with_order(value);
+        }
+        if let Some(value) = behind(word, "n=") {
+            return self.with_size(command, value);
         }
         if !command.places() {
             return None;
@@ -100,6 +109,20 @@ impl Settings {
             ..self
         })
     }
+
+    fn with_size(self, command: Command, value: &[u8]) -> Option<Settings>
+        ensures some { IfSome result (λ after. (size : ℕ) × IsTrue (makes command) × IsSize value.now size × (self.size ≡ None) × (after ≡ record self { size = Some size })) }
+        ensures none { IfNone result ((size : ℕ) → IsTrue (makes command) → IsSize value.now size → self.size ≡ None → ⊥) }
+    {
+        if !command.makes() || self.size.is_some() {
+            return None;
+        }
+        let size = size_of(value)?;
+        Some(Settings {
+            size: Some(size),
+            ..self
+        })
+    }
 }
 
 /// What stands behind the name that the word begins with.
@@ -139,21 +162,34 @@ fn bits_named(value: &[u8]) -> Option<Bits>
 }
 
 fn stride_of(value: &[u8]) -> Option<u16>
-    ensures some { IfSome result (λ stride. (value.now ≡ decimal stride) × (stride ≤ 65535)) }
-    ensures none { IfNone result ((stride : ℕ) → stride ≤ 65535 → value.now ≢ decimal stride) }
+    ensures some { IfSome result (IsNumber 0 65535 value.now) }
+    ensures none { IfNone result ((stride : ℕ) → IsNumber 0 65535 value.now stride → ⊥) }
 {
-    match number_of(5, value) {
-        Some(stride) if stride <= MOST_STRIDE => Some(stride as u16),
-        _ => None,
-    }
+    Some(number_between(0, MOST_STRIDE, value)? as u16)
 }
 
 fn limit_of(value: &[u8]) -> Option<u64>
     ensures some { IfSome result (IsLimit value.now) }
     ensures none { IfNone result ((limit : ℕ) → IsLimit value.now limit → ⊥) }
 {
+    number_between(1, MOST_LIMIT, value)
+}
+
+fn size_of(value: &[u8]) -> Option<u32>
+    ensures some { IfSome result (IsSize value.now) }
+    ensures none { IfNone result ((size : ℕ) → IsSize value.now size → ⊥) }
+{
+    Some(number_between(LEAST_SIZE, MOST_SIZE, value)? as u32)
+}
+
+/// The number from `least` to `most` that digits spell, without a leading zero.
+fn number_between(least: u64, most: u64, value: &[u8]) -> Option<u64>
+    requires { most < 10000000 }
+    ensures some { IfSome result (IsNumber least most value.now) }
+    ensures none { IfNone result ((number : ℕ) → IsNumber least most value.now number → ⊥) }
+{
     match number_of(7, value) {
-        Some(limit) if limit >= 1 && limit <= MOST_LIMIT => Some(limit),
+        Some(number) if number >= least && number <= most => Some(number),
         _ => None,
     }
 }

@@ -1,21 +1,24 @@
 // The top call.
-ghost use Rattle.std.specs.Prelude.{◌≡◌, ◌≤◌, ℕ, List, length, drop, map, Some, string_bytes, IfOk, IfSome};
+ghost use Rattle.std.specs.Prelude.{◌≡◌, ◌≤◌, ℕ, List, length, drop, map, Some, string_bytes, IfOk, IfSome, IsErrOf};
 ghost use Rattle.std.specs.Io.KnownBytes.{Appends};
-ghost use Rattle.sk_io.specs.Causes.{Rose};
+ghost use Rattle.sk_io.specs.Causes.{AnswersFault};
+ghost use Rattle.sk_io.specs.Transfer.{TakesUpTo};
 ghost use Rattle.sk_cli.specs.declared.status.Status.{Status as AnyStatus};
-ghost use Rattle.sk_cli.specs.Asking.{AreOfForm};
+ghost use Rattle.sk_cli.specs.Asking.{TakesInput, AskForInput};
 ghost use Rattle.sk_cli.specs.Outcome.{IsAnswer, IsOutcome};
 ghost use Rattle.sk_cli.specs.Ending.{IsTold, Ends, HasInput, Sends};
 
 use crate::answer::Answer;
 use crate::check::check;
 use crate::command::Command;
+use crate::grow::grow;
 use crate::offers::offers;
 use crate::plan::plan;
 use crate::request::{Request, request_of};
 use crate::solve::solve;
+use crate::solving::Report;
 use crate::status::Status;
-use sk_base::NoMemory;
+use sk_base::{NoMemory, Text};
 use sk_io::{ReadEnd, Sink, Source, read_all, write_all};
 use std::alloc::Global;
 
@@ -40,14 +43,14 @@ pub fn run<S: Source, K: Sink>(
         × Ends (map string_bytes words.now) bytes result gained }
 
     // The input is read to its end, or to the byte that is one too many. Where the words aren't of the
-    // form, no call is made on the source.
-    ensures read { AreOfForm (map string_bytes words.now) → HasInput result
+    // form, or their command makes its sketch, no call is made on the source.
+    ensures read { AskForInput (map string_bytes words.now) → HasInput result
         → IfSome (S.left source.old) (λ bytes. S.left source.new ≡ Some (drop 1048577 bytes)) }
-    ensures untouched { (AreOfForm (map string_bytes words.now) → ⊥) → source.new ≡ source.old }
+    ensures untouched { (AskForInput (map string_bytes words.now) → ⊥) → source.new ≡ source.old }
 
-    // A fault is answered only where the source or the sink counted one in this call.
-    ensures read_cause { result ≡ Status.ReadFault → Rose (S.faults source.old) (S.faults source.new) }
-    ensures write_cause { result ≡ Status.WriteFault → Rose (K.faults sink.old) (K.faults sink.new) }
+    // A fault is answered exactly where the source or the sink counted one in this call.
+    ensures read_fault { AnswersFault (result ≡ Status.ReadFault) (S.faults source.old) (S.faults source.new) }
+    ensures write_fault { AnswersFault (result ≡ Status.WriteFault) (K.faults sink.old) (K.faults sink.new) }
 
     // Where no read fails, and the sink has room for every outcome and no write of it fails, no fault is
     // counted and none is answered.
@@ -60,7 +63,7 @@ pub fn run<S: Source, K: Sink>(
     let Some(request) = request_of(words) else {
         return send(sink, Status::Usage, USAGE.as_bytes());
     };
-    let bytes = match read_all(alloc, source, MOST_TAKEN) {
+    let bytes = match input(alloc, request.command, source) {
         Ok(bytes) => bytes,
         Err(ReadEnd::ReadFault) => return Status::ReadFault,
         Err(ReadEnd::NoMemory) => return Status::NoMemory,
@@ -71,23 +74,43 @@ pub fn run<S: Source, K: Sink>(
     }
 }
 
+/// What the command works on: what the source has left, up to a byte more than an input may have. A
+/// command that makes its sketch takes nothing.
+fn input<S: Source>(alloc: Global, command: Command, source: &mut S) -> Result<Text, ReadEnd>
+    ensures taken { TakesInput command → IfOk result (TakesUpTo 1048577 (S.left source.old) (S.left source.new)) }
+    ensures bound { IfOk result (λ text. length text ≤ 1048577) }
+    ensures untouched { (TakesInput command → ⊥) → source.new ≡ source.old }
+    ensures tried { IsErrOf result ReadEnd.ReadFault → TakesInput command }
+    ensures fault { AnswersFault (IsErrOf result ReadEnd.ReadFault) (S.faults source.old) (S.faults source.new) }
+    ensures sure { S.is_sure source.old
+        → (S.faults source.new ≡ S.faults source.old) × (IsErrOf result ReadEnd.ReadFault → ⊥) }
+{
+    if command.makes() {
+        return Ok(Text::new(alloc));
+    }
+    read_all(alloc, source, MOST_TAKEN)
+}
+
 /// The answer to an input.
 fn answer(alloc: Global, request: Request, bytes: &[u8]) -> Result<Answer, NoMemory>
+    requires { request.command ≡ Command.Grow → (n : ℕ) × (request.size ≡ Some n) × (3 ≤ n) × (n ≤ 1000) }
     ensures { IfOk result (λ answer. IsAnswer request bytes.now answer.status answer.text) }
 {
     match request.command {
         Command::Check => check(alloc, request.order, bytes),
         Command::Plan => plan(alloc, request.order, bytes),
-        Command::Solve => solve(alloc, request, bytes),
+        Command::Solve => solve(alloc, request, Report::Places, bytes),
+        Command::Dxf => solve(alloc, request, Report::Drawing, bytes),
         Command::Offers => offers(alloc, request.order, bytes),
+        Command::Grow => grow(alloc, request),
     }
 }
 
 /// Writes the text, and answers the status, or that the sink failed.
 fn send<K: Sink>(sink: &mut K, status: Status, text: &[u8]) -> Status
     ensures sent { Sends (K.written sink.old) (K.written sink.new) status text.now result }
-    ensures cause { result ≡ Status.WriteFault → (status ≡ Status.WriteFault → ⊥) → Rose (K.faults sink.old) (K.faults sink.new) }
-    ensures later { K.faults sink.old ≤ K.faults sink.new }
+    ensures fault { (status ≡ Status.WriteFault → ⊥)
+        → AnswersFault (result ≡ Status.WriteFault) (K.faults sink.old) (K.faults sink.new) }
     ensures sure { length text.now ≤ K.sure_room sink.old
         → (K.faults sink.new ≡ K.faults sink.old) × (result ≡ status) }
 {

@@ -5,7 +5,7 @@ use Rattle.std.proofs.lemmas.Nat.{mul-le}
 use Rattle.std.specs.Int.{w128}
 use Rattle.sk_base.specs.Bounds.{IsWithin}
 
-abs_of_within : (most : ℕ) (z : ℤ) → IsWithin most z → unsigned_abs z ≤ most
+pub abs_of_within : (most : ℕ) (z : ℤ) → IsWithin most z → unsigned_abs z ≤ most
 abs_of_within most z within = omega (arith, ints, within.0, within.1)
 
 within_of_abs : (most : ℕ) (z : ℤ) → unsigned_abs z ≤ most → IsWithin most z

@@ -13,4 +13,4 @@ mod segment;
 mod tests;
 
 pub use drawing::dxf_text;
-pub use law::{rounding_is_nearest, segments_span_the_neighbours};
+pub use law::segments_span_the_neighbours;

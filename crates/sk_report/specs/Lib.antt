@@ -1,6 +1,7 @@
 pub mod AnswerLine
 pub mod CheckReport
 pub mod FaultLines
+pub mod GrowReport
 pub mod PlanReport
 pub mod RefusalLine
 pub mod ReplyLines

@@ -4,6 +4,7 @@
 mod answer;
 mod check;
 mod fault;
+mod grow;
 mod plan;
 mod refusal;
 mod reply;
@@ -11,6 +12,7 @@ mod solve;
 
 pub use answer::answer_text;
 pub use check::check_text;
+pub use grow::grow_text;
 pub use fault::{fault_text, passed_text, turned_text};
 pub use plan::plan_text;
 pub use refusal::refused_text;

@@ -98,7 +98,7 @@ fn put_line(text: &mut Text, name: &[u8], a: i64, b: i64, c: i64) -> Result<(), 
 }
 
 /// Puts a word and a name.
-fn put_named(text: &mut Text, word: &[u8], name: &[u8]) -> Result<(), NoMemory>
+pub(crate) fn put_named(text: &mut Text, word: &[u8], name: &[u8]) -> Result<(), NoMemory>
     ensures { OnOk result (text.new ≡ text.old ++ (word.now ++ name.now)) }
 {
     text.put(word)?;
@@ -138,7 +138,7 @@ pub(crate) fn put_number(text: &mut Text, n: i128) -> Result<(), NoMemory>
 }
 
 /// Puts the two lines that tell the tolerance.
-fn put_tolerance(alloc: Global, text: &mut Text, s: &Sketch, t: &Tolerance) -> Result<(), NoMemory>
+pub(crate) fn put_tolerance(alloc: Global, text: &mut Text, s: &Sketch, t: &Tolerance) -> Result<(), NoMemory>
     ensures { OnOk result (text.new ≡ text.old ++ tolerance_lines s.now t.now) }
 {
     put_length_line(alloc, text, t)?;

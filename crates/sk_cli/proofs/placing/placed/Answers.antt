@@ -1,10 +1,10 @@
 use Rattle.sk_cli.proofs.placing.placed.Goals as goal
 
-pub returns-in-Sixteen : goal.returns-in-Sixteen
-returns-in-Sixteen c = rw c.in-Sixteen.is c.placed_on.ensures
+pub returns-in-Sixteen-clause-placement : goal.returns-in-Sixteen-clause-placement
+returns-in-Sixteen-clause-placement c = rw c.in-Sixteen.is c.placed_on.ensures.placement
 
-pub returns-in-TwentySeven : goal.returns-in-TwentySeven
-returns-in-TwentySeven c = rw c.in-TwentySeven.is c.placed_on-in-TwentySeven.ensures
+pub returns-in-TwentySeven-clause-placement : goal.returns-in-TwentySeven-clause-placement
+returns-in-TwentySeven-clause-placement c = rw c.in-TwentySeven.is c.placed_on-in-TwentySeven.ensures.placement
 
-pub returns-in-ThirtyEight : goal.returns-in-ThirtyEight
-returns-in-ThirtyEight c = rw c.in-ThirtyEight.is c.placed_on-in-ThirtyEight.ensures
+pub returns-in-ThirtyEight-clause-placement : goal.returns-in-ThirtyEight-clause-placement
+returns-in-ThirtyEight-clause-placement c = rw c.in-ThirtyEight.is c.placed_on-in-ThirtyEight.ensures.placement

@@ -1,8 +1,9 @@
 use Rattle.std.proofs.Common.{◌∙◌, sym, refl, map}
 use Rattle.std.specs.Prelude.{string_bytes}
 use Rattle.sk_cli.specs.declared.status.Status.TheVariants.{ReadFault, NoMemory}
-use Rattle.sk_cli.specs.Asking.{AreOfForm}
-use Rattle.sk_cli.proofs.Runs.{usage_ends, answer_ends, nothing_ends, no_form, answer_room, usage_room, no_fault}
+use Rattle.sk_cli.specs.Asking.{AskForInput}
+use Rattle.sk_cli.proofs.Runs.{usage_ends, answer_ends, nothing_ends, no_form, answer_room, usage_room, no_fault, asked_input, read_told}
+use Rattle.sk_cli.proofs.Sizes.{grow_size}
 use Rattle.sk_cli.proofs.top.run.Goals as goal
 
 pub returns-in_default-clause-outcome : goal.returns-in_default-clause-outcome
@@ -12,7 +13,7 @@ returns-in_default-clause-outcome g c =
 
 pub returns-in_default-clause-read : goal.returns-in_default-clause-read
 returns-in_default-clause-read g c is =
-    absurd (no_form (map string_bytes c.args.words.now) c.in_default.ensures.none is)
+    absurd (no_form (map string_bytes c.args.words.now) c.in_default.ensures.none (is.0, is.1))
 
 pub returns-in_default-clause-sure_sink : goal.returns-in_default-clause-sure_sink
 returns-in_default-clause-sure_sink g c each =
@@ -22,8 +23,8 @@ returns-in_default-clause-sure_sink g c each =
 
 pub returns-in-Err-ReadFault-clause-outcome : goal.returns-in-Err-ReadFault-clause-outcome
 returns-in-Err-ReadFault-clause-outcome g c =
-    let form : AreOfForm (map string_bytes c.args.words.now) = (c.in-Some.request, c.in-Some.ensures.some) in
-    nothing_ends (map string_bytes c.args.words.now) (g.S.Source.left c.args.source.now) _ ReadFault (λ bytes. (form, refl))
+    let asks : AskForInput (map string_bytes c.args.words.now) = (c.in-Some.request, c.in-Some.ensures.some, c.in-Err-ReadFault.ensures.tried refl) in
+    nothing_ends (map string_bytes c.args.words.now) (g.S.Source.left c.args.source.now) _ ReadFault (λ bytes. (asks, refl))
 
 pub returns-in-Err-NoMemory-clause-outcome : goal.returns-in-Err-NoMemory-clause-outcome
 returns-in-Err-NoMemory-clause-outcome g c =
@@ -47,3 +48,28 @@ returns-in-Ok-answer-clause-sure_sink g c each =
 pub returns-clause-outcome : goal.returns-clause-outcome
 returns-clause-outcome g c =
     nothing_ends (map string_bytes c.args.words.now) (g.S.Source.left c.args.source.now) _ NoMemory (λ bytes. refl)
+
+pub returns-in-Ok-answer-clause-read : goal.returns-in-Ok-answer-clause-read
+returns-in-Ok-answer-clause-read g c asks has =
+    read_told (g.S.Source.left c.args.source.now) _ c.in-Ok.bytes
+    (c.in-Ok.ensures.taken (asked_input (map string_bytes c.args.words.now) c.in-Some.request c.in-Some.ensures.some asks))
+
+pub answer-requires : goal.answer-requires
+answer-requires g c = grow_size (map string_bytes c.args.words.now) c.in-Some.request c.in-Some.ensures.some
+
+pub returns-in-Err-ReadFault-clause-untouched : goal.returns-in-Err-ReadFault-clause-untouched
+returns-in-Err-ReadFault-clause-untouched g c other = c.input.ensures.untouched (λ takes. other (c.in-Some.request, c.in-Some.ensures.some, takes))
+
+pub returns-in-Err-NoMemory-clause-untouched : goal.returns-in-Err-NoMemory-clause-untouched
+returns-in-Err-NoMemory-clause-untouched g c other = c.input.ensures.untouched (λ takes. other (c.in-Some.request, c.in-Some.ensures.some, takes))
+
+pub returns-in-Ok-answer-clause-untouched : goal.returns-in-Ok-answer-clause-untouched
+returns-in-Ok-answer-clause-untouched g c other = c.input.ensures.untouched (λ takes. other (c.in-Some.request, c.in-Some.ensures.some, takes))
+
+pub returns-clause-untouched : goal.returns-clause-untouched
+returns-clause-untouched g c other = c.input.ensures.untouched (λ takes. other (c.in-Some.request, c.in-Some.ensures.some, takes))
+
+pub returns-in-Ok-answer-clause-write_fault : goal.returns-in-Ok-answer-clause-write_fault
+returns-in-Ok-answer-clause-write_fault g c =
+    let answer = rw c.as_bytes-2.ensures at c.in-Ok-answer.ensures in
+    c.send-in-Ok-answer.ensures.fault (no_fault c.in-Some.request c.in-Ok.bytes c.in-Ok-answer.answer.status c.in-Ok-answer.answer.text answer)

@@ -2,7 +2,7 @@ use Rattle.std.proofs.Common.{rules, ◌*◌, ◌-ℤ◌, ◌*ℤ◌, FitsSigned
 use Rattle.std.proofs.lemmas.Int.{ints}
 use Rattle.std.specs.Int.{w128}
 use Rattle.sk_base.specs.Bounds.{IsWithin}
-use Rattle.sk_dxf.proofs.Products.{product_within, difference_within, fits}
+use Rattle.sk_dxf.proofs.Products.{abs_of_within, product_within, difference_within, fits}
 use Rattle.sk_dxf.proofs.rounding.difference_of_parts.Goals as goal
 
 pub overflow_sub-a : goal.overflow_sub-a
@@ -42,6 +42,6 @@ returns-clause-within c = λ most x_within y_within.
     let all : FitsSigned w128 ((c.args.a *ℤ c.args.x) -ℤ (c.args.b *ℤ c.args.y)) = fits _ _ (difference_within 2000000000 9223372036854775807 _ _ _ _ r.a r.x r.b r.y) (omega arith) in
     let result : FitsSigned w128 c.nearest.result = search rules in
     let short = difference_within 2000000000 most _ _ _ _ r.a x_within r.b y_within in
-    let short' : IsWithin (1000000000 * (4 * most)) ((c.args.a *ℤ c.args.x) -ℤ (c.args.b *ℤ c.args.y)) = (omega (arith, ints, short.0, short.1), omega (arith, ints, short.0, short.1)) in
+    let size = abs_of_within (2 * (2000000000 * most)) _ short in
     let within = simp to_z-of_z at c.nearest.ensures.within (4 * most) in
-    simp to_z-of_z (within short')
+    simp to_z-of_z (within (omega (arith, size)))

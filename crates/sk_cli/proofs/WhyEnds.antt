@@ -1,0 +1,274 @@
+-- Each status has its cause, and each cause has its status.
+use Rattle.std.proofs.Common.{◌≡◌, ◌≢◌, ◌⊎◌, inl, inr, ℕ, ◌≤◌, List, Ok, Err, refl, ap, sym, subst, ◌∙◌, arith}
+use Rattle.std.specs.Prelude.{◌↔◌, Contains, IsTrue, Some, take}
+use Rattle.sk_base.specs.declared.Placed.{Placed}
+use Rattle.sk_base.specs.declared.Sketch.{Sketch}
+use Rattle.sk_base.specs.SoundGraph.{IsSoundGraph}
+use Rattle.sk_lang.specs.Reading.{Reads, Refuses}
+use Rattle.sk_graph.specs.SketchGraph.{graph_of}
+use Rattle.sk_graph.proofs.Soundness.{graph_is_sound}
+use Rattle.sk_gen.specs.DatumSketch.{datum_sketch}
+use Rattle.sk_tree.specs.declared.Plan.{Plan as ThePlan}
+use Rattle.sk_plan.specs.Judged.{IsWell}
+use Rattle.sk_plan.proofs.PlanTrees.{some_plan_tree}
+use Rattle.sk_place.proofs.OnePlacing.{one_list, not_both}
+use Rattle.sk_residual.specs.Tolerances.{Item, AllHold, IsAbove, everything}
+use Rattle.sk_residual.specs.Turns.{signs, AllAsDrawn}
+use Rattle.sk_residual.proofs.OneMeasured.{first_inside, not_beyond}
+use Rattle.sk_residual.specs.Turns.{IsTurned}
+use Rattle.sk_cli.specs.declared.command.Command.{Command}
+use Rattle.sk_cli.specs.declared.command.Command.TheVariants.{Check, Plan, Solve, Dxf, Offers, Grow}
+use Rattle.sk_cli.specs.declared.placing.Placement.{Placement}
+use Rattle.sk_cli.specs.declared.placing.Placement.TheVariants.{Fault, Beyond, Turned, Holds}
+use Rattle.sk_cli.specs.declared.request.Request.{Request}
+use Rattle.sk_cli.specs.declared.solving.Report.{Report}
+use Rattle.sk_cli.specs.declared.solving.Report.TheVariants.{Places, Drawing, Sums}
+use Rattle.sk_cli.specs.declared.status.Status.{Status}
+use Rattle.sk_cli.specs.declared.status.Status.TheVariants.{Done, Refused, Usage, NotWell, StepFault, Tolerance}
+use Rattle.sk_cli.specs.Asking.{Asks, AreOfForm, places}
+use Rattle.sk_cli.specs.Grids.{grid_of, digits_of}
+use Rattle.sk_cli.specs.Solving.{midpoints, status_of, IsMeasured, IsPlacement}
+use Rattle.sk_cli.specs.Outcome.{IsPlanBy, IsPlacedPlan, IsPlanOrReport, IsSolved, IsAnswer, IsAnswerOf, IsOutcome}
+use Rattle.sk_cli.specs.Causes.{plans, IsReportOf, IsSketchOf, IsRefusedInput, IsItsPlan, HasFault, LieAt, NonePasses, SomePasses, SomeTurned}
+use Rattle.sk_cli.proofs.OnePlacement.{told_placed}
+use Rattle.sk_cli.proofs.OneOutcome.{OneSketch, OneRefusal, NotBoth, OneJudgement, LowerLaws, still_well, same_plan, same_request, told_check, told_plan, told_planned, told_solve, told_offers, not_read_and_refused}
+use Rattle.sk_cli.proofs.Runs.{solved_told}
+use Rattle.sk_report.specs.RefusalLine.{refusal_line}
+use Rattle.sk_worklist.specs.declared.Order.{Order}
+use Rattle.sk_cli.proofs.Sizes.{HasFitSize, size_fits, some_injective}
+
+-- a plan and where it places the elements, by the status that tells of it
+module _ (request : Request) (s : Sketch) (p : ThePlan) where
+  abbrev IsPlacedSo : Placement → Type 0
+  IsPlacedSo q = IsPlacement (grid_of request.bits) (digits_of request.bits) request.within s p q
+
+  abbrev pub IsFault : Type 0
+  IsFault = HasFault request s p ⊎ ((at : Placed) × LieAt request s p at × NonePasses request s at × SomeTurned request s p at)
+
+  abbrev pub IsBeyond : Type 0
+  IsBeyond = (at : Placed) × LieAt request s p at × SomePasses request s at
+
+  abbrev pub IsHeld : Type 0
+  IsHeld = (at : Placed) × LieAt request s p at × NonePasses request s at × AllAsDrawn (signs s at p)
+
+  pub why_fault : (q : Placement) → IsPlacedSo q → status_of q ≡ StepFault → IsFault
+  why_fault (Fault f) is same = inl (f, is)
+  why_fault (Beyond b) is same = cc
+  why_fault (Turned t) is same =
+      inr (midpoints (digits_of request.bits) is.0, (is.0, is.1, refl), is.2.0, (t, first_inside IsTurned (signs s (midpoints (digits_of request.bits) is.0) p) t is.2.1, is.2.1.has))
+  why_fault (Holds at t) is same = cc
+
+  pub why_beyond : (q : Placement) → IsPlacedSo q → status_of q ≡ Tolerance → IsBeyond
+  why_beyond (Fault f) is same = cc
+  why_beyond (Beyond b) is same =
+      let at = midpoints (digits_of request.bits) is.0 in
+      (at, (is.0, is.1, refl), (is.2.item, first_inside (IsAbove at request.within) (everything (graph_of s)) is.2.item is.2.first, is.2.first.has))
+  why_beyond (Turned t) is same = cc
+  why_beyond (Holds at t) is same = cc
+
+  pub why_held : (q : Placement) → IsPlacedSo q → status_of q ≡ Done → IsHeld
+  why_held (Fault f) is same = cc
+  why_held (Beyond b) is same = cc
+  why_held (Turned t) is same = cc
+  why_held (Holds at t) is same = (midpoints (digits_of request.bits) is.0, (is.0, is.1, refl), is.2.1, is.2.2)
+
+  not_above : (at : Placed) → AllHold at (everything (graph_of s)) request.within → SomePasses request s at → ⊥
+  not_above at all (item, inside, above) = let few = above.1.least request.within (all item inside) in omega (arith, above.2, few)
+
+  held_fault : (at : Placed) (q : Placement) → IsMeasured request.within s p at q → NonePasses request s at → SomeTurned request s p at → status_of q ≡ StepFault
+  held_fault at (Fault f) measured none turned = refl
+  held_fault at (Beyond b) measured none turned = absurd (not_beyond at (everything (graph_of s)) request.within b none measured)
+  held_fault at (Turned t) measured none turned = refl
+  held_fault at (Holds here t) measured none (sign, inside, other) = absurd (other (measured.2 sign inside))
+
+  held_beyond : (at : Placed) (q : Placement) → IsMeasured request.within s p at q → SomePasses request s at → status_of q ≡ Tolerance
+  held_beyond at (Fault f) measured some = absurd measured
+  held_beyond at (Beyond b) measured some = refl
+  held_beyond at (Turned t) measured some = absurd (not_above at measured.0 some)
+  held_beyond at (Holds here t) measured some = absurd (not_above at measured.1 some)
+
+  held_done : (at : Placed) (q : Placement) → IsMeasured request.within s p at q → NonePasses request s at → AllAsDrawn (signs s at p) → status_of q ≡ Done
+  held_done at (Fault f) measured none drawn = absurd measured
+  held_done at (Beyond b) measured none drawn = absurd (not_beyond at (everything (graph_of s)) request.within b none measured)
+  held_done at (Turned t) measured none drawn = absurd (measured.1.has (drawn t (first_inside IsTurned (signs s at p) t measured.1)))
+  held_done at (Holds here t) measured none drawn = refl
+
+  module _ (sound : IsSoundGraph (graph_of s)) (by : IsPlanBy request.order s p) where
+    -- elements that lie somewhere have no fault, and are measured there
+    measured_at : (q : Placement) → IsPlacedSo q → (at : Placed) → LieAt request s p at → IsMeasured request.within s p at q
+    measured_at q placed at (boxes, lie, is) =
+        let F = digits_of request.bits in
+        let g = graph_of s in
+        let tree = some_plan_tree g p sound by.legal in
+        elim (told_placed (grid_of request.bits) F request.within s p q placed) [
+          | inl (f, q_is, failed) ↦ absurd (not_both (grid_of request.bits) F g p by.legal tree boxes f lie failed)
+          | inr (others, placed', measured) ↦
+              subst (λ here. IsMeasured request.within s p here q) (sym is)
+              (subst (λ bs. IsMeasured request.within s p (midpoints F bs) q) (one_list (grid_of request.bits) F g p by.legal tree others boxes placed' lie) measured)
+        ]
+
+    pub fault_told : (q : Placement) → IsPlacedSo q → IsFault → status_of q ≡ StepFault
+    fault_told q placed (inl (f, failed)) =
+        elim (told_placed (grid_of request.bits) (digits_of request.bits) request.within s p q placed) [
+          | inl (e, q_is, failed') ↦ ap status_of q_is
+          | inr (boxes, placed', measured) ↦
+              absurd (not_both (grid_of request.bits) (digits_of request.bits) (graph_of s) p by.legal (some_plan_tree (graph_of s) p sound by.legal) boxes f placed' failed)
+        ]
+    fault_told q placed (inr (at, lie, none, turned)) = held_fault at q (measured_at q placed at lie) none turned
+
+    pub beyond_told : (q : Placement) → IsPlacedSo q → IsBeyond → status_of q ≡ Tolerance
+    beyond_told q placed (at, lie, some) = held_beyond at q (measured_at q placed at lie) some
+
+    pub held_told : (q : Placement) → IsPlacedSo q → IsHeld → status_of q ≡ Done
+    held_told q placed (at, lie, none, drawn) = held_done at q (measured_at q placed at lie) none drawn
+
+-- the answer to a request, whatever else the outcome might be
+pub answer_about : (words : List (List ℕ)) (bytes text : List ℕ) (status : Status) (request : Request) → IsOutcome words bytes status text → Asks words request → IsAnswer request bytes status text
+answer_about words bytes text status request outcome asks =
+    elim outcome [
+      | inl (other, other_asks, answer) ↦ subst (λ (r : Request). IsAnswer r bytes status text) (same_request words other request other_asks asks) answer
+      | inr usage ↦ absurd (usage.0 (request, asks))
+    ]
+
+pub sound_about : LowerLaws → (command : Command) (request : Request) (bytes : List ℕ) (s : Sketch) → HasFitSize request → IsSketchOf command request bytes s → IsSoundGraph (graph_of s)
+sound_about laws Grow request bytes s fit (n, size, is) =
+    let fits = fit n size in subst (λ z. IsSoundGraph (graph_of z)) (sym is) (graph_is_sound (datum_sketch n) (laws.made n fits.0 fits.1))
+sound_about laws Offers request bytes s fit (front, reads, is) = subst (λ z. IsSoundGraph (graph_of z)) (sym is) (graph_is_sound front.sketch (laws.sound (take front.used bytes) front.sketch reads.reads))
+sound_about laws command request bytes s fit reads = graph_is_sound s (laws.sound bytes s reads)
+
+-- a command that places elements tells of the sketch that it is about
+pub solved_about : OneSketch → NotBoth → (command : Command) (request : Request) (bytes text : List ℕ) (status : Status) (s : Sketch) → IsAnswerOf command request bytes status text
+    → IsTrue (places command) → IsSketchOf command request bytes s → (report : Report) × IsReportOf command report × IsSolved report request s status text
+solved_about one_sketch not_both Check request bytes text status s answer placed reads = cc
+solved_about one_sketch not_both Plan request bytes text status s answer placed reads = cc
+solved_about one_sketch not_both Offers request bytes text status s answer placed reads = cc
+solved_about one_sketch not_both Solve request bytes text status s answer placed reads =
+    elim (told_solve Places request bytes status text answer) [
+      | inl (refused, line) ↦ absurd (not_both bytes s line.0.line line.0.code reads line.1)
+      | inr (t, reads', solved) ↦ (Places, tt, subst (λ z. IsSolved Places request z status text) (one_sketch bytes t s reads' reads) solved)
+    ]
+solved_about one_sketch not_both Dxf request bytes text status s answer placed reads =
+    elim (told_solve Drawing request bytes status text answer) [
+      | inl (refused, line) ↦ absurd (not_both bytes s line.0.line line.0.code reads line.1)
+      | inr (t, reads', solved) ↦ (Drawing, tt, subst (λ z. IsSolved Drawing request z status text) (one_sketch bytes t s reads' reads) solved)
+    ]
+solved_about one_sketch not_both Grow request bytes text status s (n, size, solved) placed (m, size', is) =
+    let same : n ≡ m = some_injective (sym size ∙ size') in
+    (Sums, tt, subst (λ z. IsSolved Sums request z status text) (ap datum_sketch same ∙ sym is) solved)
+
+module _ (law : OneJudgement) (laws : LowerLaws) (report : Report) (request : Request) (s : Sketch) (status : Status) (text : List ℕ) (solved : IsSolved report request s status text) where
+  -- a status that is told of a plan has the cause that the plan's placement has
+  told_why : (want : Status) (Why : ThePlan → Type 0) → want ≢ NotWell → ((p : ThePlan) (q : Placement) → IsPlacedSo request s p q → status_of q ≡ want → Why p)
+      → status ≡ want → (p : ThePlan) × IsItsPlan request s p × Why p
+  told_why want Why other why is =
+      elim solved [
+        | inl (p, q, placed, status_is, text_is) ↦ (p, (placed.well, placed.plan), why p q placed.placed (sym status_is ∙ is))
+        | inr (short, why_short) ↦ absurd (other (sym is ∙ short))
+      ]
+
+  why_told : (want : Status) (Why : ThePlan → Type 0) → IsSoundGraph (graph_of s) → ((p : ThePlan) → IsPlanBy request.order s p → (q : Placement) → IsPlacedSo request s p q → Why p → status_of q ≡ want)
+      → (p : ThePlan) × IsItsPlan request s p × Why p → status ≡ want
+  why_told want Why sound told (p, (well, by), why) =
+      elim solved [
+        | inl (p', q, placed, status_is, text_is) ↦
+            let same : p' ≡ p = same_plan laws request.order s sound p' p placed.plan by in
+            status_is ∙ told p by q (subst (λ (z : ThePlan). IsPlacedSo request s z q) same placed.placed) why
+        | inr (short, why_short) ↦ absurd (still_well law s text well why_short)
+      ]
+
+  pub not_well_both : (status ≡ NotWell) ↔ ¬ IsWell (graph_of s)
+  not_well_both = (
+    (λ is well. elim solved [
+      | inl (p, q, placed, status_is, text_is) ↦ no_report q (sym status_is ∙ is)
+      | inr (short, why_short) ↦ still_well law s text well why_short
+    ]),
+    (λ not_well. elim solved [ inl (p, q, placed, status_is, text_is) ↦ absurd (not_well placed.well) | inr (short, why_short) ↦ short ]),
+  )
+    where
+      no_report : (q : Placement) → status_of q ≡ NotWell → ⊥
+      no_report (Fault f) same = cc
+      no_report (Beyond b) same = cc
+      no_report (Turned t) same = cc
+      no_report (Holds at t) same = cc
+
+  pub fault_both : IsSoundGraph (graph_of s) → (status ≡ StepFault) ↔ ((p : ThePlan) × IsItsPlan request s p × IsFault request s p)
+  fault_both sound = (
+    told_why StepFault (IsFault request s) (λ same. cc) (why_fault request s),
+    why_told StepFault (IsFault request s) sound (λ p by. fault_told request s p sound by),
+  )
+
+  pub beyond_both : IsSoundGraph (graph_of s) → (status ≡ Tolerance) ↔ ((p : ThePlan) × IsItsPlan request s p × IsBeyond request s p)
+  beyond_both sound = (
+    told_why Tolerance (IsBeyond request s) (λ same. cc) (why_beyond request s),
+    why_told Tolerance (IsBeyond request s) sound (λ p by. beyond_told request s p sound by),
+  )
+
+  pub held_both : IsSoundGraph (graph_of s) → (status ≡ Done) ↔ ((p : ThePlan) × IsItsPlan request s p × IsHeld request s p)
+  held_both sound = (
+    told_why Done (IsHeld request s) (λ same. cc) (why_held request s),
+    why_told Done (IsHeld request s) sound (λ p by. held_told request s p sound by),
+  )
+
+-- the verdict of a sketch that `plan` reads
+planned_not_well : OneJudgement → (order : Order) (s : Sketch) (status : Status) (text : List ℕ) → IsPlanOrReport order s status text → (status ≡ NotWell) ↔ ¬ IsWell (graph_of s)
+planned_not_well law order s status text answer =
+    elim (told_planned order s status text answer) [
+      | inl (done, (p, well, by, is)) ↦ ((λ same. (let clash : Done ≡ NotWell = sym done ∙ same in cc)), (λ not_well. absurd (not_well well)))
+      | inr (short, why_short) ↦ ((λ same well. still_well law s text well why_short), (λ not_well. short))
+    ]
+
+pub not_well_about : OneSketch → NotBoth → OneJudgement → LowerLaws → (command : Command) (request : Request) (bytes text : List ℕ) (status : Status) (s : Sketch) → IsAnswerOf command request bytes status text
+    → IsTrue (plans command) → IsSketchOf command request bytes s → (status ≡ NotWell) ↔ ¬ IsWell (graph_of s)
+not_well_about one_sketch not_both law laws Check request bytes text status s answer planned about = cc
+not_well_about one_sketch not_both law laws Offers request bytes text status s answer planned about = cc
+not_well_about one_sketch not_both law laws Plan request bytes text status s answer planned reads =
+    elim (told_plan request.order bytes status text answer) [
+      | inl (refused, line) ↦ absurd (not_both bytes s line.0.line line.0.code reads line.1)
+      | inr (t, reads', told) ↦ planned_not_well law request.order s status text (subst (λ z. IsPlanOrReport request.order z status text) (one_sketch bytes t s reads' reads) told)
+    ]
+not_well_about one_sketch not_both law laws Solve request bytes text status s answer planned about =
+    let solved = solved_about one_sketch not_both Solve request bytes text status s answer refl about in not_well_both law laws solved.0 request s status text solved.2
+not_well_about one_sketch not_both law laws Dxf request bytes text status s answer planned about =
+    let solved = solved_about one_sketch not_both Dxf request bytes text status s answer refl about in not_well_both law laws solved.0 request s status text solved.2
+not_well_about one_sketch not_both law laws Grow request bytes text status s answer planned about =
+    let solved = solved_about one_sketch not_both Grow request bytes text status s answer refl about in not_well_both law laws solved.0 request s status text solved.2
+
+-- no answer is that the words aren't of the form
+no_usage : (command : Command) (request : Request) (bytes text : List ℕ) → ¬ IsAnswerOf command request bytes Usage text
+no_usage Check request bytes text answer = answer
+no_usage Plan request bytes text answer = answer.2
+no_usage Solve request bytes text answer = solved_told Places request answer.0 Usage text answer.2
+no_usage Dxf request bytes text answer = solved_told Drawing request answer.0 Usage text answer.2
+no_usage Offers request bytes text answer = answer
+no_usage Grow request bytes text answer = solved_told Sums request (datum_sketch answer.0) Usage text answer.2
+
+pub usage_both : (words : List (List ℕ)) (bytes text : List ℕ) (status : Status) → IsOutcome words bytes status text → (status ≡ Usage) ↔ ¬ AreOfForm words
+usage_both words bytes text status (inl (request, asks, answer)) =
+    ((λ same. absurd (no_usage request.command request bytes text (subst (λ z. IsAnswer request bytes z text) same answer))), (λ not_form. absurd (not_form (request, asks))))
+usage_both words bytes text status (inr (not_form, is, text_is)) = ((λ same. not_form), (λ other. is))
+
+refused_so : (command : Command) (request : Request) (bytes text : List ℕ) → IsAnswerOf command request bytes Refused text → IsRefusedInput command bytes
+refused_so Check request bytes text (r, refuses, is) = (r, refuses)
+refused_so Plan request bytes text (r, refuses, is) = (r, refuses)
+refused_so Solve request bytes text (r, refuses, is) = (r, refuses)
+refused_so Dxf request bytes text (r, refuses, is) = (r, refuses)
+refused_so Offers request bytes text (r, at, is) = (r, at)
+refused_so Grow request bytes text answer = absurd (solved_told Sums request (datum_sketch answer.0) Refused text answer.2)
+
+so_refused : OneSketch → NotBoth → LowerLaws → (command : Command) (request : Request) (bytes text : List ℕ) (status : Status) → IsAnswerOf command request bytes status text → IsRefusedInput command bytes → status ≡ Refused
+so_refused one_sketch not_both laws Check request bytes text status answer (r, refuses) =
+    elim (told_check bytes status text answer) [ inl (done, (s, j, reads, judged, is)) ↦ absurd (not_both bytes s r.line r.code reads refuses) | inr refused ↦ refused.0 ]
+so_refused one_sketch not_both laws Plan request bytes text status answer (r, refuses) =
+    elim (told_plan request.order bytes status text answer) [ inl refused ↦ refused.0 | inr (s, reads, told) ↦ absurd (not_both bytes s r.line r.code reads refuses) ]
+so_refused one_sketch not_both laws Solve request bytes text status answer (r, refuses) =
+    elim (told_solve Places request bytes status text answer) [ inl refused ↦ refused.0 | inr (s, reads, told) ↦ absurd (not_both bytes s r.line r.code reads refuses) ]
+so_refused one_sketch not_both laws Dxf request bytes text status answer (r, refuses) =
+    elim (told_solve Drawing request bytes status text answer) [ inl refused ↦ refused.0 | inr (s, reads, told) ↦ absurd (not_both bytes s r.line r.code reads refuses) ]
+so_refused one_sketch not_both laws Offers request bytes text status answer (r, at) =
+    elim (told_offers bytes status text answer) [ inl (done, report) ↦ absurd (not_read_and_refused laws bytes text (refusal_line r) report (r, at, refl)) | inr refused ↦ refused.0 ]
+so_refused one_sketch not_both laws Grow request bytes text status answer refused = absurd refused
+
+pub refused_both : OneSketch → NotBoth → LowerLaws → (command : Command) (request : Request) (bytes text : List ℕ) (status : Status) → IsAnswerOf command request bytes status text
+    → (status ≡ Refused) ↔ IsRefusedInput command bytes
+refused_both one_sketch not_both laws command request bytes text status answer =
+    ((λ same. refused_so command request bytes text (subst (λ z. IsAnswerOf command request bytes z text) same answer)), so_refused one_sketch not_both laws command request bytes text status answer)

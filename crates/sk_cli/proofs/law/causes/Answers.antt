@@ -1,0 +1,33 @@
+use Rattle.sk_cli.proofs.OneOutcome.{LowerLaws}
+use Rattle.sk_cli.proofs.Sizes.{size_fits}
+use Rattle.sk_cli.proofs.WhyEnds.{answer_about, sound_about, solved_about, not_well_about, usage_both, refused_both, fault_both, beyond_both, held_both}
+use Rattle.sk_cli.proofs.law.causes.Goals as goal
+
+pub returns : goal.returns
+returns c =
+    let laws : LowerLaws = record {
+      sound = c.readable_is_sound.ensures.sound;
+      plan = c.one_plan.ensures;
+      run = c.one_run.ensures;
+      front = record { one_front = c.one_front.ensures.one_front; one_refusal = c.one_front.ensures.one_refusal; not_both = c.one_front.ensures.not_both };
+      made = c.datum_sketch_is_sound.ensures;
+    } in
+    let law = c.one_judgement.ensures in
+    let one_sketch = c.one_answer.ensures.one_sketch in
+    let not_both = c.one_answer.ensures.not_both in
+    record {
+      usage = usage_both;
+      refused = λ words bytes text status request outcome asks.
+      refused_both one_sketch not_both laws request.command request bytes text status (answer_about words bytes text status request outcome asks);
+      not_well = λ words bytes text status request s outcome asks planned about.
+      not_well_about one_sketch not_both law laws request.command request bytes text status s (answer_about words bytes text status request outcome asks) planned about;
+      step_fault = λ words bytes text status request s outcome asks placed about.
+      (let solved = solved_about one_sketch not_both request.command request bytes text status s (answer_about words bytes text status request outcome asks) placed about in
+      fault_both law laws solved.0 request s status text solved.2 (sound_about laws request.command request bytes s (size_fits words request asks) about));
+      tolerance = λ words bytes text status request s outcome asks placed about.
+      (let solved = solved_about one_sketch not_both request.command request bytes text status s (answer_about words bytes text status request outcome asks) placed about in
+      beyond_both law laws solved.0 request s status text solved.2 (sound_about laws request.command request bytes s (size_fits words request asks) about));
+      done = λ words bytes text status request s outcome asks placed about.
+      (let solved = solved_about one_sketch not_both request.command request bytes text status s (answer_about words bytes text status request outcome asks) placed about in
+      held_both law laws solved.0 request s status text solved.2 (sound_about laws request.command request bytes s (size_fits words request asks) about));
+    }

@@ -1,0 +1,81 @@
+-- Why a call ends as it does: the sketch that it is about, its plan, and where the plan places the elements.
+use Rattle.std.specs.Prelude.{◌≡◌, ◌⊎◌, ℕ, List, Contains, Bool, true, false, Some, Ok, Err, IsTrue}
+use Rattle.sk_base.specs.declared.Placed.{Placed}
+use Rattle.sk_base.specs.declared.Sketch.{Sketch}
+use Rattle.sk_lang.specs.declared.Refusal.{Refusal}
+use Rattle.sk_lang.specs.declared.Front.{Front}
+use Rattle.sk_lang.specs.Front.{ReadsFront}
+use Rattle.sk_lang.specs.Reading.{Reads, Refuses}
+use Rattle.sk_graph.specs.SketchGraph.{graph_of}
+use Rattle.sk_gen.specs.DatumSketch.{datum_sketch}
+use Rattle.sk_tree.specs.declared.Plan.{Plan as ThePlan}
+use Rattle.sk_plan.specs.Judged.{IsWell}
+use Rattle.sk_place.specs.declared.BoxAt.{BoxAt}
+use Rattle.sk_place.specs.declared.StepFault.{StepFault}
+use Rattle.sk_place.specs.declared.PlaceError.TheVariants as errors
+use Rattle.sk_place.specs.Placing.{IsPlaced}
+use Rattle.sk_residual.specs.declared.Turned.{Turned}
+use Rattle.sk_residual.specs.Tolerances.{Item, AllHold, IsAbove, everything}
+use Rattle.sk_residual.specs.Turns.{signs, IsTurned}
+use Rattle.sk_cli.specs.declared.command.Command.{Command}
+use Rattle.sk_cli.specs.declared.command.Command.TheVariants.{Check, Plan, Solve, Dxf, Offers, Grow}
+use Rattle.sk_cli.specs.declared.request.Request.{Request}
+use Rattle.sk_cli.specs.declared.solving.Report.{Report}
+use Rattle.sk_cli.specs.declared.solving.Report.TheVariants.{Places, Drawing, Sums}
+use Rattle.sk_cli.specs.Grids.{grid_of, digits_of}
+use Rattle.sk_cli.specs.OffersReport.{IsRefusedAt}
+use Rattle.sk_cli.specs.Outcome.{IsPlanBy}
+use Rattle.sk_cli.specs.Solving.{midpoints}
+
+-- it plans a sketch
+abbrev pub plans : Command → Bool
+plans Check = false
+plans Plan = true
+plans Solve = true
+plans Dxf = true
+plans Offers = false
+plans Grow = true
+
+-- the report that a command writes where it places all elements
+abbrev pub IsReportOf : Command → Report → Type 0
+IsReportOf Solve Places = Unit {0}
+IsReportOf Dxf Drawing = Unit {0}
+IsReportOf Grow Sums = Unit {0}
+IsReportOf command report = ⊥
+
+-- the sketch that a command is about: the one that it makes, or what its input, or the front of it, is read as
+abbrev pub IsSketchOf : Command → Request → List ℕ → Sketch → Type 0
+IsSketchOf Grow request bytes s = (n : ℕ) × (request.size ≡ Some n) × (s ≡ datum_sketch n)
+IsSketchOf Offers request bytes s = (front : Front) × ReadsFront bytes front × (s ≡ front.sketch)
+IsSketchOf command request bytes s = Reads bytes s
+
+-- the input of a command is refused
+abbrev pub IsRefusedInput : Command → List ℕ → Type 0
+IsRefusedInput Offers bytes = (r : Refusal) × IsRefusedAt bytes r
+IsRefusedInput Grow bytes = ⊥
+IsRefusedInput command bytes = (r : Refusal) × Refuses bytes r.line r.code
+
+module _ (request : Request) (s : Sketch) where
+  -- the verdict is well, and this is the plan of the run by the order
+  abbrev pub IsItsPlan : ThePlan → Type 0
+  IsItsPlan p = IsWell (graph_of s) × IsPlanBy request.order s p
+
+  -- some step of the plan has no boxes on the grid
+  abbrev pub HasFault : ThePlan → Type 0
+  HasFault p = (f : StepFault) × IsPlaced {G = grid_of request.bits} (digits_of request.bits) (graph_of s) p (Err (errors.Fault f))
+
+  -- each step has boxes on the grid, and there the elements lie
+  abbrev pub LieAt : ThePlan → Placed → Type 0
+  LieAt p at = (boxes : List (BoxAt (grid_of request.bits))) × IsPlaced (digits_of request.bits) (graph_of s) p (Ok boxes) × (at ≡ midpoints (digits_of request.bits) boxes)
+
+  -- no line and no constraint has a least number above the limit
+  abbrev pub NonePasses : Placed → Type 0
+  NonePasses at = AllHold at (everything (graph_of s)) request.within
+
+  -- the least number of some line or constraint is above the limit
+  abbrev pub SomePasses : Placed → Type 0
+  SomePasses at = (item : Item) × Contains (everything (graph_of s)) item × IsAbove at request.within item
+
+  -- some sign isn't placed as it is drawn
+  abbrev pub SomeTurned : ThePlan → Placed → Type 0
+  SomeTurned p at = (sign : Turned) × Contains (signs s at p) sign × IsTurned sign

@@ -1,0 +1,109 @@
+// A sketch whose plan is placed, and what is written of it.
+ghost use Rattle.std.specs.Prelude.{◌≡◌, ◌<◌, length, IfOk};
+ghost use Rattle.sk_base.specs.SoundSketch.{IsSoundSketch};
+ghost use Rattle.sk_dxf.specs.Courses.{HasBoundedPlaces};
+ghost use Rattle.sk_cli.specs.Solving.{status_of, report_words, placement_words, LiesWithinBounds};
+ghost use Rattle.sk_cli.specs.Outcome.{IsSolved};
+
+use crate::answer::Answer;
+use crate::placing::{Placement, placed};
+use crate::request::Request;
+use crate::status::Status;
+use sk_base::{NoMemory, Placed, Sketch, Text};
+use sk_dxf::dxf_text;
+use sk_graph::reduce;
+use sk_plan::{PlanError, plan_of};
+use sk_report::{check_text, fault_text, grow_text, passed_text, solve_text, turned_text};
+use sk_residual::Tolerance;
+use sk_tree::Plan;
+use sk_worklist::Chosen;
+use std::alloc::Global;
+
+/// What is written where all elements are placed and all holds.
+#[derive(Clone, Copy, Debug, PartialEq, Eq)]
+pub enum Report {
+    /// Where each element lies, and the tolerance.
+    Places,
+    /// The elements as DXF.
+    Drawing,
+    /// The sums of all coordinates, and the tolerance.
+    Sums,
+}
+
+/// What is written of the placed plan of the sketch, or the check report where the verdict isn't well.
+pub(crate) fn solved(
+    alloc: Global,
+    request: Request,
+    report: Report,
+    s: &Sketch,
+) -> Result<Answer, NoMemory>
+    requires sound { IsSoundSketch s.now }
+    requires some { 0 < length s.now.elements }
+    ensures { IfOk result (λ answer. IsSolved report request s.now answer.status answer.text) }
+{
+    let graph = reduce(alloc, s)?;
+    match plan_of(alloc, s, &graph, &mut Chosen::new(request.order)) {
+        Ok(plan) => {
+            let placement = placed(alloc, request.bits, request.within, s, &graph, &plan)?;
+            Ok(Answer {
+                status: status_of(&placement),
+                text: placement_text(alloc, report, request.bits.count(), s, &plan, &placement)?,
+            })
+        }
+        Err(PlanError::NotWell(judgement)) => Ok(Answer {
+            status: Status::NotWell,
+            text: check_text(alloc, s, &judgement)?,
+        }),
+        Err(PlanError::NoMemory) => Err(NoMemory),
+    }
+}
+
+fn status_of(placement: &Placement) -> Status
+    ensures { result ≡ status_of placement.now }
+{
+    match placement {
+        Placement::Fault(_) | Placement::Turned(_) => Status::StepFault,
+        Placement::Beyond(_) => Status::Tolerance,
+        Placement::Holds(_, _) => Status::Done,
+    }
+}
+
+/// What is written of a placement.
+fn placement_text(
+    alloc: Global,
+    report: Report,
+    bits: u32,
+    s: &Sketch,
+    p: &Plan,
+    placement: &Placement,
+) -> Result<Text, NoMemory>
+    requires { LiesWithinBounds placement.now }
+    ensures { IfOk result (λ text. text ≡ placement_words report bits s.now p.now placement.now) }
+{
+    match placement {
+        Placement::Fault(fault) => fault_text(alloc, s, fault, bits),
+        Placement::Beyond(beyond) => passed_text(alloc, s, beyond),
+        Placement::Turned(turned) => turned_text(alloc, turned),
+        Placement::Holds(at, tolerance) => report_text(alloc, report, bits, s, p, at, tolerance),
+    }
+}
+
+/// What is written where elements lie so.
+fn report_text(
+    alloc: Global,
+    report: Report,
+    bits: u32,
+    s: &Sketch,
+    p: &Plan,
+    at: &Placed,
+    t: &Tolerance,
+) -> Result<Text, NoMemory>
+    requires { HasBoundedPlaces at.now }
+    ensures { IfOk result (λ text. text ≡ report_words report bits s.now p.now at.now t.now) }
+{
+    match report {
+        Report::Places => solve_text(alloc, s, p, bits, at, t),
+        Report::Drawing => dxf_text(alloc, at, s),
+        Report::Sums => grow_text(alloc, s, p, at, t),
+    }
+}
