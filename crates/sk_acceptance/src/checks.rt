@@ -1,49 +1,253 @@
 // Drawings and their reports.
-use crate::row::answers;
+use crate::row::rows_pass;
 use std::test::Fail;
+
+const REPORTS: &str = "
+$ check
+sketch 1
+point A 0 0
+point B 40 0
+point C 40 25
+point D 0 25
+line S 0 0 40 0
+line E 40 0 40 25
+line N 40 25 0 25
+line W 0 25 0 0
+on A S
+on A W
+on B S
+on B E
+on C E
+on C N
+on D N
+on D W
+angle S E 1/0
+angle E N 1/0
+angle N W 1/0
+distance A B 40
+distance B C 25
+end
+> 0
+verdict well
+elements 8
+constraints 13
+parts 1
+part 1 sound elements 8 held 13 due 13 : A B C D S E N W
+$ check
+sketch 1
+line X 0 0 100 0
+line Y 0 0 0 80
+circle H 30 8 5
+angle X Y 1/0
+tangent X H
+distance H Y 30
+end
+> 0
+verdict well
+elements 3
+constraints 3
+parts 1
+part 1 sound elements 3 held 3 due 3 : X Y H
+$ check
+sketch 1
+point A 7 7
+end
+> 0
+verdict well
+elements 1
+constraints 0
+parts 1
+part 1 sound elements 1 held 0 due 0 : A
+$ check
+sketch 1
+point A 0 0
+point B 4 0
+point C 4 3
+point D 0 3
+distance A B 4
+distance A C 5
+distance A D 3
+distance B C 3
+distance B D 5
+distance C D 4
+end
+> 0
+verdict over
+elements 4
+constraints 6
+parts 1
+part 1 over elements 4 held 6 due 5 : A B C D
+$ check order=first
+sketch 1
+point A 0 0
+point B 4 0
+point C 4 3
+point D 0 3
+distance A B 4
+distance A C 5
+distance A D 3
+distance B C 3
+distance B D 5
+distance C D 4
+end
+> 0
+verdict over
+elements 4
+constraints 6
+parts 1
+part 1 over elements 4 held 6 due 5 : A B C D
+$ check order=last
+sketch 1
+point A 0 0
+point B 4 0
+point C 4 3
+point D 0 3
+distance A B 4
+distance A C 5
+distance A D 3
+distance B C 3
+distance B D 5
+distance C D 4
+end
+> 0
+verdict over
+elements 4
+constraints 6
+parts 1
+part 1 over elements 4 held 6 due 5 : A B C D
+$ check order=7
+sketch 1
+point A 0 0
+point B 4 0
+point C 4 3
+point D 0 3
+distance A B 4
+distance A C 5
+distance A D 3
+distance B C 3
+distance B D 5
+distance C D 4
+end
+> 0
+verdict over
+elements 4
+constraints 6
+parts 1
+part 1 over elements 4 held 6 due 5 : A B C D
+$ check
+sketch 1
+point A 0 0
+point B 1 0
+distance A B 2.50
+distance B A 3
+end
+> 0
+verdict over
+elements 2
+constraints 2
+parts 1
+part 1 over elements 2 held 2 due 1 : A B
+$ check
+sketch 1
+point A 0 0
+point B 1 1
+point C 2 4
+point D 3 9
+point E 4 16
+point F 5 25
+distance A D 1
+distance A E 1
+distance A F 1
+distance B D 1
+distance B E 1
+distance B F 1
+distance C D 1
+distance C E 1
+distance C F 1
+end
+> 0
+verdict open
+elements 6
+constraints 9
+parts 9
+part 1 sound elements 2 held 1 due 1 : A D
+part 2 sound elements 2 held 1 due 1 : A E
+part 3 sound elements 2 held 1 due 1 : A F
+part 4 sound elements 2 held 1 due 1 : B D
+part 5 sound elements 2 held 1 due 1 : B E
+part 6 sound elements 2 held 1 due 1 : B F
+part 7 sound elements 2 held 1 due 1 : C D
+part 8 sound elements 2 held 1 due 1 : C E
+part 9 sound elements 2 held 1 due 1 : C F
+$ check
+sketch 1
+point A 0 0
+point B 1 1
+point C 2 4
+point D 3 9
+point E 4 16
+point F 5 25
+distance A B 1
+distance A C 1
+distance B C 1
+distance D E 1
+distance D F 1
+distance E F 1
+distance A D 1
+distance B E 1
+distance C F 1
+end
+> 0
+verdict open
+elements 6
+constraints 9
+parts 5
+part 1 sound elements 3 held 3 due 3 : A B C
+part 2 sound elements 2 held 1 due 1 : A D
+part 3 sound elements 2 held 1 due 1 : B E
+part 4 sound elements 2 held 1 due 1 : C F
+part 5 sound elements 3 held 3 due 3 : D E F
+$ check
+sketch 1
+point A 0 0
+point B 1 0
+point C 0 1
+point D 1 1
+point E 2 0
+distance A B 1
+distance A C 1
+distance B C 1
+distance A D 1
+distance A E 1
+distance D E 1
+end
+> 0
+verdict open
+elements 5
+constraints 6
+parts 2
+part 1 sound elements 3 held 3 due 3 : A B C
+part 2 sound elements 3 held 3 due 3 : A D E
+$ check
+sketch 1
+line X 0 0 1 0
+line Y 0 0 1 1
+line Z 0 0 0 1
+angle X Y 1/1
+angle Y Z 1/1
+angle X Z 1/0
+end
+> 0
+verdict open
+elements 3
+constraints 3
+parts 3
+part 1 sound elements 2 held 1 due 1 : X Y
+part 2 sound elements 2 held 1 due 1 : X Z
+part 3 sound elements 2 held 1 due 1 : Y Z
+";
 
 #[test]
 fn drawings_get_their_reports(rt: HostRuntime) -> Result<(), Fail> {
-    let rows: [(&[u8], &[u8]); 9] = [
-        (
-            b"sketch 1\npoint A 0 0\npoint B 40 0\npoint C 40 25\npoint D 0 25\nline S 0 0 40 0\nline E 40 0 40 25\nline N 40 25 0 25\nline W 0 25 0 0\non A S\non A W\non B S\non B E\non C E\non C N\non D N\non D W\nangle S E 1/0\nangle E N 1/0\nangle N W 1/0\ndistance A B 40\ndistance B C 25\nend\n",
-            b"verdict well\nelements 8\nconstraints 13\nparts 1\npart 1 sound elements 8 held 13 due 13 : A B C D S E N W\n",
-        ),
-        (
-            b"sketch 1\nline X 0 0 100 0\nline Y 0 0 0 80\ncircle H 30 8 5\nangle X Y 1/0\ntangent X H\ndistance H Y 30\nend\n",
-            b"verdict well\nelements 3\nconstraints 3\nparts 1\npart 1 sound elements 3 held 3 due 3 : X Y H\n",
-        ),
-        (
-            b"sketch 1\npoint A 7 7\nend\n",
-            b"verdict well\nelements 1\nconstraints 0\nparts 1\npart 1 sound elements 1 held 0 due 0 : A\n",
-        ),
-        (
-            b"sketch 1\npoint A 0 0\npoint B 4 0\npoint C 4 3\npoint D 0 3\ndistance A B 4\ndistance A C 5\ndistance A D 3\ndistance B C 3\ndistance B D 5\ndistance C D 4\nend\n",
-            b"verdict over\nelements 4\nconstraints 6\nparts 1\npart 1 over elements 4 held 6 due 5 : A B C D\n",
-        ),
-        (
-            b"sketch 1\npoint A 0 0\npoint B 1 0\ndistance A B 2.50\ndistance B A 3\nend\n",
-            b"verdict over\nelements 2\nconstraints 2\nparts 1\npart 1 over elements 2 held 2 due 1 : A B\n",
-        ),
-        (
-            b"sketch 1\npoint A 0 0\npoint B 1 1\npoint C 2 4\npoint D 3 9\npoint E 4 16\npoint F 5 25\ndistance A D 1\ndistance A E 1\ndistance A F 1\ndistance B D 1\ndistance B E 1\ndistance B F 1\ndistance C D 1\ndistance C E 1\ndistance C F 1\nend\n",
-            b"verdict open\nelements 6\nconstraints 9\nparts 9\npart 1 sound elements 2 held 1 due 1 : A D\npart 2 sound elements 2 held 1 due 1 : A E\npart 3 sound elements 2 held 1 due 1 : A F\npart 4 sound elements 2 held 1 due 1 : B D\npart 5 sound elements 2 held 1 due 1 : B E\npart 6 sound elements 2 held 1 due 1 : B F\npart 7 sound elements 2 held 1 due 1 : C D\npart 8 sound elements 2 held 1 due 1 : C E\npart 9 sound elements 2 held 1 due 1 : C F\n",
-        ),
-        (
-            b"sketch 1\npoint A 0 0\npoint B 1 1\npoint C 2 4\npoint D 3 9\npoint E 4 16\npoint F 5 25\ndistance A B 1\ndistance A C 1\ndistance B C 1\ndistance D E 1\ndistance D F 1\ndistance E F 1\ndistance A D 1\ndistance B E 1\ndistance C F 1\nend\n",
-            b"verdict open\nelements 6\nconstraints 9\nparts 5\npart 1 sound elements 3 held 3 due 3 : A B C\npart 2 sound elements 2 held 1 due 1 : A D\npart 3 sound elements 2 held 1 due 1 : B E\npart 4 sound elements 2 held 1 due 1 : C F\npart 5 sound elements 3 held 3 due 3 : D E F\n",
-        ),
-        (
-            b"sketch 1\npoint A 0 0\npoint B 1 0\npoint C 0 1\npoint D 1 1\npoint E 2 0\ndistance A B 1\ndistance A C 1\ndistance B C 1\ndistance A D 1\ndistance A E 1\ndistance D E 1\nend\n",
-            b"verdict open\nelements 5\nconstraints 6\nparts 2\npart 1 sound elements 3 held 3 due 3 : A B C\npart 2 sound elements 3 held 3 due 3 : A D E\n",
-        ),
-        (
-            b"sketch 1\nline X 0 0 1 0\nline Y 0 0 1 1\nline Z 0 0 0 1\nangle X Y 1/1\nangle Y Z 1/1\nangle X Z 1/0\nend\n",
-            b"verdict open\nelements 3\nconstraints 3\nparts 3\npart 1 sound elements 2 held 1 due 1 : X Y\npart 2 sound elements 2 held 1 due 1 : X Z\npart 3 sound elements 2 held 1 due 1 : Y Z\n",
-        ),
-    ];
-    for (input, written) in rows {
-        answers(&rt, rt.alloc(), &["check"], input, 0, written)?;
-    }
-    Ok(())
+    rows_pass(&rt, rt.alloc(), REPORTS)
 }

@@ -1,5 +1,5 @@
 // A small sketch, cut at every byte, and with every byte changed: each gets a verdict or a refusal.
-use crate::row::strings;
+use crate::row::{rows_pass, strings};
 use sk_cli::{Status, run};
 use sk_io::{MemSink, MemSource};
 use std::alloc::Global;
@@ -8,6 +8,78 @@ use std::test::Fail;
 
 const TRIANGLE: &[u8] =
     b"sketch 1\npoint A 0 0\npoint B 4 0\npoint C 4 3\ndistance A B 4\ndistance A C 5\ndistance B C 3\nend\n";
+
+/// Some of the cuts, and lines at the limit of their length.
+const CUTS: &str = "
+$ check
+> 1
+refused line 0 E18 empty
+$ check
+sketch > 1
+refused line 1 E1 header
+$ check
+sketch 1> 1
+refused line 2 E16 no-end
+$ check
+sketch 1
+point> 1
+refused line 2 E3 shape
+$ check
+sketch 1
+point A 0 0
+point B 4 0
+point C 4 3
+distance A B 4
+distance A C 5
+distance B C 3
+> 1
+refused line 8 E16 no-end
+$ check
+sketch 1
+point A 0 0
+point B 4 0
+point C 4 3
+distance A B 4
+distance A C 5
+distance B C 3
+en> 1
+refused line 8 E2 word
+$ check
+sketch 1
+point A 0 0
+point B 4 0
+point C 4 3
+distance A B 4
+distance A C 5
+distance B C 3
+end> 0
+verdict well
+elements 3
+constraints 3
+parts 1
+part 1 sound elements 3 held 3 due 3 : A B C
+$ check
+sketch 1
+point A 7 7
+end                                                                                                                                                                                                     
+> 0
+verdict well
+elements 1
+constraints 0
+parts 1
+part 1 sound elements 1 held 0 due 0 : A
+$ check
+sketch 1
+point A 7 7
+end                                                                                                                                                                                                      
+> 1
+refused line 3 E15 line-too-long
+";
+
+#[test]
+fn cuts_have_their_answers(rt: HostRuntime) -> Result<(), Fail> {
+    rows_pass(&rt, rt.alloc(), CUTS)
+}
 
 fn is_answered(rt: &impl Abort, alloc: Global, words: &[String], input: &[u8]) -> Result<(), Fail> {
     let mut source = MemSource::new(alloc, input, &[])?;

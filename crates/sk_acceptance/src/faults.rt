@@ -1,6 +1,6 @@
 // Reads and writes that fail, each call in turn.
 use crate::one_byte::{OneByteSink, OneByteSource};
-use crate::row::strings;
+use crate::row::{answers_over, strings};
 use sk_cli::run;
 use sk_io::{MemSink, MemSource, StdSink, StdSource};
 use std::test::Fail;
@@ -50,25 +50,24 @@ fn each_write_may_fail(rt: HostRuntime) -> Result<(), Fail> {
     Ok(())
 }
 
-/// Whole pieces a call: the first read, the first write, a room of five bytes.
+/// Whole pieces a call: the first read, the first write, a room of five bytes, calls that never come.
 #[test]
 fn faults_have_their_statuses(rt: HostRuntime) -> Result<(), Fail> {
     let alloc = rt.alloc();
-    let words = strings(alloc, &["check"])?;
-    let rows: [(&[u8], &[u64], u32, &[u64], u8, &[u8]); 4] = [
-        (TRIANGLE, &[1], 1000, &[], 3, b""),
-        (TRIANGLE, &[], 1000, &[1], 4, b""),
-        (TRIANGLE, &[], 5, &[], 4, b"verdi"),
-        (LONE_POINT, &[0, 9], 1000, &[0, 9], 0, LONE_POINT_REPORT),
-    ];
-    for (input, failing_reads, room, failing_writes, status, written) in rows {
-        let mut source = MemSource::new(alloc, input, failing_reads)?;
-        let mut sink = MemSink::new(alloc, room, failing_writes)?;
-        let answer = run(alloc, words.as_slice(), &mut source, &mut sink);
-        assert_eq!(rt; answer.code(), status);
-        assert_eq!(rt; sink.written(), written);
-    }
-    Ok(())
+    let words = ["check"];
+    answers_over(&rt, alloc, &words, (TRIANGLE, &[1]), (1000, &[]), 3, b"")?;
+    answers_over(&rt, alloc, &words, (TRIANGLE, &[]), (1000, &[1]), 4, b"")?;
+    answers_over(&rt, alloc, &words, (TRIANGLE, &[]), (5, &[]), 4, b"verdi")?;
+    let later = (LONE_POINT, [0, 9].as_slice());
+    answers_over(
+        &rt,
+        alloc,
+        &words,
+        later,
+        (1000, &[0, 9]),
+        0,
+        LONE_POINT_REPORT,
+    )
 }
 
 /// The adapters over std's readers and writers hand on what they are given.

@@ -14,6 +14,8 @@ mod derived;
 #[cfg(test)]
 mod faults;
 #[cfg(test)]
+mod limits;
+#[cfg(test)]
 mod lists;
 #[cfg(test)]
 mod merges;
@@ -31,6 +33,8 @@ mod refusals;
 mod row;
 #[cfg(test)]
 mod sessions;
+#[cfg(test)]
+mod solves;
 #[cfg(test)]
 mod spares;
 #[cfg(test)]

@@ -1,55 +1,155 @@
 // Drawings and their construction plans.
-use crate::row::{answers, plan_ends_with};
+use crate::row::rows_pass;
 use std::test::Fail;
+
+const PLANS: &str = "
+$ plan
+sketch 1
+point A 0 0
+point B 4 0
+point C 4 3
+distance A B 4
+distance A C 5
+distance B C 3
+end
+> 0
+verdict well
+elements 3
+constraints 3
+steps 1
+leaf c1 : distance A B 4
+leaf c2 : distance A C 5
+leaf c3 : distance B C 3
+step s1 joins c3 c2 c1 at C A B keeps c1 turn +
+$ plan
+sketch 1
+point A 0 0
+point B 4 0
+point C 4 -3
+distance A B 4
+distance A C 5
+distance B C 3
+end
+> 0
+verdict well
+elements 3
+constraints 3
+steps 1
+leaf c1 : distance A B 4
+leaf c2 : distance A C 5
+leaf c3 : distance B C 3
+step s1 joins c3 c2 c1 at C A B keeps c1 turn -
+$ plan
+sketch 1
+point A 0 0
+point B 4 0
+point C 8 0
+distance A B 4
+distance A C 5
+distance B C 3
+end
+> 0
+verdict well
+elements 3
+constraints 3
+steps 1
+leaf c1 : distance A B 4
+leaf c2 : distance A C 5
+leaf c3 : distance B C 3
+step s1 joins c3 c2 c1 at C A B keeps c1 turn +
+$ plan
+sketch 1
+point A 0 0
+point B 1 0
+distance A B 2.50
+end
+> 0
+verdict well
+elements 2
+constraints 1
+steps 0
+leaf c1 : distance A B 2.5
+$ plan
+sketch 1
+point A 0 0
+point B 1 0
+end
+> 6
+verdict open
+elements 2
+constraints 0
+parts 2
+part 1 sound elements 1 held 0 due 0 : A
+part 2 sound elements 1 held 0 due 0 : B
+$ plan
+sketch 1
+circle H 0 0 5
+circle K 5 0 2
+line T 0 -6 10 1.5
+distance H K 5
+tangent T H
+tangent T K
+end
+> 0
+verdict well
+elements 3
+constraints 3
+steps 1
+leaf c1 : distance H K 5
+leaf c2 : tangent T H
+leaf c3 : tangent T K
+step s1 joins c3 c2 c1 at T H K keeps c1 advance +
+$ plan
+sketch 1
+point A 0 0
+point B 40 0
+point C 40 25
+point D 0 25
+line S 0 0 40 0
+line E 40 0 40 25
+line N 40 25 0 25
+line W 0 25 0 0
+on A S
+on A W
+on B S
+on B E
+on C E
+on C N
+on D N
+on D W
+angle S E 1/0
+angle E N 1/0
+angle N W 1/0
+distance A B 40
+distance B C 25
+end
+> 0
+verdict well
+elements 8
+constraints 13
+steps 6
+leaf c1 : on A S
+leaf c2 : on A W
+leaf c3 : on B S
+leaf c4 : on B E
+leaf c5 : on C E
+leaf c6 : on C N
+leaf c7 : on D N
+leaf c8 : on D W
+leaf c9 : angle S E 1/0
+leaf c10 : angle E N 1/0
+leaf c11 : angle N W 1/0
+leaf c12 : distance A B 40
+leaf c13 : distance B C 25
+step s1 joins c9 c4 c3 at E B S keeps c3 none
+step s2 joins c10 c6 c5 at N C E keeps c5 none
+step s3 joins c11 c8 c7 at W D N keeps c7 none
+step s4 joins s1 c12 c1 at B A S keeps s1 advance +
+step s5 joins s4 s2 c13 at E C B keeps s4 advance +
+step s6 joins s5 s3 c2 at N W A keeps s5 none
+";
 
 #[test]
 fn drawings_get_their_plans(rt: HostRuntime) -> Result<(), Fail> {
-    let rows: [(&[u8], u8, &[u8]); 4] = [
-        (
-            b"sketch 1\npoint A 0 0\npoint B 4 0\npoint C 8 0\ndistance A B 4\ndistance A C 5\ndistance B C 3\nend\n",
-            0,
-            b"verdict well\nelements 3\nconstraints 3\nsteps 1\nleaf c1 : distance A B 4\nleaf c2 : distance A C 5\nleaf c3 : distance B C 3\nstep s1 joins c3 c2 c1 at C A B keeps c1 turn +\n",
-        ),
-        (
-            b"sketch 1\npoint A 0 0\npoint B 1 0\ndistance A B 2.50\nend\n",
-            0,
-            b"verdict well\nelements 2\nconstraints 1\nsteps 0\nleaf c1 : distance A B 2.5\n",
-        ),
-        (
-            b"sketch 1\npoint A 0 0\npoint B 1 0\nend\n",
-            6,
-            b"verdict open\nelements 2\nconstraints 0\nparts 2\npart 1 sound elements 1 held 0 due 0 : A\npart 2 sound elements 1 held 0 due 0 : B\n",
-        ),
-        (
-            b"sketch 1\npoint A 0 0\npoint B 4 0\npoint C 4 3\ndistance A B 4\ndistance A C 5\ndistance B C 3\nend\n",
-            0,
-            b"verdict well\nelements 3\nconstraints 3\nsteps 1\nleaf c1 : distance A B 4\nleaf c2 : distance A C 5\nleaf c3 : distance B C 3\nstep s1 joins c3 c2 c1 at C A B keeps c1 turn +\n",
-        ),
-    ];
-    for (input, status, written) in rows {
-        answers(&rt, rt.alloc(), &["plan"], input, status, written)?;
-    }
-    Ok(())
-}
-
-#[test]
-fn steps_name_their_choices(rt: HostRuntime) -> Result<(), Fail> {
-    let rows: [(&[u8], &[u8]); 3] = [
-        (
-            b"sketch 1\ncircle H 0 0 5\ncircle K 5 0 2\nline T 0 -6 10 1.5\ndistance H K 5\ntangent T H\ntangent T K\nend\n",
-            b"step s1 joins c3 c2 c1 at T H K keeps c1 advance +\n",
-        ),
-        (
-            b"sketch 1\npoint A 0 0\npoint B 40 0\npoint C 40 25\npoint D 0 25\nline S 0 0 40 0\nline E 40 0 40 25\nline N 40 25 0 25\nline W 0 25 0 0\non A S\non A W\non B S\non B E\non C E\non C N\non D N\non D W\nangle S E 1/0\nangle E N 1/0\nangle N W 1/0\ndistance A B 40\ndistance B C 25\nend\n",
-            b"step s1 joins c9 c4 c3 at E B S keeps c3 none\nstep s2 joins c10 c6 c5 at N C E keeps c5 none\nstep s3 joins c11 c8 c7 at W D N keeps c7 none\nstep s4 joins s1 c12 c1 at B A S keeps s1 advance +\nstep s5 joins s4 s2 c13 at E C B keeps s4 advance +\nstep s6 joins s5 s3 c2 at N W A keeps s5 none\n",
-        ),
-        (
-            b"sketch 1\npoint A 0 0\npoint B 4 0\npoint C 4 -3\ndistance A B 4\ndistance A C 5\ndistance B C 3\nend\n",
-            b"step s1 joins c3 c2 c1 at C A B keeps c1 turn -\n",
-        ),
-    ];
-    for (input, steps) in rows {
-        plan_ends_with(&rt, rt.alloc(), input, steps)?;
-    }
-    Ok(())
+    rows_pass(&rt, rt.alloc(), PLANS)
 }

@@ -1,37 +1,57 @@
 // Words that aren't of the form: no byte is read.
-use crate::row::strings;
-use sk_cli::run;
-use sk_io::{MemSink, MemSource};
+use crate::row::answers_over;
+use std::alloc::Global;
+use std::process::Abort;
 use std::test::Fail;
 
-const USAGE: &[u8] =
-    b"usage: sketch check|plan|solve|dxf|offers|session|grow [order=first|last|0..65535] [bits=16|27|38] [within=1..1000000] [n=3..1000]\n";
+const USAGE: &str =
+    "usage: sketch check|plan|solve|dxf|offers|session|grow [order=first|last|0..65535] [bits=16|27|38] [within=1..1000000] [n=3..1000]\n";
 
+/// The words of a call on each line, between single spaces; the first line has one empty word.
+const NO_FORMS: &str = "
+--help
+--version
+check check
+check order=
+check order=+1
+check order=00
+check order=65536
+check order=first order=last
+check bits=16
+check within=5
+plan bits=38
+offers within=1
+solve bits=
+solve bits=20
+solve bits=038
+solve within=0
+solve within=1000001
+solve within=
+solve n=5
+solve bits=38 within=5 bits=38
+solve order=first within=1000001
+grow
+grow n=2
+grow n=1001
+grow n=0003
+grow bits=16
+session n=3";
+
+/// The first read would fail, so a call that reads would end with another status.
 #[test]
 fn other_words_get_the_usage_line(rt: HostRuntime) -> Result<(), Fail> {
-    let alloc = rt.alloc();
-    let rows: [&[&str]; 12] = [
-        &[],
-        &[""],
-        &["--help"],
-        &["solve", "bits=20"],
-        &["check", "bits=16"],
-        &["grow"],
-        &["check", "order=first", "order=last"],
-        &["check", "order="],
-        &["check", "order=00"],
-        &["check", "order=+1"],
-        &["check", "order=65536"],
-        &["check", "check"],
-    ];
-    for words in rows {
-        let strings = strings(alloc, words)?;
-        let mut source = MemSource::new(alloc, b"sketch 1\npoint A 7 7\nend\n", &[1])?;
-        let mut sink = MemSink::new(alloc, 1000, &[])?;
-        let status = run(alloc, strings.as_slice(), &mut source, &mut sink);
-        assert_eq!(rt; status.code(), 2);
-        assert_eq!(rt; sink.written(), USAGE);
-        assert_eq!(rt; source.left().len(), 25);
+    is_usage(&rt, rt.alloc(), &[])?;
+    for line in NO_FORMS.split("\n") {
+        let mut words = Vec::new(rt.alloc());
+        for word in line.split(" ") {
+            words.push(word)?;
+        }
+        is_usage(&rt, rt.alloc(), words.as_slice())?;
     }
     Ok(())
+}
+
+fn is_usage(rt: &impl Abort, alloc: Global, words: &[&str]) -> Result<(), Fail> {
+    let failing = (b"end\n".as_slice(), [1].as_slice());
+    answers_over(rt, alloc, words, failing, (1000, &[]), 2, USAGE.as_bytes())
 }

@@ -1,0 +1,328 @@
+// Drawings and where their elements lie, or the first fault.
+use crate::row::rows_pass;
+use std::test::Fail;
+
+const POINTS: &str = "
+$ solve
+sketch 1
+point A 0 0
+point B 4 0
+point C 4 3
+distance A B 4
+distance A C 5
+distance B C 3
+end
+> 0
+verdict well
+steps 1
+bits 38
+point A 0 0
+point B 4000000 0
+point C 4000000 3000000
+length tolerance 0 nm at c1
+angle tolerance 0 ppb at none
+$ solve
+sketch 1
+point A 0 0
+point B 4 0
+point C 4 -3
+distance A B 4
+distance A C 5
+distance B C 3
+end
+> 0
+verdict well
+steps 1
+bits 38
+point A 0 0
+point B 4000000 0
+point C 4000000 -3000000
+length tolerance 0 nm at c1
+angle tolerance 0 ppb at none
+$ solve
+sketch 1
+point A 0 0
+point B 4 0
+point C 8 0
+distance A B 4
+distance A C 5
+distance B C 3
+end
+> 0
+verdict well
+steps 1
+bits 38
+point A 0 0
+point B 4000000 0
+point C 4000000 3000000
+length tolerance 0 nm at c1
+angle tolerance 0 ppb at none
+$ solve
+sketch 1
+point A 0 0
+point B 10 0
+point C 5 8
+distance A B 10
+distance A C 10
+distance B C 10
+end
+> 0
+verdict well
+steps 1
+bits 38
+point A 0 0
+point B 10000000 0
+point C 5000000 8660254
+length tolerance 1 nm at c2
+angle tolerance 0 ppb at none
+$ solve
+sketch 1
+point A 7 7
+end
+> 0
+verdict well
+steps 0
+bits 38
+point A 0 0
+length tolerance 0 nm at none
+angle tolerance 0 ppb at none
+$ solve
+sketch 1
+point A 0 0
+point B 1 0
+end
+> 6
+verdict open
+elements 2
+constraints 0
+parts 2
+part 1 sound elements 1 held 0 due 0 : A
+part 2 sound elements 1 held 0 due 0 : B
+$ solve
+sketch\t1\r
+point\tA\t0\t0\r
+point\tB\t4\t0\r
+point\tC\t4\t3\r
+distance\tA\tB\t4\r
+distance\tA\tC\t5\r
+distance\tB\tC\t3\r
+end\r
+> 0
+verdict well
+steps 1
+bits 38
+point A 0 0
+point B 4000000 0
+point C 4000000 3000000
+length tolerance 0 nm at c1
+angle tolerance 0 ppb at none
+";
+
+const LINES: &str = "
+$ solve
+sketch 1
+point A 0 0
+point B 40 0
+point C 40 25
+point D 0 25
+line S 0 0 40 0
+line E 40 0 40 25
+line N 40 25 0 25
+line W 0 25 0 0
+on A S
+on A W
+on B S
+on B E
+on C E
+on C N
+on D N
+on D W
+angle S E 1/0
+angle E N 1/0
+angle N W 1/0
+distance A B 40
+distance B C 25
+end
+> 0
+verdict well
+steps 6
+bits 38
+point A -40000000 0
+point B 0 0
+point C 0 25000000
+point D -40000000 25000000
+line S 0 1000000000 0
+line E -1000000000 0 0
+line N 0 -1000000000 -25000000
+line W 1000000000 0 -40000000
+length tolerance 0 nm at c1
+angle tolerance 0 ppb at line S
+$ solve
+sketch 1
+line X 0 0 100 0
+line Y 0 0 0 80
+circle H 30 8 5
+angle X Y 1/0
+tangent X H
+distance H Y 30
+end
+> 0
+verdict well
+steps 1
+bits 38
+line X 0 1000000000 0
+line Y -1000000000 0 0
+circle H 30000000 5000000 5000000
+length tolerance 0 nm at c2
+angle tolerance 0 ppb at line X
+$ solve
+sketch 1
+circle H 0 0 5
+circle K 5 0 2
+line T 0 -6 10 1.5
+distance H K 5
+tangent T H
+tangent T K
+end
+> 0
+verdict well
+steps 1
+bits 38
+circle H 0 0 5000000
+circle K 5000000 0 2000000
+line T -600000000 800000000 -5000000
+length tolerance 0 nm at c1
+angle tolerance 0 ppb at line T
+$ solve
+sketch 1
+line L 3 1 7 4
+end
+> 0
+verdict well
+steps 0
+bits 38
+line L 0 1000000000 0
+length tolerance 0 nm at none
+angle tolerance 0 ppb at line L
+";
+
+const FAULTS: &str = "
+$ solve
+sketch 1
+point A 0 0
+point B 7 0
+point C 3 1
+distance A B 7
+distance A C 3
+distance B C 4
+end
+> 7
+fault s1 build height C flat 0 0 bits 38
+$ solve
+sketch 1
+point A 0 0
+point B 7 0
+point C 3 1
+distance A B 5
+distance A C 1
+distance B C 1
+end
+> 7
+fault s1 build height C gap -1443109011456 -1443109011456 bits 38
+$ solve bits=27
+sketch 1
+point A 0 0
+point B 7 0
+point C 3 1
+distance A B 5
+distance A C 1
+distance B C 1
+end
+> 7
+fault s1 build height C gap -704643072 -704643072 bits 27
+$ solve bits=16
+sketch 1
+point A 0 0
+point B 7 0
+point C 3 1
+distance A B 5
+distance A C 1
+distance B C 1
+end
+> 7
+fault s1 build height C gap -344064 -344064 bits 16
+$ solve
+sketch 1
+point A 0 0
+point B 7 0
+point C 3 1
+distance A B 0.001
+distance A C 1000000
+distance B C 1
+end
+> 7
+fault s1 build height C range bits 38
+$ solve bits=16
+sketch 1
+point A 0 0
+point B 7 0
+point C 3 1
+distance A B 0.001
+distance A C 1000000
+distance B C 1
+end
+> 7
+fault s1 build base C flat 0 1 bits 16
+$ solve within=1
+sketch 1
+point A 0 0
+point B 1 0
+distance A B 0.003
+end
+> 0
+verdict well
+steps 0
+bits 38
+point A 0 0
+point B 3000 0
+length tolerance 0 nm at c1
+angle tolerance 0 ppb at none
+$ solve bits=38 within=1
+sketch 1
+point A 0 0
+point B 1 0
+distance A B 0.003
+end
+> 0
+verdict well
+steps 0
+bits 38
+point A 0 0
+point B 3000 0
+length tolerance 0 nm at c1
+angle tolerance 0 ppb at none
+$ solve bits=16 within=1
+sketch 1
+point A 0 0
+point B 1 0
+distance A B 0.003
+end
+> 8
+fault c1 tolerance 2 nm limit 1
+";
+
+#[test]
+fn points_are_placed(rt: HostRuntime) -> Result<(), Fail> {
+    rows_pass(&rt, rt.alloc(), POINTS)
+}
+
+#[test]
+fn lines_are_placed(rt: HostRuntime) -> Result<(), Fail> {
+    rows_pass(&rt, rt.alloc(), LINES)
+}
+
+/// The first fault, on each grid and beyond each limit.
+#[test]
+fn faults_are_named(rt: HostRuntime) -> Result<(), Fail> {
+    rows_pass(&rt, rt.alloc(), FAULTS)
+}
