@@ -12,7 +12,11 @@ mod damaged;
 #[cfg(test)]
 mod derived;
 #[cfg(test)]
+mod drawn;
+#[cfg(test)]
 mod faults;
+#[cfg(test)]
+mod grown;
 #[cfg(test)]
 mod limits;
 #[cfg(test)]
