@@ -138,7 +138,12 @@ pub(crate) fn put_number(text: &mut Text, n: i128) -> Result<(), NoMemory>
 }
 
 /// Puts the two lines that tell the tolerance.
-pub(crate) fn put_tolerance(alloc: Global, text: &mut Text, s: &Sketch, t: &Tolerance) -> Result<(), NoMemory>
+pub(crate) fn put_tolerance(
+    alloc: Global,
+    text: &mut Text,
+    s: &Sketch,
+    t: &Tolerance,
+) -> Result<(), NoMemory>
     ensures { OnOk result (text.new ≡ text.old ++ tolerance_lines s.now t.now) }
 {
     put_length_line(alloc, text, t)?;

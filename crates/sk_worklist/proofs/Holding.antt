@@ -14,7 +14,7 @@ use Rattle.sk_base.proofs.Unions.{which}
 use Rattle.slab.specs.Slab.{get}
 use Rattle.sk_base.specs.declared.Elem.{Elem}
 use Rattle.sk_family.proofs.Naming.{below_irreflexive}
-use Rattle.sk_family.proofs.Taking.{filter_keeps}
+use Rattle.sk_base.proofs.Filters.{filter_keeps}
 use Rattle.sk_worklist.specs.declared.index.Index.{Index}
 use Rattle.sk_worklist.specs.Indexed.{IsIndex, holders_of, keys_in}
 
