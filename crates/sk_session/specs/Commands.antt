@@ -9,10 +9,10 @@ use Rattle.sk_base.specs.declared.Rule.{Rule}
 use Rattle.sk_base.specs.declared.Rule.TheVariants as rule
 use Rattle.sk_base.specs.declared.Sketch.{Sketch}
 use Rattle.sk_base.specs.Labels.{is_name}
-use Rattle.sk_base.specs.Millimetres.{digits_of}
 use Rattle.sk_lex.specs.Words.{words_in}
 use Rattle.sk_lang.specs.declared.Code.{Code}
 use Rattle.sk_lang.specs.declared.Code.TheVariants.{E2, E3, E4, E6, E8, E9, E18, S1, S2, S3, S4, S5}
+use Rattle.sk_lang.specs.ClusterWords.{plain_number}
 use Rattle.sk_lang.specs.Codes.{byte_rows, is_none_left}
 use Rattle.sk_lang.specs.Entry.{rows_of}
 use Rattle.sk_lang.specs.Conditions.{is_zero}
@@ -43,12 +43,8 @@ command_of word =
     if bytes_eq word (codes "end") then Some End else None
 
 -- a number is one to seven digits, the first of them not 0
-abbrev pub begins_with_zero : List ℕ → Bool
-begins_with_zero [] = false
-begins_with_zero (b ∷ bytes) = b == 48
-
 abbrev pub number_of : List ℕ → Option ℕ
-number_of word = if begins_with_zero word then None else digits_of 7 word
+number_of word = plain_number 7 word
 
 abbrev pub id_of : List ℕ → ConId
 id_of word = record { 0 = unwrap_or (number_of word) 0 }

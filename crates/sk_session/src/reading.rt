@@ -13,35 +13,23 @@ ghost use Rattle.sk_session.specs.declared.edit.Edit.TheVariants as an_edit;
 ghost use Rattle.sk_session.specs.declared.command.Change.TheVariants as a_change;
 ghost use Rattle.sk_base.specs.declared.Element.{Element as AnElement};
 ghost use Rattle.sk_graph.specs.SketchGraph.{first_of, second_of};
-ghost use Rattle.sk_session.specs.Commands.{value_rows, setting, from_made, begins_with_zero, number_of, constraint_with, is_used, change_rows, edit_made};
+ghost use Rattle.sk_session.specs.Commands.{value_rows, setting, from_made, number_of, constraint_with, is_used, change_rows, edit_made};
 ghost use Rattle.sk_session.specs.Edits.{constraint_number};
 
 use crate::command::Change;
 use crate::edit::Edit;
 use crate::numbered::item_of;
-use sk_base::{ConId, Constraint, Elem, Element, Label, Rule, Sketch, digits_of};
-use sk_lang::{Code, label, length, not_zero, slope, word};
+use sk_base::{ConId, Constraint, Elem, Element, Label, Rule, Sketch};
+use sk_lang::{Code, label, length, not_zero, plain_number, slope, word};
 use sk_lex::Word;
 
 /// The number that a word is.
 fn number_of(word: &[u8]) -> Result<ConId, Code>
     ensures { MatchResult result (λ k. number_of word.now ≡ Some k.0) (λ code. (number_of word.now ≡ None) × (code ≡ E8)) }
 {
-    if begins_with_zero(word) {
-        return Err(Code::E8);
-    }
-    match digits_of(7, word) {
-        Some(n) => Ok(ConId(n as u32)),
+    match plain_number(7, word) {
+        Some(number) => Ok(ConId(number as u32)),
         None => Err(Code::E8),
-    }
-}
-
-fn begins_with_zero(word: &[u8]) -> bool
-    ensures { result ≡ begins_with_zero word.now }
-{
-    match word {
-        [] => false,
-        [first, ..] => *first == b'0',
     }
 }
 
