@@ -193,7 +193,7 @@ same_solved law laws report request s sound status other text another (inl (p, q
     (subst (λ (z : ThePlan). IsPlacement (grid_of request.bits) (digits_of request.bits) request.within s z q) plan_is placed.placed) placed'.placed in (
       is ∙ ap status_of placement_is ∙ sym is',
       text_is ∙ ap (λ z. placement_words report (digits_of request.bits) s z q) plan_is
-      ∙ ap (λ z. placement_words report (digits_of request.bits) s p' z) placement_is ∙ sym text_is',
+          ∙ ap (λ z. placement_words report (digits_of request.bits) s p' z) placement_is ∙ sym text_is',
     )
 same_solved law laws report request s sound status other text another (inl (p, q, placed, is, text_is)) (inr (short, report)) = absurd (still_well law s another placed.well report)
 same_solved law laws report request s sound status other text another (inr (short, report)) (inl (p, q, placed, is, text_is)) = absurd (still_well law s text placed.well report)

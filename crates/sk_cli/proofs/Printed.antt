@@ -61,18 +61,18 @@ tells_clusters law g rising j judged =
           | inr (e, lone, same) ↦ absurd (let long : length p.elements ≡ 1 = ap length (sym same) in omega (arith, two, long))
         ])),
         (λ (x, x_in, same). (
-          let elements = ap (λ (q : Part). q.elements) same in
-          (is.parts p).1 (inl (x, x_in, sym elements), same ∙ ap (λ xs. part_with g xs) (sym elements))
-        )),
+            let elements = ap (λ (q : Part). q.elements) same in
+            (is.parts p).1 (inl (x, x_in, sym elements), same ∙ ap (λ xs. part_with g xs) (sym elements))
+            )),
       );
       over = λ p inside. (
-        let part = ((is.parts p).0 inside).1 in
-        let due : p.due ≡ 2 * length p.elements - 3 = ap (λ (q : Part). q.due) part in
-        let held_is : p.held ≡ held g p.elements = ap (λ (q : Part). q.held) part in (
-          (λ over. (subst (λ n. n < held g p.elements) due (subst (λ m. p.due < m) held_is over))),
-          (λ more. (subst (λ n. n < p.held) (sym due) (subst (λ m. 2 * length p.elements - 3 < m) (sym held_is) more))),
-        )
-      );
+          let part = ((is.parts p).0 inside).1 in
+          let due : p.due ≡ 2 * length p.elements - 3 = ap (λ (q : Part). q.due) part in
+          let held_is : p.held ≡ held g p.elements = ap (λ (q : Part). q.held) part in (
+            (λ over. (subst (λ n. n < held g p.elements) due (subst (λ m. p.due < m) held_is over))),
+            (λ more. (subst (λ n. n < p.held) (sym due) (subst (λ m. 2 * length p.elements - 3 < m) (sym held_is) more))),
+          )
+          );
     }
 
 -- the verdict is well exactly where there is no second part and none is over
@@ -81,9 +81,9 @@ well_exactly j is = (
   (λ well. (
     (let few = not_several (some_over j.parts) (nat_lt 1 (length j.parts)) (sym is ∙ well) in grind (arith, nat_tests, few)),
     (λ p inside over. (
-      let told : j.verdict ≡ Over = (over_exactly j is).1 (inside.0, p, inside.1, inside.2, over) in
-      let clash : Well ≡ Over = sym well ∙ told in cc
-    )),
+        let told : j.verdict ≡ Over = (over_exactly j is).1 (inside.0, p, inside.1, inside.2, over) in
+        let clash : Well ≡ Over = sym well ∙ told in cc
+        )),
   )),
   (λ one. by_verdict one j.verdict refl),
 )
@@ -92,10 +92,12 @@ well_exactly j is = (
     not_several true c same = cc
     not_several false true same = cc
     not_several false false same = refl
+
     several : (b c : Bool) → (if b then Over else (if c then Several else Well)) ≡ Several → c ≡ true
     several true c same = cc
     several false true same = refl
     several false false same = cc
+
     by_verdict : IsOneSoundPart j → (v : Verdict) → j.verdict ≡ v → j.verdict ≡ Well
     by_verdict one Well same = same
     by_verdict one Over same = (let (k, p, k_in, at_k, over) = (over_exactly j is).0 same in absurd (one.1 p (k, k_in, at_k) over))

@@ -86,7 +86,7 @@ pub record IsPlacedPlan (request : Request) (s : Sketch) (p : ThePlan) (placemen
 abbrev pub IsSolved : Report → Request → Sketch → Status → List ℕ → Type 0
 IsSolved report request s status text =
     ((p : ThePlan) × (placement : Placement) × IsPlacedPlan request s p placement × (status ≡ status_of placement)
-        × (text ≡ placement_words report (digits_of request.bits) s p placement))
+    × (text ≡ placement_words report (digits_of request.bits) s p placement))
     ⊎ ((status ≡ NotWell) × IsReportNotWell s text)
 
 -- what `solve` and `dxf` answer to an input, each with its report

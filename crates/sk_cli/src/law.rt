@@ -64,7 +64,7 @@ pub fn causes()
     ensures step_fault { (words : List (List ℕ)) (bytes text : List ℕ) (status : Status) (request : Request) (s : Sketch) → IsOutcome words bytes status text → Asks words request
         → IsTrue (places request.command) → IsSketchOf request.command request bytes s
         → (status ≡ Status.StepFault) ↔ ((p : Plan) × IsItsPlan request s p
-            × (HasFault request s p ⊎ ((at : Placed) × LieAt request s p at × NonePasses request s at × SomeTurned request s p at))) }
+        × (HasFault request s p ⊎ ((at : Placed) × LieAt request s p at × NonePasses request s at × SomeTurned request s p at))) }
     ensures tolerance { (words : List (List ℕ)) (bytes text : List ℕ) (status : Status) (request : Request) (s : Sketch) → IsOutcome words bytes status text → Asks words request
         → IsTrue (places request.command) → IsSketchOf request.command request bytes s
         → (status ≡ Status.Tolerance) ↔ ((p : Plan) × IsItsPlan request s p × ((at : Placed) × LieAt request s p at × SomePasses request s at)) }
@@ -100,7 +100,7 @@ pub fn headline()
     ensures places { (words : List (List ℕ)) (bytes text : List ℕ) (status : Status) (request : Request) (s : Sketch) → IsOutcome words bytes status text → Asks words request
         → IsTrue (places request.command) → IsSketchOf request.command request bytes s → status ≡ Status.Done
         → (report : Report) × (p : Plan) × (at : Placed) × (t : Tolerance) × IsReportOf request.command report × HoldsAt request s p at t
-            × (text ≡ report_words report (digits_of request.bits) s p at t) }
+        × (text ≡ report_words report (digits_of request.bits) s p at t) }
     ensures failure { (words : List (List ℕ)) (bytes text : List ℕ) (status : Status) (request : Request) (s : Sketch) → IsOutcome words bytes status text → Asks words request
         → IsTrue (places request.command) → IsSketchOf request.command request bytes s → status ≢ Status.Done → status ≢ Status.NotWell
         → NamesTheFirst request s text }

@@ -27,7 +27,7 @@ pub use offer_line::OfferLine;
 pub use offer_reading::{one_reading_of_offers, read_offers};
 pub use placing::Placement;
 pub use reply::told_text;
-pub use solving::Report;
 pub use request::{Request, request_of};
+pub use solving::Report;
 pub use status::Status;
 pub use top::run;

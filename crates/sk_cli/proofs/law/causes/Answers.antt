@@ -18,16 +18,16 @@ returns c =
     record {
       usage = usage_both;
       refused = λ words bytes text status request outcome asks.
-      refused_both one_sketch not_both laws request.command request bytes text status (answer_about words bytes text status request outcome asks);
+          refused_both one_sketch not_both laws request.command request bytes text status (answer_about words bytes text status request outcome asks);
       not_well = λ words bytes text status request s outcome asks planned about.
-      not_well_about one_sketch not_both law laws request.command request bytes text status s (answer_about words bytes text status request outcome asks) planned about;
+          not_well_about one_sketch not_both law laws request.command request bytes text status s (answer_about words bytes text status request outcome asks) planned about;
       step_fault = λ words bytes text status request s outcome asks placed about.
-      (let solved = solved_about one_sketch not_both request.command request bytes text status s (answer_about words bytes text status request outcome asks) placed about in
-      fault_both law laws solved.0 request s status text solved.2 (sound_about laws request.command request bytes s (size_fits words request asks) about));
+          (let solved = solved_about one_sketch not_both request.command request bytes text status s (answer_about words bytes text status request outcome asks) placed about in
+          fault_both law laws solved.0 request s status text solved.2 (sound_about laws request.command request bytes s (size_fits words request asks) about));
       tolerance = λ words bytes text status request s outcome asks placed about.
-      (let solved = solved_about one_sketch not_both request.command request bytes text status s (answer_about words bytes text status request outcome asks) placed about in
-      beyond_both law laws solved.0 request s status text solved.2 (sound_about laws request.command request bytes s (size_fits words request asks) about));
+          (let solved = solved_about one_sketch not_both request.command request bytes text status s (answer_about words bytes text status request outcome asks) placed about in
+          beyond_both law laws solved.0 request s status text solved.2 (sound_about laws request.command request bytes s (size_fits words request asks) about));
       done = λ words bytes text status request s outcome asks placed about.
-      (let solved = solved_about one_sketch not_both request.command request bytes text status s (answer_about words bytes text status request outcome asks) placed about in
-      held_both law laws solved.0 request s status text solved.2 (sound_about laws request.command request bytes s (size_fits words request asks) about));
+          (let solved = solved_about one_sketch not_both request.command request bytes text status s (answer_about words bytes text status request outcome asks) placed about in
+          held_both law laws solved.0 request s status text solved.2 (sound_about laws request.command request bytes s (size_fits words request asks) about));
     }

@@ -24,23 +24,28 @@ returns c =
     let not_both = c.one_answer.ensures.not_both in
     record {
       clusters = λ words bytes text status request s outcome asks about writes.
-      (let told = report_told one_sketch not_both laws request.command request bytes text status s (answer_about words bytes text status request outcome asks) about writes in
-      (told.0, told.1, told.2,
-      tells_clusters c.one_normal_form.ensures (graph_of s) (sound_about laws request.command request bytes s (size_fits words request asks) about).edges_rise told.0 told.3));
+          (let told = report_told one_sketch not_both laws request.command request bytes text status s (answer_about words bytes text status request outcome asks) about writes in (
+            told.0,
+            told.1,
+            told.2,
+            tells_clusters c.one_normal_form.ensures (graph_of s) (sound_about laws request.command request bytes s (size_fits words request asks) about).edges_rise told.0 told.3,
+          ));
       planned = λ words bytes text status request s j outcome asks plan reads judged.
-      planned_both law s j judged request.order status text
-      (planned_about one_sketch not_both request.order request bytes text status s refl (subst (λ k. IsAnswerOf k request bytes status text) plan (answer_about words bytes text status request outcome asks)) reads);
+          planned_both law s j judged request.order status text
+          (planned_about one_sketch not_both request.order request bytes text status s refl (subst (λ k. IsAnswerOf k request bytes status text) plan (answer_about words bytes text status request outcome asks)) reads);
       plan = λ words bytes text status request s outcome asks plan reads done.
-      (let told = planned_text request.order s status text
-      (planned_about one_sketch not_both request.order request bytes text status s refl (subst (λ k. IsAnswerOf k request bytes status text) plan (answer_about words bytes text status request outcome asks)) reads) done in
-      (told.0, (told.1, told.2),
-      (λ tree is. subst (λ leaves. HasLeaves tree leaves) told.2.legal.leaves (c.legal_plan.ensures.leaves (graph_of s) told.0 (graph_is_sound s (c.readable_is_sound.ensures.sound bytes s reads)) told.2.legal tree is)),
-      told.3));
+          (let told = planned_text request.order s status text
+          (planned_about one_sketch not_both request.order request bytes text status s refl (subst (λ k. IsAnswerOf k request bytes status text) plan (answer_about words bytes text status request outcome asks)) reads) done in (
+            told.0,
+            (told.1, told.2),
+            (λ tree is. subst (λ leaves. HasLeaves tree leaves) told.2.legal.leaves (c.legal_plan.ensures.leaves (graph_of s) told.0 (graph_is_sound s (c.readable_is_sound.ensures.sound bytes s reads)) told.2.legal tree is)),
+            told.3,
+          ));
       places = λ words bytes text status request s outcome asks placed about done.
-      (let solved = solved_about one_sketch not_both request.command request bytes text status s (answer_about words bytes text status request outcome asks) placed about in
-      let found = solved_text solved.0 request s status text solved.2 done in
-      (solved.0, found.0, found.1, found.2, solved.1, found.3, found.4));
+          (let solved = solved_about one_sketch not_both request.command request bytes text status s (answer_about words bytes text status request outcome asks) placed about in
+          let found = solved_text solved.0 request s status text solved.2 done in
+          (solved.0, found.0, found.1, found.2, solved.1, found.3, found.4));
       failure = λ words bytes text status request s outcome asks placed about other short.
-      (let solved = solved_about one_sketch not_both request.command request bytes text status s (answer_about words bytes text status request outcome asks) placed about in
-      failed_text solved.0 request s status text solved.2 other short);
+          (let solved = solved_about one_sketch not_both request.command request bytes text status s (answer_about words bytes text status request outcome asks) placed about in
+          failed_text solved.0 request s status text solved.2 other short);
     }
