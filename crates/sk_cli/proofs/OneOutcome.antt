@@ -195,8 +195,8 @@ same_solved law laws report request s sound status other text another (inl (p, q
       text_is ∙ ap (λ z. placement_words report (digits_of request.bits) s z q) plan_is
           ∙ ap (λ z. placement_words report (digits_of request.bits) s p' z) placement_is ∙ sym text_is',
     )
-same_solved law laws report request s sound status other text another (inl (p, q, placed, is, text_is)) (inr (short, report)) = absurd (still_well law s another placed.well report)
-same_solved law laws report request s sound status other text another (inr (short, report)) (inl (p, q, placed, is, text_is)) = absurd (still_well law s text placed.well report)
+same_solved law laws report request s sound status other text another (inl (p, q, placed, is, text_is)) (inr (short, told)) = absurd (still_well law s another placed.well told)
+same_solved law laws report request s sound status other text another (inr (short, told)) (inl (p, q, placed, is, text_is)) = absurd (still_well law s text placed.well told)
 same_solved law laws report request s sound status other text another (inr (short, (j, judged, not_well, is))) (inr (short', (k, judged', not_well', is'))) =
     (short ∙ sym short', is ∙ ap (λ z. check_report s z) (same_judgement law (graph_of s) j k judged judged') ∙ sym is')
 

@@ -43,7 +43,7 @@ use Rattle.sk_cli.specs.Headline.{TellsClusters, IsOneSoundPart, WritesCheckRepo
 use Rattle.sk_cli.specs.Outcome.{IsPlanBy, IsPlanOrReport, IsReportNotWell, IsSolved, IsAnswerOf}
 use Rattle.sk_cli.specs.Solving.{midpoints, status_of, report_words, placement_words}
 use Rattle.sk_cli.proofs.OneOutcome.{OneSketch, NotBoth, OneJudgement, LowerLaws, still_well, same_judgement, told_plan, told_planned}
-use Rattle.sk_cli.proofs.WhyEnds.{IsPlacedSo, solved_about}
+use Rattle.sk_cli.proofs.WhyEnds.{IsPlacedSo, never_short, solved_about}
 
 abbrev pub OneNormal : Type 0
 OneNormal = (g : Graph) (one other : List Body) → HasRisingEdges g → IsNormal g one → IsNormal g other → SameBodies one other
@@ -139,13 +139,7 @@ planned_about one_sketch not_both order request bytes text status s is answer re
 
 module _ (report : Report) (request : Request) (s : Sketch) (status : Status) (text : List ℕ) where
   unplaced : IsSolved report request s status text → status ≡ NotWell → IsReportNotWell s text
-  unplaced (inl (p, q, placed, status_is, text_is)) same = absurd (no_report q (sym status_is ∙ same))
-    where
-      no_report : (q : Placement) → status_of q ≡ NotWell → ⊥
-      no_report (Fault f) is = cc
-      no_report (Beyond b) is = cc
-      no_report (Turned t) is = cc
-      no_report (Holds at t) is = cc
+  unplaced (inl (p, q, placed, status_is, text_is)) same = absurd (never_short q (sym status_is ∙ same))
   unplaced (inr (short, told)) same = told
 
   held_text : (p : ThePlan) → IsItsPlan request s p → (q : Placement) → IsPlacedSo request s p q → status_of q ≡ Done → text ≡ placement_words report (digits_of request.bits) s p q

@@ -118,7 +118,7 @@ placement_told (Placement.Holds at t) = tt
 
 pub solved_told : (report : Report) (request : Request) (s : Sketch) (status : Status) (text : List ℕ) → IsSolved report request s status text → IsSolveStatus status
 solved_told report request s status text (inl (p, placement, placed, is, text_is)) = subst (λ z. IsSolveStatus z) (sym is) (placement_told placement)
-solved_told report request s status text (inr (is, report)) = subst (λ z. IsSolveStatus z) (sym is) tt
+solved_told report request s status text (inr (is, told)) = subst (λ z. IsSolveStatus z) (sym is) tt
 
 -- no answer is a fault or that memory ran out
 no_read_fault : (command : Command) (request : Request) (bytes text : List ℕ) → ¬ IsAnswerOf command request bytes ReadFault text

@@ -37,9 +37,16 @@ use Rattle.sk_report.specs.RefusalLine.{refusal_line}
 use Rattle.sk_worklist.specs.declared.Order.{Order}
 use Rattle.sk_cli.proofs.Sizes.{HasFitSize, size_fits, some_injective}
 
+-- what is placed has the verdict well
+pub never_short : (q : Placement) → status_of q ≡ NotWell → ⊥
+never_short (Fault f) same = cc
+never_short (Beyond b) same = cc
+never_short (Turned t) same = cc
+never_short (Holds at t) same = cc
+
 -- a plan and where it places the elements, by the status that tells of it
 module _ (request : Request) (s : Sketch) (p : ThePlan) where
-  abbrev IsPlacedSo : Placement → Type 0
+  abbrev pub IsPlacedSo : Placement → Type 0
   IsPlacedSo q = IsPlacement (grid_of request.bits) (digits_of request.bits) request.within s p q
 
   abbrev pub IsFault : Type 0
@@ -179,17 +186,11 @@ module _ (law : OneJudgement) (laws : LowerLaws) (report : Report) (request : Re
   pub not_well_both : (status ≡ NotWell) ↔ ¬ IsWell (graph_of s)
   not_well_both = (
     (λ is well. elim solved [
-      | inl (p, q, placed, status_is, text_is) ↦ no_report q (sym status_is ∙ is)
+      | inl (p, q, placed, status_is, text_is) ↦ never_short q (sym status_is ∙ is)
       | inr (short, why_short) ↦ still_well law s text well why_short
     ]),
     (λ not_well. elim solved [ inl (p, q, placed, status_is, text_is) ↦ absurd (not_well placed.well) | inr (short, why_short) ↦ short ]),
   )
-    where
-      no_report : (q : Placement) → status_of q ≡ NotWell → ⊥
-      no_report (Fault f) same = cc
-      no_report (Beyond b) same = cc
-      no_report (Turned t) same = cc
-      no_report (Holds at t) same = cc
 
   pub fault_both : IsSoundGraph (graph_of s) → (status ≡ StepFault) ↔ ((p : ThePlan) × IsItsPlan request s p × IsFault request s p)
   fault_both sound = (

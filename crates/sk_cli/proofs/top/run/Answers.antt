@@ -23,7 +23,7 @@ returns-in_default-clause-sure_sink g c each =
 
 pub returns-in-Err-ReadFault-clause-outcome : goal.returns-in-Err-ReadFault-clause-outcome
 returns-in-Err-ReadFault-clause-outcome g c =
-    let asks : AskForInput (map string_bytes c.args.words.now) = (c.in-Some.request, c.in-Some.ensures.some, c.in-Err-ReadFault.ensures.tried refl) in
+    let asks : AskForInput (map string_bytes c.args.words.now) = (c.in-Some.request, c.in-Some.ensures.some, c.in-Err-ReadFault.ensures.tried (rw c.in-Err-ReadFault.field-0-is refl)) in
     nothing_ends (map string_bytes c.args.words.now) (g.S.Source.left c.args.source.now) _ ReadFault (λ bytes. (asks, refl))
 
 pub returns-in-Err-NoMemory-clause-outcome : goal.returns-in-Err-NoMemory-clause-outcome
