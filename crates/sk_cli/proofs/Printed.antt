@@ -22,6 +22,7 @@ use Rattle.sk_graph.specs.SketchGraph.{graph_of}
 use Rattle.sk_tree.specs.declared.Plan.{Plan as ThePlan}
 use Rattle.sk_plan.specs.Judged.{IsTheJudgement, IsWell}
 use Rattle.sk_residual.specs.declared.Tolerance.{Tolerance}
+use Rattle.sk_residual.specs.Turns.{signs, AllAsDrawn}
 use Rattle.sk_residual.proofs.Worsts.{all_hold_within}
 use Rattle.sk_report.specs.CheckReport.{check_report}
 use Rattle.sk_report.specs.PlanReport.{plan_report}
@@ -37,11 +38,11 @@ use Rattle.sk_cli.specs.declared.solving.Report.{Report}
 use Rattle.sk_cli.specs.declared.status.Status.{Status}
 use Rattle.sk_cli.specs.declared.status.Status.TheVariants.{Done, NotWell, StepFault, Tolerance as Passed}
 use Rattle.sk_cli.specs.Asking.{places}
-use Rattle.sk_cli.specs.Causes.{IsSketchOf, IsItsPlan, LieAt}
+use Rattle.sk_cli.specs.Causes.{IsSketchOf, IsItsPlan, LieAt, NonePasses}
 use Rattle.sk_cli.specs.Grids.{digits_of}
 use Rattle.sk_cli.specs.Headline.{TellsClusters, IsOneSoundPart, WritesCheckReport, HoldsAt, NamesTheFirst}
 use Rattle.sk_cli.specs.Outcome.{IsPlanBy, IsPlanOrReport, IsReportNotWell, IsSolved, IsAnswerOf}
-use Rattle.sk_cli.specs.Solving.{midpoints, status_of, report_words, placement_words}
+use Rattle.sk_cli.specs.Solving.{midpoints, IsTolerance, status_of, report_words, placement_words}
 use Rattle.sk_cli.proofs.OneOutcome.{OneSketch, NotBoth, OneJudgement, LowerLaws, still_well, same_judgement, told_plan, told_planned}
 use Rattle.sk_cli.proofs.WhyEnds.{IsPlacedSo, never_short, solved_about}
 
@@ -137,26 +138,41 @@ planned_about one_sketch not_both order request bytes text status s is answer re
       | inr (t, reads', told) ↦ subst (λ o. IsPlanOrReport o s status text) is (subst (λ z. IsPlanOrReport request.order z status text) (one_sketch bytes t s reads' reads) told)
     ]
 
+-- only where all holds is the status that the command did its work
+held_placement : (q : Placement) → status_of q ≡ Done → (at : Placed) × (t : Tolerance) × (q ≡ Holds at t)
+held_placement (Fault f) same = cc
+held_placement (Beyond b) same = cc
+held_placement (Turned t) same = cc
+held_placement (Holds at t) same = (at, t, refl)
+
 module _ (report : Report) (request : Request) (s : Sketch) (status : Status) (text : List ℕ) where
   unplaced : IsSolved report request s status text → status ≡ NotWell → IsReportNotWell s text
   unplaced (inl (p, q, placed, status_is, text_is)) same = absurd (never_short q (sym status_is ∙ same))
   unplaced (inr (short, told)) same = told
 
-  held_text : (p : ThePlan) → IsItsPlan request s p → (q : Placement) → IsPlacedSo request s p q → status_of q ≡ Done → text ≡ placement_words report (digits_of request.bits) s p q
-      → (at : Placed) × (t : Tolerance) × HoldsAt request s p at t × (text ≡ report_words report (digits_of request.bits) s p at t)
-  held_text p its (Fault f) placed same is = cc
-  held_text p its (Beyond b) placed same is = cc
-  held_text p its (Turned t) placed same is = cc
-  held_text p its (Holds at t) (boxes, lie, (at_is, none, drawn, least)) same is =
-      let fit : HoldsAt request s p (midpoints (digits_of request.bits) boxes) t = record {
+  held_there : (p : ThePlan) → IsItsPlan request s p → (here at : Placed) (t : Tolerance) → LieAt request s p here → at ≡ here → NonePasses request s here
+      → AllAsDrawn (signs s here p) → IsTolerance here (graph_of s) t → HoldsAt request s p at t
+  held_there p its here at t lie is none drawn least =
+      let fit : HoldsAt request s p here t = record {
         plan = its;
-        lie = (boxes, lie, refl);
-        holds = all_hold_within (midpoints (digits_of request.bits) boxes) (graph_of s) t.t t.w least.lengths.holds least.angles.holds;
+        lie = lie;
+        holds = all_hold_within here (graph_of s) t.t t.w least.lengths.holds least.angles.holds;
         least = least;
         within = none;
         drawn = drawn;
       } in
-      (at, t, subst (λ here. HoldsAt request s p here t) (sym at_is) fit, is)
+      subst (λ (z : Placed). HoldsAt request s p z t) (sym is) fit
+
+  held_text : (p : ThePlan) → IsItsPlan request s p → (q : Placement) → IsPlacedSo request s p q → status_of q ≡ Done → text ≡ placement_words report (digits_of request.bits) s p q
+      → (at : Placed) × (t : Tolerance) × HoldsAt request s p at t × (text ≡ report_words report (digits_of request.bits) s p at t)
+  held_text p its q placed same is =
+      let holds = held_placement q same in
+      let there : IsPlacedSo request s p (Holds holds.0 holds.1) = subst (λ (z : Placement). IsPlacedSo request s p z) holds.2 placed in (
+        holds.0,
+        holds.1,
+        held_there p its (midpoints (digits_of request.bits) there.0) holds.0 holds.1 (there.0, there.1, refl) there.2.0 there.2.1 there.2.2 there.2.3,
+        is ∙ ap (λ (z : Placement). placement_words report (digits_of request.bits) s p z) holds.2,
+      )
 
   named_text : (p : ThePlan) → IsItsPlan request s p → (q : Placement) → IsPlacedSo request s p q → status_of q ≢ Done → text ≡ placement_words report (digits_of request.bits) s p q → NamesTheFirst request s text
   named_text p its (Fault f) placed other is = (p, its, inl (f, placed, is))
