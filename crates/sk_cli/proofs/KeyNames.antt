@@ -1,6 +1,6 @@
 -- What stands behind a name.
 use Rattle.std.proofs.Common.{◌≡◌, ◌==◌, ◌+◌, ℕ, Bool, true, false, ◌&&◌, cond, List, [], ◌∷◌, length, take, drop, refl, ap, sym, ◌∙◌, nat_eq}
-use Rattle.std.specs.Prelude.{Option, None, Some, if◌then◌else◌, IfSome, IfNone, MatchOption}
+use Rattle.std.specs.Prelude.{Option, None, Some, IfSome, IfNone, MatchOption}
 use lib.Pointwise.{pointwise}
 use Rattle.sk_cli.specs.Asking.{behind}
 

@@ -1,9 +1,9 @@
 -- What the values of a key say.
-use Rattle.std.proofs.Common.{◌≡◌, ◌≢◌, inl, inr, ℕ, Bool, true, false, cond, List, [], ◌∷◌, ◌++◌, refl, ap, sym, subst, ◌∙◌}
-use Rattle.std.specs.Prelude.{Option, None, Some, IsSome, IsTrue, All, unwrap_or, option_to_list}
-use Rattle.std.specs.List.{filter_map, cons_option}
+use Rattle.std.proofs.Common.{◌≡◌, ℕ, List, [], ◌∷◌, ◌++◌, refl, ap, sym, subst, ◌∙◌}
+use Rattle.std.specs.Prelude.{Option, None, Some, unwrap_or}
+use Rattle.std.specs.List.{cons_option}
 use Rattle.std.proofs.lemmas.List.Elements.{filter_map-append}
-use Rattle.sk_cli.specs.Asking.{Key, OrderKey, BitsKey, WithinKey, key_name, behind, values_of, Says, IsSet}
+use Rattle.sk_cli.specs.Asking.{Key, key_name, behind, values_of, Says, IsSet}
 use Rattle.sk_cli.specs.Settings.{Sets}
 
 -- one word more has its value, or none

@@ -1,6 +1,6 @@
 -- Keys that are read one after another.
-use Rattle.std.proofs.Common.{◌≡◌, ℕ, ◌+◌, ◌<◌, List, [], ◌∷◌, ◌++◌, length, get_or, take, drop, refl, ap, sym, subst, ◌∙◌}
-use Rattle.std.specs.Prelude.{All, map, Option, Some, None, IfNone, unwrap_or}
+use Rattle.std.proofs.Common.{◌≡◌, ℕ, ◌+◌, ◌<◌, List, [], ◌∷◌, ◌++◌, length, get_or, take, drop, ap, sym, subst, ◌∙◌}
+use Rattle.std.specs.Prelude.{map, Option, Some, None, IfNone, unwrap_or}
 use Rattle.std.proofs.lemmas.List.Elements.{All-nil, All-cons, All-contains, All-append, Contains-append_right}
 use Rattle.std.proofs.lemmas.List.{take_more, drop_more, map-append, take-append-drop}
 use Rattle.sk_base.proofs.Members.{contains_head}
@@ -11,8 +11,8 @@ use Rattle.sk_cli.specs.declared.bits.Bits.TheVariants.{ThirtyEight}
 use Rattle.sk_cli.specs.declared.command.Command.{Command}
 use Rattle.sk_cli.specs.declared.request.Request.{Request}
 use Rattle.sk_cli.specs.declared.settings.Settings.{Settings}
-use Rattle.sk_cli.specs.Asking.{Key, OrderKey, BitsKey, WithinKey, SizeKey, key_name, behind, values_of, IsKeyOf, IsOrder, IsBits, IsLimit, IsSize, IsSet, HasSize, Says, HasKeys}
-use Rattle.sk_cli.specs.Settings.{Sets, AreSet, Adds}
+use Rattle.sk_cli.specs.Asking.{OrderKey, BitsKey, WithinKey, SizeKey, key_name, behind, values_of, IsKeyOf, IsOrder, IsBits, IsLimit, IsSize, IsSet, HasSize, Says, HasKeys}
+use Rattle.sk_cli.specs.Settings.{AreSet, Adds}
 use Rattle.sk_cli.proofs.KeyValues.{values_more, set_more, set_back, set_back_alone, said, one_set}
 use Rattle.sk_cli.proofs.Numbers.{one_size}
 

@@ -1,5 +1,5 @@
 -- A value says one thing at most.
-use Rattle.std.proofs.Common.{◌≡◌, ℕ, ◌≤◌, ◌<◌, ◌^◌, List, ◌∷◌, refl, sym, ap, ◌∙◌, subst, arith, lit≤, lit<}
+use Rattle.std.proofs.Common.{◌≡◌, ℕ, ◌≤◌, ◌<◌, List, ◌∷◌, refl, sym, ap, ◌∙◌, subst, arith, lit≤, lit<}
 use Rattle.std.specs.Fmt.{decimal}
 use Rattle.std.specs.Str.Parse.{AllDigits}
 use Rattle.std.specs.Char.{digit_value}

@@ -1,5 +1,5 @@
 -- Words ask for one thing at most, and with an input they have one outcome at most.
-use Rattle.std.proofs.Common.{◌≡◌, ◌⊎◌, inl, inr, ℕ, ◌≤◌, List, [], ◌∷◌, ◌++◌, refl, sym, ap, ◌∙◌, subst, Option, arith}
+use Rattle.std.proofs.Common.{◌≡◌, ◌⊎◌, inl, inr, ℕ, ◌≤◌, List, [], ◌∷◌, ◌++◌, refl, sym, ap, ◌∙◌, subst, Option}
 use Rattle.std.specs.Prelude.{All, map, drop}
 use Rattle.sk_base.specs.declared.Sketch.{Sketch}
 use Rattle.sk_base.specs.declared.Graph.{Graph}
@@ -34,15 +34,14 @@ use Rattle.sk_cli.specs.OffersReport.{IsReportOnOffers, IsOffersReport, IsRefuse
 use Rattle.sk_cli.proofs.OfferAnswers.{one_list, one_refusal as one_refusal_behind, not_both as not_both_behind}
 use Rattle.sk_cli.proofs.OneOffering.{same_lines}
 use Rattle.sk_worklist.specs.declared.Order.{Order}
-use Rattle.sk_worklist.specs.declared.Order.TheVariants.{First, Last, Stride}
+use Rattle.sk_worklist.specs.declared.Order.TheVariants.{First}
 use Rattle.sk_cli.specs.declared.command.Command.{Command}
 use Rattle.sk_cli.specs.declared.command.Command.TheVariants.{Check, Plan, Solve, Dxf, Offers, Grow}
 use Rattle.sk_cli.specs.declared.request.Request.{Request}
 use Rattle.sk_cli.specs.declared.status.Status.{Status}
 use Rattle.sk_cli.specs.declared.status.Status.TheVariants.{Done, Refused, NotWell}
 use Rattle.sk_cli.specs.declared.bits.Bits.{Bits}
-use Rattle.sk_cli.specs.declared.bits.Bits.TheVariants.{Sixteen, TwentySeven, ThirtyEight}
-use Rattle.sk_cli.specs.declared.placing.Placement.{Placement}
+use Rattle.sk_cli.specs.declared.bits.Bits.TheVariants.{ThirtyEight}
 use Rattle.sk_cli.specs.declared.solving.Report.{Report}
 use Rattle.sk_cli.specs.declared.solving.Report.TheVariants.{Places, Drawing, Sums}
 use Rattle.sk_cli.proofs.Sizes.{HasFitSize, size_fits, some_injective}

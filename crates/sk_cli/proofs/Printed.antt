@@ -1,13 +1,12 @@
 -- What the texts of an outcome tell.
-use Rattle.std.proofs.Common.{◌≡◌, ◌≢◌, ◌⊎◌, inl, inr, ℕ, ◌≤◌, ◌<◌, ◌*◌, ◌-◌, Bool, true, false, List, [], ◌∷◌, ◌++◌, length, refl, ap, sym, subst, ◌∙◌, arith}
-use Rattle.std.specs.Prelude.{◌↔◌, Contains, Any, IsTrue, if◌then◌else◌}
-use Rattle.std.proofs.lemmas.List.Elements.{Contains-get_or}
+use Rattle.std.proofs.Common.{◌≡◌, ◌≢◌, inl, inr, ℕ, ◌<◌, ◌*◌, ◌-◌, Bool, true, false, List, [], ◌++◌, length, refl, ap, sym, subst, ◌∙◌, arith}
+use Rattle.std.specs.Prelude.{◌↔◌, if◌then◌else◌}
 use Rattle.std.proofs.lemmas.Bool.Decides.{nat_tests}
 use Rattle.std.proofs.Common.{nat_lt}
 use Rattle.sk_base.specs.declared.Graph.{Graph}
 use Rattle.sk_base.specs.declared.Placed.{Placed}
 use Rattle.sk_base.specs.declared.Sketch.{Sketch}
-use Rattle.sk_base.specs.SoundGraph.{IsSoundGraph, HasRisingEdges}
+use Rattle.sk_base.specs.SoundGraph.{HasRisingEdges}
 use Rattle.sk_family.specs.Body.{Body, SameBodies}
 use Rattle.sk_rules.specs.Excess.{held}
 use Rattle.sk_rules.specs.Reach.{IsNormal}
@@ -15,7 +14,7 @@ use Rattle.sk_verdict.specs.declared.Judgement.{Judgement}
 use Rattle.sk_verdict.specs.declared.Part.{Part}
 use Rattle.sk_verdict.specs.declared.Verdict.{Verdict}
 use Rattle.sk_verdict.specs.declared.Verdict.TheVariants.{Well, Over, Several}
-use Rattle.sk_verdict.specs.Judging.{IsOver, some_over, verdict_on}
+use Rattle.sk_verdict.specs.Judging.{some_over, verdict_on}
 use Rattle.sk_verdict.specs.Parts.{part_with}
 use Rattle.sk_verdict.proofs.Judgements.{over_exactly}
 use Rattle.sk_graph.specs.SketchGraph.{graph_of}
@@ -36,8 +35,7 @@ use Rattle.sk_cli.specs.declared.placing.Placement.TheVariants.{Fault, Beyond, T
 use Rattle.sk_cli.specs.declared.request.Request.{Request}
 use Rattle.sk_cli.specs.declared.solving.Report.{Report}
 use Rattle.sk_cli.specs.declared.status.Status.{Status}
-use Rattle.sk_cli.specs.declared.status.Status.TheVariants.{Done, NotWell, StepFault, Tolerance as Passed}
-use Rattle.sk_cli.specs.Asking.{places}
+use Rattle.sk_cli.specs.declared.status.Status.TheVariants.{Done, NotWell}
 use Rattle.sk_cli.specs.Causes.{IsSketchOf, IsItsPlan, LieAt, NonePasses}
 use Rattle.sk_cli.specs.Grids.{digits_of}
 use Rattle.sk_cli.specs.Headline.{TellsClusters, IsOneSoundPart, WritesCheckReport, HoldsAt, NamesTheFirst}

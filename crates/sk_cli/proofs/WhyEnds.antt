@@ -1,10 +1,9 @@
 -- Each status has its cause, and each cause has its status.
-use Rattle.std.proofs.Common.{◌≡◌, ◌≢◌, ◌⊎◌, inl, inr, ℕ, ◌≤◌, List, Ok, Err, refl, ap, sym, subst, ◌∙◌, arith}
-use Rattle.std.specs.Prelude.{◌↔◌, Contains, IsTrue, Some, take}
+use Rattle.std.proofs.Common.{◌≡◌, ◌≢◌, ◌⊎◌, inl, inr, ℕ, List, refl, ap, sym, subst, ◌∙◌, arith}
+use Rattle.std.specs.Prelude.{◌↔◌, IsTrue, take}
 use Rattle.sk_base.specs.declared.Placed.{Placed}
 use Rattle.sk_base.specs.declared.Sketch.{Sketch}
 use Rattle.sk_base.specs.SoundGraph.{IsSoundGraph}
-use Rattle.sk_lang.specs.Reading.{Reads, Refuses}
 use Rattle.sk_graph.specs.SketchGraph.{graph_of}
 use Rattle.sk_graph.proofs.Soundness.{graph_is_sound}
 use Rattle.sk_gen.specs.DatumSketch.{datum_sketch}
@@ -12,7 +11,7 @@ use Rattle.sk_tree.specs.declared.Plan.{Plan as ThePlan}
 use Rattle.sk_plan.specs.Judged.{IsWell}
 use Rattle.sk_plan.proofs.PlanTrees.{some_plan_tree}
 use Rattle.sk_place.proofs.OnePlacing.{one_list, not_both}
-use Rattle.sk_residual.specs.Tolerances.{Item, AllHold, IsAbove, everything}
+use Rattle.sk_residual.specs.Tolerances.{AllHold, IsAbove, everything}
 use Rattle.sk_residual.specs.Turns.{signs, AllAsDrawn}
 use Rattle.sk_residual.proofs.OneMeasured.{first_inside, not_beyond}
 use Rattle.sk_residual.specs.Turns.{IsTurned}
@@ -28,14 +27,14 @@ use Rattle.sk_cli.specs.declared.status.Status.TheVariants.{Done, Refused, Usage
 use Rattle.sk_cli.specs.Asking.{Asks, AreOfForm, places}
 use Rattle.sk_cli.specs.Grids.{grid_of, digits_of}
 use Rattle.sk_cli.specs.Solving.{midpoints, status_of, IsMeasured, IsPlacement}
-use Rattle.sk_cli.specs.Outcome.{IsPlanBy, IsPlacedPlan, IsPlanOrReport, IsSolved, IsAnswer, IsAnswerOf, IsOutcome}
+use Rattle.sk_cli.specs.Outcome.{IsPlanBy, IsPlanOrReport, IsSolved, IsAnswer, IsAnswerOf, IsOutcome}
 use Rattle.sk_cli.specs.Causes.{plans, IsReportOf, IsSketchOf, IsRefusedInput, IsItsPlan, HasFault, LieAt, NonePasses, SomePasses, SomeTurned}
 use Rattle.sk_cli.proofs.OnePlacement.{told_placed}
-use Rattle.sk_cli.proofs.OneOutcome.{OneSketch, OneRefusal, NotBoth, OneJudgement, LowerLaws, still_well, same_plan, same_request, told_check, told_plan, told_planned, told_solve, told_offers, not_read_and_refused}
+use Rattle.sk_cli.proofs.OneOutcome.{OneSketch, NotBoth, OneJudgement, LowerLaws, still_well, same_plan, same_request, told_check, told_plan, told_planned, told_solve, told_offers, not_read_and_refused}
 use Rattle.sk_cli.proofs.Runs.{solved_told}
 use Rattle.sk_report.specs.RefusalLine.{refusal_line}
 use Rattle.sk_worklist.specs.declared.Order.{Order}
-use Rattle.sk_cli.proofs.Sizes.{HasFitSize, size_fits, some_injective}
+use Rattle.sk_cli.proofs.Sizes.{HasFitSize, some_injective}
 
 -- what is placed has the verdict well
 pub never_short : (q : Placement) → status_of q ≡ NotWell → ⊥

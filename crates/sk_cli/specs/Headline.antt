@@ -1,6 +1,5 @@
 -- What a designer reads, in words over what is written: clusters, plans, places, and what fails first.
-use Rattle.std.specs.Prelude.{◌≡◌, ◌↔◌, ◌⊎◌, ℕ, ◌≤◌, ◌<◌, ◌*◌, ◌-◌, List, ◌++◌, Contains, length, Err, map}
-use Rattle.sk_base.specs.declared.Edge.{Edge}
+use Rattle.std.specs.Prelude.{◌≡◌, ◌↔◌, ◌⊎◌, ℕ, ◌≤◌, ◌<◌, ◌*◌, ◌-◌, List, ◌++◌, Contains, length, Err}
 use Rattle.sk_base.specs.declared.Graph.{Graph}
 use Rattle.sk_base.specs.declared.Placed.{Placed}
 use Rattle.sk_base.specs.declared.Sketch.{Sketch}
@@ -16,7 +15,6 @@ use Rattle.sk_tree.specs.declared.Plan.{Plan as ThePlan}
 use Rattle.sk_tree.specs.declared.Tree.{Tree}
 use Rattle.sk_tree.specs.PlanTree.{IsPlanTree}
 use Rattle.sk_tree.specs.LegalPlan.{numbers_of}
-use Rattle.sk_plan.specs.Judged.{IsTheJudgement}
 use Rattle.sk_plan.specs.Leaves.{HasLeaves}
 use Rattle.sk_place.specs.declared.StepFault.{StepFault}
 use Rattle.sk_place.specs.declared.PlaceError.TheVariants as errors

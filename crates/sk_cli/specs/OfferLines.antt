@@ -1,11 +1,9 @@
 -- What a line behind a sketch says, and its codes.
-use Rattle.std.specs.Prelude.{◌≡◌, ⊤, ℕ, Bool, true, false, ◌&&◌, ◌||◌, not, ◌==◌, List, [], ◌∷◌, ◌++◌, length, map, Option, Some, None, is_none, unwrap_or, codes, bytes_eq, if◌then◌else◌}
+use Rattle.std.specs.Prelude.{◌≡◌, ⊤, ℕ, Bool, true, false, ◌&&◌, ◌||◌, not, ◌==◌, List, [], ◌∷◌, ◌++◌, length, map, Option, Some, is_none, codes, bytes_eq, if◌then◌else◌}
 use Rattle.std.specs.List.{list_any}
-use Rattle.std.specs.Option.{option_map}
 use Rattle.sk_base.specs.declared.Name.{Name}
-use Rattle.sk_base.specs.declared.Name.TheVariants.{Con, Step}
 use Rattle.sk_base.specs.ClusterNames.{is_named}
-use Rattle.sk_base.specs.Millimetres.{digits_of, at_most}
+use Rattle.sk_base.specs.Millimetres.{at_most}
 use Rattle.sk_lex.specs.Words.{words_in}
 use Rattle.sk_rules.specs.Merges.{IsMergeOf}
 use Rattle.sk_lang.specs.declared.Code.{Code}

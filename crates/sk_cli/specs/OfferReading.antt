@@ -1,5 +1,5 @@
 -- What the text behind a sketch is read as, and where it is refused.
-use Rattle.std.specs.Prelude.{◌≡◌, ⊤, ℕ, ◌+◌, List, [], ◌∷◌, ◌++◌, length, Some, None}
+use Rattle.std.specs.Prelude.{◌≡◌, ⊤, ℕ, ◌+◌, List, [], ◌∷◌, ◌++◌, length, None}
 use Rattle.sk_lex.specs.Words.{words_in}
 use Rattle.sk_lang.specs.LineCodes.{along, HaveNone, HasFirst}
 use Rattle.sk_lang.specs.Lines.{lines_in}

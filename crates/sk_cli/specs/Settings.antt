@@ -1,10 +1,8 @@
 -- What the keys that were read so far say.
 use Rattle.std.specs.Prelude.{◌≡◌, ℕ, List, Option, None, Some, All}
-use Rattle.sk_worklist.specs.declared.Order.{Order}
-use Rattle.sk_cli.specs.declared.bits.Bits.{Bits}
 use Rattle.sk_cli.specs.declared.command.Command.{Command}
 use Rattle.sk_cli.specs.declared.settings.Settings.{Settings}
-use Rattle.sk_cli.specs.Asking.{Key, OrderKey, BitsKey, WithinKey, SizeKey, key_name, behind, IsKeyOf, values_of, IsOrder, IsBits, IsLimit, IsSize, IsSet}
+use Rattle.sk_cli.specs.Asking.{OrderKey, BitsKey, WithinKey, SizeKey, key_name, behind, IsKeyOf, values_of, IsOrder, IsBits, IsLimit, IsSize, IsSet}
 
 -- the words are keys of the command, and this is what they set
 pub record AreSet (command : Command) (words : List (List ℕ)) (settings : Settings) : Type 0 where

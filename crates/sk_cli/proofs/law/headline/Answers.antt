@@ -1,5 +1,4 @@
-use Rattle.std.proofs.Common.{◌≡◌, refl, subst}
-use Rattle.sk_cli.specs.declared.command.Command.TheVariants.{Plan}
+use Rattle.std.proofs.Common.{refl, subst}
 use Rattle.sk_cli.specs.Outcome.{IsAnswerOf}
 use Rattle.sk_graph.specs.SketchGraph.{graph_of}
 use Rattle.sk_graph.proofs.Soundness.{graph_is_sound}

@@ -1,14 +1,4 @@
-use Rattle.std.proofs.Common.{◌≡◌, sym, ◌∙◌, subst, ap, List}
-use Rattle.std.specs.Prelude.{All}
-use Rattle.sk_base.specs.declared.Graph.{Graph}
-use Rattle.sk_base.specs.declared.Node.{Node}
-use Rattle.sk_base.specs.declared.Placed.{Placed}
-use Rattle.sk_base.specs.declared.Spot.{Spot}
-use Rattle.sk_base.specs.Places.{IsBounded}
-use Rattle.sk_residual.specs.Placing.{AreSpotsOf}
-use Rattle.sk_place.specs.Placing.{IsPlaced}
-use Rattle.sk_cli.specs.Solving.{IsMeasured}
-use Rattle.sk_cli.proofs.Placements.{spots_of, spots_made, placement_of, measured_within}
+use Rattle.sk_cli.proofs.Placements.{spots_made, placement_of, measured_within}
 use Rattle.sk_cli.proofs.placing.placed_on.Goals as goal
 
 pub measured-requires-clause-placed : goal.measured-requires-clause-placed

@@ -1,4 +1,4 @@
-use Rattle.std.proofs.Common.{◌≡◌, arith}
+use Rattle.std.proofs.Common.{arith}
 use Rattle.sk_cli.specs.Asking.{LeadsWithZero}
 use Rattle.sk_cli.proofs.Strides.{if_spelled, no_zero_leads}
 use Rattle.sk_cli.proofs.settings.number_of.Goals as goal

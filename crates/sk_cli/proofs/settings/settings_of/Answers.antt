@@ -1,7 +1,7 @@
-use Rattle.std.proofs.Common.{◌≡◌, List, ℕ, sym, subst, take, drop, ◌+◌, ◌++◌, ◌∷◌, []}
+use Rattle.std.proofs.Common.{sym, subst, take, drop, ◌+◌}
 use Rattle.std.specs.Prelude.{map, string_bytes}
 use Rattle.sk_cli.specs.Asking.{HasKeys}
-use Rattle.sk_cli.specs.Settings.{AreSet, Adds}
+use Rattle.sk_cli.specs.Settings.{AreSet}
 use Rattle.sk_cli.proofs.Keys.{set_step, no_request, mapped_more, mapped_parts, if_none}
 use Rattle.sk_cli.proofs.settings.settings_of.Goals as goal
 
