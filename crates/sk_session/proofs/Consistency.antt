@@ -25,7 +25,7 @@ use Rattle.sk_session.specs.Making.{CanMake, Follows, FollowsBack, IsReachedIn}
 use Rattle.sk_session.specs.Standing.{edit_of, edits_of, Gives, element_after, constraint_after, element_before, constraint_before, IsMade, AllMade, IsConsistent}
 use Rattle.sk_session.proofs.Following.{follows_edit, follows_undo}
 
-empty_sound : IsSoundSketch empty
+pub empty_sound : IsSoundSketch empty
 empty_sound = record {
   elements_rise = pairs_none (λ (x y : Element). x.number.0 < y.number.0);
   constraints_rise = pairs_none (λ (x y : Constraint). x.number.0 < y.number.0);

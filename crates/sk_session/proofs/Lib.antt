@@ -11,3 +11,4 @@ pub mod Coding
 pub mod Possible
 pub mod Exactly
 pub mod OneReply
+pub mod ToSolve

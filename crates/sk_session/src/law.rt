@@ -1,5 +1,5 @@
 // Laws of edits.
-ghost use Rattle.std.specs.Prelude.{◌≡◌, ◌↔◌, ℕ, List, Some};
+ghost use Rattle.std.specs.Prelude.{◌≡◌, ◌<◌, ◌↔◌, ℕ, List, Some, length};
 ghost use Rattle.sk_lang.specs.declared.Code.{Code};
 ghost use Rattle.sk_session.specs.declared.reply.Reply.{Reply as AReply};
 ghost use Rattle.sk_session.specs.declared.reply.Reply.TheVariants as a_reply;
@@ -59,3 +59,8 @@ pub fn one_reply()
     one_plan();
     one_run::<Chosen>();
 }
+
+/// `solve` is answered only where the sketch has an element.
+pub fn some_to_solve()
+    ensures { (old new : State) (line : List ℕ) → Answers old line a_reply.Solve new → 0 < length (sketch_in new).elements }
+{}

@@ -12,6 +12,6 @@ mod reply;
 mod session;
 
 pub use edit::Edit;
-pub use law::{kept_along, one_reply, refused_exactly, stays_sound};
+pub use law::{kept_along, one_reply, refused_exactly, some_to_solve, stays_sound};
 pub use reply::Reply;
 pub use session::Session;

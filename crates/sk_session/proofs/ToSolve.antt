@@ -1,0 +1,80 @@
+-- `solve` is answered only where there is something to solve.
+use Rattle.std.proofs.Common.{◌≡◌, ◌<◌, ℕ, Bool, true, false, cond, List, [], ◌∷◌, ◌++◌, Option, Some, None, length, refl, ap, sym, subst, ◌∙◌, arith, inl, inr}
+use Rattle.sk_base.specs.declared.Element.{Element}
+use Rattle.sk_lang.specs.declared.Code.{Code}
+use Rattle.sk_lang.specs.declared.Code.TheVariants.{E3, E18}
+use Rattle.sk_lang.specs.declared.Entry.{Entry}
+use Rattle.sk_lang.specs.declared.Entry.TheVariants as entry
+use Rattle.sk_lang.specs.Codes.{byte_rows, is_none_left}
+use Rattle.sk_lang.specs.Entry.{rows_of, IsEntryOf}
+use Rattle.sk_lang.specs.FirstCode.{first_code}
+use Rattle.sk_lang.proofs.Said.{Begins, said_other}
+use Rattle.sk_lex.specs.Words.{words_in}
+use Rattle.sk_session.specs.declared.command.Command.{Command}
+use Rattle.sk_session.specs.declared.command.Command.TheVariants.{Change, Undo, Check, Plan, Solve, Write, End}
+use Rattle.sk_session.specs.declared.edit.Edit.{Edit}
+use Rattle.sk_session.specs.declared.edit.Edit.TheVariants as edit
+use Rattle.sk_session.specs.declared.reply.Reply.{Reply}
+use Rattle.sk_session.specs.declared.reply.Reply.TheVariants as reply
+use Rattle.sk_session.specs.Commands.{command_of, command_rows, word_rows, edit_made, code_in}
+use Rattle.sk_session.specs.State.{State, sketch_in}
+use Rattle.sk_session.specs.Replies.{Stands, Obeys, ObeysWords, Enters, ByCode, Answers, next_elem, next_con}
+use Rattle.sk_session.proofs.Coding.{code_of_command}
+
+-- without a code the later rows have none
+none_behind : (rows more : List (Bool × Code)) → first_code (rows ++ more) ≡ None → first_code more ≡ None
+none_behind [] more is = is
+none_behind (row ∷ rows) more is = told row.0 is (none_behind rows more)
+  where
+    told : (t : Bool) → cond t (Some row.1) (first_code (rows ++ more)) ≡ None → (first_code (rows ++ more) ≡ None → first_code more ≡ None) → first_code more ≡ None
+    told true is later = absurd (cc)
+    told false is later = later is
+
+some_left : (xs : List Element) → is_none_left xs ≡ false → 0 < length xs
+some_left [] is = absurd (cc)
+some_left (x ∷ xs) is = omega arith
+
+module _ (old new : State) where
+  none_stands : (made : Option Edit) (this : Reply) → (reply.Solve ≡ this → ⊥) → ¬ Stands old made this reply.Solve new
+  none_stands None this other h = h
+  none_stands (Some e) this other (is, accepts) = other is
+
+  solve_obeys : (o : Option Command) (rest : List (List ℕ)) → Obeys old o rest reply.Solve new → (o ≡ Some Solve) × (new ≡ old)
+  solve_obeys None rest h = absurd h
+  solve_obeys (Some (Change change)) rest h = absurd (none_stands (edit_made (sketch_in old) change rest) reply.Done (λ e. cc) h)
+  solve_obeys (Some Undo) rest (is, takes) = absurd (cc)
+  solve_obeys (Some Check) rest (j, is, judged, closes) = absurd (cc)
+  solve_obeys (Some Plan) rest (inl (p, is, plan), same) = absurd (cc)
+  solve_obeys (Some Plan) rest (inr (j, is, judged, other), same) = absurd (cc)
+  solve_obeys (Some Solve) rest (is, same) = (refl, same)
+  solve_obeys (Some Write) rest (is, same) = absurd (cc)
+  solve_obeys (Some End) rest (is, same) = absurd (cc)
+
+  some_by_rows : (o : Option Command) (rest : List (List ℕ)) → o ≡ Some Solve → first_code (command_rows old o rest) ≡ None → 0 < length (sketch_in old).elements
+  some_by_rows o rest is none =
+      let clean : first_code (command_rows old (Some Solve) rest) ≡ None = subst (λ (z : Option Command). first_code (command_rows old z rest) ≡ None) is none in
+      some_left (sketch_in old).elements (told (is_none_left (sketch_in old).elements) (none_behind (_ ∷ []) ((is_none_left (sketch_in old).elements, E18) ∷ []) clean))
+    where
+      told : (t : Bool) → first_code ((t, E18) ∷ []) ≡ None → t ≡ false
+      told true is = absurd (cc)
+      told false is = refl
+
+  some_by_entry : (line : List ℕ) (said : Entry) → IsEntryOf (sketch_in old) line (next_elem old) (next_con old) said → Enters old (words_in line) said reply.Solve new → code_in old line ≡ None → 0 < length (sketch_in new).elements
+  some_by_entry line entry.Blank says (is, same) clean = absurd (cc)
+  some_by_entry line (entry.Element e) says enters clean = absurd (none_stands (Some (edit.Element e)) (reply.Declared e.number) (λ x. cc) enters)
+  some_by_entry line (entry.Constraint c) says enters clean = absurd (none_stands (Some (edit.Constraint c)) (reply.Constrained c.number) (λ x. cc) enters)
+  some_by_entry line (entry.Other words) says enters clean =
+      let begins = (said_other (sketch_in old) line (words_in line) (next_elem old) (next_con old) words says).0 in
+      let obeys = solve_obeys (command_of begins.first) begins.rest (subst (λ (ws : List (List ℕ)). ObeysWords old ws reply.Solve new) begins.words enters) in
+      let none = none_behind (byte_rows line ++ rows_of (sketch_in old) (words_in line)) (word_rows old (words_in line)) clean in
+      let some = some_by_rows (command_of begins.first) begins.rest obeys.0 (sym (code_of_command old (words_in line) begins) ∙ none) in
+      subst (λ (z : State). 0 < length (sketch_in z).elements) (sym obeys.1) some
+
+  pub solve_has_some : (line : List ℕ) → Answers old line reply.Solve new → 0 < length (sketch_in new).elements
+  solve_has_some line answers = told (code_in old line) refl answers
+    where
+      told : (o : Option Code) → code_in old line ≡ o
+          → ByCode o old ((said : Entry) × IsEntryOf (sketch_in old) line (next_elem old) (next_con old) said × Enters old (words_in line) said reply.Solve new) reply.Solve new
+          → 0 < length (sketch_in new).elements
+      told (Some code) here (is, same) = absurd (cc)
+      told None here (said, says, enters) = some_by_entry line said says enters here
