@@ -11,10 +11,12 @@ pub mod OfferBytes
 pub mod OffersSoFar
 pub mod OneOffering
 pub mod OneOutcome
+pub mod OneSession
 pub mod OnePlacement
 pub mod Placements
 pub mod Printed
 pub mod Runs
+pub mod Sessions
 pub mod Sizes
 pub mod Strides
 pub mod WhyEnds

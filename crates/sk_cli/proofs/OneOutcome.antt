@@ -1,10 +1,11 @@
 -- Words ask for one thing at most, and with an input they have one outcome at most.
-use Rattle.std.proofs.Common.{◌≡◌, ◌⊎◌, inl, inr, ℕ, ◌≤◌, List, [], ◌∷◌, ◌++◌, refl, sym, ap, ◌∙◌, subst, Option}
+use Rattle.std.proofs.Common.{◌≡◌, ◌⊎◌, inl, inr, ℕ, ◌<◌, ◌≤◌, List, [], ◌∷◌, ◌++◌, length, refl, sym, ap, ◌∙◌, subst, Option, arith}
 use Rattle.std.specs.Prelude.{All, map, drop}
 use Rattle.sk_base.specs.declared.Sketch.{Sketch}
 use Rattle.sk_base.specs.declared.Graph.{Graph}
 use Rattle.sk_family.specs.Body.{Body, SameBodies}
 use Rattle.sk_lang.specs.declared.Code.{Code}
+use Rattle.sk_lang.specs.declared.Code.TheVariants.{E20}
 use Rattle.sk_lang.specs.declared.Refusal.{Refusal}
 use Rattle.sk_lang.specs.Reading.{Reads, Refuses}
 use Rattle.sk_report.specs.CheckReport.{check_report}
@@ -33,10 +34,11 @@ use Rattle.sk_cli.specs.OfferReading.{ReadsOffers, RefusesOffers}
 use Rattle.sk_cli.specs.OffersReport.{IsReportOnOffers, IsOffersReport, IsRefusedAt, IsOffersRefusal, IsOffersAnswer}
 use Rattle.sk_cli.proofs.OfferAnswers.{one_list, one_refusal as one_refusal_behind, not_both as not_both_behind}
 use Rattle.sk_cli.proofs.OneOffering.{same_lines}
+use Rattle.sk_session.proofs.Consistency.{empty_sound}
 use Rattle.sk_worklist.specs.declared.Order.{Order}
 use Rattle.sk_worklist.specs.declared.Order.TheVariants.{First}
 use Rattle.sk_cli.specs.declared.command.Command.{Command}
-use Rattle.sk_cli.specs.declared.command.Command.TheVariants.{Check, Plan, Solve, Dxf, Offers, Grow}
+use Rattle.sk_cli.specs.declared.command.Command.TheVariants.{Check, Plan, Solve, Dxf, Offers, Session, Grow}
 use Rattle.sk_cli.specs.declared.request.Request.{Request}
 use Rattle.sk_cli.specs.declared.status.Status.{Status}
 use Rattle.sk_cli.specs.declared.status.Status.TheVariants.{Done, Refused, NotWell}
@@ -54,6 +56,8 @@ use Rattle.sk_cli.proofs.KeyValues.{one_said, one_set}
 use Rattle.sk_cli.proofs.Numbers.{one_order, one_bits, one_limit, one_size}
 use Rattle.sk_cli.proofs.OnePlacement.{same_placement}
 use Rattle.sk_cli.specs.Outcome.{IsReport, IsRefusalText, IsCheckAnswer, IsPlanBy, IsPlanReport, IsReportNotWell, IsPlanAnswer, IsPlanOrReport, IsSolved, IsSolveAnswer, IsGrowAnswer, IsAnswer, IsAnswerOf, IsOutcome}
+use Rattle.sk_cli.proofs.OneSession.{OneReply, same_replies}
+use Rattle.sk_cli.specs.SessionAnswer.{IsSessionAnswer, RepliesToFront, IsOver, at_start}
 
 pub same_request : (words : List (List ℕ)) (one other : Request) → Asks words one → Asks words other → one ≡ other
 same_request [] one other first second = absurd first
@@ -126,6 +130,7 @@ pub record LowerLaws : Type 0 where
   pub run : OneRun
   pub front : FrontLaws
   pub made : SoundMade
+  pub reply : OneReply
 
 pub same_plan : LowerLaws → (order : Order) (s : Sketch) → IsSoundGraph (graph_of s) → (p q : ThePlan) → IsPlanBy order s p → IsPlanBy order s q → p ≡ q
 same_plan laws order s sound p q first second =
@@ -285,6 +290,32 @@ same_offers laws law bytes status other text another first second =
       ]
     ]
 
+-- a session's replies, or that the input is too long
+told_session : (request : Request) (bytes : List ℕ) (status : Status) (text : List ℕ) → IsSessionAnswer request bytes status text
+    → ((status ≡ Done) × ((front : RepliesToFront request bytes text) × IsOver front.state front.after)) ⊎ ((status ≡ Refused) × (1048576 < length bytes) × (text ≡ refusal_line (record { line = 0; code = E20 })))
+told_session request bytes Done text answer = inl (refl, answer)
+told_session request bytes Refused text answer = inr (refl, answer.0, answer.1)
+told_session request bytes status text answer = absurd answer
+
+same_session : OneJudgement → LowerLaws → (request : Request) (bytes : List ℕ) (status other : Status) (text another : List ℕ)
+    → IsSessionAnswer request bytes status text → IsSessionAnswer request bytes other another → (status ≡ other) × (text ≡ another)
+same_session law laws request bytes status other text another first second =
+    elim (told_session request bytes status text first) [
+      | inl (done, (front, over)) ↦ elim (told_session request bytes other another second) [
+        | inl (done', (front', over')) ↦ (
+          done ∙ sym done',
+          same_replies laws.reply (λ r s sound a b x y one two. (same_solved law laws Places r s (graph_is_sound s sound) a b x y one two).1) request
+              front.before front.after front'.before front'.after (at_start request.order) (at_start request.order) empty_sound (record { order = refl; edits = refl; count = refl })
+              (sym front.parts ∙ front'.parts) front.state front'.state text another front.replied front'.replied over over',
+        )
+        | inr (refused, long, is) ↦ absurd (omega (arith, long, front.fits))
+      ]
+      | inr (refused, long, is) ↦ elim (told_session request bytes other another second) [
+        | inl (done, (front, over)) ↦ absurd (omega (arith, long, front.fits))
+        | inr (refused', long', is') ↦ (refused ∙ sym refused', is ∙ sym is')
+      ]
+    ]
+
 -- a report or a refusal
 pub told_check : (bytes : List ℕ) (status : Status) (text : List ℕ) → IsCheckAnswer bytes status text → ((status ≡ Done) × IsReport bytes text) ⊎ ((status ≡ Refused) × IsRefusalText bytes text)
 told_check bytes Done text answer = inl (refl, answer)
@@ -305,6 +336,7 @@ same_answer one_sketch one_refusal not_both law laws Check request fit bytes sta
       ]
     ]
 same_answer one_sketch one_refusal not_both law laws Offers request fit bytes status other text another first second = same_offers laws law bytes status other text another first second
+same_answer one_sketch one_refusal not_both law laws Session request fit bytes status other text another first second = same_session law laws request bytes status other text another first second
 same_answer one_sketch one_refusal not_both law laws Solve request fit bytes status other text another first second =
     same_solve_answer one_sketch one_refusal not_both law laws Places request bytes status other text another first second
 same_answer one_sketch one_refusal not_both law laws Dxf request fit bytes status other text another first second =

@@ -13,7 +13,7 @@ use Rattle.sk_lang.specs.Reading.{Refuses, TooLong, Empty, AtLine, NoEnd}
 use Rattle.sk_lang.specs.Front.{RefusesFront}
 use Rattle.sk_cli.specs.OffersReport.{IsRefusedAt}
 use Rattle.sk_cli.specs.declared.command.Command.{Command}
-use Rattle.sk_cli.specs.declared.command.Command.TheVariants.{Check, Plan, Solve, Dxf, Offers, Grow}
+use Rattle.sk_cli.specs.declared.command.Command.TheVariants.{Check, Plan, Solve, Dxf, Offers, Session, Grow}
 use Rattle.sk_cli.specs.declared.placing.Placement.{Placement}
 use Rattle.sk_cli.specs.declared.request.Request.{Request}
 use Rattle.sk_cli.specs.declared.solving.Report.{Report}
@@ -24,7 +24,9 @@ use Rattle.sk_cli.specs.declared.status.Status.TheVariants.{Done, Refused, Usage
 use Rattle.sk_cli.specs.Asking.{Asks, AreOfForm, TakesInput, AskForInput}
 use Rattle.sk_cli.proofs.OneOutcome.{same_request}
 use Rattle.sk_cli.specs.Solving.{status_of}
-use Rattle.sk_cli.specs.Outcome.{IsOutcome, IsAnswer, IsAnswerOf, IsSolved, usage_line}
+use Rattle.sk_cli.specs.Outcome.{IsOutcome, IsAnswer, IsAnswerOf, IsSolved, AreFirstReplies, IsWritten, usage_line}
+use Rattle.sk_cli.specs.SessionAnswer.{RepliesToFront, IsSessionAnswer}
+use Rattle.sk_cli.specs.SessionEnding.{SessionEnds}
 use Rattle.sk_cli.specs.Ending.{IsTold, Ends, Sends}
 
 -- the bytes that are told, or any
@@ -77,6 +79,9 @@ still_answered text bytes long longer Grow request status out answer = answer
 still_answered text bytes long longer Offers request Done out answer = absurd (omega (arith, long, answer.2.fits))
 still_answered text bytes long longer Offers request Refused out answer = (answer.0, still_refused_at text bytes long longer answer.0 answer.1, answer.2)
 still_answered text bytes long longer Offers request status out answer = absurd answer
+still_answered text bytes long longer Session request Done out answer = absurd (omega (arith, long, answer.0.fits))
+still_answered text bytes long longer Session request Refused out answer = (omega (arith, longer), answer.1)
+still_answered text bytes long longer Session request status out answer = absurd answer
 
 -- an answer to what was taken is one to all
 answer_of_front : (text bytes : List ℕ) → text ≡ take 1048577 bytes → (request : Request) (status : Status) (out : List ℕ) → IsAnswer request text status out → IsAnswer request bytes status out
@@ -128,6 +133,7 @@ no_read_fault Solve request bytes text answer = solved_told Places request answe
 no_read_fault Dxf request bytes text answer = solved_told Drawing request answer.0 ReadFault text answer.2
 no_read_fault Grow request bytes text answer = solved_told Sums request (datum_sketch answer.0) ReadFault text answer.2
 no_read_fault Offers request bytes text answer = answer
+no_read_fault Session request bytes text answer = answer
 
 no_want : (command : Command) (request : Request) (bytes text : List ℕ) → ¬ IsAnswerOf command request bytes NoMemory text
 no_want Check request bytes text answer = answer
@@ -136,6 +142,7 @@ no_want Solve request bytes text answer = solved_told Places request answer.0 No
 no_want Dxf request bytes text answer = solved_told Drawing request answer.0 NoMemory text answer.2
 no_want Grow request bytes text answer = solved_told Sums request (datum_sketch answer.0) NoMemory text answer.2
 no_want Offers request bytes text answer = answer
+no_want Session request bytes text answer = answer
 
 no_write_fault : (command : Command) (request : Request) (bytes text : List ℕ) → ¬ IsAnswerOf command request bytes WriteFault text
 no_write_fault Check request bytes text answer = answer
@@ -144,6 +151,7 @@ no_write_fault Solve request bytes text answer = solved_told Places request answ
 no_write_fault Dxf request bytes text answer = solved_told Drawing request answer.0 WriteFault text answer.2
 no_write_fault Grow request bytes text answer = solved_told Sums request (datum_sketch answer.0) WriteFault text answer.2
 no_write_fault Offers request bytes text answer = answer
+no_write_fault Session request bytes text answer = answer
 
 outcome_no_read_fault : (words : List (List ℕ)) (bytes text : List ℕ) → ¬ IsOutcome words bytes ReadFault text
 outcome_no_read_fault words bytes text outcome = elim outcome [ inl asked ↦ no_read_fault asked.0.command asked.0 bytes text asked.2 | inr usage ↦ (let same = usage.1 in cc) ]
@@ -154,7 +162,7 @@ outcome_no_want words bytes text outcome = elim outcome [ inl asked ↦ no_want 
 -- how a call ends that sends the text of its outcome
 sent_ends : (words : List (List ℕ)) (bytes : List ℕ) (old new : Option (List ℕ)) (given : Status) (text : List ℕ) (result : Status)
     → IsOutcome words bytes given text → Sends old new given text result → (gained : List ℕ) × Appends old new gained × Ends words bytes result gained
-sent_ends words bytes old new given text WriteFault outcome sent = (take sent.0 text, sent.2, (given, text, sent.0, outcome, sent.1, refl))
+sent_ends words bytes old new given text WriteFault outcome sent = (take sent.0 text, sent.2, (text, sent.0, inl (given, outcome), sent.1, refl))
 sent_ends words bytes old new given text Done outcome sent = (text, sent.0, rw (← sent.1) at outcome)
 sent_ends words bytes old new given text Refused outcome sent = (text, sent.0, rw (← sent.1) at outcome)
 sent_ends words bytes old new given text Usage outcome sent = (text, sent.0, rw (← sent.1) at outcome)
@@ -189,17 +197,59 @@ no_form words none (request, asks) = none request asks
 
 -- the room that every outcome has is that of the answer to what was taken
 pub answer_room : (words : List (List ℕ)) (left behind : Option (List ℕ)) (taken : List ℕ) (request : Request) (given : Status) (text : List ℕ) (room : ℕ)
-    → ((bytes out : List ℕ) (status : Status) → IsTold left bytes → IsOutcome words bytes status out → length out ≤ room)
+    → ((bytes out : List ℕ) → IsTold left bytes → IsWritten words bytes out → length out ≤ room)
     → Asks words request → length taken ≤ 1048577 → (TakesInput request.command → TakesUpTo 1048577 left behind taken) → IsAnswer request taken given text → length text ≤ room
 answer_room words left behind taken request given text room each asks few takes answer =
-    let told = told_answer left behind taken request.command request given text refl few takes answer in each told.0 text given told.1 (inl (request, asks, told.2))
+    let told = told_answer left behind taken request.command request given text refl few takes answer in each told.0 text told.1 (inl (given, inl (request, asks, told.2)))
 
 pub usage_room : (words : List (List ℕ)) (left : Option (List ℕ)) (text : List ℕ) (room : ℕ)
-    → ((bytes out : List ℕ) (status : Status) → IsTold left bytes → IsOutcome words bytes status out → length out ≤ room)
+    → ((bytes out : List ℕ) → IsTold left bytes → IsWritten words bytes out → length out ≤ room)
     → ¬ AreOfForm words → text ≡ usage_line → length text ≤ room
-usage_room words left text room each no_form is_usage = let told = told_bytes left in each told.0 text Usage told.1 (inr (no_form, refl, is_usage))
+usage_room words left text room each no_form is_usage = let told = told_bytes left in each told.0 text told.1 (inl (Usage, inr (no_form, refl, is_usage)))
 
 -- no answer is that the sink failed
 pub no_fault : (request : Request) (bytes : List ℕ) (given : Status) (text : List ℕ) → IsAnswer request bytes given text → ¬ (given ≡ WriteFault)
 no_fault request bytes given text answer same =
     no_write_fault request.command request bytes text (subst (λ status. IsAnswer request bytes status text) same answer)
+
+-- a session takes its input
+pub session_takes : (command : Command) → command ≡ Session → TakesInput command
+session_takes command is = subst (λ (c : Command). TakesInput c) (sym is) tt
+
+-- an input that isn't too long is taken whole
+whole_taken : (text bytes : List ℕ) → text ≡ take 1048577 bytes → length text ≤ 1048576 → text ≡ bytes
+whole_taken text bytes front fits =
+    elim (cases_lt 1048577 (length bytes)) [
+      | inl more ↦ (let long : length text ≡ 1048577 = ap length front ∙ length-take 1048577 bytes ∙ omega arith in absurd (omega (arith, long, fits)))
+      | inr few ↦ front ∙ take_all 1048577 bytes few
+    ]
+
+-- how a call ends that ends as the session
+as_session : (words : List (List ℕ)) (bytes : List ℕ) (request : Request) (result : Status) (gained : List ℕ) → Asks words request → request.command ≡ Session
+    → SessionEnds request bytes result gained → Ends words bytes result gained
+as_session words bytes request WriteFault gained asks is (text, n, front, within, taken) = (text, n, inr (request, asks, is, front), within, taken)
+as_session words bytes request NoMemory gained asks is ends = inr (request, asks, is, ends)
+as_session words bytes request Done gained asks is ends = inl (request, asks, subst (λ (c : Command). IsAnswerOf c request bytes Done gained) (sym is) ends)
+as_session words bytes request Refused gained asks is ends = inl (request, asks, subst (λ (c : Command). IsAnswerOf c request bytes Refused gained) (sym is) ends)
+as_session words bytes request Usage gained asks is ends = absurd ends
+as_session words bytes request ReadFault gained asks is ends = absurd ends
+as_session words bytes request NotWell gained asks is ends = absurd ends
+as_session words bytes request StepFault gained asks is ends = absurd ends
+as_session words bytes request Tolerance gained asks is ends = absurd ends
+
+pub session_ends : (words : List (List ℕ)) (left behind old new : Option (List ℕ)) (taken : List ℕ) (request : Request) (result : Status) (gained : List ℕ)
+    → Asks words request → request.command ≡ Session → length taken ≤ 1048577 → TakesUpTo 1048577 left behind taken → length taken ≤ 1048576 → Appends old new gained → SessionEnds request taken result gained
+    → (bytes : List ℕ) × (all : List ℕ) × IsTold left bytes × Appends old new all × Ends words bytes result all
+session_ends words left behind old new taken request result gained asks is few takes fits appended ends =
+    let from = taken_from 1048577 left behind taken few takes in
+    let whole : taken ≡ from.0 = whole_taken taken from.0 from.2 fits in
+    (from.0, gained, from.1, appended, as_session words from.0 request result gained asks is (rw whole at ends))
+
+pub session_room : (words : List (List ℕ)) (left behind : Option (List ℕ)) (taken : List ℕ) (request : Request) (room : ℕ)
+    → ((bytes out : List ℕ) → IsTold left bytes → IsWritten words bytes out → length out ≤ room)
+    → Asks words request → request.command ≡ Session → length taken ≤ 1048577 → TakesUpTo 1048577 left behind taken → length taken ≤ 1048576
+    → (text : List ℕ) → RepliesToFront request taken text → length text ≤ room
+session_room words left behind taken request room each asks is few takes fits text front =
+    let from = taken_from 1048577 left behind taken few takes in
+    let whole : taken ≡ from.0 = whole_taken taken from.0 from.2 fits in
+    each from.0 text from.1 (inr (request, asks, is, rw whole at front))

@@ -1,6 +1,6 @@
 -- Each status has its cause, and each cause has its status.
-use Rattle.std.proofs.Common.{◌≡◌, ◌≢◌, ◌⊎◌, inl, inr, ℕ, List, refl, ap, sym, subst, ◌∙◌, arith}
-use Rattle.std.specs.Prelude.{◌↔◌, IsTrue, take}
+use Rattle.std.proofs.Common.{◌≡◌, ◌≢◌, ◌⊎◌, inl, inr, ℕ, ◌<◌, ◌≤◌, List, length, Ok, Err, refl, ap, sym, subst, ◌∙◌, arith}
+use Rattle.std.specs.Prelude.{◌↔◌, Contains, IsTrue, Some, take}
 use Rattle.sk_base.specs.declared.Placed.{Placed}
 use Rattle.sk_base.specs.declared.Sketch.{Sketch}
 use Rattle.sk_base.specs.SoundGraph.{IsSoundGraph}
@@ -16,10 +16,11 @@ use Rattle.sk_residual.specs.Turns.{signs, AllAsDrawn}
 use Rattle.sk_residual.proofs.OneMeasured.{first_inside, not_beyond}
 use Rattle.sk_residual.specs.Turns.{IsTurned}
 use Rattle.sk_cli.specs.declared.command.Command.{Command}
-use Rattle.sk_cli.specs.declared.command.Command.TheVariants.{Check, Plan, Solve, Dxf, Offers, Grow}
+use Rattle.sk_cli.specs.declared.command.Command.TheVariants.{Check, Plan, Solve, Dxf, Offers, Session, Grow}
 use Rattle.sk_cli.specs.declared.placing.Placement.{Placement}
 use Rattle.sk_cli.specs.declared.placing.Placement.TheVariants.{Fault, Beyond, Turned, Holds}
 use Rattle.sk_cli.specs.declared.request.Request.{Request}
+use Rattle.sk_cli.specs.SessionAnswer.{IsSessionAnswer}
 use Rattle.sk_cli.specs.declared.solving.Report.{Report}
 use Rattle.sk_cli.specs.declared.solving.Report.TheVariants.{Places, Drawing, Sums}
 use Rattle.sk_cli.specs.declared.status.Status.{Status}
@@ -140,6 +141,7 @@ pub sound_about : LowerLaws → (command : Command) (request : Request) (bytes :
 sound_about laws Grow request bytes s fit (n, size, is) =
     let fits = fit n size in subst (λ z. IsSoundGraph (graph_of z)) (sym is) (graph_is_sound (datum_sketch n) (laws.made n fits.0 fits.1))
 sound_about laws Offers request bytes s fit (front, reads, is) = subst (λ z. IsSoundGraph (graph_of z)) (sym is) (graph_is_sound front.sketch (laws.sound (take front.used bytes) front.sketch reads.reads))
+sound_about laws Session request bytes s fit about = absurd about
 sound_about laws command request bytes s fit reads = graph_is_sound s (laws.sound bytes s reads)
 
 -- a command that places elements tells of the sketch that it is about
@@ -148,6 +150,7 @@ pub solved_about : OneSketch → NotBoth → (command : Command) (request : Requ
 solved_about one_sketch not_both Check request bytes text status s answer placed reads = cc
 solved_about one_sketch not_both Plan request bytes text status s answer placed reads = cc
 solved_about one_sketch not_both Offers request bytes text status s answer placed reads = cc
+solved_about one_sketch not_both Session request bytes text status s answer placed about = absurd about
 solved_about one_sketch not_both Solve request bytes text status s answer placed reads =
     elim (told_solve Places request bytes status text answer) [
       | inl (refused, line) ↦ absurd (not_both bytes s line.0.line line.0.code reads line.1)
@@ -221,6 +224,7 @@ pub not_well_about : OneSketch → NotBoth → OneJudgement → LowerLaws → (c
     → IsTrue (plans command) → IsSketchOf command request bytes s → (status ≡ NotWell) ↔ ¬ IsWell (graph_of s)
 not_well_about one_sketch not_both law laws Check request bytes text status s answer planned about = cc
 not_well_about one_sketch not_both law laws Offers request bytes text status s answer planned about = cc
+not_well_about one_sketch not_both law laws Session request bytes text status s answer planned about = absurd about
 not_well_about one_sketch not_both law laws Plan request bytes text status s answer planned reads =
     elim (told_plan request.order bytes status text answer) [
       | inl (refused, line) ↦ absurd (not_both bytes s line.0.line line.0.code reads line.1)
@@ -240,6 +244,7 @@ no_usage Plan request bytes text answer = answer.2
 no_usage Solve request bytes text answer = solved_told Places request answer.0 Usage text answer.2
 no_usage Dxf request bytes text answer = solved_told Drawing request answer.0 Usage text answer.2
 no_usage Offers request bytes text answer = answer
+no_usage Session request bytes text answer = answer
 no_usage Grow request bytes text answer = solved_told Sums request (datum_sketch answer.0) Usage text answer.2
 
 pub usage_both : (words : List (List ℕ)) (bytes text : List ℕ) (status : Status) → IsOutcome words bytes status text → (status ≡ Usage) ↔ ¬ AreOfForm words
@@ -253,7 +258,14 @@ refused_so Plan request bytes text (r, refuses, is) = (r, refuses)
 refused_so Solve request bytes text (r, refuses, is) = (r, refuses)
 refused_so Dxf request bytes text (r, refuses, is) = (r, refuses)
 refused_so Offers request bytes text (r, at, is) = (r, at)
+refused_so Session request bytes text (long, is) = long
 refused_so Grow request bytes text answer = absurd (solved_told Sums request (datum_sketch answer.0) Refused text answer.2)
+
+-- a session whose input is too long is refused
+too_long : (request : Request) (bytes text : List ℕ) (status : Status) → IsSessionAnswer request bytes status text → 1048576 < length bytes → status ≡ Refused
+too_long request bytes text Done (front, over) long = absurd (omega (arith, long, front.fits))
+too_long request bytes text Refused answer long = refl
+too_long request bytes text status answer long = absurd answer
 
 so_refused : OneSketch → NotBoth → LowerLaws → (command : Command) (request : Request) (bytes text : List ℕ) (status : Status) → IsAnswerOf command request bytes status text → IsRefusedInput command bytes → status ≡ Refused
 so_refused one_sketch not_both laws Check request bytes text status answer (r, refuses) =
@@ -266,6 +278,7 @@ so_refused one_sketch not_both laws Dxf request bytes text status answer (r, ref
     elim (told_solve Drawing request bytes status text answer) [ inl refused ↦ refused.0 | inr (s, reads, told) ↦ absurd (not_both bytes s r.line r.code reads refuses) ]
 so_refused one_sketch not_both laws Offers request bytes text status answer (r, at) =
     elim (told_offers bytes status text answer) [ inl (done, report) ↦ absurd (not_read_and_refused laws bytes text (refusal_line r) report (r, at, refl)) | inr refused ↦ refused.0 ]
+so_refused one_sketch not_both laws Session request bytes text status answer long = too_long request bytes text status answer long
 so_refused one_sketch not_both laws Grow request bytes text status answer refused = absurd refused
 
 pub refused_both : OneSketch → NotBoth → LowerLaws → (command : Command) (request : Request) (bytes text : List ℕ) (status : Status) → IsAnswerOf command request bytes status text

@@ -7,7 +7,7 @@ use Rattle.sk_worklist.specs.declared.Order.TheVariants.{First, Last, Stride}
 use Rattle.sk_cli.specs.declared.bits.Bits.{Bits}
 use Rattle.sk_cli.specs.declared.bits.Bits.TheVariants.{Sixteen, TwentySeven, ThirtyEight}
 use Rattle.sk_cli.specs.declared.command.Command.{Command}
-use Rattle.sk_cli.specs.declared.command.Command.TheVariants.{Check, Plan, Solve, Dxf, Offers, Grow}
+use Rattle.sk_cli.specs.declared.command.Command.TheVariants.{Check, Plan, Solve, Dxf, Offers, Session, Grow}
 use Rattle.sk_cli.specs.declared.request.Request.{Request}
 use Rattle.sk_cli.specs.Commands.{command_word}
 
@@ -56,6 +56,7 @@ places Plan = false
 places Solve = true
 places Dxf = true
 places Offers = false
+places Session = true
 places Grow = true
 
 -- it makes its sketch
@@ -65,6 +66,7 @@ makes Plan = false
 makes Solve = false
 makes Dxf = false
 makes Offers = false
+makes Session = false
 makes Grow = true
 
 -- the keys of a command: each takes an order, one that places elements a grid and a limit, one that makes a sketch its size

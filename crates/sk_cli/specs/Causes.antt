@@ -1,5 +1,5 @@
 -- Why a call ends as it does: the sketch that it is about, its plan, and where the plan places the elements.
-use Rattle.std.specs.Prelude.{◌≡◌, ℕ, List, Contains, Bool, true, false, Some, Ok, Err}
+use Rattle.std.specs.Prelude.{◌≡◌, ◌⊎◌, ◌<◌, ℕ, List, length, Contains, Bool, true, false, Some, Ok, Err, IsTrue}
 use Rattle.sk_base.specs.declared.Placed.{Placed}
 use Rattle.sk_base.specs.declared.Sketch.{Sketch}
 use Rattle.sk_lang.specs.declared.Refusal.{Refusal}
@@ -18,7 +18,7 @@ use Rattle.sk_residual.specs.declared.Turned.{Turned}
 use Rattle.sk_residual.specs.Tolerances.{Item, AllHold, IsAbove, everything}
 use Rattle.sk_residual.specs.Turns.{signs, IsTurned}
 use Rattle.sk_cli.specs.declared.command.Command.{Command}
-use Rattle.sk_cli.specs.declared.command.Command.TheVariants.{Check, Plan, Solve, Dxf, Offers, Grow}
+use Rattle.sk_cli.specs.declared.command.Command.TheVariants.{Check, Plan, Solve, Dxf, Offers, Session, Grow}
 use Rattle.sk_cli.specs.declared.request.Request.{Request}
 use Rattle.sk_cli.specs.declared.solving.Report.{Report}
 use Rattle.sk_cli.specs.declared.solving.Report.TheVariants.{Places, Drawing, Sums}
@@ -34,6 +34,7 @@ plans Plan = true
 plans Solve = true
 plans Dxf = true
 plans Offers = false
+plans Session = false
 plans Grow = true
 
 -- the report that a command writes where it places all elements
@@ -43,15 +44,18 @@ IsReportOf Dxf Drawing = Unit {0}
 IsReportOf Grow Sums = Unit {0}
 IsReportOf command report = ⊥
 
--- the sketch that a command is about: the one that it makes, or what its input, or the front of it, is read as
+-- the sketch that a command is about: the one that it makes, or what its input, or the front of it, is read as. A session
+-- is about no one sketch.
 abbrev pub IsSketchOf : Command → Request → List ℕ → Sketch → Type 0
 IsSketchOf Grow request bytes s = (n : ℕ) × (request.size ≡ Some n) × (s ≡ datum_sketch n)
 IsSketchOf Offers request bytes s = (front : Front) × ReadsFront bytes front × (s ≡ front.sketch)
+IsSketchOf Session request bytes s = ⊥
 IsSketchOf command request bytes s = Reads bytes s
 
--- the input of a command is refused
+-- the input of a command is refused; that of a session only where it is too long
 abbrev pub IsRefusedInput : Command → List ℕ → Type 0
 IsRefusedInput Offers bytes = (r : Refusal) × IsRefusedAt bytes r
+IsRefusedInput Session bytes = 1048576 < length bytes
 IsRefusedInput Grow bytes = ⊥
 IsRefusedInput command bytes = (r : Refusal) × Refuses bytes r.line r.code
 

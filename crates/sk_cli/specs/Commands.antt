@@ -1,7 +1,7 @@
 -- The words of commands.
 use Rattle.std.specs.Prelude.{ℕ, List, codes}
 use Rattle.sk_cli.specs.declared.command.Command.{Command}
-use Rattle.sk_cli.specs.declared.command.Command.TheVariants.{Check, Plan, Solve, Dxf, Offers, Grow}
+use Rattle.sk_cli.specs.declared.command.Command.TheVariants.{Check, Plan, Solve, Dxf, Offers, Session, Grow}
 
 abbrev pub command_word : Command → List ℕ
 command_word Check = codes "check"
@@ -9,4 +9,5 @@ command_word Plan = codes "plan"
 command_word Solve = codes "solve"
 command_word Dxf = codes "dxf"
 command_word Offers = codes "offers"
+command_word Session = codes "session"
 command_word Grow = codes "grow"

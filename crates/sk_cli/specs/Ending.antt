@@ -1,23 +1,24 @@
 -- How a call ends.
-use Rattle.std.specs.Prelude.{◌≡◌, ◌≤◌, ℕ, List, [], length, take, ⊤, Option, None, Some}
+use Rattle.std.specs.Prelude.{◌≡◌, ◌⊎◌, ◌≤◌, ℕ, List, [], length, take, ⊤, Option, None, Some}
 use Rattle.std.specs.Io.KnownBytes.{Appends}
 use Rattle.sk_io.specs.Transfer.{AppendsFront}
 use Rattle.sk_cli.specs.declared.status.Status.{Status}
 use Rattle.sk_cli.specs.declared.status.Status.TheVariants.{ReadFault, WriteFault, NoMemory}
 use Rattle.sk_cli.specs.Asking.{AskForInput}
-use Rattle.sk_cli.specs.Outcome.{IsOutcome}
+use Rattle.sk_cli.specs.Outcome.{IsOutcome, AreFirstReplies, IsWritten}
 
 -- where it is told what a source has left, it is these bytes
 abbrev pub IsTold : Option (List ℕ) → List ℕ → Type 0
 IsTold None bytes = ⊤
 IsTold (Some left) bytes = bytes ≡ left
 
--- each status says what the sink gained: nothing, a front of the outcome's text, or all of it
+-- each status says what the sink gained: nothing, a front of a text that is written, or all of the outcome's text; where
+-- memory runs out in a session, the whole replies so far
 abbrev pub Ends : List (List ℕ) → List ℕ → Status → List ℕ → Type 0
 Ends words bytes ReadFault gained = AskForInput words × (gained ≡ [])
-Ends words bytes NoMemory gained = gained ≡ []
+Ends words bytes NoMemory gained = (gained ≡ []) ⊎ AreFirstReplies words bytes gained
 Ends words bytes WriteFault gained =
-    (status : Status) × (text : List ℕ) × (n : ℕ) × IsOutcome words bytes status text × (n ≤ length text) × (gained ≡ take n text)
+    (text : List ℕ) × (n : ℕ) × IsWritten words bytes text × (n ≤ length text) × (gained ≡ take n text)
 Ends words bytes status gained = IsOutcome words bytes status gained
 
 -- the status comes after the whole input

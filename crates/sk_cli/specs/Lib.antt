@@ -8,7 +8,10 @@ pub mod OfferLines
 pub mod OfferReading
 pub mod OffersReport
 pub mod Outcome
+pub mod SessionAnswer
+pub mod SessionEnding
 pub mod Settings
+pub mod Solved
 pub mod Solving
 pub mod StatusCodes
 pub mod Told

@@ -19,7 +19,7 @@ use Rattle.sk_report.specs.CheckReport.{check_report}
 use Rattle.sk_report.specs.PlanReport.{plan_report}
 use Rattle.sk_report.specs.RefusalLine.{refusal_line}
 use Rattle.sk_cli.specs.declared.command.Command.{Command}
-use Rattle.sk_cli.specs.declared.command.Command.TheVariants.{Check, Plan, Solve, Dxf, Offers, Grow}
+use Rattle.sk_cli.specs.declared.command.Command.TheVariants.{Check, Plan, Solve, Dxf, Offers, Session, Grow}
 use Rattle.sk_cli.specs.declared.placing.Placement.{Placement}
 use Rattle.sk_cli.specs.declared.request.Request.{Request}
 use Rattle.sk_cli.specs.declared.solving.Report.{Report}
@@ -29,7 +29,8 @@ use Rattle.sk_cli.specs.declared.status.Status.TheVariants.{Done, Refused, Usage
 use Rattle.sk_cli.specs.Asking.{Asks, AreOfForm}
 use Rattle.sk_cli.specs.Grids.{grid_of, digits_of}
 use Rattle.sk_cli.specs.OffersReport.{IsOffersAnswer}
-use Rattle.sk_cli.specs.Solving.{IsPlacement, status_of, placement_words}
+use Rattle.sk_cli.specs.SessionAnswer.{IsSessionAnswer, RepliesToFront}
+pub use Rattle.sk_cli.specs.Solved.{IsPlanBy, IsReportNotWell, IsPlacedPlan, IsSolved}
 
 abbrev pub usage_line : List ℕ
 usage_line = codes "usage: sketch check|plan|solve|dxf|offers|session|grow [order=first|last|0..65535] [bits=16|27|38] [within=1..1000000] [n=3..1000]\n"
@@ -42,21 +43,9 @@ IsReport bytes text = (s : Sketch) × (j : Judgement) × Reads bytes s × IsTheJ
 abbrev pub IsRefusalText : List ℕ → List ℕ → Type 0
 IsRefusalText bytes text = (r : OneRefusal) × Refuses bytes r.line r.code × (text ≡ refusal_line r)
 
--- the plan of the run by the order, with the choices of the drawing
-pub record IsPlanBy (order : Order) (s : Sketch) (p : ThePlan) : Type 0 where
-  pub legal : IsLegalPlan (graph_of s) p
-  pub end : Clusters
-  pub last : Choosing
-  pub run : IsRun place_of next_call (graph_of s) (initial_clusters (graph_of s)) (record { order = order; call = 0 }) (map merge_told p.steps) end last
-  pub drawn : All (λ step. HasDrawnChoice s step) p.steps
-
 -- the verdict is well, and this is the plan report
 abbrev pub IsPlanReport : Order → Sketch → List ℕ → Type 0
 IsPlanReport order s text = (p : ThePlan) × IsWell (graph_of s) × IsPlanBy order s p × (text ≡ plan_report s p)
-
--- the verdict isn't well, and this is the check report
-abbrev pub IsReportNotWell : Sketch → List ℕ → Type 0
-IsReportNotWell s text = (j : Judgement) × IsTheJudgement (graph_of s) j × (j.verdict ≢ Well) × (text ≡ check_report s j)
 
 -- the plan report of the sketch where the verdict is well, else its check report
 abbrev pub IsPlanOrReport : Order → Sketch → Status → List ℕ → Type 0
@@ -75,19 +64,6 @@ abbrev pub IsPlanAnswer : Order → List ℕ → Status → List ℕ → Type 0
 IsPlanAnswer order bytes Refused text = IsRefusalText bytes text
 IsPlanAnswer order bytes status text = (s : Sketch) × Reads bytes s × IsPlanOrReport order s status text
 
--- the verdict is well, and the plan of the run by the order is placed so on the grid
-pub record IsPlacedPlan (request : Request) (s : Sketch) (p : ThePlan) (placement : Placement) : Type 0 where
-  pub well : IsWell (graph_of s)
-  pub plan : IsPlanBy request.order s p
-  pub placed : IsPlacement (grid_of request.bits) (digits_of request.bits) request.within s p placement
-
--- what is written of the placed plan; or the verdict isn't well, and this is the check report
-abbrev pub IsSolved : Report → Request → Sketch → Status → List ℕ → Type 0
-IsSolved report request s status text =
-    ((p : ThePlan) × (placement : Placement) × IsPlacedPlan request s p placement × (status ≡ status_of placement)
-    × (text ≡ placement_words report (digits_of request.bits) s p placement))
-    ⊎ ((status ≡ NotWell) × IsReportNotWell s text)
-
 -- what `solve` and `dxf` answer to an input, each with its report
 abbrev pub IsSolveAnswer : Report → Request → List ℕ → Status → List ℕ → Type 0
 IsSolveAnswer report request bytes Refused text = IsRefusalText bytes text
@@ -105,6 +81,7 @@ IsAnswerOf Plan request bytes status text = IsPlanAnswer request.order bytes sta
 IsAnswerOf Solve request bytes status text = IsSolveAnswer Places request bytes status text
 IsAnswerOf Dxf request bytes status text = IsSolveAnswer Drawing request bytes status text
 IsAnswerOf Offers request bytes status text = IsOffersAnswer bytes status text
+IsAnswerOf Session request bytes status text = IsSessionAnswer request bytes status text
 IsAnswerOf Grow request bytes status text = IsGrowAnswer request status text
 
 abbrev pub IsAnswer : Request → List ℕ → Status → List ℕ → Type 0
@@ -115,3 +92,11 @@ abbrev pub IsOutcome : List (List ℕ) → List ℕ → Status → List ℕ → 
 IsOutcome words bytes status text =
     ((request : Request) × Asks words request × IsAnswer request bytes status text)
     ⊎ ((AreOfForm words → ⊥) × (status ≡ Usage) × (text ≡ usage_line))
+
+-- the words ask for a session, and this is the text of its replies to some lines at the front of the input
+abbrev pub AreFirstReplies : List (List ℕ) → List ℕ → List ℕ → Type 0
+AreFirstReplies words bytes text = (request : Request) × Asks words request × (request.command ≡ Session) × RepliesToFront request bytes text
+
+-- a text that is written, whole or as far as the sink takes it: that of an outcome, or that of a session's first replies
+abbrev pub IsWritten : List (List ℕ) → List ℕ → List ℕ → Type 0
+IsWritten words bytes text = ((status : Status) × IsOutcome words bytes status text) ⊎ AreFirstReplies words bytes text

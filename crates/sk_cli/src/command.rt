@@ -17,6 +17,8 @@ pub enum Command {
     Dxf,
     /// Answers merges that workers offer, and judges the sketch.
     Offers,
+    /// Answers commands that edit a sketch, one after another.
+    Session,
     /// Makes a sketch, places its elements, and sums up where they lie.
     Grow,
 }
@@ -27,7 +29,7 @@ impl Command {
         ensures { result ≡ places self }
     {
         match self {
-            Command::Solve | Command::Dxf | Command::Grow => true,
+            Command::Solve | Command::Dxf | Command::Session | Command::Grow => true,
             Command::Check | Command::Plan | Command::Offers => false,
         }
     }
@@ -38,9 +40,12 @@ impl Command {
     {
         match self {
             Command::Grow => true,
-            Command::Check | Command::Plan | Command::Solve | Command::Dxf | Command::Offers => {
-                false
-            }
+            Command::Check
+            | Command::Plan
+            | Command::Solve
+            | Command::Dxf
+            | Command::Offers
+            | Command::Session => false,
         }
     }
 }
@@ -60,6 +65,8 @@ pub fn command_of(word: &str) -> Option<Command>
         Some(Command::Dxf)
     } else if word == "offers" {
         Some(Command::Offers)
+    } else if word == "session" {
+        Some(Command::Session)
     } else if word == "grow" {
         Some(Command::Grow)
     } else {

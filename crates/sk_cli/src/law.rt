@@ -25,6 +25,7 @@ use sk_gen::datum_sketch_is_sound;
 use sk_lang::{one_answer, one_front, readable_is_sound};
 use sk_plan::{legal_plan, one_plan};
 use sk_rules::one_normal_form;
+use sk_session::one_reply;
 use sk_verdict::one_judgement;
 use sk_worklist::{Chosen, one_run};
 
@@ -45,6 +46,7 @@ pub fn one_outcome()
     one_front();
     one_plan();
     one_run::<Chosen>();
+    one_reply();
     datum_sketch_is_sound();
 }
 
@@ -78,6 +80,7 @@ pub fn causes()
     one_front();
     one_plan();
     one_run::<Chosen>();
+    one_reply();
     datum_sketch_is_sound();
 }
 
@@ -112,6 +115,7 @@ pub fn headline()
     one_front();
     one_plan();
     one_run::<Chosen>();
+    one_reply();
     datum_sketch_is_sound();
     legal_plan();
 }

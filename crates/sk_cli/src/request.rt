@@ -49,6 +49,11 @@ fn has_size(command: Command, size: Option<u32>) -> bool
 {
     match command {
         Command::Grow => size.is_some(),
-        Command::Check | Command::Plan | Command::Solve | Command::Dxf | Command::Offers => true,
+        Command::Check
+        | Command::Plan
+        | Command::Solve
+        | Command::Dxf
+        | Command::Offers
+        | Command::Session => true,
     }
 }

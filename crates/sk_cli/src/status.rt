@@ -1,5 +1,7 @@
 ghost use Rattle.std.specs.Prelude.{◌≡◌};
 
+use sk_base::NoMemory;
+
 /// How a call of the program ends.
 #[derive(Clone, Copy, Debug, PartialEq, Eq)]
 pub enum Status {
@@ -31,5 +33,16 @@ impl Status {
         ensures { result ≡ status_code self.now }
     {
         *self as u8
+    }
+}
+
+impl From<NoMemory> for Status {
+    ghost use Rattle.std.specs.Prelude.{◌≡◌};
+    ghost use Rattle.sk_cli.specs.declared.status.Status.TheVariants as statuses;
+
+    ghost from_gives = { λ _ status. status ≡ statuses.NoMemory };
+
+    fn from(_: NoMemory) -> Self {
+        Status::NoMemory
     }
 }

@@ -1,32 +1,42 @@
 // The top call.
-ghost use Rattle.std.specs.Prelude.{◌≡◌, ◌≤◌, ℕ, List, length, drop, map, Some, string_bytes, IfOk, IfSome, IsErrOf};
+ghost use Rattle.std.specs.Prelude.{◌≡◌, ◌↔◌, ◌<◌, ◌≤◌, ℕ, List, length, drop, map, Some, string_bytes, IfOk, IfSome, IsErrOf, IsTrue};
 ghost use Rattle.std.specs.Io.KnownBytes.{Appends};
 ghost use Rattle.sk_io.specs.Causes.{AnswersFault};
 ghost use Rattle.sk_io.specs.Transfer.{TakesUpTo};
-ghost use Rattle.sk_cli.specs.declared.status.Status.{Status as AnyStatus};
 ghost use Rattle.sk_cli.specs.Asking.{TakesInput, AskForInput};
-ghost use Rattle.sk_cli.specs.Outcome.{IsAnswer, IsOutcome};
+ghost use Rattle.sk_cli.specs.Outcome.{IsAnswer, IsWritten};
 ghost use Rattle.sk_cli.specs.Ending.{IsTold, Ends, HasInput, Sends};
 
-use crate::answer::Answer;
+use crate::answer::{Answer, refused};
 use crate::check::check;
 use crate::command::Command;
 use crate::grow::grow;
 use crate::offers::offers;
 use crate::plan::plan;
 use crate::request::{Request, request_of};
+use crate::session::session;
 use crate::solve::solve;
 use crate::solving::Report;
 use crate::status::Status;
 use sk_base::{NoMemory, Text};
 use sk_io::{ReadEnd, Sink, Source, read_all, write_all};
+use sk_lang::{Code, Refusal};
 use std::alloc::Global;
 
 const USAGE: &str =
     "usage: sketch check|plan|solve|dxf|offers|session|grow [order=first|last|0..65535] [bits=16|27|38] [within=1..1000000] [n=3..1000]\n";
 
+/// The most bytes of an input.
+const MOST_BYTES: usize = 1_048_576;
+
 /// One byte more than an input may have.
 const MOST_TAKEN: u64 = 1_048_577;
+
+/// What an input that is too long is refused with.
+const TOO_LONG: Refusal = Refusal {
+    line: 0,
+    code: Code::E20,
+};
 
 /// Does what the words after the program's name ask for, on what the source has left, and writes the
 /// answer to the sink.
@@ -37,7 +47,9 @@ pub fn run<S: Source, K: Sink>(
     sink: &mut K,
 ) -> Status
     // On the bytes that the source had left, the status and what the sink gained are the outcome: a
-    // front of its text where the sink failed, and nothing where the source failed or memory ran out.
+    // front of its text where the sink failed, and nothing where the source failed or memory ran out. A
+    // session writes as it goes on: where the sink failed, a front of the replies so far, and where
+    // memory ran out, those that are whole.
     ensures outcome { (bytes gained : List ℕ) × IsTold (S.left source.old) bytes
         × Appends (K.written sink.old) (K.written sink.new) gained
         × Ends (map string_bytes words.now) bytes result gained }
@@ -52,12 +64,12 @@ pub fn run<S: Source, K: Sink>(
     ensures read_fault { AnswersFault (result ≡ Status.ReadFault) (S.faults source.old) (S.faults source.new) }
     ensures write_fault { AnswersFault (result ≡ Status.WriteFault) (K.faults sink.old) (K.faults sink.new) }
 
-    // Where no read fails, and the sink has room for every outcome and no write of it fails, no fault is
+    // Where no read fails, and the sink has room for every text that is written and no write of it fails, no fault is
     // counted and none is answered.
     ensures sure_source { S.is_sure source.old
         → (S.faults source.new ≡ S.faults source.old) × (result ≡ Status.ReadFault → ⊥) }
-    ensures sure_sink { ((bytes text : List ℕ) (status : AnyStatus) → IsTold (S.left source.old) bytes
-        → IsOutcome (map string_bytes words.now) bytes status text → length text ≤ K.sure_room sink.old)
+    ensures sure_sink { ((bytes text : List ℕ) → IsTold (S.left source.old) bytes
+        → IsWritten (map string_bytes words.now) bytes text → length text ≤ K.sure_room sink.old)
         → (K.faults sink.new ≡ K.faults sink.old) × (result ≡ Status.WriteFault → ⊥) }
 {
     let Some(request) = request_of(words) else {
@@ -68,7 +80,11 @@ pub fn run<S: Source, K: Sink>(
         Err(ReadEnd::ReadFault) => return Status::ReadFault,
         Err(ReadEnd::NoMemory) => return Status::NoMemory,
     };
-    match answer(alloc, request, bytes.as_bytes()) {
+    let input = bytes.as_bytes();
+    if asks_for_session(request, input) {
+        return session(alloc, request, input, sink);
+    }
+    match answer(alloc, request, input) {
         Ok(answer) => send(sink, answer.status, answer.text.as_bytes()),
         Err(NoMemory) => Status::NoMemory,
     }
@@ -91,9 +107,17 @@ fn input<S: Source>(alloc: Global, command: Command, source: &mut S) -> Result<T
     read_all(alloc, source, MOST_TAKEN)
 }
 
-/// The answer to an input.
+/// Whether a session is asked for, and the input isn't too long.
+fn asks_for_session(request: Request, bytes: &[u8]) -> bool
+    ensures { IsTrue result ↔ ((request.command ≡ Command.Session) × (length bytes.now ≤ 1048576)) }
+{
+    request.command == Command::Session && bytes.len() <= MOST_BYTES
+}
+
+/// The answer to an input, but to that of a session.
 fn answer(alloc: Global, request: Request, bytes: &[u8]) -> Result<Answer, NoMemory>
-    requires { request.command ≡ Command.Grow → (n : ℕ) × (request.size ≡ Some n) × (3 ≤ n) × (n ≤ 1000) }
+    requires size { request.command ≡ Command.Grow → (n : ℕ) × (request.size ≡ Some n) × (3 ≤ n) × (n ≤ 1000) }
+    requires long { request.command ≡ Command.Session → 1048576 < length bytes.now }
     ensures { IfOk result (λ answer. IsAnswer request bytes.now answer.status answer.text) }
 {
     match request.command {
@@ -102,6 +126,7 @@ fn answer(alloc: Global, request: Request, bytes: &[u8]) -> Result<Answer, NoMem
         Command::Solve => solve(alloc, request, Report::Places, bytes),
         Command::Dxf => solve(alloc, request, Report::Drawing, bytes),
         Command::Offers => offers(alloc, request.order, bytes),
+        Command::Session => refused(alloc, &TOO_LONG),
         Command::Grow => grow(alloc, request),
     }
 }

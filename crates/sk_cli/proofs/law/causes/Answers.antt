@@ -11,6 +11,7 @@ returns c =
       run = c.one_run.ensures;
       front = record { one_front = c.one_front.ensures.one_front; one_refusal = c.one_front.ensures.one_refusal; not_both = c.one_front.ensures.not_both };
       made = c.datum_sketch_is_sound.ensures;
+      reply = c.one_reply.ensures;
     } in
     let law = c.one_judgement.ensures in
     let one_sketch = c.one_answer.ensures.one_sketch in

@@ -1,8 +1,9 @@
-use Rattle.std.proofs.Common.{◌∙◌, sym, refl, map}
+use Rattle.std.proofs.Common.{◌∙◌, sym, refl, map, length, inl, inr}
+use Rattle.std.proofs.lemmas.Bool.{cases_lt}
 use Rattle.std.specs.Prelude.{string_bytes}
 use Rattle.sk_cli.specs.declared.status.Status.TheVariants.{ReadFault, NoMemory}
 use Rattle.sk_cli.specs.Asking.{AskForInput}
-use Rattle.sk_cli.proofs.Runs.{usage_ends, answer_ends, nothing_ends, no_form, answer_room, usage_room, no_fault, asked_input, read_told}
+use Rattle.sk_cli.proofs.Runs.{usage_ends, answer_ends, nothing_ends, no_form, answer_room, usage_room, no_fault, asked_input, read_told, session_takes, session_ends, session_room}
 use Rattle.sk_cli.proofs.Sizes.{grow_size}
 use Rattle.sk_cli.proofs.top.run.Goals as goal
 
@@ -28,18 +29,18 @@ returns-in-Err-ReadFault-clause-outcome g c =
 
 pub returns-in-Err-NoMemory-clause-outcome : goal.returns-in-Err-NoMemory-clause-outcome
 returns-in-Err-NoMemory-clause-outcome g c =
-    nothing_ends (map string_bytes c.args.words.now) (g.S.Source.left c.args.source.now) _ NoMemory (λ bytes. refl)
+    nothing_ends (map string_bytes c.args.words.now) (g.S.Source.left c.args.source.now) _ NoMemory (λ bytes. inl refl)
 
 pub returns-in-Ok-answer-clause-outcome : goal.returns-in-Ok-answer-clause-outcome
 returns-in-Ok-answer-clause-outcome g c =
-    let answer = rw c.as_bytes-2.ensures at c.in-Ok-answer.ensures in
+    let answer = rw c.as_bytes-input.ensures at c.in-Ok-answer.ensures in
     let sent = rw c.as_bytes-in-Ok-answer.ensures at c.send-in-Ok-answer.ensures.sent in
     answer_ends (map string_bytes c.args.words.now) (g.S.Source.left c.args.source.now) _ _ _ c.in-Ok.bytes c.in-Some.request c.in-Ok-answer.answer.status c.in-Ok-answer.answer.text c.send-in-Ok-answer.result
     c.in-Some.ensures.some c.in-Ok.ensures.bound c.in-Ok.ensures.taken answer sent
 
 pub returns-in-Ok-answer-clause-sure_sink : goal.returns-in-Ok-answer-clause-sure_sink
 returns-in-Ok-answer-clause-sure_sink g c each =
-    let answer = rw c.as_bytes-2.ensures at c.in-Ok-answer.ensures in
+    let answer = rw c.as_bytes-input.ensures at c.in-Ok-answer.ensures in
     let sure = c.send-in-Ok-answer.ensures.sure (rw c.as_bytes-in-Ok-answer.ensures
     (answer_room (map string_bytes c.args.words.now) (g.S.Source.left c.args.source.now) _ c.in-Ok.bytes c.in-Some.request c.in-Ok-answer.answer.status c.in-Ok-answer.answer.text _
     each c.in-Some.ensures.some c.in-Ok.ensures.bound c.in-Ok.ensures.taken answer)) in
@@ -47,15 +48,15 @@ returns-in-Ok-answer-clause-sure_sink g c each =
 
 pub returns-clause-outcome : goal.returns-clause-outcome
 returns-clause-outcome g c =
-    nothing_ends (map string_bytes c.args.words.now) (g.S.Source.left c.args.source.now) _ NoMemory (λ bytes. refl)
+    nothing_ends (map string_bytes c.args.words.now) (g.S.Source.left c.args.source.now) _ NoMemory (λ bytes. inl refl)
 
 pub returns-in-Ok-answer-clause-read : goal.returns-in-Ok-answer-clause-read
 returns-in-Ok-answer-clause-read g c asks has =
     read_told (g.S.Source.left c.args.source.now) _ c.in-Ok.bytes
     (c.in-Ok.ensures.taken (asked_input (map string_bytes c.args.words.now) c.in-Some.request c.in-Some.ensures.some asks))
 
-pub answer-requires : goal.answer-requires
-answer-requires g c = grow_size (map string_bytes c.args.words.now) c.in-Some.request c.in-Some.ensures.some
+pub answer-requires-clause-size : goal.answer-requires-clause-size
+answer-requires-clause-size g c = grow_size (map string_bytes c.args.words.now) c.in-Some.request c.in-Some.ensures.some
 
 pub returns-in-Err-ReadFault-clause-untouched : goal.returns-in-Err-ReadFault-clause-untouched
 returns-in-Err-ReadFault-clause-untouched g c other = c.input.ensures.untouched (λ takes. other (c.in-Some.request, c.in-Some.ensures.some, takes))
@@ -71,5 +72,34 @@ returns-clause-untouched g c other = c.input.ensures.untouched (λ takes. other 
 
 pub returns-in-Ok-answer-clause-write_fault : goal.returns-in-Ok-answer-clause-write_fault
 returns-in-Ok-answer-clause-write_fault g c =
-    let answer = rw c.as_bytes-2.ensures at c.in-Ok-answer.ensures in
+    let answer = rw c.as_bytes-input.ensures at c.in-Ok-answer.ensures in
     c.send-in-Ok-answer.ensures.fault (no_fault c.in-Some.request c.in-Ok.bytes c.in-Ok-answer.answer.status c.in-Ok-answer.answer.text answer)
+
+pub answer-requires-clause-long : goal.answer-requires-clause-long
+answer-requires-clause-long g c is =
+    elim (cases_lt 1048576 (length c.as_bytes-input.result.now)) [
+      | inl more ↦ more
+      | inr few ↦ (let asked = c.asks_for_session.ensures.1 (is, few) in cc)
+    ]
+
+pub returns-then-asks_for_session-clause-read : goal.returns-then-asks_for_session-clause-read
+returns-then-asks_for_session-clause-read g c asks has =
+    read_told (g.S.Source.left c.args.source.now) _ c.in-Ok.bytes
+    (c.in-Ok.ensures.taken (asked_input (map string_bytes c.args.words.now) c.in-Some.request c.in-Some.ensures.some asks))
+
+pub returns-then-asks_for_session-clause-untouched : goal.returns-then-asks_for_session-clause-untouched
+returns-then-asks_for_session-clause-untouched g c other = c.input.ensures.untouched (λ takes. other (c.in-Some.request, c.in-Some.ensures.some, takes))
+
+pub returns-then-asks_for_session-clause-outcome : goal.returns-then-asks_for_session-clause-outcome
+returns-then-asks_for_session-clause-outcome g c =
+    let asked = rw c.as_bytes-input.ensures at (c.asks_for_session.ensures.0 c.if-asks_for_session.true) in
+    let written = rw c.as_bytes-input.ensures at c.session.ensures.written in
+    session_ends (map string_bytes c.args.words.now) (g.S.Source.left c.args.source.now) _ _ _ c.in-Ok.bytes c.in-Some.request c.session.result written.0
+    c.in-Some.ensures.some asked.0 c.in-Ok.ensures.bound (c.in-Ok.ensures.taken (session_takes c.in-Some.request.command asked.0)) asked.1 written.1 written.2
+
+pub returns-then-asks_for_session-clause-sure_sink : goal.returns-then-asks_for_session-clause-sure_sink
+returns-then-asks_for_session-clause-sure_sink g c each =
+    let asked = rw c.as_bytes-input.ensures at (c.asks_for_session.ensures.0 c.if-asks_for_session.true) in
+    let sure = rw c.as_bytes-input.ensures at c.session.ensures.sure in
+    sure (session_room (map string_bytes c.args.words.now) (g.S.Source.left c.args.source.now) _ c.in-Ok.bytes c.in-Some.request _ each
+    c.in-Some.ensures.some asked.0 c.in-Ok.ensures.bound (c.in-Ok.ensures.taken (session_takes c.in-Some.request.command asked.0)) asked.1)

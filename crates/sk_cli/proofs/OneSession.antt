@@ -1,0 +1,74 @@
+-- A session has one text of replies at most.
+use Rattle.std.proofs.Common.{◌≡◌, ◌≢◌, ℕ, List, [], ◌∷◌, ◌++◌, refl, sym, ap, subst, ◌∙◌}
+use Rattle.sk_base.specs.declared.Sketch.{Sketch}
+use Rattle.sk_base.specs.SoundSketch.{IsSoundSketch}
+use Rattle.sk_session.specs.declared.Edit.{Edit}
+use Rattle.sk_session.specs.declared.Reply.{Reply}
+use Rattle.sk_session.specs.declared.Reply.TheVariants as reply
+use Rattle.sk_session.specs.Edits.{sketch_of}
+use Rattle.sk_session.specs.State.{State, sketch_in, IsSameElse}
+use Rattle.sk_session.specs.Replies.{Answers}
+use Rattle.sk_cli.specs.declared.request.Request.{Request}
+use Rattle.sk_cli.specs.declared.solving.Report.TheVariants.{Places}
+use Rattle.sk_cli.specs.declared.status.Status.{Status}
+use Rattle.sk_cli.specs.SessionAnswer.{IsReplyText, IsReplied, AreReplied, at_start, IsOver, solve_with}
+use Rattle.sk_cli.specs.Solved.{IsSolved}
+use Rattle.sk_cli.specs.Told.{told}
+
+-- a line has one reply, whatever family is kept
+abbrev pub OneReply : Type 0
+OneReply = (old other new last : State) (line : List ℕ) (one said : Reply) → IsSoundSketch (sketch_in old) → IsSameElse old other → Answers old line one new → Answers other line said last
+    → (one ≡ said) × IsSameElse new last
+
+-- `solve` writes one text for a sound sketch
+abbrev pub OneSolved : Type 0
+OneSolved = (request : Request) (s : Sketch) → IsSoundSketch s → (status other : Status) (text another : List ℕ)
+    → IsSolved Places request s status text → IsSolved Places request s other another → text ≡ another
+
+module _ (one_reply : OneReply) (one_solved : OneSolved) (request : Request) where
+  same_text : (s : Sketch) → IsSoundSketch s → (r : Reply) (text another : List ℕ)
+      → IsReplyText request.order request.bits request.within s r text → IsReplyText request.order request.bits request.within s r another → text ≡ another
+  same_text s sound reply.Blank text another first second = first ∙ sym second
+  same_text s sound reply.Done text another first second = first ∙ sym second
+  same_text s sound (reply.Declared e) text another first second = first ∙ sym second
+  same_text s sound (reply.Constrained k) text another first second = first ∙ sym second
+  same_text s sound (reply.Refused code) text another first second = first ∙ sym second
+  same_text s sound (reply.Checked j) text another first second = first ∙ sym second
+  same_text s sound (reply.Planned p) text another first second = first ∙ sym second
+  same_text s sound (reply.NotWell j) text another first second = first ∙ sym second
+  same_text s sound reply.Solve text another (status, first) (other, second) =
+      one_solved (solve_with request.order request.bits request.within) s sound status other text another first second
+  same_text s sound reply.Write text another first second = first ∙ sym second
+  same_text s sound reply.End text another first second = first ∙ sym second
+
+  -- the next line of one session is the end, and of the other it isn't
+  not_over : (old other : State) → IsSoundSketch (sketch_in old) → IsSameElse old other → (line : List ℕ) (lines : List (List ℕ)) → IsOver old (line ∷ lines)
+      → (r : Reply) (next : State) (text : List ℕ) → IsReplied request other line next r text → r ≢ reply.End → ⊥
+  not_over old other sound same line lines (new, ends) r next text replied goes_on =
+      goes_on (sym (one_reply old other new next line reply.End r sound same ends replied.answers).0)
+
+  same_else_back : (old other : State) → IsSameElse old other → IsSameElse other old
+  same_else_back old other same = record { order = sym same.order; edits = sym same.edits; count = sym same.count }
+
+  sound_else : (old other : State) → IsSameElse old other → IsSoundSketch (sketch_in old) → IsSoundSketch (sketch_in other)
+  sound_else old other same sound = subst (λ (edits : List Edit). IsSoundSketch (sketch_of edits)) (sym same.edits) sound
+
+  pub same_replies : (before after before' after' : List (List ℕ)) (old old' : State) → IsSoundSketch (sketch_in old) → IsSameElse old old' → before ++ after ≡ before' ++ after'
+      → (end end' : State) (text text' : List ℕ) → AreReplied request old before end text → AreReplied request old' before' end' text' → IsOver end after → IsOver end' after' → text ≡ text'
+  same_replies [] after [] after' old old' sound same lines end end' text text' (end_is, none) (end_is', none') over over' = none ∙ sym none'
+  same_replies [] after (line' ∷ before') after' old old' sound same lines end end' text text' (end_is, none) (r', next', first', rest', here', on', further', is') over over' =
+      absurd (not_over old old' sound same line' (before' ++ after') (subst (λ (z : State). IsOver z (line' ∷ (before' ++ after'))) end_is (subst (λ (zs : List (List ℕ)). IsOver end zs) lines over)) r' next' first' here' on')
+  same_replies (line ∷ before) after [] after' old old' sound same lines end end' text text' (r, next, first, rest, here, on, further, is) (end_is', none') over over' =
+      absurd (not_over old' old (sound_else old old' same sound) (same_else_back old old' same) line (before ++ after)
+      (subst (λ (z : State). IsOver z (line ∷ (before ++ after))) end_is' (subst (λ (zs : List (List ℕ)). IsOver end' zs) (sym lines) over')) r next first here on)
+  same_replies (line ∷ before) after (line' ∷ before') after' old old' sound same lines end end' text text' (r, next, first, rest, here, on, further, is) (r', next', first', rest', here', on', further', is') over over' =
+      let line_is : line ≡ line' = cc in
+      let rest_is : before ++ after ≡ before' ++ after' = cc in
+      let answers' : Answers old' line r' next' = subst (λ (z : List ℕ). Answers old' z r' next') (sym line_is) here'.answers in
+      let one = one_reply old old' next next' line r r' sound same here.answers answers' in
+      let said : IsReplyText request.order request.bits request.within (sketch_in next) r first' =
+      subst (λ (z : Reply). IsReplyText request.order request.bits request.within (sketch_in next) z first') (sym one.0)
+      (subst (λ (edits : List Edit). IsReplyText request.order request.bits request.within (sketch_of edits) r' first') one.1.edits here'.says) in
+      let text_is = same_text (sketch_in next) here.sound r first first' here.says said in
+      let rests = same_replies before after before' after' next next' here.sound one.1 rest_is end end' rest rest' further further' over over' in
+      is ∙ ap (λ z. z ++ rest) text_is ∙ ap (λ z. first' ++ z) rests ∙ sym is'

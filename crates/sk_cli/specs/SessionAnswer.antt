@@ -1,0 +1,70 @@
+-- What a session answers to its lines.
+use Rattle.std.specs.Prelude.{◌≡◌, ◌≢◌, ◌≤◌, ◌<◌, ⊤, ℕ, List, [], ◌∷◌, ◌++◌, length, None}
+use Rattle.sk_base.specs.SoundSketch.{IsSoundSketch}
+use Rattle.sk_base.specs.declared.Sketch.{Sketch}
+use Rattle.sk_family.specs.Clusters.{initial_clusters}
+use Rattle.sk_graph.specs.SketchGraph.{graph_of}
+use Rattle.sk_lang.specs.Lines.{lines_in}
+use Rattle.sk_lang.specs.declared.Refusal.{Refusal as OneRefusal}
+use Rattle.sk_lang.specs.declared.Code.TheVariants.{E20}
+use Rattle.sk_report.specs.RefusalLine.{refusal_line}
+use Rattle.sk_session.specs.declared.Reply.{Reply}
+use Rattle.sk_session.specs.declared.Reply.TheVariants as reply
+use Rattle.sk_session.specs.Edits.{empty}
+use Rattle.sk_session.specs.State.{State, sketch_in}
+use Rattle.sk_session.specs.Replies.{Answers}
+use Rattle.sk_worklist.specs.declared.Order.{Order}
+use Rattle.sk_cli.specs.declared.bits.Bits.{Bits}
+use Rattle.sk_cli.specs.declared.command.Command.TheVariants.{Solve}
+use Rattle.sk_cli.specs.declared.request.Request.{Request}
+use Rattle.sk_cli.specs.declared.solving.Report.TheVariants.{Places}
+use Rattle.sk_cli.specs.declared.status.Status.{Status}
+use Rattle.sk_cli.specs.declared.status.Status.TheVariants.{Done, Refused}
+use Rattle.sk_cli.specs.Solved.{IsSolved}
+use Rattle.sk_cli.specs.Told.{told}
+
+-- `solve` with these settings
+abbrev pub solve_with : Order → Bits → ℕ → Request
+solve_with order bits within = record { command = Solve; order = order; bits = bits; within = within; size = None }
+
+-- the text of a reply: to `solve` what the command writes for the sketch, whatever its status, else what is told
+abbrev pub IsReplyText : Order → Bits → ℕ → Sketch → Reply → List ℕ → Type 0
+IsReplyText order bits within s reply.Solve text = (status : Status) × IsSolved Places (solve_with order bits within) s status text
+IsReplyText order bits within s r text = text ≡ told s r
+
+-- the line is answered with this reply, the sketch is a sound one, and this is the reply's text
+pub record IsReplied (request : Request) (old : State) (line : List ℕ) (new : State) (r : Reply) (text : List ℕ) : Type 0 where
+  pub answers : Answers old line r new
+  pub sound : IsSoundSketch (sketch_in new)
+  pub says : IsReplyText request.order request.bits request.within (sketch_in new) r text
+
+-- the lines are answered in turn, none of them by the end, and this is the text of the replies, one behind another
+abbrev pub AreReplied : Request → State → List (List ℕ) → State → List ℕ → Type 0
+AreReplied request old [] new text = (new ≡ old) × (text ≡ [])
+AreReplied request old (line ∷ lines) new text =
+    (r : Reply) × (next : State) × (first : List ℕ) × (rest : List ℕ)
+    × IsReplied request old line next r first × (r ≢ reply.End) × AreReplied request next lines new rest × (text ≡ first ++ rest)
+
+-- a session before its first line
+abbrev pub at_start : Order → State
+at_start order = record { order = order; edits = []; count = 0; family = initial_clusters (graph_of empty) }
+
+-- some lines at the front of the input are answered, and this is the text of their replies
+pub record RepliesToFront (request : Request) (bytes text : List ℕ) : Type 0 where
+  pub fits : length bytes ≤ 1048576
+  pub before : List (List ℕ)
+  pub after : List (List ℕ)
+  pub parts : lines_in bytes ≡ before ++ after
+  pub state : State
+  pub replied : AreReplied request (at_start request.order) before state text
+
+-- no line is left, or the next one ends the session
+abbrev pub IsOver : State → List (List ℕ) → Type 0
+IsOver state [] = ⊤
+IsOver state (line ∷ lines) = (new : State) × Answers state line reply.End new
+
+-- what `session` answers to an input: the replies to its lines up to its end, or that it is too long
+abbrev pub IsSessionAnswer : Request → List ℕ → Status → List ℕ → Type 0
+IsSessionAnswer request bytes Done text = (front : RepliesToFront request bytes text) × IsOver front.state front.after
+IsSessionAnswer request bytes Refused text = (1048576 < length bytes) × (text ≡ refusal_line (record { line = 0; code = E20 }))
+IsSessionAnswer request bytes status text = ⊥
