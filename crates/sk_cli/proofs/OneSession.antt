@@ -1,5 +1,5 @@
 -- A session has one text of replies at most.
-use Rattle.std.proofs.Common.{◌≡◌, ◌≢◌, ℕ, List, [], ◌∷◌, ◌++◌, refl, sym, ap, subst, ◌∙◌}
+use Rattle.std.proofs.Common.{◌≡◌, ◌≢◌, ℕ, List, [], ◌∷◌, ◌++◌, sym, ap, subst, ◌∙◌}
 use Rattle.sk_base.specs.declared.Sketch.{Sketch}
 use Rattle.sk_base.specs.SoundSketch.{IsSoundSketch}
 use Rattle.sk_session.specs.declared.Edit.{Edit}
@@ -11,9 +11,8 @@ use Rattle.sk_session.specs.Replies.{Answers}
 use Rattle.sk_cli.specs.declared.request.Request.{Request}
 use Rattle.sk_cli.specs.declared.solving.Report.TheVariants.{Places}
 use Rattle.sk_cli.specs.declared.status.Status.{Status}
-use Rattle.sk_cli.specs.SessionAnswer.{IsReplyText, IsReplied, AreReplied, at_start, IsOver, solve_with}
+use Rattle.sk_cli.specs.SessionAnswer.{IsReplyText, IsReplied, AreReplied, IsOver, solve_with}
 use Rattle.sk_cli.specs.Solved.{IsSolved}
-use Rattle.sk_cli.specs.Told.{told}
 
 -- a line has one reply, whatever family is kept
 abbrev pub OneReply : Type 0

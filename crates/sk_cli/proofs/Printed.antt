@@ -29,7 +29,7 @@ use Rattle.sk_worklist.specs.declared.Order.{Order}
 use Rattle.sk_lang.specs.declared.Front.{Front}
 use Rattle.sk_lang.specs.Reading.{Reads}
 use Rattle.sk_cli.specs.declared.command.Command.{Command}
-use Rattle.sk_cli.specs.declared.command.Command.TheVariants.{Check, Plan, Solve, Dxf, Offers, Session, Grow}
+use Rattle.sk_cli.specs.declared.command.Command.TheVariants.{Check, Plan, Solve, Dxf, Offers, Grow}
 use Rattle.sk_cli.specs.declared.placing.Placement.{Placement}
 use Rattle.sk_cli.specs.declared.placing.Placement.TheVariants.{Fault, Beyond, Turned, Holds}
 use Rattle.sk_cli.specs.declared.request.Request.{Request}

@@ -24,8 +24,8 @@ use Rattle.sk_cli.specs.declared.status.Status.TheVariants.{Done, Refused, Usage
 use Rattle.sk_cli.specs.Asking.{Asks, AreOfForm, TakesInput, AskForInput}
 use Rattle.sk_cli.proofs.OneOutcome.{same_request}
 use Rattle.sk_cli.specs.Solving.{status_of}
-use Rattle.sk_cli.specs.Outcome.{IsOutcome, IsAnswer, IsAnswerOf, IsSolved, AreFirstReplies, IsWritten, usage_line}
-use Rattle.sk_cli.specs.SessionAnswer.{RepliesToFront, IsSessionAnswer}
+use Rattle.sk_cli.specs.Outcome.{IsOutcome, IsAnswer, IsAnswerOf, IsSolved, IsWritten, usage_line}
+use Rattle.sk_cli.specs.SessionAnswer.{RepliesToFront}
 use Rattle.sk_cli.specs.SessionEnding.{SessionEnds}
 use Rattle.sk_cli.specs.Ending.{IsTold, Ends, Sends}
 

@@ -5,7 +5,6 @@ use Rattle.std.proofs.lemmas.List.{append-nil}
 use Rattle.std.proofs.Math.Seq.{take-append-add}
 use Rattle.std.specs.Io.KnownBytes.{Appends}
 use Rattle.sk_io.specs.Causes.{AnswersFault}
-use Rattle.sk_io.specs.Transfer.{AppendsFront}
 use Rattle.sk_io.proofs.Moved.{Appends-more}
 use Rattle.sk_base.specs.declared.Sketch.{Sketch}
 use Rattle.sk_lang.specs.Lines.{lines_in}
@@ -18,7 +17,7 @@ use Rattle.sk_cli.specs.declared.bits.Bits.{Bits}
 use Rattle.sk_cli.specs.declared.request.Request.{Request}
 use Rattle.sk_cli.specs.declared.status.Status.{Status}
 use Rattle.sk_cli.specs.declared.status.Status.TheVariants.{Done, WriteFault, NoMemory}
-use Rattle.sk_cli.specs.SessionAnswer.{IsReplyText, IsReplied, AreReplied, at_start, RepliesToFront, IsOver, IsSessionAnswer}
+use Rattle.sk_cli.specs.SessionAnswer.{IsReplyText, IsReplied, AreReplied, at_start, RepliesToFront}
 use Rattle.sk_cli.specs.SessionEnding.{SessionEnds, IsStopped}
 use Rattle.sk_cli.specs.Told.{told}
 

@@ -1,18 +1,12 @@
 -- What a call answers and writes: a status and a text.
-use Rattle.std.specs.Prelude.{◌≡◌, ◌≢◌, ◌⊎◌, ℕ, List, All, Some, map, codes}
+use Rattle.std.specs.Prelude.{◌≡◌, ◌⊎◌, ℕ, List, Some, codes}
 use Rattle.sk_base.specs.declared.Sketch.{Sketch}
 use Rattle.sk_lang.specs.declared.Refusal.{Refusal as OneRefusal}
 use Rattle.sk_lang.specs.Reading.{Reads, Refuses}
 use Rattle.sk_graph.specs.SketchGraph.{graph_of}
-use Rattle.sk_family.specs.Clusters.{Clusters, initial_clusters}
 use Rattle.sk_worklist.specs.declared.Order.{Order}
-use Rattle.sk_worklist.specs.Orders.{Choosing, place_of, next_call}
-use Rattle.sk_worklist.specs.Run.{IsRun}
 use Rattle.sk_verdict.specs.declared.Judgement.{Judgement}
-use Rattle.sk_verdict.specs.declared.Verdict.TheVariants.{Well}
 use Rattle.sk_tree.specs.declared.Plan.{Plan as ThePlan}
-use Rattle.sk_tree.specs.LegalPlan.{IsLegalPlan, merge_told}
-use Rattle.sk_choice.specs.DrawnChoice.{HasDrawnChoice}
 use Rattle.sk_plan.specs.Judged.{IsTheJudgement, IsWell}
 use Rattle.sk_gen.specs.DatumSketch.{datum_sketch}
 use Rattle.sk_report.specs.CheckReport.{check_report}
@@ -20,14 +14,12 @@ use Rattle.sk_report.specs.PlanReport.{plan_report}
 use Rattle.sk_report.specs.RefusalLine.{refusal_line}
 use Rattle.sk_cli.specs.declared.command.Command.{Command}
 use Rattle.sk_cli.specs.declared.command.Command.TheVariants.{Check, Plan, Solve, Dxf, Offers, Session, Grow}
-use Rattle.sk_cli.specs.declared.placing.Placement.{Placement}
 use Rattle.sk_cli.specs.declared.request.Request.{Request}
 use Rattle.sk_cli.specs.declared.solving.Report.{Report}
 use Rattle.sk_cli.specs.declared.solving.Report.TheVariants.{Places, Drawing, Sums}
 use Rattle.sk_cli.specs.declared.status.Status.{Status}
 use Rattle.sk_cli.specs.declared.status.Status.TheVariants.{Done, Refused, Usage, NotWell}
 use Rattle.sk_cli.specs.Asking.{Asks, AreOfForm}
-use Rattle.sk_cli.specs.Grids.{grid_of, digits_of}
 use Rattle.sk_cli.specs.OffersReport.{IsOffersAnswer}
 use Rattle.sk_cli.specs.SessionAnswer.{IsSessionAnswer, RepliesToFront}
 pub use Rattle.sk_cli.specs.Solved.{IsPlanBy, IsReportNotWell, IsPlacedPlan, IsSolved}

@@ -1,12 +1,12 @@
 -- What edits leave of the drawing: the shapes that rules name, and so the rules and the edges.
-use Rattle.std.proofs.Common.{◌≡◌, ◌≢◌, inl, inr, ℕ, ◌<◌, ◌==◌, Bool, true, false, cond, List, [], ◌∷◌, ◌++◌, length, get_or, refl, ap, sym, subst, ◌∙◌, arith}
-use Rattle.std.specs.Prelude.{All, Contains, IsTrue, Option, Some, None, find, filter, map, not}
+use Rattle.std.proofs.Common.{◌≡◌, ◌≢◌, ◌<◌, ◌==◌, Bool, true, false, cond, List, [], ◌∷◌, get_or, refl, ap, sym, subst, ◌∙◌, arith}
+use Rattle.std.specs.Prelude.{IsTrue, Option, Some, find, map, not}
 use Rattle.sk_base.specs.Labels.{is_name}
 use Rattle.std.specs.Option.{option_map}
 use Rattle.std.proofs.lemmas.Bool.Decides.{nat_tests}
 use Rattle.std.proofs.lemmas.List.{length-map}
 use Rattle.std.proofs.lemmas.List.Filters.{length-filter_both}
-use Rattle.std.proofs.lemmas.List.Elements.{All-filter, All-map, All-weaker, All-contains, Contains-get_or}
+use Rattle.std.proofs.lemmas.List.Elements.{All-filter, All-map, All-weaker, Contains-get_or}
 use Rattle.sk_base.specs.declared.Elem.{Elem}
 use Rattle.sk_base.specs.declared.ConId.{ConId}
 use Rattle.sk_base.specs.declared.Um.{Um}
@@ -17,20 +17,17 @@ use Rattle.sk_base.specs.declared.Shape.{Shape}
 use Rattle.sk_base.specs.declared.Rule.{Rule}
 use Rattle.sk_base.specs.declared.Rule.TheVariants as rule
 use Rattle.sk_base.specs.declared.Sketch.{Sketch}
-use Rattle.sk_base.specs.Drawn.{element_of, shape_of}
-use Rattle.sk_base.specs.Numbering.{elem_number, elem_exact}
+use Rattle.sk_base.specs.Drawn.{shape_of}
+use Rattle.sk_base.specs.Numbering.{elem_exact}
 use Rattle.sk_base.specs.SoundSketch.{IsSoundSketch, IsSoundRule, IsSoundShape, IsSoundRatio, IsLength, BothFit, MayJoin, MayBeApart, MayLieOn, MayBeTangent, AreCircles, MayNest, AreLines}
-use Rattle.sk_base.proofs.Members.{contains_head, contains_later, filtered_from}
 use Rattle.sk_base.proofs.Pairs.{pairs_map, pairs_filter}
 use Rattle.sk_graph.specs.SketchGraph.{first_of, second_of, edge_of, edge_between, drawn_as}
 use Rattle.sk_graph.proofs.Fittings.{rule_drawn}
 use Rattle.sk_lang.proofs.Growing.{drawn_still}
-use Rattle.sk_session.specs.declared.edit.Edit.{Edit}
 use Rattle.sk_session.specs.declared.edit.Edit.TheVariants as edit
-use Rattle.sk_session.specs.Edits.{applied, changed, with_length, with_ratio, element_number, constraint_number}
+use Rattle.sk_session.specs.Edits.{applied, changed, with_length, with_ratio, element_number}
 use Rattle.sk_session.specs.Changes.{without}
-use Rattle.sk_session.specs.Making.{IsPossible, IsUnused}
-use Rattle.sk_base.proofs.Numbers.{other_passes}
+use Rattle.sk_session.specs.Making.{IsUnused}
 
 -- both elements of the rule are drawn alike in the two sketches
 pub record DrawnAlike (s t : Sketch) (r : Rule) : Type 0 where

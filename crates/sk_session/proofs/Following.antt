@@ -1,23 +1,19 @@
 -- The kept family stays one that merging leads to.
-use Rattle.std.proofs.Common.{◌≡◌, inl, inr, refl, ap, sym, subst, ◌∙◌}
-use Rattle.std.specs.Prelude.{Contains}
+use Rattle.std.proofs.Common.{◌≡◌, inl, inr, sym, subst}
 use Rattle.sk_base.specs.declared.ConId.{ConId}
 use Rattle.sk_base.specs.declared.Name.{Name}
-use Rattle.sk_base.specs.declared.Edge.{Edge}
 use Rattle.sk_base.specs.declared.Graph.{Graph}
-use Rattle.sk_base.specs.declared.Constraint.{Constraint}
 use Rattle.sk_base.specs.declared.Sketch.{Sketch}
 use Rattle.sk_family.specs.Body.{initial_bodies}
-use Rattle.sk_family.specs.Clusters.{Clusters, IsSound, bodies, start_of}
-use Rattle.sk_family.specs.Starts.{IsOther, IsDissolved, HasStart}
-use Rattle.sk_rules.specs.Reach.{Reach}
+use Rattle.sk_family.specs.Clusters.{Clusters, IsSound}
+use Rattle.sk_family.specs.Starts.{IsDissolved}
 use Rattle.sk_rules.specs.Keeping.{HasOneMore, HasAllBut}
 use Rattle.sk_rules.proofs.KeptClusters.{adopted, dissolved, unchanged}
 use Rattle.sk_graph.specs.SketchGraph.{edge_of, graph_of}
 use Rattle.sk_session.specs.declared.edit.Edit.{Edit}
 use Rattle.sk_session.specs.declared.edit.Edit.TheVariants as edit
 use Rattle.sk_session.specs.Edits.{applied}
-use Rattle.sk_session.specs.Making.{CanMake, Follows, FollowsBack, DissolvesOwner, IsReachedIn}
+use Rattle.sk_session.specs.Making.{CanMake, Follows, FollowsBack, IsReachedIn}
 use Rattle.sk_session.proofs.Graphs.{rises, kinds_on, kinds_back, one_more, all_but, all_but_new, one_more_dropped, starts_same_element, starts_same_length, starts_same_ratio, starts_same_erased}
 
 -- without the constraint the graph has the others too

@@ -1,8 +1,7 @@
 -- What edits do to the constraints of the graph, and to which elements are lines.
-use Rattle.std.proofs.Common.{◌≡◌, ◌≢◌, ◌⊎◌, inl, inr, ℕ, ◌<◌, ◌==◌, Bool, true, false, cond, List, [], ◌∷◌, ◌++◌, refl, ap, sym, subst, ◌∙◌, arith}
-use Rattle.std.specs.Prelude.{All, Contains, map, not, nat_lt}
+use Rattle.std.proofs.Common.{◌≡◌, ◌≢◌, ◌⊎◌, inl, inr, ◌<◌, ◌==◌, Bool, true, false, cond, List, [], ◌∷◌, ◌++◌, refl, ap, sym, subst, ◌∙◌, arith}
+use Rattle.std.specs.Prelude.{Contains, map, not, nat_lt}
 use Rattle.std.proofs.lemmas.List.Elements.{All-contains, Contains-push_cases, Contains-push, Contains-append_left}
-use Rattle.std.proofs.lemmas.List.{map-append}
 use Rattle.sk_base.specs.declared.Elem.{Elem}
 use Rattle.sk_base.specs.declared.ConId.{ConId}
 use Rattle.sk_base.specs.declared.Um.{Um}
@@ -11,7 +10,6 @@ use Rattle.sk_base.specs.declared.Kind.TheVariants.{Line}
 use Rattle.sk_base.specs.declared.Measure.TheVariants.{PointPoint}
 use Rattle.sk_base.specs.declared.Node.{Node}
 use Rattle.sk_base.specs.declared.Edge.{Edge}
-use Rattle.sk_base.specs.declared.Graph.{Graph}
 use Rattle.sk_base.specs.declared.Element.{Element}
 use Rattle.sk_base.specs.declared.Constraint.{Constraint}
 use Rattle.sk_base.specs.declared.Shape.{Shape}
@@ -19,23 +17,23 @@ use Rattle.sk_base.specs.declared.Rule.{Rule}
 use Rattle.sk_base.specs.declared.Rule.TheVariants as rule
 use Rattle.sk_base.specs.declared.Sketch.{Sketch}
 use Rattle.sk_base.specs.Numbering.{con_number, con_exact, elem_number, elem_exact}
-use Rattle.sk_base.specs.SoundGraph.{IsSoundGraph, HasRisingEdges}
+use Rattle.sk_base.specs.SoundGraph.{HasRisingEdges}
 use Rattle.sk_base.specs.SoundSketch.{IsSoundSketch, IsSoundRule}
-use Rattle.sk_base.proofs.Members.{contains_none, contains_head, contains_later, contains_one, contains_cases, contains_mapped, mapped_from, contains_filtered, filtered_from}
+use Rattle.sk_base.proofs.Members.{contains_head, contains_later, contains_mapped, mapped_from, contains_filtered, filtered_from}
 use Rattle.sk_family.specs.Body.{starting, initial_bodies}
 use Rattle.sk_family.proofs.Bodies.{con_settles}
 use Rattle.sk_rules.specs.Rules.{IsLine}
 use Rattle.sk_rules.specs.Keeping.{HasOneMore, HasAllBut, KeepsKinds}
 use Rattle.sk_rules.proofs.Families.{edge_at}
 use Rattle.sk_orient.specs.DrawnSigns.{side_drawn}
-use Rattle.sk_graph.specs.SketchGraph.{node_of, first_of, second_of, edge_of, edge_between, drawn_as, apart, beside, distance_edge, graph_of}
+use Rattle.sk_graph.specs.SketchGraph.{node_of, first_of, second_of, edge_of, edge_between, drawn_as, beside, distance_edge, graph_of}
 use Rattle.sk_base.specs.Drawn.{is_line}
 use Rattle.sk_graph.proofs.Fittings.{rule_drawn}
 use Rattle.sk_graph.proofs.Soundness.{graph_is_sound, edge_id, drawn_in}
 use Rattle.sk_session.specs.declared.edit.Edit.{Edit}
 use Rattle.sk_session.specs.declared.edit.Edit.TheVariants as edit
-use Rattle.sk_session.specs.Edits.{applied, changed, with_length, with_ratio, element_number, constraint_number}
-use Rattle.sk_session.specs.Making.{IsPossible, IsUnused, HasConstraint, CanMake}
+use Rattle.sk_session.specs.Edits.{applied, changed, with_length, with_ratio}
+use Rattle.sk_session.specs.Making.{IsUnused, CanMake}
 use Rattle.sk_base.proofs.Numbers.{other_passes, passes_differ}
 use Rattle.sk_session.proofs.Drawing.{edge_alike, drawn_on, drawn_without}
 

@@ -1,5 +1,5 @@
 -- No number is given again while the edit that gave it stands.
-use Rattle.std.proofs.Common.{◌≡◌, inl, inr, ℕ, ◌+◌, ◌<◌, ◌≤◌, ◌==◌, List, [], ◌∷◌, subst, arith}
+use Rattle.std.proofs.Common.{inl, inr, ℕ, ◌<◌, ◌≤◌, ◌==◌, List, [], ◌∷◌, subst, arith}
 use Rattle.std.specs.Prelude.{Contains, map, fold, max, not}
 use Rattle.std.proofs.lemmas.List.Elements.{Contains-push_cases}
 use Rattle.sk_base.specs.declared.ConId.{ConId}

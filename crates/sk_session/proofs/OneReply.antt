@@ -1,11 +1,9 @@
 -- A line has one reply, and after it one list of standing edits: the kept family has no part in that.
-use Rattle.std.proofs.Common.{◌≡◌, ◌≢◌, ◌⊎◌, inl, inr, ℕ, ◌+◌, Bool, true, false, List, [], ◌∷◌, ◌++◌, Option, Some, None, is_some, map, refl, ap, sym, subst, ◌∙◌}
+use Rattle.std.proofs.Common.{◌≡◌, ◌≢◌, ◌⊎◌, inl, inr, ℕ, Bool, true, false, List, [], ◌∷◌, ◌++◌, Option, Some, None, is_some, map, refl, ap, sym, subst, ◌∙◌}
 use Rattle.std.specs.Prelude.{All}
 use Rattle.std.proofs.lemmas.List.{same_from_push}
 use Rattle.sk_base.specs.declared.Elem.{Elem}
 use Rattle.sk_base.specs.declared.ConId.{ConId}
-use Rattle.sk_base.specs.declared.Element.{Element}
-use Rattle.sk_base.specs.declared.Constraint.{Constraint}
 use Rattle.sk_base.specs.declared.Graph.{Graph}
 use Rattle.sk_base.specs.declared.Sketch.{Sketch}
 use Rattle.sk_base.specs.SoundGraph.{IsSoundGraph}
@@ -40,7 +38,7 @@ use Rattle.sk_session.specs.declared.edit.Edit.TheVariants as edit
 use Rattle.sk_session.specs.declared.reply.Reply.{Reply}
 use Rattle.sk_session.specs.declared.reply.Reply.TheVariants as reply
 use Rattle.sk_session.specs.Commands.{command_of, command_rows, own_rows, word_rows, edit_made, code_in}
-use Rattle.sk_session.specs.State.{State, sketch_in, fresh, IsSameElse, Accepts, TakesBack}
+use Rattle.sk_session.specs.State.{State, sketch_in, fresh, IsSameElse}
 use Rattle.sk_session.specs.Replies.{IsThePlan, Plans, Only, Stands, Obeys, ObeysWords, Enters, ByCode, Answers, next_elem, next_con}
 
 -- the laws of the layers below

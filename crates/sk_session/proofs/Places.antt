@@ -1,12 +1,11 @@
 -- Items of a list in order of number, and what stands at the place of a number.
-use Rattle.std.proofs.Common.{◌≡◌, ◌≢◌, inl, inr, ℕ, zero, suc, ◌+◌, ◌<◌, ◌≤◌, ◌==◌, Bool, true, false, cond, List, [], ◌∷◌, ◌++◌, length, get_or, take, drop, refl, ap, sym, subst, ◌∙◌, arith}
-use Rattle.std.specs.Prelude.{Contains, filter, map, not, insert, remove, slice_set, slice_get, Some}
+use Rattle.std.proofs.Common.{◌≡◌, ◌≢◌, inl, inr, ℕ, zero, suc, ◌<◌, ◌≤◌, ◌==◌, true, false, cond, List, [], ◌∷◌, ◌++◌, length, get_or, refl, ap, sym, subst, ◌∙◌, arith}
+use Rattle.std.specs.Prelude.{Contains, map, not, insert, remove, slice_set}
 use Rattle.std.proofs.lemmas.Bool.Decides.{nat_tests}
-use Rattle.std.proofs.lemmas.List.{length-drop, length-take, get_or-drop, get_or-take, get_or_default}
-use Rattle.std.proofs.lemmas.Option.{slice_get-get_or}
+use Rattle.std.proofs.lemmas.List.{get_or_default}
 use Rattle.sk_base.specs.Rising.{IsRising}
 use Rattle.std.proofs.lemmas.List.Elements.{Contains-push, Contains-push_cases, Contains-append_left}
-use Rattle.sk_base.proofs.Members.{contains_head, contains_later, contains_cases, contains_filtered, filtered_from}
+use Rattle.sk_base.proofs.Members.{contains_head, contains_later, contains_filtered, filtered_from}
 use Rattle.sk_base.proofs.Pairs.{pairs_tail, pairs_head, pairs_push, pairs_filter, pairs_same}
 use Rattle.sk_base.proofs.Unions.{which, rising_apart}
 use Rattle.sk_base.proofs.Filters.{filter_keeps}

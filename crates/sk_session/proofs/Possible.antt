@@ -1,6 +1,6 @@
 -- Lines without a code say edits that can be made.
-use Rattle.std.proofs.Common.{◌≡◌, ◌≢◌, inl, inr, ℕ, ◌<◌, ◌==◌, ◌||◌, Bool, true, false, cond, List, [], ◌∷◌, ◌++◌, Option, Some, None, Result, Ok, Err, is_none, refl, ap, sym, subst, ◌∙◌, arith}
-use Rattle.std.specs.Prelude.{Contains, All, not, find, unwrap_or, bytes_eq}
+use Rattle.std.proofs.Common.{◌≡◌, ◌≢◌, inl, inr, ℕ, ◌==◌, ◌||◌, Bool, true, false, cond, List, [], ◌∷◌, Option, Some, None, Ok, Err, is_none, refl, ap, sym, subst, ◌∙◌, arith}
+use Rattle.std.specs.Prelude.{Contains, not, unwrap_or, bytes_eq}
 use Rattle.std.specs.List.{list_any}
 use Rattle.std.specs.Option.{option_map}
 use Rattle.std.proofs.lemmas.List.Elements.{All-contains, Contains-push}
@@ -18,7 +18,7 @@ use Rattle.sk_base.specs.SoundSketch.{IsSoundSketch, IsSoundRule}
 use Rattle.sk_base.proofs.Finding.{found_in}
 use Rattle.sk_base.proofs.Members.{contains_none, contains_cases}
 use Rattle.sk_lang.specs.declared.Code.{Code}
-use Rattle.sk_lang.specs.declared.Code.TheVariants.{E3, E4, E6, E8, E9, S1, S2, S4}
+use Rattle.sk_lang.specs.declared.Code.TheVariants.{E4, E6, E8, E9, S1, S2}
 use Rattle.sk_lang.specs.Conditions.{is_zero}
 use Rattle.sk_lang.specs.FirstCode.{first_code}
 use Rattle.sk_lang.specs.Named.{element_named, number_named}
@@ -32,7 +32,7 @@ use Rattle.sk_session.specs.declared.edit.Edit.{Edit}
 use Rattle.sk_session.specs.declared.edit.Edit.TheVariants as edit
 use Rattle.sk_session.specs.Commands.{number_of, id_of, constraint_with, rule_with, is_used, value_rows, setting, change_rows, edit_made, from_made}
 use Rattle.sk_session.specs.Edits.{applied, sketch_of, next_element, next_constraint}
-use Rattle.sk_session.specs.Making.{CanMake, HasConstraint, HasElement, IsUnused}
+use Rattle.sk_session.specs.Making.{CanMake, HasConstraint, HasElement}
 use Rattle.sk_session.proofs.Drawing.{rule_alike, drop_sound, length_set_sound, ratio_set_sound, erase_sound}
 use Rattle.sk_session.proofs.Numbers.{elements_below, constraints_below}
 

@@ -1,14 +1,14 @@
 -- `solve` is answered only where there is something to solve.
-use Rattle.std.proofs.Common.{◌≡◌, ◌<◌, ℕ, Bool, true, false, cond, List, [], ◌∷◌, ◌++◌, Option, Some, None, length, refl, ap, sym, subst, ◌∙◌, arith, inl, inr}
+use Rattle.std.proofs.Common.{◌≡◌, ◌<◌, ℕ, Bool, true, false, cond, List, [], ◌∷◌, ◌++◌, Option, Some, None, length, refl, sym, subst, ◌∙◌, arith, inl, inr}
 use Rattle.sk_base.specs.declared.Element.{Element}
 use Rattle.sk_lang.specs.declared.Code.{Code}
-use Rattle.sk_lang.specs.declared.Code.TheVariants.{E3, E18}
+use Rattle.sk_lang.specs.declared.Code.TheVariants.{E18}
 use Rattle.sk_lang.specs.declared.Entry.{Entry}
 use Rattle.sk_lang.specs.declared.Entry.TheVariants as entry
 use Rattle.sk_lang.specs.Codes.{byte_rows, is_none_left}
 use Rattle.sk_lang.specs.Entry.{rows_of, IsEntryOf}
 use Rattle.sk_lang.specs.FirstCode.{first_code}
-use Rattle.sk_lang.proofs.Said.{Begins, said_other}
+use Rattle.sk_lang.proofs.Said.{said_other}
 use Rattle.sk_lex.specs.Words.{words_in}
 use Rattle.sk_session.specs.declared.command.Command.{Command}
 use Rattle.sk_session.specs.declared.command.Command.TheVariants.{Change, Undo, Check, Plan, Solve, Write, End}

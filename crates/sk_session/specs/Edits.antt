@@ -1,6 +1,5 @@
 -- The sketch that a list of edits makes, and the numbers that they give.
 use Rattle.std.specs.Prelude.{ℕ, ◌+◌, ◌==◌, if◌then◌else◌, max, fold, map, List, [], ◌∷◌, ◌++◌}
-use Rattle.sk_base.specs.declared.Elem.{Elem}
 use Rattle.sk_base.specs.declared.ConId.{ConId}
 use Rattle.sk_base.specs.declared.Um.{Um}
 use Rattle.sk_base.specs.declared.Ratio.{Ratio}

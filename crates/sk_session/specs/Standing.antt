@@ -6,7 +6,7 @@ use Rattle.sk_family.specs.Clusters.{Clusters, IsSound}
 use Rattle.sk_session.specs.declared.edit.Edit.{Edit}
 use Rattle.sk_session.specs.declared.edit.Edit.TheVariants as edit
 use Rattle.sk_session.specs.declared.edit.Done.{Done}
-use Rattle.sk_session.specs.Edits.{applied, sketch_of, next_element, next_constraint}
+use Rattle.sk_session.specs.Edits.{sketch_of, next_element, next_constraint}
 use Rattle.sk_session.specs.Former.{IsFormer}
 use Rattle.sk_session.specs.Making.{CanMake, IsReachedIn}
 

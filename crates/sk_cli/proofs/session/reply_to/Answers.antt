@@ -1,7 +1,3 @@
-use Rattle.std.proofs.Common.{◌≡◌, ◌≤◌, ℕ, length, refl, sym, arith}
-use Rattle.sk_session.specs.State.{sketch_in}
-use Rattle.sk_cli.specs.SessionAnswer.{IsReplied}
-use Rattle.sk_cli.proofs.Sessions.{end_has_none}
 use Rattle.sk_cli.proofs.session.reply_to.Goals as goal
 
 pub returns-in-Ok-clause-ok : goal.returns-in-Ok-clause-ok

@@ -1,4 +1,4 @@
-use Rattle.std.proofs.Common.{◌≡◌, ap, sym, subst, ◌∙◌, refl}
+use Rattle.std.proofs.Common.{sym, subst, ◌∙◌, refl}
 use Rattle.sk_base.specs.declared.Sketch.{Sketch}
 use Rattle.sk_base.specs.SoundSketch.{IsSoundSketch}
 use Rattle.sk_session.specs.declared.edit.Edit.{Edit}

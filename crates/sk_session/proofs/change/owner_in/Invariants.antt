@@ -1,4 +1,3 @@
-use Rattle.std.proofs.Common.{◌<◌, ℕ, get_or}
 use Rattle.std.specs.Prelude.{Contains}
 use Rattle.sk_family.specs.declared.Cluster.{Cluster}
 use Rattle.sk_base.proofs.Searches.{NoneBefore}

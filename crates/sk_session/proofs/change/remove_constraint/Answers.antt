@@ -1,8 +1,8 @@
-use Rattle.std.proofs.Common.{◌≡◌, ◌+◌, ◌≤◌, length, sym, subst, arith}
+use Rattle.std.proofs.Common.{◌≡◌, sym, subst, arith}
 use Rattle.std.specs.Prelude.{Contains}
 use Rattle.sk_base.specs.declared.Graph.{Graph}
 use Rattle.sk_family.specs.declared.Cluster.{Cluster}
-use Rattle.sk_family.specs.Starts.{CanBeDissolved, IsDissolved}
+use Rattle.sk_family.specs.Starts.{CanBeDissolved}
 use Rattle.sk_family.proofs.Naming.{one_of_name}
 use Rattle.sk_session.specs.Making.{DissolvesOwner}
 use Rattle.sk_session.proofs.Owners.{owner_of, few_owned, can_dissolve}

@@ -1,4 +1,4 @@
-use Rattle.std.proofs.Common.{◌≡◌, ◌∙◌, rules, sym, ap}
+use Rattle.std.proofs.Common.{◌∙◌, rules, sym, ap}
 use Rattle.std.specs.Prelude.{Some}
 use Rattle.std.proofs.lemmas.List.Sorted.{answers_always}
 use Rattle.sk_base.proofs.Halves.{found_first, none_first}

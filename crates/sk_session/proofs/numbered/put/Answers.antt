@@ -1,5 +1,4 @@
-use Rattle.std.proofs.Common.{◌≡◌, ◌<◌, ◌≤◌, ℕ, length, get_or, sym, subst, List, refl}
-use Rattle.std.specs.Prelude.{OnOk, insert}
+use Rattle.std.proofs.Common.{◌<◌, ◌≤◌, ℕ, length, get_or, sym, subst, List, refl}
 use Rattle.sk_base.specs.Rising.{IsRising}
 use Rattle.sk_base.proofs.Searches.{on_ok}
 use Rattle.sk_session.specs.Changes.{HasItem}

@@ -1,9 +1,7 @@
-use Rattle.std.proofs.Common.{◌≡◌, ◌∷◌, [], ◌-◌, ℕ, List, map, drop, length, get_or, refl, sym, ap, ◌∙◌, arith}
+use Rattle.std.proofs.Common.{◌≡◌, ◌∷◌, [], ℕ, List, map, drop, length, get_or, sym, ap, arith}
 use Rattle.std.proofs.lemmas.List.{length-map}
 use Rattle.sk_lex.specs.Words.{bytes_of}
-use Rattle.sk_lang.specs.FirstCode.{first_code}
 use Rattle.sk_base.proofs.Rests.{rest_two}
-use Rattle.sk_session.specs.Commands.{from_made, change_rows, edit_made}
 use Rattle.sk_session.proofs.reading.read_change.Goals as goal
 
 rest_one : (ws : List (List ℕ)) (a : List ℕ) → length ws ≡ 2 → a ≡ get_or ws 1 [] → drop 1 ws ≡ a ∷ []

@@ -1,16 +1,15 @@
-use Rattle.std.proofs.Common.{◌≡◌, ◌∙◌, ap, sym, subst, refl, List}
+use Rattle.std.proofs.Common.{◌∙◌, ap, sym, subst, refl}
 use Rattle.std.specs.Prelude.{map}
 use Rattle.sk_base.specs.declared.Graph.{Graph}
-use Rattle.sk_base.specs.declared.Sketch.{Sketch}
 use Rattle.sk_family.specs.Body.{initial_bodies}
-use Rattle.sk_family.specs.Clusters.{Clusters, bodies}
+use Rattle.sk_family.specs.Clusters.{bodies}
 use Rattle.sk_rules.specs.Reach.{Reach}
 use Rattle.sk_graph.specs.SketchGraph.{graph_of}
 use Rattle.sk_plan.specs.Judged.{IsTheJudgement}
 use Rattle.sk_worklist.specs.Orders.{Choosing, place_of, next_call}
 use Rattle.sk_worklist.specs.Run.{IsRun, IsOnTheWay, merge_of}
 use Rattle.sk_worklist.proofs.Runs.{on_err, picks_sound, picks_room}
-use Rattle.sk_session.specs.State.{State, IsHeldUp, Closes, fresh}
+use Rattle.sk_session.specs.State.{State, IsHeldUp, fresh}
 use Rattle.sk_session.specs.Standing.{edits_of}
 use Rattle.sk_session.specs.Replies.{Checks}
 use Rattle.sk_session.specs.declared.reply.Reply.TheVariants as reply

@@ -1,16 +1,12 @@
-use Rattle.std.proofs.Common.{◌≡◌, ◌<◌, ◌++◌, ℕ, Some, get_or, refl, ap, sym, subst, ◌∙◌, arith}
-use Rattle.std.specs.Prelude.{Contains, All}
+use Rattle.std.proofs.Common.{◌≡◌, ◌<◌, Some, get_or, sym, subst, arith}
+use Rattle.std.specs.Prelude.{All}
 use Rattle.std.proofs.lemmas.List.Elements.{Contains-get_or}
 use Rattle.sk_base.specs.declared.Element.{Element}
 use Rattle.sk_base.specs.declared.Constraint.{Constraint}
 use Rattle.sk_base.specs.declared.Sketch.{Sketch}
-use Rattle.sk_lex.specs.Words.{words_in}
 use Rattle.sk_lang.specs.declared.EntryError.{EntryError}
-use Rattle.sk_lang.specs.Codes.{byte_rows}
-use Rattle.sk_lang.specs.Entry.{rows_of, entry_code, IsRefusal}
-use Rattle.sk_session.specs.Commands.{word_rows}
+use Rattle.sk_lang.specs.Entry.{entry_code, IsRefusal}
 use Rattle.sk_session.specs.State.{sketch_in}
-use Rattle.sk_session.specs.Replies.{ByCode}
 use Rattle.sk_session.proofs.Coding.{if_ok, answers_refused}
 use Rattle.sk_session.proofs.Numbers.{elements_below, constraints_below}
 use Rattle.sk_session.proofs.session.Session.command.Goals as goal

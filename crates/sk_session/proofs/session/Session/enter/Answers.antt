@@ -1,5 +1,5 @@
-use Rattle.std.proofs.Common.{◌≡◌, ◌∷◌, [], ℕ, List, map, drop, get_or, refl, ap, sym, subst, ◌∙◌}
-use Rattle.std.specs.Prelude.{OnErr, IfOk, slice_index_or}
+use Rattle.std.proofs.Common.{◌≡◌, ◌∷◌, [], ℕ, List, map, drop, get_or, ap, subst, ◌∙◌}
+use Rattle.std.specs.Prelude.{OnErr}
 use Rattle.sk_base.specs.Numbering.{elem_number, con_number}
 use Rattle.sk_lex.specs.declared.Word.{Word}
 use Rattle.sk_lex.specs.Words.{words_in, bytes_of}

@@ -1,4 +1,4 @@
-use Rattle.std.proofs.Common.{◌≡◌, ◌∙◌, ◌<◌, ap, sym, subst}
+use Rattle.std.proofs.Common.{◌<◌, sym, subst}
 use Rattle.sk_session.specs.Edits.{sketch_of}
 use Rattle.sk_session.specs.Making.{CanMake}
 use Rattle.sk_session.specs.Standing.{Gives}

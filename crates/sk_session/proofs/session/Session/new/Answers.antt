@@ -1,10 +1,8 @@
-use Rattle.std.proofs.Common.{◌≡◌, ◌∙◌, ap, sym, subst}
-use Rattle.sk_base.specs.declared.Graph.{Graph}
+use Rattle.std.proofs.Common.{◌≡◌, ◌∙◌, ap}
 use Rattle.sk_base.specs.declared.Sketch.{Sketch}
 use Rattle.sk_family.specs.Clusters.{initial_clusters}
 use Rattle.sk_graph.specs.SketchGraph.{graph_of}
 use Rattle.sk_session.specs.Edits.{empty}
-use Rattle.sk_session.specs.Standing.{IsConsistent}
 use Rattle.sk_session.proofs.Consistency.{consistent_new}
 use Rattle.sk_session.proofs.session.Session.new.Goals as goal
 

@@ -1,11 +1,9 @@
-use Rattle.std.proofs.Common.{◌≡◌, ◌∙◌, ap, sym, subst, refl, inl}
-use Rattle.std.specs.Prelude.{map, All}
+use Rattle.std.proofs.Common.{subst, refl, inl}
+use Rattle.std.specs.Prelude.{map}
 use Rattle.sk_base.specs.declared.Graph.{Graph}
 use Rattle.sk_base.specs.declared.Sketch.{Sketch}
-use Rattle.sk_family.specs.Clusters.{Clusters, initial_clusters}
-use Rattle.sk_graph.specs.SketchGraph.{graph_of}
+use Rattle.sk_family.specs.Clusters.{initial_clusters}
 use Rattle.sk_plan.specs.Judged.{IsWell}
-use Rattle.sk_choice.specs.DrawnChoice.{HasDrawnChoice}
 use Rattle.sk_tree.specs.LegalPlan.{IsLegalPlan, merge_told}
 use Rattle.sk_worklist.specs.Orders.{Choosing, place_of, next_call}
 use Rattle.sk_worklist.specs.Run.{IsRun}

@@ -1,11 +1,7 @@
-use Rattle.std.proofs.Common.{rules, ◌≡◌, ◌+◌, ◌-◌, ◌<◌, ◌∙◌, ◌++◌, ◌∷◌, [], List, ℕ, ap, sym, subst, refl, length, take, get_or, arith}
-use Rattle.std.specs.Vec.{vec_len}
+use Rattle.std.proofs.Common.{rules, ◌≡◌, ◌+◌, ◌-◌, ◌<◌, ◌∙◌, ◌++◌, ◌∷◌, [], ℕ, ap, sym, subst, refl, length, take, arith}
 use Rattle.std.proofs.lemmas.List.{length-map}
-use Rattle.sk_base.specs.declared.Sketch.{Sketch}
-use Rattle.sk_session.specs.declared.edit.Done.{Done}
 use Rattle.sk_session.specs.Edits.{sketch_of}
-use Rattle.sk_session.specs.Making.{FollowsBack}
-use Rattle.sk_session.specs.Standing.{edit_of, edits_of}
+use Rattle.sk_session.specs.Standing.{edits_of}
 use Rattle.sk_session.specs.State.{State, TakesBack}
 use Rattle.sk_session.proofs.Consistency.{last_split, last_led, consistent_undone, edits_push}
 use Rattle.sk_session.proofs.session.Session.undo.Goals as goal
