@@ -108,5 +108,6 @@ fn a_byte_too_many_is_refused(rt: HostRuntime) -> Result<(), Fail> {
     let mut text = String::from_str(alloc, "")?;
     put_often(&mut text, " ", 1_048_577)?;
     let written = b"refused line 0 E20 too-long\n";
-    answers(&rt, alloc, &["check"], text.as_bytes(), 1, written)
+    answers(&rt, alloc, &["check"], text.as_bytes(), 1, written)?;
+    answers(&rt, alloc, &["session"], text.as_bytes(), 1, written)
 }

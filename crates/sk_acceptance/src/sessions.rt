@@ -1,12 +1,10 @@
-// Sessions, with the texts of their replies, and the family that is kept across their lines.
-use sk_base::{Elem, Name, Text};
-use sk_cli::told_text;
-use sk_session::{Reply, Session};
+// Sessions, and the family that is kept across their lines.
+use crate::row::rows_pass;
+use sk_base::{Elem, Name};
+use sk_session::Session;
 use sk_worklist::Order;
-use std::alloc::Global;
 use std::test::Fail;
 
-/// Each row has the lines of a session, and behind `> 0` its replies. None of them is to a `solve`.
 const SESSIONS: &str = "
 $ session
 point A 0 0
@@ -65,6 +63,7 @@ set 1 0
 set 1 3
 write
 plan
+solve
 end
 > 0
 refused S3 nothing-to-undo
@@ -86,6 +85,13 @@ elements 2
 constraints 1
 steps 0
 leaf c1 : distance A B 3
+verdict well
+steps 0
+bits 38
+point A 0 0
+point B 3000000 0
+length tolerance 0 nm at c1
+angle tolerance 0 ppb at none
 $ session
 point A 0 0
 line L 0 0 1 0
@@ -179,26 +185,7 @@ refused E3 shape
 
 #[test]
 fn sessions_get_their_replies(rt: HostRuntime) -> Result<(), Fail> {
-    for row in SESSIONS.split("$ session\n").skip(1) {
-        let (lines, replies) = row.split_once("> 0\n").ok_or("lines without replies")?;
-        let text = replies_to(rt.alloc(), lines)?;
-        assert_eq!(rt; text.as_bytes(), replies.as_bytes());
-    }
-    Ok(())
-}
-
-/// The replies to these lines of a new session, one behind another.
-fn replies_to(alloc: Global, lines: &str) -> Result<Text, Fail> {
-    let mut session = Session::new(alloc, Order::First)?;
-    let mut text = Text::new(alloc);
-    for line in lines.split("\n") {
-        let reply = session.command(line.as_bytes())?;
-        match &reply {
-            Reply::Solve => return Err(Fail::from("a session without a solve")),
-            told => text.put(told_text(alloc, session.sketch(), told)?.as_bytes())?,
-        }
-    }
-    Ok(text)
+    rows_pass(&rt, rt.alloc(), SESSIONS)
 }
 
 /// Two triangles that share a point: one of them loses a side, is checked, and gets it back.
