@@ -50,6 +50,15 @@ pub fn one_outcome()
     datum_sketch_is_sound();
 }
 
+/// Words and an input have an outcome, so that with memory there is one.
+pub fn some_outcome()
+    ensures { (words : List (List ℕ)) (bytes : List ℕ) → (status : Status) × ((text : List ℕ) × IsOutcome words bytes status text) }
+{
+    one_answer();
+    readable_is_sound();
+    datum_sketch_is_sound();
+}
+
 /// Why each status comes. It is `Usage` exactly where the words aren't of the form, and `Refused` exactly
 /// where the input is. Of a sketch that is planned it is `NotWell` exactly where the verdict isn't well. Of
 /// one that is placed it is `StepFault` exactly where a step has a fault, or none has, no least number is
