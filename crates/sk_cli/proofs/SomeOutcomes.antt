@@ -48,7 +48,7 @@ use Rattle.sk_report.specs.CheckReport.{check_report}
 use Rattle.sk_report.specs.PlanReport.{plan_report}
 use Rattle.sk_report.specs.RefusalLine.{refusal_line}
 use Rattle.sk_cli.specs.declared.command.Command.{Command}
-use Rattle.sk_cli.specs.declared.command.Command.TheVariants.{Check, Plan, Solve, Dxf, Offers, Grow}
+use Rattle.sk_cli.specs.declared.command.Command.TheVariants.{Check, Plan, Solve, Dxf, Offers, Session, Grow}
 use Rattle.sk_cli.specs.declared.placing.Placement.{Placement}
 use Rattle.sk_cli.specs.declared.placing.Placement.TheVariants.{Fault, Beyond, Turned, Holds}
 use Rattle.sk_cli.specs.declared.request.Request.{Request}
@@ -56,6 +56,7 @@ use Rattle.sk_cli.specs.declared.solving.Report.{Report}
 use Rattle.sk_cli.specs.declared.solving.Report.TheVariants.{Places, Drawing, Sums}
 use Rattle.sk_cli.specs.declared.status.Status.{Status}
 use Rattle.sk_cli.specs.declared.status.Status.TheVariants.{Done, Refused, Usage, NotWell}
+use Rattle.sk_cli.specs.Asking.{Asks}
 use Rattle.sk_cli.specs.Grids.{grid_of, digits_of}
 use Rattle.sk_cli.specs.OffersReport.{IsOffersAnswer}
 use Rattle.sk_cli.specs.Outcome.{usage_line, IsCheckAnswer, IsPlanBy, IsPlanReport, IsReportNotWell, IsPlanAnswer, IsPlacedPlan, IsSolved, IsSolveAnswer, IsGrowAnswer, IsAnswerOf, IsOutcome}
@@ -229,22 +230,25 @@ offers_answer laws request bytes =
       ]
     ]
 
-answered : LawsBelow → (command : Command) (request : Request) → (command ≡ Grow → (n : ℕ) × (request.size ≡ Some n) × (3 ≤ n) × (n ≤ 1000)) → (bytes : List ℕ) → Answered command request bytes
-answered laws Check request size bytes = checked laws request bytes
-answered laws Plan request size bytes = planned_answer laws request bytes
-answered laws Solve request size bytes = solve_answer laws Places request bytes
-answered laws Dxf request size bytes = solve_answer laws Drawing request bytes
-answered laws Offers request size bytes = offers_answer laws request bytes
-answered laws Grow request size bytes =
+answered : LawsBelow → (command : Command) (request : Request) → command ≢ Session → (command ≡ Grow → (n : ℕ) × (request.size ≡ Some n) × (3 ≤ n) × (n ≤ 1000)) → (bytes : List ℕ) → Answered command request bytes
+answered laws Check request other size bytes = checked laws request bytes
+answered laws Plan request other size bytes = planned_answer laws request bytes
+answered laws Solve request other size bytes = solve_answer laws Places request bytes
+answered laws Dxf request other size bytes = solve_answer laws Drawing request bytes
+answered laws Offers request other size bytes = offers_answer laws request bytes
+answered laws Session request other size bytes = absurd (other refl)
+answered laws Grow request other size bytes =
     let n = size refl in
     let found = solved Sums request (datum_sketch n.0) (laws.made n.0 n.2 n.3) (omega arith) in
     (found.0, found.1, (n.0, n.1, found.3))
 
-pub some_outcome : LawsBelow → (words : List (List ℕ)) (bytes : List ℕ) → (status : Status) × (text : List ℕ) × IsOutcome words bytes status text
-some_outcome laws words bytes =
+-- words that don't ask for a session have an outcome with each input
+pub some_outcome : LawsBelow → (words : List (List ℕ)) (bytes : List ℕ) → ((request : Request) → Asks words request → request.command ≢ Session)
+    → (status : Status) × (text : List ℕ) × IsOutcome words bytes status text
+some_outcome laws words bytes other =
     elim (form_decided words) [
       | inr never ↦ (Usage, usage_line, inr (never, refl, refl))
       | inl (request, asks) ↦ (
-          let found = answered laws request.command request (λ is. grow_size words request asks is) bytes in
+          let found = answered laws request.command request (other request asks) (λ is. grow_size words request asks is) bytes in
           (found.0, found.1, inl (request, asks, found.2)))
     ]

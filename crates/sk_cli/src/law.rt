@@ -50,9 +50,10 @@ pub fn one_outcome()
     datum_sketch_is_sound();
 }
 
-/// Words and an input have an outcome, so that with memory there is one.
+/// Words that don't ask for a session have an outcome with each input, so that with memory there is one.
 pub fn some_outcome()
-    ensures { (words : List (List ℕ)) (bytes : List ℕ) → (status : Status) × ((text : List ℕ) × IsOutcome words bytes status text) }
+    ensures { (words : List (List ℕ)) (bytes : List ℕ) → ((request : Request) → Asks words request → request.command ≢ Command.Session)
+        → (status : Status) × ((text : List ℕ) × IsOutcome words bytes status text) }
 {
     one_answer();
     readable_is_sound();
