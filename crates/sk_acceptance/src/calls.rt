@@ -88,10 +88,10 @@ fn a_rectangle_is_a_tree_of_six_joins(rt: HostRuntime) -> Result<(), Fail> {
     assert_eq!(rt; steps(&tree), 6);
     assert_eq!(rt; height(&tree), 4);
     let found = leaves(alloc, &tree)?;
-    let wanted = [9, 4, 3, 12, 1, 10, 6, 5, 13, 11, 8, 7, 2];
+    let wanted = [9u32, 4, 3, 12, 1, 10, 6, 5, 13, 11, 8, 7, 2];
     assert_eq!(rt; found.len(), wanted.len());
-    for (leaf, number) in found.as_slice().iter().zip(wanted) {
-        assert_eq!(rt; *leaf, ConId(number));
+    for (leaf, number) in found.as_slice().iter().zip(&wanted) {
+        assert_eq!(rt; leaf.0, *number);
     }
     Ok(())
 }

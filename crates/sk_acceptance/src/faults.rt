@@ -3,6 +3,8 @@ use crate::one_byte::{OneByteSink, OneByteSource};
 use crate::row::{answers_over, strings};
 use sk_cli::run;
 use sk_io::{MemSink, MemSource, StdSink, StdSource};
+use std::alloc::Global;
+use std::process::Abort;
 use std::test::Fail;
 
 const LONE_POINT: &[u8] = b"sketch 1\npoint A 7 7\nend\n";
@@ -16,38 +18,49 @@ const TRIANGLE: &[u8] =
 /// One byte a call is read, and then the end: a fault in any of these calls leaves nothing written.
 #[test]
 fn each_read_may_fail(rt: HostRuntime) -> Result<(), Fail> {
-    let alloc = rt.alloc();
-    let words = strings(alloc, &["check"])?;
-    for call in 1..=TRIANGLE.len() as u64 + 2 {
-        let inner = MemSource::new(alloc, TRIANGLE, &[call])?;
-        let mut source = OneByteSource { inner };
-        let mut sink = MemSink::new(alloc, 1000, &[])?;
-        let status = run(alloc, words.as_slice(), &mut source, &mut sink);
-        if call <= TRIANGLE.len() as u64 + 1 {
-            assert_eq!(rt; status.code(), 3);
-            assert_eq!(rt; sink.written(), b"".as_slice());
-        } else {
-            assert_eq!(rt; status.code(), 0);
-        }
+    let last = TRIANGLE.len() as u64 + 1;
+    for call in 1..=last {
+        let (status, written) = read_by_bytes(rt.alloc(), call)?;
+        assert_eq!(rt; status, 3);
+        assert_eq!(rt; written, 0);
     }
+    let (status, _) = read_by_bytes(rt.alloc(), last + 1)?;
+    assert_eq!(rt; status, 0);
     Ok(())
+}
+
+/// The status, and how many bytes are written, where that call of the source fails.
+fn read_by_bytes(alloc: Global, call: u64) -> Result<(u8, usize), Fail> {
+    let words = strings(alloc, &["check"])?;
+    let inner = MemSource::new(alloc, TRIANGLE, &[call])?;
+    let mut source = OneByteSource { inner };
+    let mut sink = MemSink::new(alloc, 1000, &[])?;
+    let status = run(alloc, words.as_slice(), &mut source, &mut sink);
+    Ok((status.code(), sink.written().len()))
 }
 
 /// One byte a call is written: a fault at call k leaves k − 1 bytes.
 #[test]
 fn each_write_may_fail(rt: HostRuntime) -> Result<(), Fail> {
-    let alloc = rt.alloc();
-    let words = strings(alloc, &["check"])?;
-    for done in 0..=LONE_POINT_REPORT.len() {
-        let mut source = MemSource::new(alloc, LONE_POINT, &[])?;
-        let inner = MemSink::new(alloc, 1000, &[done as u64 + 1])?;
-        let mut sink = OneByteSink { inner };
-        let status = run(alloc, words.as_slice(), &mut source, &mut sink);
-        let wanted = if done < LONE_POINT_REPORT.len() { 4 } else { 0 };
-        assert_eq!(rt; status.code(), wanted);
-        assert_eq!(rt; sink.inner.written(), &LONE_POINT_REPORT[..done]);
+    let all = LONE_POINT_REPORT.len();
+    for done in 0..=all {
+        let (status, count) = written_by_bytes(&rt, rt.alloc(), done as u64 + 1)?;
+        assert_eq!(rt; status, if done < all { 4 } else { 0 });
+        assert_eq!(rt; count, done);
     }
     Ok(())
+}
+
+/// The status, and how many bytes of the report's front are written, where that call of the sink fails.
+fn written_by_bytes(rt: &impl Abort, alloc: Global, call: u64) -> Result<(u8, usize), Fail> {
+    let words = strings(alloc, &["check"])?;
+    let mut source = MemSource::new(alloc, LONE_POINT, &[])?;
+    let inner = MemSink::new(alloc, 1000, &[call])?;
+    let mut sink = OneByteSink { inner };
+    let status = run(alloc, words.as_slice(), &mut source, &mut sink);
+    let written = sink.inner.written();
+    assert!(rt; LONE_POINT_REPORT.starts_with(written));
+    Ok((status.code(), written.len()))
 }
 
 /// Whole pieces a call: the first read, the first write, a room of five bytes, calls that never come.

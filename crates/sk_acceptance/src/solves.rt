@@ -204,6 +204,17 @@ bits 38
 line L 0 1000000000 0
 length tolerance 0 nm at none
 angle tolerance 0 ppb at line L
+$ solve
+sketch 1
+line L 7 7 9 8
+end
+> 0
+verdict well
+steps 0
+bits 38
+line L 0 1000000000 0
+length tolerance 0 nm at none
+angle tolerance 0 ppb at line L
 ";
 
 const FAULTS: &str = "
@@ -218,6 +229,28 @@ distance B C 4
 end
 > 7
 fault s1 build height C flat 0 0 bits 38
+$ solve bits=27
+sketch 1
+point A 0 0
+point B 7 0
+point C 3 1
+distance A B 7
+distance A C 3
+distance B C 4
+end
+> 7
+fault s1 build height C flat 0 0 bits 27
+$ solve bits=16
+sketch 1
+point A 0 0
+point B 7 0
+point C 3 1
+distance A B 7
+distance A C 3
+distance B C 4
+end
+> 7
+fault s1 build height C flat 0 0 bits 16
 $ solve
 sketch 1
 point A 0 0
@@ -262,6 +295,17 @@ distance B C 1
 end
 > 7
 fault s1 build height C range bits 38
+$ solve bits=27
+sketch 1
+point A 0 0
+point B 7 0
+point C 3 1
+distance A B 0.001
+distance A C 1000000
+distance B C 1
+end
+> 7
+fault s1 build height C range bits 27
 $ solve bits=16
 sketch 1
 point A 0 0
@@ -311,6 +355,73 @@ end
 fault c1 tolerance 2 nm limit 1
 ";
 
+/// A strip whose first triangle is possible and whose second is not, on each grid; and three triangles that meet at
+/// three corners, of which the second and the third are impossible.
+const LATER_FAULTS: &str = "
+$ solve
+sketch 1
+point A 0 0
+point B 4 0
+point C 4 3
+point D 8 3
+distance A B 4
+distance A C 5
+distance B C 3
+distance B D 1
+distance C D 1
+end
+> 7
+fault s2 build height D gap -343597383680 -343597383680 bits 38
+$ solve bits=27
+sketch 1
+point A 0 0
+point B 4 0
+point C 4 3
+point D 8 3
+distance A B 4
+distance A C 5
+distance B C 3
+distance B D 1
+distance C D 1
+end
+> 7
+fault s2 build height D gap -167772160 -167772160 bits 27
+$ solve bits=16
+sketch 1
+point A 0 0
+point B 4 0
+point C 4 3
+point D 8 3
+distance A B 4
+distance A C 5
+distance B C 3
+distance B D 1
+distance C D 1
+end
+> 7
+fault s2 build height D gap -81920 -81920 bits 16
+$ solve
+sketch 1
+point A 0 0
+point B 2 0
+point C 4 0
+point D 3 2
+point E 2 4
+point F 1 2
+distance A B 3
+distance A C 4
+distance B C 5
+distance C D 5
+distance C E 1
+distance D E 1
+distance A E 5
+distance A F 1
+distance E F 1
+end
+> 7
+fault s2 build height E gap -1443109011456 -1443109011456 bits 38
+";
+
 #[test]
 fn points_are_placed(rt: HostRuntime) -> Result<(), Fail> {
     rows_pass(&rt, rt.alloc(), POINTS)
@@ -325,4 +436,10 @@ fn lines_are_placed(rt: HostRuntime) -> Result<(), Fail> {
 #[test]
 fn faults_are_named(rt: HostRuntime) -> Result<(), Fail> {
     rows_pass(&rt, rt.alloc(), FAULTS)
+}
+
+/// The first of the steps that fail is told.
+#[test]
+fn a_later_step_is_told(rt: HostRuntime) -> Result<(), Fail> {
+    rows_pass(&rt, rt.alloc(), LATER_FAULTS)
 }

@@ -123,8 +123,8 @@ fn compares(
     let Ok(plan) = plan_of(alloc, &sketch, &graph, &mut Chosen::new(Order::First)) else {
         return Err(Fail::from("the drawing is well"));
     };
-    assert_eq!(rt; least(&at, &graph), tolerance);
-    assert_eq!(rt; first_turned(&at, &sketch, &plan), turned);
+    assert!(rt; least(&at, &graph) == tolerance);
+    assert!(rt; first_turned(&at, &sketch, &plan) == turned);
     Ok(())
 }
 
@@ -140,7 +140,7 @@ fn passes(
     let sketch = sketch_of(alloc, text)?;
     let graph = reduce(alloc, &sketch)?;
     let at = placed(alloc, &graph, places)?;
-    assert_eq!(rt; passed(&at, &graph, limit), beyond);
+    assert!(rt; passed(&at, &graph, limit) == beyond);
     Ok(())
 }
 
