@@ -27,7 +27,7 @@ pub use law::{causes, headline, one_outcome, one_request};
 pub use offer_line::OfferLine;
 pub use offer_reading::{one_reading_of_offers, read_offers};
 pub use placing::Placement;
-pub use reply::{reply_text, told_text};
+pub use reply::reply_text;
 pub use request::{Request, request_of};
 pub use solving::Report;
 pub use status::Status;

@@ -60,7 +60,7 @@ fn solve_text(
 }
 
 /// The text of a reply, but of that to `solve`. The sketch is the session's after the line.
-pub fn told_text(alloc: Global, s: &Sketch, r: &Reply) -> Result<Text, NoMemory>
+fn told_text(alloc: Global, s: &Sketch, r: &Reply) -> Result<Text, NoMemory>
     requires { r.now ≢ a_reply.Solve }
     ensures { IfOk result (λ text. text ≡ told s.now r.now) }
 {
