@@ -29,13 +29,16 @@ all_or_stale g f (m ∷ names) =
       | inr dead ↦ inr (m, record { before = []; after = names; parts = refl; live_before = All-nil (λ n. IsLive f n); not_live = dead })
       | inl live ↦ elim (all_or_stale g f names) [
         | inl all ↦ inl (All-cons (λ n. IsLive f n) m names live all)
-        | inr (n, first) ↦ inr (n, record {
-          before = m ∷ first.before;
-          after = first.after;
-          parts = ap (λ ns. m ∷ ns) first.parts;
-          live_before = All-cons (λ k. IsLive f k) m first.before live first.live_before;
-          not_live = first.not_live;
-        })
+        | inr (n, first) ↦ inr (
+          n,
+          record {
+            before = m ∷ first.before;
+            after = first.after;
+            parts = ap (λ ns. m ∷ ns) first.parts;
+            live_before = All-cons (λ k. IsLive f k) m first.before live first.live_before;
+            not_live = first.not_live;
+          },
+        )
       ]
     ]
 

@@ -42,7 +42,7 @@ shares_decided xs ys =
 pub triangle_decided : (g : Graph) (xs ys zs : List Elem) (a b c : Elem) → Decided (IsTriangle g xs ys zs a b c)
 triangle_decided g xs ys zs a b c =
     moved (λ (h : ((Contains xs a × Contains ys a) × (Contains ys b × Contains zs b)) × ((Contains zs c × Contains xs c) × (((a ≢ b) × (b ≢ c)) × (c ≢ a))) × ((IsLine g a × (IsLine g b × IsLine g c)) → ⊥)).
-      record { a_shared = h.0.0; b_shared = h.0.1; c_shared = h.1.0; differ = (h.1.1.0.0, h.1.1.0.1, h.1.1.1); not_all_lines = λ l. h.2 (l.0, (l.1, l.2)) })
+    record { a_shared = h.0.0; b_shared = h.0.1; c_shared = h.1.0; differ = (h.1.1.0.0, h.1.1.0.1, h.1.1.1); not_all_lines = λ l. h.2 (l.0, (l.1, l.2)) })
     (λ (t : IsTriangle g xs ys zs a b c). ((t.a_shared, t.b_shared), (t.c_shared, ((t.differ.0, t.differ.1), t.differ.2)), (λ l. t.not_all_lines (l.0, l.1.0, l.1.1))))
     (three (both (both (is_in elem_settles xs a) (is_in elem_settles ys a)) (both (is_in elem_settles ys b) (is_in elem_settles zs b)))
     (both (both (is_in elem_settles zs c) (is_in elem_settles xs c)) (both (both (denied (elem_settles a b)) (denied (elem_settles b c))) (denied (elem_settles c a))))
@@ -55,8 +55,8 @@ pub meets_decided : (g : Graph) (xs ys zs : List Elem) → Decided (MeetsInThree
 meets_decided g xs ys zs =
     moved (λ (a, a_in, (b, b_in, (c, c_in, t))). (a, b, c, t)) (λ (a, b, c, t). (a, t.a_shared.0, (b, t.b_shared.0, (c, t.c_shared.0, t))))
     (some_in (λ a. (b : Elem) × Contains ys b × ((c : Elem) × Contains zs c × IsTriangle g xs ys zs a b c)) (λ a.
-      some_in (λ b. (c : Elem) × Contains zs c × IsTriangle g xs ys zs a b c) (λ b.
-        some_in (λ c. IsTriangle g xs ys zs a b c) (λ c. triangle_decided g xs ys zs a b c) zs) ys) xs)
+    some_in (λ b. (c : Elem) × Contains zs c × IsTriangle g xs ys zs a b c) (λ b.
+    some_in (λ c. IsTriangle g xs ys zs a b c) (λ c. triangle_decided g xs ys zs a b c) zs) ys) xs)
 
 module _ (g : Graph) (f : Clusters) where
   named_decided : (n : Name) (c : Cluster) → Contains f.live c → Decided (IsNamed f n c)
@@ -72,12 +72,12 @@ module _ (g : Graph) (f : Clusters) where
   holds_decided (Two x y) =
       moved (λ (a, a_is, (b, b_is, h)). (a, b, a_is, b_is, h)) (λ (a, b, a_is, b_is, h). (a, a_is, (b, b_is, h)))
       (some_named x (λ a. (b : Cluster) × IsNamed f y b × SharesTwo a.elements b.elements) (λ a.
-        some_named y (λ b. SharesTwo a.elements b.elements) (λ b. shares_decided a.elements b.elements)))
+      some_named y (λ b. SharesTwo a.elements b.elements) (λ b. shares_decided a.elements b.elements)))
   holds_decided (Three x y z) =
       moved (λ (a, a_is, (b, b_is, (c, c_is, h))). (a, b, c, a_is, b_is, c_is, h)) (λ (a, b, c, a_is, b_is, c_is, h). (a, a_is, (b, b_is, (c, c_is, h))))
       (some_named x (λ a. (b : Cluster) × IsNamed f y b × ((c : Cluster) × IsNamed f z c × MeetsInThree g a.elements b.elements c.elements)) (λ a.
-        some_named y (λ b. (c : Cluster) × IsNamed f z c × MeetsInThree g a.elements b.elements c.elements) (λ b.
-          some_named z (λ c. MeetsInThree g a.elements b.elements c.elements) (λ c. meets_decided g a.elements b.elements c.elements))))
+      some_named y (λ b. (c : Cluster) × IsNamed f z c × MeetsInThree g a.elements b.elements c.elements) (λ b.
+      some_named z (λ c. MeetsInThree g a.elements b.elements c.elements) (λ c. meets_decided g a.elements b.elements c.elements))))
 
   falls_decided : (m : Merge) → Decided (Falls m)
   falls_decided (Two x y) = name_below y x
@@ -182,12 +182,16 @@ module _ (g : Graph) (f : Clusters) where
           let rest = triples_only (λ p q can. contains_none (Two p q) ((is (Two p q)).1 (pair_listed g f p q can) can)) in (rest.0, inr rest.1)
       told (m ∷ ms) rises is = (
         m ∷ [],
-        inl (m, refl, record {
-          can_take = (is m).0 (contains_head m ms);
-          is_pair = from_pairs g f m ((is m).2 (contains_head m ms));
-          first = λ p q can before. elim (contains_cases m ms (Two p q) ((is (Two p q)).1 (pair_listed g f p q can) can)) [
-            | inl same ↦ names_irreflexive (names_of m) (subst (λ (k : Merge). ComesFirst k m) (sym same) before)
-            | inr later ↦ names_asymmetric (names_of (Two p q)) (names_of m) before (pairs_head ComesFirst m ms rises (Two p q) later)
-          ];
-        }),
+        inl (
+          m,
+          refl,
+          record {
+            can_take = (is m).0 (contains_head m ms);
+            is_pair = from_pairs g f m ((is m).2 (contains_head m ms));
+            first = λ p q can before. elim (contains_cases m ms (Two p q) ((is (Two p q)).1 (pair_listed g f p q can) can)) [
+              | inl same ↦ names_irreflexive (names_of m) (subst (λ (k : Merge). ComesFirst k m) (sym same) before)
+              | inr later ↦ names_asymmetric (names_of (Two p q)) (names_of m) before (pairs_head ComesFirst m ms rises (Two p q) later)
+            ];
+          },
+        ),
       )

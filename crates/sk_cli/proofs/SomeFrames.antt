@@ -63,10 +63,11 @@ module _ (F : ℕ) where
       let s : ℕ = unsigned_abs (square_of r) in
       let some : 0 < s = omega (arith, ints, positive) in
       let size : square_of r ≡ pos s = omega (arith, ints, positive) in
-      let root_is : root F (whole F (square_of r)) ≡ Ok (norm F s) = ap (λ z. root F (whole F z)) size ∙ root-ok F s some in
-      (ratio F n s,
+      let root_is : root F (whole F (square_of r)) ≡ Ok (norm F s) = ap (λ z. root F (whole F z)) size ∙ root-ok F s some in (
+        ratio F n s,
         ap (λ (x : Result Interval Cause). then (then x (quotient F (whole F n))) (normal_of F)) root_is
-        ∙ ap (λ (x : Result Interval Cause). then x (normal_of F)) (quotient-ok F n s least some) ∙ normal-ok F n s least some)
+            ∙ ap (λ (x : Result Interval Cause). then x (normal_of F)) (quotient-ok F n s least some) ∙ normal-ok F n s least some,
+      )
 
   signed_size : (sign : Sign) (n : ℤ) → unsigned_abs (by_sign sign n) ≡ unsigned_abs n
   signed_size Plus n = refl
@@ -83,10 +84,22 @@ module _ (F : ℕ) where
       let q_within : unsigned_abs r.q ≤ 10000 = omega (arith, ints, sound.2) in
       let square : IsSquare r.p r.q (square_of r) = square_within r.p r.q sound.0 p_within q_within in
       let p_size = signed_size (opposite sense) r.p in
-      let q_size = signed_size sense r.q in
-      (zero_normal, (one_normal, (zero_long, (
-        part_of (by_sign (opposite sense) r.p) r square.positive (rw p_size square.p_least), (
-          part_of (by_sign sense r.q) r square.positive (rw q_size square.q_least), (zero_long, tt))))))
+      let q_size = signed_size sense r.q in (
+        zero_normal,
+        (
+          one_normal,
+          (
+            zero_long,
+            (
+              part_of (by_sign (opposite sense) r.p) r square.positive (rw p_size square.p_least),
+              (
+                part_of (by_sign sense r.q) r square.positive (rw q_size square.q_least),
+                (zero_long, tt),
+              ),
+            ),
+          ),
+        ),
+      )
 
   pub some_leaf : {G : Type 0} (m : Measure) → IsSoundMeasure m → (boxes : BoxOf G × BoxOf G) × (leaf F m ≡ Ok boxes)
   some_leaf m sound = (let found = all_found (frame m) (frame_gives m sound) [] in (framed m found.0, ap (λ (r : Result (List Interval) (What × Cause)). frame_of m r) found.1))

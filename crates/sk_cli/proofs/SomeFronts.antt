@@ -151,18 +151,20 @@ module _ (answer : SomeAnswer) (bytes : List ℕ) (fits : length bytes ≤ 10485
       let taken : take used bytes ≡ part.front = ap (take used) part.cut ∙ take-append_seam part.front part.rest in
       let size = ap length part.cut ∙ length-append part.front part.rest in
       let reads = front_reads part.front k (omega (arith, size)) part.lines (subst (λ ls. NoFirst ls) (sym part.lines) clean) ended in
-      let count : k ≡ length (lines_in part.front) = sym (length-take-le k (lines_in bytes) within) ∙ ap length (sym part.lines) in
-      (record { sketch = reads.0; used = used; lines = k }, record {
-        fits = fits;
-        within = omega (arith, size);
-        whole = elim part.ends [
-          | inl line_end ↦ inl (subst (λ bs. EndsLine bs) (sym taken) line_end)
-          | inr none ↦ inr (let nothing = ap length none in omega (arith, size, nothing))
-        ];
-        reads = subst (λ bs. Reads bs reads.0) (sym taken) reads.1;
-        count = count ∙ ap (λ bs. length (lines_in bs)) (sym taken);
-        last = unended;
-      })
+      let count : k ≡ length (lines_in part.front) = sym (length-take-le k (lines_in bytes) within) ∙ ap length (sym part.lines) in (
+        record { sketch = reads.0; used = used; lines = k },
+        record {
+          fits = fits;
+          within = omega (arith, size);
+          whole = elim part.ends [
+            | inl line_end ↦ inl (subst (λ bs. EndsLine bs) (sym taken) line_end)
+            | inr none ↦ inr (let nothing = ap length none in omega (arith, size, nothing))
+          ];
+          reads = subst (λ bs. Reads bs reads.0) (sym taken) reads.1;
+          count = count ∙ ap (λ bs. length (lines_in bs)) (sym taken);
+          last = unended;
+        },
+      )
 
   -- the sketch ends within clean lines
   front_within : (n : ℕ) → n ≤ length (lines_in bytes) → NoFirst (take n (lines_in bytes)) → has_ended_by n bytes ≡ true → (f : Front) × ReadsFront bytes f

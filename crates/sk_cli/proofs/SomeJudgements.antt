@@ -51,19 +51,21 @@ module _ (g : Graph) (f : List Body) where
   pub some_judgement : (j : Judgement) × IsJudgement g f j
   some_judgement =
       let found = selected ElementsBefore before_tells before_chain (λ xs. AreOfOnePart g f xs) part_decided lists in
-      let parts : List Part = map (part_with g) found.0 in
-      (record { verdict = verdict_on parts; parts = parts }, record {
-        parts = λ p. (
-          (λ h. (let it = mapped_from (part_with g) found.0 p h in (
-            subst (λ (q : Part). AreOfOnePart g f q.elements) it.2 ((found.2 it.0).0 it.1).1,
-            subst (λ (q : Part). q ≡ part_with g q.elements) it.2 refl,
-          ))),
-          (λ h. subst (λ (q : Part). Contains parts q) (sym h.1)
-            (contains_mapped (part_with g) found.0 p.elements ((found.2 p.elements).1 (listed p.elements h.0, h.0)))),
-        );
-        in_order = pairs_map PartBefore (part_with g) found.0 found.1;
-        verdict = refl;
-      })
+      let parts : List Part = map (part_with g) found.0 in (
+        record { verdict = verdict_on parts; parts = parts },
+        record {
+          parts = λ p. (
+            (λ h. (let it = mapped_from (part_with g) found.0 p h in (
+              subst (λ (q : Part). AreOfOnePart g f q.elements) it.2 ((found.2 it.0).0 it.1).1,
+              subst (λ (q : Part). q ≡ part_with g q.elements) it.2 refl,
+            ))),
+            (λ h. subst (λ (q : Part). Contains parts q) (sym h.1)
+                (contains_mapped (part_with g) found.0 p.elements ((found.2 p.elements).1 (listed p.elements h.0, h.0)))),
+          );
+          in_order = pairs_map PartBefore (part_with g) found.0 found.1;
+          verdict = refl;
+        },
+      )
 
 -- that on one normal family is that on each
 pub the_judgement : (g : Graph) (f : List Body) (j : Judgement) → IsSoundGraph g → IsNormal g f → IsJudgement g f j → IsTheJudgement g j

@@ -194,15 +194,18 @@ compared (t ∷ ts) =
       | inr turned ↦ inr (t, record { before = []; after = ts; parts = refl; has = turned; none_before = λ y h. absurd (contains_none y h) })
       | inl same ↦ elim (compared ts) [
         | inl all ↦ inl (λ u h. elim (contains_cases t ts u h) [ inl here ↦ subst (λ v. IsAsDrawn v) here same | inr later ↦ all u later ])
-        | inr (u, first) ↦ inr (u, record {
-          before = t ∷ first.before;
-          after = first.after;
-          parts = ap (λ vs. t ∷ vs) first.parts;
-          has = first.has;
-          none_before = λ y h. elim (contains_cases t first.before y h) [
-            | inl here ↦ (λ turned. turned (subst (λ v. IsAsDrawn v) here same))
-            | inr later ↦ first.none_before y later
-          ];
-        })
+        | inr (u, first) ↦ inr (
+          u,
+          record {
+            before = t ∷ first.before;
+            after = first.after;
+            parts = ap (λ vs. t ∷ vs) first.parts;
+            has = first.has;
+            none_before = λ y h. elim (contains_cases t first.before y h) [
+              | inl here ↦ (λ turned. turned (subst (λ v. IsAsDrawn v) here same))
+              | inr later ↦ first.none_before y later
+            ];
+          },
+        )
       ]
     ]

@@ -107,13 +107,20 @@ some_measured limit s p at sound exactly =
         | inr (t, first) ↦ (Turned t, (all, first))
         | inl drawn ↦ (
             let lengths = some_told at (lengthwise g) (own_lengthwise g at sound exactly) in
-            let angles = some_told at (anglewise g) (own_anglewise g at sound exactly) in
-            (Holds at (record { t = lengths.0; w = angles.0; worst_t = constraint_of lengths.1; worst_w = angles.1 }), (refl, all, drawn, record {
-              lengths = lengths.2.least;
-              angles = angles.2.least;
-              worst_length = worst_distance_named at g.edges lengths.0 lengths.1 lengths.2.at;
-              worst_angle = angles.2.at;
-            })))
+            let angles = some_told at (anglewise g) (own_anglewise g at sound exactly) in (
+              Holds at (record { t = lengths.0; w = angles.0; worst_t = constraint_of lengths.1; worst_w = angles.1 }),
+              (
+                refl,
+                all,
+                drawn,
+                record {
+                  lengths = lengths.2.least;
+                  angles = angles.2.least;
+                  worst_length = worst_distance_named at g.edges lengths.0 lengths.1 lengths.2.at;
+                  worst_angle = angles.2.at;
+                },
+              ),
+            ))
       ]
     ]
 
@@ -218,15 +225,24 @@ offers_answer laws request bytes =
         | inl (offers, reads) ↦ (
             let s = f.sketch in
             let j = the_judgement_of s (laws.sound (take f.used bytes) s front.reads) in
-            let has = some_answers (starting_table (graph_of s)) offers (read_fit (drop f.used bytes) offers reads) in
-            (Done, has.lines ++ check_report s j.0, (f, offers, front, reads, record {
-              board = has.board;
-              lines = has.lines;
-              judgement = j.0;
-              answered = has.answered;
-              judged = j.1;
-              is = refl;
-            })))
+            let has = some_answers (starting_table (graph_of s)) offers (read_fit (drop f.used bytes) offers reads) in (
+              Done,
+              has.lines ++ check_report s j.0,
+              (
+                f,
+                offers,
+                front,
+                reads,
+                record {
+                  board = has.board;
+                  lines = has.lines;
+                  judgement = j.0;
+                  answered = has.answered;
+                  judged = j.1;
+                  is = refl;
+                },
+              ),
+            ))
       ]
     ]
 

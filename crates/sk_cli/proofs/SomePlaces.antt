@@ -75,7 +75,7 @@ module _ (G : Type 0) (F : ℕ) (g : Graph) (p : Plan) (sound : IsSoundGraph g) 
       let are : AreHeld F g live s one.0 two.0 three.0 = record { first = one.1; second = two.1; third = three.1 } in
       by_result i live after inside s step.1 one.0 two.0 three.0 are
       (λ bs is. run_from left (i + 1) (live ++ Some bs ∷ [])
-        (at_next F g p sound legal i live after inside s step.1 one.0 two.0 three.0 are bs is live refl (λ n a b c. refl)) (omega arith))
+      (at_next F g p sound legal i live after inside s step.1 one.0 two.0 three.0 are bs is live refl (λ n a b c. refl)) (omega arith))
       (joined F s one.0 two.0 three.0) (refl {a = joined F s one.0 two.0 three.0})
 
   run_whole : RunOn

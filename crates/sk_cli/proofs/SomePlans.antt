@@ -60,24 +60,34 @@ prefer_chain : (a b c : Cluster) → IsPreferred a b → IsPreferred b c → IsP
 prefer_chain a b c (inl h) (inl k) = inl (omega arith)
 prefer_chain a b c (inl h) (inr (level, k)) = inl (omega arith)
 prefer_chain a b c (inr (level, h)) (inl k) = inl (omega arith)
-prefer_chain a b c (inr (level, h)) (inr (flat, k)) = inr (flat ∙ level, λ c_a. elim (below_tells b.name a.name) [
-  | inl below ↦ h below
-  | inr (inl same) ↦ k (subst (λ n. IsBelow c.name n) (sym same) c_a)
-  | inr (inr above) ↦ k (below_chain c.name a.name b.name c_a above)
-])
+prefer_chain a b c (inr (level, h)) (inr (flat, k)) = inr (
+  flat ∙ level,
+  λ c_a. elim (below_tells b.name a.name) [
+    | inl below ↦ h below
+    | inr (inl same) ↦ k (subst (λ n. IsBelow c.name n) (sym same) c_a)
+    | inr (inr above) ↦ k (below_chain c.name a.name b.name c_a above)
+  ],
+)
 
 prefer_itself : (a : Cluster) → IsPreferred a a
 prefer_itself a = inr (refl, below_irreflexive a.name)
 
 module _ (f : Clusters) (sound : IsSound f) (x y z : Name) (a b c : Cluster) (a_is : IsNamed f x a) (b_is : IsNamed f y b) (c_is : IsNamed f z c) where
   kept_by : (k : Name) (w : Cluster) → Contains (x ∷ y ∷ z ∷ []) k → IsNamed f k w → IsPreferred w a → IsPreferred w b → IsPreferred w c → IsKept f (x ∷ y ∷ z ∷ []) k
-  kept_by k w k_in w_is to_a to_b to_c = (k_in, (w, w_is, λ n d n_in d_is. elim (contains_cases x (y ∷ z ∷ []) n n_in) [
-    | inl same ↦ subst (λ e. IsPreferred w e) (one_of_name f sound x a d a_is (subst (λ m. IsNamed f m d) (sym same) d_is)) to_a
-    | inr rest ↦ elim (contains_cases y (z ∷ []) n rest) [
-      | inl same ↦ subst (λ e. IsPreferred w e) (one_of_name f sound y b d b_is (subst (λ m. IsNamed f m d) (sym same) d_is)) to_b
-      | inr last ↦ subst (λ e. IsPreferred w e) (one_of_name f sound z c d c_is (subst (λ m. IsNamed f m d) (sym (contains_one z n last)) d_is)) to_c
-    ]
-  ]))
+  kept_by k w k_in w_is to_a to_b to_c = (
+    k_in,
+    (
+      w,
+      w_is,
+      λ n d n_in d_is. elim (contains_cases x (y ∷ z ∷ []) n n_in) [
+        | inl same ↦ subst (λ e. IsPreferred w e) (one_of_name f sound x a d a_is (subst (λ m. IsNamed f m d) (sym same) d_is)) to_a
+        | inr rest ↦ elim (contains_cases y (z ∷ []) n rest) [
+          | inl same ↦ subst (λ e. IsPreferred w e) (one_of_name f sound y b d b_is (subst (λ m. IsNamed f m d) (sym same) d_is)) to_b
+          | inr last ↦ subst (λ e. IsPreferred w e) (one_of_name f sound z c d c_is (subst (λ m. IsNamed f m d) (sym (contains_one z n last)) d_is)) to_c
+        ]
+      ],
+    ),
+  )
 
   -- one of three clusters is preferred to the others
   some_kept : (k : Name) × IsKept f (x ∷ y ∷ z ∷ []) k

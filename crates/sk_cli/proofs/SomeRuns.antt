@@ -59,8 +59,7 @@ module _ {P : Type 0} (answer : P → ℕ → ℕ) (after : P → ℕ → P) (g 
   taken_of f end p last (m ∷ ms) sound (choices, are, picked, rest) =
       let can = choice_can g f choices are m (in_list choices (answer p (length choices)) m picked) in
       let shared = some_shared g f m can.1 in
-      let more = taken_of (merged f m) end (after p (length choices)) last ms (sound_replaced f (names_of m) sound (can_be_replaced g f m can.0 can.1)) rest in
-      (
+      let more = taken_of (merged f m) end (after p (length choices)) last ms (sound_replaced f (names_of m) sound (can_be_replaced g f m can.0 can.1)) rest in (
         record { step = Step f.next_step; merge = m; shared = shared.0 } ∷ more.0,
         (record { falls = can.0; shared = shared.1; is_next = refl }, more.1),
         ap (λ (ns : List Merge). m ∷ ns) more.2,

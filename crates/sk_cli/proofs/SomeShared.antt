@@ -40,22 +40,25 @@ least_pair xs ys (p, q, pair) =
     told (e ∷ []) rises is =
         absurd (pair.differ (sym (contains_one e p ((is p).1 (pair.a_shared.0, pair.a_shared))) ∙ contains_one e q ((is q).1 (pair.b_shared.0, pair.b_shared))))
     told (a ∷ b ∷ es) rises is =
-        let below : Lower a b = pairs_head Lower a (b ∷ es) rises b (contains_head b es) in
-        (a, b, record {
-          pair = record {
-            differ = lower_differs a b below;
-            a_shared = ((is a).0 (contains_head a (b ∷ es))).1;
-            b_shared = ((is b).0 (contains_later a (b ∷ es) b (contains_head b es))).1;
-          };
-          ascends = below;
-          least = λ e shared. elim (contains_cases a (b ∷ es) e ((is e).1 (shared.0, shared))) [
-            | inl first ↦ inl (sym first)
-            | inr rest ↦ elim (contains_cases b es e rest) [
-              | inl second ↦ inr (let same = ap (λ (x : Elem). x.0) second in omega arith)
-              | inr later ↦ inr (let less : Lower b e = pairs_head Lower b es (pairs_tail Lower a (b ∷ es) rises) e later in omega arith)
-            ]
-          ];
-        })
+        let below : Lower a b = pairs_head Lower a (b ∷ es) rises b (contains_head b es) in (
+          a,
+          b,
+          record {
+            pair = record {
+              differ = lower_differs a b below;
+              a_shared = ((is a).0 (contains_head a (b ∷ es))).1;
+              b_shared = ((is b).0 (contains_later a (b ∷ es) b (contains_head b es))).1;
+            };
+            ascends = below;
+            least = λ e shared. elim (contains_cases a (b ∷ es) e ((is e).1 (shared.0, shared))) [
+              | inl first ↦ inl (sym first)
+              | inr rest ↦ elim (contains_cases b es e rest) [
+                | inl second ↦ inr (let same = ap (λ (x : Elem). x.0) second in omega arith)
+                | inr later ↦ inr (let less : Lower b e = pairs_head Lower b es (pairs_tail Lower a (b ∷ es) rises) e later in omega arith)
+              ]
+            ];
+          },
+        )
 
 record Corners : Type 0 where
   p : Elem
@@ -125,15 +128,20 @@ least_triangle g xs ys zs (a, b, c, t) =
     told : (us : List Corners) → AllPairs Before us → ((u : Corners) → Contains us u ↔ (Contains (times cornered xs (times paired ys zs)) u × IsTriangle g xs ys zs u.p u.q u.r))
         → (a : Elem) × (b : Elem) × (c : Elem) × IsLeastTriangle g xs ys zs a b c
     told [] rises is = absurd (contains_none (record { p = a; q = b; r = c }) ((is (record { p = a; q = b; r = c })).1 (corners_in xs ys zs a b c t.a_shared.0 t.b_shared.0 t.c_shared.0, t)))
-    told (u ∷ us) rises is = (u.p, u.q, u.r, record {
-      triangle = ((is u).0 (contains_head u us)).1;
-      least = λ p q r other before. (
-          let v : Corners = record { p = p; q = q; r = r } in
-          elim (contains_cases u us v ((is v).1 (corners_in xs ys zs p q r other.a_shared.0 other.b_shared.0 other.c_shared.0, other))) [
-            | inl same ↦ before_irreflexive u (subst (λ (w : Corners). Before w u) (sym same) before)
-            | inr later ↦ before_irreflexive v (before_chain v u v before (pairs_head Before u us rises v later))
-          ]);
-    })
+    told (u ∷ us) rises is = (
+      u.p,
+      u.q,
+      u.r,
+      record {
+        triangle = ((is u).0 (contains_head u us)).1;
+        least = λ p q r other before. (
+            let v : Corners = record { p = p; q = q; r = r } in
+            elim (contains_cases u us v ((is v).1 (corners_in xs ys zs p q r other.a_shared.0 other.b_shared.0 other.c_shared.0, other))) [
+              | inl same ↦ before_irreflexive u (subst (λ (w : Corners). Before w u) (sym same) before)
+              | inr later ↦ before_irreflexive v (before_chain v u v before (pairs_head Before u us rises v later))
+            ]);
+      },
+    )
 
 pub some_shared : (g : Graph) (f : Clusters) (m : Merge) → Holds g f m → (s : Shared) × IsLeastShared g f m s
 some_shared g f (Two x y) (a, b, x_is, y_is, shares) =
