@@ -55,8 +55,8 @@ use Rattle.sk_cli.proofs.CommandWords.{one_command}
 use Rattle.sk_cli.proofs.KeyValues.{one_said, one_set}
 use Rattle.sk_cli.proofs.Numbers.{one_order, one_bits, one_limit, one_size}
 use Rattle.sk_cli.proofs.OnePlacement.{same_placement}
-use Rattle.sk_cli.specs.Outcome.{IsReport, IsRefusalText, IsCheckAnswer, IsPlanBy, IsPlanReport, IsReportNotWell, IsPlanAnswer, IsPlanOrReport, IsSolved, IsSolveAnswer, IsGrowAnswer, IsAnswer, IsAnswerOf, IsOutcome}
-use Rattle.sk_cli.proofs.OneSession.{OneReply, same_replies}
+use Rattle.sk_cli.specs.Outcome.{IsReport, IsRefusalText, IsCheckAnswer, IsPlanBy, IsPlanReport, IsReportNotWell, IsPlanAnswer, IsPlanOrReport, IsSolved, IsSolveAnswer, IsGrowAnswer, IsAnswer, IsAnswerOf, IsOutcome, AreFirstReplies}
+use Rattle.sk_cli.proofs.OneSession.{OneReply, same_replies, front_replies}
 use Rattle.sk_cli.specs.SessionAnswer.{IsSessionAnswer, RepliesToFront, IsOver, at_start}
 
 pub same_request : (words : List (List ℕ)) (one other : Request) → Asks words one → Asks words other → one ≡ other
@@ -314,6 +314,22 @@ same_session law laws request bytes status other text another first second =
         | inl (done, (front, over)) ↦ absurd (omega (arith, long, front.fits))
         | inr (refused', long', is') ↦ (refused ∙ sym refused', is ∙ sym is')
       ]
+    ]
+
+-- what a session has answered where it stops is a front of its outcome's text
+pub front_of_outcome : OneJudgement → LowerLaws → (words : List (List ℕ)) (bytes text whole : List ℕ) (status : Status) → AreFirstReplies words bytes text → IsOutcome words bytes status whole
+    → (behind : List ℕ) × (whole ≡ text ++ behind)
+front_of_outcome law laws words bytes text whole status (request, asks, is, front) (inr usage) = absurd (usage.0 (request, asks))
+front_of_outcome law laws words bytes text whole status (request, asks, is, front) (inl (other, asks', answer)) =
+    let same : other ≡ request = same_request words other request asks' asks in
+    let answer' : IsSessionAnswer request bytes status whole =
+    subst (λ (c : Command). IsAnswerOf c request bytes status whole) is (subst (λ (r : Request). IsAnswer r bytes status whole) same answer) in
+    elim (told_session request bytes status whole answer') [
+      | inl (done, (all, over)) ↦
+          front_replies laws.reply (λ r s sound a b x y one two. (same_solved law laws Places r s (graph_is_sound s sound) a b x y one two).1) request
+          front.before front.after all.before all.after (at_start request.order) (at_start request.order) empty_sound (record { order = refl; edits = refl; count = refl })
+          (sym front.parts ∙ all.parts) front.state all.state text whole front.replied all.replied over
+      | inr (refused, long, why) ↦ absurd (omega (arith, long, front.fits))
     ]
 
 -- a report or a refusal

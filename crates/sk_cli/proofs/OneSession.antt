@@ -1,5 +1,6 @@
--- A session has one text of replies at most.
-use Rattle.std.proofs.Common.{◌≡◌, ◌≢◌, ℕ, List, [], ◌∷◌, ◌++◌, sym, ap, subst, ◌∙◌}
+-- A session has one text of replies at most, and what it has answered where it stops is a front of it.
+use Rattle.std.proofs.Common.{◌≡◌, ◌≢◌, ℕ, ◌+◌, List, [], ◌∷◌, ◌++◌, length, refl, sym, ap, subst, ◌∙◌, arith, append_assoc, length-append}
+use Rattle.std.proofs.lemmas.List.{append-nil, nil_from_length}
 use Rattle.sk_base.specs.declared.Sketch.{Sketch}
 use Rattle.sk_base.specs.SoundSketch.{IsSoundSketch}
 use Rattle.sk_session.specs.declared.Edit.{Edit}
@@ -23,6 +24,14 @@ OneReply = (old other new last : State) (line : List ℕ) (one said : Reply) →
 abbrev pub OneSolved : Type 0
 OneSolved = (request : Request) (s : Sketch) → IsSoundSketch s → (status other : Status) (text another : List ℕ)
     → IsSolved Places request s status text → IsSolved Places request s other another → text ≡ another
+
+-- texts of which each is a front of the other are the same
+each_a_front : (xs ys more less : List ℕ) → ys ≡ xs ++ more → xs ≡ ys ++ less → xs ≡ ys
+each_a_front xs ys more less longer shorter =
+    let up : length ys ≡ length xs + length more = ap length longer ∙ length-append xs more in
+    let down : length xs ≡ length ys + length less = ap length shorter ∙ length-append ys less in
+    let none : more ≡ [] = nil_from_length more (omega (arith, up, down)) in
+    sym (longer ∙ ap (λ z. xs ++ z) none ∙ append-nil xs)
 
 module _ (one_reply : OneReply) (one_solved : OneSolved) (request : Request) where
   same_text : (s : Sketch) → IsSoundSketch s → (r : Reply) (text another : List ℕ)
@@ -52,15 +61,14 @@ module _ (one_reply : OneReply) (one_solved : OneSolved) (request : Request) whe
   sound_else : (old other : State) → IsSameElse old other → IsSoundSketch (sketch_in old) → IsSoundSketch (sketch_in other)
   sound_else old other same sound = subst (λ (edits : List Edit). IsSoundSketch (sketch_of edits)) (sym same.edits) sound
 
-  pub same_replies : (before after before' after' : List (List ℕ)) (old old' : State) → IsSoundSketch (sketch_in old) → IsSameElse old old' → before ++ after ≡ before' ++ after'
-      → (end end' : State) (text text' : List ℕ) → AreReplied request old before end text → AreReplied request old' before' end' text' → IsOver end after → IsOver end' after' → text ≡ text'
-  same_replies [] after [] after' old old' sound same lines end end' text text' (end_is, none) (end_is', none') over over' = none ∙ sym none'
-  same_replies [] after (line' ∷ before') after' old old' sound same lines end end' text text' (end_is, none) (r', next', first', rest', here', on', further', is') over over' =
-      absurd (not_over old old' sound same line' (before' ++ after') (subst (λ (z : State). IsOver z (line' ∷ (before' ++ after'))) end_is (subst (λ (zs : List (List ℕ)). IsOver end zs) lines over)) r' next' first' here' on')
-  same_replies (line ∷ before) after [] after' old old' sound same lines end end' text text' (r, next, first, rest, here, on, further, is) (end_is', none') over over' =
+  -- what a session has answered where it stops is a front of what it answers up to its end
+  pub front_replies : (before after before' after' : List (List ℕ)) (old old' : State) → IsSoundSketch (sketch_in old) → IsSameElse old old' → before ++ after ≡ before' ++ after'
+      → (end end' : State) (text whole : List ℕ) → AreReplied request old before end text → AreReplied request old' before' end' whole → IsOver end' after' → (behind : List ℕ) × (whole ≡ text ++ behind)
+  front_replies [] after before' after' old old' sound same lines end end' text whole (end_is, none) replied' over' = (whole, subst (λ (z : List ℕ). whole ≡ z ++ whole) (sym none) refl)
+  front_replies (line ∷ before) after [] after' old old' sound same lines end end' text whole (r, next, first, rest, here, on, further, is) (end_is', none') over' =
       absurd (not_over old' old (sound_else old old' same sound) (same_else_back old old' same) line (before ++ after)
       (subst (λ (z : State). IsOver z (line ∷ (before ++ after))) end_is' (subst (λ (zs : List (List ℕ)). IsOver end' zs) (sym lines) over')) r next first here on)
-  same_replies (line ∷ before) after (line' ∷ before') after' old old' sound same lines end end' text text' (r, next, first, rest, here, on, further, is) (r', next', first', rest', here', on', further', is') over over' =
+  front_replies (line ∷ before) after (line' ∷ before') after' old old' sound same lines end end' text whole (r, next, first, rest, here, on, further, is) (r', next', first', rest', here', on', further', is') over' =
       let line_is : line ≡ line' = cc in
       let rest_is : before ++ after ≡ before' ++ after' = cc in
       let answers' : Answers old' line r' next' = subst (λ (z : List ℕ). Answers old' z r' next') (sym line_is) here'.answers in
@@ -69,5 +77,12 @@ module _ (one_reply : OneReply) (one_solved : OneSolved) (request : Request) whe
       subst (λ (z : Reply). IsReplyText request.order request.bits request.within (sketch_in next) z first') (sym one.0)
       (subst (λ (edits : List Edit). IsReplyText request.order request.bits request.within (sketch_of edits) r' first') one.1.edits here'.says) in
       let text_is = same_text (sketch_in next) here.sound r first first' here.says said in
-      let rests = same_replies before after before' after' next next' here.sound one.1 rest_is end end' rest rest' further further' over over' in
-      is ∙ ap (λ z. z ++ rest) text_is ∙ ap (λ z. first' ++ z) rests ∙ sym is'
+      let rests = front_replies before after before' after' next next' here.sound one.1 rest_is end end' rest rest' further further' over' in
+      (rests.0, is' ∙ ap (λ z. first' ++ z) rests.1 ∙ sym (append_assoc first' rest rests.0) ∙ ap (λ z. z ++ rests.0) (sym (is ∙ ap (λ z. z ++ rest) text_is)))
+
+  pub same_replies : (before after before' after' : List (List ℕ)) (old old' : State) → IsSoundSketch (sketch_in old) → IsSameElse old old' → before ++ after ≡ before' ++ after'
+      → (end end' : State) (text text' : List ℕ) → AreReplied request old before end text → AreReplied request old' before' end' text' → IsOver end after → IsOver end' after' → text ≡ text'
+  same_replies before after before' after' old old' sound same lines end end' text text' replied replied' over over' =
+      let one = front_replies before after before' after' old old' sound same lines end end' text text' replied replied' over' in
+      let other = front_replies before' after' before after old' old (sound_else old old' same sound) (same_else_back old old' same) (sym lines) end' end text' text replied' replied over in
+      each_a_front text text' one.0 other.0 one.1 other.1

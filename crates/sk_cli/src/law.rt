@@ -1,5 +1,5 @@
 // Laws on what words ask for and what is answered.
-ghost use Rattle.std.specs.Prelude.{◌≡◌, ◌≢◌, ◌↔◌, ◌⊎◌, ℕ, List, IsTrue};
+ghost use Rattle.std.specs.Prelude.{◌≡◌, ◌≢◌, ◌↔◌, ◌⊎◌, ◌++◌, ℕ, List, IsTrue};
 ghost use Rattle.sk_base.specs.declared.Placed.{Placed};
 ghost use Rattle.sk_base.specs.declared.Sketch.{Sketch};
 ghost use Rattle.sk_graph.specs.SketchGraph.{graph_of};
@@ -19,7 +19,7 @@ ghost use Rattle.sk_cli.specs.Grids.{digits_of};
 ghost use Rattle.sk_cli.specs.Headline.{IsOneSoundPart, WritesCheckReport, EndsWithClusters, UsesEachOnce, HoldsAt, NamesTheFirst};
 ghost use Rattle.sk_cli.specs.Solving.{report_words};
 ghost use Rattle.sk_cli.specs.Causes.{plans, IsReportOf, IsSketchOf, IsRefusedInput, IsItsPlan, HasFault, LieAt, NonePasses, SomePasses, SomeTurned};
-ghost use Rattle.sk_cli.specs.Outcome.{IsOutcome};
+ghost use Rattle.sk_cli.specs.Outcome.{IsOutcome, AreFirstReplies};
 
 use sk_gen::datum_sketch_is_sound;
 use sk_lang::{one_answer, one_front, readable_is_sound};
@@ -39,6 +39,22 @@ pub fn one_outcome()
     ensures { (words : List (List ℕ)) (bytes : List ℕ) (status other : Status) (text another : List ℕ)
         → IsOutcome words bytes status text → IsOutcome words bytes other another
         → (status ≡ other) × (text ≡ another) }
+{
+    one_answer();
+    one_judgement();
+    readable_is_sound();
+    one_front();
+    one_plan();
+    one_run::<Chosen>();
+    one_reply();
+    datum_sketch_is_sound();
+}
+
+/// What a session has answered where it stops, as where a write fails or memory runs out, is a front of
+/// the text of its outcome.
+pub fn first_replies_are_a_front()
+    ensures { (words : List (List ℕ)) (bytes text whole : List ℕ) (status : Status)
+        → AreFirstReplies words bytes text → IsOutcome words bytes status whole → (behind : List ℕ) × (whole ≡ text ++ behind) }
 {
     one_answer();
     one_judgement();

@@ -23,7 +23,9 @@ mod top;
 
 pub use bits::Bits;
 pub use command::Command;
-pub use law::{causes, headline, one_outcome, one_request};
+pub use law::{
+    causes, first_replies_are_a_front, headline, one_outcome, one_request, some_outcome,
+};
 pub use offer_line::OfferLine;
 pub use offer_reading::{one_reading_of_offers, read_offers};
 pub use placing::Placement;

@@ -1,0 +1,13 @@
+use Rattle.sk_cli.proofs.OneOutcome.{front_of_outcome}
+use Rattle.sk_cli.proofs.law.first_replies_are_a_front.Goals as goal
+
+pub returns : goal.returns
+returns c =
+    front_of_outcome c.one_judgement.ensures (record {
+      sound = c.readable_is_sound.ensures.sound;
+      plan = c.one_plan.ensures;
+      run = c.one_run.ensures;
+      made = c.datum_sketch_is_sound.ensures;
+      reply = c.one_reply.ensures;
+      front = record { one_front = c.one_front.ensures.one_front; one_refusal = c.one_front.ensures.one_refusal; not_both = c.one_front.ensures.not_both };
+    })
