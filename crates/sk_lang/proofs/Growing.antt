@@ -1,8 +1,10 @@
 -- A sound sketch with one more sound element or constraint is sound.
-use Rattle.std.proofs.Common.{◌≡◌, ◌≢◌, ℕ, ◌<◌, false, nat_eq, List, [], ◌∷◌, ◌++◌, length, Option, Some, None, refl, sym, ap, ◌∙◌, arith, bytes_eq, IsTrue}
+use Rattle.std.proofs.Common.{◌≡◌, ◌≢◌, ℕ, ◌<◌, Bool, false, nat_eq, List, [], ◌∷◌, ◌++◌, length, Option, Some, None, refl, sym, ap, ◌∙◌, arith, bytes_eq, IsTrue}
 use Rattle.std.specs.Prelude.{All, Contains}
-use Rattle.std.specs.Option.{option_map}
+use Rattle.std.specs.List.{find}
+use Rattle.std.specs.Option.{option_map, option_or}
 use Rattle.std.proofs.lemmas.List.{length_push}
+use Rattle.std.proofs.lemmas.List.Folds.{find-append}
 use Rattle.std.proofs.lemmas.List.Elements.{All-push, All-weaker, All-contains}
 use Rattle.sk_base.specs.declared.Elem.{Elem}
 use Rattle.sk_base.specs.declared.Element.{Element}
@@ -17,7 +19,7 @@ use Rattle.sk_base.specs.SoundSketch.{IsSoundSketch, IsSoundShape, IsSoundRule, 
 use Rattle.sk_base.proofs.Pairs.{pairs_push}
 use Rattle.sk_lang.specs.Named.{element_named, number_named}
 use Rattle.sk_base.proofs.Finding.{found_in, none_found, found_rising}
-use Rattle.sk_lang.proofs.Finding.{found_still, same_bytes, equal_bytes}
+use Rattle.sk_lang.proofs.Finding.{same_bytes, equal_bytes}
 
 abbrev pub with_element : Sketch → Element → Sketch
 with_element s e = record s { elements = s.elements ++ e ∷ [] }
@@ -26,12 +28,15 @@ abbrev pub with_constraint : Sketch → Constraint → Sketch
 with_constraint s c = record s { constraints = s.constraints ++ c ∷ [] }
 
 -- what is drawn stays drawn
-pub drawn_still : (s : Sketch) (e : Element) (u : Elem) (shape : Shape) → shape_of s u ≡ Some shape → shape_of (with_element s e) u ≡ Some shape
-drawn_still s e u shape is = by (element_of s u) refl is
+drawn_still : (s : Sketch) (e : Element) (u : Elem) (shape : Shape) → shape_of s u ≡ Some shape → shape_of (with_element s e) u ≡ Some shape
+drawn_still s e u shape is = ap (option_map (λ (x : Element). x.shape)) (find-append with_number s.elements (e ∷ [])) ∙ by (element_of s u) is
   where
-    by : (o : Option Element) → element_of s u ≡ o → option_map (λ (x : Element). x.shape) o ≡ Some shape → shape_of (with_element s e) u ≡ Some shape
-    by None none same = cc
-    by (Some x) some same = ap (option_map (λ (y : Element). y.shape)) (found_still (λ (y : Element). nat_eq y.number.0 u.0) s.elements (e ∷ []) x some) ∙ same
+    with_number : Element → Bool
+    with_number x = nat_eq x.number.0 u.0
+
+    by : (o : Option Element) → option_map (λ (x : Element). x.shape) o ≡ Some shape → option_map (λ (x : Element). x.shape) (option_or o (find with_number (e ∷ []))) ≡ Some shape
+    by None same = cc
+    by (Some x) same = same
 
 both_still : (fits : Shape → Shape → Type 0) (a b c d : Option Shape) → ((x : Shape) → a ≡ Some x → c ≡ Some x) → ((x : Shape) → b ≡ Some x → d ≡ Some x) → BothFit fits a b → BothFit fits c d
 both_still fits None b c d left right fit = absurd fit

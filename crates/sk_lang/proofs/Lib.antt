@@ -21,8 +21,10 @@ pub mod Readable
 pub mod RulesAgain
 pub mod Said
 pub mod SameEntries
+pub mod SomeFronts
 pub mod Sound
 pub mod Standing
 pub mod WholeLines
 pub mod Written
 pub mod WrittenBack
+pub mod SomeEntries

@@ -1,5 +1,5 @@
 -- What a line without a code says, by its words.
-use Rattle.std.proofs.Common.{◌≡◌, ℕ, Bool, true, false, cond, List, [], ◌∷◌, Option, Some, None, is_some, refl, ap}
+use Rattle.std.proofs.Common.{◌≡◌, ℕ, Bool, true, false, cond, List, [], ◌∷◌, Option, Some, None, is_some, refl, sym, subst, ap}
 use Rattle.sk_base.specs.declared.Elem.{Elem}
 use Rattle.sk_base.specs.declared.ConId.{ConId}
 use Rattle.sk_base.specs.declared.Shape.{Shape}
@@ -7,77 +7,85 @@ use Rattle.sk_base.specs.declared.Rule.{Rule}
 use Rattle.sk_base.specs.declared.Element.{Element}
 use Rattle.sk_base.specs.declared.Constraint.{Constraint}
 use Rattle.sk_base.specs.declared.Sketch.{Sketch}
-use Rattle.sk_lex.specs.declared.Words.{Words}
+use Rattle.sk_lex.specs.Words.{words_in}
 use Rattle.sk_lang.specs.declared.keyword.Keyword.{Keyword}
 use Rattle.sk_lang.specs.declared.entry.Entry.{Entry}
 use Rattle.sk_lang.specs.declared.entry.Entry.TheVariants as entry
 use Rattle.sk_lang.specs.Keywords.{keyword_of, declares}
 use Rattle.sk_lang.specs.Meaning.{shape_drawn, rule_asked, element_with, constraint_with, entry_made}
-use Rattle.sk_lang.specs.Entry.{IsOther, IsKeywordEntry, IsEntryOfWords}
+use Rattle.sk_lang.specs.Entry.{IsOther, IsKeywordEntry, IsEntryOfWords, IsEntryOf, StandsOn, IsNumbered}
 
--- an element with its number, or a constraint with its own
-abbrev IsNumbered : Elem → ConId → Entry → Type 0
-IsNumbered elem con (entry.Element e) = e.number ≡ elem
-IsNumbered elem con (entry.Constraint c) = c.number ≡ con
-IsNumbered elem con _ = ⊥
+-- an element with its number, or a constraint with its own, and nothing else
+abbrev IsMade : Elem → ConId → Entry → Type 0
+IsMade elem con (entry.Element e) = e.number ≡ elem
+IsMade elem con (entry.Constraint c) = c.number ≡ con
+IsMade elem con _ = ⊥
 
-element_numbered : (elem : Elem) (con : ConId) (name : List ℕ) (shape : Option Shape) (said : Entry) → element_with elem name shape ≡ Some said → IsNumbered elem con said
+element_numbered : (elem : Elem) (con : ConId) (name : List ℕ) (shape : Option Shape) (said : Entry) → element_with elem name shape ≡ Some said → IsMade elem con said
 element_numbered elem con name None said is = absurd (cc)
 element_numbered elem con name (Some shape) (entry.Element e) is = (let same : e ≡ record { number = elem; label = name; shape = shape } = cc in ap (λ (x : Element). x.number) same)
 element_numbered elem con name (Some shape) (entry.Constraint c) is = absurd (cc)
 element_numbered elem con name (Some shape) entry.Blank is = absurd (cc)
 element_numbered elem con name (Some shape) (entry.Other words) is = absurd (cc)
 
-constraint_numbered : (elem : Elem) (con : ConId) (rule : Option Rule) (said : Entry) → constraint_with con rule ≡ Some said → IsNumbered elem con said
+constraint_numbered : (elem : Elem) (con : ConId) (rule : Option Rule) (said : Entry) → constraint_with con rule ≡ Some said → IsMade elem con said
 constraint_numbered elem con None said is = absurd (cc)
 constraint_numbered elem con (Some rule) (entry.Constraint c) is = (let same : c ≡ record { number = con; rule = rule } = cc in ap (λ (x : Constraint). x.number) same)
 constraint_numbered elem con (Some rule) (entry.Element e) is = absurd (cc)
 constraint_numbered elem con (Some rule) entry.Blank is = absurd (cc)
 constraint_numbered elem con (Some rule) (entry.Other words) is = absurd (cc)
 
-made_numbered : (s : Sketch) (k : Keyword) (rest : List (List ℕ)) (elem : Elem) (con : ConId) (said : Entry) → entry_made s k rest elem con ≡ Some said → IsNumbered elem con said
+made_numbered : (s : Sketch) (k : Keyword) (rest : List (List ℕ)) (elem : Elem) (con : ConId) (said : Entry) → entry_made s k rest elem con ≡ Some said → IsMade elem con said
 made_numbered s k [] elem con said is = absurd (cc)
 made_numbered s k (first ∷ rest) elem con said is = told (declares k) is
   where
-    told : (t : Bool) → cond t (element_with elem first (shape_drawn k rest)) (constraint_with con (rule_asked s k (first ∷ rest))) ≡ Some said → IsNumbered elem con said
+    told : (t : Bool) → cond t (element_with elem first (shape_drawn k rest)) (constraint_with con (rule_asked s k (first ∷ rest))) ≡ Some said → IsMade elem con said
     told true is = element_numbered elem con first (shape_drawn k rest) said is
     told false is = constraint_numbered elem con (rule_asked s k (first ∷ rest)) said is
 
--- the line begins with one of the nine words, or with another one
-pub record Begins (ws : List (List ℕ)) (with_keyword : Bool) : Type 0 where
-  pub first : List ℕ
-  pub rest : List (List ℕ)
-  pub words : ws ≡ first ∷ rest
-  pub keyword : is_some (keyword_of first) ≡ with_keyword
+-- what is made of a keyword's line stands on it
+stands_made : (line first : List ℕ) (rest : List (List ℕ)) (elem : Elem) (con : ConId) (x : Entry) → words_in line ≡ first ∷ rest → is_some (keyword_of first) ≡ true → IsMade elem con x → StandsOn line x
+stands_made line first rest elem con (entry.Element e) words keyword made = record { first = first; rest = rest; words = words; keyword = keyword }
+stands_made line first rest elem con (entry.Constraint c) words keyword made = record { first = first; rest = rest; words = words; keyword = keyword }
+stands_made line first rest elem con entry.Blank words keyword made = absurd made
+stands_made line first rest elem con (entry.Other ws) words keyword made = absurd made
 
-pub said_blank : (s : Sketch) (line : List ℕ) (ws : List (List ℕ)) (elem : Elem) (con : ConId) → IsEntryOfWords s line ws elem con entry.Blank → ws ≡ []
-said_blank s line [] elem con is = refl
-said_blank s line (first ∷ rest) elem con is = absurd (told (keyword_of first) is)
-  where
-    told : (o : Option Keyword) → IsKeywordEntry s line o rest elem con entry.Blank → ⊥
-    told None is = is
-    told (Some k) is = made_numbered s k rest elem con entry.Blank is
+stands_other : (line first : List ℕ) (rest : List (List ℕ)) (x : Entry) → words_in line ≡ first ∷ rest → is_some (keyword_of first) ≡ false → IsOther line x → StandsOn line x
+stands_other line first rest (entry.Other ws) words keyword other = (record { first = first; rest = rest; words = words; keyword = keyword }, other)
+stands_other line first rest (entry.Element e) words keyword other = absurd other
+stands_other line first rest (entry.Constraint c) words keyword other = absurd other
+stands_other line first rest entry.Blank words keyword other = absurd other
 
-pub said_element : (s : Sketch) (line : List ℕ) (ws : List (List ℕ)) (elem : Elem) (con : ConId) (e : Element) → IsEntryOfWords s line ws elem con (entry.Element e) → Begins ws true × (e.number ≡ elem)
-said_element s line [] elem con e is = absurd (cc)
-said_element s line (first ∷ rest) elem con e is = told (keyword_of first) refl is
+pub stands_on : (s : Sketch) (line : List ℕ) (elem : Elem) (con : ConId) (x : Entry) → IsEntryOf s line elem con x → StandsOn line x
+stands_on s line elem con x is = by (words_in line) refl is
   where
-    told : (o : Option Keyword) → keyword_of first ≡ o → IsKeywordEntry s line o rest elem con (entry.Element e) → Begins (first ∷ rest) true × (e.number ≡ elem)
-    told None here is = absurd is
-    told (Some k) here is = (record { first = first; rest = rest; words = refl; keyword = ap is_some here }, made_numbered s k rest elem con (entry.Element e) is)
+    by : (ws : List (List ℕ)) → words_in line ≡ ws → IsEntryOfWords s line ws elem con x → StandsOn line x
+    by [] words blank = subst (StandsOn line) (sym blank) words
+    by (first ∷ rest) words says = told (keyword_of first) refl says
+      where
+        told : (o : Option Keyword) → keyword_of first ≡ o → IsKeywordEntry s line o rest elem con x → StandsOn line x
+        told None here other = stands_other line first rest x words (ap is_some here) other
+        told (Some k) here made = stands_made line first rest elem con x words (ap is_some here) (made_numbered s k rest elem con x made)
 
-pub said_constraint : (s : Sketch) (line : List ℕ) (ws : List (List ℕ)) (elem : Elem) (con : ConId) (c : Constraint) → IsEntryOfWords s line ws elem con (entry.Constraint c) → Begins ws true × (c.number ≡ con)
-said_constraint s line [] elem con c is = absurd (cc)
-said_constraint s line (first ∷ rest) elem con c is = told (keyword_of first) refl is
-  where
-    told : (o : Option Keyword) → keyword_of first ≡ o → IsKeywordEntry s line o rest elem con (entry.Constraint c) → Begins (first ∷ rest) true × (c.number ≡ con)
-    told None here is = absurd is
-    told (Some k) here is = (record { first = first; rest = rest; words = refl; keyword = ap is_some here }, made_numbered s k rest elem con (entry.Constraint c) is)
+number_made : (elem : Elem) (con : ConId) (x : Entry) → IsMade elem con x → IsNumbered elem con x
+number_made elem con (entry.Element e) made = made
+number_made elem con (entry.Constraint c) made = made
+number_made elem con entry.Blank made = tt
+number_made elem con (entry.Other ws) made = tt
 
-pub said_other : (s : Sketch) (line : List ℕ) (ws : List (List ℕ)) (elem : Elem) (con : ConId) (words : Words) → IsEntryOfWords s line ws elem con (entry.Other words) → Begins ws false × IsOther line (entry.Other words)
-said_other s line [] elem con words is = absurd (cc)
-said_other s line (first ∷ rest) elem con words is = told (keyword_of first) refl is
+number_other : (line : List ℕ) (elem : Elem) (con : ConId) (x : Entry) → IsOther line x → IsNumbered elem con x
+number_other line elem con (entry.Other ws) other = tt
+number_other line elem con entry.Blank other = tt
+number_other line elem con (entry.Element e) other = absurd other
+number_other line elem con (entry.Constraint c) other = absurd other
+
+pub is_numbered : (s : Sketch) (line : List ℕ) (elem : Elem) (con : ConId) (x : Entry) → IsEntryOf s line elem con x → IsNumbered elem con x
+is_numbered s line elem con x is = by (words_in line) is
   where
-    told : (o : Option Keyword) → keyword_of first ≡ o → IsKeywordEntry s line o rest elem con (entry.Other words) → Begins (first ∷ rest) false × IsOther line (entry.Other words)
-    told None here is = (record { first = first; rest = rest; words = refl; keyword = ap is_some here }, is)
-    told (Some k) here is = absurd (made_numbered s k rest elem con (entry.Other words) is)
+    told : (o : Option Keyword) (rest : List (List ℕ)) → IsKeywordEntry s line o rest elem con x → IsNumbered elem con x
+    told None rest other = number_other line elem con x other
+    told (Some k) rest made = number_made elem con x (made_numbered s k rest elem con x made)
+
+    by : (ws : List (List ℕ)) → IsEntryOfWords s line ws elem con x → IsNumbered elem con x
+    by [] blank = subst (IsNumbered elem con) (sym blank) tt
+    by (first ∷ rest) says = told (keyword_of first) rest says

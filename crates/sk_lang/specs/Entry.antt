@@ -1,5 +1,5 @@
 -- What one line says within a sketch.
-use Rattle.std.specs.Prelude.{◌≡◌, ⊤, ℕ, List, [], ◌∷◌, ◌++◌, length, map, Option, Some, None, Bool}
+use Rattle.std.specs.Prelude.{◌≡◌, ⊤, ℕ, List, [], ◌∷◌, ◌++◌, length, map, Option, Some, None, Bool, true, false, is_some}
 use Rattle.sk_base.specs.declared.Elem.{Elem}
 use Rattle.sk_base.specs.declared.ConId.{ConId}
 use Rattle.sk_base.specs.declared.Sketch.{Sketch}
@@ -7,7 +7,7 @@ use Rattle.sk_lex.specs.Words.{words_in, bytes_of, StandInOrder}
 use Rattle.sk_lang.specs.declared.keyword.Keyword.{Keyword}
 use Rattle.sk_lang.specs.declared.code.Code.{Code}
 use Rattle.sk_lang.specs.declared.entry.Entry.{Entry}
-use Rattle.sk_lang.specs.declared.entry.Entry.TheVariants.{Blank, Other}
+use Rattle.sk_lang.specs.declared.entry.Entry.TheVariants.{Blank, Element, Constraint, Other}
 use Rattle.sk_lang.specs.declared.entry.EntryError.{EntryError}
 use Rattle.sk_lang.specs.declared.entry.EntryError.TheVariants.{Refused, NoMemory}
 use Rattle.sk_lang.specs.declared.code.ReadError.{ReadError}
@@ -45,6 +45,27 @@ IsEntryOfWords s line (first ∷ rest) elem con entry = IsKeywordEntry s line (k
 -- what a line without such a code says
 abbrev pub IsEntryOf : Sketch → List ℕ → Elem → ConId → Entry → Type 0
 IsEntryOf s line elem con entry = IsEntryOfWords s line (words_in line) elem con entry
+
+-- the line begins with one of the nine first words, or with another word
+pub record Begins (ws : List (List ℕ)) (with_keyword : Bool) : Type 0 where
+  pub first : List ℕ
+  pub rest : List (List ℕ)
+  pub words : ws ≡ first ∷ rest
+  pub keyword : is_some (keyword_of first) ≡ with_keyword
+
+-- An element or a constraint stands on a line that begins with one of the nine first words, another line begins
+-- with another word and is told by all its words, and a blank line has no words.
+abbrev pub StandsOn : List ℕ → Entry → Type 0
+StandsOn line Blank = words_in line ≡ []
+StandsOn line (Element e) = Begins (words_in line) true
+StandsOn line (Constraint c) = Begins (words_in line) true
+StandsOn line (Other words) = Begins (words_in line) false × IsOther line (Other words)
+
+-- an element or a constraint has the number that was to be given
+abbrev pub IsNumbered : Elem → ConId → Entry → Type 0
+IsNumbered elem con (Element e) = e.number ≡ elem
+IsNumbered elem con (Constraint c) = c.number ≡ con
+IsNumbered elem con _ = ⊤
 
 -- the error says the code, or that memory ran out
 abbrev pub IsRefusal : Option Code → EntryError → Type 0

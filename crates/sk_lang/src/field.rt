@@ -1,4 +1,5 @@
-ghost use Rattle.std.specs.Prelude.{◌≡◌, ◌==◌, nat_le, length, Some, None, is_some, is_none, true, false, Ok, Err, MatchResult, bytes_eq};
+ghost use Rattle.std.specs.Prelude.{◌≡◌, ◌==◌, nat_le, length, Some, None, is_some, is_none, true, false, Ok, Err, IfOk, MatchResult, bytes_eq};
+ghost use Rattle.sk_base.specs.Bounds.{IsFromTo};
 ghost use Rattle.sk_base.specs.Labels.{is_name};
 ghost use Rattle.sk_base.specs.Millimetres.{mm_of};
 ghost use Rattle.sk_lang.specs.Kinds.{takes, is_circle};
@@ -57,9 +58,10 @@ pub(crate) fn coordinate(word: &[u8]) -> Result<Um, Code>
 
 /// A length or a radius, which isn't negative.
 pub fn length(word: &[u8]) -> Result<Um, Code>
-    ensures { MatchResult result
+    ensures read { MatchResult result
         (λ um. (mm_of word.now ≡ Some um.0) × (length_of word.now ≡ not_negative um.0) × (is_none (length_of word.now) ≡ false))
         (λ code. (length_of word.now ≡ None) × (code ≡ E8)) }
+    ensures limits { IfOk result (λ um. IsFromTo 0 1000000000 um.0) }
 {
     match parse_mm(word) {
         Ok(um) if um.0 >= 0 => Ok(um),

@@ -26,7 +26,10 @@ pub use code::{Code, ReadError, Refusal};
 pub use entry::{Entry, EntryError};
 pub use field::{label, length, not_zero};
 pub use front::{Front, read_sketch_front};
-pub use law::{one_answer, one_entry, one_front, readable_is_sound, written_reads_back};
+pub use law::{
+    entries_keep_soundness, one_answer, one_entry, one_front, quantities_are_sound,
+    readable_is_sound, what_a_line_says, written_reads_back,
+};
 pub use line::read_entry;
 pub use lines::{is_word, split_line, split_words, word};
 pub use ratio::slope;

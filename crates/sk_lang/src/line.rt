@@ -8,7 +8,7 @@ ghost use Rattle.sk_lang.specs.FirstCode.{first_code};
 ghost use Rattle.sk_lang.specs.Meaning.{entry_made, added};
 ghost use Rattle.sk_lang.specs.FirstCode.{map_ok};
 ghost use Rattle.sk_lang.specs.declared.entry.Entry.TheVariants as entry;
-ghost use Rattle.sk_lang.specs.Entry.{entry_code, IsEntryOf, IsRefusal};
+ghost use Rattle.sk_lang.specs.Entry.{entry_code, IsEntryOf, IsRefusal, StandsOn, IsNumbered};
 
 use crate::code::Code;
 use crate::constraint::{read_angle, read_distance, read_inside, read_pair};
@@ -35,6 +35,8 @@ pub fn read_entry(
     requires con_above { All (λ x. x.number.0 < con.0) s.now.constraints }
     ensures clean { IfOk result (λ _. entry_code s.now line.now ≡ None) }
     ensures entry { IfOk result (IsEntryOf s.now line.now elem con) }
+    ensures stands_on { IfOk result (StandsOn line.now) }
+    ensures numbered { IfOk result (IsNumbered elem con) }
     ensures sound { IfOk result (λ entry. IsSoundSketch (added s.now (Some entry))) }
     ensures refused { IfErr result (IsRefusal (entry_code s.now line.now)) }
 {

@@ -1,6 +1,7 @@
-ghost use Rattle.std.specs.Prelude.{◌≡◌, ◌≤◌, ◌<◌, length, Some, None, is_none, true, false, MatchResult, IfSome, pos, position};
+ghost use Rattle.std.specs.Prelude.{◌≡◌, ◌≤◌, ◌<◌, length, Some, None, is_none, true, false, IfOk, MatchResult, IfSome, pos, position};
 ghost use Rattle.std.specs.Option.{option_map};
 ghost use Rattle.std.specs.Ordering.{int_eq};
+ghost use Rattle.sk_base.specs.Bounds.{IsWithin, IsFromTo};
 ghost use Rattle.sk_lang.specs.Quantities.{is_slash, part_of_ratio, unsigned_ratio, ratio_of, ratio};
 ghost use Rattle.sk_lang.specs.Conditions.{is_zero};
 ghost use Rattle.sk_lang.specs.declared.code.Code.TheVariants.{E8};
@@ -13,10 +14,11 @@ const MOST_PART: u64 = 10_000;
 
 /// The ratio of an angle, which is its slope.
 pub fn slope(word: &[u8]) -> Result<Ratio, Code>
-    ensures { MatchResult result
+    ensures read { MatchResult result
         (λ slope. (slope ≡ ratio word.now) × (is_none (ratio_of word.now) ≡ false)
         × (is_zero (option_map (λ parts. parts.0) (ratio_of word.now)) ≡ int_eq slope.p (pos 0)))
         (λ code. (ratio_of word.now ≡ None) × (code ≡ E8)) }
+    ensures limits { IfOk result (λ slope. IsWithin 10000 slope.p × IsFromTo 0 10000 slope.q) }
 {
     let (negative, bytes) = split_sign(word);
     let Some((p, q)) = unsigned_ratio(bytes) else {
