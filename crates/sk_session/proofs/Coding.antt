@@ -8,9 +8,8 @@ use Rattle.sk_lex.specs.Words.{words_in}
 use Rattle.sk_lang.specs.declared.Entry.{Entry}
 use Rattle.sk_lang.specs.declared.Entry.TheVariants as entry
 use Rattle.sk_lang.specs.Codes.{byte_rows}
-use Rattle.sk_lang.specs.Entry.{rows_of, entry_code, IsEntryOf}
+use Rattle.sk_lang.specs.Entry.{rows_of, entry_code, IsEntryOf, Begins}
 use Rattle.sk_lang.specs.FirstCode.{first_code}
-use Rattle.sk_lang.proofs.Said.{Begins}
 use Rattle.sk_session.specs.declared.edit.Edit.{Edit}
 use Rattle.sk_session.specs.declared.reply.Reply.{Reply}
 use Rattle.sk_session.specs.declared.reply.Reply.TheVariants as reply

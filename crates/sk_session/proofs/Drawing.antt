@@ -1,8 +1,9 @@
 -- What edits leave of the drawing: the shapes that rules name, and so the rules and the edges.
 use Rattle.std.proofs.Common.{◌≡◌, ◌≢◌, ◌<◌, ◌==◌, Bool, true, false, cond, List, [], ◌∷◌, get_or, refl, ap, sym, subst, ◌∙◌, arith}
-use Rattle.std.specs.Prelude.{IsTrue, Option, Some, find, map, not}
+use Rattle.std.specs.Prelude.{IsTrue, Option, None, Some, find, map, not}
 use Rattle.sk_base.specs.Labels.{is_name}
-use Rattle.std.specs.Option.{option_map}
+use Rattle.std.specs.Option.{option_map, option_or}
+use Rattle.std.proofs.lemmas.List.Folds.{find-append}
 use Rattle.std.proofs.lemmas.Bool.Decides.{nat_tests}
 use Rattle.std.proofs.lemmas.List.{length-map}
 use Rattle.std.proofs.lemmas.List.Filters.{length-filter_both}
@@ -23,7 +24,6 @@ use Rattle.sk_base.specs.SoundSketch.{IsSoundSketch, IsSoundRule, IsSoundShape, 
 use Rattle.sk_base.proofs.Pairs.{pairs_map, pairs_filter}
 use Rattle.sk_graph.specs.SketchGraph.{first_of, second_of, edge_of, edge_between, drawn_as}
 use Rattle.sk_graph.proofs.Fittings.{rule_drawn}
-use Rattle.sk_lang.proofs.Growing.{drawn_still}
 use Rattle.sk_session.specs.declared.edit.Edit.TheVariants as edit
 use Rattle.sk_session.specs.Edits.{applied, changed, with_length, with_ratio, element_number}
 use Rattle.sk_session.specs.Changes.{without}
@@ -53,13 +53,24 @@ edge_alike s t c alike =
     ap (λ (a : Shape). edge_between c.number c.rule a (drawn_as t (second_of c.rule))) first
     ∙ ap (λ (b : Shape). edge_between c.number c.rule (drawn_as s (first_of c.rule)) b) second
 
+-- a shape that is drawn is drawn with one more element
+shape_on : (s : Sketch) (e : Element) (u : Elem) (shape : Shape) → shape_of s u ≡ Some shape → shape_of (applied (edit.Element e) s) u ≡ shape_of s u
+shape_on s e u shape is = ap (option_map (λ (x : Element). x.shape)) (find-append with_number s.elements (e ∷ [])) ∙ told (find with_number s.elements) is
+  where
+    with_number : Element → Bool
+    with_number x = x.number.0 == u.0
+
+    told : (o : Option Element) → option_map (λ (x : Element). x.shape) o ≡ Some shape → option_map (λ (x : Element). x.shape) (option_or o (find with_number (e ∷ []))) ≡ option_map (λ (x : Element). x.shape) o
+    told None none = cc
+    told (Some x) some = refl
+
 -- with one more element each rule is drawn as before
 pub drawn_on : (s : Sketch) (e : Element) (r : Rule) → IsSoundRule s r → DrawnAlike s (applied (edit.Element e) s) r
 drawn_on s e r sound =
     let drawn = rule_drawn s r sound in
     record {
-      first = drawn_still s e (first_of r) drawn.first drawn.first_is ∙ sym drawn.first_is;
-      second = drawn_still s e (second_of r) drawn.second drawn.second_is ∙ sym drawn.second_is;
+      first = shape_on s e (first_of r) drawn.first drawn.first_is;
+      second = shape_on s e (second_of r) drawn.second drawn.second_is;
     }
 
 -- without another element

@@ -12,3 +12,6 @@ pub mod Possible
 pub mod Exactly
 pub mod OneReply
 pub mod ToSolve
+pub mod Asked
+pub mod SomeFollowing
+pub mod SomeReplies

@@ -14,7 +14,7 @@ use Rattle.sk_base.specs.declared.Rule.TheVariants as rule
 use Rattle.sk_base.specs.declared.Sketch.{Sketch}
 use Rattle.sk_base.specs.Labels.{is_name}
 use Rattle.sk_base.specs.Numbering.{con_exact, elem_number}
-use Rattle.sk_base.specs.SoundSketch.{IsSoundSketch, IsSoundRule}
+use Rattle.sk_base.specs.SoundSketch.{IsSoundSketch, IsSoundRule, IsLength, IsSoundRatio}
 use Rattle.sk_base.proofs.Finding.{found_in}
 use Rattle.sk_base.proofs.Members.{contains_none, contains_cases}
 use Rattle.sk_lang.specs.declared.Code.{Code}
@@ -23,7 +23,6 @@ use Rattle.sk_lang.specs.Conditions.{is_zero}
 use Rattle.sk_lang.specs.FirstCode.{first_code}
 use Rattle.sk_lang.specs.Named.{element_named, number_named}
 use Rattle.sk_lang.specs.Quantities.{length_of, ratio_of, um, ratio}
-use Rattle.sk_lang.proofs.Amounts.{length_from_to, ratio_sound}
 use Rattle.sk_base.proofs.Tables.{passed}
 use Rattle.sk_graph.specs.SketchGraph.{first_of, second_of}
 use Rattle.sk_session.specs.declared.command.Change.{Change}
@@ -32,7 +31,7 @@ use Rattle.sk_session.specs.declared.edit.Edit.{Edit}
 use Rattle.sk_session.specs.declared.edit.Edit.TheVariants as edit
 use Rattle.sk_session.specs.Commands.{number_of, id_of, constraint_with, rule_with, is_used, value_rows, setting, change_rows, edit_made, from_made}
 use Rattle.sk_session.specs.Edits.{applied, sketch_of, next_element, next_constraint}
-use Rattle.sk_session.specs.Making.{CanMake, HasConstraint, HasElement}
+use Rattle.sk_session.specs.Making.{CanMake, HasConstraint, HasElement, HasSoundValue}
 use Rattle.sk_session.proofs.Drawing.{rule_alike, drop_sound, length_set_sound, ratio_set_sound, erase_sound}
 use Rattle.sk_session.proofs.Numbers.{elements_below, constraints_below}
 
@@ -94,33 +93,29 @@ has_named s name e is =
     let number : number_named s name ≡ e.number = ap (λ (o : Option Element). unwrap_or (option_map (λ (x : Element). x.number) o) (record { 0 = 0 })) is in
     (e, found.0, sym number)
 
--- what a new value without a code sets can be set
-can_set : (s : Sketch) → IsSoundSketch s → (k : ConId) → HasConstraint s k → (r : Option Rule) (value : List ℕ) → first_code (value_rows r value) ≡ None → (e : Edit) × (setting r k value ≡ Some e) × CanMake e s
+-- what a new value without a code sets can be set, where the value is sound
+can_set : (s : Sketch) → IsSoundSketch s → (k : ConId) → HasConstraint s k → (r : Option Rule) (value : List ℕ) → first_code (value_rows r value) ≡ None
+    → (e : Edit) × (setting r k value ≡ Some e) × (HasSoundValue e → CanMake e s)
 can_set s sound k has (Some (rule.Distance u v old)) value clean =
-    let one = passed (is_none (length_of value)) E8 (cond (is_zero (length_of value)) (Some E9) None) clean in
-    let two = passed (is_zero (length_of value)) E9 None one.1 in
-    let fine = length_from_to value one.0 two.0 in
-    (edit.Length k (um value), refl, record { possible = (fine, has); sound = sound; stays_sound = length_set_sound s k (um value) fine sound })
+    (edit.Length k (um value), refl, λ fine. record { possible = (fine, has); sound = sound; stays_sound = length_set_sound s k (um value) fine sound })
 can_set s sound k has (Some (rule.Angle l m old)) value clean =
-    let one = passed (is_none (ratio_of value)) E8 (cond (is_zero (option_map (λ parts. parts.0) (ratio_of value))) (Some E9) None) clean in
-    let two = passed (is_zero (option_map (λ parts. parts.0) (ratio_of value))) E9 None one.1 in
-    let fine = ratio_sound value one.0 two.0 in
-    (edit.Turned k (ratio value), refl, record { possible = (fine, has); sound = sound; stays_sound = ratio_set_sound s k (ratio value) fine sound })
+    (edit.Turned k (ratio value), refl, λ fine. record { possible = (fine, has); sound = sound; stays_sound = ratio_set_sound s k (ratio value) fine sound })
 can_set s sound k has (Some (rule.On u v)) value clean = absurd (cc)
 can_set s sound k has (Some (rule.Tangent u v)) value clean = absurd (cc)
 can_set s sound k has (Some (rule.Outside u v)) value clean = absurd (cc)
 can_set s sound k has (Some (rule.Inside u v)) value clean = absurd (cc)
 can_set s sound k has None value clean = absurd (cc)
 
--- a change without a code says an edit that can be made
-pub can_change : (s : Sketch) → IsSoundSketch s → (change : Change) (rest : List (List ℕ)) → first_code (change_rows s change rest) ≡ None → (e : Edit) × (edit_made s change rest ≡ Some e) × CanMake e s
+-- a change without a code says an edit that can be made, where its value is sound
+pub can_change : (s : Sketch) → IsSoundSketch s → (change : Change) (rest : List (List ℕ)) → first_code (change_rows s change rest) ≡ None
+    → (e : Edit) × (edit_made s change rest ≡ Some e) × (HasSoundValue e → CanMake e s)
 can_change s sound Drop [] clean = absurd (cc)
 can_change s sound Drop (number ∷ []) clean =
     let k = id_of number in
     let one = passed (is_none (number_of number)) E8 (cond (is_none (constraint_with s k)) (Some S1) None) clean in
     let two = passed (is_none (constraint_with s k)) S1 None one.1 in
     let found = some_of (constraint_with s k) two.0 in
-    (edit.Dropped k, refl, record { possible = has_numbered s k found.0 found.1; sound = sound; stays_sound = drop_sound s k sound })
+    (edit.Dropped k, refl, λ fine. record { possible = has_numbered s k found.0 found.1; sound = sound; stays_sound = drop_sound s k sound })
 can_change s sound Drop (number ∷ more ∷ rest) clean = absurd (cc)
 can_change s sound Set [] clean = absurd (cc)
 can_change s sound Set (number ∷ []) clean = absurd (cc)
@@ -139,8 +134,43 @@ can_change s sound Erase (name ∷ []) clean =
     let three = passed (is_used s x) S2 None two.1 in
     let found = some_of (element_named s name) two.0 in
     let free = unused x s.constraints three.0 in
-    (edit.Erased x, refl, record { possible = (has_named s name found.0 found.1, free); sound = sound; stays_sound = erase_sound s x free sound })
+    (edit.Erased x, refl, λ fine. record { possible = (has_named s name found.0 found.1, free); sound = sound; stays_sound = erase_sound s x free sound })
 can_change s sound Erase (name ∷ more ∷ rest) clean = absurd (cc)
+
+-- what a length and a ratio without a code stand for
+pub record SoundQuantities : Type 0 where
+  pub length : (word : List ℕ) → is_none (length_of word) ≡ false → is_zero (length_of word) ≡ false → IsLength (um word)
+  pub ratio : (word : List ℕ) → is_none (ratio_of word) ≡ false → is_zero (option_map (λ parts. parts.0) (ratio_of word)) ≡ false → IsSoundRatio (ratio word)
+
+module _ (quantities : SoundQuantities) where
+  value_as : (e d : Edit) → Some d ≡ Some e → HasSoundValue d → HasSoundValue e
+  value_as e d is fine = let same : d ≡ e = cc in subst HasSoundValue same fine
+
+  value_set : (r : Option Rule) (k : ConId) (value : List ℕ) (e : Edit) → first_code (value_rows r value) ≡ None → setting r k value ≡ Some e → HasSoundValue e
+  value_set (Some (rule.Distance u v old)) k value e clean is =
+      let one = passed (is_none (length_of value)) E8 (cond (is_zero (length_of value)) (Some E9) None) clean in
+      let two = passed (is_zero (length_of value)) E9 None one.1 in
+      value_as e (edit.Length k (um value)) is (quantities.length value one.0 two.0)
+  value_set (Some (rule.Angle l m old)) k value e clean is =
+      let one = passed (is_none (ratio_of value)) E8 (cond (is_zero (option_map (λ parts. parts.0) (ratio_of value))) (Some E9) None) clean in
+      let two = passed (is_zero (option_map (λ parts. parts.0) (ratio_of value))) E9 None one.1 in
+      value_as e (edit.Turned k (ratio value)) is (quantities.ratio value one.0 two.0)
+  value_set (Some (rule.On u v)) k value e clean is = absurd (cc)
+  value_set (Some (rule.Tangent u v)) k value e clean is = absurd (cc)
+  value_set (Some (rule.Outside u v)) k value e clean is = absurd (cc)
+  value_set (Some (rule.Inside u v)) k value e clean is = absurd (cc)
+  value_set None k value e clean is = absurd (cc)
+
+  -- a change without a code has a sound value
+  pub sound_value : (s : Sketch) (change : Change) (rest : List (List ℕ)) (e : Edit) → first_code (change_rows s change rest) ≡ None → edit_made s change rest ≡ Some e → HasSoundValue e
+  sound_value s Drop (number ∷ []) e clean is = value_as e (edit.Dropped (id_of number)) is tt
+  sound_value s Set (number ∷ value ∷ []) e clean is =
+      let k = id_of number in
+      let one = passed (is_none (number_of number)) E8 (cond (is_none (constraint_with s k)) (Some S1) (first_code (value_rows (rule_with s k) value))) clean in
+      let two = passed (is_none (constraint_with s k)) S1 (first_code (value_rows (rule_with s k) value)) one.1 in
+      value_set (rule_with s k) k value e two.1 is
+  sound_value s Erase (name ∷ []) e clean is = value_as e (edit.Erased (number_named s name)) is tt
+  sound_value s change rest e clean is = absurd (cc)
 
 -- what was made came without a code
 pub from_ok : (code : Option Code) (made : Option Edit) (e : Edit) → Ok e ≡ from_made code made → (code ≡ None) × (made ≡ Some e)

@@ -1,14 +1,16 @@
 -- `solve` is answered only where there is something to solve.
 use Rattle.std.proofs.Common.{◌≡◌, ◌<◌, ℕ, Bool, true, false, cond, List, [], ◌∷◌, ◌++◌, Option, Some, None, length, refl, sym, subst, ◌∙◌, arith, inl, inr}
+use Rattle.sk_base.specs.declared.ConId.{ConId}
+use Rattle.sk_base.specs.declared.Elem.{Elem}
 use Rattle.sk_base.specs.declared.Element.{Element}
+use Rattle.sk_base.specs.declared.Sketch.{Sketch}
 use Rattle.sk_lang.specs.declared.Code.{Code}
 use Rattle.sk_lang.specs.declared.Code.TheVariants.{E18}
 use Rattle.sk_lang.specs.declared.Entry.{Entry}
 use Rattle.sk_lang.specs.declared.Entry.TheVariants as entry
 use Rattle.sk_lang.specs.Codes.{byte_rows, is_none_left}
-use Rattle.sk_lang.specs.Entry.{rows_of, IsEntryOf}
+use Rattle.sk_lang.specs.Entry.{rows_of, IsEntryOf, StandsOn}
 use Rattle.sk_lang.specs.FirstCode.{first_code}
-use Rattle.sk_lang.proofs.Said.{said_other}
 use Rattle.sk_lex.specs.Words.{words_in}
 use Rattle.sk_session.specs.declared.command.Command.{Command}
 use Rattle.sk_session.specs.declared.command.Command.TheVariants.{Change, Undo, Check, Plan, Solve, Write, End}
@@ -22,7 +24,7 @@ use Rattle.sk_session.specs.Replies.{Stands, Obeys, ObeysWords, Enters, ByCode, 
 use Rattle.sk_session.proofs.Coding.{code_of_command}
 
 -- without a code the later rows have none
-none_behind : (rows more : List (Bool × Code)) → first_code (rows ++ more) ≡ None → first_code more ≡ None
+pub none_behind : (rows more : List (Bool × Code)) → first_code (rows ++ more) ≡ None → first_code more ≡ None
 none_behind [] more is = is
 none_behind (row ∷ rows) more is = told row.0 is (none_behind rows more)
   where
@@ -30,11 +32,15 @@ none_behind (row ∷ rows) more is = told row.0 is (none_behind rows more)
     told true is later = absurd (cc)
     told false is later = later is
 
-some_left : (xs : List Element) → is_none_left xs ≡ false → 0 < length xs
+pub some_left : (xs : List Element) → is_none_left xs ≡ false → 0 < length xs
 some_left [] is = absurd (cc)
 some_left (x ∷ xs) is = omega arith
 
-module _ (old new : State) where
+-- what lines say is told by their first words
+abbrev pub EachStandsOn : Type 0
+EachStandsOn = (s : Sketch) (line : List ℕ) (elem : Elem) (con : ConId) (x : Entry) → IsEntryOf s line elem con x → StandsOn line x
+
+module _ (stands_on : EachStandsOn) (old new : State) where
   none_stands : (made : Option Edit) (this : Reply) → (reply.Solve ≡ this → ⊥) → ¬ Stands old made this reply.Solve new
   none_stands None this other h = h
   none_stands (Some e) this other (is, accepts) = other is
@@ -64,7 +70,7 @@ module _ (old new : State) where
   some_by_entry line (entry.Element e) says enters clean = absurd (none_stands (Some (edit.Element e)) (reply.Declared e.number) (λ x. cc) enters)
   some_by_entry line (entry.Constraint c) says enters clean = absurd (none_stands (Some (edit.Constraint c)) (reply.Constrained c.number) (λ x. cc) enters)
   some_by_entry line (entry.Other words) says enters clean =
-      let begins = (said_other (sketch_in old) line (words_in line) (next_elem old) (next_con old) words says).0 in
+      let begins = (stands_on (sketch_in old) line (next_elem old) (next_con old) (entry.Other words) says).0 in
       let obeys = solve_obeys (command_of begins.first) begins.rest (subst (λ (ws : List (List ℕ)). ObeysWords old ws reply.Solve new) begins.words enters) in
       let none = none_behind (byte_rows line ++ rows_of (sketch_in old) (words_in line)) (word_rows old (words_in line)) clean in
       let some = some_by_rows (command_of begins.first) begins.rest obeys.0 (sym (code_of_command old (words_in line) begins) ∙ none) in

@@ -1,5 +1,5 @@
 -- Which edits can be made in a sketch, and how the kept family follows them.
-use Rattle.std.specs.Prelude.{◌≡◌, ◌≢◌, ◌<◌, Contains}
+use Rattle.std.specs.Prelude.{◌≡◌, ◌≢◌, ◌<◌, ⊤, Contains}
 use Rattle.sk_base.specs.declared.Elem.{Elem}
 use Rattle.sk_base.specs.declared.ConId.{ConId}
 use Rattle.sk_base.specs.declared.Element.{Element}
@@ -37,7 +37,13 @@ IsPossible (edit.Length k len) s = IsLength len × HasConstraint s k
 IsPossible (edit.Turned k ratio) s = IsSoundRatio ratio × HasConstraint s k
 IsPossible (edit.Erased x) s = HasElement s x × IsUnused s x
 
--- and the sketch is sound before and after
+-- a new length or ratio is one that a sound sketch may have
+abbrev pub HasSoundValue : Edit → Type 0
+HasSoundValue (edit.Length k len) = IsLength len
+HasSoundValue (edit.Turned k ratio) = IsSoundRatio ratio
+HasSoundValue _ = ⊤
+
+-- the edit is possible, and the sketch is sound before and after
 pub record CanMake (e : Edit) (s : Sketch) : Type 0 where
   pub possible : IsPossible e s
   pub sound : IsSoundSketch s

@@ -21,7 +21,7 @@ ghost use Rattle.sk_session.specs.declared.edit.Edit.TheVariants as an_edit;
 ghost use Rattle.sk_session.specs.Edits.{applied};
 ghost use Rattle.sk_session.specs.Making.{CanMake, IsUnused, Follows, FollowsBack};
 
-use sk_lang::one_entry;
+use sk_lang::{one_entry, what_a_line_says};
 use sk_plan::one_plan;
 use sk_verdict::one_judgement;
 use sk_worklist::{Chosen, one_run};
@@ -63,4 +63,6 @@ pub fn one_reply()
 /// `solve` is answered only where the sketch has an element.
 pub fn some_to_solve()
     ensures { (old new : State) (line : List ℕ) → Answers old line a_reply.Solve new → 0 < length (sketch_in new).elements }
-{}
+{
+    what_a_line_says();
+}

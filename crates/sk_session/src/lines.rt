@@ -4,7 +4,7 @@ ghost use Rattle.std.specs.List.{slice_index_or};
 ghost use Rattle.sk_base.specs.SoundSketch.{IsSoundSketch};
 ghost use Rattle.sk_lex.specs.Words.{words_in, bytes_of, StandInOrder};
 ghost use Rattle.sk_lang.specs.Keywords.{keyword_of};
-ghost use Rattle.sk_lang.specs.Entry.{entry_code, IsEntryOf};
+ghost use Rattle.sk_lang.specs.Entry.{entry_code, IsEntryOf, StandsOn, IsNumbered};
 ghost use Rattle.sk_lang.specs.Meaning.{added};
 ghost use Rattle.sk_lang.specs.FirstCode.{first_code};
 ghost use Rattle.sk_lang.specs.declared.EntryError.TheVariants as an_error;
@@ -184,6 +184,8 @@ impl Session {
     fn enter(&mut self, line: &[u8], entry: Entry) -> Result<Reply, NoMemory>
         requires clean { entry_code (sketch_in self.old) line.now ≡ None }
         requires entry { IsEntryOf (sketch_in self.old) line.now (next_elem self.old) (next_con self.old) entry }
+        requires stands_on { StandsOn line.now entry }
+        requires numbered { IsNumbered (next_elem self.old) (next_con self.old) entry }
         requires was_sound { IsSoundSketch (sketch_in self.old) }
         requires sound { IsSoundSketch (added (sketch_in self.old) (Some entry)) }
         ensures ok { IfOk result (λ said. Answers self.old line.now said self.new) }

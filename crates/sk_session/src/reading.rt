@@ -15,6 +15,7 @@ ghost use Rattle.sk_base.specs.declared.Element.{Element as AnElement};
 ghost use Rattle.sk_graph.specs.SketchGraph.{first_of, second_of};
 ghost use Rattle.sk_session.specs.Commands.{value_rows, setting, from_made, number_of, constraint_with, is_used, change_rows, edit_made};
 ghost use Rattle.sk_session.specs.Edits.{constraint_number};
+ghost use Rattle.sk_session.specs.Making.{HasSoundValue};
 
 use crate::command::Change;
 use crate::edit::Edit;
@@ -98,7 +99,8 @@ fn uses(constraint: &Constraint, elem: Elem) -> bool
 /// The drop that a line says, by the word behind the first.
 fn read_drop(sketch: &Sketch, number: &[u8]) -> Result<Edit, Code>
     requires { IsRising constraint_number sketch.now.constraints }
-    ensures { result ≡ from_made (first_code (change_rows sketch.now a_change.Drop (number.now ∷ []))) (edit_made sketch.now a_change.Drop (number.now ∷ [])) }
+    ensures made { result ≡ from_made (first_code (change_rows sketch.now a_change.Drop (number.now ∷ []))) (edit_made sketch.now a_change.Drop (number.now ∷ [])) }
+    ensures value { IfOk result HasSoundValue }
 {
     let number = number_of(number)?;
     numbered(sketch, number)?;
@@ -108,7 +110,8 @@ fn read_drop(sketch: &Sketch, number: &[u8]) -> Result<Edit, Code>
 /// The new value that a line says.
 fn read_set(sketch: &Sketch, number: &[u8], value: &[u8]) -> Result<Edit, Code>
     requires { IsRising constraint_number sketch.now.constraints }
-    ensures { result ≡ from_made (first_code (change_rows sketch.now a_change.Set (number.now ∷ value.now ∷ []))) (edit_made sketch.now a_change.Set (number.now ∷ value.now ∷ [])) }
+    ensures made { result ≡ from_made (first_code (change_rows sketch.now a_change.Set (number.now ∷ value.now ∷ []))) (edit_made sketch.now a_change.Set (number.now ∷ value.now ∷ [])) }
+    ensures value { IfOk result HasSoundValue }
 {
     let number = number_of(number)?;
     let constraint = numbered(sketch, number)?;
@@ -117,7 +120,8 @@ fn read_set(sketch: &Sketch, number: &[u8], value: &[u8]) -> Result<Edit, Code>
 
 /// The new value that a rule gets.
 fn set_value(rule: Rule, number: ConId, value: &[u8]) -> Result<Edit, Code>
-    ensures { result ≡ from_made (first_code (value_rows (Some rule) value.now)) (setting (Some rule) number value.now) }
+    ensures made { result ≡ from_made (first_code (value_rows (Some rule) value.now)) (setting (Some rule) number value.now) }
+    ensures value { IfOk result HasSoundValue }
 {
     match rule {
         Rule::Distance { .. } => new_length(number, value),
@@ -129,7 +133,8 @@ fn set_value(rule: Rule, number: ConId, value: &[u8]) -> Result<Edit, Code>
 }
 
 fn new_length(number: ConId, value: &[u8]) -> Result<Edit, Code>
-    ensures { result ≡ from_made (first_code ((is_none (length_of value.now), E8) ∷ (is_zero (length_of value.now), E9) ∷ [])) (Some (an_edit.Length number (um value.now))) }
+    ensures made { result ≡ from_made (first_code ((is_none (length_of value.now), E8) ∷ (is_zero (length_of value.now), E9) ∷ [])) (Some (an_edit.Length number (um value.now))) }
+    ensures value { IfOk result HasSoundValue }
 {
     let len = length(value)?;
     not_zero(len)?;
@@ -137,7 +142,8 @@ fn new_length(number: ConId, value: &[u8]) -> Result<Edit, Code>
 }
 
 fn new_ratio(number: ConId, value: &[u8]) -> Result<Edit, Code>
-    ensures { result ≡ from_made (first_code ((is_none (ratio_of value.now), E8) ∷ (is_zero (option_map (λ parts. parts.0) (ratio_of value.now)), E9) ∷ [])) (Some (an_edit.Turned number (ratio value.now))) }
+    ensures made { result ≡ from_made (first_code ((is_none (ratio_of value.now), E8) ∷ (is_zero (option_map (λ parts. parts.0) (ratio_of value.now)), E9) ∷ [])) (Some (an_edit.Turned number (ratio value.now))) }
+    ensures value { IfOk result HasSoundValue }
 {
     let ratio = slope(value)?;
     if ratio.p == 0 {
@@ -148,7 +154,8 @@ fn new_ratio(number: ConId, value: &[u8]) -> Result<Edit, Code>
 
 /// The erasure that a line says.
 fn read_erase(sketch: &Sketch, name: &[u8]) -> Result<Edit, Code>
-    ensures { result ≡ from_made (first_code (change_rows sketch.now a_change.Erase (name.now ∷ []))) (edit_made sketch.now a_change.Erase (name.now ∷ [])) }
+    ensures made { result ≡ from_made (first_code (change_rows sketch.now a_change.Erase (name.now ∷ []))) (edit_made sketch.now a_change.Erase (name.now ∷ [])) }
+    ensures value { IfOk result HasSoundValue }
 {
     let name = label(name)?;
     let number = named(sketch, name)?;
@@ -168,7 +175,8 @@ pub(crate) fn read_change(
     requires rise { IsRising constraint_number sketch.now.constraints }
     requires some { 0 < length words.now }
     requires order { StandInOrder 0 words.now (length line.now) }
-    ensures { let rest = drop 1 (map (bytes_of line.now) words.now) in result ≡ from_made (first_code (change_rows sketch.now change rest)) (edit_made sketch.now change rest) }
+    ensures made { let rest = drop 1 (map (bytes_of line.now) words.now) in result ≡ from_made (first_code (change_rows sketch.now change rest)) (edit_made sketch.now change rest) }
+    ensures value { IfOk result HasSoundValue }
 {
     let count = words.len() - 1;
     match change {

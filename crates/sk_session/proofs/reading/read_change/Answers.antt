@@ -10,16 +10,16 @@ rest_one (w ∷ []) a size is = absurd (omega arith)
 rest_one (w ∷ b ∷ []) a size is = ap (λ x. x ∷ []) (sym is)
 rest_one (w ∷ b ∷ d ∷ more) a size is = absurd (omega arith)
 
-pub returns-else-count-ne2 : goal.returns-else-count-ne2
-returns-else-count-ne2 c =
+pub returns-else-count-ne2-clause-made : goal.returns-else-count-ne2-clause-made
+returns-else-count-ne2-clause-made c =
     let ws = map (bytes_of c.args.line.now) c.args.words.now in
     let same : length ws ≡ length c.args.words.now = rw length-map in
     let rest = rest_two [] ws c.word-in-Set.result.now c.word-in-Set-2.result.now (omega arith) c.word-in-Set.ensures c.word-in-Set-2.ensures in
-    rw (rest, c.in-Set.is) c.read_set.ensures
+    rw (rest, c.in-Set.is) c.read_set.ensures.made
 
-pub returns-else-count-ne1-2 : goal.returns-else-count-ne1-2
-returns-else-count-ne1-2 c =
+pub returns-else-count-ne1-2-clause-made : goal.returns-else-count-ne1-2-clause-made
+returns-else-count-ne1-2-clause-made c =
     let ws = map (bytes_of c.args.line.now) c.args.words.now in
     let same : length ws ≡ length c.args.words.now = rw length-map in
     let rest = rest_one ws c.word-in-Erase.result.now (omega arith) c.word-in-Erase.ensures in
-    rw (rest, c.in-Erase.is) c.read_erase.ensures
+    rw (rest, c.in-Erase.is) c.read_erase.ensures.made

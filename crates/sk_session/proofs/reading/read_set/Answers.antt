@@ -30,7 +30,7 @@ set_told s number value k c is found =
     let there : P (Some k.0) = subst Q (sym found) here in
     subst P (sym is) there
 
-pub returns : goal.returns
-returns c =
-    c.set_value.ensures
+pub returns-clause-made : goal.returns-clause-made
+returns-clause-made c =
+    c.set_value.ensures.made
     ∙ set_told c.args.sketch.now c.args.number.now c.args.value.now c.in_ok-number.number c.in_ok-constraint.constraint c.in_ok-number.ensures c.in_ok-constraint.ensures

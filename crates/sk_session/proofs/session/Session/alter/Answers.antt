@@ -7,7 +7,7 @@ use Rattle.sk_lang.specs.FirstCode.{first_code}
 use Rattle.sk_session.specs.declared.edit.Edit.{Edit}
 use Rattle.sk_session.specs.declared.reply.Reply.TheVariants as reply
 use Rattle.sk_session.specs.Commands.{change_rows, edit_made, from_made, is_spent}
-use Rattle.sk_session.specs.Making.{CanMake}
+use Rattle.sk_session.specs.Making.{CanMake, HasSoundValue}
 use Rattle.sk_session.specs.State.{sketch_in}
 use Rattle.sk_session.specs.Replies.{Stands, ByCode}
 use Rattle.sk_session.proofs.Coding.{if_ok, code_front, takes_by_code}
@@ -20,11 +20,11 @@ accept-requires-clause-can c =
     let rest = drop 1 (map (bytes_of c.args.line.now) c.args.words.now) in
     let sound : IsSoundSketch s = subst (λ (t : Sketch). IsSoundSketch t) c.sketch.ensures.sketch c.sketch.ensures.sound in
     let is : Ok c.in-Ok.edit ≡ from_made (first_code (change_rows s c.args.change rest)) (edit_made s c.args.change rest) =
-    subst (λ (t : Sketch). Ok c.in-Ok.edit ≡ from_made (first_code (change_rows t c.args.change rest)) (edit_made t c.args.change rest)) c.sketch.ensures.sketch c.in-Ok.ensures in
+    subst (λ (t : Sketch). Ok c.in-Ok.edit ≡ from_made (first_code (change_rows t c.args.change rest)) (edit_made t c.args.change rest)) c.sketch.ensures.sketch c.in-Ok.ensures.made in
     let told = from_ok (first_code (change_rows s c.args.change rest)) (edit_made s c.args.change rest) c.in-Ok.edit is in
     let can = can_change s sound c.args.change rest told.0 in
     let same : can.0 ≡ c.in-Ok.edit = (let one = can.1 in let other = told.1 in cc) in
-    subst (λ (e : Edit). CanMake e s) same can.2
+    subst (λ (e : Edit). CanMake e s) same (can.2 (subst HasSoundValue (sym same) c.in-Ok.ensures.value))
 
 pub returns-in-Err-clause-ok : goal.returns-in-Err-clause-ok
 returns-in-Err-clause-ok c =
@@ -32,7 +32,7 @@ returns-in-Err-clause-ok c =
     let rest = drop 1 (map (bytes_of c.args.line.now) c.args.words.now) in
     let sound : IsSoundSketch s = subst (λ (t : Sketch). IsSoundSketch t) c.sketch.ensures.sketch c.sketch.ensures.sound in
     let is : Err c.in-Err.code ≡ from_made (first_code (change_rows s c.args.change rest)) (edit_made s c.args.change rest) =
-    subst (λ (t : Sketch). Err c.in-Err.code ≡ from_made (first_code (change_rows t c.args.change rest)) (edit_made t c.args.change rest)) c.sketch.ensures.sketch c.in-Err.ensures in
+    subst (λ (t : Sketch). Err c.in-Err.code ≡ from_made (first_code (change_rows t c.args.change rest)) (edit_made t c.args.change rest)) c.sketch.ensures.sketch c.in-Err.ensures.made in
     let code = code_front (change_rows s c.args.change rest) ((is_spent c.args.self.now, S5) ∷ []) c.in-Err.code (from_err s sound c.args.change rest c.in-Err.code is) in
     let old = c.args.self.now in
     subst (λ o. ByCode o old (Stands old (edit_made s c.args.change rest) reply.Done (reply.Refused c.in-Err.code) old) (reply.Refused c.in-Err.code) old) (sym code) (refl, refl)
@@ -42,7 +42,7 @@ returns-in-Ok-clause-ok c =
     let s = sketch_in c.args.self.now in
     let rest = drop 1 (map (bytes_of c.args.line.now) c.args.words.now) in
     let is : Ok c.in-Ok.edit ≡ from_made (first_code (change_rows s c.args.change rest)) (edit_made s c.args.change rest) =
-    subst (λ (t : Sketch). Ok c.in-Ok.edit ≡ from_made (first_code (change_rows t c.args.change rest)) (edit_made t c.args.change rest)) c.sketch.ensures.sketch c.in-Ok.ensures in
+    subst (λ (t : Sketch). Ok c.in-Ok.edit ≡ from_made (first_code (change_rows t c.args.change rest)) (edit_made t c.args.change rest)) c.sketch.ensures.sketch c.in-Ok.ensures.made in
     let told = from_ok (first_code (change_rows s c.args.change rest)) (edit_made s c.args.change rest) c.in-Ok.edit is in
     if_ok c.accept.result c.accept.ensures.ok (λ said takes.
     takes_by_code (change_rows s c.args.change rest) (is_spent c.args.self.now) (edit_made s c.args.change rest) c.args.self.now c.in-Ok.edit reply.Done said c.accept.new.self told.0 told.1 takes)

@@ -5,9 +5,8 @@ use Rattle.sk_lex.specs.declared.Word.{Word}
 use Rattle.sk_lex.specs.Words.{words_in, bytes_of}
 use Rattle.sk_lang.specs.declared.Entry.{Entry}
 use Rattle.sk_lang.specs.declared.Entry.TheVariants as entry
-use Rattle.sk_lang.specs.Entry.{IsEntryOf}
+use Rattle.sk_lang.specs.Entry.{IsEntryOf, StandsOn, IsNumbered}
 use Rattle.sk_lang.specs.FirstCode.{first_code}
-use Rattle.sk_lang.proofs.Said.{said_element, said_constraint, said_other}
 use Rattle.sk_session.specs.declared.edit.Edit.TheVariants as edit
 use Rattle.sk_session.specs.declared.reply.Reply.TheVariants as reply
 use Rattle.sk_session.specs.Commands.{command_of, command_rows}
@@ -19,16 +18,12 @@ use Rattle.sk_session.proofs.session.Session.enter.Goals as goal
 pub declare-requires-clause-number : goal.declare-requires-clause-number
 declare-requires-clause-number c =
     let old = c.args.self.now in
-    let line = c.args.line.now in
-    let is = subst (λ (x : Entry). IsEntryOf (sketch_in old) line (next_elem old) (next_con old) x) c.in-Element.is c.requires.entry in
-    ap elem_number (said_element (sketch_in old) line (words_in line) (next_elem old) (next_con old) c.in-Element.element is).1
+    ap elem_number (subst (IsNumbered (next_elem old) (next_con old)) c.in-Element.is c.requires.numbered)
 
 pub constrain-requires-clause-number : goal.constrain-requires-clause-number
 constrain-requires-clause-number c =
     let old = c.args.self.now in
-    let line = c.args.line.now in
-    let is = subst (λ (x : Entry). IsEntryOf (sketch_in old) line (next_elem old) (next_con old) x) c.in-Constraint.is c.requires.entry in
-    ap con_number (said_constraint (sketch_in old) line (words_in line) (next_elem old) (next_con old) c.in-Constraint.constraint is).1
+    ap con_number (subst (IsNumbered (next_elem old) (next_con old)) c.in-Constraint.is c.requires.numbered)
 
 pub returns-in-Element-clause-ok : goal.returns-in-Element-clause-ok
 returns-in-Element-clause-ok c =
@@ -36,7 +31,7 @@ returns-in-Element-clause-ok c =
     let line = c.args.line.now in
     let e = c.in-Element.element in
     let is = subst (λ (x : Entry). IsEntryOf (sketch_in old) line (next_elem old) (next_con old) x) c.in-Element.is c.requires.entry in
-    let begins = (said_element (sketch_in old) line (words_in line) (next_elem old) (next_con old) e is).0 in
+    let begins = subst (StandsOn line) c.in-Element.is c.requires.stands_on in
     if_ok c.declare.result c.declare.ensures.ok (λ said takes.
     answers_entry old line (entry.Element e) c.requires.clean is begins (edit.Element e) (reply.Declared e.number) said c.declare.new.self (λ h. h) takes)
 
@@ -46,7 +41,7 @@ returns-in-Constraint-clause-ok c =
     let line = c.args.line.now in
     let e = c.in-Constraint.constraint in
     let is = subst (λ (x : Entry). IsEntryOf (sketch_in old) line (next_elem old) (next_con old) x) c.in-Constraint.is c.requires.entry in
-    let begins = (said_constraint (sketch_in old) line (words_in line) (next_elem old) (next_con old) e is).0 in
+    let begins = subst (StandsOn line) c.in-Constraint.is c.requires.stands_on in
     if_ok c.constrain.result c.constrain.ensures.ok (λ said takes.
     answers_entry old line (entry.Constraint e) c.requires.clean is begins (edit.Constraint e) (reply.Constrained e.number) said c.constrain.new.self (λ h. h) takes)
 
@@ -56,7 +51,7 @@ returns-in-Other-clause-ok c =
     let line = c.args.line.now in
     let words = c.in-Other.words in
     let is = subst (λ (x : Entry). IsEntryOf (sketch_in old) line (next_elem old) (next_con old) x) c.in-Other.is c.requires.entry in
-    let told = said_other (sketch_in old) line (words_in line) (next_elem old) (next_con old) words is in
+    let told = subst (StandsOn line) c.in-Other.is c.requires.stands_on in
     let b = told.0 in
     let same : map (bytes_of line) c.as_slice.result.now ≡ b.first ∷ b.rest = ap (λ (xs : List Word). map (bytes_of line) xs) c.as_slice.ensures ∙ told.1.0 ∙ b.words in
     if_ok c.other.result c.other.ensures.ok (λ said obeys.
@@ -67,7 +62,6 @@ pub returns-in-Other-clause-err : goal.returns-in-Other-clause-err
 returns-in-Other-clause-err c =
     let old = c.args.self.now in
     let line = c.args.line.now in
-    let is = subst (λ (x : Entry). IsEntryOf (sketch_in old) line (next_elem old) (next_con old) x) c.in-Other.is c.requires.entry in
-    let told = said_other (sketch_in old) line (words_in line) (next_elem old) (next_con old) c.in-Other.words is in
+    let told = subst (StandsOn line) c.in-Other.is c.requires.stands_on in
     let same : map (bytes_of line) c.as_slice.result.now ≡ words_in line = ap (λ (xs : List Word). map (bytes_of line) xs) c.as_slice.ensures ∙ told.1.0 in
     subst (λ (ws : List (List ℕ)). OnErr c.other.result (IsHalted old ws c.other.new.self)) same c.other.ensures.err

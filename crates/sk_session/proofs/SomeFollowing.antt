@@ -1,0 +1,184 @@
+-- A kept family can follow each edit that can be made, and its undoing.
+use Rattle.std.proofs.Common.{◌≡◌, ◌≢◌, inl, inr, refl, ℕ, suc, ◌+◌, ◌≤◌, ◌<◌, List, [], ◌∷◌, length, take, drop, sym, subst, arith}
+use Rattle.std.specs.Prelude.{Contains, AllPairs}
+use Rattle.std.specs.List.{insert}
+use Rattle.std.specs.List.Sorted.{IsPermutation}
+use Rattle.std.proofs.lemmas.List.Sorted.{IsPermutation-refl, IsPermutation-sym, IsPermutation-cons, IsPermutation-trans, IsPermutation-insert, Contains-permutation}
+use Rattle.std.proofs.lemmas.List.Edits.{length-insert}
+use Rattle.std.proofs.lemmas.List.Elements.{Contains-push}
+use Rattle.sk_base.proofs.Splits.{in_drop, pairs_inserted}
+use Rattle.sk_base.specs.declared.ConId.{ConId}
+use Rattle.sk_base.specs.declared.Edge.{Edge}
+use Rattle.sk_base.specs.declared.Name.{Name}
+use Rattle.sk_base.specs.declared.Name.TheVariants.{Con}
+use Rattle.sk_base.specs.declared.Sketch.{Sketch}
+use Rattle.sk_base.specs.ClusterNames.{IsBelow}
+use Rattle.sk_base.specs.SoundSketch.{IsSoundSketch}
+use Rattle.sk_base.proofs.Members.{contains_none, contains_cases}
+use Rattle.sk_base.proofs.Pairs.{pairs_none, pairs_tail, pairs_head}
+use Rattle.sk_family.specs.declared.Cluster.{Cluster}
+use Rattle.sk_family.specs.Clusters.{Clusters, start_of, IsNamed, IsSound, ByName}
+use Rattle.sk_family.specs.Starts.{IsFree, HasStart}
+use Rattle.sk_family.proofs.Dissolving.{dissolved, fewer_left, dissolved_sound, all_differ}
+use Rattle.sk_family.proofs.Naming.{below_irreflexive, below_asymmetric, below_chain, one_of_name}
+use Rattle.sk_family.proofs.Sorting.{HaveOtherNames}
+use Rattle.sk_family.proofs.Starting.{start_put, start_sound, with_start}
+use Rattle.sk_graph.specs.SketchGraph.{edge_of, graph_of}
+use Rattle.sk_rules.proofs.KeptClusters.{owned_is_edge}
+use Rattle.sk_worklist.proofs.OneRun.{below_tells}
+use Rattle.sk_session.specs.declared.edit.Edit.{Edit}
+use Rattle.sk_session.specs.declared.edit.Edit.TheVariants as edit
+use Rattle.sk_session.specs.declared.edit.Former.{Former}
+use Rattle.sk_session.specs.declared.edit.Former.TheVariants as former
+use Rattle.sk_session.specs.Former.{IsFormer, LeadsTo}
+use Rattle.sk_session.specs.Making.{CanMake, HasConstraint, DissolvesOwner, Follows, FollowsBack, IsReachedIn}
+use Rattle.sk_session.proofs.Graphs.{rises, id_of}
+use Rattle.sk_session.proofs.Owners.{free_number, owner_of, few_owned}
+use Rattle.sk_session.proofs.Undoing.{owner_back, none_dropped, start_back}
+
+-- where a name stands among clusters
+record HasPlace (cs : List Cluster) (n : Name) : Type 0 where
+  place : ℕ
+  within : place ≤ length cs
+  before : (c : Cluster) → Contains (take place cs) c → IsBelow c.name n
+  after : (c : Cluster) → Contains (drop place cs) c → ¬ IsBelow c.name n
+
+place_for : (cs : List Cluster) → AllPairs ByName cs → (n : Name) → HasPlace cs n
+place_for [] rise n = record { place = 0; within = omega arith; before = λ c h. absurd (contains_none c h); after = λ c h. absurd (contains_none c h) }
+place_for (d ∷ cs) rise n =
+    elim (below_tells d.name n) [
+      | inl below ↦ (
+          let rest = place_for cs (pairs_tail ByName d cs rise) n in
+          record {
+            place = suc rest.place;
+            within = (let few = rest.within in omega arith);
+            before = λ c h. elim (contains_cases d (take rest.place cs) c h) [ inl is ↦ subst (λ x. IsBelow x.name n) is below | inr later ↦ rest.before c later ];
+            after = rest.after;
+          })
+      | inr (inl same) ↦ at_front (λ below. below_irreflexive n (subst (λ m. IsBelow m n) same below))
+      | inr (inr above) ↦ at_front (below_asymmetric n d.name above)
+    ]
+  where
+    at_front : ¬ IsBelow d.name n → HasPlace (d ∷ cs) n
+    at_front above = record {
+      place = 0;
+      within = omega arith;
+      before = λ c h. absurd (contains_none c h);
+      after = λ c h below. elim (contains_cases d cs c h) [
+        | inl is ↦ above (subst (λ x. IsBelow x.name n) (sym is) below)
+        | inr later ↦ above (below_chain d.name c.name n (pairs_head ByName d cs rise c later) below)
+      ];
+    }
+
+-- clusters of different names can be sorted by name
+record HasSorted (xs : List Cluster) : Type 0 where
+  sorted : List Cluster
+  rise : AllPairs ByName sorted
+  same : IsPermutation xs sorted
+
+some_sorted : (xs : List Cluster) → AllPairs HaveOtherNames xs → HasSorted xs
+some_sorted [] differ = record { sorted = []; rise = pairs_none ByName; same = IsPermutation-refl [] }
+some_sorted (x ∷ xs) differ =
+    let rest = some_sorted xs (pairs_tail HaveOtherNames x xs differ) in
+    let at = place_for rest.sorted rest.rise x.name in
+    record {
+      sorted = insert rest.sorted at.place x;
+      rise = pairs_inserted ByName rest.sorted at.place x rest.rise at.before (λ c h. elim (below_tells x.name c.name) [
+        | inl below ↦ below
+        | inr (inl same) ↦ absurd (pairs_head HaveOtherNames x xs differ c (Contains-permutation rest.sorted xs c (IsPermutation-sym xs rest.sorted rest.same) (in_drop at.place rest.sorted c h)) same)
+        | inr (inr above) ↦ absurd (at.after c h above)
+      ]);
+      same = IsPermutation-trans (x ∷ xs) (x ∷ rest.sorted) (insert rest.sorted at.place x) (IsPermutation-cons x xs rest.sorted rest.same) (IsPermutation-insert rest.sorted at.place x);
+    }
+
+-- a family that stands in the place of one, and isn't much longer
+record IsNext (old new : Clusters) : Type 0 where
+  sound : IsSound new
+  few : length new.live ≤ length old.live + 3999
+
+started : (f : Clusters) → IsSound f → (e : Edge) → IsFree f e.id → length f.live ≤ 4294963297 → (g : Clusters) × HasStart e f g × IsNext f g
+started f sound e free room =
+    let at = place_for f.live sound.names_rise (Con e.id.0) in
+    let less : length f.live < 4294967295 = omega arith in (
+      with_start f sound e free less at.place at.within at.before at.after,
+      start_put f sound e free less at.place at.within at.before at.after,
+      record {
+        sound = start_sound f sound e free less at.place at.within at.before at.after;
+        few = (let size = length-insert f.live at.place (start_of e) in let within = at.within in omega (arith, size, within));
+      },
+    )
+
+dissolves : (s : Sketch) → IsSoundSketch s → (f : Clusters) → IsSound f → IsReachedIn s f → (k : ConId) → HasConstraint s k → length f.live ≤ 4294963297 → (g : Clusters) × DissolvesOwner (graph_of s) k f g × IsNext f g
+dissolves s s_sound f sound reach k has room =
+    let g = graph_of s in
+    let rise = rises s s_sound in
+    let owner = owner_of s s_sound f sound reach k has in
+    let is_owner : IsNamed f owner.0.name owner.0 = record { lives = owner.1; has_name = refl } in
+    let others : (j : ConId) → Contains owner.0.owned j → j ≢ k → (d : Edge) × Contains g.edges d × (d.id ≡ j) = λ j c_j differ. owned_is_edge g f reach rise owner.0 j owner.1 c_j in
+    let sorted = some_sorted _ (all_differ g rise f sound owner.0.name k owner.0 is_owner owner.2 others) in
+    let few = few_owned s s_sound f sound reach owner.0 owner.1 in
+    let fewer = fewer_left g rise f sound owner.0.name k owner.0 is_owner owner.2 others sorted.sorted sorted.same in
+    let after : Clusters = record { live = sorted.sorted; next_step = f.next_step } in
+    let d = dissolved g rise f sound owner.0.name k owner.0 is_owner owner.2 others sorted.sorted sorted.same in (
+      after,
+      (owner.0.name, (d, subst (λ (c : Cluster). Contains c.owned k) (one_of_name f sound owner.0.name owner.0 d.owner is_owner d.named) owner.2)),
+      record {
+        sound = dissolved_sound g rise f sound owner.0.name k owner.0 is_owner owner.2 others sorted.sorted sorted.same (omega arith) sorted.rise;
+        few = omega (arith, few, fewer);
+      },
+    )
+
+same_next : (f : Clusters) → IsSound f → IsNext f f
+same_next f sound = record { sound = sound; few = omega arith }
+
+-- what follows an edit
+pub record HasFollowed (e : Edit) (s : Sketch) (old : Clusters) : Type 0 where
+  pub new : Clusters
+  pub follows : Follows e s old new
+  pub sound : IsSound new
+  pub few : length new.live ≤ length old.live + 3999
+
+pub followed : (e : Edit) (s : Sketch) → CanMake e s → (f : Clusters) → IsSound f → IsReachedIn s f → length f.live ≤ 4294963297 → HasFollowed e s f
+followed (edit.Element x) s can f sound reach room = record { new = f; follows = refl; sound = sound; few = omega arith }
+followed (edit.Constraint c) s can f sound reach room =
+    let free = free_number s can.sound f sound reach c.number (λ x x_in same. (let below = can.possible.1 x x_in in absurd (omega arith))) in
+    let found = started f sound (edge_of s c) (subst (λ k. IsFree f k) (sym (id_of s c)) free) room in
+    record { new = found.0; follows = found.1; sound = found.2.sound; few = found.2.few }
+followed (edit.Dropped k) s can f sound reach room =
+    let found = dissolves s can.sound f sound reach k can.possible room in
+    record { new = found.0; follows = found.1; sound = found.2.sound; few = found.2.few }
+followed (edit.Length k len) s can f sound reach room = record { new = f; follows = refl; sound = sound; few = omega arith }
+followed (edit.Turned k ratio) s can f sound reach room = record { new = f; follows = refl; sound = sound; few = omega arith }
+followed (edit.Erased x) s can f sound reach room = record { new = f; follows = refl; sound = sound; few = omega arith }
+
+-- and what follows its undoing
+pub record HasFollowedBack (e : Edit) (s : Sketch) (old : Clusters) : Type 0 where
+  pub new : Clusters
+  pub follows : FollowsBack e s old new
+  pub sound : IsSound new
+  pub few : length new.live ≤ length old.live + 3999
+
+module _ (b a : Sketch) (a_sound : IsSoundSketch a) (f : Clusters) (sound : IsSound f) (reach : IsReachedIn a f) (room : length f.live ≤ 4294963297) where
+  pub followed_back : (e : Edit) (was : Former) → LeadsTo e was b a → HasFollowedBack e b f
+  followed_back (edit.Element x) was led = record { new = f; follows = refl; sound = sound; few = omega arith }
+  followed_back (edit.Constraint c) was led =
+      let there : HasConstraint a c.number = subst (λ (s : Sketch). HasConstraint s c.number) (sym led.is) (c, Contains-push b.constraints c, refl) in
+      let found = dissolves a a_sound f sound reach c.number there room in
+      record { new = found.0; follows = owner_back b a c was led f found.0 found.1; sound = found.2.sound; few = found.2.few }
+  followed_back (edit.Dropped k) (former.Constraint c) led =
+      let free = free_number a a_sound f sound reach c.number (λ x x_in. none_dropped b a k c led x x_in) in
+      let found = started f sound (edge_of a c) (subst (λ j. IsFree f j) (sym (id_of a c)) free) room in
+      record { new = found.0; follows = start_back b a k c led f found.0 found.1; sound = found.2.sound; few = found.2.few }
+  followed_back (edit.Dropped k) was led = absurd led.former
+  followed_back (edit.Length k len) was led = record { new = f; follows = refl; sound = sound; few = omega arith }
+  followed_back (edit.Turned k ratio) was led = record { new = f; follows = refl; sound = sound; few = omega arith }
+  followed_back (edit.Erased x) was led = record { new = f; follows = refl; sound = sound; few = omega arith }
+
+-- what stood before an edit that can be made
+pub some_former : (e : Edit) (s : Sketch) → CanMake e s → (f : Former) × IsFormer e s f
+some_former (edit.Element x) s can = (former.Nothing, refl)
+some_former (edit.Constraint c) s can = (former.Nothing, refl)
+some_former (edit.Dropped k) s can = (former.Constraint can.possible.0, (can.possible.1, can.possible.2))
+some_former (edit.Length k len) s can = (former.Constraint can.possible.1.0, (can.possible.1.1, can.possible.1.2))
+some_former (edit.Turned k ratio) s can = (former.Constraint can.possible.1.0, (can.possible.1.1, can.possible.1.2))
+some_former (edit.Erased x) s can = (former.Element can.possible.0.0, (can.possible.0.1, can.possible.0.2))
