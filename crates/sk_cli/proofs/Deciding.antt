@@ -1,6 +1,6 @@
 -- Claims that are settled: each holds, or it does not.
-use Rattle.std.proofs.Common.{suc, ◌≡◌, ◌≢◌, ◌⊎◌, inl, inr, List, [], ◌∷◌, ap, refl, sym, ◌∙◌, subst, ℕ, ◌<◌, ◌≤◌, arith}
-use Rattle.std.specs.Prelude.{Contains, All, Bool, true, false}
+use Rattle.std.proofs.Common.{suc, ◌≡◌, ◌⊎◌, inl, inr, List, [], ◌∷◌, ap, refl, sym, ◌∙◌, subst, ℕ, ◌<◌, arith}
+use Rattle.std.specs.Prelude.{Contains, All}
 use Rattle.std.proofs.lemmas.List.Elements.{All-nil, All-cons}
 use Rattle.sk_base.specs.declared.Elem.{Elem}
 use Rattle.sk_base.specs.declared.Kind.{Kind}
@@ -9,7 +9,6 @@ use Rattle.sk_base.specs.declared.Node.{Node}
 use Rattle.sk_base.specs.declared.Name.{Name}
 use Rattle.sk_base.specs.declared.Name.TheVariants.{Con, Step}
 use Rattle.sk_base.specs.ClusterNames.{IsBelow}
-use Rattle.sk_base.specs.Numbering.{elem_exact}
 use Rattle.sk_base.proofs.Members.{Settles, nat_settles, contains_none, contains_head, contains_later, contains_cases}
 use Rattle.sk_base.proofs.Unions.{which}
 use Rattle.sk_family.proofs.Bodies.{elem_settles}

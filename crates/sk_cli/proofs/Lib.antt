@@ -14,16 +14,17 @@ pub mod OneOffering
 pub mod OneOutcome
 pub mod OnePlacement
 pub mod OneSession
+pub mod PlacedSpots
 pub mod Placements
 pub mod Printed
 pub mod Runs
 pub mod Selecting
+pub mod SessionTelling
 pub mod Sessions
 pub mod Sizes
 pub mod SomeAnswers
 pub mod SomeChoices
 pub mod SomeFrames
-pub mod SomeFronts
 pub mod SomeJudgements
 pub mod SomeMeasures
 pub mod SomeOutcomes
@@ -31,6 +32,8 @@ pub mod SomePlaces
 pub mod SomePlans
 pub mod SomeRequests
 pub mod SomeRuns
+pub mod SomeSessions
 pub mod SomeShared
 pub mod Strides
+pub mod Telling
 pub mod WhyEnds

@@ -57,7 +57,7 @@ use Rattle.sk_cli.proofs.Numbers.{one_order, one_bits, one_limit, one_size}
 use Rattle.sk_cli.proofs.OnePlacement.{same_placement}
 use Rattle.sk_cli.specs.Outcome.{IsReport, IsRefusalText, IsCheckAnswer, IsPlanBy, IsPlanReport, IsReportNotWell, IsPlanAnswer, IsPlanOrReport, IsSolved, IsSolveAnswer, IsGrowAnswer, IsAnswer, IsAnswerOf, IsOutcome, AreFirstReplies}
 use Rattle.sk_cli.proofs.OneSession.{OneReply, same_replies, front_replies}
-use Rattle.sk_cli.specs.SessionAnswer.{IsSessionAnswer, RepliesToFront, IsOver, at_start}
+use Rattle.sk_cli.specs.SessionAnswer.{IsSessionAnswer, RepliesToFront, HasEnded, at_start}
 
 pub same_request : (words : List (List ℕ)) (one other : Request) → Asks words one → Asks words other → one ≡ other
 same_request [] one other first second = absurd first
@@ -291,8 +291,8 @@ same_offers laws law bytes status other text another first second =
     ]
 
 -- a session's replies, or that the input is too long
-told_session : (request : Request) (bytes : List ℕ) (status : Status) (text : List ℕ) → IsSessionAnswer request bytes status text
-    → ((status ≡ Done) × ((front : RepliesToFront request bytes text) × IsOver front.state front.after)) ⊎ ((status ≡ Refused) × (1048576 < length bytes) × (text ≡ refusal_line (record { line = 0; code = E20 })))
+pub told_session : (request : Request) (bytes : List ℕ) (status : Status) (text : List ℕ) → IsSessionAnswer request bytes status text
+    → ((status ≡ Done) × ((front : RepliesToFront request bytes text) × HasEnded front.state front.after)) ⊎ ((status ≡ Refused) × (1048576 < length bytes) × (text ≡ refusal_line (record { line = 0; code = E20 })))
 told_session request bytes Done text answer = inl (refl, answer)
 told_session request bytes Refused text answer = inr (refl, answer.0, answer.1)
 told_session request bytes status text answer = absurd answer

@@ -1,59 +1,117 @@
 -- What the texts of an outcome tell.
-use Rattle.std.proofs.Common.{◌≡◌, ◌≢◌, inl, inr, ℕ, ◌<◌, ◌*◌, ◌-◌, Bool, true, false, List, [], ◌++◌, length, refl, ap, sym, subst, ◌∙◌, arith}
-use Rattle.std.specs.Prelude.{◌↔◌, if◌then◌else◌}
+use Rattle.std.proofs.Common.{◌≡◌, ◌≢◌, inl, inr, ℕ, ◌<◌, ◌*◌, ◌-◌, Bool, true, false, List, [], ◌∷◌, length, refl, ap, sym, subst, ◌∙◌, arith}
+use Rattle.std.specs.Prelude.{◌↔◌, if◌then◌else◌, All, Contains, map}
 use Rattle.std.proofs.lemmas.Bool.Decides.{nat_tests}
 use Rattle.std.proofs.Common.{nat_lt}
+use Rattle.sk_base.specs.declared.Edge.{Edge}
+use Rattle.sk_base.specs.declared.Elem.{Elem}
+use Rattle.sk_base.specs.declared.Element.{Element}
 use Rattle.sk_base.specs.declared.Graph.{Graph}
+use Rattle.sk_base.specs.declared.Node.{Node}
 use Rattle.sk_base.specs.declared.Placed.{Placed}
 use Rattle.sk_base.specs.declared.Sketch.{Sketch}
-use Rattle.sk_base.specs.SoundGraph.{HasRisingEdges}
-use Rattle.sk_family.specs.Body.{Body, SameBodies}
+use Rattle.sk_base.specs.SoundGraph.{HasRisingEdges, IsSoundGraph}
+use Rattle.sk_base.proofs.Members.{contains_none, contains_head, contains_mapped}
+use Rattle.sk_family.specs.Body.{Body, SameBodies, starting, initial_bodies}
 use Rattle.sk_rules.specs.Excess.{held}
 use Rattle.sk_rules.specs.Reach.{IsNormal}
+use Rattle.sk_rules.proofs.NormalForm.{reach_covers}
 use Rattle.sk_verdict.specs.declared.Judgement.{Judgement}
 use Rattle.sk_verdict.specs.declared.Part.{Part}
 use Rattle.sk_verdict.specs.declared.Verdict.{Verdict}
 use Rattle.sk_verdict.specs.declared.Verdict.TheVariants.{Well, Over, Several}
-use Rattle.sk_verdict.specs.Judging.{some_over, verdict_on}
-use Rattle.sk_verdict.specs.Parts.{part_with}
+use Rattle.sk_verdict.specs.Judging.{IsOver, IsJudgement, some_over, verdict_on}
+use Rattle.sk_verdict.specs.Parts.{elem_of, IsNamedByNone, IsLone, AreOfOnePart, part_with}
+use Rattle.sk_verdict.proofs.Gathering.{lone_part_is}
 use Rattle.sk_verdict.proofs.Judgements.{over_exactly}
-use Rattle.sk_graph.specs.SketchGraph.{graph_of}
+use Rattle.sk_verdict.proofs.Normals.{has_two, more_than_one}
+use Rattle.sk_graph.specs.SketchGraph.{graph_of, node_of}
 use Rattle.sk_tree.specs.declared.Plan.{Plan as ThePlan}
 use Rattle.sk_plan.specs.Judged.{IsTheJudgement, IsWell}
 use Rattle.sk_residual.specs.declared.Tolerance.{Tolerance}
+use Rattle.sk_residual.specs.Placing.{PlacesExactly}
 use Rattle.sk_residual.specs.Turns.{signs, AllAsDrawn}
 use Rattle.sk_residual.proofs.Worsts.{all_hold_within}
-use Rattle.sk_report.specs.CheckReport.{check_report}
 use Rattle.sk_report.specs.PlanReport.{plan_report}
 use Rattle.sk_worklist.specs.declared.Order.{Order}
-use Rattle.sk_lang.specs.declared.Front.{Front}
-use Rattle.sk_lang.specs.Reading.{Reads}
-use Rattle.sk_cli.specs.declared.command.Command.{Command}
-use Rattle.sk_cli.specs.declared.command.Command.TheVariants.{Check, Plan, Solve, Dxf, Offers, Grow}
 use Rattle.sk_cli.specs.declared.placing.Placement.{Placement}
 use Rattle.sk_cli.specs.declared.placing.Placement.TheVariants.{Fault, Beyond, Turned, Holds}
 use Rattle.sk_cli.specs.declared.request.Request.{Request}
 use Rattle.sk_cli.specs.declared.solving.Report.{Report}
 use Rattle.sk_cli.specs.declared.status.Status.{Status}
 use Rattle.sk_cli.specs.declared.status.Status.TheVariants.{Done, NotWell}
-use Rattle.sk_cli.specs.Causes.{IsSketchOf, IsItsPlan, LieAt, NonePasses}
-use Rattle.sk_cli.specs.Grids.{digits_of}
-use Rattle.sk_cli.specs.Headline.{TellsClusters, IsOneSoundPart, WritesCheckReport, HoldsAt, NamesTheFirst}
-use Rattle.sk_cli.specs.Outcome.{IsPlanBy, IsPlanOrReport, IsReportNotWell, IsSolved, IsAnswerOf}
+use Rattle.sk_cli.specs.Causes.{IsItsPlan, LieAt, NonePasses}
+use Rattle.sk_cli.specs.Grids.{grid_of, digits_of}
+use Rattle.sk_cli.specs.Headline.{TellsClusters, IsOneSoundPart, HoldsAt, NamesTheFirst}
+use Rattle.sk_cli.specs.Outcome.{IsPlanBy, IsPlanOrReport, IsReportNotWell, IsSolved}
 use Rattle.sk_cli.specs.Solving.{midpoints, IsTolerance, status_of, report_words, placement_words}
-use Rattle.sk_cli.proofs.OneOutcome.{OneSketch, NotBoth, OneJudgement, LowerLaws, still_well, same_judgement, told_plan, told_planned}
-use Rattle.sk_cli.proofs.WhyEnds.{IsPlacedSo, never_short, solved_about}
+use Rattle.sk_cli.proofs.OneOutcome.{OneJudgement, still_well, same_judgement, told_planned}
+use Rattle.sk_cli.proofs.PlacedSpots.{exactly_there}
+use Rattle.sk_cli.proofs.WhyEnds.{IsPlacedSo, never_short}
 
 abbrev pub OneNormal : Type 0
 OneNormal = (g : Graph) (one other : List Body) → HasRisingEdges g → IsNormal g one → IsNormal g other → SameBodies one other
 
-pub tells_clusters : OneNormal → (g : Graph) → HasRisingEdges g → (j : Judgement) → IsTheJudgement g j → TellsClusters g j
-tells_clusters law g rising j judged =
+module _ (g : Graph) (sound : IsSoundGraph g) (f : List Body) (normal : IsNormal g f) where
+  -- a cluster has two elements or more
+  none_lesser : (x : Body) → Contains f x → (es : List Elem) → x.elements ≡ es → length es < 2 → ⊥
+  none_lesser x x_in [] is few = let own = has_two g f sound normal x x_in in contains_none own.0 (subst (λ zs. Contains zs own.0) is own.3)
+  none_lesser x x_in (e ∷ []) is few = more_than_one g f sound normal x x_in e is
+  none_lesser x x_in (e ∷ d ∷ es) is few = absurd (omega arith)
+
+  module _ (j : Judgement) (is : IsJudgement g f j) where
+    -- the parts of less than two elements are the lone ones
+    lone_exactly : (p : Part) → length p.elements < 2 → Contains j.parts p ↔ ((e : Elem) × IsLone g e × (p ≡ record { elements = e ∷ []; held = 0; due = 0 }))
+    lone_exactly p few = (
+      (λ inside. (let part = (is.parts p).0 inside in elim part.0 [
+        | inl (x, x_in, same) ↦ absurd (none_lesser x x_in p.elements same few)
+        | inr (e, lone, same) ↦ (e, lone, part.1 ∙ ap (λ xs. part_with g xs) (sym same) ∙ sym (lone_part_is g e lone.named_by_none))
+      ])),
+      (λ (e, lone, same). (
+          let elements : p.elements ≡ e ∷ [] = ap (λ (q : Part). q.elements) same in
+          (is.parts p).1 (inr (e, lone, sym elements), same ∙ lone_part_is g e lone.named_by_none ∙ ap (λ xs. part_with g xs) (sym elements))
+          )),
+    )
+
+    lone_never_over : (p : Part) → length p.elements < 2 → Contains j.parts p → ¬ IsOver p
+    lone_never_over p few inside over =
+        let lone = ((lone_exactly p few).0 inside).2 in
+        let none : p.held ≡ 0 = ap (λ (q : Part). q.held) lone in
+        omega (arith, none, over)
+
+    -- a node is in some part
+    pub some_part : (n : Node) → Contains g.nodes n → 0 < length j.parts
+    some_part n n_in = by_edges g.edges refl
+      where
+        holds : (xs : List Elem) → AreOfOnePart g f xs → 0 < length j.parts
+        holds xs one = let inside = (is.parts (part_with g xs)).1 (one, refl) in omega (arith, inside.1)
+
+        by_edges : (ds : List Edge) → g.edges ≡ ds → 0 < length j.parts
+        by_edges [] none =
+            let by_none : IsNamedByNone g n.elem = subst (λ ds. All (λ (d : Edge). (d.u ≢ n.elem) × (d.v ≢ n.elem)) ds) (sym none) (λ k d k_in. absurd (omega arith)) in
+            holds (n.elem ∷ []) (inr (n.elem, record { is_node = contains_mapped elem_of g.nodes n n_in; named_by_none = by_none }, refl))
+        by_edges (d ∷ ds) some =
+            let d_in : Contains g.edges d = subst (λ es. Contains es d) (sym some) (contains_head d ds) in
+            let around = reach_covers g (initial_bodies g) f normal.reached (starting d) (contains_mapped starting g.edges d d_in) in
+            holds around.0.elements (inl (around.0, around.1, refl))
+
+-- a sketch that has an element has a part
+pub part_of_sketch : (s : Sketch) → IsSoundGraph (graph_of s) → 0 < length s.elements → (j : Judgement) → IsTheJudgement (graph_of s) j → 0 < length j.parts
+part_of_sketch s sound some j judged = by_elements s.elements refl some
+  where
+    by_elements : (es : List Element) → s.elements ≡ es → 0 < length es → 0 < length j.parts
+    by_elements [] is some = absurd (omega arith)
+    by_elements (e ∷ es) is some =
+        let e_in : Contains s.elements e = subst (λ xs. Contains xs e) (sym is) (contains_head e es) in
+        some_part (graph_of s) sound judged.normal judged.is_normal j (judged.every judged.normal judged.is_normal) (node_of e) (contains_mapped node_of s.elements e e_in)
+
+pub tells_clusters : OneNormal → (g : Graph) → IsSoundGraph g → (j : Judgement) → IsTheJudgement g j → TellsClusters g j
+tells_clusters law g sound j judged =
     let is = judged.every judged.normal judged.is_normal in
     record {
       family = judged.normal;
       normal = judged.is_normal;
-      only = λ other normal. law g other judged.normal rising normal judged.is_normal;
+      only = λ other normal. law g other judged.normal sound.edges_rise normal judged.is_normal;
       clusters = λ p two. (
         (λ inside. (let part = (is.parts p).0 inside in elim part.0 [
           | inl (x, x_in, same) ↦ (x, x_in, part.1 ∙ ap (λ xs. part_with g xs) (sym same))
@@ -72,13 +130,15 @@ tells_clusters law g rising j judged =
             (λ more. (subst (λ n. n < p.held) (sym due) (subst (λ m. 2 * length p.elements - 3 < m) (sym held_is) more))),
           )
           );
+      lone = lone_exactly g sound judged.normal judged.is_normal j is;
+      never_over = lone_never_over g sound judged.normal judged.is_normal j is;
     }
 
--- the verdict is well exactly where there is no second part and none is over
-pub well_exactly : (j : Judgement) → j.verdict ≡ verdict_on j.parts → (j.verdict ≡ Well) ↔ IsOneSoundPart j
-well_exactly j is = (
+-- where there is a part, the verdict is well exactly where there is no second one and none is over
+pub well_exactly : (j : Judgement) → 0 < length j.parts → j.verdict ≡ verdict_on j.parts → (j.verdict ≡ Well) ↔ IsOneSoundPart j
+well_exactly j some is = (
   (λ well. (
-    (let few = not_several (some_over j.parts) (nat_lt 1 (length j.parts)) (sym is ∙ well) in grind (arith, nat_tests, few)),
+    (let few = not_several (some_over j.parts) (nat_lt 1 (length j.parts)) (sym is ∙ well) in grind (arith, nat_tests, few, some)),
     (λ p inside over. (
         let told : j.verdict ≡ Over = (over_exactly j is).1 (inside.0, p, inside.1, inside.2, over) in
         let clash : Well ≡ Over = sym well ∙ told in cc
@@ -102,14 +162,14 @@ well_exactly j is = (
     by_verdict one Over same = (let (k, p, k_in, at_k, over) = (over_exactly j is).0 same in absurd (one.1 p (k, k_in, at_k) over))
     by_verdict one Several same = (let more = several (some_over j.parts) (nat_lt 1 (length j.parts)) (sym is ∙ same) in let few = one.0 in absurd (grind (arith, nat_tests, more, few)))
 
-module _ (law : OneJudgement) (s : Sketch) (j : Judgement) (judged : IsTheJudgement (graph_of s) j) where
+module _ (law : OneJudgement) (s : Sketch) (j : Judgement) (judged : IsTheJudgement (graph_of s) j) (some : 0 < length j.parts) where
   one_part : IsWell (graph_of s) → IsOneSoundPart j
   one_part (k, other, well) =
-      (well_exactly j (judged.every judged.normal judged.is_normal).verdict).0
+      (well_exactly j some (judged.every judged.normal judged.is_normal).verdict).0
       (subst (λ (z : Judgement). z.verdict ≡ Well) (same_judgement law (graph_of s) k j other judged) well)
 
   is_well : IsOneSoundPart j → IsWell (graph_of s)
-  is_well one = (j, judged, (well_exactly j (judged.every judged.normal judged.is_normal).verdict).1 one)
+  is_well one = (j, judged, (well_exactly j some (judged.every judged.normal judged.is_normal).verdict).1 one)
 
   -- a plan is written exactly where one part remains that isn't over
   pub planned_both : (order : Order) (status : Status) (text : List ℕ) → IsPlanOrReport order s status text → (status ≡ Done) ↔ IsOneSoundPart j
@@ -118,6 +178,11 @@ module _ (law : OneJudgement) (s : Sketch) (j : Judgement) (judged : IsTheJudgem
         | inl (done, (p, well, by, is)) ↦ ((λ same. one_part well), (λ one. done))
         | inr (short, report) ↦ ((λ same. (let clash : NotWell ≡ Done = sym short ∙ same in cc)), (λ one. absurd (still_well law s text (is_well one) report)))
       ]
+
+-- where no constraint has a number, there is none
+pub none_mapped : (ds : List Edge) → map (λ (e : Edge). e.id) ds ≡ [] → ds ≡ []
+none_mapped [] is = refl
+none_mapped (d ∷ ds) is = cc
 
 -- the text of a plan
 pub planned_text : (order : Order) (s : Sketch) (status : Status) (text : List ℕ) → IsPlanOrReport order s status text → status ≡ Done
@@ -128,14 +193,6 @@ planned_text order s status text answer same =
       | inr (short, report) ↦ absurd (let clash : NotWell ≡ Done = sym short ∙ same in cc)
     ]
 
-pub planned_about : OneSketch → NotBoth → (order : Order) (request : Request) (bytes text : List ℕ) (status : Status) (s : Sketch) → request.order ≡ order → IsAnswerOf Plan request bytes status text
-    → Reads bytes s → IsPlanOrReport order s status text
-planned_about one_sketch not_both order request bytes text status s is answer reads =
-    elim (told_plan request.order bytes status text answer) [
-      | inl (refused, line) ↦ absurd (not_both bytes s line.0.line line.0.code reads line.1)
-      | inr (t, reads', told) ↦ subst (λ o. IsPlanOrReport o s status text) is (subst (λ z. IsPlanOrReport request.order z status text) (one_sketch bytes t s reads' reads) told)
-    ]
-
 -- only where all holds is the status that the command did its work
 held_placement : (q : Placement) → status_of q ≡ Done → (at : Placed) × (t : Tolerance) × (q ≡ Holds at t)
 held_placement (Fault f) same = cc
@@ -144,16 +201,19 @@ held_placement (Turned t) same = cc
 held_placement (Holds at t) same = (at, t, refl)
 
 module _ (report : Report) (request : Request) (s : Sketch) (status : Status) (text : List ℕ) where
-  unplaced : IsSolved report request s status text → status ≡ NotWell → IsReportNotWell s text
+  pub unplaced : IsSolved report request s status text → status ≡ NotWell → IsReportNotWell s text
   unplaced (inl (p, q, placed, status_is, text_is)) same = absurd (never_short q (sym status_is ∙ same))
   unplaced (inr (short, told)) same = told
 
-  held_there : (p : ThePlan) → IsItsPlan request s p → (here at : Placed) (t : Tolerance) → LieAt request s p here → at ≡ here → NonePasses request s here
+  held_there : IsSoundGraph (graph_of s) → (p : ThePlan) → IsItsPlan request s p → (here at : Placed) (t : Tolerance) → LieAt request s p here → at ≡ here → NonePasses request s here
       → AllAsDrawn (signs s here p) → IsTolerance here (graph_of s) t → HoldsAt request s p at t
-  held_there p its here at t lie is none drawn least =
+  held_there sound p its here at t lie is none drawn least =
+      let G = grid_of request.bits in
+      let F = digits_of request.bits in
       let fit : HoldsAt request s p here t = record {
         plan = its;
         lie = lie;
+        exactly = subst (λ (z : Placed). PlacesExactly (graph_of s) z) (sym lie.2) (exactly_there G F (graph_of s) p sound its.1.legal lie.0 lie.1);
         holds = all_hold_within here (graph_of s) t.t t.w least.lengths.holds least.angles.holds;
         least = least;
         within = none;
@@ -161,14 +221,14 @@ module _ (report : Report) (request : Request) (s : Sketch) (status : Status) (t
       } in
       subst (λ (z : Placed). HoldsAt request s p z t) (sym is) fit
 
-  held_text : (p : ThePlan) → IsItsPlan request s p → (q : Placement) → IsPlacedSo request s p q → status_of q ≡ Done → text ≡ placement_words report (digits_of request.bits) s p q
+  held_text : IsSoundGraph (graph_of s) → (p : ThePlan) → IsItsPlan request s p → (q : Placement) → IsPlacedSo request s p q → status_of q ≡ Done → text ≡ placement_words report (digits_of request.bits) s p q
       → (at : Placed) × (t : Tolerance) × HoldsAt request s p at t × (text ≡ report_words report (digits_of request.bits) s p at t)
-  held_text p its q placed same is =
+  held_text sound p its q placed same is =
       let holds = held_placement q same in
       let there : IsPlacedSo request s p (Holds holds.0 holds.1) = subst (λ (z : Placement). IsPlacedSo request s p z) holds.2 placed in (
         holds.0,
         holds.1,
-        held_there p its (midpoints (digits_of request.bits) there.0) holds.0 holds.1 (there.0, there.1, refl) there.2.0 there.2.1 there.2.2 there.2.3,
+        held_there sound p its (midpoints (digits_of request.bits) there.0) holds.0 holds.1 (there.0, there.1, refl) there.2.0 there.2.1 there.2.2 there.2.3,
         is ∙ ap (λ (z : Placement). placement_words report (digits_of request.bits) s p z) holds.2,
       )
 
@@ -179,35 +239,14 @@ module _ (report : Report) (request : Request) (s : Sketch) (status : Status) (t
   named_text p its (Holds at t) placed other is = absurd (other refl)
 
   -- where all holds, the report is written of the places
-  pub solved_text : IsSolved report request s status text → status ≡ Done
+  pub solved_text : IsSoundGraph (graph_of s) → IsSolved report request s status text → status ≡ Done
       → (p : ThePlan) × (at : Placed) × (t : Tolerance) × HoldsAt request s p at t × (text ≡ report_words report (digits_of request.bits) s p at t)
-  solved_text (inl (p, q, placed, status_is, text_is)) same =
-      let found = held_text p (placed.well, placed.plan) q placed.placed (sym status_is ∙ same) text_is in (p, found.0, found.1, found.2, found.3)
-  solved_text (inr (short, told)) same = absurd (let clash : NotWell ≡ Done = sym short ∙ same in cc)
+  solved_text sound (inl (p, q, placed, status_is, text_is)) same =
+      let found = held_text sound p (placed.well, placed.plan) q placed.placed (sym status_is ∙ same) text_is in (p, found.0, found.1, found.2, found.3)
+  solved_text sound (inr (short, told)) same = absurd (let clash : NotWell ≡ Done = sym short ∙ same in cc)
 
   -- else what fails first is named
   pub failed_text : IsSolved report request s status text → status ≢ Done → status ≢ NotWell → NamesTheFirst request s text
   failed_text (inl (p, q, placed, status_is, text_is)) other short =
       named_text p (placed.well, placed.plan) q placed.placed (λ done. other (status_is ∙ done)) text_is
   failed_text (inr (is, told)) other short = absurd (short is)
-
--- the judgement whose report a text ends with
-pub report_told : OneSketch → NotBoth → LowerLaws → (command : Command) (request : Request) (bytes text : List ℕ) (status : Status) (s : Sketch) → IsAnswerOf command request bytes status text → IsSketchOf command request bytes s
-    → WritesCheckReport command status → (j : Judgement) × (lines : List ℕ) × (text ≡ lines ++ check_report s j) × IsTheJudgement (graph_of s) j
-report_told one_sketch not_both laws Check request bytes text Done s (t, j, reads', judged, is) reads writes =
-    let same = one_sketch bytes t s reads' reads in (j, [], is ∙ ap (λ z. check_report z j) same, subst (λ z. IsTheJudgement (graph_of z) j) same judged)
-report_told one_sketch not_both laws Offers request bytes text Done s (f, os, reads', reads_os, report) (g, reads, s_is) writes =
-    let same = ap (λ (z : Front). z.sketch) (laws.front.one_front bytes f g reads' reads) ∙ sym s_is in
-    (report.judgement, report.lines, report.is ∙ ap (λ z. report.lines ++ check_report z report.judgement) same, subst (λ z. IsTheJudgement (graph_of z) report.judgement) same report.judged)
-report_told one_sketch not_both laws Plan request bytes text NotWell s (t, reads', (j, judged, not_well, is)) reads writes =
-    let same = one_sketch bytes t s reads' reads in (j, [], is ∙ ap (λ z. check_report z j) same, subst (λ z. IsTheJudgement (graph_of z) j) same judged)
-report_told one_sketch not_both laws Solve request bytes text NotWell s answer about writes =
-    let solved = solved_about one_sketch not_both Solve request bytes text NotWell s answer refl about in
-    let told = unplaced solved.0 request s NotWell text solved.2 refl in (told.0, [], told.3, told.1)
-report_told one_sketch not_both laws Dxf request bytes text NotWell s answer about writes =
-    let solved = solved_about one_sketch not_both Dxf request bytes text NotWell s answer refl about in
-    let told = unplaced solved.0 request s NotWell text solved.2 refl in (told.0, [], told.3, told.1)
-report_told one_sketch not_both laws Grow request bytes text NotWell s answer about writes =
-    let solved = solved_about one_sketch not_both Grow request bytes text NotWell s answer refl about in
-    let told = unplaced solved.0 request s NotWell text solved.2 refl in (told.0, [], told.3, told.1)
-report_told one_sketch not_both laws command request bytes text status s answer about writes = absurd writes

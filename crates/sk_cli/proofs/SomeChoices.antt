@@ -1,9 +1,8 @@
 -- Each family has a list of choices.
-use Rattle.std.proofs.Common.{◌≡◌, ◌≢◌, ◌⊎◌, inl, inr, refl, ℕ, List, [], ◌∷◌, ap, sym, subst, ◌∙◌}
-use Rattle.std.specs.Prelude.{Contains, AllPairs, map}
+use Rattle.std.proofs.Common.{◌≡◌, ◌≢◌, ◌⊎◌, inl, inr, refl, List, [], ◌∷◌, sym, subst, ◌∙◌}
+use Rattle.std.specs.Prelude.{Contains, AllPairs}
 use Rattle.sk_base.specs.declared.Elem.{Elem}
 use Rattle.sk_base.specs.declared.Kind.TheVariants.{Line}
-use Rattle.sk_base.specs.declared.Node.{Node}
 use Rattle.sk_base.specs.declared.Name.{Name}
 use Rattle.sk_base.specs.declared.Graph.{Graph}
 use Rattle.sk_base.specs.ClusterNames.{IsBelow}
@@ -11,12 +10,12 @@ use Rattle.sk_base.proofs.Members.{contains_none, contains_head, contains_cases,
 use Rattle.sk_base.proofs.Pairs.{pairs_head}
 use Rattle.sk_family.specs.declared.Cluster.{Cluster}
 use Rattle.sk_family.specs.Clusters.{Clusters, IsNamed, live_names}
-use Rattle.sk_family.proofs.Naming.{below_chain, below_irreflexive, below_asymmetric}
+use Rattle.sk_family.proofs.Naming.{below_chain}
 use Rattle.sk_rules.specs.declared.Merge.{Merge}
 use Rattle.sk_rules.specs.declared.Merge.TheVariants.{Two, Three}
 use Rattle.sk_rules.specs.Merges.{Falls, Holds, names_of}
 use Rattle.sk_rules.specs.Rules.{IsLine, SharesTwo, IsPair, IsTriangle, MeetsInThree}
-use Rattle.sk_worklist.specs.Choices.{NamesBefore, ComesFirst, CanTake, IsFirstPair, AreTriples, AreChoices}
+use Rattle.sk_worklist.specs.Choices.{NamesBefore, ComesFirst, CanTake, AreTriples, AreChoices}
 use Rattle.sk_worklist.proofs.OneRun.{below_tells, names_irreflexive, names_asymmetric}
 use Rattle.sk_family.proofs.Bodies.{elem_settles}
 use Rattle.sk_cli.proofs.Deciding.{Decided, both, denied, moved, some_in, is_in, node_settles, name_below, name_settles}

@@ -1,5 +1,5 @@
 -- Each constraint of a sound graph has its frame.
-use Rattle.std.proofs.Common.{◌≡◌, refl, ℕ, ◌≤◌, ◌*◌, ◌<◌, ◌<ℤ◌, ◌+ℤ◌, ◌*ℤ◌, ℤ, pos, neg_ℤ, unsigned_abs, List, [], ◌∷◌, ◌++◌, ap, sym, ◌∙◌, Ok, arith, subst}
+use Rattle.std.proofs.Common.{◌≡◌, refl, ℕ, ◌≤◌, ◌*◌, ◌<◌, ◌<ℤ◌, ℤ, pos, unsigned_abs, List, [], ◌∷◌, ◌++◌, ap, ◌∙◌, Ok, arith}
 use Rattle.std.specs.Prelude.{Some, Result}
 use Rattle.std.proofs.lemmas.Int.{ints}
 use Rattle.sk_base.specs.declared.Sign.{Sign}
@@ -10,7 +10,6 @@ use Rattle.sk_base.specs.declared.Graph.{Graph}
 use Rattle.sk_base.specs.declared.Measure.{Measure}
 use Rattle.sk_base.specs.declared.Measure.TheVariants.{PointPoint, PointLine, LineLine}
 use Rattle.sk_base.specs.SoundGraph.{IsSoundGraph}
-use Rattle.sk_base.specs.SoundSketch.{IsSoundRatio}
 use Rattle.sk_interval.specs.declared.Cause.{Cause}
 use Rattle.sk_interval.specs.Interval.{Interval}
 use Rattle.sk_interval.specs.Operations.{of_micrometres, whole, root, quotient, normal_of}
@@ -24,7 +23,6 @@ use Rattle.sk_steps.proofs.LeafLemmas.{length-ok, whole-ok, norm, ratio, root-ok
 use Rattle.sk_place.specs.declared.BoxAt.{BoxAt}
 use Rattle.sk_place.specs.Trees.{edge_of, two_boxes, frame_of as frame_in}
 use Rattle.sk_place.proofs.Edges.{edge_there, edge_measured}
-use Rattle.sk_base.specs.Numbering.{elem_exact}
 use Rattle.std.specs.Prelude.{Contains}
 
 module _ (F : ℕ) where

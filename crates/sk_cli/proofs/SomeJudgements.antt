@@ -1,15 +1,14 @@
 -- Each family has a judgement.
-use Rattle.std.proofs.Common.{◌≡◌, ◌≢◌, ◌⊎◌, inl, inr, refl, List, [], ◌∷◌, ◌++◌, ap, sym, subst, ◌∙◌, suc, arith}
-use Rattle.std.specs.Prelude.{Contains, AllPairs, All, map, ◌↔◌}
+use Rattle.std.proofs.Common.{◌≡◌, ◌≢◌, inl, inr, refl, List, [], ◌∷◌, ◌++◌, sym, subst}
+use Rattle.std.specs.Prelude.{Contains, map}
 use Rattle.std.proofs.lemmas.List.Elements.{Contains-append_left, Contains-append_right}
 use Rattle.sk_base.specs.declared.Elem.{Elem}
 use Rattle.sk_base.specs.declared.Edge.{Edge}
-use Rattle.sk_base.specs.declared.Node.{Node}
 use Rattle.sk_base.specs.declared.Graph.{Graph}
 use Rattle.sk_base.specs.SoundGraph.{IsSoundGraph}
 use Rattle.sk_base.specs.ElementOrder.{ElementsBefore}
 use Rattle.sk_base.proofs.ListOrder.{before_tells, before_chain}
-use Rattle.sk_base.proofs.Members.{list_settles, contains_none, contains_head, contains_later, contains_cases, contains_mapped, mapped_from}
+use Rattle.sk_base.proofs.Members.{list_settles, contains_mapped, mapped_from}
 use Rattle.sk_base.proofs.Pairs.{pairs_map}
 use Rattle.sk_family.specs.Body.{Body}
 use Rattle.sk_rules.specs.Reach.{IsNormal}
@@ -17,7 +16,7 @@ use Rattle.sk_rules.proofs.NormalForm.{normal_same}
 use Rattle.sk_verdict.specs.declared.Part.{Part}
 use Rattle.sk_verdict.specs.declared.Judgement.{Judgement}
 use Rattle.sk_verdict.specs.Ordering.{PartBefore}
-use Rattle.sk_verdict.specs.Parts.{elem_of, IsNamedByNone, IsLone, AreOfOnePart, part_with, IsPart}
+use Rattle.sk_verdict.specs.Parts.{elem_of, IsLone, AreOfOnePart, part_with}
 use Rattle.sk_verdict.specs.Judging.{IsJudgement, verdict_on}
 use Rattle.sk_verdict.proofs.Judgements.{judgement_moves}
 use Rattle.sk_plan.specs.Judged.{IsTheJudgement}

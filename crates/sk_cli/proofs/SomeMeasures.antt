@@ -1,16 +1,14 @@
 -- Where the elements of a graph are placed, each item has its own least number, and so there is a worst one, and a first
 -- that is above a limit or none.
-use Rattle.std.proofs.Common.{◌≡◌, ◌≢◌, ◌⊎◌, inl, inr, refl, ℕ, zero, suc, ◌+◌, ◌*◌, ◌<◌, ◌≤◌, ◌^◌, ℤ, pos, negsuc, neg_ℤ, ◌+ℤ◌, ◌*ℤ◌, unsigned_abs, Bool, true, false, List, [], ◌∷◌, ◌++◌, map, ap, sym, subst, ◌∙◌, append_assoc, length, get_or, Option, None, Some, arith}
-use Rattle.std.specs.Prelude.{Contains, All, int_lt, is_none, ◌||◌, nat_lt, if◌then◌else◌}
-use Rattle.std.specs.Option.{option_map}
+use Rattle.std.proofs.Common.{◌≡◌, ◌≢◌, ◌⊎◌, inl, inr, refl, ℕ, zero, suc, ◌+◌, ◌*◌, ◌<◌, ℤ, pos, negsuc, unsigned_abs, Bool, true, false, List, [], ◌∷◌, ◌++◌, ap, sym, subst, append_assoc, Option, None, Some, arith}
+use Rattle.std.specs.Prelude.{Contains, is_none, ◌||◌, nat_lt}
 use Rattle.std.specs.Int.{div_ceil}
 use Rattle.std.specs.List.{flat_map}
 use Rattle.std.proofs.lemmas.Int.{ints}
 use Rattle.std.proofs.lemmas.List.{append-nil}
-use Rattle.std.proofs.lemmas.List.Elements.{Contains-get_or, Contains-append_cases}
+use Rattle.std.proofs.lemmas.List.Elements.{Contains-append_cases}
 use Rattle.sk_base.specs.declared.At.{At}
 use Rattle.sk_base.specs.declared.At.TheVariants as places
-use Rattle.sk_base.specs.declared.ConId.{ConId}
 use Rattle.sk_base.specs.declared.Elem.{Elem}
 use Rattle.sk_base.specs.declared.Edge.{Edge}
 use Rattle.sk_base.specs.declared.Node.{Node}
@@ -31,9 +29,9 @@ use Rattle.sk_residual.specs.declared.Spotted.{Spotted}
 use Rattle.sk_residual.specs.declared.Turned.{Turned}
 use Rattle.sk_residual.specs.Least.{IsLeast, IsFirst}
 use Rattle.sk_residual.specs.Offsets.{billion, distance_squared, angle_unit}
-use Rattle.sk_residual.specs.Holding.{IsLength, IsOffset, IsNormal, IsMet, FitsKinds}
+use Rattle.sk_residual.specs.Holding.{IsOffset, IsNormal, IsMet, FitsKinds}
 use Rattle.sk_residual.specs.Placing.{lies, IsModerate, PlacesExactly}
-use Rattle.sk_residual.specs.Tolerances.{Item, normal, constraint, name_of, IsOwnLeast, AllHold, IsFirstBeyond, distances, distance_of_measure, angles, angle_of_measure, normals, normal_of_kind, constraints, lengthwise, anglewise, everything}
+use Rattle.sk_residual.specs.Tolerances.{Item, normal, constraint, name_of, IsOwnLeast, AllHold, IsFirstBeyond, distance_of_measure, angles, angle_of_measure, normals, normal_of_kind, constraints, lengthwise, anglewise, everything}
 use Rattle.sk_residual.specs.Turns.{value_of, IsAsDrawn, IsTurned, AllAsDrawn}
 use Rattle.sk_residual.specs.Telling.{IsTold}
 use Rattle.sk_residual.proofs.LengthLemmas.{least_length}

@@ -1,48 +1,30 @@
 -- Words and an input have an outcome.
-use Rattle.std.proofs.Common.{◌≡◌, ◌≢◌, ◌⊎◌, inl, inr, refl, ℕ, ◌≤◌, ◌<◌, ◌^◌, ◌*◌, ◌+ℤ◌, ◌*ℤ◌, ℤ, pos, neg_ℤ, unsigned_abs, Bool, true, false, List, [], ◌∷◌, ◌++◌, Option, None, Some, Ok, Err, ap, sym, subst, ◌∙◌, length, get_or, take, map, arith, lit≤}
-use Rattle.std.specs.Prelude.{All, Contains, drop, int_lt, if◌then◌else◌}
-use Rattle.std.proofs.lemmas.Int.{ints}
-use Rattle.std.proofs.lemmas.List.Elements.{Contains-get_or}
+use Rattle.std.proofs.Common.{◌≡◌, ◌≢◌, ◌⊎◌, inl, inr, refl, ℕ, ◌≤◌, ◌<◌, List, ◌++◌, Some, length, take, arith}
+use Rattle.std.specs.Prelude.{drop}
 use Rattle.sk_base.specs.declared.Placed.{Placed}
 use Rattle.sk_base.specs.declared.Sketch.{Sketch}
-use Rattle.sk_base.specs.declared.Spot.{Spot}
-use Rattle.sk_base.specs.Bounds.{IsWithin as IsAtMost}
-use Rattle.sk_base.specs.Nearest.{nearest, nearest_size}
-use Rattle.sk_base.specs.Places.{IsBounded}
 use Rattle.sk_base.specs.SoundSketch.{IsSoundSketch}
 use Rattle.sk_base.specs.SoundGraph.{IsSoundGraph}
-use Rattle.sk_base.proofs.Members.{mapped_from}
-use Rattle.sk_base.proofs.Quotients.{size_within}
 use Rattle.sk_lang.specs.declared.Code.{Code}
 use Rattle.sk_lang.specs.declared.Front.{Front}
 use Rattle.sk_lang.specs.declared.Refusal.{Refusal}
-use Rattle.sk_lang.specs.Reading.{Reads, Refuses}
 use Rattle.sk_lang.specs.Front.{ReadsFront, RefusesFront}
+use Rattle.sk_lang.specs.Reading.{Reads, Refuses}
 use Rattle.sk_graph.specs.SketchGraph.{graph_of}
 use Rattle.sk_graph.proofs.Soundness.{graph_is_sound}
 use Rattle.sk_gen.specs.DatumSketch.{datum_sketch}
-use Rattle.sk_interval.specs.Interval.{Interval}
-use Rattle.sk_interval.proofs.PowerLemmas.{power_below}
-use Rattle.sk_steps.specs.declared.BoxOf.{BoxOf}
-use Rattle.sk_steps.specs.declared.BoxOf.TheVariants.{Point, Line}
 use Rattle.sk_worklist.specs.declared.Order.{Order}
 use Rattle.sk_worklist.specs.declared.Order.TheVariants.{First}
-use Rattle.sk_worklist.specs.Orders.{Choosing, place_of, next_call, place_below}
+use Rattle.sk_worklist.specs.Orders.{place_of, next_call, place_below}
 use Rattle.sk_verdict.specs.declared.Judgement.{Judgement}
-use Rattle.sk_verdict.specs.declared.Verdict.{Verdict}
-use Rattle.sk_verdict.specs.declared.Verdict.TheVariants.{Well, Over, Several}
 use Rattle.sk_tree.specs.declared.Plan.{Plan as ThePlan}
 use Rattle.sk_tree.specs.LegalPlan.{IsLegalPlan}
 use Rattle.sk_plan.specs.Judged.{IsTheJudgement, IsWell}
-use Rattle.sk_place.specs.declared.BoxAt.{BoxAt}
-use Rattle.sk_place.specs.Rounding.{IsWithin, IsBoundedBox, AreBounded, midpoint, rounded, rounded_box}
-use Rattle.sk_place.proofs.Midpoints.{parts_within}
 use Rattle.sk_offers.specs.Offering.{starting_table}
 use Rattle.sk_residual.specs.Placing.{PlacesExactly}
 use Rattle.sk_residual.specs.Telling.{constraint_of}
-use Rattle.sk_residual.specs.Tolerances.{lengthwise, anglewise, everything, AllHold}
+use Rattle.sk_residual.specs.Tolerances.{lengthwise, anglewise, everything}
 use Rattle.sk_residual.specs.Turns.{signs}
-use Rattle.sk_residual.proofs.InOrder.{exactly_in_order}
 use Rattle.sk_residual.proofs.Worsts.{worst_distance_named}
 use Rattle.sk_report.specs.CheckReport.{check_report}
 use Rattle.sk_report.specs.PlanReport.{plan_report}
@@ -56,45 +38,21 @@ use Rattle.sk_cli.specs.declared.solving.Report.{Report}
 use Rattle.sk_cli.specs.declared.solving.Report.TheVariants.{Places, Drawing, Sums}
 use Rattle.sk_cli.specs.declared.status.Status.{Status}
 use Rattle.sk_cli.specs.declared.status.Status.TheVariants.{Done, Refused, Usage, NotWell}
-use Rattle.sk_cli.specs.Asking.{Asks}
 use Rattle.sk_cli.specs.Grids.{grid_of, digits_of}
-use Rattle.sk_cli.specs.OffersReport.{IsOffersAnswer}
-use Rattle.sk_cli.specs.Outcome.{usage_line, IsCheckAnswer, IsPlanBy, IsPlanReport, IsReportNotWell, IsPlanAnswer, IsPlacedPlan, IsSolved, IsSolveAnswer, IsGrowAnswer, IsAnswerOf, IsOutcome}
+use Rattle.sk_cli.specs.Outcome.{usage_line, IsPlanBy, IsReportNotWell, IsSolved, IsSolveAnswer, IsAnswerOf, IsOutcome}
 use Rattle.sk_cli.specs.Solving.{midpoints, IsMeasured, IsPlacement, status_of, placement_words}
 use Rattle.sk_cli.proofs.FittingOffers.{read_fit}
 use Rattle.sk_cli.proofs.OfferAnswers.{some_answer as read_or_refused}
-use Rattle.sk_cli.proofs.Placements.{spots_made, placement_of}
+use Rattle.sk_cli.proofs.PlacedSpots.{exactly_so}
+use Rattle.sk_cli.proofs.Placements.{placement_of}
 use Rattle.sk_cli.proofs.Sizes.{grow_size}
 use Rattle.sk_cli.proofs.SomeAnswers.{some_answers}
-use Rattle.sk_cli.proofs.SomeFronts.{SomeAnswer, some_front}
 use Rattle.sk_cli.proofs.SomeMeasures.{own_everything, own_lengthwise, own_anglewise, some_told, searched, compared}
 use Rattle.sk_cli.proofs.SomePlaces.{some_places}
 use Rattle.sk_cli.proofs.SomePlans.{judgement_there, some_plan}
 use Rattle.sk_cli.proofs.SomeRequests.{form_decided}
-
--- ---- midpoints are within the bounds of placed numbers
-
-signed_within : (b : Bool) (m most : ℕ) → m ≤ most → IsAtMost most (if b then neg_ℤ (pos m) else pos m)
-signed_within true m most few = (omega (arith, ints), omega (arith, ints))
-signed_within false m most few = (omega (arith, ints), omega (arith, ints))
-
-midpoint_within : (k F parts most : ℕ) (x : Interval) → IsWithin k F x → 2 ^ k * parts ≤ most → 0 < 2 * 2 ^ F → IsAtMost most (midpoint F parts x)
-midpoint_within k F parts most x within few some =
-    let n : ℤ = (x.lo +ℤ x.hi) *ℤ pos parts in
-    signed_within (int_lt n (pos 0)) (nearest_size (2 * 2 ^ F) (unsigned_abs n)) most (size_within (2 * 2 ^ F) (unsigned_abs n) most some (parts_within k F parts most x within few))
-
-box_within : {G : Type 0} (F : ℕ) (b : BoxOf G) → 0 < 2 * 2 ^ F → IsBoundedBox F b → IsBounded (rounded_box F b)
-box_within F (Point x y) some h =
-    (midpoint_within 40 F 1000000 1152921504606846976 x h.0 (lit≤ tt) some, midpoint_within 40 F 1000000 1152921504606846976 y h.1 (lit≤ tt) some)
-box_within F (Line a b c) some h =
-    (midpoint_within 1 F 1000000000 2000000000 a h.0 (lit≤ tt) some, midpoint_within 1 F 1000000000 2000000000 b h.1 (lit≤ tt) some, midpoint_within 40 F 1000000 1152921504606846976 c h.2 (lit≤ tt) some)
-
-all_within : {G : Type 0} (F : ℕ) (bs : List (BoxAt G)) → 0 < 2 * 2 ^ F → AreBounded F bs → All (λ (spot : Spot). IsBounded spot.at) (map (rounded F) bs)
-all_within {G} F bs some bounded k d below =
-    let found = mapped_from (rounded F) bs (get_or (map (rounded F) bs) k d) (Contains-get_or (map (rounded F) bs) k d below) in
-    let at = found.1 in
-    let box : IsBoundedBox F found.0.at = subst (λ (b : BoxAt G). IsBoundedBox F b.at) at.2 (bounded at.0 found.0 at.1) in
-    subst (λ (spot : Spot). IsBounded spot.at) found.2 (box_within F found.0.at some box)
+use Rattle.sk_session.proofs.SomeReplies.{GivenByLanguage, well_or_not}
+use Rattle.sk_cli.proofs.SomeSessions.{SomeToSolve, some_session}
 
 -- ---- what is measured
 
@@ -124,14 +82,13 @@ some_measured limit s p at sound exactly =
       ]
     ]
 
-some_placement : (G : Type 0) (F limit : ℕ) (s : Sketch) (p : ThePlan) → 0 < 2 * 2 ^ F → IsSoundGraph (graph_of s) → IsLegalPlan (graph_of s) p → (q : Placement) × IsPlacement G F limit s p q
-some_placement G F limit s p some sound legal =
+some_placement : (G : Type 0) (F limit : ℕ) (s : Sketch) (p : ThePlan) → IsSoundGraph (graph_of s) → IsLegalPlan (graph_of s) p → (q : Placement) × IsPlacement G F limit s p q
+some_placement G F limit s p sound legal =
     elim (some_places G F (graph_of s) p sound legal) [
       | inr (f, failed) ↦ (Fault f, failed)
       | inl has ↦ (
           let at : Placed = midpoints F has.list in
-          let spots = spots_made F has.list (graph_of s).nodes at.spots has.nodes refl (all_within F has.list some has.bounded) in
-          let measured = some_measured limit s p at sound (exactly_in_order (graph_of s) at sound.nodes_rise spots) in
+          let measured = some_measured limit s p at sound (exactly_so G F (graph_of s) p sound legal has) in
           (measured.0, placement_of G F limit s p (graph_of s) has.list at measured.0 refl has.placed refl measured.1))
     ]
 
@@ -139,18 +96,16 @@ some_placement G F limit s p some sound legal =
 
 -- the laws of the layers below
 pub record LawsBelow : Type 0 where
-  pub answer : SomeAnswer
+  pub answer : (bytes : List ℕ) → ((s : Sketch) × Reads bytes s) ⊎ ((n : ℕ) × ((code : Code) × Refuses bytes n code))
+  pub front : (bytes : List ℕ) → ((f : Front) × ReadsFront bytes f) ⊎ ((n : ℕ) × ((code : Code) × RefusesFront bytes n code))
   pub sound : (bytes : List ℕ) (s : Sketch) → Reads bytes s → IsSoundSketch s
   pub some : (bytes : List ℕ) (s : Sketch) → Reads bytes s → 0 < length s.elements
+  pub language : GivenByLanguage
+  pub to_solve : SomeToSolve
   pub made : (n : ℕ) → 3 ≤ n → n ≤ 1000 → IsSoundSketch (datum_sketch n)
 
 the_judgement_of : (s : Sketch) → IsSoundSketch s → (j : Judgement) × IsTheJudgement (graph_of s) j
 the_judgement_of s sketch = judgement_there place_of next_call place_below (record { order = First; call = 0 }) (graph_of s) (graph_is_sound s sketch)
-
-well_or_not : (v : Verdict) → (v ≡ Well) ⊎ (v ≢ Well)
-well_or_not Well = inl refl
-well_or_not Over = inr (λ e. cc)
-well_or_not Several = inr (λ e. cc)
 
 -- the plan by the order, or a verdict that isn't well
 planned : (order : Order) (s : Sketch) → IsSoundSketch s → 0 < length s.elements
@@ -184,16 +139,13 @@ planned_answer laws request bytes =
       ]
     ]
 
-some_unit : (F : ℕ) → 0 < 2 * 2 ^ F
-some_unit F = (let unit = power_below 0 F (omega arith) in omega (arith, unit))
-
 -- what is placed of a sketch; its status isn't a refusal's
 solved : (report : Report) (request : Request) (s : Sketch) → IsSoundSketch s → 0 < length s.elements → (status : Status) × (text : List ℕ) × (status ≢ Refused) × IsSolved report request s status text
 solved report request s sketch some =
     elim (planned request.order s sketch some) [
       | inr (text, never) ↦ (NotWell, text, (λ e. cc), inr (refl, never))
       | inl (well, (p, by)) ↦ (
-          let q = some_placement (grid_of request.bits) (digits_of request.bits) request.within s p (some_unit (digits_of request.bits)) (graph_is_sound s sketch) by.legal in
+          let q = some_placement (grid_of request.bits) (digits_of request.bits) request.within s p (graph_is_sound s sketch) by.legal in
           (status_of q.0, placement_words report (digits_of request.bits) s p q.0, no_refusal q.0, inl (p, q.0, record { well = well; plan = by; placed = q.1 }, refl, refl)))
     ]
   where
@@ -218,7 +170,7 @@ solve_answer laws report request bytes =
 
 offers_answer : LawsBelow → (request : Request) (bytes : List ℕ) → Answered Offers request bytes
 offers_answer laws request bytes =
-    elim (some_front laws.answer bytes) [
+    elim (laws.front bytes) [
       | inr (n, (code, refuses)) ↦ (let r : Refusal = record { line = n; code = code } in (Refused, refusal_line r, (r, inl refuses, refl)))
       | inl (f, front) ↦ elim (read_or_refused f.lines (drop f.used bytes)) [
         | inr (n, (code, refuses)) ↦ (let r : Refusal = record { line = n; code = code } in (Refused, refusal_line r, (r, inr (f, front, refuses), refl)))
@@ -246,25 +198,24 @@ offers_answer laws request bytes =
       ]
     ]
 
-answered : LawsBelow → (command : Command) (request : Request) → command ≢ Session → (command ≡ Grow → (n : ℕ) × (request.size ≡ Some n) × (3 ≤ n) × (n ≤ 1000)) → (bytes : List ℕ) → Answered command request bytes
-answered laws Check request other size bytes = checked laws request bytes
-answered laws Plan request other size bytes = planned_answer laws request bytes
-answered laws Solve request other size bytes = solve_answer laws Places request bytes
-answered laws Dxf request other size bytes = solve_answer laws Drawing request bytes
-answered laws Offers request other size bytes = offers_answer laws request bytes
-answered laws Session request other size bytes = absurd (other refl)
-answered laws Grow request other size bytes =
+answered : LawsBelow → (command : Command) (request : Request) → (command ≡ Grow → (n : ℕ) × (request.size ≡ Some n) × (3 ≤ n) × (n ≤ 1000)) → (bytes : List ℕ) → Answered command request bytes
+answered laws Check request size bytes = checked laws request bytes
+answered laws Plan request size bytes = planned_answer laws request bytes
+answered laws Solve request size bytes = solve_answer laws Places request bytes
+answered laws Dxf request size bytes = solve_answer laws Drawing request bytes
+answered laws Offers request size bytes = offers_answer laws request bytes
+answered laws Session request size bytes =
+    some_session laws.language laws.to_solve (λ asked s sound some. (let found = solved Places asked s sound some in (found.0, found.1, found.3))) request bytes
+answered laws Grow request size bytes =
     let n = size refl in
     let found = solved Sums request (datum_sketch n.0) (laws.made n.0 n.2 n.3) (omega arith) in
     (found.0, found.1, (n.0, n.1, found.3))
 
--- words that don't ask for a session have an outcome with each input
-pub some_outcome : LawsBelow → (words : List (List ℕ)) (bytes : List ℕ) → ((request : Request) → Asks words request → request.command ≢ Session)
-    → (status : Status) × (text : List ℕ) × IsOutcome words bytes status text
-some_outcome laws words bytes other =
+pub some_outcome : LawsBelow → (words : List (List ℕ)) (bytes : List ℕ) → (status : Status) × (text : List ℕ) × IsOutcome words bytes status text
+some_outcome laws words bytes =
     elim (form_decided words) [
       | inr never ↦ (Usage, usage_line, inr (never, refl, refl))
       | inl (request, asks) ↦ (
-          let found = answered laws request.command request (other request asks) (λ is. grow_size words request asks is) bytes in
+          let found = answered laws request.command request (λ is. grow_size words request asks is) bytes in
           (found.0, found.1, inl (request, asks, found.2)))
     ]

@@ -1,6 +1,6 @@
 -- A legal plan has its boxes, or a first fault.
-use Rattle.std.proofs.Common.{◌≡◌, ◌⊎◌, inl, inr, refl, ℕ, zero, suc, ◌+◌, ◌<◌, List, [], ◌∷◌, ◌++◌, ap, sym, subst, ◌∙◌, length, get_or, Option, None, Some, IsSome, Result, Ok, Err, arith}
-use Rattle.std.specs.Prelude.{Contains, slice_index_or, false, true}
+use Rattle.std.proofs.Common.{◌≡◌, ◌⊎◌, inl, inr, refl, ℕ, zero, suc, ◌+◌, ◌<◌, List, [], ◌∷◌, ◌++◌, subst, length, get_or, Option, None, Some, IsSome, Result, Ok, Err, arith}
+use Rattle.std.specs.Prelude.{slice_index_or, false, true}
 use Rattle.sk_base.specs.declared.ConId.{ConId}
 use Rattle.sk_base.specs.declared.Graph.{Graph}
 use Rattle.sk_base.specs.declared.Name.{Name}
@@ -22,6 +22,7 @@ use Rattle.sk_place.proofs.Afters.{at_start, at_next, can_join}
 use Rattle.sk_place.proofs.Edges.{some_edge, edge_found}
 use Rattle.sk_place.proofs.Ending.{no_tree, leaf_there, left_there, left_boxes, left_nodes, left_bounded, lone_nodes, lone_bounded}
 use Rattle.sk_place.proofs.Failing.{failed_run}
+use Rattle.sk_session.proofs.SomeReplies.{last_or_none}
 use Rattle.sk_cli.proofs.SomeFrames.{some_frame}
 
 -- the item at a place of a list
@@ -29,15 +30,6 @@ item_at : {X : Type 0} (xs : List X) (i : ℕ) → i < length xs → (x : X) × 
 item_at [] i inside = absurd (omega arith)
 item_at (x ∷ xs) zero inside = (x, refl)
 item_at (x ∷ xs) (suc i) inside = (let rest = item_at xs i (omega arith) in (rest.0, rest.1))
-
--- a list has a last item, or none
-last_or_none : {X : Type 0} (xs : List X) → (xs ≡ []) ⊎ ((before : List X) × (last : X) × (xs ≡ before ++ last ∷ []))
-last_or_none [] = inl refl
-last_or_none {X} (x ∷ xs) =
-    elim (last_or_none xs) [
-      | inl none ↦ inr ([], x, ap (λ (ys : List X). x ∷ ys) none)
-      | inr (before, last, is) ↦ inr (x ∷ before, last, ap (λ (ys : List X). x ∷ ys) is)
-    ]
 
 module _ (G : Type 0) (F : ℕ) (g : Graph) (p : Plan) (sound : IsSoundGraph g) (legal : IsLegalPlan g p) where
   held_there : (live : List (Option (List (BoxAt G)))) (n : Name) → IsThere g live n → (bs : List (BoxAt G)) × (held F g live n ≡ Some bs)

@@ -9,7 +9,7 @@ use Rattle.sk_base.specs.declared.Sketch.{Sketch}
 use Rattle.sk_base.specs.ClusterNames.{IsBelow}
 use Rattle.sk_base.specs.SoundGraph.{IsSoundGraph}
 use Rattle.sk_base.specs.SoundSketch.{IsSoundSketch}
-use Rattle.sk_base.proofs.Members.{contains_head, contains_later, contains_one, contains_cases}
+use Rattle.sk_base.proofs.Members.{contains_one, contains_cases}
 use Rattle.sk_base.proofs.Unions.{which}
 use Rattle.sk_family.specs.declared.Cluster.{Cluster}
 use Rattle.sk_family.specs.Body.{initial_bodies}
@@ -19,7 +19,6 @@ use Rattle.sk_family.proofs.Soundness.{sound_initial, starting_bodies}
 use Rattle.sk_graph.specs.SketchGraph.{graph_of}
 use Rattle.sk_graph.proofs.Soundness.{graph_is_sound}
 use Rattle.sk_rules.specs.declared.Merge.{Merge}
-use Rattle.sk_rules.specs.declared.Shared.{Shared}
 use Rattle.sk_rules.specs.declared.Taken.{Taken}
 use Rattle.sk_rules.specs.Merges.{merged}
 use Rattle.sk_rules.specs.Reach.{Reach, IsNormal, IsClosed, stays}
@@ -30,7 +29,7 @@ use Rattle.sk_worklist.proofs.Runs.{none_closes}
 use Rattle.sk_tree.specs.declared.Plan.{Plan}
 use Rattle.sk_tree.specs.declared.PlanStep.{PlanStep}
 use Rattle.sk_tree.specs.ByNumber.{by_number}
-use Rattle.sk_tree.specs.LegalPlan.{merge_told, taken_told, numbers_of, IsPreferred, IsKept, IsLegalStep, IsWhole, AreLegalSteps, IsLegalPlan}
+use Rattle.sk_tree.specs.LegalPlan.{merge_told, taken_told, numbers_of, IsPreferred, IsKept, IsWhole, AreLegalSteps, IsLegalPlan}
 use Rattle.sk_tree.proofs.Joins.{first_three, second_three, third_three}
 use Rattle.sk_choice.specs.DrawnChoice.{drawn_choice, shapes_of, HasDrawnChoice}
 use Rattle.sk_choice.proofs.DrawnKinds.{Draws, graph_draws}
@@ -40,7 +39,7 @@ use Rattle.sk_plan.specs.Runs.{TakesOnce, EachTakesOnce}
 use Rattle.sk_plan.specs.Judged.{IsTheJudgement}
 use Rattle.sk_plan.proofs.Joined.{sound_taken, sound_end, reach_more, run_normal}
 use Rattle.sk_plan.proofs.Stepping.{legal_step}
-use Rattle.sk_plan.proofs.WellRuns.{EndsWell, ends_well, run_told}
+use Rattle.sk_plan.proofs.WellRuns.{ends_well, run_told}
 use Rattle.sk_cli.proofs.SomeRuns.{SomeRun, some_run, taken_of}
 use Rattle.sk_cli.proofs.SomeJudgements.{some_judgement, the_judgement}
 

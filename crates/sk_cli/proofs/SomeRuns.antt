@@ -1,22 +1,20 @@
 -- Each sound family and state of a picker has a run, and each sound graph a normal family.
-use Rattle.std.proofs.Common.{◌≡◌, inl, inr, refl, ℕ, zero, suc, ◌<◌, ◌≤◌, List, [], ◌∷◌, ap, sym, subst, ◌∙◌, length, get_or, arith}
-use Rattle.std.specs.Prelude.{Contains, map, slice_get, Some}
+use Rattle.std.proofs.Common.{◌≡◌, refl, ℕ, zero, suc, ◌<◌, ◌≤◌, List, [], ◌∷◌, ap, sym, length, get_or, arith}
+use Rattle.std.specs.Prelude.{map}
 use Rattle.std.proofs.lemmas.Option.{slice_get-get_or}
 use Rattle.std.proofs.lemmas.List.Elements.{Contains-get_or}
 use Rattle.sk_base.specs.declared.Graph.{Graph}
 use Rattle.sk_base.specs.declared.Name.TheVariants.{Step}
-use Rattle.sk_base.specs.SoundGraph.{IsSoundGraph}
-use Rattle.sk_family.specs.Clusters.{Clusters, bodies, initial_clusters, IsSound}
-use Rattle.sk_family.proofs.Soundness.{sound_initial, sound_replaced}
+use Rattle.sk_family.specs.Clusters.{Clusters, IsSound}
+use Rattle.sk_family.proofs.Soundness.{sound_replaced}
 use Rattle.sk_rules.specs.declared.Merge.{Merge}
 use Rattle.sk_rules.specs.declared.Taken.{Taken}
 use Rattle.sk_rules.specs.Merges.{names_of, merged}
-use Rattle.sk_rules.specs.Reach.{IsClosed}
-use Rattle.sk_rules.specs.Taking.{IsTaken, Leads}
+use Rattle.sk_rules.specs.Taking.{Leads}
 use Rattle.sk_rules.proofs.Merging.{can_be_replaced, merge_lessens}
-use Rattle.sk_worklist.specs.Choices.{CanTake, AreChoices}
+use Rattle.sk_worklist.specs.Choices.{AreChoices}
 use Rattle.sk_worklist.specs.Run.{PicksLead, IsRun, merge_of}
-use Rattle.sk_worklist.proofs.Runs.{choice_can, none_closes}
+use Rattle.sk_worklist.proofs.Runs.{choice_can}
 use Rattle.sk_worklist.proofs.Holding.{in_list}
 use Rattle.sk_cli.proofs.SomeChoices.{some_choices}
 use Rattle.sk_cli.proofs.SomeShared.{some_shared}

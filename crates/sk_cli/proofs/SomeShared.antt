@@ -1,5 +1,5 @@
 -- A merge that may be taken has least elements by which its rule holds.
-use Rattle.std.proofs.Common.{◌≡◌, ◌≢◌, ◌⊎◌, inl, inr, refl, ◌<◌, ◌≤◌, List, [], ◌∷◌, ap, sym, subst, ◌∙◌, arith}
+use Rattle.std.proofs.Common.{◌≡◌, ◌≢◌, ◌⊎◌, inl, inr, refl, ◌<◌, List, [], ◌∷◌, ap, sym, subst, ◌∙◌, arith}
 use Rattle.std.specs.Prelude.{Contains, AllPairs, Some, None, ◌↔◌}
 use Rattle.sk_base.specs.declared.Elem.{Elem}
 use Rattle.sk_base.specs.declared.Graph.{Graph}
@@ -14,7 +14,7 @@ use Rattle.sk_rules.specs.declared.Shared.{Shared}
 use Rattle.sk_rules.specs.Rules.{IsShared, IsTriangle, SharesTwo, MeetsInThree}
 use Rattle.sk_rules.specs.Merges.{Holds, IsLeastPair, ComesBefore, IsLeastTriangle, IsLeastShared}
 use Rattle.sk_family.proofs.Bodies.{elem_settles}
-use Rattle.sk_cli.proofs.Deciding.{Decided, both, is_in}
+use Rattle.sk_cli.proofs.Deciding.{both, is_in}
 use Rattle.sk_cli.proofs.Selecting.{selected, times, in_times}
 use Rattle.sk_cli.proofs.SomeChoices.{triangle_decided}
 

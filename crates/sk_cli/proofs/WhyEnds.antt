@@ -31,7 +31,7 @@ use Rattle.sk_cli.specs.Solving.{midpoints, status_of, IsMeasured, IsPlacement}
 use Rattle.sk_cli.specs.Outcome.{IsPlanBy, IsPlanOrReport, IsSolved, IsAnswer, IsAnswerOf, IsOutcome}
 use Rattle.sk_cli.specs.Causes.{plans, IsReportOf, IsSketchOf, IsRefusedInput, IsItsPlan, HasFault, LieAt, NonePasses, SomePasses, SomeTurned}
 use Rattle.sk_cli.proofs.OnePlacement.{told_placed}
-use Rattle.sk_cli.proofs.OneOutcome.{OneSketch, NotBoth, OneJudgement, LowerLaws, still_well, same_plan, same_request, told_check, told_plan, told_planned, told_solve, told_offers, not_read_and_refused}
+use Rattle.sk_cli.proofs.OneOutcome.{OneSketch, NotBoth, OneJudgement, LowerLaws, still_well, same_plan, same_request, told_check, told_plan, told_planned, told_solve, told_offers, told_session, not_read_and_refused}
 use Rattle.sk_cli.proofs.Runs.{solved_told}
 use Rattle.sk_report.specs.RefusalLine.{refusal_line}
 use Rattle.sk_worklist.specs.declared.Order.{Order}
@@ -213,7 +213,7 @@ module _ (law : OneJudgement) (laws : LowerLaws) (report : Report) (request : Re
   )
 
 -- the verdict of a sketch that `plan` reads
-planned_not_well : OneJudgement → (order : Order) (s : Sketch) (status : Status) (text : List ℕ) → IsPlanOrReport order s status text → (status ≡ NotWell) ↔ ¬ IsWell (graph_of s)
+pub planned_not_well : OneJudgement → (order : Order) (s : Sketch) (status : Status) (text : List ℕ) → IsPlanOrReport order s status text → (status ≡ NotWell) ↔ ¬ IsWell (graph_of s)
 planned_not_well law order s status text answer =
     elim (told_planned order s status text answer) [
       | inl (done, (p, well, by, is)) ↦ ((λ same. (let clash : Done ≡ NotWell = sym done ∙ same in cc)), (λ not_well. absurd (not_well well)))
@@ -236,6 +236,77 @@ not_well_about one_sketch not_both law laws Dxf request bytes text status s answ
     let solved = solved_about one_sketch not_both Dxf request bytes text status s answer refl about in not_well_both law laws solved.0 request s status text solved.2
 not_well_about one_sketch not_both law laws Grow request bytes text status s answer planned about =
     let solved = solved_about one_sketch not_both Grow request bytes text status s answer refl about in not_well_both law laws solved.0 request s status text solved.2
+
+-- a status that tells neither that the command did its work nor that the input is refused comes only of a sketch that is planned
+planned_sketch : (command : Command) (request : Request) (bytes text : List ℕ) (status : Status) → IsAnswerOf command request bytes status text → status ≢ Done → status ≢ Refused
+    → IsTrue (plans command) × ((s : Sketch) × IsSketchOf command request bytes s)
+planned_sketch Check request bytes text status answer done refused =
+    elim (told_check bytes status text answer) [ inl report ↦ absurd (done report.0) | inr line ↦ absurd (refused line.0) ]
+planned_sketch Offers request bytes text status answer done refused =
+    elim (told_offers bytes status text answer) [ inl report ↦ absurd (done report.0) | inr line ↦ absurd (refused line.0) ]
+planned_sketch Session request bytes text status answer done refused =
+    elim (told_session request bytes status text answer) [ inl ended ↦ absurd (done ended.0) | inr long ↦ absurd (refused long.0) ]
+planned_sketch Plan request bytes text status answer done refused =
+    elim (told_plan request.order bytes status text answer) [ inl (is, line) ↦ absurd (refused is) | inr (s, reads, told) ↦ (refl, (s, reads)) ]
+planned_sketch Solve request bytes text status answer done refused =
+    elim (told_solve Places request bytes status text answer) [ inl (is, line) ↦ absurd (refused is) | inr (s, reads, solved) ↦ (refl, (s, reads)) ]
+planned_sketch Dxf request bytes text status answer done refused =
+    elim (told_solve Drawing request bytes status text answer) [ inl (is, line) ↦ absurd (refused is) | inr (s, reads, solved) ↦ (refl, (s, reads)) ]
+planned_sketch Grow request bytes text status (n, size, solved) done refused = (refl, (datum_sketch n, (n, size, refl)))
+
+-- and where it tells not even that the verdict isn't well, the elements are placed
+placed_sketch : (command : Command) (request : Request) (bytes text : List ℕ) (status : Status) → IsAnswerOf command request bytes status text → status ≢ Done → status ≢ Refused → status ≢ NotWell
+    → IsTrue (places command) × ((s : Sketch) × IsSketchOf command request bytes s)
+placed_sketch command request bytes text status answer done refused short =
+    let there = planned_sketch command request bytes text status answer done refused in (placed command answer there.0, there.1)
+  where
+    placed : (command : Command) → IsAnswerOf command request bytes status text → IsTrue (plans command) → IsTrue (places command)
+    placed Check answer planned = cc
+    placed Offers answer planned = cc
+    placed Session answer planned = cc
+    placed Plan answer planned =
+        elim (told_plan request.order bytes status text answer) [
+          | inl (is, line) ↦ absurd (refused is)
+          | inr (s, reads, told) ↦ elim (told_planned request.order s status text told) [ inl (is, report) ↦ absurd (done is) | inr (is, report) ↦ absurd (short is) ]
+        ]
+    placed Solve answer planned = refl
+    placed Dxf answer planned = refl
+    placed Grow answer planned = refl
+
+module _ (one_sketch : OneSketch) (not_both_read : NotBoth) (law : OneJudgement) (laws : LowerLaws) (command : Command) (request : Request) (bytes text : List ℕ) (status : Status) (answer : IsAnswerOf command request bytes status text) where
+  pub not_well_exactly : (status ≡ NotWell) ↔ (IsTrue (plans command) × ((s : Sketch) × IsSketchOf command request bytes s × ¬ IsWell (graph_of s)))
+  not_well_exactly = (
+    (λ is. (
+        let there = planned_sketch command request bytes text status answer (λ done. (let clash : NotWell ≡ Done = sym is ∙ done in cc)) (λ refused. (let clash : NotWell ≡ Refused = sym is ∙ refused in cc)) in
+        (there.0, (there.1.0, there.1.1, (not_well_about one_sketch not_both_read law laws command request bytes text status there.1.0 answer there.0 there.1.1).0 is))
+        )),
+    (λ (planned, (s, about, not_well)). ((not_well_about one_sketch not_both_read law laws command request bytes text status s answer planned about).1 not_well)),
+  )
+
+  -- a status of a sketch that is placed comes exactly where its cause stands of that sketch
+  placed_exactly : (want : Status) → want ≢ Done → want ≢ Refused → want ≢ NotWell → (Why : Sketch → Type 0)
+      → ((s : Sketch) → IsTrue (places command) → IsSketchOf command request bytes s → (status ≡ want) ↔ Why s)
+      → (status ≡ want) ↔ (IsTrue (places command) × ((s : Sketch) × IsSketchOf command request bytes s × Why s))
+  placed_exactly want done refused short Why both = (
+    (λ is. (
+        let there = placed_sketch command request bytes text status answer (λ e. done (sym is ∙ e)) (λ e. refused (sym is ∙ e)) (λ e. short (sym is ∙ e)) in
+        (there.0, (there.1.0, there.1.1, (both there.1.0 there.0 there.1.1).0 is))
+        )),
+    (λ (placed, (s, about, why)). ((both s placed about).1 why)),
+  )
+
+  module _ (fit : HasFitSize request) where
+    pub fault_exactly : (status ≡ StepFault) ↔ (IsTrue (places command) × ((s : Sketch) × IsSketchOf command request bytes s × ((p : ThePlan) × IsItsPlan request s p × IsFault request s p)))
+    fault_exactly = placed_exactly StepFault (λ e. cc) (λ e. cc) (λ e. cc) (λ s. (p : ThePlan) × IsItsPlan request s p × IsFault request s p) (λ s placed about. (
+        let solved = solved_about one_sketch not_both_read command request bytes text status s answer placed about in
+        fault_both law laws solved.0 request s status text solved.2 (sound_about laws command request bytes s fit about)
+        ))
+
+    pub beyond_exactly : (status ≡ Tolerance) ↔ (IsTrue (places command) × ((s : Sketch) × IsSketchOf command request bytes s × ((p : ThePlan) × IsItsPlan request s p × IsBeyond request s p)))
+    beyond_exactly = placed_exactly Tolerance (λ e. cc) (λ e. cc) (λ e. cc) (λ s. (p : ThePlan) × IsItsPlan request s p × IsBeyond request s p) (λ s placed about. (
+        let solved = solved_about one_sketch not_both_read command request bytes text status s answer placed about in
+        beyond_both law laws solved.0 request s status text solved.2 (sound_about laws command request bytes s fit about)
+        ))
 
 -- no answer is that the words aren't of the form
 no_usage : (command : Command) (request : Request) (bytes text : List ℕ) → ¬ IsAnswerOf command request bytes Usage text
@@ -285,3 +356,41 @@ pub refused_both : OneSketch → NotBoth → LowerLaws → (command : Command) (
     → (status ≡ Refused) ↔ IsRefusedInput command bytes
 refused_both one_sketch not_both laws command request bytes text status answer =
     ((λ same. refused_so command request bytes text (subst (λ z. IsAnswerOf command request bytes z text) same answer)), so_refused one_sketch not_both laws command request bytes text status answer)
+
+-- a command that plans no sketch does its work exactly where its input isn't refused
+pub done_unless_refused : OneSketch → NotBoth → LowerLaws → (command : Command) (request : Request) (bytes text : List ℕ) (status : Status) → IsAnswerOf command request bytes status text
+    → ¬ IsTrue (plans command) → (status ≡ Done) ↔ ¬ IsRefusedInput command bytes
+done_unless_refused one_sketch not_both laws command request bytes text status answer no_plan = (
+  (λ done refused. (let clash : Done ≡ Refused = sym done ∙ both.1 refused in cc)),
+  (λ not_refused. done_at_last status (λ other. no_plan (planned_sketch command request bytes text status answer other (λ refused. not_refused (both.0 refused))).0)),
+)
+  where
+    both : (status ≡ Refused) ↔ IsRefusedInput command bytes
+    both = refused_both one_sketch not_both laws command request bytes text status answer
+
+    done_at_last : (any : Status) → ¬ (any ≢ Done) → any ≡ Done
+    done_at_last Done never = refl
+    done_at_last any never = absurd (never (λ same. cc))
+
+-- a sketch that `plan` reads is planned exactly where its verdict is well
+planned_well : OneJudgement → (order : Order) (s : Sketch) (status : Status) (text : List ℕ) → IsPlanOrReport order s status text → (status ≡ Done) ↔ IsWell (graph_of s)
+planned_well law order s status text answer =
+    elim (told_planned order s status text answer) [
+      | inl told ↦ ((λ same. told.1.1), (λ well. told.0))
+      | inr told ↦ ((λ same. absurd (let clash : NotWell ≡ Done = sym told.0 ∙ same in cc)), (λ well. absurd (still_well law s text well told.1)))
+    ]
+
+-- `plan` does its work exactly where its input is read as a sketch whose verdict is well
+pub done_where_well : OneSketch → NotBoth → OneJudgement → (request : Request) (bytes text : List ℕ) (status : Status) → IsAnswerOf Plan request bytes status text
+    → (status ≡ Done) ↔ ((s : Sketch) × IsSketchOf Plan request bytes s × IsWell (graph_of s))
+done_where_well one_sketch not_both law request bytes text status answer =
+    elim (told_plan request.order bytes status text answer) [
+      | inl (is, line) ↦ (
+        (λ done. absurd (let clash : Done ≡ Refused = sym done ∙ is in cc)),
+        (λ found. absurd (not_both bytes found.0 line.0.line line.0.code found.1 line.1)),
+      )
+      | inr (t, reads, told) ↦ (
+        (λ done. (t, reads, (planned_well law request.order t status text told).0 done)),
+        (λ found. (planned_well law request.order t status text told).1 (subst (λ z. IsWell (graph_of z)) (one_sketch bytes found.0 t found.1 reads) found.2)),
+      )
+    ]

@@ -1,5 +1,6 @@
 -- What a designer reads, in words over what is written: clusters, plans, places, and what fails first.
-use Rattle.std.specs.Prelude.{◌≡◌, ◌↔◌, ◌⊎◌, ℕ, ◌≤◌, ◌<◌, ◌*◌, ◌-◌, List, ◌++◌, Contains, length, Err}
+use Rattle.std.specs.Prelude.{◌≡◌, ◌≢◌, ◌↔◌, ◌⊎◌, ℕ, ◌≤◌, ◌<◌, ◌*◌, ◌-◌, List, [], ◌∷◌, ◌++◌, Contains, length, Err, IsTrue}
+use Rattle.sk_base.specs.declared.Elem.{Elem}
 use Rattle.sk_base.specs.declared.Graph.{Graph}
 use Rattle.sk_base.specs.declared.Placed.{Placed}
 use Rattle.sk_base.specs.declared.Sketch.{Sketch}
@@ -9,12 +10,13 @@ use Rattle.sk_verdict.specs.declared.Judgement.{Judgement}
 use Rattle.sk_verdict.specs.declared.Part.{Part}
 use Rattle.sk_verdict.specs.Judging.{IsOver}
 use Rattle.sk_rules.specs.Excess.{held}
-use Rattle.sk_verdict.specs.Parts.{part_with}
+use Rattle.sk_verdict.specs.Parts.{IsLone, part_with}
 use Rattle.sk_graph.specs.SketchGraph.{graph_of}
 use Rattle.sk_tree.specs.declared.Plan.{Plan as ThePlan}
 use Rattle.sk_tree.specs.declared.Tree.{Tree}
 use Rattle.sk_tree.specs.PlanTree.{IsPlanTree}
 use Rattle.sk_tree.specs.LegalPlan.{numbers_of}
+use Rattle.sk_plan.specs.Judged.{IsTheJudgement, IsWell}
 use Rattle.sk_plan.specs.Leaves.{HasLeaves}
 use Rattle.sk_place.specs.declared.StepFault.{StepFault}
 use Rattle.sk_place.specs.declared.PlaceError.TheVariants as errors
@@ -23,31 +25,42 @@ use Rattle.sk_residual.specs.declared.Beyond.{Beyond}
 use Rattle.sk_residual.specs.declared.Tolerance.{Tolerance}
 use Rattle.sk_residual.specs.declared.Turned.{Turned}
 use Rattle.sk_residual.specs.Least.{IsFirst}
+use Rattle.sk_residual.specs.Placing.{PlacesExactly}
 use Rattle.sk_residual.specs.Tolerances.{AllHoldWithin, IsFirstBeyond, everything}
 use Rattle.sk_residual.specs.Turns.{signs, IsTurned, AllAsDrawn}
 use Rattle.sk_report.specs.CheckReport.{check_report}
 use Rattle.sk_report.specs.FaultLines.{fault_line, passed_line, turned_line}
+use Rattle.sk_report.specs.PlanReport.{plan_report}
+use Rattle.sk_session.specs.declared.Reply.{Reply}
+use Rattle.sk_session.specs.declared.Reply.TheVariants as reply
+use Rattle.sk_session.specs.State.{State}
 use Rattle.sk_cli.specs.declared.command.Command.{Command}
 use Rattle.sk_cli.specs.declared.command.Command.TheVariants.{Check, Plan, Solve, Dxf, Offers, Grow}
 use Rattle.sk_cli.specs.declared.request.Request.{Request}
+use Rattle.sk_cli.specs.declared.solving.Report.{Report}
 use Rattle.sk_cli.specs.declared.status.Status.{Status}
 use Rattle.sk_cli.specs.declared.status.Status.TheVariants.{Done, NotWell}
-use Rattle.sk_cli.specs.Causes.{IsItsPlan, LieAt, NonePasses}
+use Rattle.sk_cli.specs.Asking.{places}
+use Rattle.sk_cli.specs.Causes.{plans, IsReportOf, IsItsPlan, LieAt, NonePasses}
 use Rattle.sk_cli.specs.Grids.{grid_of, digits_of}
-use Rattle.sk_cli.specs.Solving.{IsTolerance}
+use Rattle.sk_cli.specs.SessionAnswer.{RepliesToFront, IsReplied}
+use Rattle.sk_cli.specs.Solving.{IsTolerance, report_words}
 
 -- the parts of two or more elements are the clusters of the only family that merging reaches and no rule can merge
--- further, and just those of them are over that hold more than 2n - 3 constraints
+-- further, and just those of them are over that hold more than 2n - 3 constraints; the other parts are the elements that no
+-- constraint names, one each, which hold nothing and are never over
 pub record TellsClusters (g : Graph) (j : Judgement) : Type 0 where
   pub family : List Body
   pub normal : IsNormal g family
   pub only : IsTheOnlyNormal g family
   pub clusters : (p : Part) → 2 ≤ length p.elements → Contains j.parts p ↔ ((x : Body) × Contains family x × (p ≡ part_with g x.elements))
   pub over : (p : Part) → Contains j.parts p → IsOver p ↔ (2 * length p.elements - 3 < held g p.elements)
+  pub lone : (p : Part) → length p.elements < 2 → Contains j.parts p ↔ ((e : Elem) × IsLone g e × (p ≡ record { elements = e ∷ []; held = 0; due = 0 }))
+  pub never_over : (p : Part) → length p.elements < 2 → Contains j.parts p → ¬ IsOver p
 
--- one part remains and isn't over: there is no second one, and none is over
+-- just one part remains, and it isn't over
 abbrev pub IsOneSoundPart : Judgement → Type 0
-IsOneSoundPart j = (length j.parts ≤ 1) × ((p : Part) → Contains j.parts p → ¬ IsOver p)
+IsOneSoundPart j = (length j.parts ≡ 1) × ((p : Part) → Contains j.parts p → ¬ IsOver p)
 
 -- a command writes the check report with this status
 abbrev pub WritesCheckReport : Command → Status → Type 0
@@ -59,19 +72,27 @@ WritesCheckReport Dxf NotWell = Unit {0}
 WritesCheckReport Grow NotWell = Unit {0}
 WritesCheckReport command status = ⊥
 
--- the text ends with the check report; only `offers` writes lines before it
-abbrev pub EndsWithClusters : Sketch → List ℕ → Type 0
-EndsWithClusters s text = (j : Judgement) × (lines : List ℕ) × (text ≡ lines ++ check_report s j) × TellsClusters (graph_of s) j
+-- what a command may write before the check report: only `offers` writes lines there
+abbrev pub MayStandBefore : Command → List ℕ → Type 0
+MayStandBefore Offers lines = Unit {0}
+MayStandBefore command lines = lines ≡ []
 
--- the leaves of the plan's tree are all constraints, each once
-abbrev pub UsesEachOnce : Graph → ThePlan → Type 0
-UsesEachOnce g p = (t : Tree) → IsPlanTree p t → HasLeaves t (numbers_of g)
+-- the text ends with the check report, and for all commands but `offers` is that report
+abbrev pub EndsWithClusters : Command → Sketch → List ℕ → Type 0
+EndsWithClusters command s text =
+    (j : Judgement) × (lines : List ℕ) × MayStandBefore command lines × (text ≡ lines ++ check_report s j) × TellsClusters (graph_of s) j
 
--- where the plan places the elements, each normal and each constraint holds within the tolerance, which is the least,
--- none is above the limit, and all signs are as drawn
+-- the plan has a tree, unless there is no constraint, and its leaves are all constraints, each once
+pub record UsesEachOnce (g : Graph) (p : ThePlan) : Type 0 where
+  pub tree : g.edges ≢ [] → (t : Tree) × IsPlanTree p t
+  pub leaves : (t : Tree) → IsPlanTree p t → HasLeaves t (numbers_of g)
+
+-- where the plan places the elements, all of them and no others, each normal and each constraint holds within the tolerance,
+-- which is the least, none is above the limit, and all signs are as drawn
 pub record HoldsAt (request : Request) (s : Sketch) (p : ThePlan) (at : Placed) (t : Tolerance) : Type 0 where
   pub plan : IsItsPlan request s p
   pub lie : LieAt request s p at
+  pub exactly : PlacesExactly (graph_of s) at
   pub holds : AllHoldWithin at (graph_of s) t.t t.w
   pub least : IsTolerance at (graph_of s) t
   pub within : NonePasses request s at
@@ -85,3 +106,37 @@ NamesTheFirst request s text =
     × (((f : StepFault) × IsPlaced {G = grid_of request.bits} (digits_of request.bits) (graph_of s) p (Err (errors.Fault f)) × (text ≡ fault_line s f (digits_of request.bits)))
     ⊎ (((at : Placed) × (b : Beyond) × LieAt request s p at × IsFirstBeyond at (everything (graph_of s)) request.within b × (text ≡ passed_line s b))
     ⊎ ((at : Placed) × (sign : Turned) × LieAt request s p at × NonePasses request s at × IsFirst IsTurned (signs s at p) sign × (text ≡ turned_line sign))))
+
+-- What a command tells of a sketch by its status and its text. Where it writes the check report, its clusters. A command that
+-- plans has the status NotWell exactly where the verdict isn't well; `plan` writes a plan exactly where just one part remains and
+-- isn't over, and the plan uses each constraint once. A command that places the elements writes where they lie, and hold, or else
+-- what fails first.
+pub record Tells (command : Command) (request : Request) (s : Sketch) (status : Status) (text : List ℕ) : Type 0 where
+  pub clusters : WritesCheckReport command status → EndsWithClusters command s text
+  pub not_well : IsTrue (plans command) → (status ≡ NotWell) ↔ ¬ IsWell (graph_of s)
+  pub planned : command ≡ Plan → (j : Judgement) × IsTheJudgement (graph_of s) j × ((status ≡ Done) ↔ IsOneSoundPart j)
+  pub plan : command ≡ Plan → status ≡ Done → (p : ThePlan) × IsItsPlan request s p × UsesEachOnce (graph_of s) p × (text ≡ plan_report s p)
+  pub placed : IsTrue (places command) → status ≡ Done
+      → (report : Report) × (p : ThePlan) × (at : Placed) × (t : Tolerance) × IsReportOf command report × HoldsAt request s p at t
+      × (text ≡ report_words report (digits_of request.bits) s p at t)
+  pub failure : IsTrue (places command) → status ≢ Done → status ≢ NotWell → NamesTheFirst request s text
+
+-- the sketch has an element, and the command tells this of it
+abbrev pub TellsOfSome : Command → Request → Sketch → Status → List ℕ → Type 0
+TellsOfSome command request s status text = (0 < length s.elements) × Tells command request s status text
+
+-- the reply to a question tells of the sketch what the command of that name does; of other replies nothing is claimed
+abbrev pub TellsAsAsked : Request → Sketch → Reply → List ℕ → Type 0
+TellsAsAsked request s (reply.Checked j) text = TellsOfSome Check request s Done text
+TellsAsAsked request s (reply.Planned p) text = TellsOfSome Plan request s Done text
+TellsAsAsked request s (reply.NotWell j) text = TellsOfSome Plan request s NotWell text
+TellsAsAsked request s reply.Solve text = (status : Status) × TellsOfSome Solve request s status text
+TellsAsAsked request s r text = Unit {0}
+
+-- some lines at the front of the input are answered, and the next one is answered so
+pub record RepliesNext (request : Request) (bytes before : List ℕ) (new : State) (r : Reply) (text : List ℕ) : Type 0 where
+  pub front : RepliesToFront request bytes before
+  pub line : List ℕ
+  pub lines : List (List ℕ)
+  pub next : front.after ≡ line ∷ lines
+  pub replied : IsReplied request front.state line new r text

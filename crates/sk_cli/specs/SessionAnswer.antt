@@ -58,12 +58,12 @@ pub record RepliesToFront (request : Request) (bytes text : List ℕ) : Type 0 w
   pub replied : AreReplied request (at_start request.order) before state text
 
 -- no line is left, or the next one ends the session
-abbrev pub IsOver : State → List (List ℕ) → Type 0
-IsOver state [] = ⊤
-IsOver state (line ∷ lines) = (new : State) × Answers state line reply.End new
+abbrev pub HasEnded : State → List (List ℕ) → Type 0
+HasEnded state [] = ⊤
+HasEnded state (line ∷ lines) = (new : State) × Answers state line reply.End new
 
 -- what `session` answers to an input: the replies to its lines up to its end, or that it is too long
 abbrev pub IsSessionAnswer : Request → List ℕ → Status → List ℕ → Type 0
-IsSessionAnswer request bytes Done text = (front : RepliesToFront request bytes text) × IsOver front.state front.after
+IsSessionAnswer request bytes Done text = (front : RepliesToFront request bytes text) × HasEnded front.state front.after
 IsSessionAnswer request bytes Refused text = (1048576 < length bytes) × (text ≡ refusal_line (record { line = 0; code = E20 }))
 IsSessionAnswer request bytes status text = ⊥

@@ -1,31 +1,29 @@
 // Laws on what words ask for and what is answered.
-ghost use Rattle.std.specs.Prelude.{◌≡◌, ◌≢◌, ◌↔◌, ◌⊎◌, ◌++◌, ℕ, List, IsTrue};
+ghost use Rattle.std.specs.Prelude.{◌≡◌, ◌↔◌, ◌⊎◌, ◌++◌, ℕ, List, IsTrue};
 ghost use Rattle.sk_base.specs.declared.Placed.{Placed};
 ghost use Rattle.sk_base.specs.declared.Sketch.{Sketch};
 ghost use Rattle.sk_graph.specs.SketchGraph.{graph_of};
 ghost use Rattle.sk_tree.specs.declared.Plan.{Plan};
-ghost use Rattle.sk_lang.specs.Reading.{Reads};
-ghost use Rattle.sk_plan.specs.Judged.{IsTheJudgement, IsWell};
-ghost use Rattle.sk_report.specs.PlanReport.{plan_report};
-ghost use Rattle.sk_residual.specs.declared.Tolerance.{Tolerance};
-ghost use Rattle.sk_verdict.specs.declared.Judgement.{Judgement};
+ghost use Rattle.sk_plan.specs.Judged.{IsWell};
+ghost use Rattle.sk_session.specs.State.{State, sketch_in};
+ghost use Rattle.sk_session.specs.declared.Reply.{Reply};
 ghost use Rattle.sk_residual.specs.Turns.{signs, AllAsDrawn};
 ghost use Rattle.sk_cli.specs.declared.request.Request.{Request};
 ghost use Rattle.sk_cli.specs.declared.status.Status.{Status};
 ghost use Rattle.sk_cli.specs.Asking.{Asks, AreOfForm, places};
 ghost use Rattle.sk_cli.specs.declared.command.Command.{Command};
-ghost use Rattle.sk_cli.specs.declared.solving.Report.{Report};
-ghost use Rattle.sk_cli.specs.Grids.{digits_of};
-ghost use Rattle.sk_cli.specs.Headline.{IsOneSoundPart, WritesCheckReport, EndsWithClusters, UsesEachOnce, HoldsAt, NamesTheFirst};
-ghost use Rattle.sk_cli.specs.Solving.{report_words};
-ghost use Rattle.sk_cli.specs.Causes.{plans, IsReportOf, IsSketchOf, IsRefusedInput, IsItsPlan, HasFault, LieAt, NonePasses, SomePasses, SomeTurned};
+ghost use Rattle.sk_cli.specs.Headline.{Tells, TellsAsAsked, RepliesNext};
+ghost use Rattle.sk_cli.specs.Causes.{plans, IsSketchOf, IsRefusedInput, IsItsPlan, HasFault, LieAt, NonePasses, SomePasses, SomeTurned};
 ghost use Rattle.sk_cli.specs.Outcome.{IsOutcome, AreFirstReplies};
 
 use sk_gen::datum_sketch_is_sound;
-use sk_lang::{one_answer, one_front, readable_is_sound};
+use sk_lang::{
+    entries_keep_soundness, one_answer, one_entry, one_front, quantities_are_sound,
+    readable_is_sound, what_a_line_says,
+};
 use sk_plan::{legal_plan, one_plan};
 use sk_rules::one_normal_form;
-use sk_session::one_reply;
+use sk_session::{one_reply, some_to_solve};
 use sk_verdict::one_judgement;
 use sk_worklist::{Chosen, one_run};
 
@@ -66,39 +64,49 @@ pub fn first_replies_are_a_front()
     datum_sketch_is_sound();
 }
 
-/// Words that don't ask for a session have an outcome with each input, so that with memory there is one.
+/// Words and an input have an outcome, so that with memory there is one.
 pub fn some_outcome()
-    ensures { (words : List (List ℕ)) (bytes : List ℕ) → ((request : Request) → Asks words request → request.command ≢ Command.Session)
-        → (status : Status) × ((text : List ℕ) × IsOutcome words bytes status text) }
+    ensures { (words : List (List ℕ)) (bytes : List ℕ) → (status : Status) × ((text : List ℕ) × IsOutcome words bytes status text) }
 {
     one_answer();
+    one_front();
     readable_is_sound();
+    one_entry();
+    what_a_line_says();
+    entries_keep_soundness();
+    quantities_are_sound();
+    some_to_solve();
     datum_sketch_is_sound();
 }
 
 /// Why each status comes. It is `Usage` exactly where the words aren't of the form, and `Refused` exactly
-/// where the input is. Of a sketch that is planned it is `NotWell` exactly where the verdict isn't well. Of
-/// one that is placed it is `StepFault` exactly where a step has a fault, or none has, no least number is
-/// above the limit and a sign is turned; `Tolerance` exactly where no step has a fault and some least
-/// number is above the limit; and `Done` exactly where none of these is so.
+/// where the input is. It is `NotWell` exactly where the command plans a sketch whose verdict isn't well,
+/// so never where it is `check`, `offers` or `session`. Where the command places the elements of a sketch,
+/// and nowhere else, it is `StepFault` exactly where a step has a fault, or none has, no least number is
+/// above the limit and a sign is turned, and `Tolerance` exactly where no step has a fault and some least
+/// number is above the limit. Of a sketch that is placed it is `Done` exactly where none of these is so; for
+/// `check`, `offers` and `session`, which don't plan, exactly where the input isn't refused; and for `plan`
+/// exactly where the input is read as a sketch whose verdict is well.
 pub fn causes()
     ensures usage { (words : List (List ℕ)) (bytes text : List ℕ) (status : Status) → IsOutcome words bytes status text
         → (status ≡ Status.Usage) ↔ (AreOfForm words → ⊥) }
     ensures refused { (words : List (List ℕ)) (bytes text : List ℕ) (status : Status) (request : Request) → IsOutcome words bytes status text → Asks words request
         → (status ≡ Status.Refused) ↔ IsRefusedInput request.command bytes }
-    ensures not_well { (words : List (List ℕ)) (bytes text : List ℕ) (status : Status) (request : Request) (s : Sketch) → IsOutcome words bytes status text → Asks words request
-        → IsTrue (plans request.command) → IsSketchOf request.command request bytes s
-        → (status ≡ Status.NotWell) ↔ (IsWell (graph_of s) → ⊥) }
-    ensures step_fault { (words : List (List ℕ)) (bytes text : List ℕ) (status : Status) (request : Request) (s : Sketch) → IsOutcome words bytes status text → Asks words request
-        → IsTrue (places request.command) → IsSketchOf request.command request bytes s
-        → (status ≡ Status.StepFault) ↔ ((p : Plan) × IsItsPlan request s p
-        × (HasFault request s p ⊎ ((at : Placed) × LieAt request s p at × NonePasses request s at × SomeTurned request s p at))) }
-    ensures tolerance { (words : List (List ℕ)) (bytes text : List ℕ) (status : Status) (request : Request) (s : Sketch) → IsOutcome words bytes status text → Asks words request
-        → IsTrue (places request.command) → IsSketchOf request.command request bytes s
-        → (status ≡ Status.Tolerance) ↔ ((p : Plan) × IsItsPlan request s p × ((at : Placed) × LieAt request s p at × SomePasses request s at)) }
+    ensures not_well { (words : List (List ℕ)) (bytes text : List ℕ) (status : Status) (request : Request) → IsOutcome words bytes status text → Asks words request
+        → (status ≡ Status.NotWell) ↔ (IsTrue (plans request.command) × ((s : Sketch) × IsSketchOf request.command request bytes s × (IsWell (graph_of s) → ⊥))) }
+    ensures step_fault { (words : List (List ℕ)) (bytes text : List ℕ) (status : Status) (request : Request) → IsOutcome words bytes status text → Asks words request
+        → (status ≡ Status.StepFault) ↔ (IsTrue (places request.command) × ((s : Sketch) × IsSketchOf request.command request bytes s × ((p : Plan) × IsItsPlan request s p
+        × (HasFault request s p ⊎ ((at : Placed) × LieAt request s p at × NonePasses request s at × SomeTurned request s p at))))) }
+    ensures tolerance { (words : List (List ℕ)) (bytes text : List ℕ) (status : Status) (request : Request) → IsOutcome words bytes status text → Asks words request
+        → (status ≡ Status.Tolerance) ↔ (IsTrue (places request.command) × ((s : Sketch) × IsSketchOf request.command request bytes s × ((p : Plan) × IsItsPlan request s p
+        × ((at : Placed) × LieAt request s p at × SomePasses request s at)))) }
     ensures done { (words : List (List ℕ)) (bytes text : List ℕ) (status : Status) (request : Request) (s : Sketch) → IsOutcome words bytes status text → Asks words request
         → IsTrue (places request.command) → IsSketchOf request.command request bytes s
         → (status ≡ Status.Done) ↔ ((p : Plan) × IsItsPlan request s p × ((at : Placed) × LieAt request s p at × NonePasses request s at × AllAsDrawn (signs s at p))) }
+    ensures done_unless_refused { (words : List (List ℕ)) (bytes text : List ℕ) (status : Status) (request : Request) → IsOutcome words bytes status text → Asks words request
+        → (IsTrue (plans request.command) → ⊥) → (status ≡ Status.Done) ↔ (IsRefusedInput request.command bytes → ⊥) }
+    ensures done_where_well { (words : List (List ℕ)) (bytes text : List ℕ) (status : Status) (request : Request) → IsOutcome words bytes status text → Asks words request
+        → request.command ≡ Command.Plan → (status ≡ Status.Done) ↔ ((s : Sketch) × IsSketchOf request.command request bytes s × IsWell (graph_of s)) }
 {
     one_answer();
     one_judgement();
@@ -112,27 +120,21 @@ pub fn causes()
 
 /// The headline. Whatever sketch is readable and whatever order is asked for: the clusters that are
 /// printed are the only ones that merging reaches and no rule can merge, and just those are called over
-/// that hold more than 2n - 3 constraints; a plan is printed exactly where one part remains that isn't
-/// over, and it uses each constraint once; printed places meet each constraint within the printed
-/// tolerance, which is the least, with all signs as drawn; else the first faulty step, line or constraint
-/// is named, or the first turned sign.
+/// that hold more than 2n - 3 constraints, never an element that no constraint names; a plan is printed
+/// exactly where just one part remains and it isn't over, and the plan uses each constraint once; printed
+/// places are those of all elements and no others, and meet each constraint within the printed tolerance,
+/// which is the least, with all signs as drawn; else the first faulty step, line or constraint is named,
+/// or the first turned sign.
+///
+/// It is told of the sketch that a command is about (`sketch`), and of the sketch in a session now, by the
+/// replies to `check`, `plan` and `solve`, each of which stands in what is written behind the replies to
+/// the lines before it (`session`).
 pub fn headline()
-    ensures clusters { (words : List (List ℕ)) (bytes text : List ℕ) (status : Status) (request : Request) (s : Sketch) → IsOutcome words bytes status text → Asks words request
-        → IsSketchOf request.command request bytes s → WritesCheckReport request.command status
-        → EndsWithClusters s text }
-    ensures planned { (words : List (List ℕ)) (bytes text : List ℕ) (status : Status) (request : Request) (s : Sketch) (j : Judgement) → IsOutcome words bytes status text → Asks words request
-        → request.command ≡ Command.Plan → Reads bytes s → IsTheJudgement (graph_of s) j
-        → (status ≡ Status.Done) ↔ IsOneSoundPart j }
-    ensures plan { (words : List (List ℕ)) (bytes text : List ℕ) (status : Status) (request : Request) (s : Sketch) → IsOutcome words bytes status text → Asks words request
-        → request.command ≡ Command.Plan → Reads bytes s → status ≡ Status.Done
-        → (p : Plan) × IsItsPlan request s p × UsesEachOnce (graph_of s) p × (text ≡ plan_report s p) }
-    ensures places { (words : List (List ℕ)) (bytes text : List ℕ) (status : Status) (request : Request) (s : Sketch) → IsOutcome words bytes status text → Asks words request
-        → IsTrue (places request.command) → IsSketchOf request.command request bytes s → status ≡ Status.Done
-        → (report : Report) × (p : Plan) × (at : Placed) × (t : Tolerance) × IsReportOf request.command report × HoldsAt request s p at t
-        × (text ≡ report_words report (digits_of request.bits) s p at t) }
-    ensures failure { (words : List (List ℕ)) (bytes text : List ℕ) (status : Status) (request : Request) (s : Sketch) → IsOutcome words bytes status text → Asks words request
-        → IsTrue (places request.command) → IsSketchOf request.command request bytes s → status ≢ Status.Done → status ≢ Status.NotWell
-        → NamesTheFirst request s text }
+    ensures sketch { (words : List (List ℕ)) (bytes text : List ℕ) (status : Status) (request : Request) (s : Sketch) → IsOutcome words bytes status text → Asks words request
+        → IsSketchOf request.command request bytes s → Tells request.command request s status text }
+    ensures session { (words : List (List ℕ)) (bytes before text whole : List ℕ) (status : Status) (request : Request) (new : State) (r : Reply) → IsOutcome words bytes status whole → Asks words request
+        → request.command ≡ Command.Session → RepliesNext request bytes before new r text
+        → TellsAsAsked request (sketch_in new) r text × ((behind : List ℕ) × (whole ≡ before ++ (text ++ behind))) }
 {
     one_answer();
     one_judgement();
@@ -141,6 +143,7 @@ pub fn headline()
     one_front();
     one_plan();
     one_run::<Chosen>();
+    what_a_line_says();
     one_reply();
     datum_sketch_is_sound();
     legal_plan();

@@ -21,7 +21,7 @@ pub enum Status {
     NotWell,
     /// A step of the placement failed, or a placed sign isn't the drawn one.
     StepFault,
-    /// A printed number would pass the limit.
+    /// A least number passes the limit.
     Tolerance,
 }
 

@@ -1,6 +1,15 @@
+use Rattle.std.proofs.Common.{sym, subst}
+use Rattle.std.specs.Prelude.{◌≡◌, ◌↔◌}
+use Rattle.sk_base.specs.declared.Sketch.{Sketch}
+use Rattle.sk_graph.specs.SketchGraph.{graph_of}
+use Rattle.sk_plan.specs.Judged.{IsWell}
+use Rattle.sk_cli.specs.declared.command.Command.{Command}
+use Rattle.sk_cli.specs.declared.status.Status.TheVariants.{Done}
+use Rattle.sk_cli.specs.Causes.{IsSketchOf}
+use Rattle.sk_cli.specs.Outcome.{IsAnswerOf}
 use Rattle.sk_cli.proofs.OneOutcome.{LowerLaws}
 use Rattle.sk_cli.proofs.Sizes.{size_fits}
-use Rattle.sk_cli.proofs.WhyEnds.{answer_about, sound_about, solved_about, not_well_about, usage_both, refused_both, fault_both, beyond_both, held_both}
+use Rattle.sk_cli.proofs.WhyEnds.{answer_about, sound_about, solved_about, usage_both, refused_both, not_well_exactly, fault_exactly, beyond_exactly, held_both, done_unless_refused, done_where_well}
 use Rattle.sk_cli.proofs.law.causes.Goals as goal
 
 pub returns : goal.returns
@@ -20,15 +29,18 @@ returns c =
       usage = usage_both;
       refused = λ words bytes text status request outcome asks.
           refused_both one_sketch not_both laws request.command request bytes text status (answer_about words bytes text status request outcome asks);
-      not_well = λ words bytes text status request s outcome asks planned about.
-          not_well_about one_sketch not_both law laws request.command request bytes text status s (answer_about words bytes text status request outcome asks) planned about;
-      step_fault = λ words bytes text status request s outcome asks placed about.
-          (let solved = solved_about one_sketch not_both request.command request bytes text status s (answer_about words bytes text status request outcome asks) placed about in
-          fault_both law laws solved.0 request s status text solved.2 (sound_about laws request.command request bytes s (size_fits words request asks) about));
-      tolerance = λ words bytes text status request s outcome asks placed about.
-          (let solved = solved_about one_sketch not_both request.command request bytes text status s (answer_about words bytes text status request outcome asks) placed about in
-          beyond_both law laws solved.0 request s status text solved.2 (sound_about laws request.command request bytes s (size_fits words request asks) about));
+      not_well = λ words bytes text status request outcome asks.
+          not_well_exactly one_sketch not_both law laws request.command request bytes text status (answer_about words bytes text status request outcome asks);
+      step_fault = λ words bytes text status request outcome asks.
+          fault_exactly one_sketch not_both law laws request.command request bytes text status (answer_about words bytes text status request outcome asks) (size_fits words request asks);
+      tolerance = λ words bytes text status request outcome asks.
+          beyond_exactly one_sketch not_both law laws request.command request bytes text status (answer_about words bytes text status request outcome asks) (size_fits words request asks);
       done = λ words bytes text status request s outcome asks placed about.
           (let solved = solved_about one_sketch not_both request.command request bytes text status s (answer_about words bytes text status request outcome asks) placed about in
           held_both law laws solved.0 request s status text solved.2 (sound_about laws request.command request bytes s (size_fits words request asks) about));
+      done_unless_refused = λ words bytes text status request outcome asks.
+          done_unless_refused one_sketch not_both laws request.command request bytes text status (answer_about words bytes text status request outcome asks);
+      done_where_well = λ words bytes text status request outcome asks is.
+          subst (λ (c : Command). IsAnswerOf c request bytes status text → (status ≡ Done) ↔ ((s : Sketch) × IsSketchOf c request bytes s × IsWell (graph_of s))) (sym is)
+          (done_where_well one_sketch not_both law request bytes text status) (answer_about words bytes text status request outcome asks);
     }

@@ -1,0 +1,187 @@
+-- What a command says of a sketch tells the headline of it.
+use Rattle.std.proofs.Common.{◌≡◌, ◌≢◌, inl, inr, ℕ, ◌<◌, List, [], ◌++◌, length, refl, ap, sym, subst, ◌∙◌}
+use Rattle.std.specs.Prelude.{IsTrue}
+use Rattle.sk_base.specs.declared.Graph.{Graph}
+use Rattle.sk_base.specs.declared.Sketch.{Sketch}
+use Rattle.sk_base.specs.SoundGraph.{IsSoundGraph}
+use Rattle.sk_graph.specs.SketchGraph.{graph_of}
+use Rattle.sk_lang.specs.declared.Front.{Front}
+use Rattle.sk_lang.specs.Front.{ReadsFront}
+use Rattle.sk_lang.specs.Reading.{Reads}
+use Rattle.sk_verdict.specs.declared.Judgement.{Judgement}
+use Rattle.sk_tree.specs.declared.Plan.{Plan as ThePlan}
+use Rattle.sk_tree.specs.declared.Tree.{Tree}
+use Rattle.sk_tree.specs.LegalPlan.{IsLegalPlan}
+use Rattle.sk_tree.specs.PlanTree.{IsPlanTree}
+use Rattle.sk_plan.specs.Judged.{IsTheJudgement}
+use Rattle.sk_plan.specs.Leaves.{HasLeaves}
+use Rattle.sk_report.specs.CheckReport.{check_report}
+use Rattle.sk_worklist.specs.declared.Order.{Order}
+use Rattle.sk_cli.specs.declared.command.Command.{Command}
+use Rattle.sk_cli.specs.declared.command.Command.TheVariants.{Check, Plan, Solve, Dxf, Offers, Session, Grow}
+use Rattle.sk_cli.specs.declared.request.Request.{Request}
+use Rattle.sk_cli.specs.declared.solving.Report.{Report}
+use Rattle.sk_cli.specs.declared.status.Status.{Status}
+use Rattle.sk_cli.specs.declared.status.Status.TheVariants.{Done, NotWell}
+use Rattle.sk_cli.specs.Asking.{places}
+use Rattle.sk_cli.specs.Causes.{IsReportOf, IsSketchOf}
+use Rattle.sk_cli.specs.Headline.{WritesCheckReport, MayStandBefore, UsesEachOnce, Tells}
+use Rattle.sk_cli.specs.OffersReport.{IsOffersReport, IsOffersAnswer}
+use Rattle.sk_cli.specs.Outcome.{IsReport, IsRefusalText, IsPlanOrReport, IsReportNotWell, IsSolved, IsAnswerOf}
+use Rattle.sk_cli.proofs.OneOutcome.{OneSketch, NotBoth, OneJudgement, LowerLaws, told_check, told_plan, told_planned}
+use Rattle.sk_cli.proofs.Printed.{OneNormal, tells_clusters, part_of_sketch, none_mapped, planned_both, planned_text, unplaced, solved_text, failed_text}
+use Rattle.sk_cli.proofs.WhyEnds.{solved_about, not_well_both, planned_not_well}
+
+-- what is solved of a sketch for a command that places the elements
+abbrev pub IsSolvedFor : Command → Request → Sketch → Status → List ℕ → Type 0
+IsSolvedFor command request s status text = (report : Report) × IsReportOf command report × IsSolved report request s status text
+
+-- what a command says of a sketch
+abbrev pub IsSaid : Command → Request → Sketch → Status → List ℕ → Type 0
+IsSaid Check request s status text = (j : Judgement) × IsTheJudgement (graph_of s) j × (text ≡ check_report s j)
+IsSaid Plan request s status text = (0 < length s.elements) × IsPlanOrReport request.order s status text
+IsSaid Offers request s status text = status ≡ Done → (j : Judgement) × (lines : List ℕ) × IsTheJudgement (graph_of s) j × (text ≡ lines ++ check_report s j)
+IsSaid Session request s status text = ⊥
+IsSaid Solve request s status text = IsSolvedFor Solve request s status text
+IsSaid Dxf request s status text = IsSolvedFor Dxf request s status text
+IsSaid Grow request s status text = IsSolvedFor Grow request s status text
+
+abbrev pub SomeRead : Type 0
+SomeRead = (bytes : List ℕ) (s : Sketch) → Reads bytes s → 0 < length s.elements
+
+module _ (one_sketch : OneSketch) (not_both : NotBoth) (laws : LowerLaws) (bytes text : List ℕ) (s : Sketch) where
+  not_refused : Reads bytes s → ¬ IsRefusalText bytes text
+  not_refused reads (r, refuses, is) = not_both bytes s r.line r.code reads refuses
+
+  check_said : Reads bytes s → IsReport bytes text → (j : Judgement) × IsTheJudgement (graph_of s) j × (text ≡ check_report s j)
+  check_said reads (t, j, reads', judged, is) =
+      let same = one_sketch bytes t s reads' reads in (j, subst (λ z. IsTheJudgement (graph_of z) j) same judged, is ∙ ap (λ z. check_report z j) same)
+
+  plan_said : (order : Order) (status : Status) → Reads bytes s → (t : Sketch) → Reads bytes t → IsPlanOrReport order t status text → IsPlanOrReport order s status text
+  plan_said order status reads t reads' told = subst (λ z. IsPlanOrReport order z status text) (one_sketch bytes t s reads' reads) told
+
+  offers_said : (g : Front) → ReadsFront bytes g → s ≡ g.sketch → IsOffersReport bytes text → (j : Judgement) × (lines : List ℕ) × IsTheJudgement (graph_of s) j × (text ≡ lines ++ check_report s j)
+  offers_said g reads s_is (f, os, reads', reads_os, report) =
+      let same = ap (λ (z : Front). z.sketch) (laws.front.one_front bytes f g reads' reads) ∙ sym s_is in
+      (report.judgement, report.lines, subst (λ z. IsTheJudgement (graph_of z) report.judgement) same report.judged, report.is ∙ ap (λ z. report.lines ++ check_report z report.judgement) same)
+
+done_report : (bytes text : List ℕ) (status : Status) → IsOffersAnswer bytes status text → status ≡ Done → IsOffersReport bytes text
+done_report bytes text status answer is = subst (λ z. IsOffersAnswer bytes z text) is answer
+
+-- the answer to an input says it of the sketch that the command is about
+pub said_about : OneSketch → NotBoth → SomeRead → LowerLaws → (command : Command) (request : Request) (bytes text : List ℕ) (status : Status) (s : Sketch) → IsAnswerOf command request bytes status text
+    → IsSketchOf command request bytes s → IsSaid command request s status text
+said_about one_sketch not_both some_read laws Check request bytes text status s answer reads =
+    elim (told_check bytes status text answer) [
+      | inl report ↦ check_said one_sketch not_both laws bytes text s reads report.1
+      | inr line ↦ absurd (not_refused one_sketch not_both laws bytes text s reads line.1)
+    ]
+said_about one_sketch not_both some_read laws Plan request bytes text status s answer reads =
+    elim (told_plan request.order bytes status text answer) [
+      | inl line ↦ absurd (not_refused one_sketch not_both laws bytes text s reads line.1)
+      | inr (t, reads', told) ↦ (some_read bytes s reads, plan_said one_sketch not_both laws bytes text s request.order status reads t reads' told)
+    ]
+said_about one_sketch not_both some_read laws Offers request bytes text status s answer (g, reads, s_is) =
+    λ done. offers_said one_sketch not_both laws bytes text s g reads s_is (done_report bytes text status answer done)
+said_about one_sketch not_both some_read laws Session request bytes text status s answer about = absurd about
+said_about one_sketch not_both some_read laws Solve request bytes text status s answer about = solved_about one_sketch not_both Solve request bytes text status s answer refl about
+said_about one_sketch not_both some_read laws Dxf request bytes text status s answer about = solved_about one_sketch not_both Dxf request bytes text status s answer refl about
+said_about one_sketch not_both some_read laws Grow request bytes text status s answer about = solved_about one_sketch not_both Grow request bytes text status s answer refl about
+
+-- a legal plan has a tree, whose leaves are the plan's
+pub record LegalPlans : Type 0 where
+  pub tree : (g : Graph) (p : ThePlan) → IsSoundGraph g → IsLegalPlan g p → p.leaves ≢ [] → (t : Tree) × IsPlanTree p t
+  pub leaves : (g : Graph) (p : ThePlan) → IsSoundGraph g → IsLegalPlan g p → (t : Tree) → IsPlanTree p t → HasLeaves t p.leaves
+
+uses_each_once : LegalPlans → (g : Graph) (p : ThePlan) → IsSoundGraph g → IsLegalPlan g p → UsesEachOnce g p
+uses_each_once plans g p sound legal = record {
+  tree = λ some. plans.tree g p sound legal (λ none. some (none_mapped g.edges (sym legal.leaves ∙ none)));
+  leaves = λ tree is. subst (λ leaves. HasLeaves tree leaves) legal.leaves (plans.leaves g p sound legal tree is);
+}
+
+-- no command but `offers` writes anything before the check report
+nothing_before : (command : Command) → MayStandBefore command []
+nothing_before Offers = tt
+nothing_before command = refl
+
+-- a command that places the elements writes the check report only where the verdict isn't well
+short_placed : (command : Command) (status : Status) → IsTrue (places command) → WritesCheckReport command status → status ≡ NotWell
+short_placed Check Done placed writes = cc
+short_placed Offers Done placed writes = cc
+short_placed Plan NotWell placed writes = cc
+short_placed Solve NotWell placed writes = refl
+short_placed Dxf NotWell placed writes = refl
+short_placed Grow NotWell placed writes = refl
+short_placed command status placed writes = absurd writes
+
+short_planned : (status : Status) → WritesCheckReport Plan status → status ≡ NotWell
+short_planned NotWell writes = refl
+short_planned status writes = absurd writes
+
+done_offers : (status : Status) → WritesCheckReport Offers status → status ≡ Done
+done_offers Done writes = refl
+done_offers status writes = absurd writes
+
+module _ (normal : OneNormal) (plans : LegalPlans) (law : OneJudgement) (laws : LowerLaws) (request : Request) (s : Sketch) (status : Status) (text : List ℕ) (sound : IsSoundGraph (graph_of s)) where
+  reported : IsReportNotWell s text → (j : Judgement) × (text ≡ check_report s j) × IsTheJudgement (graph_of s) j
+  reported (j, judged, not_well, is) = (j, is, judged)
+
+  not_planned : IsPlanOrReport request.order s status text → status ≡ NotWell → IsReportNotWell s text
+  not_planned answer short =
+      elim (told_planned request.order s status text answer) [ inl (done, report) ↦ absurd (let clash : NotWell ≡ Done = sym short ∙ done in cc) | inr (is, report) ↦ report ]
+
+  judged_there : IsPlanOrReport request.order s status text → (j : Judgement) × IsTheJudgement (graph_of s) j
+  judged_there answer =
+      elim (told_planned request.order s status text answer) [ inl (done, (p, (j, judged, well), by, is)) ↦ (j, judged) | inr (short, (j, judged, not_well, is)) ↦ (j, judged) ]
+
+  placed_tells : (command : Command) → IsTrue (places command) → command ≢ Plan → IsSolvedFor command request s status text → Tells command request s status text
+  placed_tells command placed other (report, of, solved) = record {
+    clusters = λ writes. (let told = reported (unplaced report request s status text solved (short_placed command status placed writes)) in
+        (told.0, [], nothing_before command, told.1, tells_clusters normal (graph_of s) sound told.0 told.2));
+    not_well = λ planned. not_well_both law laws report request s status text solved;
+    planned = λ is. absurd (other is);
+    plan = λ is. absurd (other is);
+    placed = λ is done. (let found = solved_text report request s status text sound solved done in (report, found.0, found.1, found.2, of, found.3, found.4));
+    failure = λ is other short. failed_text report request s status text solved other short;
+  }
+
+  planned_tells : 0 < length s.elements → IsPlanOrReport request.order s status text → Tells Plan request s status text
+  planned_tells some answer = record {
+    clusters = λ writes. (let told = reported (not_planned answer (short_planned status writes)) in
+        (told.0, [], refl, told.1, tells_clusters normal (graph_of s) sound told.0 told.2));
+    not_well = λ planned. planned_not_well law request.order s status text answer;
+    planned = λ is. (let there = judged_there answer in
+        (there.0, there.1, planned_both law s there.0 there.1 (part_of_sketch s sound some there.0 there.1) request.order status text answer));
+    plan = λ is done. (let told = planned_text request.order s status text answer done in (told.0, (told.1, told.2), uses_each_once plans (graph_of s) told.0 sound told.2.legal, told.3));
+    placed = λ is done. cc;
+    failure = λ is other short. cc;
+  }
+
+  checked_tells : (j : Judgement) → IsTheJudgement (graph_of s) j → text ≡ check_report s j → Tells Check request s status text
+  checked_tells j judged is = record {
+    clusters = λ writes. (j, [], refl, is, tells_clusters normal (graph_of s) sound j judged);
+    not_well = λ planned. cc;
+    planned = λ same. cc;
+    plan = λ same done. cc;
+    placed = λ placed done. cc;
+    failure = λ placed other short. cc;
+  }
+
+  offers_tells : (status ≡ Done → (j : Judgement) × (lines : List ℕ) × IsTheJudgement (graph_of s) j × (text ≡ lines ++ check_report s j)) → Tells Offers request s status text
+  offers_tells said = record {
+    clusters = λ writes. (let told = said (done_offers status writes) in (told.0, told.1, tt, told.3, tells_clusters normal (graph_of s) sound told.0 told.2));
+    not_well = λ planned. cc;
+    planned = λ same. cc;
+    plan = λ same done. cc;
+    placed = λ placed done. cc;
+    failure = λ placed other short. cc;
+  }
+
+  pub tells : (command : Command) → IsSaid command request s status text → Tells command request s status text
+  tells Check (j, judged, is) = checked_tells j judged is
+  tells Plan (some, answer) = planned_tells some answer
+  tells Offers said = offers_tells said
+  tells Session said = absurd said
+  tells Solve solved = placed_tells Solve refl (λ same. cc) solved
+  tells Dxf solved = placed_tells Dxf refl (λ same. cc) solved
+  tells Grow solved = placed_tells Grow refl (λ same. cc) solved
