@@ -1,7 +1,7 @@
-// A small sketch, cut at every byte, and with every byte changed: each gets a verdict or a refusal.
-use crate::row::{rows_pass, strings};
-use sk_cli::{Status, run};
-use sk_io::{MemSink, MemSource};
+// A small sketch, cut before each of its bytes, and with each byte changed: what each text is answered.
+//
+// A mask has a mark for each byte of the sketch, line below line, the last mark of a line for its line feed.
+use crate::row::{answers, rows_pass};
 use std::alloc::Global;
 use std::process::Abort;
 use std::test::Fail;
@@ -9,55 +9,208 @@ use std::test::Fail;
 const TRIANGLE: &[u8] =
     b"sketch 1\npoint A 0 0\npoint B 4 0\npoint C 4 3\ndistance A B 4\ndistance A C 5\ndistance B C 3\nend\n";
 
-/// Some of the cuts, and lines at the limit of their length.
-const CUTS: &str = "
-$ check
-> 1
-refused line 0 E18 empty
-$ check
-sketch > 1
-refused line 1 E1 header
-$ check
-sketch 1> 1
-refused line 2 E16 no-end
-$ check
-sketch 1
-point> 1
-refused line 2 E3 shape
-$ check
-sketch 1
-point A 0 0
-point B 4 0
-point C 4 3
-distance A B 4
-distance A C 5
-distance B C 3
-> 1
-refused line 8 E16 no-end
-$ check
-sketch 1
-point A 0 0
-point B 4 0
-point C 4 3
-distance A B 4
-distance A C 5
-distance B C 3
-en> 1
-refused line 8 E2 word
-$ check
-sketch 1
-point A 0 0
-point B 4 0
-point C 4 3
-distance A B 4
-distance A C 5
-distance B C 3
-end> 0
+const REPORT: &str = "\
 verdict well
 elements 3
 constraints 3
 parts 1
 part 1 sound elements 3 held 3 due 3 : A B C
+";
+
+/// Cut before that byte.
+const CUT: &str = "
+01111111e
+E2222333333e
+E2222333333e
+E2222333333e
+E2222222333333e
+E2222222333333e
+E2222222333333e
+E22.";
+
+/// A blank or a tab in its place.
+const BLANK: &str = "
+111111.11
+22222.3.3.33
+22222.3.3.33
+22222.3.3.33
+22222222.3.3.33
+22222222.3.3.33
+22222222.3.3.33
+222.";
+
+/// A line feed in its place.
+const LINE_FEED: &str = "
+h1111111.
+w2222333333.
+w2222333333.
+w2222333333.
+w2222222333333.
+w2222222333333.
+w2222222333333.
+w22.";
+
+/// A carriage return in its place, which is dropped at the end of a line alone.
+const CARRIAGE_RETURN: &str = "
+nnnnnnn1n
+nnnnnnnnnn3n
+nnnnnnnnnn3n
+nnnnnnnnnn3n
+nnnnnnnnnnnnn3n
+nnnnnnnnnnnnn3n
+nnnnnnnnnnnnn3n
+nn2.";
+
+/// A byte that no line may have.
+const OTHER: &str = "
+nnnnnnnnn
+nnnnnnnnnnnn
+nnnnnnnnnnnn
+nnnnnnnnnnnn
+nnnnnnnnnnnnnnn
+nnnnnnnnnnnnnnn
+nnnnnnnnnnnnnnn
+nnnn";
+
+/// A sign: no name begins with one, and alone none is a number.
+const SIGN: &str = "
+111111111
+222222438383
+222222438383
+222222438383
+222222222434383
+222222222434383
+222222222434388
+2222";
+
+/// A letter that is no name here: a point of that name is missed where its own is used first.
+const LETTER: &str = "
+111111111
+222222u38383
+222222u38383
+222222v38383
+222222222636383
+222222222636383
+222222222636388
+2222";
+
+/// A digit: a coordinate may be 0, a length may not.
+const DIGIT: &str = "
+111111111
+22222243.3.3
+22222243.3.3
+22222243.3.3
+222222222434393
+222222222434393
+222222222434398
+2222";
+
+/// The line that a mark of that line names, and its code.
+fn refusal(mark: u8, line: u32) -> (u32, &'static str) {
+    let next = line.saturating_add(1);
+    match mark {
+        b'0' => (0, "E18 empty"),
+        b'1' => (line, "E1 header"),
+        b'2' => (line, "E2 word"),
+        b'3' => (line, "E3 shape"),
+        b'4' => (line, "E4 name"),
+        b'6' => (line, "E6 unknown"),
+        b'8' => (line, "E8 number"),
+        b'9' => (line, "E9 zero"),
+        b'E' => (line, "E16 no-end"),
+        b'e' => (next, "E16 no-end"),
+        b'h' => (next, "E1 header"),
+        b'n' => (line, "E19 not-ascii"),
+        b'u' => (5, "E6 unknown"),
+        b'v' => (6, "E6 unknown"),
+        _ => (next, "E2 word"),
+    }
+}
+
+/// The text gets the report, or the refusal of the mark.
+fn is_answered(
+    rt: &impl Abort,
+    alloc: Global,
+    text: &[u8],
+    mark: u8,
+    line: u32,
+) -> Result<(), Fail> {
+    if mark == b'.' {
+        return answers(rt, alloc, &["check"], text, 0, REPORT.as_bytes());
+    }
+    let (number, code) = refusal(mark, line);
+    let written = format!(in alloc; "refused line {number} {code}\n")?;
+    answers(rt, alloc, &["check"], text, 1, written.as_bytes())
+}
+
+/// The sketch with that byte in its place.
+fn changed(alloc: Global, place: usize, byte: u8) -> Result<Vec<u8>, Fail> {
+    let mut text = Vec::new(alloc);
+    text.extend_from_slice(TRIANGLE)?;
+    if place < text.len() {
+        text[place] = byte;
+    }
+    Ok(text)
+}
+
+/// The marks of a line pass, whose first byte is at that place.
+fn line_passes(
+    rt: &impl Abort,
+    alloc: Global,
+    byte: Option<u8>,
+    start: usize,
+    (line, marks): (u32, &str),
+) -> Result<(), Fail> {
+    for (column, mark) in marks.bytes().enumerate() {
+        let place = start.saturating_add(column).min(TRIANGLE.len());
+        match byte {
+            None => is_answered(rt, alloc, &TRIANGLE[..place], mark, line)?,
+            Some(byte) => {
+                let text = changed(alloc, place, byte)?;
+                is_answered(rt, alloc, text.as_slice(), mark, line)?;
+            }
+        }
+    }
+    Ok(())
+}
+
+/// Each text with that byte in the place of another passes, or each that is cut.
+fn mask_passes(rt: &impl Abort, alloc: Global, byte: Option<u8>, mask: &str) -> Result<(), Fail> {
+    let mut start = 0usize;
+    for (line, marks) in (0u32..9).zip(mask.split("\n")) {
+        line_passes(rt, alloc, byte, start, (line, marks))?;
+        start = start.saturating_add(marks.len());
+    }
+    assert_eq!(rt; start, TRIANGLE.len());
+    Ok(())
+}
+
+#[test]
+fn each_cut_has_its_answer(rt: HostRuntime) -> Result<(), Fail> {
+    mask_passes(&rt, rt.alloc(), None, CUT)
+}
+
+#[test]
+fn each_changed_byte_has_its_answer(rt: HostRuntime) -> Result<(), Fail> {
+    let rows = [
+        (" \t", BLANK),
+        ("\n", LINE_FEED),
+        ("\r", CARRIAGE_RETURN),
+        ("\0\x0b\x7f", OTHER),
+        (".-/_", SIGN),
+        ("Z", LETTER),
+        ("0", DIGIT),
+    ];
+    for (bytes, mask) in rows {
+        for byte in bytes.bytes() {
+            mask_passes(&rt, rt.alloc(), Some(byte), mask)?;
+        }
+    }
+    mask_passes(&rt, rt.alloc(), Some(0xff), OTHER)
+}
+
+/// Lines at the limit of their length, and one byte beyond it.
+const LONG_LINES: &str = "
 $ check
 sketch 1
 point A 7 7
@@ -77,44 +230,6 @@ refused line 3 E15 line-too-long
 ";
 
 #[test]
-fn cuts_have_their_answers(rt: HostRuntime) -> Result<(), Fail> {
-    rows_pass(&rt, rt.alloc(), CUTS)
-}
-
-fn is_answered(rt: &impl Abort, alloc: Global, words: &[String], input: &[u8]) -> Result<(), Fail> {
-    let mut source = MemSource::new(alloc, input, &[])?;
-    let mut sink = MemSink::new(alloc, 1000, &[])?;
-    let status = run(alloc, words, &mut source, &mut sink);
-    match status {
-        Status::Done => assert!(rt; sink.written().starts_with(b"verdict ")),
-        Status::Refused => assert!(rt; sink.written().starts_with(b"refused line ")),
-        _ => return Err(Fail::from("neither a verdict nor a refusal")),
-    }
-    Ok(())
-}
-
-#[test]
-fn each_cut_is_answered(rt: HostRuntime) -> Result<(), Fail> {
-    let alloc = rt.alloc();
-    let words = strings(alloc, &["check"])?;
-    for taken in 0..TRIANGLE.len() {
-        is_answered(&rt, alloc, words.as_slice(), &TRIANGLE[..taken])?;
-    }
-    Ok(())
-}
-
-#[test]
-fn each_changed_byte_is_answered(rt: HostRuntime) -> Result<(), Fail> {
-    let alloc = rt.alloc();
-    let words = strings(alloc, &["check"])?;
-    let mut text = Vec::new(alloc);
-    text.extend_from_slice(TRIANGLE)?;
-    for place in 0..TRIANGLE.len() {
-        for byte in *b"\n\r\t .-/0A_\x00\xff" {
-            text[place] = byte;
-            is_answered(&rt, alloc, words.as_slice(), text.as_slice())?;
-        }
-        text[place] = TRIANGLE[place];
-    }
-    Ok(())
+fn long_lines_have_their_answers(rt: HostRuntime) -> Result<(), Fail> {
+    rows_pass(&rt, rt.alloc(), LONG_LINES)
 }

@@ -1,6 +1,6 @@
-// Reads and writes that fail, each call in turn.
-use crate::one_byte::{OneByteSink, OneByteSource};
-use crate::row::{answers_over, strings};
+// Reads and writes that fail, each call in turn, in each command.
+use crate::one_byte::{EndlessSource, OneByteSink, OneByteSource};
+use crate::row::{Call, answers_over, call_of, strings};
 use sk_cli::run;
 use sk_io::{MemSink, MemSource, StdSink, StdSource};
 use std::alloc::Global;
@@ -15,72 +15,255 @@ const LONE_POINT_REPORT: &[u8] =
 const TRIANGLE: &[u8] =
     b"sketch 1\npoint A 0 0\npoint B 4 0\npoint C 4 3\ndistance A B 4\ndistance A C 5\ndistance B C 3\nend\n";
 
-/// One byte a call is read, and then the end: a fault in any of these calls leaves nothing written.
-#[test]
-fn each_read_may_fail(rt: HostRuntime) -> Result<(), Fail> {
-    let last = TRIANGLE.len() as u64 + 1;
-    for call in 1..=last {
-        let (status, written) = read_by_bytes(rt.alloc(), call)?;
-        assert_eq!(rt; status, 3);
-        assert_eq!(rt; written, 0);
-    }
-    let (status, _) = read_by_bytes(rt.alloc(), last + 1)?;
-    assert_eq!(rt; status, 0);
-    Ok(())
-}
+/// A call of each command that reads.
+const READERS: &str = "
+$ check
+sketch 1
+point A 7 7
+end
+> 0
+verdict well
+elements 1
+constraints 0
+parts 1
+part 1 sound elements 1 held 0 due 0 : A
+$ check
+sketch 2
+> 1
+refused line 1 E1 header
+$ plan
+sketch 1
+point A 0 0
+point B 4 0
+point C 4 3
+distance A B 4
+distance A C 5
+distance B C 3
+end
+> 0
+verdict well
+elements 3
+constraints 3
+steps 1
+leaf c1 : distance A B 4
+leaf c2 : distance A C 5
+leaf c3 : distance B C 3
+step s1 joins c3 c2 c1 at C A B keeps c1 turn +
+$ solve
+sketch 1
+point A 0 0
+point B 4 0
+point C 4 3
+distance A B 4
+distance A C 5
+distance B C 3
+end
+> 0
+verdict well
+steps 1
+bits 38
+point A 0 0
+point B 4000000 0
+point C 4000000 3000000
+length tolerance 0 nm at c1
+angle tolerance 0 ppb at none
+$ solve
+sketch 1
+point A 0 0
+point B 7 0
+point C 3 1
+distance A B 5
+distance A C 1
+distance B C 1
+end
+> 7
+fault s1 build height C gap -1443109011456 -1443109011456 bits 38
+$ solve bits=16 within=1
+sketch 1
+point A 0 0
+point B 1 0
+distance A B 0.003
+end
+> 8
+fault c1 tolerance 2 nm limit 1
+$ solve
+sketch 1
+point A 0 0
+point B 1 0
+end
+> 6
+verdict open
+elements 2
+constraints 0
+parts 2
+part 1 sound elements 1 held 0 due 0 : A
+part 2 sound elements 1 held 0 due 0 : B
+$ dxf
+sketch 1
+point A 7 7
+end
+> 0
+0
+SECTION
+2
+ENTITIES
+0
+POINT
+8
+0
+10
+0.000000
+20
+0.000000
+0
+ENDSEC
+0
+EOF
+$ offers
+sketch 1
+point A 0 0
+point B 1 0
+distance A B 1
+end
+offer 1 c1 c2
+end
+> 0
+offer 1 stale c2
+verdict well
+elements 2
+constraints 1
+parts 1
+part 1 sound elements 2 held 1 due 1 : A B
+$ session
+point A 0 0
+undo
 
-/// The status, and how many bytes are written, where that call of the source fails.
-fn read_by_bytes(alloc: Global, call: u64) -> Result<(u8, usize), Fail> {
-    let words = strings(alloc, &["check"])?;
-    let inner = MemSource::new(alloc, TRIANGLE, &[call])?;
+undo
+check
+> 0
+ok A
+ok
+refused S3 nothing-to-undo
+refused E18 empty
+";
+
+/// A call that reads nothing, and one with words that aren't of the form.
+const OTHERS: &str = "
+$ grow n=3
+> 0
+grow 3
+elements 3
+constraints 3
+verdict well
+steps 1
+sum x 18000000 nm
+sum y 32000000 nm
+length tolerance 0 nm at c2
+angle tolerance 0 ppb at line X
+$ check check
+> 2
+usage: sketch check|plan|solve|dxf|offers|session|grow [order=first|last|0..65535] [bits=16|27|38] [within=1..1000000] [n=3..1000]
+";
+
+/// Calls with one byte a call of the source and of the sink, where one call of each fails, or none where its
+/// number is 0.
+fn answers_by_bytes(
+    rt: &impl Abort,
+    alloc: Global,
+    call: &Call,
+    (failing_read, failing_write): (u64, u64),
+    status: u8,
+    written: &[u8],
+) -> Result<(), Fail> {
+    let words = strings(alloc, call.words.as_slice())?;
+    let inner = MemSource::new(alloc, call.input.as_bytes(), &[failing_read])?;
     let mut source = OneByteSource { inner };
-    let mut sink = MemSink::new(alloc, 1000, &[])?;
-    let status = run(alloc, words.as_slice(), &mut source, &mut sink);
-    Ok((status.code(), sink.written().len()))
+    let inner = MemSink::new(alloc, 1000, &[failing_write])?;
+    let mut sink = OneByteSink { inner };
+    let answer = run(alloc, words.as_slice(), &mut source, &mut sink);
+    assert_eq!(rt; sink.inner.written(), written);
+    assert_eq!(rt; answer.code(), status);
+    Ok(())
 }
 
-/// One byte a call is written: a fault at call k leaves k − 1 bytes.
+/// One byte a call is read, and then the end: a fault in any of these calls leaves nothing written.
+fn each_read_fails(rt: &impl Abort, alloc: Global, call: &Call) -> Result<(), Fail> {
+    let calls = (call.input.len() as u64).saturating_add(1);
+    for read in 1..=calls {
+        answers_by_bytes(rt, alloc, call, (read, 0), 3, b"")?;
+    }
+    let written = call.written.as_bytes();
+    let later = calls.saturating_add(1);
+    answers_by_bytes(rt, alloc, call, (later, 0), call.status, written)
+}
+
+/// One byte a call is written: a fault at a call leaves the bytes of the calls before it.
+fn each_write_fails(rt: &impl Abort, alloc: Global, call: &Call) -> Result<(), Fail> {
+    let written = call.written.as_bytes();
+    for done in 0..written.len() {
+        let write = (done as u64).saturating_add(1);
+        answers_by_bytes(rt, alloc, call, (0, write), 4, &written[..done])?;
+    }
+    let later = (written.len() as u64).saturating_add(1);
+    answers_by_bytes(rt, alloc, call, (0, later), call.status, written)
+}
+
 #[test]
-fn each_write_may_fail(rt: HostRuntime) -> Result<(), Fail> {
-    let all = LONE_POINT_REPORT.len();
-    for done in 0..=all {
-        let (status, count) = written_by_bytes(&rt, rt.alloc(), done as u64 + 1)?;
-        assert_eq!(rt; status, if done < all { 4 } else { 0 });
-        assert_eq!(rt; count, done);
+fn each_call_of_a_source_may_fail(rt: HostRuntime) -> Result<(), Fail> {
+    for row in READERS.split("$ ").skip(1) {
+        each_read_fails(&rt, rt.alloc(), &call_of(rt.alloc(), row)?)?;
     }
     Ok(())
 }
 
-/// The status, and how many bytes of the report's front are written, where that call of the sink fails.
-fn written_by_bytes(rt: &impl Abort, alloc: Global, call: u64) -> Result<(u8, usize), Fail> {
-    let words = strings(alloc, &["check"])?;
-    let mut source = MemSource::new(alloc, LONE_POINT, &[])?;
-    let inner = MemSink::new(alloc, 1000, &[call])?;
-    let mut sink = OneByteSink { inner };
-    let status = run(alloc, words.as_slice(), &mut source, &mut sink);
-    let written = sink.inner.written();
-    assert!(rt; LONE_POINT_REPORT.starts_with(written));
-    Ok((status.code(), written.len()))
+#[test]
+fn each_call_of_a_sink_may_fail(rt: HostRuntime) -> Result<(), Fail> {
+    for table in [READERS, OTHERS] {
+        for row in table.split("$ ").skip(1) {
+            each_write_fails(&rt, rt.alloc(), &call_of(rt.alloc(), row)?)?;
+        }
+    }
+    Ok(())
 }
 
-/// Whole pieces a call: the first read, the first write, a room of five bytes, calls that never come.
+/// A source that fails at its first call is no fault of a call that reads nothing.
+#[test]
+fn some_calls_read_nothing(rt: HostRuntime) -> Result<(), Fail> {
+    for row in OTHERS.split("$ ").skip(1) {
+        let call = call_of(rt.alloc(), row)?;
+        let written = call.written.as_bytes();
+        answers_by_bytes(&rt, rt.alloc(), &call, (1, 0), call.status, written)?;
+    }
+    Ok(())
+}
+
+/// Whole pieces a call: the first read, the first write, no room at all, a room of five bytes, calls that never come.
 #[test]
 fn faults_have_their_statuses(rt: HostRuntime) -> Result<(), Fail> {
     let alloc = rt.alloc();
-    let words = ["check"];
-    answers_over(&rt, alloc, &words, (TRIANGLE, &[1]), (1000, &[]), 3, b"")?;
-    answers_over(&rt, alloc, &words, (TRIANGLE, &[]), (1000, &[1]), 4, b"")?;
-    answers_over(&rt, alloc, &words, (TRIANGLE, &[]), (5, &[]), 4, b"verdi")?;
-    let later = (LONE_POINT, [0, 9].as_slice());
-    answers_over(
+    check_ends(&rt, alloc, (TRIANGLE, &[1]), (1000, &[]), 3, b"")?;
+    check_ends(&rt, alloc, (TRIANGLE, &[]), (1000, &[1]), 4, b"")?;
+    check_ends(&rt, alloc, (TRIANGLE, &[]), (0, &[]), 4, b"")?;
+    check_ends(&rt, alloc, (TRIANGLE, &[]), (5, &[]), 4, b"verdi")?;
+    check_ends(
         &rt,
         alloc,
-        &words,
-        later,
+        (LONE_POINT, &[0, 9]),
         (1000, &[0, 9]),
         0,
         LONE_POINT_REPORT,
     )
+}
+
+fn check_ends(
+    rt: &impl Abort,
+    alloc: Global,
+    source: (&[u8], &[u64]),
+    sink: (u32, &[u64]),
+    status: u8,
+    written: &[u8],
+) -> Result<(), Fail> {
+    answers_over(rt, alloc, &["check"], source, sink, status, written)
 }
 
 /// The adapters over std's readers and writers hand on what they are given.
@@ -95,5 +278,18 @@ fn the_adapters_hand_on(rt: HostRuntime) -> Result<(), Fail> {
     assert_eq!(rt; status.code(), 0);
     drop(sink);
     assert_eq!(rt; written.as_slice(), LONE_POINT_REPORT);
+    Ok(())
+}
+
+/// A source without an end is read to the limit of a sketch and a byte beyond it.
+#[test]
+fn a_source_without_end_is_too_long(rt: HostRuntime) -> Result<(), Fail> {
+    let alloc = rt.alloc();
+    let words = strings(alloc, &["check"])?;
+    let mut sink = MemSink::new(alloc, 1000, &[])?;
+    let status = run(alloc, words.as_slice(), &mut EndlessSource, &mut sink);
+    let refusal: &[u8] = b"refused line 0 E20 too-long\n";
+    assert_eq!(rt; sink.written(), refusal);
+    assert_eq!(rt; status.code(), 1);
     Ok(())
 }

@@ -36,6 +36,8 @@ mod refusals;
 #[cfg(test)]
 mod row;
 #[cfg(test)]
+mod scripts;
+#[cfg(test)]
 mod sessions;
 #[cfg(test)]
 mod solves;
@@ -49,5 +51,7 @@ mod tolerances;
 mod trees;
 #[cfg(test)]
 mod usage;
+#[cfg(test)]
+mod verified;
 
 pub use claims::accepted_is_well;

@@ -64,6 +64,29 @@ fn a_strip_is_one_part(rt: HostRuntime) -> Result<(), Fail> {
     Ok(())
 }
 
+/// No two of 2,000 points have a constraint.
+#[test]
+fn points_apart_are_parts(rt: HostRuntime) -> Result<(), Fail> {
+    let alloc = rt.alloc();
+    let mut text = String::from_str(alloc, "sketch 1\n")?;
+    put_points(alloc, &mut text, 2000)?;
+    text.push_str("end\n")?;
+    let front = "verdict open\nelements 2000\nconstraints 0\nparts 2000\n";
+    let mut report = String::from_str(alloc, front)?;
+    for k in 1..=2000u32 {
+        let part = format!(in alloc; "part {k} sound elements 1 held 0 due 0 : P{k}\n")?;
+        report.push_str(part.as_str())?;
+    }
+    answers(
+        &rt,
+        alloc,
+        &["check"],
+        text.as_bytes(),
+        0,
+        report.as_bytes(),
+    )
+}
+
 const PAIRS: &str = "\
 verdict over
 elements 3
@@ -102,12 +125,29 @@ fn a_constraint_too_many_is_refused(rt: HostRuntime) -> Result<(), Fail> {
     answers(&rt, alloc, &["check"], text.as_bytes(), 1, written)
 }
 
+const TOO_LONG: &[u8] = b"refused line 0 E20 too-long\n";
+
+/// As many line feeds as a sketch may have bytes are no sketch, and a session without replies.
 #[test]
-fn a_byte_too_many_is_refused(rt: HostRuntime) -> Result<(), Fail> {
+fn a_sketch_a_byte_too_long_is_refused(rt: HostRuntime) -> Result<(), Fail> {
     let alloc = rt.alloc();
     let mut text = String::from_str(alloc, "")?;
-    put_often(&mut text, " ", 1_048_577)?;
-    let written = b"refused line 0 E20 too-long\n";
-    answers(&rt, alloc, &["check"], text.as_bytes(), 1, written)?;
-    answers(&rt, alloc, &["session"], text.as_bytes(), 1, written)
+    put_often(&mut text, "\n", 1_048_576)?;
+    let empty = b"refused line 0 E18 empty\n";
+    answers(&rt, alloc, &["check"], text.as_bytes(), 1, empty)?;
+    answers(&rt, alloc, &["session"], text.as_bytes(), 0, b"")?;
+    text.push_str("\n")?;
+    answers(&rt, alloc, &["check"], text.as_bytes(), 1, TOO_LONG)
+}
+
+/// As many spaces are one line, which a session answers.
+#[test]
+fn a_session_a_byte_too_long_is_refused(rt: HostRuntime) -> Result<(), Fail> {
+    let alloc = rt.alloc();
+    let mut text = String::from_str(alloc, "")?;
+    put_often(&mut text, " ", 1_048_576)?;
+    let long_line = b"refused E15 line-too-long\n";
+    answers(&rt, alloc, &["session"], text.as_bytes(), 0, long_line)?;
+    text.push_str(" ")?;
+    answers(&rt, alloc, &["session"], text.as_bytes(), 1, TOO_LONG)
 }

@@ -1,119 +1,137 @@
 // The merges that closing and a finished board answer, on drawings that are read. Elements and
 // constraints are numbered from 1 in order of their lines.
+ghost use Rattle.std.specs.Prelude.{◌≤◌};
+
 use crate::calls::sketch_of;
-use sk_base::{Elem, Name};
+use sk_base::Name;
 use sk_family::initial;
 use sk_graph::reduce;
 use sk_offers::{Answer, Board};
-use sk_rules::{Merge, Shared, Taken};
+use sk_rules::{Merge, Taken};
 use sk_worklist::{Chosen, Order, close_family};
 use std::alloc::Global;
 use std::test::Fail;
 
 /// Two triangles with the side B C in common.
-const KITE: &[u8] =
-    b"sketch 1\npoint A 0 0\npoint B 1 0\npoint C 0 1\npoint D 1 1\ndistance A B 1\ndistance A C 1\ndistance B C 1.4\ndistance B D 1\ndistance C D 1\nend\n";
+const KITE: &str = "\
+sketch 1
+point A 0 0
+point B 1 0
+point C 0 1
+point D 1 1
+distance A B 1
+distance A C 1
+distance B C 1.4
+distance B D 1
+distance C D 1
+end
+";
 
 /// The triangle A B C as the first step, and then D.
-const UPWARDS: [Taken; 2] = [
-    Taken {
-        step: Name::Step(1),
-        merge: Merge::Three(Name::Con(3), Name::Con(2), Name::Con(1)),
-        shared: Shared {
-            a: Elem(3),
-            b: Elem(1),
-            c: Some(Elem(2)),
-        },
-    },
-    Taken {
-        step: Name::Step(2),
-        merge: Merge::Three(Name::Step(1), Name::Con(5), Name::Con(4)),
-        shared: Shared {
-            a: Elem(3),
-            b: Elem(4),
-            c: Some(Elem(2)),
-        },
-    },
-];
+const UPWARDS: &str = "\
+Step(1) Three(Con(3), Con(2), Con(1)) Shared { a: Elem(3), b: Elem(1), c: Some(Elem(2)) }
+Step(2) Three(Step(1), Con(5), Con(4)) Shared { a: Elem(3), b: Elem(4), c: Some(Elem(2)) }
+";
 
 /// The triangle B C D as the first step, and then A.
-const DOWNWARDS: [Taken; 2] = [
-    Taken {
-        step: Name::Step(1),
-        merge: Merge::Three(Name::Con(5), Name::Con(4), Name::Con(3)),
-        shared: Shared {
-            a: Elem(4),
-            b: Elem(2),
-            c: Some(Elem(3)),
-        },
-    },
-    Taken {
-        step: Name::Step(2),
-        merge: Merge::Three(Name::Step(1), Name::Con(2), Name::Con(1)),
-        shared: Shared {
-            a: Elem(3),
-            b: Elem(1),
-            c: Some(Elem(2)),
-        },
-    },
-];
+const DOWNWARDS: &str = "\
+Step(1) Three(Con(5), Con(4), Con(3)) Shared { a: Elem(4), b: Elem(2), c: Some(Elem(3)) }
+Step(2) Three(Step(1), Con(2), Con(1)) Shared { a: Elem(3), b: Elem(1), c: Some(Elem(2)) }
+";
 
-/// Whether closing in the order answers just these merges.
-fn closes_by(alloc: Global, bytes: &[u8], order: Order, wanted: &[Taken]) -> Result<bool, Fail> {
-    let sketch = sketch_of(alloc, bytes)?;
-    let graph = reduce(alloc, &sketch)?;
+/// Three distances between the same points.
+const THREEFOLD: &str = "\
+sketch 1
+point A 0 0
+point B 1 0
+distance A B 1
+distance A B 1
+distance A B 1
+end
+";
+
+const PAIRS: &str = "\
+Step(1) Two(Con(2), Con(1)) Shared { a: Elem(1), b: Elem(2), c: None }
+Step(2) Two(Step(1), Con(3)) Shared { a: Elem(1), b: Elem(2), c: None }
+";
+
+/// A line for each merge.
+fn told(alloc: Global, merges: &[Taken]) -> Result<String, Fail> {
+    let mut text = String::from_str(alloc, "")?;
+    for taken in merges {
+        let Taken {
+            step,
+            merge,
+            shared,
+        } = *taken;
+        let line = format!(in alloc; "{step:?} {merge:?} {shared:?}\n")?;
+        text.push_str(line.as_str())?;
+    }
+    Ok(text)
+}
+
+/// The merges by which closing in the order comes to an end.
+fn closed_by(alloc: Global, text: &str, order: Order) -> Result<String, Fail> {
+    let graph = reduce(alloc, &sketch_of(alloc, text)?)?;
     let mut family = initial(alloc, &graph)?;
     let taken = close_family(alloc, &mut family, &graph, &mut Chosen::new(order))?;
-    Ok(taken.as_slice() == wanted)
+    told(alloc, taken.as_slice())
 }
 
 /// The first choice and the last one; a choice by strides is the first at the first call.
 #[test]
 fn merges_by_their_order(rt: HostRuntime) -> Result<(), Fail> {
-    let alloc = rt.alloc();
-    assert!(rt; closes_by(alloc, KITE, Order::First, &UPWARDS)?);
-    assert!(rt; closes_by(alloc, KITE, Order::Last, &DOWNWARDS)?);
-    assert!(rt; closes_by(alloc, KITE, Order::Stride(7), &UPWARDS)?);
+    assert_eq!(rt;
+        closed_by(rt.alloc(), KITE, Order::First)?.as_str(),
+        UPWARDS
+    );
+    assert_eq!(rt;
+        closed_by(rt.alloc(), KITE, Order::Last)?.as_str(),
+        DOWNWARDS
+    );
+    assert_eq!(rt;
+        closed_by(rt.alloc(), KITE, Order::Stride(7))?.as_str(),
+        UPWARDS
+    );
     Ok(())
 }
 
 /// Of three distances between the same points the first two merge, and then their step with the third.
 #[test]
 fn pairs_merge_before_triangles(rt: HostRuntime) -> Result<(), Fail> {
-    let bytes =
-        b"sketch 1\npoint A 0 0\npoint B 1 0\ndistance A B 1\ndistance A B 1\ndistance A B 1\nend\n";
-    let shared = Shared {
-        a: Elem(1),
-        b: Elem(2),
-        c: None,
-    };
-    let wanted = [
-        Taken {
-            step: Name::Step(1),
-            merge: Merge::Two(Name::Con(2), Name::Con(1)),
-            shared,
-        },
-        Taken {
-            step: Name::Step(2),
-            merge: Merge::Two(Name::Step(1), Name::Con(3)),
-            shared,
-        },
-    ];
-    assert!(rt; closes_by(rt.alloc(), bytes, Order::Last, &wanted)?);
+    assert_eq!(rt;
+        closed_by(rt.alloc(), THREEFOLD, Order::Last)?.as_str(),
+        PAIRS
+    );
     Ok(())
+}
+
+/// The kite's board.
+fn board(alloc: Global) -> Result<Board, Fail> {
+    let graph = reduce(alloc, &sketch_of(alloc, KITE)?)?;
+    Ok(Board::new(alloc, graph)?)
+}
+
+/// The answer to an offer of the triangle B C D.
+fn offered(board: &mut Board, worker: u8) -> Result<Answer, Fail>
+    requires { (1 ≤ worker) × (worker ≤ 64) }
+{
+    let merge = Merge::Three(Name::Con(5), Name::Con(4), Name::Con(3));
+    Ok(board.offer(worker, merge)?)
+}
+
+/// The merges of the board at its end.
+fn finished(alloc: Global, board: Board) -> Result<String, Fail> {
+    let finished = board.finish(&mut Chosen::new(Order::First))?;
+    told(alloc, finished.taken.as_slice())
 }
 
 /// The offered merge comes first, and then the picked one; an offer of a merged cluster is stale.
 #[test]
 fn a_finished_board_has_all_merges(rt: HostRuntime) -> Result<(), Fail> {
-    let alloc = rt.alloc();
-    let sketch = sketch_of(alloc, KITE)?;
-    let graph = reduce(alloc, &sketch)?;
-    let mut board = Board::new(alloc, graph)?;
-    let merge = Merge::Three(Name::Con(5), Name::Con(4), Name::Con(3));
-    assert!(rt; board.offer(1, merge)? == Answer::Taken(Name::Step(1)));
-    assert!(rt; board.offer(2, merge)? == Answer::Stale(Name::Con(5)));
-    let finished = board.finish(&mut Chosen::new(Order::First))?;
-    assert!(rt; finished.taken.as_slice() == DOWNWARDS.as_slice());
+    let mut board = board(rt.alloc())?;
+    assert_eq!(rt; offered(&mut board, 1)?, Answer::Taken(Name::Step(1)));
+    assert_eq!(rt; offered(&mut board, 2)?, Answer::Stale(Name::Con(5)));
+    assert_eq!(rt; finished(rt.alloc(), board)?.as_str(), DOWNWARDS);
     Ok(())
 }

@@ -83,6 +83,62 @@ offer 2 c5 c4 c3
 offer 3 c5 c4
 > 1
 refused line 15 E16 no-end
+$ offers
+sketch 1
+point A 0 0
+end
+offer 65 c1 c2
+end
+> 1
+refused line 4 E8 number
+$ offers
+sketch 1
+point A 0 0
+end
+offer 01 c1 c2
+end
+> 1
+refused line 4 E8 number
+$ offers
+sketch 1
+point A 0 0
+end
+offer 1 c1
+end
+> 1
+refused line 4 E3 shape
+$ offers
+sketch 1
+point A 0 0
+end
+offer 1 c0 c2
+end
+> 1
+refused line 4 E4 name
+$ offers
+sketch 1
+point A 0 0
+end
+offer 65 c1 A
+end
+> 1
+refused line 4 E8 number
+$ offers
+sketch 1
+point A 0 0
+end
+offers 1 c1 c2
+end
+> 1
+refused line 4 E2 word
+$ offers
+sketch 1
+point A 0 0
+end
+end
+offer 1 c1 c2
+> 1
+refused line 5 E17 after-end
 ";
 
 #[test]

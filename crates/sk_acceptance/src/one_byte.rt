@@ -1,4 +1,4 @@
-// A source and a sink that move one byte a call. They tell nothing of content.
+// A source and a sink that move one byte a call, and a source without an end. They tell nothing of content.
 ghost use Rattle.std.specs.Prelude.{None};
 
 use sk_io::{Failed, MemSink, MemSource, Sink, Source};
@@ -40,5 +40,22 @@ impl Sink for OneByteSink {
             return Ok(0);
         }
         self.inner.write(&piece[..1])
+    }
+}
+
+/// Blanks without end.
+#[derive(Drop)]
+pub struct EndlessSource;
+
+impl Source for EndlessSource {
+    ghost left = { λ _. None };
+
+    ghost faults = { λ _. 0 };
+
+    ghost is_sure = { λ _. ⊥ };
+
+    fn read(&mut self, buf: &mut [u8]) -> Result<usize, Failed> {
+        buf.fill(b' ');
+        Ok(buf.len())
     }
 }

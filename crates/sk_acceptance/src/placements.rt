@@ -1,77 +1,104 @@
 // Sketches that are placed by the calls below the top call, at places and with a fault that were worked out by
 // hand. The worked sketches as drawings, on each grid, are among the tables of `solve`.
-use crate::calls::sketch_of;
-use sk_base::{At, Elem, Name};
+ghost use Rattle.std.specs.Prelude.{IfOk};
+ghost use Rattle.sk_dxf.specs.Courses.{HasBoundedPlaces};
+
+use crate::calls::{planned, sketch_of};
+use sk_base::Placed;
+use sk_dxf::dxf_text;
 use sk_graph::reduce;
-use sk_interval::{Cause, G16, G38, Grid};
-use sk_place::{Boxes, Phase, PlaceError, StepFault, place, round};
-use sk_plan::plan_of;
-use sk_steps::What;
-use sk_worklist::{Chosen, Order};
+use sk_interval::{G16, G38, Grid};
+use sk_place::{Boxes, PlaceError, place, round};
+use sk_report::fault_text;
 use std::alloc::Global;
 use std::test::Fail;
 
 /// The boxes of the sketch's elements on the grid, or the first fault.
-fn placed<G: Grid>(alloc: Global, bytes: &[u8]) -> Result<Result<Boxes<G>, PlaceError>, Fail> {
-    let sketch = sketch_of(alloc, bytes)?;
+fn placed<G: Grid>(alloc: Global, text: &str) -> Result<Result<Boxes<G>, PlaceError>, Fail> {
+    let sketch = sketch_of(alloc, text)?;
     let graph = reduce(alloc, &sketch)?;
-    match plan_of(alloc, &sketch, &graph, &mut Chosen::new(Order::First)) {
-        Ok(plan) => Ok(place(alloc, &plan, &graph)),
-        Err(_) => Err(Fail::from("the sketch is well")),
+    let plan = planned(alloc, &sketch)?;
+    Ok(place(alloc, &plan, &graph))
+}
+
+const PLATE: &str = "\
+sketch 1
+line X 0 0 100 0
+line Y 0 0 0 80
+circle H 30 8 5
+angle X Y 1/0
+tangent X H
+distance H Y 30
+end
+";
+
+/// Where the plate lies on the finest grid.
+fn plate_places(alloc: Global) -> Result<Placed, Fail>
+    ensures { IfOk result HasBoundedPlaces }
+{
+    match placed::<G38>(alloc, PLATE)? {
+        Ok(boxes) => Ok(round(alloc, &boxes)?),
+        Err(_) => Err(Fail::from("the plate has places")),
     }
 }
 
-/// A plate with a hole, on the finest grid.
+/// A line for each place.
+fn told(alloc: Global, places: &Placed) -> Result<String, Fail> {
+    let mut text = String::from_str(alloc, "")?;
+    for spot in places.spots.as_slice() {
+        let at = spot.at;
+        text.push_str(format!(in alloc; "{at:?}\n")?.as_str())?;
+    }
+    Ok(text)
+}
+
+const PLACES: &str = "\
+Line { a: 0, b: 1000000000, c: 0 }
+Line { a: -1000000000, b: 0, c: 0 }
+Point { x: 30000000, y: 5000000 }
+";
+
 #[test]
 fn a_plate_is_placed(rt: HostRuntime) -> Result<(), Fail> {
-    let bytes =
-        b"sketch 1\nline X 0 0 100 0\nline Y 0 0 0 80\ncircle H 30 8 5\nangle X Y 1/0\ntangent X H\ndistance H Y 30\nend\n";
-    let Ok(boxes) = placed::<G38>(rt.alloc(), bytes)? else {
-        return Err(Fail::from("the plate has places"));
-    };
-    let found = round(rt.alloc(), &boxes)?;
-    let wanted = [
-        At::Line {
-            a: 0,
-            b: 1_000_000_000,
-            c: 0,
-        },
-        At::Line {
-            a: -1_000_000_000,
-            b: 0,
-            c: 0,
-        },
-        At::Point {
-            x: 30_000_000,
-            y: 5_000_000,
-        },
-    ];
-    assert!(rt; found.spots.len() == wanted.len());
-    for (spot, at) in found.spots.as_slice().iter().zip(&wanted) {
-        assert!(rt; spot.at == *at);
-    }
+    let places = plate_places(rt.alloc())?;
+    assert_eq!(rt; told(rt.alloc(), &places)?.as_str(), PLACES);
     Ok(())
 }
+
+const DRAWN: &str = "0\nSECTION\n2\nENTITIES\n\
+    0\nLINE\n8\n0\n10\n20.000000\n20\n0.000000\n11\n40.000000\n21\n0.000000\n\
+    0\nLINE\n8\n0\n10\n0.000000\n20\n-5.000000\n11\n0.000000\n21\n15.000000\n\
+    0\nCIRCLE\n8\n0\n10\n30.000000\n20\n5.000000\n40\n5.000000\n\
+    0\nENDSEC\n0\nEOF\n";
+
+#[test]
+fn a_plate_is_drawn(rt: HostRuntime) -> Result<(), Fail> {
+    let sketch = sketch_of(rt.alloc(), PLATE)?;
+    let text = dxf_text(rt.alloc(), &plate_places(rt.alloc())?, &sketch)?;
+    assert_eq!(rt; text.as_bytes(), DRAWN.as_bytes());
+    Ok(())
+}
+
+const IMPOSSIBLE: &str = "\
+sketch 1
+point A 0 0
+point B 7 0
+point C 3 1
+distance A B 5
+distance A C 1
+distance B C 1
+end
+";
 
 /// An impossible triangle, on the coarsest grid.
 #[test]
 fn an_impossible_triangle_has_no_height(rt: HostRuntime) -> Result<(), Fail> {
-    let bytes =
-        b"sketch 1\npoint A 0 0\npoint B 7 0\npoint C 3 1\ndistance A B 5\ndistance A C 1\ndistance B C 1\nend\n";
-    let Err(PlaceError::Fault(fault)) = placed::<G16>(rt.alloc(), bytes)? else {
+    let Err(PlaceError::Fault(fault)) = placed::<G16>(rt.alloc(), IMPOSSIBLE)? else {
         return Err(Fail::from("the triangle is impossible"));
     };
-    let cause = Cause::Gap {
-        lo: -344064,
-        hi: -344064,
-    };
-    let wanted = StepFault {
-        step: Name::Step(1),
-        phase: Phase::Build,
-        what: What::Height,
-        elem: Elem(3),
-        cause,
-    };
-    assert!(rt; fault == wanted);
+    let sketch = sketch_of(rt.alloc(), IMPOSSIBLE)?;
+    let text = fault_text(rt.alloc(), &sketch, &fault, 16)?;
+    let wanted = "fault s1 build height C gap -344064 -344064 bits 16\n";
+    assert_eq!(rt; text.as_bytes(), wanted.as_bytes());
     Ok(())
 }

@@ -11,12 +11,43 @@ use std::test::Fail;
 /// Room for every text of these tests.
 const ROOM: u32 = 300_000;
 
+/// A row of a table.
+#[derive(Drop)]
+pub struct Call<'a> {
+    pub words: Vec<&'a str>,
+    pub input: &'a str,
+    pub status: u8,
+    pub written: &'a str,
+}
+
 pub fn strings(alloc: Global, words: &[&str]) -> Result<Vec<String>, Fail> {
     let mut strings = Vec::new(alloc);
     for word in words {
         strings.push(String::from_str(alloc, word)?)?;
     }
     Ok(strings)
+}
+
+/// The words on a line.
+pub fn words_of(alloc: Global, line: &str) -> Result<Vec<&str>, Fail> {
+    let mut words = Vec::new(alloc);
+    for word in line.split_whitespace() {
+        words.push(word)?;
+    }
+    Ok(words)
+}
+
+/// The call of a row, which stands behind its `$ `.
+pub fn call_of(alloc: Global, row: &str) -> Result<Call<'_>, Fail> {
+    let (command, rest) = row.split_once('\n').ok_or("a row without an input")?;
+    let (input, answer) = rest.split_once("> ").ok_or("a row without a status")?;
+    let (status, written) = answer.split_once('\n').ok_or("a row without a text")?;
+    Ok(Call {
+        words: words_of(alloc, command)?,
+        input,
+        status: status.parse::<u8>()?,
+        written,
+    })
 }
 
 /// Each row of the table passes.
@@ -28,21 +59,15 @@ pub fn rows_pass(rt: &impl Abort, alloc: Global, table: &str) -> Result<(), Fail
 }
 
 fn row_passes(rt: &impl Abort, alloc: Global, row: &str) -> Result<(), Fail> {
-    let (command, rest) = row.split_once('\n').ok_or("a row without an input")?;
-    let (input, answer) = rest.split_once("> ").ok_or("a row without a status")?;
-    let (status, written) = answer.split_once('\n').ok_or("a row without a text")?;
-    let mut words = Vec::new(alloc);
-    for word in command.split_whitespace() {
-        words.push(word)?;
-    }
-    let status = status.parse::<u8>()?;
+    let call = call_of(alloc, row)?;
+    let (input, written) = (call.input.as_bytes(), call.written.as_bytes());
     answers(
         rt,
         alloc,
-        words.as_slice(),
-        input.as_bytes(),
-        status,
-        written.as_bytes(),
+        call.words.as_slice(),
+        input,
+        call.status,
+        written,
     )
 }
 
@@ -74,5 +99,20 @@ pub fn answers_over(
     let answer = run(alloc, words.as_slice(), &mut source, &mut sink);
     assert_eq!(rt; sink.written(), written);
     assert_eq!(rt; answer.code(), status);
+    Ok(())
+}
+
+/// What the call writes, behind the bytes.
+pub fn put_answer(
+    alloc: Global,
+    bytes: &mut Vec<u8>,
+    command: &str,
+    input: &[u8],
+) -> Result<(), Fail> {
+    let words = strings(alloc, &[command])?;
+    let mut source = MemSource::new(alloc, input, &[])?;
+    let mut sink = MemSink::new(alloc, ROOM, &[])?;
+    let _status = run(alloc, words.as_slice(), &mut source, &mut sink);
+    bytes.extend_from_slice(sink.written())?;
     Ok(())
 }

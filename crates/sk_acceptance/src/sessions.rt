@@ -1,7 +1,8 @@
 // Sessions, and the family that is kept across their lines.
 use crate::row::{answers_over, rows_pass};
 use sk_base::{Elem, Name};
-use sk_session::Session;
+use sk_lang::Code;
+use sk_session::{Reply, Session};
 use sk_worklist::Order;
 use std::test::Fail;
 
@@ -183,6 +184,154 @@ refused E4 name
 refused E3 shape
 $ session
 > 0
+$ session
+undo
+point A 0 0
+point B 4 0
+line L 0 0 10 0
+distance A B 4
+on A L
+set 1 5
+set 2 5
+set 3 5
+drop 2
+erase L
+erase B
+undo
+undo
+drop 2
+on B L
+on A L
+check
+plan
+solve
+write
+end
+> 0
+refused S3 nothing-to-undo
+ok A
+ok B
+ok L
+ok c1
+ok c2
+ok
+refused S4 no-value
+refused S1 no-such-number
+ok
+ok
+refused S2 in-use
+ok
+ok
+ok
+ok c3
+ok c4
+verdict well
+elements 3
+constraints 3
+parts 1
+part 1 sound elements 3 held 3 due 3 : A B L
+verdict well
+elements 3
+constraints 3
+steps 1
+leaf c1 : distance A B 5
+leaf c3 : on B L
+leaf c4 : on A L
+step s1 joins c4 c3 c1 at L B A keeps c1 advance +
+verdict well
+steps 1
+bits 38
+point A 0 0
+point B 5000000 0
+line L 0 1000000000 0
+length tolerance 0 nm at c1
+angle tolerance 0 ppb at line L
+sketch 1
+point A 0 0
+point B 4 0
+line L 0 0 10 0
+distance A B 5
+on B L
+on A L
+end
+$ session
+point A 0 0
+point B 4 0
+line L 0 0 10 0
+on B L
+erase A
+on A L
+point A 1 2
+distance B A 4
+check
+write
+undo
+undo
+undo
+point A 5 5
+distance A B 4
+write
+end
+> 0
+ok A
+ok B
+ok L
+ok c1
+ok
+refused E6 unknown
+ok A
+ok c2
+verdict open
+elements 3
+constraints 2
+parts 2
+part 1 sound elements 2 held 1 due 1 : B L
+part 2 sound elements 2 held 1 due 1 : B A
+sketch 1
+point B 4 0
+line L 0 0 10 0
+point A 1 2
+on B L
+distance B A 4
+end
+ok
+ok
+ok
+refused E5 name-taken
+ok c2
+sketch 1
+point A 0 0
+point B 4 0
+line L 0 0 10 0
+on B L
+distance A B 4
+end
+$ session
+point A 0 0
+line L 0 0 1 0
+circle A 1 1 1
+tangent A L
+angle L A 1/0
+on L A
+point \x01 0 0
+point B 1                                                                                                                                                                                               0
+point B 1                                                                                                                                                                                              0
+write
+> 0
+ok A
+ok L
+refused E5 name-taken
+refused E7 kind
+refused E7 kind
+refused E7 kind
+refused E19 not-ascii
+refused E15 line-too-long
+ok B
+sketch 1
+point A 0 0
+line L 0 0 1 0
+point B 1 0
+end
 $ session within=1 bits=16
 point A 0 0
 point B 1 0
@@ -259,5 +408,26 @@ fn a_check_goes_on_from_the_kept_clusters(rt: HostRuntime) -> Result<(), Fail> {
     let mended = [Elem(1), Elem(2), Elem(3)];
     assert!(rt; holds(&session, Name::Step(1), apart.as_slice()));
     assert!(rt; holds(&session, Name::Step(2), mended.as_slice()));
+    Ok(())
+}
+
+/// Whether the session refuses the line with that code, or with None takes it.
+fn gets(session: &mut Session, line: &[u8], code: Option<Code>) -> Result<bool, Fail> {
+    match session.command(line)? {
+        Reply::Refused(found) => Ok(code == Some(found)),
+        _ => Ok(code.is_none()),
+    }
+}
+
+/// A million edits and undos are taken. Then nothing stands to be undone, and no edit is taken any more.
+#[test]
+fn edits_are_spent_at_a_million(rt: HostRuntime) -> Result<(), Fail> {
+    let mut session = Session::new(rt.alloc(), Order::First)?;
+    for _ in 0..500_000u32 {
+        assert!(rt; gets(&mut session, b"point A 0 0", None)?);
+        assert!(rt; gets(&mut session, b"undo", None)?);
+    }
+    assert!(rt; gets(&mut session, b"undo", Some(Code::S3))?);
+    assert!(rt; gets(&mut session, b"point A 0 0", Some(Code::S5))?);
     Ok(())
 }

@@ -355,6 +355,134 @@ end
 fault c1 tolerance 2 nm limit 1
 ";
 
+/// What has no place: a point on a line beyond its distance, a line along two wheels of which one lies in the
+/// other, a point between two parallel lines; a child that two parallel lines would carry, and one that is
+/// carried by two points too near to one another for the grid.
+const PLACELESS: &str = "
+$ solve
+sketch 1
+line L 0 0 100 0
+point C 0 10
+point P 3 0
+distance C L 10
+distance C P 5
+on P L
+end
+> 7
+fault s1 build reach P gap -20615843020800 -20615843020800 bits 38
+$ solve
+sketch 1
+circle H 0 0 5
+circle K 2 0 2
+line T -10 -6 10 -6
+distance H K 2
+tangent T H
+tangent T K
+end
+> 7
+fault s1 build rise T gap -343597383680 -343597383680 bits 38
+$ solve
+sketch 1
+line X 0 0 10 0
+line Y 0 0 0 10
+line Z 0 8 10 8
+point P 5 5
+point Q 2 2
+angle X Y 1/0
+angle Y Z 1/0
+distance P X 5
+distance P Y 5
+distance P Z 3
+distance Q X 2
+distance Q Z 6
+end
+> 7
+fault s3 build x Q flat 0 0 bits 38
+$ solve
+sketch 1
+line V 0 0 10 0
+line T 0 0 0 10
+point A 2 3
+point B 4 5
+line Y 20 0 20 10
+line W 0 8 10 8
+point P 15 5
+angle V T 1/0
+distance A V 3
+distance A T 2
+distance B V 5
+distance B T 4
+angle V Y 1/0
+distance P V 5
+distance P Y 5
+angle Y W 1/0
+distance P W 3
+distance A W 5
+end
+> 7
+fault s5 second fx V flat 0 0 bits 38
+$ solve bits=16
+sketch 1
+line L 0 0 10 0
+point U 0 0
+point T 12 5
+point W 1 0
+line M 0 1 10 1
+on U L
+distance T U 13
+distance T L 5
+distance U W 0.005
+distance U M 1
+distance W M 1
+on W L
+end
+> 7
+fault s3 first b M range bits 16
+";
+
+/// Lines at angles that the coarsest grid misses: the one has a normal of 707107544 by 707107544, the other one of
+/// 384620667 by 923072815.
+const TILTED: &str = "
+$ solve bits=16
+sketch 1
+line X 0 0 10 0
+line Y 0 0 10 10
+angle X Y 1/1
+end
+> 8
+fault line Y tolerance 2158 ppb limit 1000
+$ solve bits=16 within=3520
+sketch 1
+line X 0 0 10 0
+line Y 0 0 12 5
+angle X Y 5/12
+end
+> 8
+fault line Y tolerance 3521 ppb limit 3520
+$ solve bits=16 within=3521
+sketch 1
+line X 0 0 10 0
+line Y 0 0 12 5
+angle X Y 5/12
+end
+> 8
+fault c1 tolerance 4937 ppb limit 3521
+$ solve bits=16 within=4937
+sketch 1
+line X 0 0 10 0
+line Y 0 0 12 5
+angle X Y 5/12
+end
+> 0
+verdict well
+steps 0
+bits 16
+line X 0 1000000000 0
+line Y -384620667 923072815 0
+length tolerance 0 nm at none
+angle tolerance 4937 ppb at c1
+";
+
 /// A strip whose first triangle is possible and whose second is not, on each grid; and three triangles that meet at
 /// three corners, of which the second and the third are impossible.
 const LATER_FAULTS: &str = "
@@ -442,4 +570,15 @@ fn faults_are_named(rt: HostRuntime) -> Result<(), Fail> {
 #[test]
 fn a_later_step_is_told(rt: HostRuntime) -> Result<(), Fail> {
     rows_pass(&rt, rt.alloc(), LATER_FAULTS)
+}
+
+/// What can't be constructed or carried, and by which number it shows.
+#[test]
+fn placeless_elements_are_named(rt: HostRuntime) -> Result<(), Fail> {
+    rows_pass(&rt, rt.alloc(), PLACELESS)
+}
+
+#[test]
+fn a_coarse_grid_misses_angles(rt: HostRuntime) -> Result<(), Fail> {
+    rows_pass(&rt, rt.alloc(), TILTED)
 }

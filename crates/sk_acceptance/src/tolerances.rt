@@ -1,71 +1,434 @@
 // Tolerances and turned signs of placed drawings. The places and the numbers were worked out by hand.
+//
+// A row of a table has a limit behind its `$ `, a sketch, `at` and a place for each of its elements, and behind its
+// `> 0` the end of the report, what is first beyond the limit, and the first turned sign.
 ghost use Rattle.std.specs.Prelude.{◌<◌, ◌≤◌, ◌^◌, length, IsTrue, IfOk};
 ghost use Rattle.sk_base.specs.Bounds.{IsWithin};
 ghost use Rattle.sk_base.specs.Places.{IsBounded};
 ghost use Rattle.sk_base.specs.SoundGraph.{IsSoundGraph};
-ghost use Rattle.sk_residual.specs.Placing.{HasKind, PlacesExactly};
+ghost use Rattle.sk_residual.specs.Placing.{HasKind, PlacesExactly, AreSpotsOf};
 
-use crate::calls::sketch_of;
-use sk_base::{At, ConId, Elem, Graph, Kind, List, Name, Placed, Sign, Spot};
+use crate::calls::{planned, sketch_of};
+use crate::row::words_of;
+use sk_base::{At, Graph, Kind, List, Placed, Spot, Text};
 use sk_graph::reduce;
-use sk_plan::plan_of;
-use sk_residual::{Beyond, Spotted, Tolerance, Turned, first_turned, least, meets, passed};
-use sk_worklist::{Chosen, Order};
+use sk_report::{passed_text, solve_text, turned_text};
+use sk_residual::{first_turned, least, meets, passed};
 use std::alloc::Global;
 use std::process::Abort;
 use std::test::Fail;
 
-const RIGHT_TRIANGLE: &[u8] =
-    b"sketch 1\npoint A 0 0\npoint B 4 0\npoint C 4 3\ndistance A B 4\ndistance A C 5\ndistance B C 3\nend\n";
+/// Triangles, one of them turned over and one that is flat, and a length beyond a limit.
+const POINTS: &str = "
+$ 1000
+sketch 1
+point A 0 0
+point B 4 0
+point C 4 3
+distance A B 4
+distance A C 5
+distance B C 3
+end
+at
+point 0 0
+point 4000000 0
+point 4000000 3000000
+> 0
+length tolerance 0 nm at c1
+angle tolerance 0 ppb at none
+$ 1000
+sketch 1
+point A 0 0
+point B 10 0
+point C 5 8
+distance A B 10
+distance A C 10
+distance B C 10
+end
+at
+point 0 0
+point 10000000 0
+point 5000000 8660254
+> 0
+length tolerance 1 nm at c2
+angle tolerance 0 ppb at none
+$ 1000
+sketch 1
+point A 0 0
+point B 10 0
+point C 5 8
+distance A B 10
+distance A C 10
+distance B C 10
+end
+at
+point 0 0
+point 10000000 0
+point 5000000 -8660254
+> 0
+length tolerance 1 nm at c2
+angle tolerance 0 ppb at none
+fault s1 turned drawn + placed -1
+$ 3000000
+sketch 1
+point A 0 0
+point B 4 0
+point C 4 3
+distance A B 4
+distance A C 5
+distance B C 3
+end
+at
+point 0 0
+point 4000000 0
+point 4000000 0
+> 0
+length tolerance 3000000 nm at c3
+angle tolerance 0 ppb at none
+fault s1 turned drawn + placed 0
+$ 1
+sketch 1
+point A 0 0
+point B 1 0
+distance A B 0.003
+end
+at
+point 0 0
+point 2998 0
+> 0
+length tolerance 2 nm at c1
+angle tolerance 0 ppb at none
+fault c1 tolerance 2 nm limit 1
+$ 2
+sketch 1
+point A 0 0
+point B 1 0
+distance A B 0.003
+end
+at
+point 0 0
+point 2998 0
+> 0
+length tolerance 2 nm at c1
+angle tolerance 0 ppb at none
+";
 
-const EVEN_TRIANGLE: &[u8] =
-    b"sketch 1\npoint A 0 0\npoint B 10 0\npoint C 5 8\ndistance A B 10\ndistance A C 10\ndistance B C 10\nend\n";
+/// As asked.
+const LINES: &str = "
+$ 1000
+sketch 1
+point A 0 0
+point B 40 0
+point C 40 25
+point D 0 25
+line S 0 0 40 0
+line E 40 0 40 25
+line N 40 25 0 25
+line W 0 25 0 0
+on A S
+on A W
+on B S
+on B E
+on C E
+on C N
+on D N
+on D W
+angle S E 1/0
+angle E N 1/0
+angle N W 1/0
+distance A B 40
+distance B C 25
+end
+at
+point -40000000 0
+point 0 0
+point 0 25000000
+point -40000000 25000000
+line 0 1000000000 0
+line -1000000000 0 0
+line 0 -1000000000 -25000000
+line 1000000000 0 -40000000
+> 0
+length tolerance 0 nm at c1
+angle tolerance 0 ppb at line S
+$ 1000
+sketch 1
+line X 0 0 100 0
+line Y 0 0 0 80
+circle H 30 8 5
+angle X Y 1/0
+tangent X H
+distance H Y 30
+end
+at
+line 0 1000000000 0
+line -1000000000 0 0
+point 30000000 5000000
+> 0
+length tolerance 0 nm at c2
+angle tolerance 0 ppb at line X
+$ 1000
+sketch 1
+circle H 0 0 5
+circle K 5 0 2
+line T 0 -6 10 1.5
+distance H K 5
+tangent T H
+tangent T K
+end
+at
+point 0 0
+point 5000000 0
+line -600000000 800000000 -5000000
+> 0
+length tolerance 0 nm at c1
+angle tolerance 0 ppb at line T
+$ 1000
+sketch 1
+line X 0 0 100 0
+line Y 5 0 85 60
+point H 5 50
+angle X Y 3/4
+distance H X 5
+distance H Y 4
+end
+at
+line 0 1000000000 0
+line -600000000 800000000 -3000000
+point 5000000 5000000
+> 0
+length tolerance 0 nm at c2
+angle tolerance 0 ppb at line X
+";
 
-const SHORT: &[u8] = b"sketch 1\npoint A 0 0\npoint B 1 0\ndistance A B 0.003\nend\n";
+/// A length that is off by 5 and a height by 3; normals that are too long or not at their angle, and what is first beyond a
+/// limit.
+const WORST: &str = "
+$ 1000
+sketch 1
+line X 0 0 100 0
+line Y 0 0 0 80
+circle H 30 8 5
+angle X Y 1/0
+tangent X H
+distance H Y 30
+end
+at
+line 0 1000000000 0
+line -1000000000 0 0
+point 30000003 4999995
+> 0
+length tolerance 5 nm at c2
+angle tolerance 0 ppb at line X
+$ 1000
+sketch 1
+line X 0 0 100 0
+line Y 0 0 0 80
+circle H 30 8 5
+angle X Y 1/0
+tangent X H
+distance H Y 30
+end
+at
+line 0 1000000003 0
+line -1000000000 0 0
+point 30000000 5000000
+> 0
+length tolerance 1 nm at c2
+angle tolerance 7 ppb at line X
+$ 1000
+sketch 1
+line X 0 0 100 0
+line Y 0 0 0 80
+circle H 30 8 5
+angle X Y 1/0
+tangent X H
+distance H Y 30
+end
+at
+line 0 1000000000 0
+line -1000000000 5 0
+point 30000000 5000000
+> 0
+length tolerance 1 nm at c3
+angle tolerance 5 ppb at c1
+$ 4
+sketch 1
+line X 0 0 100 0
+line Y 0 0 0 80
+circle H 30 8 5
+angle X Y 1/0
+tangent X H
+distance H Y 30
+end
+at
+line 0 1000000003 0
+line -1000000000 0 0
+point 30000003 4999995
+> 0
+length tolerance 5 nm at c2
+angle tolerance 7 ppb at line X
+fault line X tolerance 7 ppb limit 4
+$ 7
+sketch 1
+line X 0 0 100 0
+line Y 0 0 0 80
+circle H 30 8 5
+angle X Y 1/0
+tangent X H
+distance H Y 30
+end
+at
+line 0 1000000003 0
+line -1000000000 0 0
+point 30000003 4999995
+> 0
+length tolerance 5 nm at c2
+angle tolerance 7 ppb at line X
+$ 49
+sketch 1
+line X 0 0 100 0
+line Y 5 0 85 60
+point H 5 50
+angle X Y 3/4
+distance H X 5
+distance H Y 4
+end
+at
+line 70 1000000000 0
+line -600000000 800000000 -3000000
+point 5000000 5000000
+> 0
+length tolerance 1 nm at c2
+angle tolerance 50 ppb at c1
+fault c1 tolerance 50 ppb limit 49
+";
 
-const RECTANGLE: &[u8] =
-    b"sketch 1\npoint A 0 0\npoint B 40 0\npoint C 40 25\npoint D 0 25\nline S 0 0 40 0\nline E 40 0 40 25\nline N 40 25 0 25\nline W 0 25 0 0\non A S\non A W\non B S\non B E\non C E\non C N\non D N\non D W\nangle S E 1/0\nangle E N 1/0\nangle N W 1/0\ndistance A B 40\ndistance B C 25\nend\n";
+/// A line that runs the other way, so that the right angles at it turn to the other side, before any step; a rectangle
+/// that is turned over; and a line that runs back.
+const TURNED: &str = "
+$ 1000
+sketch 1
+point A 0 0
+point B 40 0
+point C 40 25
+point D 0 25
+line S 0 0 40 0
+line E 40 0 40 25
+line N 40 25 0 25
+line W 0 25 0 0
+on A S
+on A W
+on B S
+on B E
+on C E
+on C N
+on D N
+on D W
+angle S E 1/0
+angle E N 1/0
+angle N W 1/0
+distance A B 40
+distance B C 25
+end
+at
+point -40000000 0
+point 0 0
+point 0 25000000
+point -40000000 25000000
+line 0 1000000000 0
+line 1000000000 0 0
+line 0 -1000000000 -25000000
+line 1000000000 0 -40000000
+> 0
+length tolerance 0 nm at c1
+angle tolerance 0 ppb at line S
+fault c9 turned drawn + placed -1
+$ 1000
+sketch 1
+point A 0 0
+point B 40 0
+point C 40 25
+point D 0 25
+line S 0 0 40 0
+line E 40 0 40 25
+line N 40 25 0 25
+line W 0 25 0 0
+on A S
+on A W
+on B S
+on B E
+on C E
+on C N
+on D N
+on D W
+angle S E 1/0
+angle E N 1/0
+angle N W 1/0
+distance A B 40
+distance B C 25
+end
+at
+point -40000000 0
+point 0 0
+point 0 -25000000
+point -40000000 -25000000
+line 0 1000000000 0
+line 1000000000 0 0
+line 0 -1000000000 25000000
+line -1000000000 0 40000000
+> 0
+length tolerance 0 nm at c1
+angle tolerance 0 ppb at line S
+fault c9 turned drawn + placed -1
+$ 8000000
+sketch 1
+line X 0 0 100 0
+line Y 5 0 85 60
+point H 5 50
+angle X Y 3/4
+distance H X 5
+distance H Y 4
+end
+at
+line 0 1000000000 0
+line 600000000 -800000000 3000000
+point 5000000 5000000
+> 0
+length tolerance 8000000 nm at c3
+angle tolerance 0 ppb at line X
+fault c1 turned drawn + placed -1
+";
 
-const PLATE: &[u8] =
-    b"sketch 1\nline X 0 0 100 0\nline Y 0 0 0 80\ncircle H 30 8 5\nangle X Y 1/0\ntangent X H\ndistance H Y 30\nend\n";
-
-const BELT: &[u8] =
-    b"sketch 1\ncircle H 0 0 5\ncircle K 5 0 2\nline T 0 -6 10 1.5\ndistance H K 5\ntangent T H\ntangent T K\nend\n";
-
-/// The angle has the tangent 3/4, and the line Y doesn't run through the origin.
-const WEDGE: &[u8] =
-    b"sketch 1\nline X 0 0 100 0\nline Y 5 0 85 60\npoint H 5 50\nangle X Y 3/4\ndistance H X 5\ndistance H Y 4\nend\n";
-
-const fn point(x: i64, y: i64) -> At {
-    At::Point { x, y }
-}
-
-const fn line(a: i64, b: i64, c: i64) -> At {
-    At::Line { a, b, c }
-}
-
-fn no_line(t: u64, at: u32) -> Tolerance {
-    Tolerance {
-        t,
-        w: 0,
-        worst_t: Some(ConId(at)),
-        worst_w: None,
+/// The places of the lines, `point x y` or `line a b c`.
+pub(crate) fn places_of(alloc: Global, lines: &str) -> Result<Vec<At>, Fail> {
+    let mut places = Vec::new(alloc);
+    for line in lines.lines() {
+        places.push(place_of(words_of(alloc, line)?.as_slice())?)?;
     }
+    Ok(places)
 }
 
-fn with_lines(t: u64, at: u32, w: u64, worst: Spotted) -> Tolerance {
-    Tolerance {
-        t,
-        w,
-        worst_t: Some(ConId(at)),
-        worst_w: Some(worst),
+fn place_of(words: &[&str]) -> Result<At, Fail> {
+    match words {
+        ["point", x, y] => Ok(At::Point {
+            x: x.parse::<i64>()?,
+            y: y.parse::<i64>()?,
+        }),
+        ["line", a, b, c] => Ok(At::Line {
+            a: a.parse::<i64>()?,
+            b: b.parse::<i64>()?,
+            c: c.parse::<i64>()?,
+        }),
+        _ => Err(Fail::from("a place")),
     }
 }
 
 /// Places the nodes of the graph one by one.
-fn placed(alloc: Global, graph: &Graph, places: &[At]) -> Result<Placed, Fail>
+pub(crate) fn placed(alloc: Global, graph: &Graph, places: &[At]) -> Result<Placed, Fail>
     requires { IsSoundGraph graph.now }
-    ensures { IfOk result (λ p. PlacesExactly graph.now p) }
+    ensures exactly { IfOk result (λ p. PlacesExactly graph.now p) }
+    ensures in_order { IfOk result (λ p. AreSpotsOf graph.now.nodes p.spots) }
 {
     let nodes = graph.nodes.as_slice();
     if places.len() != nodes.len() {
@@ -108,261 +471,115 @@ fn is_part(part: i64) -> bool
     -2_000_000_000 <= part && part <= 2_000_000_000
 }
 
-/// Places the drawing, and compares its tolerance and its first turned sign.
-fn compares(
-    rt: &impl Abort,
-    alloc: Global,
-    text: &[u8],
-    places: &[At],
-    tolerance: Tolerance,
-    turned: Option<Turned>,
-) -> Result<(), Fail> {
+/// The report on the drawing that is placed there.
+fn report(alloc: Global, text: &str, places: &[At]) -> Result<Text, Fail> {
     let sketch = sketch_of(alloc, text)?;
     let graph = reduce(alloc, &sketch)?;
     let at = placed(alloc, &graph, places)?;
-    let Ok(plan) = plan_of(alloc, &sketch, &graph, &mut Chosen::new(Order::First)) else {
-        return Err(Fail::from("the drawing is well"));
-    };
-    assert!(rt; least(&at, &graph) == tolerance);
-    assert!(rt; first_turned(&at, &sketch, &plan) == turned);
+    let plan = planned(alloc, &sketch)?;
+    Ok(solve_text(alloc, &sketch, &plan, 38, &at, &least(&at, &graph))?)
+}
+
+/// What is first beyond the limit, or no text.
+fn beyond(alloc: Global, text: &str, places: &[At], limit: u64) -> Result<Text, Fail> {
+    let sketch = sketch_of(alloc, text)?;
+    let graph = reduce(alloc, &sketch)?;
+    let at = placed(alloc, &graph, places)?;
+    match passed(&at, &graph, limit) {
+        Some(beyond) => Ok(passed_text(alloc, &sketch, &beyond)?),
+        None => Ok(Text::new(alloc)),
+    }
+}
+
+/// The first turned sign, or no text.
+fn turned(alloc: Global, text: &str, places: &[At]) -> Result<Text, Fail> {
+    let sketch = sketch_of(alloc, text)?;
+    let graph = reduce(alloc, &sketch)?;
+    let at = placed(alloc, &graph, places)?;
+    let plan = planned(alloc, &sketch)?;
+    match first_turned(&at, &sketch, &plan) {
+        Some(turned) => Ok(turned_text(alloc, &turned)?),
+        None => Ok(Text::new(alloc)),
+    }
+}
+
+/// The three, one behind another.
+fn judged(alloc: Global, text: &str, places: &[At], limit: u64) -> Result<Text, Fail> {
+    let mut judged = report(alloc, text, places)?;
+    judged.put(beyond(alloc, text, places, limit)?.as_bytes())?;
+    judged.put(turned(alloc, text, places)?.as_bytes())?;
+    Ok(judged)
+}
+
+fn row_passes(rt: &impl Abort, alloc: Global, row: &str) -> Result<(), Fail> {
+    let (limit, rest) = row.split_once('\n').ok_or("a row without a sketch")?;
+    let (text, rest) = rest.split_once("at\n").ok_or("a row without places")?;
+    let (places, end) = rest.split_once("> 0\n").ok_or("a row without a report")?;
+    let places = places_of(alloc, places)?;
+    let judged = judged(alloc, text, places.as_slice(), limit.parse::<u64>()?)?;
+    assert!(rt; judged.as_bytes().ends_with(end.as_bytes()), "{row}");
     Ok(())
 }
 
-/// Places the drawing, and compares what is first beyond the limit.
-fn passes(
-    rt: &impl Abort,
-    alloc: Global,
-    text: &[u8],
-    places: &[At],
-    limit: u64,
-    beyond: Option<Beyond>,
-) -> Result<(), Fail> {
-    let sketch = sketch_of(alloc, text)?;
-    let graph = reduce(alloc, &sketch)?;
-    let at = placed(alloc, &graph, places)?;
-    assert!(rt; passed(&at, &graph, limit) == beyond);
+fn rows_pass(rt: &impl Abort, alloc: Global, table: &str) -> Result<(), Fail> {
+    for row in table.split("$ ").skip(1) {
+        row_passes(rt, alloc, row)?;
+    }
     Ok(())
 }
 
 #[test]
-fn triangles_hold_within_their_tolerance(rt: HostRuntime) -> Result<(), Fail> {
-    let right = [
-        point(0, 0),
-        point(4_000_000, 0),
-        point(4_000_000, 3_000_000),
-    ];
-    compares(&rt, rt.alloc(), RIGHT_TRIANGLE, &right, no_line(0, 1), None)?;
-    let even = [
-        point(0, 0),
-        point(10_000_000, 0),
-        point(5_000_000, 8_660_254),
-    ];
-    compares(&rt, rt.alloc(), EVEN_TRIANGLE, &even, no_line(1, 2), None)?;
-    let below = [
-        point(0, 0),
-        point(10_000_000, 0),
-        point(5_000_000, -8_660_254),
-    ];
-    let turned = Turned {
-        at: Name::Step(1),
-        drawn: Sign::Plus,
-        placed: -1,
-    };
-    compares(
-        &rt,
-        rt.alloc(),
-        EVEN_TRIANGLE,
-        &below,
-        no_line(1, 2),
-        Some(turned),
-    )?;
-    let flat = [point(0, 0), point(4_000_000, 0), point(4_000_000, 0)];
-    let zero = Turned {
-        at: Name::Step(1),
-        drawn: Sign::Plus,
-        placed: 0,
-    };
-    compares(
-        &rt,
-        rt.alloc(),
-        RIGHT_TRIANGLE,
-        &flat,
-        no_line(3_000_000, 3),
-        Some(zero),
-    )
+fn places_hold_within_their_tolerance(rt: HostRuntime) -> Result<(), Fail> {
+    rows_pass(&rt, rt.alloc(), POINTS)?;
+    rows_pass(&rt, rt.alloc(), LINES)
 }
 
-#[test]
-fn lines_hold_within_their_tolerance(rt: HostRuntime) -> Result<(), Fail> {
-    let rectangle = [
-        point(-40_000_000, 0),
-        point(0, 0),
-        point(0, 25_000_000),
-        point(-40_000_000, 25_000_000),
-        line(0, 1_000_000_000, 0),
-        line(-1_000_000_000, 0, 0),
-        line(0, -1_000_000_000, -25_000_000),
-        line(1_000_000_000, 0, -40_000_000),
-    ];
-    let exact = with_lines(0, 1, 0, Spotted::Line(Elem(5)));
-    compares(&rt, rt.alloc(), RECTANGLE, &rectangle, exact, None)?;
-    let plate = [
-        line(0, 1_000_000_000, 0),
-        line(-1_000_000_000, 0, 0),
-        point(30_000_000, 5_000_000),
-    ];
-    let exact = with_lines(0, 2, 0, Spotted::Line(Elem(1)));
-    compares(&rt, rt.alloc(), PLATE, &plate, exact, None)?;
-    let belt = [
-        point(0, 0),
-        point(5_000_000, 0),
-        line(-600_000_000, 800_000_000, -5_000_000),
-    ];
-    let exact = with_lines(0, 1, 0, Spotted::Line(Elem(3)));
-    compares(&rt, rt.alloc(), BELT, &belt, exact, None)
-}
-
-/// One length of 5, one height of 3, a normal that is too long, an angle that isn't right.
 #[test]
 fn what_is_worst_is_named(rt: HostRuntime) -> Result<(), Fail> {
-    let moved = [
-        line(0, 1_000_000_000, 0),
-        line(-1_000_000_000, 0, 0),
-        point(30_000_003, 4_999_995),
-    ];
-    let tolerance = with_lines(5, 2, 0, Spotted::Line(Elem(1)));
-    compares(&rt, rt.alloc(), PLATE, &moved, tolerance, None)?;
-    let long = [
-        line(0, 1_000_000_003, 0),
-        line(-1_000_000_000, 0, 0),
-        point(30_000_000, 5_000_000),
-    ];
-    let tolerance = with_lines(1, 2, 7, Spotted::Line(Elem(1)));
-    compares(&rt, rt.alloc(), PLATE, &long, tolerance, None)?;
-    let skew = [
-        line(0, 1_000_000_000, 0),
-        line(-1_000_000_000, 5, 0),
-        point(30_000_000, 5_000_000),
-    ];
-    let tolerance = with_lines(1, 3, 5, Spotted::Con(ConId(1)));
-    compares(&rt, rt.alloc(), PLATE, &skew, tolerance, None)
+    rows_pass(&rt, rt.alloc(), WORST)
 }
 
 #[test]
-fn the_first_beyond_a_limit_is_named(rt: HostRuntime) -> Result<(), Fail> {
-    let short = [point(0, 0), point(2998, 0)];
-    let beyond = Beyond {
-        at: Spotted::Con(ConId(1)),
-        least: 2,
-        limit: 1,
-    };
-    passes(&rt, rt.alloc(), SHORT, &short, 1, Some(beyond))?;
-    passes(&rt, rt.alloc(), SHORT, &short, 2, None)?;
-    let long = [
-        line(0, 1_000_000_003, 0),
-        line(-1_000_000_000, 0, 0),
-        point(30_000_003, 4_999_995),
-    ];
-    let beyond = Beyond {
-        at: Spotted::Line(Elem(1)),
-        least: 7,
-        limit: 4,
-    };
-    passes(&rt, rt.alloc(), PLATE, &long, 4, Some(beyond))?;
-    passes(&rt, rt.alloc(), PLATE, &long, 7, None)
+fn turned_signs_are_named(rt: HostRuntime) -> Result<(), Fail> {
+    rows_pass(&rt, rt.alloc(), TURNED)
 }
 
-/// The line E runs the other way, so that the right angles at it turn to the other side.
-#[test]
-fn a_turned_angle_comes_before_the_steps(rt: HostRuntime) -> Result<(), Fail> {
-    let rectangle = [
-        point(-40_000_000, 0),
-        point(0, 0),
-        point(0, 25_000_000),
-        point(-40_000_000, 25_000_000),
-        line(0, 1_000_000_000, 0),
-        line(1_000_000_000, 0, 0),
-        line(0, -1_000_000_000, -25_000_000),
-        line(1_000_000_000, 0, -40_000_000),
-    ];
-    let turned = Turned {
-        at: Name::Con(9),
-        drawn: Sign::Plus,
-        placed: -1,
-    };
-    let exact = with_lines(0, 1, 0, Spotted::Line(Elem(5)));
-    compares(&rt, rt.alloc(), RECTANGLE, &rectangle, exact, Some(turned))
-}
+const EVEN_TRIANGLE: &str = "\
+sketch 1
+point A 0 0
+point B 10 0
+point C 5 8
+distance A B 10
+distance A C 10
+distance B C 10
+end
+";
 
-/// The whole rectangle is turned over: each constraint holds, and the right angles turn to the right.
-#[test]
-fn a_rectangle_turned_over_is_told_by_its_angles(rt: HostRuntime) -> Result<(), Fail> {
-    let over = [
-        point(-40_000_000, 0),
-        point(0, 0),
-        point(0, -25_000_000),
-        point(-40_000_000, -25_000_000),
-        line(0, 1_000_000_000, 0),
-        line(1_000_000_000, 0, 0),
-        line(0, -1_000_000_000, 25_000_000),
-        line(-1_000_000_000, 0, 40_000_000),
-    ];
-    let turned = Turned {
-        at: Name::Con(9),
-        drawn: Sign::Plus,
-        placed: -1,
-    };
-    let exact = with_lines(0, 1, 0, Spotted::Line(Elem(5)));
-    compares(&rt, rt.alloc(), RECTANGLE, &over, exact, Some(turned))
-}
+const EVEN_PLACES: &str = "\
+point 0 0
+point 10000000 0
+point 5000000 8660254
+";
 
-/// As asked, with a normal of X that is off by 70, and with Y running back.
-#[test]
-fn an_angle_has_its_own_unit_and_sense(rt: HostRuntime) -> Result<(), Fail> {
-    let wedge = [
-        line(0, 1_000_000_000, 0),
-        line(-600_000_000, 800_000_000, -3_000_000),
-        point(5_000_000, 5_000_000),
-    ];
-    let exact = with_lines(0, 2, 0, Spotted::Line(Elem(1)));
-    compares(&rt, rt.alloc(), WEDGE, &wedge, exact, None)?;
-    let skew = [
-        line(70, 1_000_000_000, 0),
-        line(-600_000_000, 800_000_000, -3_000_000),
-        point(5_000_000, 5_000_000),
-    ];
-    let off = with_lines(1, 2, 50, Spotted::Con(ConId(1)));
-    compares(&rt, rt.alloc(), WEDGE, &skew, off, None)?;
-    let back = [
-        line(0, 1_000_000_000, 0),
-        line(600_000_000, -800_000_000, 3_000_000),
-        point(5_000_000, 5_000_000),
-    ];
-    let turned = Turned {
-        at: Name::Con(1),
-        drawn: Sign::Plus,
-        placed: -1,
-    };
-    let far = with_lines(8_000_000, 3, 0, Spotted::Line(Elem(1)));
-    compares(&rt, rt.alloc(), WEDGE, &back, far, Some(turned))
-}
-
+/// The first side is exact, and the second within 1.
 #[test]
 fn a_constraint_meets_its_tolerance(rt: HostRuntime) -> Result<(), Fail> {
-    let alloc = rt.alloc();
-    let sketch = sketch_of(alloc, EVEN_TRIANGLE)?;
-    let graph = reduce(alloc, &sketch)?;
-    let places = [
-        point(0, 0),
-        point(10_000_000, 0),
-        point(5_000_000, 8_660_254),
-    ];
-    let at = placed(alloc, &graph, &places)?;
-    assert!(rt; graph.edges.len() == 3);
-    assert!(rt; edge_meets(&at, &graph, 0, 0));
-    assert!(rt; !edge_meets(&at, &graph, 1, 0));
-    assert!(rt; edge_meets(&at, &graph, 1, 1));
+    assert!(rt; even_side_meets(rt.alloc(), 0, 0)?);
+    assert!(rt; !even_side_meets(rt.alloc(), 1, 0)?);
+    assert!(rt; even_side_meets(rt.alloc(), 1, 1)?);
     Ok(())
+}
+
+/// Whether that side of the even triangle holds within `t`.
+fn even_side_meets(alloc: Global, i: usize, t: u64) -> Result<bool, Fail>
+    requires { t ≤ 2 ^ 62 }
+{
+    let graph = reduce(alloc, &sketch_of(alloc, EVEN_TRIANGLE)?)?;
+    let at = placed(alloc, &graph, places_of(alloc, EVEN_PLACES)?.as_slice())?;
+    if i >= graph.edges.len() {
+        return Err(Fail::from("a side"));
+    }
+    Ok(edge_meets(&at, &graph, i, t))
 }
 
 /// Whether the constraint at place `i` holds within `t`.

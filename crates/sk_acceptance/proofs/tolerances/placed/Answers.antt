@@ -21,7 +21,12 @@ loop-i-preserved c =
     spots_more (take c.loop-i.i nodes) c.loop-i.spots n spot c.loop-i.invariant (record { elem = refl; has_kind = c.is_place.ensures.kind passes; bounded = c.is_place.ensures.bounded passes }) in
     rw (c.in_ok-push.ensures.ok, take_more nodes c.loop-i.i any_node (omega arith)) more
 
-pub returns : goal.returns
-returns c =
+pub returns-clause-exactly : goal.returns-clause-exactly
+returns-clause-exactly c =
     let all : AreSpotsOf c.as_slice-nodes.result.now c.loop-i.spots = subst (λ (xs : List Node). AreSpotsOf xs c.loop-i.spots) (take_all c.loop-i.i c.as_slice-nodes.result.now (omega arith)) c.loop-i.invariant in
     exactly_in_order c.args.graph.now (record { spots = c.loop-i.spots }) c.requires.nodes_rise (rw c.as_slice-nodes.ensures at all)
+
+pub returns-clause-in_order : goal.returns-clause-in_order
+returns-clause-in_order c =
+    let all : AreSpotsOf c.as_slice-nodes.result.now c.loop-i.spots = subst (λ (xs : List Node). AreSpotsOf xs c.loop-i.spots) (take_all c.loop-i.i c.as_slice-nodes.result.now (omega arith)) c.loop-i.invariant in
+    rw c.as_slice-nodes.ensures at all
