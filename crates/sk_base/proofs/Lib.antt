@@ -1,3 +1,4 @@
+pub mod Blocks
 pub mod Decimals
 pub mod Distinct
 pub mod Filters

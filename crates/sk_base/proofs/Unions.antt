@@ -1,5 +1,5 @@
 -- What a union holds, that it rises, and that rising lists with the same items are the same.
-use Rattle.std.proofs.Common.{◌≡◌, ◌⊎◌, inl, inr, ℕ, zero, suc, ◌+◌, ◌<◌, ◌≤◌, List, [], ◌∷◌, ◌++◌, length, get_or, refl, ap, sym, subst, ◌∙◌, arith}
+use Rattle.std.proofs.Common.{◌≡◌, ◌≢◌, ◌⊎◌, inl, inr, ℕ, zero, suc, ◌+◌, ◌<◌, ◌≤◌, List, [], ◌∷◌, ◌++◌, length, get_or, refl, ap, sym, subst, ◌∙◌, arith}
 use Rattle.std.specs.Prelude.{Contains}
 use Rattle.std.proofs.lemmas.List.Elements.{Contains-get_or}
 use Rattle.std.proofs.lemmas.Bool.Decides.{nat_tests}
@@ -122,6 +122,32 @@ module _ {X : Type 0} (number : X → ℕ) where
           | inl left ↦ inl (contains_later x xs z left)
           | inr right ↦ inr right
         ]
+      ]
+
+  -- an item whose number none has is put in
+  put_in : (x : X) (ys : List X) → ((y : X) → Contains ys y → number x ≢ number y) → Contains (put number x ys) x
+  unfolding put
+  put_in x [] other = contains_head x []
+  put_in x (y ∷ ys) other =
+      elim (which (number x) (number y)) [
+        | inl first ↦ rw (put_first x y ys first) (contains_head x (y ∷ ys))
+        | inr (inl same) ↦ absurd (other y (contains_head y ys) same)
+        | inr (inr later) ↦ rw (put_later x y ys later) (contains_later y (put number x ys) x (put_in x ys (λ z h. other z (contains_later y ys z h))))
+      ]
+
+  -- where no two have the same number, a union has all of the first
+  pub union_of_apart : (xs ys : List X) → IsRising number xs → ((x y : X) → Contains xs x → Contains ys y → number x ≢ number y) → (z : X) → Contains xs z → Contains (union number xs ys) z
+  unfolding union
+  union_of_apart [] ys rise apart z h = absurd (contains_none z h)
+  union_of_apart (x ∷ xs) ys rise apart z h =
+      elim (contains_cases x xs z h) [
+        | inl here ↦ subst (λ w. Contains (put number x (union number xs ys)) w) here (put_in x (union number xs ys) (λ y y_in same.
+            elim (union_cases xs ys y y_in) [
+              | inl left ↦ (let below : number x < number y = rising_below number x xs rise y left in absurd (omega arith))
+              | inr right ↦ apart x y (contains_head x xs) right same
+            ]))
+        | inr later ↦ contains_put_other x (union number xs ys) z
+            (union_of_apart xs ys (rising_tail number x xs rise) (λ a b a_in b_in. apart a b (contains_later x xs a a_in) b_in) z later)
       ]
 
 module _ {X : Type 0} (number : X → ℕ) (exact : (x y : X) → number x ≡ number y → x ≡ y) where

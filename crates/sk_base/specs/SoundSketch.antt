@@ -1,23 +1,22 @@
 -- What every sketch that was read keeps to.
-use Rattle.std.specs.Prelude.{◌≡◌, ◌≢◌, ◌≤◌, ◌⊎◌, pos, Option, Some, None, length, All, AllPairs, IsTrue}
+use Rattle.std.specs.Prelude.{◌≡◌, ◌≢◌, ◌≤◌, ◌⊎◌, pos, Option, Some, None, List, length, All, AllPairs, IsTrue}
 use Rattle.sk_base.specs.declared.numbered.Elem.{Elem}
 use Rattle.sk_base.specs.declared.measure.Um.{Um}
 use Rattle.sk_base.specs.declared.measure.Ratio.{Ratio}
 use Rattle.sk_base.specs.declared.sketch.Element.{Element}
 use Rattle.sk_base.specs.declared.sketch.Constraint.{Constraint}
+use Rattle.sk_base.specs.declared.sketch.Pin.{Pin}
 use Rattle.sk_base.specs.declared.sketch.Rule.{Rule}
-use Rattle.sk_base.specs.declared.sketch.Rule.TheVariants.{Distance, On, Tangent, Outside, Inside, Angle}
+use Rattle.sk_base.specs.declared.sketch.Rule.TheVariants.{Distance, On, Tangent, Outside, Inside, Angle, Block}
 use Rattle.sk_base.specs.declared.sketch.Shape.{Shape}
 use Rattle.sk_base.specs.declared.sketch.Shape.TheVariants.{Point, Line, Circle}
 use Rattle.sk_base.specs.declared.sketch.Sketch.{Sketch}
-use Rattle.sk_base.specs.Bounds.{IsWithin, IsFromTo}
+use Rattle.sk_base.specs.Bounds.{IsWithin, IsFromTo, IsCoordinate}
 use Rattle.sk_base.specs.Drawn.{shape_of, IsPoint, IsLine, IsCircle, HasCentre}
 use Rattle.sk_base.specs.Labels.{is_name}
+use Rattle.sk_base.specs.Pins.{AreSoundPins, block_words}
 use Rattle.sk_base.specs.Rising.{IsRising}
-
--- a drawn coordinate, at most 1,000,000 millimetres in absolute value
-abbrev pub IsCoordinate : Um → Type 0
-IsCoordinate um = IsWithin 1000000000 um.0
+use Rattle.sk_base.specs.Spelling.{spaced}
 
 -- a length or a radius: above 0, and at most 1,000,000 millimetres
 abbrev pub IsLength : Um → Type 0
@@ -73,6 +72,17 @@ BothFit fits (Some u) (Some v) = fits u v
 abbrev pub MayJoin : Sketch → (Shape → Shape → Type 0) → Elem → Elem → Type 0
 MayJoin s fits u v = (u ≢ v) × BothFit fits (shape_of s u) (shape_of s v)
 
+-- the element is drawn, as a point or a circle
+abbrev pub IsCentred : Option Shape → Type 0
+IsCentred None = ⊥
+IsCentred (Some shape) = HasCentre shape
+
+-- the pins are sound, their elements are points or circles, and the line that says them has at most 200 bytes
+pub record IsSoundBlock (s : Sketch) (pins : List Pin) : Type 0 where
+  pub sound : AreSoundPins pins
+  pub centred : All (λ (pin : Pin). IsCentred (shape_of s pin.elem)) pins
+  pub fits : length (spaced (block_words s pins)) ≤ 200
+
 -- the rule fits the elements that it names
 abbrev pub IsSoundRule : Sketch → Rule → Type 0
 IsSoundRule s (Distance u v len) = MayJoin s MayBeApart u v × IsLength len
@@ -81,6 +91,7 @@ IsSoundRule s (Tangent u v) = MayJoin s MayBeTangent u v
 IsSoundRule s (Outside u v) = MayJoin s AreCircles u v
 IsSoundRule s (Inside u v) = MayJoin s MayNest u v
 IsSoundRule s (Angle l m ratio) = MayJoin s AreLines l m × IsSoundRatio ratio
+IsSoundRule s (Block pins) = IsSoundBlock s pins
 
 -- numbers rise along both lists, labels are names and differ, and each element and each constraint is
 -- one that the language can declare

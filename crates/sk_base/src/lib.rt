@@ -18,7 +18,7 @@ mod sketch;
 mod text;
 
 pub use digits::digits_of;
-pub use graph::{Edge, Graph, Node};
+pub use graph::{Block, Edge, Graph, Node, copy_block};
 pub use label::Label;
 pub use list::List;
 pub use measure::{Kind, Measure, Ratio, Sign, Um};
@@ -29,5 +29,5 @@ pub use numbered::{ConId, Elem, Numbered};
 pub use order::comes_before;
 pub use placed::{At, Placed, Spot};
 pub use rounding::{nearest, rounding_is_nearest};
-pub use sketch::{Constraint, Element, Rule, Shape, Sketch};
+pub use sketch::{Constraint, Element, Pin, Rule, Shape, Sketch, copy_constraint};
 pub use text::Text;

@@ -1,10 +1,12 @@
 // A sketch as it is drawn.
-ghost use Rattle.std.specs.Prelude.{◌≡◌, option_copied};
+ghost use Rattle.std.specs.Prelude.{◌≡◌, option_copied, IfOk};
 
 use crate::label::Label;
 use crate::list::List;
 use crate::measure::{Ratio, Um};
+use crate::memory::NoMemory;
 use crate::numbered::{ConId, Elem};
+use std::alloc::Global;
 
 /// How an element is drawn. A line runs from its first place towards its second.
 #[derive(Clone, Copy, Debug, PartialEq, Eq)]
@@ -49,8 +51,17 @@ pub struct Element {
     pub shape: Shape,
 }
 
-/// What a constraint asks of its elements.
+/// A place within a block, and the point or centre that lies there. Places are mutual: they are those of
+/// the block's own frame.
 #[derive(Clone, Copy, Debug, PartialEq, Eq)]
+pub struct Pin {
+    pub elem: Elem,
+    pub x: Um,
+    pub y: Um,
+}
+
+/// What a constraint asks of its elements.
+#[derive(Drop)]
 pub enum Rule {
     /// Two points or centres, or one of these and a line, are so far apart.
     Distance { u: Elem, v: Elem, len: Um },
@@ -64,13 +75,58 @@ pub enum Rule {
     Inside { u: Elem, v: Elem },
     /// The angle from the one line to the other has this tangent.
     Angle { l: Elem, m: Elem, ratio: Ratio },
+    /// These points and centres lie towards each other as the places given, not mirrored.
+    Block { pins: List<Pin> },
 }
 
 /// A numbered constraint.
-#[derive(Clone, Copy, Debug, PartialEq, Eq)]
+#[derive(Drop)]
 pub struct Constraint {
     pub number: ConId,
     pub rule: Rule,
+}
+
+/// The same constraint once more.
+pub fn copy_constraint(alloc: Global, constraint: &Constraint) -> Result<Constraint, NoMemory>
+    ensures { IfOk result (λ copy. copy ≡ constraint.now) }
+{
+    Ok(Constraint {
+        number: constraint.number,
+        rule: copy_rule(alloc, &constraint.rule)?,
+    })
+}
+
+fn copy_rule(alloc: Global, rule: &Rule) -> Result<Rule, NoMemory>
+    ensures { IfOk result (λ copy. copy ≡ rule.now) }
+{
+    Ok(match rule {
+        Rule::Distance { u, v, len } => Rule::Distance {
+            u: *u,
+            v: *v,
+            len: *len,
+        },
+        Rule::On { u, v } => Rule::On { u: *u, v: *v },
+        Rule::Tangent { u, v } => Rule::Tangent { u: *u, v: *v },
+        Rule::Outside { u, v } => Rule::Outside { u: *u, v: *v },
+        Rule::Inside { u, v } => Rule::Inside { u: *u, v: *v },
+        Rule::Angle { l, m, ratio } => Rule::Angle {
+            l: *l,
+            m: *m,
+            ratio: *ratio,
+        },
+        Rule::Block { pins } => Rule::Block {
+            pins: copy_pins(alloc, pins)?,
+        },
+    })
+}
+
+/// The same pins once more.
+pub(crate) fn copy_pins(alloc: Global, pins: &List<Pin>) -> Result<List<Pin>, NoMemory>
+    ensures { IfOk result (λ copy. copy ≡ pins.now) }
+{
+    let mut copy = List::new(alloc);
+    copy.extend(pins.as_slice())?;
+    Ok(copy)
 }
 
 /// The elements and the constraints, each in order of number.
