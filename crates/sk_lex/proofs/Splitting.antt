@@ -1,10 +1,10 @@
 -- The words of a line, one after another.
 use Rattle.std.proofs.Common.{◌≡◌, ℕ, suc, ◌+◌, ◌-◌, ◌<◌, ◌≤◌, Bool, true, false, not, cond, List, [], ◌∷◌, ◌++◌, length, take, drop, get_or, map, refl, sym, ap, ◌∙◌, arith, append_assoc, drop-cons, add-one, inl, inr}
-use Rattle.std.specs.List.{position_or_len, All}
+use Rattle.std.specs.List.{position_or_len, slice_range, All}
 use Rattle.std.proofs.lemmas.Bool.{cases_lt}
 use Rattle.std.proofs.lemmas.List.Splits.{slice_split-cons_yes, slice_split_first, slice_split_none}
 use Rattle.std.proofs.lemmas.List.Sums.{passes_at_first, fails_before_first, prefix_len-le-length}
-use Rattle.std.proofs.lemmas.List.{length-take-le, take_all, drop_all, drop-drop, map-append}
+use Rattle.std.proofs.lemmas.List.{length-take-le, take_all, drop_all, drop-drop, map-append, drop-take, take-take}
 use Rattle.sk_lex.specs.declared.words.Word.{Word}
 use Rattle.sk_lex.specs.Words.{is_blank, is_empty, words_in, bytes_of, StandInOrder}
 
@@ -71,3 +71,22 @@ pub words_in-pushed : (line : List ℕ) (items : List Word) (at len : ℕ) → m
 words_in-pushed line items at len before word =
     let width : (at + len) - at ≡ len = omega arith in
     rw (map-append, append_assoc, width, ← word) before
+
+order_ends : (from : ℕ) (words : List Word) (to : ℕ) → StandInOrder from words to → from ≤ to
+order_ends from [] to order = order
+order_ends from (word ∷ words) to order =
+    let rest = order_ends word.end words to order.2 in
+    let start = order.0 in
+    let some = order.1 in omega arith
+
+bytes_of_front : (line : List ℕ) (end a b : ℕ) → a ≤ b → b ≤ end → slice_range (take end line) a b ≡ slice_range line a b
+bytes_of_front line end a b rising within =
+    let width : end ≡ a + (end - a) = omega arith in
+    ap (λ (n : ℕ). take (b - a) (drop a (take n line))) width ∙ ap (take (b - a)) (drop-take a (end - a) line) ∙ take-take (b - a) (end - a) (drop a line) (omega arith)
+
+-- the words of a front of the line are words of the line
+pub words_of_front : (line : List ℕ) (end from : ℕ) (words : List Word) → StandInOrder from words end → map (bytes_of (take end line)) words ≡ map (bytes_of line) words
+words_of_front line end from [] order = refl
+words_of_front line end from (word ∷ words) order =
+    let last = order_ends word.end words end order.2 in
+    rw (bytes_of_front line end word.start word.end (let some = order.1 in omega arith) last) (ap (λ (ws : List (List ℕ)). bytes_of line word ∷ ws) (words_of_front line end word.end words order.2))

@@ -1,4 +1,4 @@
-ghost use Rattle.std.specs.Prelude.{◌≡◌, ◌≤◌, ◌↔◌, length, map, IfOk, IfErr, MatchResult, true, false};
+ghost use Rattle.std.specs.Prelude.{◌≡◌, ◌≤◌, ◌↔◌, length, map, take, IfOk, IfErr, MatchResult, true, false};
 ghost use Rattle.std.specs.List.{position, position_or_len};
 ghost use Rattle.sk_lex.specs.Words.{is_too_long, is_text_byte, has_wrong_byte, is_blank, words_in, bytes_of, StandInOrder, IsFaultOf};
 
@@ -17,13 +17,25 @@ pub fn words_of(alloc: Global, line: &[u8]) -> Result<Words, LexFault>
     ensures ascii { IfOk result (λ _. has_wrong_byte line.now ≡ false) }
     ensures fault { IfErr result (IsFaultOf line.now) }
 {
+    words_before(alloc, line, line.len())
+}
+
+/// The words of a line that stand before a place. The whole line is tested.
+pub fn words_before(alloc: Global, line: &[u8], end: usize) -> Result<Words, LexFault>
+    requires { end ≤ length line.now }
+    ensures words { IfOk result (λ words. map (bytes_of line.now) words.items ≡ words_in (take end line.now)) }
+    ensures order { IfOk result (λ words. StandInOrder 0 words.items end) }
+    ensures fits { IfOk result (λ _. is_too_long line.now ≡ false) }
+    ensures ascii { IfOk result (λ _. has_wrong_byte line.now ≡ false) }
+    ensures fault { IfErr result (IsFaultOf line.now) }
+{
     if line.len() > MOST_BYTES {
         return Err(LexFault::LineTooLong);
     }
     if has_wrong_byte(line) {
         return Err(LexFault::NotAscii);
     }
-    Ok(split_words(alloc, line)?)
+    Ok(split_words(alloc, &line[..end])?)
 }
 
 /// Whether a byte is neither 0x20 to 0x7E nor a tab.

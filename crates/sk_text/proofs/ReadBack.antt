@@ -10,7 +10,7 @@ use Rattle.std.proofs.lemmas.Bool.{cases_eq}
 use Rattle.std.proofs.lemmas.Fmt.{decimal_is_IsNumeral, length-decimal-le}
 use Rattle.std.proofs.lemmas.List.{length-append}
 use Rattle.sk_base.specs.Millimetres.{digits_of, at_most, has_sign, without_sign, is_point, whole_um, fraction_um, um_round, unsigned_um, mm_of}
-use Rattle.sk_text.specs.Spelling.{magnitude, fraction_text, mm_text}
+use Rattle.sk_base.specs.Spelling.{magnitude, fraction_text, mm_text}
 
 digit_again : (c : ℕ) → digit_value c < 10 → is_ascii_digit c ≡ true
 digit_again c small = grind (arith, nat_tests)

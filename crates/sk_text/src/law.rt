@@ -1,6 +1,6 @@
 ghost use Rattle.std.specs.Prelude.{◌≡◌, ◌≤◌, ℤ, Some};
 ghost use Rattle.sk_base.specs.Millimetres.{mm_of};
-ghost use Rattle.sk_text.specs.Spelling.{magnitude, mm_text};
+ghost use Rattle.sk_base.specs.Spelling.{magnitude, mm_text};
 
 /// What `put_mm` writes of a coordinate reads as that coordinate.
 pub fn coordinates_read_back()

@@ -1,6 +1,6 @@
 // The names of elements in texts.
 ghost use Rattle.std.specs.Prelude.{◌≡◌, ◌++◌, ◌∷◌, OnOk};
-ghost use Rattle.sk_text.specs.ElementNames.{name_of, names_of};
+ghost use Rattle.sk_base.specs.ElementNames.{name_of, names_of};
 
 use sk_base::{Elem, NoMemory, Sketch, Text};
 

@@ -1,5 +1,5 @@
 ghost use Rattle.std.specs.Prelude.{◌≡◌, ◌<◌, ◌≤◌, [], ◌∷◌, ◌++◌, length, OnOk, OnErr};
-ghost use Rattle.sk_text.specs.Spelling.{with_minus, digit_at, fraction_text, six_digits, whole_text, mm_text, fixed_text};
+ghost use Rattle.sk_base.specs.Spelling.{with_minus, digit_at, fraction_text, six_digits, whole_text, mm_text, fixed_text};
 
 use crate::spelling::Spelling;
 use sk_base::{NoMemory, Text, Um};

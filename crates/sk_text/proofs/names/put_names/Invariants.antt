@@ -1,5 +1,5 @@
 use Rattle.std.proofs.Common.{◌≡◌, ◌++◌, take}
-use Rattle.sk_text.specs.ElementNames.{names_of}
+use Rattle.sk_base.specs.ElementNames.{names_of}
 use Rattle.sk_text.proofs.names.put_names.Given as goal
 
 abbrev pub invariant-loop-e : goal.invariant-loop-e
