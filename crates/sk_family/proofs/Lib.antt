@@ -1,5 +1,7 @@
 pub mod Shares
 pub mod Bodies
+pub mod GraphStarts
+mod InOrder
 pub mod Soundness
 pub mod Starting
 pub mod Sorting

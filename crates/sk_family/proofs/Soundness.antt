@@ -8,56 +8,57 @@ use Rattle.std.proofs.lemmas.List.Filters.{length-filter_both}
 use Rattle.sk_base.specs.declared.Name.{Name}
 use Rattle.sk_base.specs.declared.Name.TheVariants.{Con, Step}
 use Rattle.sk_base.specs.declared.ConId.{ConId}
-use Rattle.sk_base.specs.declared.Edge.{Edge}
 use Rattle.sk_base.specs.declared.Graph.{Graph}
-use Rattle.sk_base.specs.SoundGraph.{HasRisingEdges, IsSoundGraph}
+use Rattle.sk_base.specs.SoundGraph.{IsSoundGraph}
 use Rattle.sk_base.specs.ClusterNames.{IsBelow, name_eq, is_named}
 use Rattle.sk_base.specs.Numbering.{elem_number, con_number}
+use Rattle.sk_base.specs.Rising.{IsRising}
 use Rattle.sk_family.specs.declared.cluster.Cluster.{Cluster}
-use Rattle.sk_family.specs.Body.{Body, IsRisingBody, starting}
+use Rattle.sk_family.specs.Body.{Body, Start, IsRisingBody, starting, starts}
 use Rattle.sk_family.specs.Clusters.{Clusters, body_of, start_of, initial_clusters, named, unnamed, made_of, whole_from, replaced, CanBeReplaced, IsSound, IsLive}
 use Rattle.sk_base.proofs.Members.{contains_none, contains_head, contains_later, contains_one, mapped_from, contains_mapped, contains_filtered, filtered_from}
 use Rattle.sk_base.proofs.Pairs.{pairs_push, pairs_filter, pairs_map}
-use Rattle.sk_base.proofs.Unions.{rising_none, rising_cons, rising_union, rising_apart}
+use Rattle.sk_base.proofs.Unions.{rising_none, rising_cons, rising_apart}
 use Rattle.sk_family.proofs.Bodies.{each_within, owner_of}
+use Rattle.sk_family.proofs.GraphStarts.{starts_rise, starts_few, elements_rise}
 use Rattle.sk_family.proofs.Naming.{named_among}
 use Rattle.sk_family.proofs.Wholes.{made_rises}
 
-pub rising_starting : (e : Edge) → IsRisingBody (starting e)
-rising_starting e = record {
-  elements = rising_union elem_number (e.u ∷ []) (e.v ∷ []) (rising_cons elem_number e.v [] (rising_none elem_number) (λ y h. absurd (contains_none y h)));
-  owned = rising_cons con_number e.id [] (rising_none con_number) (λ y h. absurd (contains_none y h));
+pub rising_starting : (e : Start) → IsRising elem_number e.elements → IsRisingBody (starting e)
+rising_starting e rises = record {
+  elements = rises;
+  owned = rising_cons con_number e.number [] (rising_none con_number) (λ y h. absurd (contains_none y h));
 }
 
 pub con_inside : (j k : ℕ) → Con j ≡ Con k → j ≡ k
 con_inside j k e = cc
 
 pub sound_initial : (g : Graph) → IsSoundGraph g → IsSound (initial_clusters g)
-sound_initial g sound_graph = (let rises : HasRisingEdges g = sound_graph.edges_rise in record {
-  few = rw length-map (let few = sound_graph.few_edges in omega arith);
-  names_rise = pairs_map (λ (a b : Cluster). IsBelow a.name b.name) start_of g.edges rises;
-  bodies_rise = λ c c_in. (let found = mapped_from start_of g.edges c c_in in
-      subst (λ z. IsRisingBody (body_of z)) found.2 (rising_starting found.0));
-  each_owns = λ c c_in. (let found = mapped_from start_of g.edges c c_in in
-      subst (λ (z : Cluster). (k : ConId) × Contains z.owned k) found.2 (found.0.id, contains_head found.0.id []));
+sound_initial g sound_graph = (let rises = starts_rise g sound_graph.edges_rise in record {
+  few = rw length-map (let few = starts_few g sound_graph.edges_rise in let bound = sound_graph.few_constraints in omega arith);
+  names_rise = pairs_map (λ (a b : Cluster). IsBelow a.name b.name) start_of (starts g) rises;
+  bodies_rise = λ c c_in. (let found = mapped_from start_of (starts g) c c_in in
+      subst (λ z. IsRisingBody (body_of z)) found.2 (rising_starting found.0 (elements_rise g found.0 found.1)));
+  each_owns = λ c c_in. (let found = mapped_from start_of (starts g) c c_in in
+      subst (λ (z : Cluster). (k : ConId) × Contains z.owned k) found.2 (found.0.number, contains_head found.0.number []));
   owned_apart = λ a b k a_in b_in a_k b_k. (
-      let one = mapped_from start_of g.edges a a_in in
-      let other = mapped_from start_of g.edges b b_in in
-      let one_id : one.0.id ≡ k = contains_one one.0.id k (subst (λ (z : Cluster). Contains z.owned k) (sym one.2) a_k) in
-      let other_id : other.0.id ≡ k = contains_one other.0.id k (subst (λ (z : Cluster). Contains z.owned k) (sym other.2) b_k) in
-      let same : one.0 ≡ other.0 = rising_apart (λ (e : Edge). e.id.0) g.edges rises one.0 other.0 one.1 other.1 (ap con_number (one_id ∙ sym other_id)) in
+      let one = mapped_from start_of (starts g) a a_in in
+      let other = mapped_from start_of (starts g) b b_in in
+      let one_id : one.0.number ≡ k = contains_one one.0.number k (subst (λ (z : Cluster). Contains z.owned k) (sym one.2) a_k) in
+      let other_id : other.0.number ≡ k = contains_one other.0.number k (subst (λ (z : Cluster). Contains z.owned k) (sym other.2) b_k) in
+      let same : one.0 ≡ other.0 = rising_apart (λ (e : Start). e.number.0) (starts g) rises one.0 other.0 one.1 other.1 (ap con_number (one_id ∙ sym other_id)) in
       sym one.2 ∙ ap start_of same ∙ other.2);
   starts_own_their_own = λ c k c_in named. (
-      let found = mapped_from start_of g.edges c c_in in
-      let number : found.0.id.0 ≡ k = con_inside found.0.id.0 k (ap (λ (z : Cluster). z.name) found.2 ∙ named) in
+      let found = mapped_from start_of (starts g) c c_in in
+      let number : found.0.number.0 ≡ k = con_inside found.0.number.0 k (ap (λ (z : Cluster). z.name) found.2 ∙ named) in
       ap (λ (z : Cluster). z.owned) (sym found.2) ∙ ap (λ (n : ℕ). record { 0 = n } ∷ []) number);
   steps_below = λ c k c_in named. (
-      let found = mapped_from start_of g.edges c c_in in
-      let never : Con found.0.id.0 ≡ Step k = ap (λ (z : Cluster). z.name) found.2 ∙ named in
+      let found = mapped_from start_of (starts g) c c_in in
+      let never : Con found.0.number.0 ≡ Step k = ap (λ (z : Cluster). z.name) found.2 ∙ named in
       absurd (cc));
   merged_own_two = λ c k c_in named. (
-      let found = mapped_from start_of g.edges c c_in in
-      let never : Con found.0.id.0 ≡ Step k = ap (λ (z : Cluster). z.name) found.2 ∙ named in
+      let found = mapped_from start_of (starts g) c c_in in
+      let never : Con found.0.number.0 ≡ Step k = ap (λ (z : Cluster). z.name) found.2 ∙ named in
       absurd (cc));
 })
 
@@ -214,6 +215,6 @@ module _ (f : Clusters) (names : List Name) (sound : IsSound f) where
   })
 
 -- the starting clusters hold the starting bodies
-pub starting_bodies : (es : List Edge) → map body_of (map start_of es) ≡ map starting es
+pub starting_bodies : (es : List Start) → map body_of (map start_of es) ≡ map starting es
 starting_bodies [] = refl
 starting_bodies (e ∷ es) = ap (λ (bs : List Body). starting e ∷ bs) (starting_bodies es)

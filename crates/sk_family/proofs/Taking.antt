@@ -1,13 +1,13 @@
 -- Clusters taken out of a list by name.
-use Rattle.std.proofs.Common.{◌≡◌, ◌≢◌, inl, inr, refl, ℕ, suc, List, [], ◌∷◌, ◌++◌, length, get_or, take, drop, drop-cons, ap, sym, subst, ◌∙◌, Bool, true, false, cond, arith}
-use Rattle.std.specs.Prelude.{Contains, AllPairs, not, ◌&&◌, ◌||◌, filter, remove}
+use Rattle.std.proofs.Common.{◌≡◌, ◌≢◌, inl, inr, ℕ, suc, List, [], ◌∷◌, ◌++◌, length, get_or, take, drop, drop-cons, ap, sym, subst, ◌∙◌, cond, arith}
+use Rattle.std.specs.Prelude.{Contains, AllPairs, not, remove}
 use Rattle.std.proofs.lemmas.List.{take-append-drop, get_or_default}
 use Rattle.std.proofs.lemmas.List.Elements.{filter-append}
 use Rattle.std.proofs.lemmas.List.Folds.{list_any-append}
 use Rattle.std.proofs.lemmas.Option.{slice_get-get_or, slice_get_within, get_or_from_slice_get}
 use Rattle.sk_base.specs.declared.Name.{Name}
 use Rattle.sk_base.specs.ClusterNames.{IsBelow, is_named, name_eq}
-use Rattle.sk_base.proofs.Members.{contains_head, contains_later, contains_one}
+use Rattle.sk_base.proofs.Members.{contains_head, contains_one}
 use Rattle.sk_base.proofs.Pairs.{pairs_head}
 use Rattle.sk_base.proofs.Unions.{which}
 use Rattle.sk_family.specs.declared.cluster.Cluster.{Cluster}

@@ -3,11 +3,10 @@ use Rattle.std.specs.Prelude.{◌≡◌, ◌≢◌, ◌⊎◌, ◌+◌, ◌<◌,
 use Rattle.sk_base.specs.declared.Name.{Name}
 use Rattle.sk_base.specs.declared.Name.TheVariants.{Con, Step}
 use Rattle.sk_base.specs.declared.ConId.{ConId}
-use Rattle.sk_base.specs.declared.Edge.{Edge}
 use Rattle.sk_base.specs.declared.Graph.{Graph}
 use Rattle.sk_base.specs.ClusterNames.{IsBelow, is_named}
 use Rattle.sk_family.specs.declared.cluster.Cluster.{Cluster}
-use Rattle.sk_family.specs.Body.{Body, IsRisingBody, join, join_all, starting}
+use Rattle.sk_family.specs.Body.{Body, Start, IsRisingBody, join, join_all, starting, starts}
 
 -- the live clusters by rising name, and the next step's number
 pub record Clusters : Type 0 where
@@ -28,11 +27,11 @@ abbrev pub live_names : Clusters → List Name
 live_names f = map (λ (c : Cluster). c.name) f.live
 
 -- a constraint's starting cluster, named by it
-abbrev pub start_of : Edge → Cluster
-start_of e = cluster_of (Con e.id.0) (starting e)
+abbrev pub start_of : Start → Cluster
+start_of s = cluster_of (Con s.number.0) (starting s)
 
 abbrev pub initial_clusters : Graph → Clusters
-initial_clusters g = record { live = map start_of g.edges; next_step = 1 }
+initial_clusters g = record { live = map start_of (starts g); next_step = 1 }
 
 -- those of the clusters with these names, and the others
 abbrev pub named : List Name → List Cluster → List Cluster

@@ -1,25 +1,24 @@
 -- The starting clusters of some constraints of a graph, and which name comes first.
-use Rattle.std.specs.Prelude.{Bool, true, false, nat_lt, ◌==◌, not, List, map, filter, find, unwrap_or, pos}
+use Rattle.std.specs.Prelude.{Bool, true, false, nat_lt, ◌==◌, not, List, [], map, filter, find, unwrap_or}
 use Rattle.sk_base.specs.declared.Name.{Name}
 use Rattle.sk_base.specs.declared.Name.TheVariants.{Con, Step}
 use Rattle.sk_base.specs.declared.ConId.{ConId}
-use Rattle.sk_base.specs.declared.Edge.{Edge}
 use Rattle.sk_base.specs.declared.Graph.{Graph}
-use Rattle.sk_base.specs.declared.Measure.TheVariants.{PointPoint}
 use Rattle.sk_family.specs.declared.cluster.Cluster.{Cluster}
+use Rattle.sk_family.specs.Body.{Start, starts}
 use Rattle.sk_family.specs.Clusters.{start_of}
 
--- some constraint, where a graph has none
-abbrev pub any_edge : Edge
-any_edge = record { id = record { 0 = 0 }; u = record { 0 = 0 }; v = record { 0 = 0 }; measure = PointPoint (record { 0 = pos 0 }) }
+-- some start, where a graph has none
+abbrev pub any_start : Start
+any_start = record { number = record { 0 = 0 }; elements = [] }
 
--- the constraint of that number
-abbrev pub edge_with : Graph → ConId → Edge
-edge_with g k = unwrap_or (find (λ (e : Edge). e.id.0 == k.0) g.edges) any_edge
+-- what the constraint of that number starts with
+abbrev pub start_with : Graph → ConId → Start
+start_with g k = unwrap_or (find (λ (s : Start). s.number.0 == k.0) (starts g)) any_start
 
 -- the starting clusters of the constraints of these numbers but k
 abbrev pub starts_but : Graph → ConId → List ConId → List Cluster
-starts_but g k numbers = map (λ j. start_of (edge_with g j)) (filter (λ (j : ConId). not (j.0 == k.0)) numbers)
+starts_but g k numbers = map (λ j. start_of (start_with g j)) (filter (λ (j : ConId). not (j.0 == k.0)) numbers)
 
 -- whether the one name is below the other
 abbrev pub is_before : Name → Name → Bool

@@ -1,19 +1,21 @@
 // The family of clusters, as a store sorted by name.
 ghost use Rattle.std.specs.Prelude.{◌≡◌, ◌↔◌, ◌+◌, ◌≤◌, ◌<◌, [], ◌∷◌, ◌++◌, All, AllPairs, IfOk, IfSome, IfNone, OnOk, OnErr, IsTrue, length, slice_get, Contains, false};
-ghost use Rattle.sk_base.specs.SoundGraph.{IsSoundGraph, HasRisingEdges};
+ghost use Rattle.sk_base.specs.SoundGraph.{IsSoundGraph, HasRisingEdges, HasRisingBlocks};
 ghost use Rattle.sk_base.specs.ClusterNames.{IsBelow, is_named};
 ghost use Rattle.sk_family.specs.declared.cluster.Cluster.{Cluster as AnyCluster};
-ghost use Rattle.sk_family.specs.Body.{IsRisingBody, initial_bodies, join, nothing};
-ghost use Rattle.sk_family.specs.Clusters.{AddsNamed, cluster_of, initial_clusters, replaced, whole_from, bodies, body_of, live_names, unnamed, ByName, CanBeReplaced, IsAt, IsSound, IsLive, IsNamed};
+ghost use Rattle.sk_base.specs.Numbering.{elem_number};
+ghost use Rattle.sk_base.specs.Rising.{IsRising};
+ghost use Rattle.sk_family.specs.Body.{Start, IsRisingBody, edge_start, block_start, initial_bodies, join, nothing};
+ghost use Rattle.sk_family.specs.Clusters.{AddsNamed, cluster_of, initial_clusters, start_of, replaced, whole_from, bodies, body_of, live_names, unnamed, ByName, CanBeReplaced, IsAt, IsSound, IsLive, IsNamed};
 ghost use Rattle.sk_family.specs.Starting.{starts_but};
 ghost use Rattle.sk_family.specs.Starts.{IsFree, HasStart, CanBeDissolved, IsDissolved};
 
 use crate::cluster::Cluster;
 use crate::order::place_of;
 use crate::row::Row;
-use crate::start::{exchange, start_of, starts_of};
+use crate::start::{all_starts, block_cluster, edge_cluster, exchange, starts_of};
 use crate::union::union_of;
-use sk_base::{ConId, Edge, Graph, List, Name, NoMemory};
+use sk_base::{Block, ConId, Edge, Graph, List, Name, NoMemory};
 use std::alloc::Global;
 use std::marker::Model;
 
@@ -35,19 +37,16 @@ impl Model for Family {
     ghost invariant = { λ f. IsSound (record { live = f.clusters; next_step = f.next }) };
 }
 
-/// The family of starting clusters: one for each constraint, of its two ends.
+/// The family of starting clusters: one for each constraint, of its two ends, or of the elements of a
+/// block's pins.
 pub fn initial(alloc: Global, graph: &Graph) -> Result<Family, NoMemory>
     requires { IsSoundGraph graph.now }
     ensures clusters { IfOk result (λ f. f ≡ initial_clusters graph.now) }
     ensures bodies { IfOk result (λ f. bodies f ≡ initial_bodies graph.now) }
 {
-    let mut clusters = Row::new(alloc);
-    for edge in graph.edges.as_slice() {
-        clusters.push(start_of(alloc, edge)?)?;
-    }
     Ok(Family {
         alloc,
-        clusters,
+        clusters: Row::of(all_starts(alloc, graph)?),
         next: 1,
     })
 }
@@ -131,12 +130,37 @@ impl Family {
     pub fn adopt(&mut self, edge: &Edge) -> Result<(), NoMemory>
         requires free { IsFree self.old edge.now.id }
         requires room { length self.old.live < 4294967295 }
-        ensures ok { OnOk result (HasStart edge.now self.old self.new) }
+        ensures ok { OnOk result (HasStart (edge_start edge.now) self.old self.new) }
         ensures count { OnOk result (length self.new.live ≡ length self.old.live + 1) }
         ensures err { OnErr result (self.new ≡ self.old) }
         ensures sound { IsSound self.new }
     {
-        let start = start_of(self.alloc, edge)?;
+        let start = edge_cluster(self.alloc, edge)?;
+        self.put_start(start)
+    }
+
+    /// The same for a block.
+    pub fn adopt_block(&mut self, block: &Block) -> Result<(), NoMemory>
+        requires free { IsFree self.old block.now.id }
+        requires room { length self.old.live < 4294967295 }
+        ensures ok { OnOk result (HasStart (block_start block.now) self.old self.new) }
+        ensures count { OnOk result (length self.new.live ≡ length self.old.live + 1) }
+        ensures err { OnErr result (self.new ≡ self.old) }
+        ensures sound { IsSound self.new }
+    {
+        let start = block_cluster(self.alloc, block)?;
+        self.put_start(start)
+    }
+
+    /// Puts a starting cluster in at its place.
+    fn put_start(&mut self, start: Cluster) -> Result<(), NoMemory>
+        requires start { (s : Start) × (start ≡ start_of s) × IsRising elem_number s.elements × IsFree self.old s.number }
+        requires room { length self.old.live < 4294967295 }
+        ensures ok { OnOk result ((s : Start) → start ≡ start_of s → HasStart s self.old self.new) }
+        ensures count { OnOk result (length self.new.live ≡ length self.old.live + 1) }
+        ensures err { OnErr result (self.new ≡ self.old) }
+        ensures sound { IsSound self.new }
+    {
         let place = place_of(self.clusters.as_slice(), start.name);
         self.clusters.insert(place, start)?;
         Ok(())
@@ -160,6 +184,7 @@ impl Family {
     /// The starting clusters of the constraints that the cluster of that name owns, but for one.
     fn starts_in(&self, name: Name, without: ConId, graph: &Graph) -> Result<Vec<Cluster>, NoMemory>
         requires graph { HasRisingEdges graph.now }
+        requires blocks { HasRisingBlocks graph.now }
         requires owner { CanBeDissolved graph.now self.now name without }
         ensures { IfOk result (λ starts. (c : AnyCluster) → IsNamed self.now name c → starts.items ≡ starts_but graph.now without c.owned) }
     {

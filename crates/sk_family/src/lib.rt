@@ -3,6 +3,7 @@
 
 mod cluster;
 mod family;
+mod law;
 mod order;
 mod row;
 mod start;
@@ -10,4 +11,5 @@ mod union;
 
 pub use cluster::{Cluster, Overlap, common};
 pub use family::{Family, initial};
+pub use law::every_start;
 pub use row::Row;

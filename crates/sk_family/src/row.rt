@@ -85,7 +85,9 @@ impl<T: Drop> Row<T> {
     /// Moves all items behind these others. After `NoMemory` both stay as they are.
     pub fn append_to(&mut self, others: &mut Vec<T>) -> Result<(), NoMemory>
         ensures ok { OnOk result (others.new.items ≡ others.old.items ++ self.old) }
+        ensures none_left { OnOk result (self.new ≡ []) }
         ensures err { OnErr result (self.new ≡ self.old) }
+        ensures others { OnErr result (others.new.items ≡ others.old.items) }
     {
         drop_front(&mut self.items, self.free);
         self.free = 0;

@@ -4,30 +4,94 @@ ghost use Rattle.std.specs.List.Sorted.{IsPermutation};
 ghost use Rattle.std.specs.Ordering.{is_lt};
 ghost use Rattle.sk_base.specs.declared.ConId.{ConId as Number};
 ghost use Rattle.sk_base.specs.declared.Edge.{Edge as AnEdge};
+ghost use Rattle.sk_base.specs.declared.Block.{Block as ABlock};
+ghost use Rattle.sk_base.specs.Numbering.{elem_number};
+ghost use Rattle.sk_base.specs.Pins.{elements_of};
+ghost use Rattle.sk_base.specs.Rising.{union};
 ghost use Rattle.sk_base.specs.ClusterNames.{IsBelow};
-ghost use Rattle.sk_base.specs.SoundGraph.{HasRisingEdges};
+ghost use Rattle.sk_base.specs.SoundGraph.{IsSoundGraph, HasRisingEdges, HasRisingBlocks};
 ghost use Rattle.sk_family.specs.declared.cluster.Cluster.{Cluster as ACluster};
+ghost use Rattle.sk_family.specs.Body.{Start, starts, edge_start, block_start};
 ghost use Rattle.sk_family.specs.Clusters.{start_of, unnamed};
-ghost use Rattle.sk_family.specs.Starting.{edge_with, starts_but, is_before};
+ghost use Rattle.sk_family.specs.Starting.{start_with, starts_but, is_before};
 
 use crate::cluster::Cluster;
 use crate::row::Row;
 use crate::union::union_of;
-use sk_base::{ConId, Edge, Graph, List, Name, NoMemory};
+use sk_base::{Block, ConId, Edge, Elem, Graph, List, Name, NoMemory, Pin};
 use std::alloc::Global;
 use std::cmp::Ordering;
 
-/// The cluster in which a constraint starts.
-pub(crate) fn start_of(alloc: Global, edge: &Edge) -> Result<Cluster, NoMemory>
-    ensures { IfOk result (λ c. c ≡ start_of edge.now) }
+/// The cluster in which a constraint between two elements starts: with its two ends.
+pub(crate) fn edge_cluster(alloc: Global, edge: &Edge) -> Result<Cluster, NoMemory>
+    ensures { IfOk result (λ c. c ≡ start_of (edge_start edge.now)) }
+{
+    let ends = union_of(alloc, &[edge.u], &[edge.v])?;
+    cluster_of(alloc, edge.id, ends)
+}
+
+/// The cluster in which a block starts: with the elements of its pins.
+pub(crate) fn block_cluster(alloc: Global, block: &Block) -> Result<Cluster, NoMemory>
+    ensures { IfOk result (λ c. c ≡ start_of (block_start block.now)) }
+{
+    let elements = elements_of(alloc, block.pins.as_slice())?;
+    cluster_of(alloc, block.id, elements)
+}
+
+/// The cluster of these elements in which the constraint starts.
+fn cluster_of(alloc: Global, number: ConId, elements: List<Elem>) -> Result<Cluster, NoMemory>
+    ensures { IfOk result (λ c. c ≡ start_of (record { number = number; elements = elements })) }
 {
     let mut owned = List::new(alloc);
-    owned.push(edge.id)?;
+    owned.push(number)?;
     Ok(Cluster {
-        name: Name::Con(edge.id.0),
-        elements: union_of(alloc, &[edge.u], &[edge.v])?,
+        name: Name::Con(number.0),
+        elements,
         owned,
     })
+}
+
+/// The elements of the pins, rising.
+fn elements_of(alloc: Global, pins: &[Pin]) -> Result<List<Elem>, NoMemory>
+    ensures { IfOk result (λ elements. elements ≡ union elem_number (elements_of pins.now) []) }
+{
+    let mut elements = List::new(alloc);
+    for i in (0..pins.len()).rev() {
+        elements = union_of(alloc, &[pins[i].elem], elements.as_slice())?;
+    }
+    Ok(elements)
+}
+
+/// The clusters in which all constraints of the graph start, in order of number.
+pub(crate) fn all_starts(alloc: Global, graph: &Graph) -> Result<Vec<Cluster>, NoMemory>
+    requires { IsSoundGraph graph.now }
+    ensures { IfOk result (λ all. all.items ≡ map start_of (starts graph.now)) }
+{
+    let mut all = edge_clusters(alloc, graph.edges.as_slice())?;
+    push_blocks(alloc, &mut all, graph.blocks.as_slice())?;
+    put_in_order(&mut all);
+    Ok(all)
+}
+
+/// The clusters in which these constraints start.
+fn edge_clusters(alloc: Global, edges: &[Edge]) -> Result<Vec<Cluster>, NoMemory>
+    ensures { IfOk result (λ all. all.items ≡ map (λ (e : AnEdge). start_of (edge_start e)) edges.now) }
+{
+    let mut all = Vec::new(alloc);
+    for edge in edges {
+        all.push(edge_cluster(alloc, edge)?)?;
+    }
+    Ok(all)
+}
+
+/// Appends the clusters in which these blocks start.
+fn push_blocks(alloc: Global, all: &mut Vec<Cluster>, blocks: &[Block]) -> Result<(), NoMemory>
+    ensures { OnOk result (all.new.items ≡ all.old.items ++ map (λ (b : ABlock). start_of (block_start b)) blocks.now) }
+{
+    for block in blocks {
+        all.push(block_cluster(alloc, block)?)?;
+    }
+    Ok(())
 }
 
 /// The clusters in which the constraints of these numbers start, but for one.
@@ -38,39 +102,32 @@ pub(crate) fn starts_of(
     graph: &Graph,
 ) -> Result<Vec<Cluster>, NoMemory>
     requires rise { HasRisingEdges graph.now }
-    requires there { (j : Number) → Contains numbers.now j → j ≢ without → (d : AnEdge) × Contains graph.now.edges d × (d.id ≡ j) }
-    ensures { IfOk result (λ starts. starts.items ≡ starts_but graph.now without numbers.now) }
+    requires blocks_rise { HasRisingBlocks graph.now }
+    requires there { (j : Number) → Contains numbers.now j → j ≢ without → (s : Start) × Contains (starts graph.now) s × (s.number ≡ j) }
+    ensures { IfOk result (λ others. others.items ≡ starts_but graph.now without numbers.now) }
 {
-    let mut starts = Vec::new(alloc);
+    let mut others = Vec::new(alloc);
     for number in numbers {
         if *number != without {
-            starts.push(start_of(alloc, edge_with(graph, *number))?)?;
+            others.push(cluster_with(alloc, *number, graph)?)?;
         }
     }
-    Ok(starts)
+    Ok(others)
 }
 
-/// The constraint of that number, which the graph has.
-fn edge_with(graph: &Graph, number: ConId) -> &Edge
+/// The cluster in which the constraint of that number starts, which the graph has.
+fn cluster_with(alloc: Global, number: ConId, graph: &Graph) -> Result<Cluster, NoMemory>
     requires rise { HasRisingEdges graph.now }
-    requires there { (d : AnEdge) × Contains graph.now.edges d × (d.id ≡ number) }
-    ensures { result.now ≡ edge_with graph.now number }
+    requires blocks_rise { HasRisingBlocks graph.now }
+    requires there { (s : Start) × Contains (starts graph.now) s × (s.number ≡ number) }
+    ensures { IfOk result (λ c. c ≡ start_of (start_with graph.now number)) }
 {
-    match edge_of(graph, number) {
-        Some(edge) => edge,
-        None => unreachable!(),
-    }
-}
-
-/// The constraint of that number, sought by halves.
-fn edge_of(graph: &Graph, number: ConId) -> Option<&Edge>
-    requires { HasRisingEdges graph.now }
-    ensures { option_copied result ≡ find (λ (e : AnEdge). e.id.0 == number.0) graph.now.edges }
-{
-    let edges = graph.edges.as_slice();
-    match edges.binary_search_by_key(&number.0, |edge| edge.id.0) {
-        Ok(i) => Some(&edges[i]),
-        Err(_) => None,
+    match graph.edge(number) {
+        Some(edge) => edge_cluster(alloc, edge),
+        None => match graph.block(number) {
+            Some(block) => block_cluster(alloc, block),
+            None => unreachable!(),
+        },
     }
 }
 
