@@ -6,7 +6,7 @@ use Rattle.std.proofs.lemmas.List.Filters.{length-filter_both}
 use Rattle.sk_base.specs.declared.Elem.{Elem}
 use Rattle.sk_base.specs.declared.Graph.{Graph}
 use Rattle.sk_base.specs.SoundGraph.{HasRisingEdges}
-use Rattle.sk_base.specs.Numbering.{elem_number, con_number, elem_exact, con_exact}
+use Rattle.sk_base.specs.Numbering.{elem_number, con_number, elem_exact}
 use Rattle.sk_base.specs.Rising.{IsRising, union}
 use Rattle.sk_base.proofs.Members.{contains_filtered, filtered_from}
 use Rattle.sk_base.proofs.Pairs.{pairs_filter}
@@ -16,10 +16,11 @@ use Rattle.sk_family.specs.Body.{Body, join, join_all, initial_bodies}
 use Rattle.sk_family.specs.Sharing.{shared}
 use Rattle.sk_base.specs.Numbering.{is_elem}
 use Rattle.sk_rules.specs.Reach.{Reach}
-use Rattle.sk_rules.specs.Excess.{excess_of, shared_by_two, shared_by_three}
+use Rattle.sk_rules.specs.Excess.{weight_of, excess_of, shared_by_two, shared_by_three}
 use Rattle.sk_rules.proofs.Families.{IsFamily}
 use Rattle.sk_rules.proofs.NormalForm.{reached_family}
 use Rattle.sk_rules.proofs.Counting.{owned_apart}
+use Rattle.sk_rules.proofs.SummedWeights.{weighs_both}
 use Rattle.sk_base.proofs.Numbers.{elem_found, found_elem}
 
 not_there : (b : Bool) → not b ≡ true → b ≡ true → ⊥
@@ -69,18 +70,18 @@ module _ (g : Graph) (f : List Body) (rises : HasRisingEdges g) (reached : Reach
   family : IsFamily f
   family = reached_family g f rises reached
 
-  pub excess_of_pair : (a b : Body) → Contains f a → Contains f b → a ≢ b → (excess_of (join_all (a ∷ b ∷ [])) +ℤ pos 3) ≡ ((excess_of a +ℤ excess_of b) +ℤ pos (2 * shared_by_two a b))
+  pub excess_of_pair : (a b : Body) → Contains f a → Contains f b → a ≢ b → (excess_of g (join_all (a ∷ b ∷ [])) +ℤ pos 3) ≡ ((excess_of g a +ℤ excess_of g b) +ℤ pos (2 * shared_by_two a b))
   unfolding union
   excess_of_pair a b a_in b_in differ =
       let a_rises = family.rising a a_in in
       let b_rises = family.rising b b_in in
       of_two (length a.elements) (length b.elements) (length (union elem_number a.elements b.elements)) (shared_by_two a b)
-      (length a.owned) (length b.owned) (length (union con_number a.owned b.owned))
+      (weight_of g a.owned) (weight_of g b.owned) (weight_of g (union con_number a.owned b.owned))
       (union_size a.elements b.elements a_rises.elements b_rises.elements)
-      (union_apart con_number con_exact a.owned b.owned a_rises.owned (owned_apart f family a b a_in b_in differ))
+      (weighs_both g a.owned b.owned (owned_apart f family a b a_in b_in differ))
 
   pub excess_of_triangle : (a b c : Body) → Contains f a → Contains f b → Contains f c → a ≢ b → b ≢ c → c ≢ a
-      → (excess_of (join_all (a ∷ b ∷ c ∷ [])) +ℤ pos 6) ≡ ((excess_of a +ℤ (excess_of b +ℤ excess_of c)) +ℤ pos (2 * shared_by_three a b c))
+      → (excess_of g (join_all (a ∷ b ∷ c ∷ [])) +ℤ pos 6) ≡ ((excess_of g a +ℤ (excess_of g b +ℤ excess_of g c)) +ℤ pos (2 * shared_by_three a b c))
   unfolding union
   excess_of_triangle a b c a_in b_in c_in a_b b_c c_a =
       let a_rises = family.rising a a_in in
@@ -88,11 +89,11 @@ module _ (g : Graph) (f : List Body) (rises : HasRisingEdges g) (reached : Reach
       let c_rises = family.rising c c_in in
       of_three (length a.elements) (length b.elements) (length c.elements) (length (union elem_number a.elements b.elements))
       (length (union elem_number (union elem_number a.elements b.elements) c.elements)) (shared_by_two a b) (shared_by_two (join a b) c)
-      (length a.owned) (length b.owned) (length c.owned) (length (union con_number a.owned b.owned)) (length (union con_number (union con_number a.owned b.owned) c.owned))
+      (weight_of g a.owned) (weight_of g b.owned) (weight_of g c.owned) (weight_of g (union con_number a.owned b.owned)) (weight_of g (union con_number (union con_number a.owned b.owned) c.owned))
       (union_size a.elements b.elements a_rises.elements b_rises.elements)
       (union_size (union elem_number a.elements b.elements) c.elements (rising_union elem_number a.elements b.elements b_rises.elements) c_rises.elements)
-      (union_apart con_number con_exact a.owned b.owned a_rises.owned (owned_apart f family a b a_in b_in a_b))
-      (union_apart con_number con_exact (union con_number a.owned b.owned) c.owned (rising_union con_number a.owned b.owned b_rises.owned)
+      (weighs_both g a.owned b.owned (owned_apart f family a b a_in b_in a_b))
+      (weighs_both g (union con_number a.owned b.owned) c.owned
       (λ k h. elim (union_cases con_number a.owned b.owned k h) [
         | inl left ↦ owned_apart f family a c a_in c_in (λ e. c_a (sym e)) k left
         | inr right ↦ owned_apart f family b c b_in c_in b_c k right

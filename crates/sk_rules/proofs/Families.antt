@@ -2,13 +2,13 @@
 use Rattle.std.proofs.Common.{◌≡◌, inl, inr, ℕ, ◌<◌, List, [], ◌∷◌, ap, sym, subst, ◌∙◌, length, get_or}
 use Rattle.std.specs.Prelude.{Contains}
 use Rattle.sk_base.specs.declared.ConId.{ConId}
-use Rattle.sk_base.specs.declared.Edge.{Edge}
 use Rattle.sk_base.specs.declared.Graph.{Graph}
 use Rattle.sk_base.specs.SoundGraph.{HasRisingEdges}
-use Rattle.sk_family.specs.Body.{Body, IsRisingBody, join_all, starting, initial_bodies}
-use Rattle.sk_base.specs.Numbering.{elem_number, con_number}
+use Rattle.sk_family.specs.Body.{Body, starts, IsRisingBody, join_all, starting, initial_bodies}
+use Rattle.sk_base.specs.Numbering.{con_number}
 use Rattle.sk_base.proofs.Members.{contains_none, contains_head, contains_one, mapped_from}
-use Rattle.sk_base.proofs.Unions.{rising_none, rising_cons, rising_union, rising_apart}
+use Rattle.sk_base.proofs.Unions.{rising_none, rising_cons}
+use Rattle.sk_family.proofs.GraphStarts.{start_at, elements_rise}
 use Rattle.sk_family.proofs.Bodies.{each_within, owner_of, rising_whole}
 use Rattle.sk_rules.specs.Reach.{StepBy, ReachBy, Step, Reach, either_rule, stays, goes}
 
@@ -87,20 +87,17 @@ step_family g = step_family_by (either_rule g) (some_merges g)
 rising_one : {X : Type 0} (number : X → ℕ) (x : X) → (i j : ℕ) (d : X) → i < j → j < length (x ∷ []) → number (get_or (x ∷ []) i d) < number (get_or (x ∷ []) j d)
 rising_one number x = rising_cons number x [] (rising_none number) (λ y h. absurd (contains_none y h))
 
-pub edge_at : (g : Graph) → HasRisingEdges g → (d e : Edge) → Contains g.edges d → Contains g.edges e → d.id ≡ e.id → d ≡ e
-edge_at g rises d e d_in e_in same = rising_apart (λ (x : Edge). x.id.0) g.edges rises d e d_in e_in (ap con_number same)
-
 pub initial_family : (g : Graph) → HasRisingEdges g → IsFamily (initial_bodies g)
 initial_family g rises = record {
-  rising = λ x h. (let found = mapped_from starting g.edges x h in subst (λ z. IsRisingBody z) found.2 (record {
-    elements = rising_union elem_number (found.0.u ∷ []) (found.0.v ∷ []) (rising_one elem_number found.0.v);
-    owned = rising_one con_number found.0.id;
+  rising = λ x h. (let found = mapped_from starting (starts g) x h in subst (λ z. IsRisingBody z) found.2 (record {
+    elements = elements_rise g found.0 found.1;
+    owned = rising_one con_number found.0.number;
   }));
-  owns = λ x h. (let found = mapped_from starting g.edges x h in subst (λ (z : Body). (k : ConId) × Contains z.owned k) found.2 (found.0.id, contains_head found.0.id []));
+  owns = λ x h. (let found = mapped_from starting (starts g) x h in subst (λ (z : Body). (k : ConId) × Contains z.owned k) found.2 (found.0.number, contains_head found.0.number []));
   apart = λ x y k x_in y_in x_k y_k. (
-      let one = mapped_from starting g.edges x x_in in
-      let other = mapped_from starting g.edges y y_in in
-      let one_id : one.0.id ≡ k = contains_one one.0.id k (subst (λ (z : Body). Contains z.owned k) (sym one.2) x_k) in
-      let other_id : other.0.id ≡ k = contains_one other.0.id k (subst (λ (z : Body). Contains z.owned k) (sym other.2) y_k) in
-      sym one.2 ∙ ap starting (edge_at g rises one.0 other.0 one.1 other.1 (one_id ∙ sym other_id)) ∙ other.2);
+      let one = mapped_from starting (starts g) x x_in in
+      let other = mapped_from starting (starts g) y y_in in
+      let one_id : one.0.number ≡ k = contains_one one.0.number k (subst (λ (z : Body). Contains z.owned k) (sym one.2) x_k) in
+      let other_id : other.0.number ≡ k = contains_one other.0.number k (subst (λ (z : Body). Contains z.owned k) (sym other.2) y_k) in
+      sym one.2 ∙ ap starting (start_at g rises one.0 other.0 one.1 other.1 (one_id ∙ sym other_id)) ∙ other.2);
 }

@@ -5,16 +5,16 @@ use Rattle.std.specs.Prelude.{◌↔◌, Contains, map}
 use Rattle.std.proofs.lemmas.List.Elements.{Contains-append_left, Contains-append_right, Contains-append_cases}
 use Rattle.sk_base.specs.declared.Elem.{Elem}
 use Rattle.sk_base.specs.declared.ConId.{ConId}
-use Rattle.sk_base.specs.declared.Edge.{Edge}
 use Rattle.sk_base.specs.declared.Graph.{Graph}
 use Rattle.sk_base.specs.SoundGraph.{HasRisingEdges}
-use Rattle.sk_family.specs.Body.{Body, join_all, starting, initial_bodies, SameBodies}
+use Rattle.sk_family.specs.Body.{Body, Start, starts, join_all, starting, initial_bodies, SameBodies}
 use Rattle.sk_base.proofs.Members.{Settles, contains_none, contains_head, contains_later, contains_one, contains_cases, contains_mapped, mapped_from}
+use Rattle.sk_family.proofs.GraphStarts.{start_at}
 use Rattle.sk_family.proofs.Bodies.{body_settles, con_settles, each_within, owner_of}
 use Rattle.sk_rules.specs.Rules.{IsLine}
 use Rattle.sk_rules.specs.Reach.{CanMerge, AreAmong, Step, Reach, stays, goes}
 use Rattle.sk_rules.specs.Keeping.{IsReached, IsOwned, Completes, CarriesOver}
-use Rattle.sk_rules.proofs.Families.{kept_along, edge_at}
+use Rattle.sk_rules.proofs.Families.{kept_along}
 
 pub contains_settles : {X : Type 0} → Settles X → (xs : List X) (x : X) → Contains xs x ⊎ (¬ Contains xs x)
 contains_settles settles [] x = inr (contains_none x)
@@ -80,7 +80,7 @@ owned_settles (b ∷ bs) k =
 -- kept bodies can be completed
 completion : (g : Graph) (kept : List Body) → (family : List Body) × Completes g kept family
 completion g kept =
-    let free = selected (λ (e : Edge). ¬ IsOwned kept e.id) (λ e. elim (owned_settles kept e.id) [ inl owned ↦ inr (λ not. not owned) | inr not ↦ inl not ]) g.edges in (
+    let free = selected (λ (e : Start). ¬ IsOwned kept e.number) (λ e. elim (owned_settles kept e.number) [ inl owned ↦ inr (λ not. not owned) | inr not ↦ inl not ]) (starts g) in (
       kept ++ map starting free.0,
       λ x. (
         (λ h. elim (Contains-append_cases kept (map starting free.0) x h) [
@@ -98,8 +98,8 @@ completion g kept =
       ),
     )
 
-pub same_start : (d e : Edge) → starting d ≡ starting e → d.id ≡ e.id
-same_start d e same = contains_one d.id e.id (subst (λ (z : Body). Contains z.owned e.id) (sym same) (contains_head e.id []))
+pub same_start : (d e : Start) → starting d ≡ starting e → d.number ≡ e.number
+same_start d e same = contains_one d.number e.number (subst (λ (z : Body). Contains z.owned e.number) (sym same) (contains_head e.number []))
 
 -- one merge more
 reach_then : (g : Graph) (f mid new : List Body) → Reach g f mid → Step g mid new → Reach g f new
@@ -164,23 +164,23 @@ module _ (old new : Graph) (rises : HasRisingEdges new) where
     reach = stays;
     same = λ x. (
       (λ h. (
-          let found = mapped_from starting new.edges x h in
-          elim (owned_settles kept found.0.id) [
+          let found = mapped_from starting (starts new) x h in
+          elim (owned_settles kept found.0.number) [
             | inr not ↦ (completes x).1 (inr (found.0, found.1, not, sym found.2))
             | inl (y, y_in, y_k) ↦ (
-                let was = mapped_from starting old.edges y (among y y_in) in
-                let was_id : was.0.id ≡ found.0.id = contains_one was.0.id found.0.id (subst (λ (z : Body). Contains z.owned found.0.id) (sym was.2) y_k) in
-                let again = mapped_from starting new.edges (starting was.0) ((carries y y_in).starts was.0 was.1 (subst (λ (z : Body). Contains z.owned was.0.id) was.2 (contains_head was.0.id []))) in
-                let is : again.0 ≡ found.0 = edge_at new rises again.0 found.0 again.1 found.1 (same_start again.0 was.0 again.2 ∙ was_id) in
+                let was = mapped_from starting (starts old) y (among y y_in) in
+                let was_id : was.0.number ≡ found.0.number = contains_one was.0.number found.0.number (subst (λ (z : Body). Contains z.owned found.0.number) (sym was.2) y_k) in
+                let again = mapped_from starting (starts new) (starting was.0) ((carries y y_in).starts was.0 was.1 (subst (λ (z : Body). Contains z.owned was.0.number) was.2 (contains_head was.0.number []))) in
+                let is : again.0 ≡ found.0 = start_at new rises again.0 found.0 again.1 found.1 (same_start again.0 was.0 again.2 ∙ was_id) in
                 let x_is : y ≡ x = sym was.2 ∙ sym again.2 ∙ ap starting is ∙ found.2 in
                 (completes x).1 (inl (subst (λ z. Contains kept z) x_is y_in)))
           ])),
       (λ h. elim ((completes x).0 h) [
-        | inr (e, e_in, not, is) ↦ subst (λ z. Contains (initial_bodies new) z) (sym is) (contains_mapped starting new.edges e e_in)
+        | inr (e, e_in, not, is) ↦ subst (λ z. Contains (initial_bodies new) z) (sym is) (contains_mapped starting (starts new) e e_in)
         | inl is_kept ↦ (
-            let was = mapped_from starting old.edges x (among x is_kept) in
+            let was = mapped_from starting (starts old) x (among x is_kept) in
             subst (λ z. Contains (initial_bodies new) z) was.2
-            ((carries x is_kept).starts was.0 was.1 (subst (λ (z : Body). Contains z.owned was.0.id) was.2 (contains_head was.0.id []))))
+            ((carries x is_kept).starts was.0 was.1 (subst (λ (z : Body). Contains z.owned was.0.number) was.2 (contains_head was.0.number []))))
       ]),
     );
   }
@@ -225,7 +225,7 @@ module _ (old new : Graph) (rises : HasRisingEdges new) where
         (λ x h. elim (part x h) [
           | inr rest ↦ carries x rest.0
           | inl merged ↦ record {
-            starts = λ e e_in k. (carries whole whole_in).starts e e_in ((each_within m.merged x merged).owned e.id k);
+            starts = λ e e_in k. (carries whole whole_in).starts e e_in ((each_within m.merged x merged).owned e.number k);
             lines = λ e e_in. (carries whole whole_in).lines e ((each_within m.merged x merged).elements e e_in);
           }
         ])
@@ -241,8 +241,8 @@ module _ (old new : Graph) (rises : HasRisingEdges new) where
                 | inr differ ↦ inr ((made.1 x).1 (inl (beside_in x kept_in differ)), (still x kept_in differ).1)
               ]
               | inr (e, e_in, not, is) ↦ inr (
-                (made.1 x).1 (inr (e, e_in, (λ owned. not (owned_too e.id owned)), is)),
-                λ merged. not (whole, whole_in, (each_within m.merged x merged).owned e.id (subst (λ (z : Body). Contains z.owned e.id) (sym is) (contains_head e.id []))),
+                (made.1 x).1 (inr (e, e_in, (λ owned. not (owned_too e.number owned)), is)),
+                λ merged. not (whole, whole_in, (each_within m.merged x merged).owned e.number (subst (λ (z : Body). Contains z.owned e.number) (sym is) (contains_head e.number []))),
               )
             ]),
             (λ h. elim h [
@@ -252,7 +252,7 @@ module _ (old new : Graph) (rises : HasRisingEdges new) where
                   | inl merged ↦ absurd (not_merged merged)
                   | inr rest ↦ (completes x).1 (inl rest.0)
                 ]
-                | inr (e, e_in, not, is) ↦ (completes x).1 (inr (e, e_in, (λ owned. not (owned_before e.id owned)), is))
+                | inr (e, e_in, not, is) ↦ (completes x).1 (inr (e, e_in, (λ owned. not (owned_before e.number owned)), is))
               ]
             ]),
           );

@@ -2,7 +2,10 @@ pub mod Ordering
 pub mod Families
 pub mod NormalForm
 pub mod Merging
+pub mod SummedWeights
 pub mod Counting
+pub mod WeighedGraphs
+mod Weighings
 pub mod Excesses
 pub mod Keeping
 pub mod KeptFamily

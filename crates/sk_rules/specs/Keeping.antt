@@ -2,9 +2,8 @@
 use Rattle.std.specs.Prelude.{◌≡◌, ◌≢◌, ◌↔◌, ◌⊎◌, List, Contains}
 use Rattle.sk_base.specs.declared.Elem.{Elem}
 use Rattle.sk_base.specs.declared.ConId.{ConId}
-use Rattle.sk_base.specs.declared.Edge.{Edge}
 use Rattle.sk_base.specs.declared.Graph.{Graph}
-use Rattle.sk_family.specs.Body.{Body, starting, initial_bodies, SameBodies}
+use Rattle.sk_family.specs.Body.{Body, Start, starts, starting, initial_bodies, SameBodies}
 use Rattle.sk_rules.specs.Rules.{IsLine}
 use Rattle.sk_rules.specs.Reach.{Reach}
 
@@ -20,25 +19,25 @@ IsOwned bodies k = (x : Body) × Contains bodies x × Contains x.owned k
 
 -- the family is the kept bodies, and each constraint that they do not own as it starts
 abbrev pub Completes : Graph → List Body → List Body → Type 0
-Completes g kept family = (x : Body) → Contains family x ↔ (Contains kept x ⊎ ((e : Edge) × Contains g.edges e × (¬ IsOwned kept e.id) × (x ≡ starting e)))
+Completes g kept family = (x : Body) → Contains family x ↔ (Contains kept x ⊎ ((e : Start) × Contains (starts g) e × (¬ IsOwned kept e.number) × (x ≡ starting e)))
 
 -- the constraints that the body owns start in the new graph as in the old, and none of its elements has become a line
 pub record CarriesOver (old new : Graph) (x : Body) : Type 0 where
-  pub starts : (e : Edge) → Contains old.edges e → Contains x.owned e.id → Contains (initial_bodies new) (starting e)
+  pub starts : (e : Start) → Contains (starts old) e → Contains x.owned e.number → Contains (initial_bodies new) (starting e)
   pub lines : (e : Elem) → Contains x.elements e → IsLine new e → IsLine old e
 
--- new has that constraint, of a number that is free in old, beside those of old
-pub record HasOneMore (e : Edge) (old new : Graph) : Type 0 where
-  pub free : (d : Edge) → Contains old.edges d → d.id ≢ e.id
-  pub edges : (d : Edge) → Contains new.edges d ↔ ((d ≡ e) ⊎ Contains old.edges d)
+-- new has the constraint with that start, of a number that is free in old, beside those of old
+pub record HasOneMore (e : Start) (old new : Graph) : Type 0 where
+  pub free : (d : Start) → Contains (starts old) d → d.number ≢ e.number
+  pub starts : (d : Start) → Contains (starts new) d ↔ ((d ≡ e) ⊎ Contains (starts old) d)
 
 -- new has the constraints of old but for one
 abbrev pub HasAllBut : ConId → Graph → Graph → Type 0
-HasAllBut k old new = (d : Edge) → Contains new.edges d ↔ (Contains old.edges d × (d.id ≢ k))
+HasAllBut k old new = (d : Start) → Contains (starts new) d ↔ (Contains (starts old) d × (d.number ≢ k))
 
--- no end of a constraint of old has become a line
+-- no element of a constraint of old has become a line
 abbrev pub KeepsKinds : Graph → Graph → Type 0
-KeepsKinds old new = (d : Edge) → Contains old.edges d → (IsLine new d.u → IsLine old d.u) × (IsLine new d.v → IsLine old d.v)
+KeepsKinds old new = (d : Start) → Contains (starts old) d → (e : Elem) → Contains d.elements e → IsLine new e → IsLine old e
 
 -- the family with one body more
 abbrev pub Adopts : List Body → Body → List Body → Type 0
@@ -47,4 +46,4 @@ Adopts old x new = (y : Body) → Contains new y ↔ ((y ≡ x) ⊎ Contains old
 -- the family with the starts of the body's constraints, but for k, in the body's place
 abbrev pub Dissolves : Graph → List Body → Body → ConId → List Body → Type 0
 Dissolves g old x k new =
-    (y : Body) → Contains new y ↔ ((Contains old y × (y ≢ x)) ⊎ ((d : Edge) × Contains g.edges d × Contains x.owned d.id × (d.id ≢ k) × (y ≡ starting d)))
+    (y : Body) → Contains new y ↔ ((Contains old y × (y ≢ x)) ⊎ ((d : Start) × Contains (starts g) d × Contains x.owned d.number × (d.number ≢ k) × (y ≡ starting d)))
