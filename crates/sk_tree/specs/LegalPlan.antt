@@ -2,7 +2,6 @@
 use Rattle.std.specs.Prelude.{◌≡◌, ◌⊎◌, ◌<◌, List, [], ◌∷◌, map, length, Contains, Some}
 use Rattle.sk_base.specs.declared.Elem.{Elem}
 use Rattle.sk_base.specs.declared.ConId.{ConId}
-use Rattle.sk_base.specs.declared.Edge.{Edge}
 use Rattle.sk_base.specs.declared.Node.{Node}
 use Rattle.sk_base.specs.declared.Graph.{Graph}
 use Rattle.sk_base.specs.declared.Kind.TheVariants.{Point, Line}
@@ -11,6 +10,7 @@ use Rattle.sk_base.specs.declared.Name.TheVariants.{Step}
 use Rattle.sk_base.specs.ClusterNames.{IsBelow}
 use Rattle.sk_base.specs.SoundGraph.{HasNode}
 use Rattle.sk_family.specs.declared.Cluster.{Cluster}
+use Rattle.sk_family.specs.Body.{Start, starts}
 use Rattle.sk_family.specs.Clusters.{Clusters, IsNamed, initial_clusters}
 use Rattle.sk_rules.specs.declared.Merge.{Merge}
 use Rattle.sk_rules.specs.declared.Merge.TheVariants.{Three}
@@ -22,9 +22,9 @@ use Rattle.sk_tree.specs.declared.plan.PlanStep.{PlanStep}
 use Rattle.sk_tree.specs.declared.plan.Plan.{Plan}
 use Rattle.sk_tree.specs.Meeting.{JoinsOnce}
 
--- the constraints' numbers, rising
+-- the numbers of all constraints and blocks, rising
 abbrev pub numbers_of : Graph → List ConId
-numbers_of g = map (λ (e : Edge). e.id) g.edges
+numbers_of g = map (λ (s : Start). s.number) (starts g)
 
 -- the triangle merge that a step tells, and the same as it was taken
 abbrev pub merge_told : PlanStep → Merge
@@ -68,9 +68,9 @@ pub record IsLegalStep (g : Graph) (f : Clusters) (s : PlanStep) : Type 0 where
 abbrev pub HasNodes : Graph → Cluster → Type 0
 HasNodes g c = (n : Node) → Contains g.nodes n → Contains c.elements n.elem
 
--- one cluster with all nodes is left; or there is one node and no constraint
+-- one cluster with all nodes is left; or there is one node, no constraint and no block
 abbrev pub IsWhole : Graph → Clusters → Type 0
-IsWhole g f = ((c : Cluster) × (f.live ≡ c ∷ []) × HasNodes g c) ⊎ ((length g.nodes ≡ 1) × (g.edges ≡ []))
+IsWhole g f = ((c : Cluster) × (f.live ≡ c ∷ []) × HasNodes g c) ⊎ ((length g.nodes ≡ 1) × (g.edges ≡ []) × (g.blocks ≡ []))
 
 -- from the family on the steps may be taken one after another, and the whole is left
 abbrev pub AreLegalSteps : Graph → Clusters → List PlanStep → Type 0

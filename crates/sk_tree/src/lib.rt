@@ -3,12 +3,14 @@
 
 mod joined;
 mod law;
+mod numbers;
 mod order;
 mod plan;
 mod tree;
 
 pub use joined::build;
-pub use law::one_tree;
+pub use law::{numbers_without_blocks, one_tree};
+pub use numbers::numbers_of;
 pub use order::in_order;
 pub use plan::{Choice, Plan, PlanStep};
 pub use tree::{Joint, Tree, height, leaf_tree, leaves, steps};

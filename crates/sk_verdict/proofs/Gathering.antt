@@ -1,22 +1,26 @@
 -- Parts gathered cluster by cluster and node by node.
-use Rattle.std.proofs.Common.{◌≡◌, ◌≢◌, ◌⊎◌, inl, inr, refl, Bool, true, false, cond, ℕ, suc, ◌+◌, ◌<◌, List, [], ◌∷◌, ◌++◌, length, get_or, take, drop, drop-cons, ap, sym, subst, ◌∙◌, arith}
-use Rattle.std.specs.Prelude.{Contains, AllPairs, map, count_by, ◌↔◌, ◌&&◌}
+use Rattle.std.proofs.Common.{◌≡◌, ◌≢◌, ◌⊎◌, inl, inr, refl, true, ℕ, suc, ◌+◌, ◌-◌, ◌*◌, ◌<◌, List, [], ◌∷◌, ◌++◌, length, get_or, take, drop, drop-cons, ap, sym, subst, ◌∙◌, arith}
+use Rattle.std.specs.Prelude.{Contains, AllPairs, map, ◌↔◌}
 use Rattle.std.proofs.lemmas.List.{take_more}
-use Rattle.std.proofs.lemmas.List.Sums.{sum_by-cons}
 use Rattle.std.proofs.lemmas.List.Elements.{All-contains, Contains-push_cases, Contains-push, Contains-append_left}
 use Rattle.sk_base.specs.declared.Elem.{Elem}
 use Rattle.sk_base.specs.declared.Node.{Node}
 use Rattle.sk_base.specs.declared.Edge.{Edge}
+use Rattle.sk_base.specs.declared.Pin.{Pin}
 use Rattle.sk_base.specs.declared.Graph.{Graph}
-use Rattle.sk_base.proofs.Members.{contains_head, contains_later, contains_one, contains_mapped, mapped_from}
+use Rattle.sk_base.proofs.Members.{contains_none, contains_head, contains_one, contains_mapped, mapped_from, contains_cases}
 use Rattle.sk_family.specs.declared.Cluster.{Cluster}
 use Rattle.sk_base.proofs.Splits.{pairs_across}
-use Rattle.sk_base.specs.Numbering.{is_elem}
-use Rattle.sk_base.proofs.Numbers.{elem_found}
-use Rattle.sk_rules.specs.Excess.{is_inside}
+use Rattle.sk_base.specs.Numbering.{elem_number}
+use Rattle.sk_base.proofs.Unions.{union_cases}
+use Rattle.sk_base.specs.Pins.{elements_of}
+use Rattle.sk_family.specs.Body.{Start, starts}
+use Rattle.sk_family.proofs.GraphStarts.{start_comes, from_start}
+use Rattle.sk_rules.specs.Excess.{weight, is_inside}
+use Rattle.sk_rules.proofs.SummedWeights.{none_weigh, found_inside}
 use Rattle.sk_verdict.specs.declared.part.Part.{Part}
 use Rattle.sk_verdict.specs.Ordering.{AreInOrder}
-use Rattle.sk_verdict.specs.Parts.{IsNamedByNone, elem_of, part_with}
+use Rattle.sk_verdict.specs.Parts.{IsNamedByNone, HasNoPin, elem_of, part_with}
 use Rattle.sk_verdict.specs.Building.{AreOfClusters, IsOfLone, AddsLone, HasNoSingle, owned_part}
 
 module _ {X Y : Type 0} (f : X → Y) (xs : List X) (i : ℕ) (x : X) (i_in : i < length xs) (x_is : get_or xs i x ≡ x) where
@@ -46,47 +50,54 @@ module _ {X Y : Type 0} (f : X → Y) (xs : List X) (i : ℕ) (x : X) (i_in : i 
   pub mapped_last : Contains (map f (take (i + 1) xs)) (f x)
   mapped_last = contains_mapped f (take (i + 1) xs) x (subst (λ ys. Contains ys x) (sym more) (Contains-push (take i xs) x))
 
-module _ (clusters : List Cluster) (i : ℕ) (c : Cluster) (i_in : i < length clusters) (c_is : get_or clusters i c ≡ c) (old : List Part) (so_far : AreOfClusters (take i clusters) old) where
+module _ (g : Graph) (clusters : List Cluster) (i : ℕ) (c : Cluster) (i_in : i < length clusters) (c_is : get_or clusters i c ≡ c) (old : List Part) (so_far : AreOfClusters g (take i clusters) old) where
   -- no part so far has the elements of the next cluster
   pub cluster_new : AllPairs (λ (c d : Cluster). c.elements ≢ d.elements) clusters → (p : Part) → Contains old p → p.elements ≢ c.elements
   cluster_new differ p p_in same =
-      let found = mapped_from owned_part (take i clusters) p ((so_far.exactly p).0 p_in) in
-      pairs_across (λ (c d : Cluster). c.elements ≢ d.elements) i clusters differ found.0 c found.1 (in_rest owned_part clusters i c i_in c_is) (ap (λ (q : Part). q.elements) found.2 ∙ same)
+      let found = mapped_from (owned_part g) (take i clusters) p ((so_far.exactly p).0 p_in) in
+      pairs_across (λ (c d : Cluster). c.elements ≢ d.elements) i clusters differ found.0 c found.1 (in_rest (owned_part g) clusters i c i_in c_is) (ap (λ (q : Part). q.elements) found.2 ∙ same)
 
-  pub cluster_more : (part : Part) → part ≡ owned_part c → (new : List Part) → AreInOrder new → ((p : Part) → Contains new p ↔ ((part ≡ p) ⊎ Contains old p))
-      → AreOfClusters (take (i + 1) clusters) new
+  pub cluster_more : (part : Part) → part ≡ owned_part g c → (new : List Part) → AreInOrder new → ((p : Part) → Contains new p ↔ ((part ≡ p) ⊎ Contains old p))
+      → AreOfClusters g (take (i + 1) clusters) new
   cluster_more part part_is new ordered has = record {
     in_order = ordered;
     exactly = λ p. (
       (λ h. elim ((has p).0 h) [
-        | inl here ↦ subst (λ (q : Part). Contains (map owned_part (take (i + 1) clusters)) q) (sym part_is ∙ here) (mapped_last owned_part clusters i c i_in c_is)
-        | inr early ↦ mapped_early owned_part clusters i c i_in c_is p ((so_far.exactly p).0 early)
+        | inl here ↦ subst (λ (q : Part). Contains (map (owned_part g) (take (i + 1) clusters)) q) (sym part_is ∙ here) (mapped_last (owned_part g) clusters i c i_in c_is)
+        | inr early ↦ mapped_early (owned_part g) clusters i c i_in c_is p ((so_far.exactly p).0 early)
       ]),
-      (λ h. elim (mapped_more owned_part clusters i c i_in c_is p h) [
+      (λ h. elim (mapped_more (owned_part g) clusters i c i_in c_is p h) [
         | inl early ↦ (has p).1 (inr ((so_far.exactly p).1 early))
         | inr here ↦ (has p).1 (inl (part_is ∙ here))
       ]),
     );
   }
 
-count_none : {X : Type 0} (p : X → Bool) (xs : List X) → ((x : X) → Contains xs x → p x ≡ false) → count_by p xs ≡ 0
-count_none p [] none = refl
-count_none p (x ∷ xs) none =
-    let here : ◌≡◌ {A = ℕ} (cond (p x) 1 0) 0 = ap (λ b. cond b 1 0) (none x (contains_head x xs)) in
-    let rest = count_none p xs (λ y y_in. none y (contains_later x xs y y_in)) in
-    let step : count_by p (x ∷ xs) ≡ cond (p x) 1 0 + count_by p xs = sum_by-cons (λ y. cond (p y) 1 0) x xs in
-    omega (arith, step, here, rest)
+-- no constraint that starts with the element is there where none names it
+pub named_apart : (g : Graph) (e : Elem) → IsNamedByNone g e → (s : Start) → Contains (starts g) s → ¬ Contains s.elements e
+named_apart g e none s s_in e_in =
+    elim (start_comes g s s_in) [
+      | inl (b, b_in, is) ↦ (
+          let pin = mapped_from (λ (pin : Pin). pin.elem) b.pins e (from_start (elements_of b.pins) e (subst (λ (t : Start). Contains t.elements e) (sym is) e_in)) in
+          All-contains (λ (q : Pin). q.elem ≢ e) b.pins pin.0 (All-contains (HasNoPin e) g.blocks b none.1 b_in) pin.1 pin.2)
+      | inr (d, d_in, is) ↦ (
+          let apart = All-contains (λ (x : Edge). (x.u ≢ e) × (x.v ≢ e)) g.edges d none.0 d_in in
+          elim (contains_cases d.u (d.v ∷ []) e (from_start (d.u ∷ d.v ∷ []) e (subst (λ (t : Start). Contains t.elements e) (sym is) e_in))) [
+            | inl first ↦ apart.0 first
+            | inr second ↦ apart.1 (contains_one d.v e second)
+          ])
+    ]
 
 -- a lone element holds nothing, and nothing is due
 pub lone_part_is : (g : Graph) (e : Elem) → IsNamedByNone g e → record { elements = e ∷ []; held = 0; due = 0 } ≡ part_with g (e ∷ [])
-lone_part_is g e none = ap (λ (n : ℕ). record { elements = e ∷ []; held = n; due = 0 }) (sym (count_none (is_inside (e ∷ [])) g.edges outside))
+lone_part_is g e none = ap (λ (n : ℕ). record { elements = e ∷ []; held = n; due = 0 }) (sym (none_weigh (is_inside (e ∷ [])) (starts g) light))
   where
-    outside : (d : Edge) → Contains g.edges d → is_inside (e ∷ []) d ≡ false
-    outside d d_in = told (is_elem (e ∷ []) d.u) refl
+    light : (s : Start) → Contains (starts g) s → is_inside (e ∷ []) s ≡ true → weight s ≡ 0
+    light s s_in passes = told s.elements (λ d d_in. contains_one e d (found_inside (e ∷ []) s passes d d_in)) (named_apart g e none s s_in)
       where
-        told : (b : Bool) → is_elem (e ∷ []) d.u ≡ b → is_inside (e ∷ []) d ≡ false
-        told true is = absurd ((All-contains (λ (x : Edge). (x.u ≢ e) × (x.v ≢ e)) g.edges d none d_in).0 (sym (contains_one e d.u (elem_found (e ∷ []) d.u is))))
-        told false is = ap (λ b. b && is_elem (e ∷ []) d.v) is
+        told : (es : List Elem) → ((d : Elem) → Contains es d → e ≡ d) → ¬ Contains es e → 2 * length es - 3 ≡ 0
+        told [] same not = refl
+        told (d ∷ es) same not = absurd (not (subst (λ z. Contains (d ∷ es) z) (sym (same d (contains_head d es))) (contains_head d es)))
 
 module _ (g : Graph) (nodes : List Node) (i : ℕ) (n : Node) (i_in : i < length nodes) (n_is : get_or nodes i n ≡ n) (old now : List Part) (so_far : AddsLone g (take i nodes) old now) where
   -- no part so far has the next node alone

@@ -39,10 +39,10 @@ module _ (g : Graph) (f : Clusters) where
   abbrev pub AreTheClusters : List Part → Type 0
   AreTheClusters parts = (p : Part) → Contains parts p ↔ (Contains (map elements_of f.live) p.elements × (p ≡ part_with g p.elements))
 
-  pub the_clusters : IsSoundGraph g → IsNormal g (bodies f) → IsSound f → (parts : List Part) → AreOfClusters f.live parts → AreTheClusters parts
+  pub the_clusters : IsSoundGraph g → IsNormal g (bodies f) → IsSound f → (parts : List Part) → AreOfClusters g f.live parts → AreTheClusters parts
   the_clusters sound normal family parts of_clusters p = (
     (λ h. (
-        let (c, c_in, is) = mapped_from owned_part f.live p ((of_clusters.exactly p).0 h) in
+        let (c, c_in, is) = mapped_from (owned_part g) f.live p ((of_clusters.exactly p).0 h) in
         let same : part_with g c.elements ≡ p = sym (part_is g f sound normal family c c_in) ∙ is in (
           subst (λ (q : Part). Contains (map elements_of f.live) q.elements) same (contains_mapped elements_of f.live c c_in),
           subst (λ (q : Part). q ≡ part_with g q.elements) same refl,
@@ -50,8 +50,8 @@ module _ (g : Graph) (f : Clusters) where
     (λ (p_in, is). (
         let (c, c_in, same) = mapped_from elements_of f.live p.elements p_in in
         (of_clusters.exactly p).1
-        (subst (λ (q : Part). Contains (map owned_part f.live) q) (part_is g f sound normal family c c_in ∙ ap (λ (xs : List Elem). part_with g xs) same ∙ sym is)
-        (contains_mapped owned_part f.live c c_in)))),
+        (subst (λ (q : Part). Contains (map (owned_part g) f.live) q) (part_is g f sound normal family c c_in ∙ ap (λ (xs : List Elem). part_with g xs) same ∙ sym is)
+        (contains_mapped (owned_part g) f.live c c_in)))),
   )
 
   -- the parts of the clusters and those of the lone elements are all

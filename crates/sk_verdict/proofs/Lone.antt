@@ -3,11 +3,11 @@ use Rattle.std.proofs.Common.{◌≡◌, inl, inr, ℕ, ◌+◌, ◌<◌, ◌≤
 use Rattle.std.specs.Prelude.{Contains, AllPairs, map}
 use Rattle.std.proofs.lemmas.List.Elements.{Contains-push_cases}
 use Rattle.sk_base.specs.declared.Node.{Node}
-use Rattle.sk_base.specs.declared.Edge.{Edge}
 use Rattle.sk_base.specs.declared.Graph.{Graph}
 use Rattle.sk_base.proofs.Members.{contains_none, contains_head}
 use Rattle.sk_base.proofs.Pairs.{pairs_push}
-use Rattle.sk_family.specs.Body.{Body, starting, initial_bodies}
+use Rattle.sk_family.specs.Body.{Body, Start, starting, initial_bodies}
+use Rattle.sk_family.proofs.GraphStarts.{no_starts}
 use Rattle.sk_rules.specs.Reach.{CanMerge, IsNormal, stays}
 
 -- the first numbers, in order
@@ -29,9 +29,9 @@ none_merge g [] none can = can
 none_merge g (a ∷ rest) none can = none a (contains_head a rest)
 
 -- without constraints the start is normal
-pub bare_normal : (g : Graph) (f : List Body) → g.edges ≡ [] → f ≡ initial_bodies g → IsNormal g f
+pub bare_normal : (g : Graph) (f : List Body) → (g.edges ≡ []) × (g.blocks ≡ []) → f ≡ initial_bodies g → IsNormal g f
 bare_normal g f bare is =
-    let empty : initial_bodies g ≡ [] = ap (λ (es : List Edge). map starting es) bare in
+    let empty : initial_bodies g ≡ [] = ap (λ (ss : List Start). map starting ss) (no_starts g bare.0 bare.1) in
     subst (λ bs. IsNormal g bs) (sym is) (record {
       reached = stays;
       closed = λ some among. none_merge g some (λ x h. contains_none x (subst (λ bs. Contains bs x) empty (among x h)));

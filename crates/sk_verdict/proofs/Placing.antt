@@ -1,5 +1,5 @@
 -- The place of a list of elements among parts in order.
-use Rattle.std.proofs.Common.{◌≡◌, ◌≢◌, ℕ, List, take, drop}
+use Rattle.std.proofs.Common.{◌≢◌, ℕ, List, take, drop}
 use Rattle.std.specs.Prelude.{Contains, insert}
 use Rattle.std.specs.List.Sorted.{IsPartitionedBy}
 use Rattle.sk_base.specs.declared.Elem.{Elem}

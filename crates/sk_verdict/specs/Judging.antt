@@ -10,7 +10,7 @@ use Rattle.sk_verdict.specs.declared.judgement.Verdict.TheVariants.{Well, Over, 
 use Rattle.sk_verdict.specs.Ordering.{AreInOrder}
 use Rattle.sk_verdict.specs.Parts.{IsPart}
 
--- it holds more constraints than are due
+-- it holds more than is due
 abbrev pub IsOver : Part → Type 0
 IsOver p = p.due < p.held
 

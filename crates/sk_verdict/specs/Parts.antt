@@ -3,6 +3,8 @@ use Rattle.std.specs.Prelude.{◌≡◌, ◌≢◌, ◌*◌, ◌-◌, ◌⊎◌,
 use Rattle.sk_base.specs.declared.Elem.{Elem}
 use Rattle.sk_base.specs.declared.Node.{Node}
 use Rattle.sk_base.specs.declared.Edge.{Edge}
+use Rattle.sk_base.specs.declared.Block.{Block}
+use Rattle.sk_base.specs.declared.Pin.{Pin}
 use Rattle.sk_base.specs.declared.Graph.{Graph}
 use Rattle.sk_family.specs.Body.{Body}
 use Rattle.sk_rules.specs.Excess.{held}
@@ -11,9 +13,17 @@ use Rattle.sk_verdict.specs.declared.part.Part.{Part}
 abbrev pub elem_of : Node → Elem
 elem_of n = n.elem
 
--- no constraint names the element
+-- no constraint between two elements ends there
+abbrev pub IsEndOfNone : Graph → Elem → Type 0
+IsEndOfNone g e = All (λ (d : Edge). (d.u ≢ e) × (d.v ≢ e)) g.edges
+
+-- the block has no pin there
+abbrev pub HasNoPin : Elem → Block → Type 0
+HasNoPin e b = All (λ (pin : Pin). pin.elem ≢ e) b.pins
+
+-- no constraint names the element, and no block
 abbrev pub IsNamedByNone : Graph → Elem → Type 0
-IsNamedByNone g e = All (λ (d : Edge). (d.u ≢ e) × (d.v ≢ e)) g.edges
+IsNamedByNone g e = IsEndOfNone g e × All (HasNoPin e) g.blocks
 
 -- a lone element is a node that no constraint names
 pub record IsLone (g : Graph) (e : Elem) : Type 0 where
@@ -24,8 +34,8 @@ pub record IsLone (g : Graph) (e : Elem) : Type 0 where
 abbrev pub AreOfOnePart : Graph → List Body → List Elem → Type 0
 AreOfOnePart g f xs = ((x : Body) × Contains f x × (x.elements ≡ xs)) ⊎ ((e : Elem) × IsLone g e × (e ∷ [] ≡ xs))
 
--- the part of these elements: it holds the constraints with both ends among them, and 2n - 3 are due
--- for n elements, which is 0 for one
+-- the part of these elements: it holds what the constraints weigh that lie among them, and 2n - 3 are
+-- due for n elements, which is 0 for one
 abbrev pub part_with : Graph → List Elem → Part
 part_with g xs = record { elements = xs; held = held g xs; due = 2 * length xs - 3 }
 

@@ -4,15 +4,16 @@ ghost use Rattle.sk_base.specs.SoundGraph.{IsSoundGraph, HasRisingNodes};
 ghost use Rattle.sk_family.specs.declared.Cluster.{Cluster as TheCluster};
 ghost use Rattle.sk_family.specs.Body.{Body};
 ghost use Rattle.sk_family.specs.Clusters.{bodies};
+ghost use Rattle.sk_rules.specs.Excess.{weight_of, AreConstraints};
 ghost use Rattle.sk_rules.specs.Reach.{IsNormal};
-ghost use Rattle.sk_verdict.specs.Parts.{IsNamedByNone};
+ghost use Rattle.sk_verdict.specs.Parts.{IsEndOfNone, IsNamedByNone, HasNoPin};
 ghost use Rattle.sk_verdict.specs.Ordering.{AreInOrder};
 ghost use Rattle.sk_verdict.specs.Building.{AreOfClusters, AddsLone, HasNoSingle};
 ghost use Rattle.sk_verdict.specs.Judging.{IsJudgement, IsOver, some_over, verdict_on};
 
 use crate::part::{Part, lone_part, part_of};
 use crate::store::put;
-use sk_base::{Elem, Graph, List, NoMemory};
+use sk_base::{Block, Elem, Graph, List, NoMemory};
 use sk_family::{Cluster, Family};
 use std::alloc::Global;
 
@@ -43,7 +44,7 @@ pub fn judge(alloc: Global, family: &Family, graph: &Graph) -> Result<Judgement,
     // It is the judgement on every normal family of the graph.
     ensures whichever { IfOk result (λ j. (other : Items Body) → IsNormal graph.now other → IsJudgement graph.now other j) }
 {
-    let mut parts = parts_of(alloc, family.clusters())?;
+    let mut parts = parts_of(alloc, graph, family.clusters())?;
     add_lone(alloc, graph, &mut parts)?;
     Ok(Judgement {
         verdict: verdict_of(parts.as_slice()),
@@ -52,15 +53,16 @@ pub fn judge(alloc: Global, family: &Family, graph: &Graph) -> Result<Judgement,
 }
 
 /// The parts of the clusters.
-fn parts_of(alloc: Global, clusters: &[Cluster]) -> Result<List<Part>, NoMemory>
-    requires enough { (c : TheCluster) → Contains clusters.now c → 2 * length c.elements ≤ length c.owned + 3 }
-    requires few { (c : TheCluster) → Contains clusters.now c → length c.owned ≤ 4000 }
+fn parts_of(alloc: Global, graph: &Graph, clusters: &[Cluster]) -> Result<List<Part>, NoMemory>
+    requires sound { IsSoundGraph graph.now }
+    requires enough { (c : TheCluster) → Contains clusters.now c → 2 * length c.elements ≤ weight_of graph.now c.owned + 3 }
+    requires owned { (c : TheCluster) → Contains clusters.now c → AreConstraints graph.now c.owned }
     requires differ { AllPairs (λ (c d : TheCluster). c.elements ≢ d.elements) clusters.now }
-    ensures { IfOk result (AreOfClusters clusters.now) }
+    ensures { IfOk result (AreOfClusters graph.now clusters.now) }
 {
     let mut parts = List::new(alloc);
     for cluster in clusters {
-        put(&mut parts, part_of(alloc, cluster)?)?;
+        put(&mut parts, part_of(alloc, graph, cluster)?)?;
     }
     Ok(parts)
 }
@@ -80,15 +82,35 @@ fn add_lone(alloc: Global, graph: &Graph, parts: &mut List<Part>) -> Result<(), 
     Ok(())
 }
 
-/// Whether no constraint names the element.
+/// Whether no constraint names the element, and no block.
 fn is_named_by_none(graph: &Graph, elem: Elem) -> bool
     ensures { IsTrue result ↔ IsNamedByNone graph.now elem }
+{
+    is_end_of_none(graph, elem) && is_pinned_by_none(graph, elem)
+}
+
+fn is_end_of_none(graph: &Graph, elem: Elem) -> bool
+    ensures { IsTrue result ↔ IsEndOfNone graph.now elem }
 {
     graph
         .edges
         .as_slice()
         .iter()
         .all(|edge| edge.u != elem && edge.v != elem)
+}
+
+fn is_pinned_by_none(graph: &Graph, elem: Elem) -> bool
+    ensures { IsTrue result ↔ All (HasNoPin elem) graph.now.blocks }
+{
+    let blocks = graph.blocks.as_slice();
+    blocks.iter().all(|block| has_no_pin(block, elem))
+}
+
+fn has_no_pin(block: &Block, elem: Elem) -> bool
+    ensures { IsTrue result ↔ HasNoPin elem block.now }
+{
+    let pins = block.pins.as_slice();
+    pins.iter().all(|pin| pin.elem != elem)
 }
 
 /// Over where some part holds more than is due, else several where there is more than one, else well.

@@ -12,7 +12,7 @@ fn lone_points(alloc: Global, count: u32) -> Result<Graph, NoMemory>
     requires { count ≤ 2000 }
     ensures sound { IfOk result IsSoundGraph }
     ensures many { IfOk result (λ g. length g.nodes ≡ count) }
-    ensures bare { IfOk result (λ g. g.edges ≡ []) }
+    ensures bare { IfOk result (λ g. (g.edges ≡ []) × (g.blocks ≡ [])) }
 {
     let mut nodes = List::new(alloc);
     for number in 0..count {
@@ -24,6 +24,7 @@ fn lone_points(alloc: Global, count: u32) -> Result<Graph, NoMemory>
     Ok(Graph {
         nodes,
         edges: List::new(alloc),
+        blocks: List::new(alloc),
     })
 }
 

@@ -5,7 +5,7 @@ use Rattle.sk_family.specs.Clusters.{bodies}
 use Rattle.sk_rules.proofs.NormalForm.{normal_same}
 use Rattle.sk_verdict.specs.Building.{AreOfClusters}
 use Rattle.sk_verdict.specs.Judging.{verdict_on}
-use Rattle.sk_verdict.proofs.Normals.{cluster_enough, cluster_few, elements_differ}
+use Rattle.sk_verdict.proofs.Normals.{cluster_enough, cluster_owned, elements_differ}
 use Rattle.sk_verdict.proofs.Judgements.{the_clusters, all_parts, none_single, all_held, over_exactly, judgement_moves}
 use Rattle.sk_verdict.proofs.judgement.judge.Goals as goal
 
@@ -13,9 +13,9 @@ pub parts_of-requires-clause-enough : goal.parts_of-requires-clause-enough
 parts_of-requires-clause-enough c d d_in =
     cluster_enough c.args.graph.now c.args.family.now c.requires.sound c.requires.normal c.clusters.ensures.sound d (subst (λ (cs : List Cluster). Contains cs d) c.clusters.ensures.live d_in)
 
-pub parts_of-requires-clause-few : goal.parts_of-requires-clause-few
-parts_of-requires-clause-few c d d_in =
-    cluster_few c.args.graph.now c.args.family.now c.requires.sound c.requires.normal c.clusters.ensures.sound d (subst (λ (cs : List Cluster). Contains cs d) c.clusters.ensures.live d_in)
+pub parts_of-requires-clause-owned : goal.parts_of-requires-clause-owned
+parts_of-requires-clause-owned c d d_in =
+    cluster_owned c.args.graph.now c.args.family.now c.requires.sound c.requires.normal c.clusters.ensures.sound d (subst (λ (cs : List Cluster). Contains cs d) c.clusters.ensures.live d_in)
 
 pub parts_of-requires-clause-differ : goal.parts_of-requires-clause-differ
 parts_of-requires-clause-differ c =
@@ -26,12 +26,12 @@ pub add_lone-requires-clause-no_single : goal.add_lone-requires-clause-no_single
 add_lone-requires-clause-no_single c =
     none_single c.args.graph.now c.args.family.now c.requires.sound c.requires.normal c.in_ok-parts.parts
     (the_clusters c.args.graph.now c.args.family.now c.requires.sound c.requires.normal c.clusters.ensures.sound c.in_ok-parts.parts
-    (subst (λ (cs : List Cluster). AreOfClusters cs c.in_ok-parts.parts) c.clusters.ensures.live c.in_ok-parts.ensures))
+    (subst (λ (cs : List Cluster). AreOfClusters c.args.graph.now cs c.in_ok-parts.parts) c.clusters.ensures.live c.in_ok-parts.ensures))
 
 pub returns-clause-judgement : goal.returns-clause-judgement
 returns-clause-judgement c =
     let clusters = the_clusters c.args.graph.now c.args.family.now c.requires.sound c.requires.normal c.clusters.ensures.sound c.in_ok-parts.parts
-    (subst (λ (cs : List Cluster). AreOfClusters cs c.in_ok-parts.parts) c.clusters.ensures.live c.in_ok-parts.ensures) in
+    (subst (λ (cs : List Cluster). AreOfClusters c.args.graph.now cs c.in_ok-parts.parts) c.clusters.ensures.live c.in_ok-parts.ensures) in
     record {
       parts = all_parts c.args.graph.now c.args.family.now c.in_ok-parts.parts c.add_lone.new.parts clusters c.in_ok-add_lone.ensures;
       in_order = c.in_ok-add_lone.ensures.in_order;
