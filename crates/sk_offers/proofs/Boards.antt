@@ -3,8 +3,9 @@ use Rattle.std.proofs.Common.{◌≡◌, ◌<◌, List, [], ◌∷◌, ◌++◌,
 use Rattle.std.proofs.lemmas.List.{length-map}
 use Rattle.sk_base.specs.declared.Graph.{Graph}
 use Rattle.sk_base.specs.SoundGraph.{IsSoundGraph}
-use Rattle.sk_family.specs.Body.{initial_bodies}
+use Rattle.sk_family.specs.Body.{starts, initial_bodies}
 use Rattle.sk_family.specs.Clusters.{Clusters, bodies, initial_clusters, start_of}
+use Rattle.sk_family.proofs.GraphStarts.{starts_few}
 use Rattle.sk_family.proofs.Soundness.{starting_bodies}
 use Rattle.sk_rules.specs.declared.Merge.{Merge}
 use Rattle.sk_rules.specs.declared.Merge.TheVariants.{Two, Three}
@@ -28,8 +29,8 @@ sound_start g sound f f_is ts ts_is =
     (subst (λ (us : List Taken). IsSoundTable (record { graph = g; family = initial_clusters g; taken = us })) (sym ts_is) (record {
       graph = sound;
       leads = refl;
-      reached = subst (λ bs. Reach g (initial_bodies g) bs) (sym (starting_bodies g.edges)) stays;
-      room = (let as_many = length-map g.edges start_of in omega (arith, as_many));
+      reached = subst (λ bs. Reach g (initial_bodies g) bs) (sym (starting_bodies (starts g))) stays;
+      room = (let as_many = length-map (starts g) start_of in let few = starts_few g sound.edges_rise in omega (arith, as_many, few));
     }))
 
 -- the board after one more merge

@@ -29,7 +29,7 @@ pub record IsSoundTable (t : Table) : Type 0 where
   pub graph : IsSoundGraph t.graph
   pub leads : Leads t.graph (initial_clusters t.graph) t.taken t.family
   pub reached : Reach t.graph (initial_bodies t.graph) (bodies t.family)
-  pub room : t.family.next_step + length t.family.live ≤ length t.graph.edges + 1
+  pub room : t.family.next_step + length t.family.live ≤ length t.graph.edges + length t.graph.blocks + 1
 
 -- the name isn't live, and those before it are
 pub record IsFirstStale (f : Clusters) (names : List Name) (n : Name) : Type 0 where

@@ -14,7 +14,6 @@ use Rattle.sk_family.specs.Starting.{is_before}
 use Rattle.sk_family.proofs.Halving.{passing_front, before_below, below_before}
 use Rattle.sk_family.proofs.Naming.{below_chain, below_irreflexive, among_named, named_among}
 use Rattle.sk_base.proofs.Splits.{in_take, in_either, pairs_drop}
-use Rattle.sk_rules.specs.declared.Merge.{Merge}
 use Rattle.sk_worklist.specs.declared.index.Index.{Index}
 use Rattle.sk_worklist.specs.Gather.{FromSome}
 use Rattle.sk_worklist.specs.Indexed.{IsBelowAt, RisesIn}
@@ -71,7 +70,7 @@ in_front_of P xs place before after x = (
 
 -- what the walk along the front gives is what the walk along all gives, where only the front gives any
 module _ (front all : List ℕ) (P : ℕ → Type 0) (front_is : (k : ℕ) → Contains front k ↔ (Contains all k × P k)) where
-  pub some_same : (kind : ℕ → Merge → Type 0) → ((k : ℕ) (m : Merge) → kind k m → P k) → (m : Merge) → FromSome kind front m ↔ FromSome kind all m
+  pub some_same : {M : Type 0} (kind : ℕ → M → Type 0) → ((k : ℕ) (m : M) → kind k m → P k) → (m : M) → FromSome kind front m ↔ FromSome kind all m
   some_same kind only m = (
     (λ (k, k_in, is). (k, ((front_is k).0 k_in).0, is)),
     (λ (k, k_in, is). (k, (front_is k).1 (k_in, only k m is), is)),

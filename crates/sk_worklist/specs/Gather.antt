@@ -1,4 +1,4 @@
--- The triples that a walk through the index from one cluster finds.
+-- What a walk through the index from one cluster finds.
 use Rattle.std.specs.Prelude.{◌≡◌, ◌≢◌, ◌↔◌, ◌⊎◌, ℕ, List, Option, None, Some, Contains, AllPairs}
 use Rattle.slab.specs.Slab.{get}
 use Rattle.sk_base.specs.declared.Elem.{Elem}
@@ -10,17 +10,25 @@ use Rattle.sk_rules.specs.declared.Merge.{Merge}
 use Rattle.sk_rules.specs.declared.Merge.TheVariants.{Three}
 use Rattle.sk_worklist.specs.declared.index.Index.{Index}
 use Rattle.sk_worklist.specs.Choices.{CanTake, ComesFirst}
-use Rattle.sk_worklist.specs.Indexed.{holders_of, IsThirdIn}
+use Rattle.sk_worklist.specs.Indexed.{holders_of, IsHeld, IsThirdIn}
 use Rattle.sk_base.specs.declared.Graph.{Graph}
-use Rattle.sk_family.specs.Clusters.{Clusters}
+use Rattle.sk_family.specs.Clusters.{Clusters, IsNamed}
 
--- new has what old has and the merges of that kind
-abbrev pub GrowsBy : (Merge → Type 0) → List Merge → List Merge → Type 0
-GrowsBy kind old new = (m : Merge) → Contains new m ↔ (Contains old m ⊎ kind m)
+-- new has what old has and what is of that kind
+abbrev pub GrowsBy : {M : Type 0} → (M → Type 0) → List M → List M → Type 0
+GrowsBy {M} kind old new = (m : M) → Contains new m ↔ (Contains old m ⊎ kind m)
 
 -- what some item of the list gives
-abbrev pub FromSome : {X : Type 0} → (X → Merge → Type 0) → List X → Merge → Type 0
+abbrev pub FromSome : {X M : Type 0} → (X → M → Type 0) → List X → M → Type 0
 FromSome kind xs m = (x : _) × Contains xs x × kind x m
+
+-- the name is that of a cluster that is below another and holds the element
+abbrev pub HolderOf : Index → Name → Elem → Name → Type 0
+HolderOf ix bound e n = (c : Cluster) × IsHeld ix c × Contains c.elements e × IsBelow c.name bound × (c.name ≡ n)
+
+-- the same of a family, with some of these elements
+abbrev pub HoldsSome : Clusters → List Elem → Name → Name → Type 0
+HoldsSome f es bound n = (c : Cluster) × IsNamed f n c × IsBelow n bound × ((e : Elem) × Contains es e × Contains c.elements e)
 
 -- z is below y, and some corner between it and x makes a triangle with a and b
 abbrev pub IsThirdCluster : Index → Cluster → Cluster → Cluster → Elem → Elem → Type 0

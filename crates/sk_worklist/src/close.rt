@@ -8,6 +8,7 @@ ghost use Rattle.sk_rules.specs.Merges.{merged};
 ghost use Rattle.sk_rules.specs.Taking.{IsTaken, Leads};
 ghost use Rattle.sk_worklist.specs.Choices.{CanTake};
 ghost use Rattle.sk_worklist.specs.Run.{IsRun, IsOnTheWay, merge_of};
+ghost use Rattle.sk_worklist.specs.Turns.{Follows};
 
 use crate::picker::Picker;
 use crate::worklist::Worklist;
@@ -37,8 +38,34 @@ pub fn close_family<P: Picker>(
     // Whatever the result.
     ensures reached { Reach graph.now (bodies family.old) (bodies family.new) }
 {
-    let mut taken = List::new(alloc);
     let mut work = Worklist::of(alloc, family, graph)?;
+    close_with(alloc, &mut work, family, graph, picker)
+}
+
+/// The same with what is known of the family already.
+pub fn close_with<P: Picker>(
+    alloc: Global,
+    work: &mut Worklist,
+    family: &mut Family,
+    graph: &Graph,
+    picker: &mut P,
+) -> Result<List<Taken>, NoMemory>
+    requires room { family.old.next_step + length family.old.live ≤ 4294967296 }
+    requires follows { Follows work.old graph.now family.old }
+    ensures run { IfOk result (λ taken. IsRun P.answer P.after graph.now family.old picker.old (map merge_of taken) family.new picker.new) }
+    ensures leads { IfOk result (λ taken. Leads graph.now family.old taken family.new) }
+    ensures closed { OnOk result (IsClosed graph.now (bodies family.new)) }
+    ensures normal { OnOk result (Reach graph.now (initial_bodies graph.now) (bodies family.old) → IsNormal graph.now (bodies family.new)) }
+    ensures only { OnOk result (HasRisingEdges graph.now → Reach graph.now (initial_bodies graph.now) (bodies family.old) → IsTheOnlyNormal graph.now (bodies family.new)) }
+    ensures room { OnOk result (family.new.next_step + length family.new.live ≤ 4294967296) }
+    ensures no_more { OnOk result (length family.new.live ≤ length family.old.live) }
+    ensures follows { OnOk result (Follows work.new graph.now family.new) }
+    ensures err { OnErr result (IsOnTheWay P.answer P.after graph.now family.old picker.old family.new) }
+
+    // Whatever the result.
+    ensures reached { Reach graph.now (bodies family.old) (bodies family.new) }
+{
+    let mut taken = List::new(alloc);
     loop {
         let choice = work.choice(family, picker)?;
         let Some(merge) = choice else {

@@ -3,6 +3,7 @@
 
 mod chosen;
 mod close;
+mod holders;
 mod index;
 mod kept;
 mod law;
@@ -15,6 +16,7 @@ mod triples;
 mod worklist;
 
 pub use chosen::{Chosen, Order};
-pub use close::close_family;
+pub use close::{close_family, close_with};
 pub use law::{on_the_way, one_list_of_choices, one_run};
 pub use picker::Picker;
+pub use worklist::Worklist;

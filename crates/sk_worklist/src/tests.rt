@@ -1,12 +1,14 @@
-ghost use Rattle.std.specs.Prelude.{◌≡◌, ◌≢◌, ◌↔◌, ◌%◌, ◌<◌, ◌≤◌, IfOk, IsTrue, length, drop, slice_index};
+ghost use Rattle.std.specs.Prelude.{◌≡◌, ◌≢◌, ◌↔◌, ◌%◌, ◌+◌, ◌<◌, ◌≤◌, IfOk, IsTrue, pos, length, drop, slice_index};
+ghost use Rattle.sk_base.specs.declared.Kind.TheVariants.{Point};
 ghost use Rattle.sk_base.specs.SoundGraph.{IsSoundGraph};
-ghost use Rattle.sk_worklist.specs.TrialGraphs.{AreNumbered, AreBetween, IsFit};
+ghost use Rattle.sk_worklist.specs.TrialGraphs.{AreInRow, AreNumbered, AreBetween, AreRows, IsFit, IsRow};
 
 use crate::chosen::{Chosen, Order};
 use crate::close::close_family;
 use crate::picker::Picker;
 use sk_base::{
-    ConId, Edge, Elem, Graph, Kind, List, Measure, Name, NoMemory, Node, Ratio, Sign, Um,
+    Block, ConId, Edge, Elem, Graph, Kind, List, Measure, Name, NoMemory, Node, Pin, Ratio, Sign,
+    Um,
 };
 use sk_family::{Cluster, Family, Overlap, common, initial};
 use sk_rules::{Merge, Shared, applies, do_merge};
@@ -36,21 +38,31 @@ impl Picker for Listed {
     }
 }
 
-/// Pairs of elements that are joined by a constraint, and the elements of the parts that have more
-/// than one.
+/// Pairs of elements that are joined by a constraint, the first element and the number of those in a
+/// row that a block holds, and the elements of the parts that have more than one.
 type Pairs<'a> = &'a [(u32, u32)];
+
+type Rows<'a> = &'a [(u32, u32)];
 
 type Parts<'a> = &'a [&'a [u32]];
 
-/// A graph of so many elements of one kind, numbered from 1, with a constraint for each pair.
-fn graph_of(alloc: Global, kind: Kind, count: u32, pairs: Pairs) -> Result<Graph, NoMemory>
+/// A graph of so many elements of one kind, numbered from 1, with a constraint for each pair and a
+/// block for each row.
+fn graph_of(
+    alloc: Global,
+    kind: Kind,
+    count: u32,
+    pairs: Pairs,
+    rows: Rows,
+) -> Result<Graph, NoMemory>
     requires few_nodes { count ≤ 2000 }
-    requires few_edges { length pairs.now ≤ 4000 }
+    requires few_constraints { length pairs.now + length rows.now ≤ 4000 }
     ensures { IfOk result IsSoundGraph }
 {
     Ok(Graph {
         nodes: nodes_of(alloc, kind, count)?,
         edges: edges_of(alloc, kind, count, pairs)?,
+        blocks: blocks_of(alloc, kind, count, pairs.len() as u32, rows)?,
     })
 }
 
@@ -91,6 +103,69 @@ fn are_two_of(count: u32, u: u32, v: u32) -> bool
     ensures { IsTrue result ↔ ((0 < u) × (u ≤ count) × (0 < v) × (v ≤ count) × (u ≢ v)) }
 {
     0 < u && u <= count && 0 < v && v <= count && u != v
+}
+
+/// The blocks of those rows that are two to sixteen points, with numbers behind those of the others.
+fn blocks_of(
+    alloc: Global,
+    kind: Kind,
+    count: u32,
+    others: u32,
+    rows: Rows,
+) -> Result<List<Block>, NoMemory>
+    requires few_nodes { count ≤ 2000 }
+    requires few_constraints { others + length rows.now ≤ 4000 }
+    ensures { IfOk result (AreRows kind count others (length rows.now)) }
+{
+    let mut blocks = List::new(alloc);
+    for (place, row) in rows.iter().enumerate() {
+        if is_row_of(kind, count, row.0, row.1) {
+            blocks.push(Block {
+                id: ConId(others + place as u32 + 1),
+                pins: pins_of(alloc, row.0, row.1)?,
+            })?;
+        }
+    }
+    Ok(blocks)
+}
+
+fn is_row_of(kind: Kind, count: u32, first: u32, many: u32) -> bool
+    ensures { IsTrue result ↔ ((kind ≡ Point) × IsRow count first many) }
+{
+    match kind {
+        Kind::Point => is_row(count, first, many),
+        Kind::Line => false,
+    }
+}
+
+fn is_row(count: u32, first: u32, many: u32) -> bool
+    ensures { IsTrue result ↔ IsRow count first many }
+{
+    0 < first && 2 <= many && many <= 16 && first <= count && many <= count - first + 1
+}
+
+/// Pins at so many elements in a row, along a line.
+fn pins_of(alloc: Global, first: u32, many: u32) -> Result<List<Pin>, NoMemory>
+    requires { first + many ≤ 4000 }
+    ensures { IfOk result (AreInRow first many) }
+{
+    let mut pins = List::new(alloc);
+    for place in 0..many {
+        pins.push(pin_at(first + place))?;
+    }
+    Ok(pins)
+}
+
+fn pin_at(number: u32) -> Pin
+    ensures elem { result.elem.0 ≡ number }
+    ensures x { result.x.0 ≡ pos result.elem.0 }
+    ensures y { result.y.0 ≡ pos 0 }
+{
+    Pin {
+        elem: Elem(number),
+        x: Um(i64::from(number)),
+        y: Um(0),
+    }
 }
 
 /// One millimetre, or an angle of 45 degrees.
@@ -138,12 +213,13 @@ fn all_close_to(
     kind: Kind,
     count: u32,
     pairs: Pairs,
+    rows: Rows,
     parts: Parts,
 ) -> Result<bool, NoMemory> {
-    if count > 2000 || pairs.len() > 4000 {
+    if count > 2000 || pairs.len() > 2000 || rows.len() > 2000 {
         return Ok(false);
     }
-    let graph = graph_of(alloc, kind, count, pairs)?;
+    let graph = graph_of(alloc, kind, count, pairs, rows)?;
     let mut answers = List::new(alloc);
     answers.extend(&[5, 3, 8, 1])?;
     Ok(
@@ -217,15 +293,81 @@ fn one_normal_family(rt: HostRuntime) -> Result<(), Fail> {
     let alloc = rt.alloc();
     for (name, count, pairs, parts) in points {
         assert!(rt;
-            all_close_to(alloc, Kind::Point, count, pairs, parts)?,
+            all_close_to(alloc, Kind::Point, count, pairs, &[], parts)?,
             "{name}"
         );
     }
     let angles = [(1, 2), (2, 3), (1, 3)];
     assert!(rt;
-        all_close_to(alloc, Kind::Line, 3, &angles, &[&[1, 2], &[1, 3], &[2, 3]])?,
+        all_close_to(
+            alloc,
+            Kind::Line,
+            3,
+            &angles,
+            &[],
+            &[&[1, 2], &[1, 3], &[2, 3]]
+        )?,
         "three lines, three angles"
     );
+    Ok(())
+}
+
+/// A block merges as a cluster of all its points.
+#[test]
+fn blocks_merge(rt: HostRuntime) -> Result<(), Fail> {
+    let sixteen: &[u32] = &[1, 2, 3, 4, 5, 6, 7, 8, 9, 10, 11, 12, 13, 14, 15, 16];
+    let graphs: [(&str, u32, Pairs, Rows, Parts); 7] = [
+        ("two points", 2, &[], &[(1, 2)], &[&[1, 2]]),
+        (
+            "three points, two distances from a fourth",
+            4,
+            &[(1, 4), (3, 4)],
+            &[(1, 3)],
+            &[&[1, 2, 3, 4]],
+        ),
+        (
+            "three points, one of their distances",
+            3,
+            &[(1, 2)],
+            &[(1, 3)],
+            &[&[1, 2, 3]],
+        ),
+        (
+            "two blocks at a point",
+            5,
+            &[],
+            &[(1, 3), (3, 3)],
+            &[&[1, 2, 3], &[3, 4, 5]],
+        ),
+        (
+            "two blocks at a point, and a distance across",
+            5,
+            &[(5, 1)],
+            &[(1, 3), (3, 3)],
+            &[&[1, 2, 3, 4, 5]],
+        ),
+        (
+            "two blocks of nine at two points",
+            16,
+            &[],
+            &[(1, 9), (8, 9)],
+            &[sixteen],
+        ),
+        (
+            "sixteen points, and two of them",
+            16,
+            &[],
+            &[(1, 16), (7, 2)],
+            &[sixteen],
+        ),
+    ];
+    let alloc = rt.alloc();
+    for (name, count, pairs, rows, parts) in graphs {
+        assert!(rt;
+            all_close_to(alloc, Kind::Point, count, pairs, rows, parts)?,
+            "{name}"
+        );
+    }
     Ok(())
 }
 
@@ -260,7 +402,7 @@ fn overlap_in(family: &Family, x: Name, y: Name) -> Option<Overlap> {
 fn a_triangle_merges(rt: HostRuntime) -> Result<(), Fail> {
     let alloc = rt.alloc();
     let pairs = [(1, 2), (1, 3), (2, 3), (2, 4), (3, 4)];
-    let graph = graph_of(alloc, Kind::Point, 4, &pairs)?;
+    let graph = graph_of(alloc, Kind::Point, 4, &pairs, &[])?;
     let mut family = initial(alloc, &graph)?;
     assert_eq!(rt; family.count(), 5);
     let first = (Name::Con(1), Name::Con(2), Name::Con(3));

@@ -2,28 +2,30 @@
 // of the merges below a name stays known, but for those of the merged clusters.
 ghost use Rattle.std.specs.Prelude.{◌≡◌, ◌↔◌, ◌++◌, IfOk, OnOk, IfSome, IfNone, AllPairs, Contains, MatchResult};
 ghost use Rattle.sk_base.specs.declared.Graph.{Graph as AnyGraph};
+ghost use Rattle.sk_base.specs.declared.Name.{Name as ClusterName};
 ghost use Rattle.sk_base.specs.ClusterNames.{IsBelow};
 ghost use Rattle.sk_family.specs.Clusters.{Clusters, IsSound};
 ghost use Rattle.sk_rules.specs.declared.Merge.{Merge as AnyMerge};
 ghost use Rattle.sk_rules.specs.Merges.{merged, names_of};
-ghost use Rattle.sk_worklist.specs.Choices.{AreTriples, CanTake, ComesFirst, IsFirstPair};
-ghost use Rattle.sk_worklist.specs.Gather.{AreUncovered};
-ghost use Rattle.sk_worklist.specs.Indexed.{IsIndex, Represents};
+ghost use Rattle.sk_worklist.specs.Choices.{AreTriples, ComesFirst, IsFirstPair};
+ghost use Rattle.sk_worklist.specs.Gather.{AreUncovered, HoldsSome};
+ghost use Rattle.sk_worklist.specs.Indexed.{HasElements, IsIndex, Represents};
 ghost use Rattle.sk_worklist.specs.Turns.{Answers, Follows, HasLeft, HasNoPair};
 
+use crate::holders::add_holders_of_all;
 use crate::index::Index;
 use crate::kept::{drop_naming, in_order, names_in_order};
 use crate::partner::first_with_partner;
 use crate::picker::Picker;
 use crate::triples::add_triples_of_all;
-use sk_base::{Graph, List, Name, NoMemory};
+use sk_base::{Elem, Graph, List, Name, NoMemory};
 use sk_family::Family;
 use sk_rules::Merge;
 use std::alloc::Global;
 
 /// What is known of a family that is being closed.
 #[derive(Drop)]
-pub(crate) struct Worklist {
+pub struct Worklist {
     alloc: Global,
     index: Index,
     /// No pair whose greater cluster is below this name may merge.
@@ -51,7 +53,7 @@ impl Worklist {
     }
 
     /// The choice that the picker takes, if there is one.
-    pub fn choice<P: Picker>(
+    pub(crate) fn choice<P: Picker>(
         &mut self,
         family: &Family,
         picker: &mut P,
@@ -81,9 +83,11 @@ impl Worklist {
         Some(self.kept[place as usize])
     }
 
-    /// Takes the clusters of the merge out of the index.
+    /// Takes the clusters of a merge out, whatever the rules say of it. It is to be done then, and its
+    /// cluster entered.
     pub fn leave(&mut self, family: &Family, merge: Merge)
-        requires { (g : AnyGraph) × (IsSound family.now × Follows self.old g family.now × CanTake g family.now merge) }
+        requires follows { (g : AnyGraph) × Follows self.old g family.now }
+        requires some { (n : ClusterName) → Contains (names_of merge) n → HasElements family.now n }
         ensures { (g : AnyGraph) → Follows self.old g family.now → HasLeft self.new g family.now merge }
     {
         match merge {
@@ -92,7 +96,7 @@ impl Worklist {
         }
     }
 
-    /// Puts the cluster that the merge made into the index.
+    /// Puts the cluster in that the merge made.
     pub fn enter(&mut self, family: &Family, merge: Merge) -> Result<(), NoMemory>
         requires { (g : AnyGraph) × (f : Clusters) × (IsSound f × HasLeft self.old g f merge × (family.now ≡ merged f merge)) }
         ensures { OnOk result ((g : AnyGraph) (f : Clusters) → IsSound f → HasLeft self.old g f merge → family.now ≡ merged f merge → Follows self.new g family.now) }
@@ -102,6 +106,17 @@ impl Worklist {
             Merge::Two(x, y) => self.gone.extend(&[x, y]),
             Merge::Three(x, y, z) => self.gone.extend(&[x, y, z]),
         }
+    }
+
+    /// The names of the clusters below the name that hold some of the elements, in order.
+    pub fn holding(&self, elements: &[Elem], below: Name) -> Result<Vec<Name>, NoMemory>
+        requires { (g : AnyGraph) × (f : Clusters) × Follows self.now g f }
+        ensures in_order { IfOk result (λ names. AllPairs IsBelow names.items) }
+        ensures exactly { IfOk result (λ names. (g : AnyGraph) (f : Clusters) → Follows self.now g f → (n : ClusterName) → Contains names.items n ↔ HoldsSome f elements.now below n) }
+    {
+        let mut found = List::new(self.alloc);
+        add_holders_of_all(&self.index, elements, below, &mut found)?;
+        names_in_order(self.alloc, found.as_slice())
     }
 
     /// The first pair that may merge.

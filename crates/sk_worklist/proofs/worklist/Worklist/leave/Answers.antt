@@ -4,16 +4,15 @@ use Rattle.sk_family.specs.Clusters.{unnamed}
 use Rattle.sk_rules.specs.declared.Merge.{Merge}
 use Rattle.sk_rules.specs.Merges.{names_of}
 use Rattle.sk_worklist.specs.Indexed.{Represents}
-use Rattle.sk_worklist.proofs.Entering.{have_elements, represents_left}
+use Rattle.sk_worklist.proofs.Entering.{represents_left}
 use Rattle.sk_worklist.proofs.worklist.Worklist.leave.Goals as goal
 
 pub take_out_all-requires-clause-known : goal.take_out_all-requires-clause-known
-take_out_all-requires-clause-known c x held = (let (g, (sound, follows, can)) = c.requires in (follows.represents.held x).0 held)
+take_out_all-requires-clause-known c x held = (let (g, follows) = c.requires.follows in (follows.represents.held x).0 held)
 
 pub take_out_all-requires-clause-some : goal.take_out_all-requires-clause-some
 take_out_all-requires-clause-some c n n_in =
-    let (g, (sound, follows, can)) = c.requires in
-    have_elements g c.args.family.now sound c.args.merge can n (subst (λ (m : Merge). Contains (names_of m) n) (sym c.in-Two.is) n_in)
+    c.requires.some n (subst (λ (m : Merge). Contains (names_of m) n) (sym c.in-Two.is) n_in)
 
 pub returns-in-Two : goal.returns-in-Two
 returns-in-Two c g follows = record {
@@ -23,12 +22,11 @@ returns-in-Two c g follows = record {
 }
 
 pub take_out_all-requires-in-Three-clause-known : goal.take_out_all-requires-in-Three-clause-known
-take_out_all-requires-in-Three-clause-known c x held = (let (g, (sound, follows, can)) = c.requires in (follows.represents.held x).0 held)
+take_out_all-requires-in-Three-clause-known c x held = (let (g, follows) = c.requires.follows in (follows.represents.held x).0 held)
 
 pub take_out_all-requires-in-Three-clause-some : goal.take_out_all-requires-in-Three-clause-some
 take_out_all-requires-in-Three-clause-some c n n_in =
-    let (g, (sound, follows, can)) = c.requires in
-    have_elements g c.args.family.now sound c.args.merge can n (subst (λ (m : Merge). Contains (names_of m) n) (sym c.in-Three.is) n_in)
+    c.requires.some n (subst (λ (m : Merge). Contains (names_of m) n) (sym c.in-Three.is) n_in)
 
 pub returns-in-Three : goal.returns-in-Three
 returns-in-Three c g follows = record {

@@ -5,10 +5,10 @@ use Rattle.sk_rules.specs.Taking.{Leads}
 use Rattle.sk_worklist.specs.Turns.{Follows}
 use Rattle.sk_worklist.specs.Run.{PicksLead, merge_of}
 use Rattle.std.specs.Prelude.{map}
-use Rattle.sk_worklist.proofs.close.close_family.Given as goal
+use Rattle.sk_worklist.proofs.close.close_with.Given as goal
 
-abbrev pub invariant-loop-work : goal.invariant-loop-work
-invariant-loop-work g l = record {
+abbrev pub invariant-loop-taken : goal.invariant-loop-taken
+invariant-loop-taken g l = record {
   room : l.family.next_step + length l.family.live ≤ 4294967296;
   no_more : length l.family.live ≤ length l.fn.family.live;
   reached : Reach l.graph (bodies l.fn.family) (bodies l.family);
@@ -18,5 +18,5 @@ invariant-loop-work g l = record {
 }
 
 -- each merge leaves fewer clusters
-abbrev pub decreases-loop-work : goal.decreases-loop-work
-decreases-loop-work g l = length l.family.live
+abbrev pub decreases-loop-taken : goal.decreases-loop-taken
+decreases-loop-taken g l = length l.family.live

@@ -1,0 +1,53 @@
+-- The clusters that hold some elements, as a walk through the index finds them.
+use Rattle.std.proofs.Common.{◌≡◌, ◌∙◌, inl, inr, ℕ, List, [], sym, subst}
+use Rattle.std.specs.Prelude.{◌↔◌, Contains, Some}
+use Rattle.sk_base.specs.declared.Elem.{Elem}
+use Rattle.sk_base.specs.declared.Name.{Name}
+use Rattle.sk_base.specs.declared.Graph.{Graph}
+use Rattle.sk_base.specs.ClusterNames.{IsBelow}
+use Rattle.sk_base.proofs.Members.{contains_none}
+use Rattle.sk_family.specs.declared.Cluster.{Cluster}
+use Rattle.sk_family.specs.Clusters.{Clusters}
+use Rattle.sk_worklist.specs.declared.index.Index.{Index}
+use Rattle.sk_worklist.specs.Gather.{FromSome, GrowsBy, HolderOf, HoldsSome}
+use Rattle.sk_worklist.specs.Indexed.{IsBelowAt, IsIndex, IsNamedAt, Represents, holders_of}
+use Rattle.sk_worklist.proofs.Growing.{some_inside}
+
+module _ (ix : Index) (index : IsIndex ix) (e : Elem) (bound : Name) (keys : List ℕ) (keys_are : (k : ℕ) → Contains keys k ↔ (Contains (holders_of ix e) k × IsBelowAt ix bound k)) where
+  -- the names at the keys of an element that are below a name are those of its holders below it
+  pub named_below : (n : Name) → FromSome (λ k m. IsNamedAt ix m k) keys n ↔ HolderOf ix bound e n
+  named_below n = (holds, named)
+    where
+      holds : FromSome (λ k m. IsNamedAt ix m k) keys n → HolderOf ix bound e n
+      holds (k, k_in, (c, is, c_named)) =
+          let (k_holds, (d, d_is, below)) = (keys_are k).0 k_in in
+          let (b, b_is, e_in) = index.leads e k k_holds in
+          let d_c : Some d ≡ Some c = sym d_is ∙ is in
+          let b_c : Some b ≡ Some c = sym b_is ∙ is in
+          (c, (k, is), subst (λ (x : Cluster). Contains x.elements e) (some_inside b_c) e_in, subst (λ (x : Cluster). IsBelow x.name bound) (some_inside d_c) below, c_named)
+
+      named : HolderOf ix bound e n → FromSome (λ k m. IsNamedAt ix m k) keys n
+      named (c, (k, is), e_in, below, c_named) = (k, (keys_are k).1 (index.finds e k c is e_in, (c, is, below)), (c, is, c_named))
+
+-- the holders of some elements in the index of a family are its clusters that hold some
+pub holds_some : (ix : Index) (g : Graph) (f : Clusters) → Represents ix g f.live → (es : List Elem) (bound n : Name) → FromSome (HolderOf ix bound) es n ↔ HoldsSome f es bound n
+holds_some ix g f r es bound n = (
+  (λ (e, e_in, (c, held, c_e, below, named)). (
+    c,
+    record { lives = (r.held c).0 held; has_name = named },
+    subst (λ m. IsBelow m bound) named below,
+    (e, e_in, c_e),
+  )),
+  (λ (c, is, below, (e, e_in, c_e)). (e, e_in, (c, (r.held c).1 is.lives, c_e, subst (λ m. IsBelow m bound) (sym is.has_name) below, is.has_name))),
+)
+
+-- what grew from nothing to just the holders, and was put in order, has the names of the clusters that hold some
+pub names_told : (ix : Index) (g : Graph) (f : Clusters) → Represents ix g f.live → (es : List Elem) (bound : Name) (none found slice names : List Name) → none ≡ []
+    → GrowsBy (FromSome (HolderOf ix bound) es) none found → slice ≡ found → ((n : Name) → Contains names n ↔ Contains slice n) → (n : Name) → Contains names n ↔ HoldsSome f es bound n
+names_told ix g f r es bound none found slice names empty grows is same n = (
+  (λ h. (holds_some ix g f r es bound n).0 (elim ((grows n).0 (subst (λ l. Contains l n) is ((same n).0 h))) [
+    | inl was ↦ absurd (contains_none n (subst (λ l. Contains l n) empty was))
+    | inr holds ↦ holds
+  ])),
+  (λ h. (same n).1 (subst (λ l. Contains l n) (sym is) ((grows n).1 (inr ((holds_some ix g f r es bound n).1 h))))),
+)
