@@ -11,7 +11,7 @@ use Rattle.sk_base.specs.declared.sketch.Shape.{Shape}
 use Rattle.sk_base.specs.declared.sketch.Shape.TheVariants as shapes
 use Rattle.sk_base.specs.declared.sketch.Sketch.{Sketch}
 use Rattle.sk_base.specs.Places.{place_of}
-use Rattle.sk_text.specs.Spelling.{fixed_text}
+use Rattle.sk_base.specs.Spelling.{fixed_text}
 use Rattle.sk_dxf.specs.declared.course.Course.{Course}
 use Rattle.sk_dxf.specs.declared.course.Place.{Place}
 use Rattle.sk_dxf.specs.declared.segment.Segment.{Segment}

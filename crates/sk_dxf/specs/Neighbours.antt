@@ -5,7 +5,7 @@ use Rattle.sk_base.specs.declared.numbered.Elem.{Elem}
 use Rattle.sk_base.specs.declared.placed.Placed.{Placed}
 use Rattle.sk_base.specs.declared.sketch.Constraint.{Constraint}
 use Rattle.sk_base.specs.declared.sketch.Rule.{Rule}
-use Rattle.sk_base.specs.declared.sketch.Rule.TheVariants.{Distance, On, Tangent, Outside, Inside, Angle}
+use Rattle.sk_base.specs.declared.sketch.Rule.TheVariants.{Distance, On, Tangent, Outside, Inside, Angle, Block}
 use Rattle.sk_base.specs.Places.{place_of}
 use Rattle.sk_dxf.specs.declared.course.Course.{Course}
 use Rattle.sk_dxf.specs.Courses.{along}
@@ -14,7 +14,7 @@ use Rattle.sk_dxf.specs.Courses.{along}
 abbrev pub other_of : Elem → Elem → Elem → Option Elem
 other_of e u v = if u.0 == e.0 then Some v else (if v.0 == e.0 then Some u else None)
 
--- the element that a rule names beside this one
+-- the element that a rule names beside this line; no line is among those of a block
 abbrev pub partner_in : Elem → Rule → Option Elem
 partner_in e (Distance u v len) = other_of e u v
 partner_in e (On u v) = other_of e u v
@@ -22,6 +22,7 @@ partner_in e (Tangent u v) = other_of e u v
 partner_in e (Outside u v) = other_of e u v
 partner_in e (Inside u v) = other_of e u v
 partner_in e (Angle l m ratio) = other_of e l m
+partner_in e (Block pins) = None
 
 -- how far along the line of that number the neighbour lies that a constraint gives it
 abbrev pub neighbour_along : Placed → Elem → Course → Constraint → Option ℤ

@@ -38,7 +38,7 @@ fn neighbour_along(at: &Placed, e: Elem, line: Course, constraint: &Constraint) 
     ensures value { result ≡ neighbour_along at.now e line constraint.now }
     ensures within { IfSome result (IsWithin 4611686018427387904) }
 {
-    let partner = partner_in(e, constraint.rule)?;
+    let partner = partner_in(e, &constraint.rule)?;
     let place = place(at, partner)?;
     along(line, place)
 }
@@ -52,17 +52,18 @@ pub(crate) fn place(at: &Placed, e: Elem) -> Option<At>
     at.at(e)
 }
 
-/// The element that the rule names beside this one.
-fn partner_in(e: Elem, rule: Rule) -> Option<Elem>
-    ensures { result ≡ partner_in e rule }
+/// The element that the rule names beside this one. A block names no line.
+fn partner_in(e: Elem, rule: &Rule) -> Option<Elem>
+    ensures { result ≡ partner_in e rule.now }
 {
-    match rule {
+    match *rule {
         Rule::Distance { u, v, .. }
         | Rule::On { u, v }
         | Rule::Tangent { u, v }
         | Rule::Outside { u, v }
         | Rule::Inside { u, v } => other_of(e, u, v),
         Rule::Angle { l, m, .. } => other_of(e, l, m),
+        Rule::Block { .. } => None,
     }
 }
 

@@ -5,7 +5,7 @@ ghost use Rattle.sk_base.specs.Places.{IsBounded};
 use crate::dxf_text;
 use sk_base::{
     At, ConId, Constraint, Elem, Element, Label, List, NoMemory, Placed, Ratio, Rule, Shape,
-    Sketch, Spot, Text, Um,
+    Sketch, Spot, Text, Um, copy_constraint,
 };
 use std::alloc::Global;
 use std::test::Fail;
@@ -24,7 +24,9 @@ fn drawn(
         constraints: List::new(alloc),
     };
     s.elements.extend(elements)?;
-    s.constraints.extend(constraints)?;
+    for constraint in constraints {
+        s.constraints.push(copy_constraint(alloc, constraint)?)?;
+    }
     let mut at = Placed {
         spots: List::new(alloc),
     };

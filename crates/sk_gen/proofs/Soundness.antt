@@ -18,7 +18,8 @@ use Rattle.sk_base.specs.declared.sketch.Sketch.{Sketch}
 use Rattle.sk_base.specs.Drawn.{shape_of}
 use Rattle.sk_base.specs.Labels.{is_name}
 use Rattle.sk_base.specs.Rising.{IsRising}
-use Rattle.sk_base.specs.SoundSketch.{IsSoundSketch, IsCoordinate, IsLength, IsSoundShape, IsSoundRule, BothFit, MayBeApart}
+use Rattle.sk_base.specs.Bounds.{IsCoordinate}
+use Rattle.sk_base.specs.SoundSketch.{IsSoundSketch, IsLength, IsSoundShape, IsSoundRule, BothFit, MayBeApart}
 use Rattle.sk_base.proofs.Finding.{found_rising}
 use Rattle.sk_base.proofs.Members.{contains_cases, contains_later, contains_mapped, mapped_from}
 use Rattle.sk_base.proofs.Pairs.{pairs_none, pairs_cons, pairs_map}

@@ -1,15 +1,13 @@
 -- What shapes a rule names, from what stands in a sound sketch.
 use Rattle.std.proofs.Common.{◌≡◌, inl, inr, true, false, refl}
-use Rattle.std.specs.Prelude.{Option, Some, None}
+use Rattle.std.specs.Prelude.{Option, Some, None, IsSome}
 use Rattle.sk_base.specs.declared.sketch.Shape.{Shape}
 use Rattle.sk_base.specs.declared.sketch.Shape.TheVariants.{Point, Line, Circle}
-use Rattle.sk_base.specs.declared.sketch.Rule.{Rule}
-use Rattle.sk_base.specs.declared.sketch.Rule.TheVariants.{Distance, On, Tangent, Outside, Inside, Angle}
+use Rattle.sk_base.specs.declared.numbered.Elem.{Elem}
 use Rattle.sk_base.specs.declared.sketch.Sketch.{Sketch}
 use Rattle.sk_base.specs.Drawn.{shape_of, HasCentre, IsLine}
-use Rattle.sk_base.specs.SoundSketch.{IsSoundRule, MayBeApart, MayBeTangent, BothFit}
-use Rattle.sk_graph.specs.Fitting.{Fits}
-use Rattle.sk_graph.specs.SketchGraph.{first_of, second_of}
+use Rattle.sk_base.specs.SoundSketch.{MayBeApart, MayBeTangent, MayJoin, BothFit}
+use Rattle.sk_graph.specs.SketchGraph.{drawn_as}
 use Rattle.sk_base.specs.Drawn.{is_line}
 
 pub line_if : (x : Shape) → is_line x ≡ true → IsLine x
@@ -42,29 +40,16 @@ line_touched (Point x y) b fits is = elim fits [ inl first ↦ absurd first.0 | 
 line_touched (Line x1 y1 x2 y2) b fits is = cc
 line_touched (Circle x y r) b fits is = elim fits [ inl first ↦ absurd first.0 | inr second ↦ second.1 ]
 
--- two shapes that are drawn and fit
-pub record AreDrawn (fits : Shape → Shape → Type 0) (u v : Option Shape) : Type 0 where
-  pub first : Shape
-  pub second : Shape
-  pub first_is : u ≡ Some first
-  pub second_is : v ≡ Some second
-  pub fit : fits first second
+-- two elements that are drawn, and whose shapes fit
+pub record AreDrawn (s : Sketch) (fits : Shape → Shape → Type 0) (u v : Elem) : Type 0 where
+  pub first : IsSome (shape_of s u)
+  pub second : IsSome (shape_of s v)
+  pub fit : fits (drawn_as s u) (drawn_as s v)
 
-pub drawn_from : (fits : Shape → Shape → Type 0) (u v : Option Shape) → BothFit fits u v → AreDrawn fits u v
-drawn_from fits None v both = absurd both
-drawn_from fits (Some a) None both = absurd both
-drawn_from fits (Some a) (Some b) both = record { first = a; second = b; first_is = refl; second_is = refl; fit = both }
-
-drawn_with : (P : Type 0) (fits : Shape → Shape → Type 0) (u v : Option Shape) → BothFit fits u v → P → AreDrawn (λ a b. fits a b × P) u v
-drawn_with P fits u v both p =
-    let drawn = drawn_from fits u v both in
-    record { first = drawn.first; second = drawn.second; first_is = drawn.first_is; second_is = drawn.second_is; fit = (drawn.fit, p) }
-
--- a sound rule names elements that are drawn and fit
-pub rule_drawn : (s : Sketch) (rule : Rule) → IsSoundRule s rule → AreDrawn (Fits rule) (shape_of s (first_of rule)) (shape_of s (second_of rule))
-rule_drawn s (Distance u v len) sound = drawn_with _ _ _ _ sound.0.1 sound.1
-rule_drawn s (On u v) sound = drawn_from _ _ _ sound.1
-rule_drawn s (Tangent u v) sound = drawn_from _ _ _ sound.1
-rule_drawn s (Outside u v) sound = drawn_from _ _ _ sound.1
-rule_drawn s (Inside u v) sound = drawn_from _ _ _ sound.1
-rule_drawn s (Angle l m ratio) sound = drawn_with _ _ _ _ sound.0.1 sound.1
+pub both_drawn : (s : Sketch) (fits : Shape → Shape → Type 0) (u v : Elem) → MayJoin s fits u v → AreDrawn s fits u v
+both_drawn s fits u v (other, both) = drawn (shape_of s u) (shape_of s v) refl refl both
+  where
+    drawn : (a b : Option Shape) → shape_of s u ≡ a → shape_of s v ≡ b → BothFit fits a b → AreDrawn s fits u v
+    drawn None b a_is b_is fit = absurd fit
+    drawn (Some a) None a_is b_is fit = absurd fit
+    drawn (Some a) (Some b) a_is b_is fit = record { first = rw a_is refl; second = rw b_is refl; fit = rw (a_is, b_is) fit }

@@ -1,2 +1,4 @@
 pub mod Fittings
+pub mod Given
+pub mod Naming
 pub mod Soundness

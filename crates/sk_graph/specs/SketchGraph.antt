@@ -1,9 +1,12 @@
--- The constraint graph of a sketch: a node for each element, where a circle is its centre, and an edge
--- for each constraint, each told by its own constraint and the shapes that this names.
-use Rattle.std.specs.Prelude.{nat_lt, if◌then◌else◌, ℤ, pos, ◌+ℤ◌, ◌-ℤ◌, map, unwrap_or, unsigned_abs}
+-- The constraint graph of a sketch: a node for each element, where a circle is its centre, an edge for
+-- each constraint between two elements, told by its own constraint and the shapes that this names, and
+-- each rigid block.
+use Rattle.std.specs.Prelude.{nat_lt, if◌then◌else◌, ℤ, pos, ◌+ℤ◌, ◌-ℤ◌, Option, Some, None, map, unwrap_or, unsigned_abs}
+use Rattle.std.specs.List.{filter_map}
 use Rattle.sk_base.specs.declared.numbered.Elem.{Elem}
 use Rattle.sk_base.specs.declared.numbered.ConId.{ConId}
 use Rattle.sk_base.specs.declared.measure.Um.{Um}
+use Rattle.sk_base.specs.declared.measure.Ratio.{Ratio}
 use Rattle.sk_base.specs.declared.measure.Kind.{Kind}
 use Rattle.sk_base.specs.declared.measure.Kind.TheVariants as kinds
 use Rattle.sk_base.specs.declared.measure.Sign.{Sign}
@@ -14,10 +17,12 @@ use Rattle.sk_base.specs.declared.sketch.Shape.TheVariants.{Point, Line, Circle}
 use Rattle.sk_base.specs.declared.sketch.Element.{Element}
 use Rattle.sk_base.specs.declared.sketch.Rule.{Rule}
 use Rattle.sk_base.specs.declared.sketch.Rule.TheVariants.{Distance, On, Tangent, Outside, Inside, Angle}
+use Rattle.sk_base.specs.declared.sketch.Rule.TheVariants as rules_of
 use Rattle.sk_base.specs.declared.sketch.Constraint.{Constraint}
 use Rattle.sk_base.specs.declared.sketch.Sketch.{Sketch}
 use Rattle.sk_base.specs.declared.graph.Node.{Node}
 use Rattle.sk_base.specs.declared.graph.Edge.{Edge}
+use Rattle.sk_base.specs.declared.graph.Block.{Block}
 use Rattle.sk_base.specs.declared.graph.Graph.{Graph}
 use Rattle.sk_base.specs.Drawn.{shape_of, is_line, radius_of}
 use Rattle.sk_orient.specs.DrawnSigns.{side_drawn, sense_drawn}
@@ -60,36 +65,43 @@ abbrev pub tangent_edge : ConId → Elem → Elem → Shape → Shape → Edge
 tangent_edge id u v a b =
     if is_line a then beside id v u (radius_of b) (side_drawn a b) else beside id u v (radius_of a) (side_drawn b a)
 
--- the edge of a rule whose elements are drawn like this
-abbrev pub edge_between : ConId → Rule → Shape → Shape → Edge
-edge_between id (Distance u v len) a b = distance_edge id u v len a b
-edge_between id (On u v) a b = on_edge id u v b
-edge_between id (Tangent u v) a b = tangent_edge id u v a b
-edge_between id (Outside u v) a b = apart id u v (radius_of a +ℤ radius_of b)
-edge_between id (Inside u v) a b = apart id u v (pos (unsigned_abs (radius_of a -ℤ radius_of b)))
-edge_between id (Angle l m ratio) a b = record { id = id; u = l; v = m; measure = LineLine ratio (sense_drawn a b ratio) }
+-- circles that touch from outside: their centres are both radii apart
+abbrev pub outside_edge : ConId → Elem → Elem → Shape → Shape → Edge
+outside_edge id u v a b = apart id u v (radius_of a +ℤ radius_of b)
 
--- the first element that a rule names
-abbrev pub first_of : Rule → Elem
-first_of (Distance u v len) = u
-first_of (On u v) = u
-first_of (Tangent u v) = u
-first_of (Outside u v) = u
-first_of (Inside u v) = u
-first_of (Angle l m ratio) = l
+-- circles that touch from inside: their centres are the difference of the radii apart
+abbrev pub inside_edge : ConId → Elem → Elem → Shape → Shape → Edge
+inside_edge id u v a b = apart id u v (pos (unsigned_abs (radius_of a -ℤ radius_of b)))
 
--- the second element that a rule names
-abbrev pub second_of : Rule → Elem
-second_of (Distance u v len) = v
-second_of (On u v) = v
-second_of (Tangent u v) = v
-second_of (Outside u v) = v
-second_of (Inside u v) = v
-second_of (Angle l m ratio) = m
+-- an angle from the one line to the other, in the sense in which it is drawn
+abbrev pub angle_edge : ConId → Elem → Elem → Ratio → Shape → Shape → Edge
+angle_edge id l m ratio a b = record { id = id; u = l; v = m; measure = LineLine ratio (sense_drawn a b ratio) }
 
-abbrev pub edge_of : Sketch → Constraint → Edge
-edge_of s c = edge_between c.number c.rule (drawn_as s (first_of c.rule)) (drawn_as s (second_of c.rule))
+-- the edge that a rule gives, if it is between two elements
+abbrev pub rule_edge : Sketch → ConId → Rule → Option Edge
+rule_edge s id (Distance u v len) = Some (distance_edge id u v len (drawn_as s u) (drawn_as s v))
+rule_edge s id (On u v) = Some (on_edge id u v (drawn_as s v))
+rule_edge s id (Tangent u v) = Some (tangent_edge id u v (drawn_as s u) (drawn_as s v))
+rule_edge s id (Outside u v) = Some (outside_edge id u v (drawn_as s u) (drawn_as s v))
+rule_edge s id (Inside u v) = Some (inside_edge id u v (drawn_as s u) (drawn_as s v))
+rule_edge s id (Angle l m ratio) = Some (angle_edge id l m ratio (drawn_as s l) (drawn_as s m))
+rule_edge s id (rules_of.Block pins) = None
+
+abbrev pub edge_of : Sketch → Constraint → Option Edge
+edge_of s c = rule_edge s c.number c.rule
+
+-- the block that a rule gives, if it is one
+abbrev pub rule_block : ConId → Rule → Option Block
+rule_block id (rules_of.Block pins) = Some (record { id = id; pins = pins })
+rule_block id other = None
+
+abbrev pub block_of : Constraint → Option Block
+block_of c = rule_block c.number c.rule
 
 -- the graph of a sketch
 abbrev pub graph_of : Sketch → Graph
-graph_of s = record { nodes = map node_of s.elements; edges = map (edge_of s) s.constraints }
+graph_of s = record {
+  nodes = map node_of s.elements;
+  edges = filter_map (edge_of s) s.constraints;
+  blocks = filter_map block_of s.constraints;
+}

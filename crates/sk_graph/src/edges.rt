@@ -1,65 +1,34 @@
-// The edge of one constraint.
-ghost use Rattle.std.specs.Prelude.{◌≡◌, ◌≢◌};
+// The edge of a constraint between two elements.
+ghost use Rattle.std.specs.Prelude.{◌≡◌, ◌≢◌, IfSome};
 ghost use Rattle.sk_base.specs.Bounds.{IsFromTo};
 ghost use Rattle.sk_base.specs.Drawn.{HasCentre, IsLine};
 ghost use Rattle.sk_base.specs.SoundSketch.{IsSoundSketch, IsSoundShape, IsSoundRule, IsSoundRatio, MayBeApart, MayBeTangent, AreLines};
-ghost use Rattle.sk_graph.specs.Fitting.{Fits};
-ghost use Rattle.sk_graph.specs.SketchGraph.{apart, beside, distance_edge, on_edge, tangent_edge, edge_between, first_of, second_of, edge_of};
+ghost use Rattle.sk_graph.specs.SketchGraph.{apart, beside, distance_edge, on_edge, tangent_edge, outside_edge, inside_edge, angle_edge, edge_of};
 
 use crate::drawn::shape;
-use sk_base::{ConId, Constraint, Edge, Elem, Measure, Rule, Shape, Sign, Sketch, Um};
+use sk_base::{ConId, Constraint, Edge, Elem, Measure, Ratio, Rule, Shape, Sign, Sketch, Um};
 use sk_orient::{sense_drawn, side_drawn};
 
-/// The edge of the constraint.
-pub fn edge(s: &Sketch, constraint: &Constraint) -> Edge
+/// The edge of the constraint. A block has none.
+pub fn edge(s: &Sketch, constraint: &Constraint) -> Option<Edge>
     requires sketch { IsSoundSketch s.now }
     requires rule { IsSoundRule s.now constraint.now.rule }
     ensures edge { result ≡ edge_of s.now constraint.now }
-    ensures number { result.id ≡ constraint.now.number }
+    ensures number { IfSome result (λ e. e.id ≡ constraint.now.number) }
 {
-    let (first, second) = ends(constraint.rule);
-    edge_between(
-        constraint.number,
-        constraint.rule,
-        shape(s, first),
-        shape(s, second),
-    )
-}
-
-/// The two elements that the rule names.
-fn ends(rule: Rule) -> (Elem, Elem)
-    ensures first { result.0 ≡ first_of rule }
-    ensures second { result.1 ≡ second_of rule }
-{
-    match rule {
-        Rule::Distance { u, v, .. }
-        | Rule::On { u, v }
-        | Rule::Tangent { u, v }
-        | Rule::Outside { u, v }
-        | Rule::Inside { u, v } => (u, v),
-        Rule::Angle { l, m, .. } => (l, m),
-    }
-}
-
-/// The edge of a rule whose elements are drawn like this.
-fn edge_between(id: ConId, rule: Rule, a: Shape, b: Shape) -> Edge
-    requires a { IsSoundShape a }
-    requires b { IsSoundShape b }
-    requires fits { Fits rule a b }
-    ensures { result ≡ edge_between id rule a b }
-{
-    match rule {
-        Rule::Distance { u, v, len } => distance_edge(id, u, v, len, a, b),
-        Rule::On { u, v } => on_edge(id, u, v, b),
-        Rule::Tangent { u, v } => tangent_edge(id, u, v, a, b),
-        Rule::Outside { u, v } => apart(id, u, v, Um(a.radius() + b.radius())),
-        Rule::Inside { u, v } => apart(id, u, v, Um((a.radius() - b.radius()).abs())),
-        Rule::Angle { l, m, ratio } => Edge {
-            id,
-            u: l,
-            v: m,
-            measure: Measure::LineLine(ratio, sense_drawn(&a, &b, ratio)),
-        },
+    let id = constraint.number;
+    match constraint.rule {
+        Rule::Distance { u, v, len } => {
+            Some(distance_edge(id, u, v, len, shape(s, u), shape(s, v)))
+        }
+        Rule::On { u, v } => Some(on_edge(id, u, v, shape(s, v))),
+        Rule::Tangent { u, v } => Some(tangent_edge(id, u, v, shape(s, u), shape(s, v))),
+        Rule::Outside { u, v } => Some(outside_edge(id, u, v, shape(s, u), shape(s, v))),
+        Rule::Inside { u, v } => Some(inside_edge(id, u, v, shape(s, u), shape(s, v))),
+        Rule::Angle { l, m, ratio } => {
+            Some(angle_edge(id, l, m, ratio, shape(s, l), shape(s, m)))
+        }
+        Rule::Block { .. } => None,
     }
 }
 
@@ -104,6 +73,40 @@ fn tangent_edge(id: ConId, u: Elem, v: Elem, a: Shape, b: Shape) -> Edge
         beside(id, v, u, Um(b.radius()), side_drawn(&a, &b))
     } else {
         beside(id, u, v, Um(a.radius()), side_drawn(&b, &a))
+    }
+}
+
+/// Circles that touch from outside.
+fn outside_edge(id: ConId, u: Elem, v: Elem, a: Shape, b: Shape) -> Edge
+    requires a { IsSoundShape a }
+    requires b { IsSoundShape b }
+    ensures { result ≡ outside_edge id u v a b }
+{
+    apart(id, u, v, Um(a.radius() + b.radius()))
+}
+
+/// Circles that touch from inside.
+fn inside_edge(id: ConId, u: Elem, v: Elem, a: Shape, b: Shape) -> Edge
+    requires a { IsSoundShape a }
+    requires b { IsSoundShape b }
+    ensures { result ≡ inside_edge id u v a b }
+{
+    apart(id, u, v, Um((a.radius() - b.radius()).abs()))
+}
+
+/// An angle between two lines.
+fn angle_edge(id: ConId, l: Elem, m: Elem, ratio: Ratio, a: Shape, b: Shape) -> Edge
+    requires a { IsSoundShape a }
+    requires b { IsSoundShape b }
+    requires lines { AreLines a b }
+    requires ratio { IsSoundRatio ratio }
+    ensures { result ≡ angle_edge id l m ratio a b }
+{
+    Edge {
+        id,
+        u: l,
+        v: m,
+        measure: Measure::LineLine(ratio, sense_drawn(&a, &b, ratio)),
     }
 }
 

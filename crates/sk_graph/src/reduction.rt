@@ -1,11 +1,13 @@
 // The graph of a whole sketch.
 ghost use Rattle.std.specs.Prelude.{◌≡◌, All, IfOk, map};
+ghost use Rattle.std.specs.List.{filter_map};
 ghost use Rattle.sk_base.specs.SoundSketch.{IsSoundSketch, IsSoundRule};
 ghost use Rattle.sk_base.specs.SoundGraph.{IsSoundGraph};
-ghost use Rattle.sk_graph.specs.SketchGraph.{node_of, edge_of, graph_of};
+ghost use Rattle.sk_graph.specs.SketchGraph.{node_of, edge_of, block_of, graph_of};
 
+use crate::blocks::block;
 use crate::edges::edge;
-use sk_base::{Constraint, Edge, Element, Graph, Kind, List, NoMemory, Node, Shape, Sketch};
+use sk_base::{Block, Constraint, Edge, Element, Graph, Kind, List, NoMemory, Node, Shape, Sketch};
 use std::alloc::Global;
 
 /// The graph of the sketch.
@@ -16,7 +18,12 @@ pub fn reduce(alloc: Global, s: &Sketch) -> Result<Graph, NoMemory>
 {
     let nodes = nodes(alloc, s.elements.as_slice())?;
     let edges = edges(alloc, s, s.constraints.as_slice())?;
-    Ok(Graph { nodes, edges })
+    let blocks = blocks(alloc, s.constraints.as_slice())?;
+    Ok(Graph {
+        nodes,
+        edges,
+        blocks,
+    })
 }
 
 /// A node for each element.
@@ -43,15 +50,30 @@ fn node(element: &Element) -> Node
     }
 }
 
-/// An edge for each constraint.
+/// An edge for each constraint that is no block.
 fn edges(alloc: Global, s: &Sketch, constraints: &[Constraint]) -> Result<List<Edge>, NoMemory>
     requires sketch { IsSoundSketch s.now }
     requires rules { All (λ c. IsSoundRule s.now c.rule) constraints.now }
-    ensures { IfOk result (λ edges. edges ≡ map (edge_of s.now) constraints.now) }
+    ensures { IfOk result (λ edges. edges ≡ filter_map (edge_of s.now) constraints.now) }
 {
     let mut edges = List::new(alloc);
     for constraint in constraints {
-        edges.push(edge(s, constraint))?;
+        if let Some(edge) = edge(s, constraint) {
+            edges.push(edge)?;
+        }
     }
     Ok(edges)
+}
+
+/// Each block with its pins.
+fn blocks(alloc: Global, constraints: &[Constraint]) -> Result<List<Block>, NoMemory>
+    ensures { IfOk result (λ blocks. blocks ≡ filter_map block_of constraints.now) }
+{
+    let mut blocks = List::new(alloc);
+    for constraint in constraints {
+        if let Some(block) = block(alloc, constraint)? {
+            blocks.push(block)?;
+        }
+    }
+    Ok(blocks)
 }

@@ -5,7 +5,7 @@ use Rattle.sk_base.specs.declared.measure.Sign.TheVariants.{Plus, Minus}
 use Rattle.sk_base.specs.declared.measure.Ratio.{Ratio}
 use Rattle.sk_base.specs.declared.sketch.Shape.{Shape}
 use Rattle.sk_base.specs.declared.sketch.Shape.TheVariants.{Point, Line, Circle}
-use Rattle.sk_base.specs.SoundSketch.{IsCoordinate}
+use Rattle.sk_base.specs.Bounds.{IsCoordinate}
 use Rattle.sk_orient.specs.declared.vector.Vector.{Vector}
 use Rattle.sk_orient.specs.Vectors.{way, cross, dot, rotation}
 
