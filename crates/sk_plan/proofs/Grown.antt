@@ -6,7 +6,7 @@ use Rattle.std.proofs.lemmas.List.Elements.{Contains-append_cases, Contains-appe
 use Rattle.sk_base.specs.declared.Name.{Name}
 use Rattle.sk_base.specs.declared.Name.TheVariants.{Con, Step}
 use Rattle.sk_base.specs.declared.ConId.{ConId}
-use Rattle.sk_base.specs.declared.Edge.{Edge}
+use Rattle.sk_family.specs.Body.{Start, starts}
 use Rattle.sk_base.specs.declared.Graph.{Graph}
 use Rattle.sk_base.specs.ClusterNames.{IsBelow, is_named}
 use Rattle.sk_family.specs.declared.Cluster.{Cluster}
@@ -73,8 +73,8 @@ pub initial_grown : (g : Graph) → IsGrown [] (initial_clusters g)
 initial_grown g = record {
   children = λ s h. absurd (contains_none s h);
   steps = λ s h. absurd (contains_none s h);
-  made = λ c c_in. (let found = mapped_from start_of g.edges c c_in in subst (λ (d : Cluster). IsMade [] d.name) found.2 tt);
-  leaves = λ c c_in t is. (let found = mapped_from start_of g.edges c c_in in
+  made = λ c c_in. (let found = mapped_from start_of (starts g) c c_in in subst (λ (d : Cluster). IsMade [] d.name) found.2 tt);
+  leaves = λ c c_in t is. (let found = mapped_from start_of (starts g) c c_in in
       subst (λ (d : Cluster). HasLeaves t d.owned) found.2 (leaf found.0 t (subst (λ (d : Cluster). IsTreeOf [] d.name t) (sym found.2) is)));
   joins = record {
     triples = λ t h. absurd (contains_none t h);
@@ -82,10 +82,10 @@ initial_grown g = record {
   };
 }
   where
-    leaf : (e : Edge) (t : Tree) → IsTreeOf [] (Con e.id.0) t → HasLeaves t (e.id ∷ [])
+    leaf : (e : Start) (t : Tree) → IsTreeOf [] (Con e.number.0) t → HasLeaves t (e.number ∷ [])
     leaf e (Leaf k) is =
-        let number : e.id.0 ≡ k.0 = cc in
-        let same : e.id ≡ k = ap (λ (n : ℕ). let made : ConId = record { 0 = n } in made) number in
+        let number : e.number.0 ≡ k.0 = cc in
+        let same : e.number ≡ k = ap (λ (n : ℕ). let made : ConId = record { 0 = n } in made) number in
         record {
           just = λ j. (subst (λ (i : ConId). Contains (i ∷ []) j) (sym same), subst (λ (i : ConId). Contains (i ∷ []) j) same);
           once = pairs_cons (λ (i j : ConId). i ≢ j) k [] (pairs_none (λ (i j : ConId). i ≢ j)) (λ y h. absurd (contains_none y h));

@@ -6,7 +6,7 @@ use Rattle.sk_base.specs.declared.Elem.{Elem}
 use Rattle.sk_base.specs.declared.Name.{Name}
 use Rattle.sk_base.specs.declared.Graph.{Graph}
 use Rattle.sk_base.specs.SoundGraph.{IsSoundGraph}
-use Rattle.sk_family.specs.Body.{Body, initial_bodies}
+use Rattle.sk_family.specs.Body.{Body, initial_bodies, starts}
 use Rattle.sk_family.specs.Clusters.{Clusters, body_of, bodies, initial_clusters, named, IsSound}
 use Rattle.sk_family.proofs.Soundness.{sound_initial, sound_replaced, starting_bodies}
 use Rattle.sk_rules.specs.declared.Merge.{Merge}
@@ -17,6 +17,7 @@ use Rattle.sk_rules.specs.Rules.{IsShared}
 use Rattle.sk_rules.specs.Merges.{Falls, Holds, IsLeastShared, names_of, merged}
 use Rattle.sk_rules.specs.Reach.{Step, Reach, stays, goes, IsClosed, IsNormal}
 use Rattle.sk_rules.specs.Taking.{IsTaken, Leads}
+use Rattle.sk_rules.proofs.WeighedGraphs.{sound_two_each}
 use Rattle.sk_rules.proofs.Counting.{IsTight, step_tight, initial_tight}
 use Rattle.sk_rules.proofs.Merging.{can_be_replaced, merge_steps, named_two, named_three, triangle_lessens}
 use Rattle.sk_tree.specs.Meeting.{MeetsOnce}
@@ -108,7 +109,7 @@ joins_once g f sound t (Three x y z) is falls (a, b, c, x_is, y_is, z_is, (e, so
       };
     }
 
-pub each_joins : (g : Graph) (f end : Clusters) (ts : List Taken) → IsSound f → IsTight g (bodies f) → AllOwnJustEnough (bodies end) → Leads g f ts end → EachTakesOnce g f ts
+pub each_joins : (g : Graph) (f end : Clusters) (ts : List Taken) → IsSound f → IsTight g (bodies f) → AllOwnJustEnough g (bodies end) → Leads g f ts end → EachTakesOnce g f ts
 each_joins g f end [] sound tight just is = tt
 each_joins g f end (t ∷ ts) sound tight just (taken, rest) =
     let after = sound_taken g f t sound taken in
@@ -150,15 +151,15 @@ joins_lessen g f end (t ∷ ts) sound (taken, rest) (once, more) =
 -- the same from a graph's start
 module _ (g : Graph) (ts : List Taken) (end : Clusters) (sound : IsSoundGraph g) (leads : Leads g (initial_clusters g) ts end) where
   pub run_reaches : Reach g (initial_bodies g) (bodies end)
-  run_reaches = subst (λ f. Reach g f (bodies end)) (starting_bodies g.edges) (leads_reach g (initial_clusters g) end ts (sound_initial g sound) leads)
+  run_reaches = subst (λ f. Reach g f (bodies end)) (starting_bodies (starts g)) (leads_reach g (initial_clusters g) end ts (sound_initial g sound) leads)
 
   pub run_once : EachTakesOnce g (initial_clusters g) ts → (way : Reach g (initial_bodies g) (bodies end)) × EachMeetsOnce way
   run_once each =
-      subst (λ f. (way : Reach g f (bodies end)) × EachMeetsOnce way) (starting_bodies g.edges)
+      subst (λ f. (way : Reach g f (bodies end)) × EachMeetsOnce way) (starting_bodies (starts g))
       (leads_once g (initial_clusters g) end ts (sound_initial g sound) leads each)
 
   run_tight : IsTight g (bodies (initial_clusters g))
-  run_tight = subst (λ f. IsTight g f) (sym (starting_bodies g.edges)) (initial_tight g sound.edges_rise)
+  run_tight = subst (λ f. IsTight g f) (sym (starting_bodies (starts g))) (initial_tight g sound.edges_rise)
 
   module _ (closed : IsClosed g (bodies end)) where
     pub run_normal : IsNormal g (bodies end)
@@ -167,4 +168,4 @@ module _ (g : Graph) (ts : List Taken) (end : Clusters) (sound : IsSoundGraph g)
     pub run_joins_once : HoldsNoneTooMany g (bodies end) → EachTakesOnce g (initial_clusters g) ts
     run_joins_once none =
         each_joins g (initial_clusters g) end ts (sound_initial g sound) run_tight
-        (none_too_many g (bodies end) sound.edges_rise sound.two_ends run_normal none) leads
+        (none_too_many g (bodies end) sound.edges_rise (sound_two_each g sound) run_normal none) leads

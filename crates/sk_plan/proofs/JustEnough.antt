@@ -4,20 +4,21 @@ use Rattle.std.proofs.Common.{◌≡◌, ◌⊎◌, inl, inr, ℕ, ◌+◌, ◌*
 use Rattle.std.specs.Prelude.{Contains}
 use Rattle.sk_base.specs.declared.Elem.{Elem}
 use Rattle.sk_base.specs.declared.Graph.{Graph}
-use Rattle.sk_base.specs.SoundGraph.{HasRisingEdges, HasTwoEnds}
-use Rattle.sk_base.specs.Numbering.{elem_number, con_number, elem_exact, con_exact}
+use Rattle.sk_base.specs.SoundGraph.{HasRisingEdges}
+use Rattle.sk_base.specs.Numbering.{elem_number, con_number, elem_exact}
 use Rattle.sk_base.specs.Rising.{union}
 use Rattle.sk_family.specs.Body.{Body, join_all, initial_bodies}
 use Rattle.sk_base.proofs.Members.{contains_head, contains_later, contains_one, contains_cases}
-use Rattle.sk_base.proofs.Unions.{rising_union, union_left, union_right, union_cases}
+use Rattle.sk_base.proofs.Unions.{union_left, union_right, union_cases}
 use Rattle.sk_family.proofs.Bodies.{elem_settles}
-use Rattle.sk_base.proofs.Sizes.{union_shares_one, union_shares_two, union_shares_three, union_apart}
+use Rattle.sk_base.proofs.Sizes.{union_shares_one, union_shares_two, union_shares_three}
 use Rattle.sk_rules.specs.Rules.{IsShared, IsTriangle}
 use Rattle.sk_rules.specs.Reach.{CanMerge, Step, Reach, stays, goes, IsNormal}
-use Rattle.sk_rules.specs.Excess.{held, OwnsEnough}
+use Rattle.sk_rules.specs.Excess.{weight_of, held, OwnsEnough, HasTwoEach}
 use Rattle.sk_rules.proofs.Families.{IsFamily}
 use Rattle.sk_rules.proofs.NormalForm.{among_settles}
 use Rattle.sk_rules.proofs.Counting.{IsTight, step_tight, initial_tight, reached_tight, owned_apart, owned_is_held}
+use Rattle.sk_rules.proofs.SummedWeights.{weighs_both}
 use Rattle.sk_tree.specs.Meeting.{MeetsOnce}
 use Rattle.sk_plan.specs.Sparse.{OwnsJustEnough, AllOwnJustEnough, AreThreeMeetingOnce, EachMeetsOnce, HoldsNoneTooMany}
 
@@ -84,7 +85,7 @@ module _ (g : Graph) (f : List Body) (family : IsFamily f) (a b c : Body) (a_in 
 
 -- what is merged into one that owns just enough
 pub record WasJustEnough (g : Graph) (merged : List Body) : Type 0 where
-  pub each : AllOwnJustEnough merged
+  pub each : AllOwnJustEnough g merged
   pub once : AreThreeMeetingOnce g merged
 
 pub all_of_three : (P : Body → Type 0) (a b c : Body) → P a → P b → P c → (x : Body) → Contains (a ∷ b ∷ c ∷ []) x → P x
@@ -98,7 +99,7 @@ all_of_three P a b c p q r x h =
     ]
 
 module _ (f : List Body) (family : IsFamily f) where
-  merged_just_enough : (g : Graph) (merged : List Body) → CanMerge g merged → ((x : Body) → Contains merged x → Contains f x) → ((x : Body) → Contains merged x → OwnsEnough x) → OwnsJustEnough (join_all merged) → WasJustEnough g merged
+  merged_just_enough : (g : Graph) (merged : List Body) → CanMerge g merged → ((x : Body) → Contains merged x → Contains f x) → ((x : Body) → Contains merged x → OwnsEnough g x) → OwnsJustEnough g (join_all merged) → WasJustEnough g merged
   unfolding union two_size all_size
   merged_just_enough g [] can among each just = absurd can
   merged_just_enough g (a ∷ []) can among each just = absurd can
@@ -107,8 +108,8 @@ module _ (f : List Body) (family : IsFamily f) where
       let b_at = contains_later a (b ∷ []) b (contains_head b []) in
       let b_in = among b b_at in
       let size = union_shares_two elem_number elem_exact a.elements b.elements (family.rising b b_in).elements p q pair.differ pair.a_shared.0 pair.b_shared.0 pair.a_shared.1 pair.b_shared.1 in
-      let count = union_apart con_number con_exact a.owned b.owned (family.rising a a_in).owned (owned_apart f family a b a_in b_in differ) in
-      absurd (too_many (length a.elements) (length b.elements) (length (union elem_number a.elements b.elements)) (length a.owned) (length b.owned) (length (union con_number a.owned b.owned))
+      let count = weighs_both g a.owned b.owned (owned_apart f family a b a_in b_in differ) in
+      absurd (too_many (length a.elements) (length b.elements) (length (union elem_number a.elements b.elements)) (weight_of g a.owned) (weight_of g b.owned) (weight_of g (union con_number a.owned b.owned))
       (each a (contains_head a (b ∷ []))) (each b b_at) size count just)
     where
       too_many : (na nb n oa ob o : ℕ) → 2 * na ≤ oa + 3 → 2 * nb ≤ ob + 3 → n + 2 ≤ na + nb → o ≡ oa + ob → o + 3 ≡ 2 * n → ⊥
@@ -124,18 +125,18 @@ module _ (f : List Body) (family : IsFamily f) where
       let q_in = union_right elem_number a.elements b.elements q t.b_shared.0 in
       let r_in = union_left elem_number elem_exact a.elements b.elements r t.c_shared.1 in
       let second = union_shares_two elem_number elem_exact (union elem_number a.elements b.elements) c.elements (family.rising c c_in).elements q r t.differ.1 q_in r_in t.b_shared.1 t.c_shared.0 in
-      let count_one = union_apart con_number con_exact a.owned b.owned (family.rising a a_in).owned (owned_apart f family a b a_in b_in a_b) in
-      let count_two = union_apart con_number con_exact (union con_number a.owned b.owned) c.owned (rising_union con_number a.owned b.owned (family.rising b b_in).owned)
+      let count_one = weighs_both g a.owned b.owned (owned_apart f family a b a_in b_in a_b) in
+      let count_two = weighs_both g (union con_number a.owned b.owned) c.owned
       (λ k h. elim (union_cases con_number a.owned b.owned k h) [
         | inl left ↦ owned_apart f family a c a_in c_in (λ e. c_a (sym e)) k left
         | inr right ↦ owned_apart f family b c b_in c_in b_c k right
       ]) in
       let sizes = just_sizes (length a.elements) (length b.elements) (length c.elements) (length (union elem_number a.elements b.elements))
       (length (union elem_number (union elem_number a.elements b.elements) c.elements))
-      (length a.owned) (length b.owned) (length c.owned) (length (union con_number a.owned b.owned)) (length (union con_number (union con_number a.owned b.owned) c.owned))
+      (weight_of g a.owned) (weight_of g b.owned) (weight_of g c.owned) (weight_of g (union con_number a.owned b.owned)) (weight_of g (union con_number (union con_number a.owned b.owned) c.owned))
       (each a a_at) (each b b_at) (each c c_at) first second count_one count_two just in
       record {
-        each = all_of_three OwnsJustEnough a b c sizes.0 sizes.1 sizes.2;
+        each = all_of_three (OwnsJustEnough g) a b c sizes.0 sizes.1 sizes.2;
         once = (p, q, r, meets_once g f family a b c a_in b_in c_in p q r t sizes.3 sizes.4);
       }
     where
@@ -143,13 +144,13 @@ module _ (f : List Body) (family : IsFamily f) where
       just_sizes na nb nc nab n oa ob oc oab o ha hb hc h1 h2 h3 h4 just = (omega arith, omega arith, omega arith, omega arith, omega arith)
   merged_just_enough g (a ∷ b ∷ c ∷ d ∷ rest) can among each just = absurd can
 
-module _ (g : Graph) (old new : List Body) (one : Step g old new) (tight : IsTight g old) (just : AllOwnJustEnough new) where
+module _ (g : Graph) (old new : List Body) (one : Step g old new) (tight : IsTight g old) (just : AllOwnJustEnough g new) where
   step_was : WasJustEnough g one.merged
   step_was =
       merged_just_enough old tight.family g one.merged one.can_merge one.among (λ y h. tight.enough y (one.among y h))
       (just (join_all one.merged) ((one.replaces (join_all one.merged)).1 (inl refl)))
 
-  step_back : AllOwnJustEnough old
+  step_back : AllOwnJustEnough g old
   step_back x x_in =
       elim (among_settles one.merged x) [
         | inl merged ↦ step_was.each x merged
@@ -157,29 +158,29 @@ module _ (g : Graph) (old new : List Body) (one : Step g old new) (tight : IsTig
       ]
 
 -- the excess never falls, so where it is none in the end, it is none before
-pub reach_back : (g : Graph) (f n : List Body) → Reach g f n → IsTight g f → AllOwnJustEnough n → AllOwnJustEnough f
+pub reach_back : (g : Graph) (f n : List Body) → Reach g f n → IsTight g f → AllOwnJustEnough g n → AllOwnJustEnough g f
 reach_back g f n stays tight just = just
 reach_back g f n (goes {mid = mid} one rest) tight just =
     step_back g f mid one tight (reach_back g mid n rest (step_tight g f mid one tight) just)
 
-pub step_once : (g : Graph) (f mid n : List Body) (one : Step g f mid) → Reach g mid n → IsTight g f → AllOwnJustEnough n → AreThreeMeetingOnce g one.merged
+pub step_once : (g : Graph) (f mid n : List Body) (one : Step g f mid) → Reach g mid n → IsTight g f → AllOwnJustEnough g n → AreThreeMeetingOnce g one.merged
 step_once g f mid n one rest tight just =
     (step_was g f mid one tight (reach_back g mid n rest (step_tight g f mid one tight) just)).once
 
-each_once : (g : Graph) (f n : List Body) (way : Reach g f n) → IsTight g f → AllOwnJustEnough n → EachMeetsOnce way
+each_once : (g : Graph) (f n : List Body) (way : Reach g f n) → IsTight g f → AllOwnJustEnough g n → EachMeetsOnce way
 each_once g f n stays tight just = tt
 each_once g f n (goes {mid = mid} one rest) tight just =
     (step_once g f mid n one rest tight just, each_once g mid n rest (step_tight g f mid one tight) just)
 
-pub way_meets_once : (g : Graph) (f : List Body) (way : Reach g (initial_bodies g) f) → HasRisingEdges g → AllOwnJustEnough f → EachMeetsOnce way
+pub way_meets_once : (g : Graph) (f : List Body) (way : Reach g (initial_bodies g) f) → HasRisingEdges g → AllOwnJustEnough g f → EachMeetsOnce way
 way_meets_once g f way rises just = each_once g (initial_bodies g) f way (initial_tight g rises) just
 
-pub none_too_many : (g : Graph) (f : List Body) → HasRisingEdges g → HasTwoEnds g → IsNormal g f → HoldsNoneTooMany g f → AllOwnJustEnough f
-none_too_many g f rises ends normal none x x_in =
-    let enough : 2 * length x.elements ≤ length x.owned + 3 = (reached_tight g f rises normal.reached).enough x x_in in
-    let all = owned_is_held g f rises ends normal x x_in in
+pub none_too_many : (g : Graph) (f : List Body) → HasRisingEdges g → HasTwoEach g → IsNormal g f → HoldsNoneTooMany g f → AllOwnJustEnough g f
+none_too_many g f rises two normal none x x_in =
+    let enough : 2 * length x.elements ≤ weight_of g x.owned + 3 = (reached_tight g f rises normal.reached).enough x x_in in
+    let all = owned_is_held g f rises two normal x x_in in
     let most : held g x.elements + 3 ≤ 2 * length x.elements = none x x_in in
-    just (length x.elements) (length x.owned) (held g x.elements) enough all most
+    just (length x.elements) (weight_of g x.owned) (held g x.elements) enough all most
   where
     just : (n o h : ℕ) → 2 * n ≤ o + 3 → o ≡ h → h + 3 ≤ 2 * n → o + 3 ≡ 2 * n
     just n o h p q r = omega arith

@@ -5,7 +5,8 @@ use Rattle.std.specs.Option.{option_map}
 use Rattle.std.proofs.lemmas.List.{length-map, map-append}
 use Rattle.std.proofs.lemmas.List.Elements.{Contains-append_left, Contains-append_right}
 use Rattle.sk_base.specs.declared.ConId.{ConId}
-use Rattle.sk_base.specs.declared.Edge.{Edge}
+use Rattle.sk_family.specs.Body.{Start, starts}
+use Rattle.sk_family.proofs.GraphStarts.{starts_rise, no_starts}
 use Rattle.sk_base.specs.declared.Graph.{Graph}
 use Rattle.sk_base.specs.SoundGraph.{IsSoundGraph}
 use Rattle.sk_base.proofs.Members.{contains_none, contains_head, contains_mapped}
@@ -76,12 +77,12 @@ module _ (g : Graph) (p : Plan) (sound : IsSoundGraph g) (legal : IsLegalPlan g 
   pub plan_joins : AreJoins (merges_told p)
   plan_joins = (grown g sound (merges_told p) way.end way.leads way.once).joins
 
-  constraints : length (numbers_of g) ≡ length g.edges
-  constraints = length-map g.edges (λ (e : Edge). e.id)
+  constraints : length (numbers_of g) ≡ length (starts g)
+  constraints = length-map (starts g) (λ (s : Start). s.number)
 
   numbers_differ : AllPairs (λ (j k : ConId). j ≢ k) (numbers_of g)
   numbers_differ i j d i_j j_len same =
-      let below = pairs_map (λ (x y : ConId). x.0 < y.0) (λ (e : Edge). e.id) g.edges sound.edges_rise i j d i_j j_len in
+      let below = pairs_map (λ (x y : ConId). x.0 < y.0) (λ (s : Start). s.number) (starts g) (starts_rise g sound.edges_rise) i j d i_j j_len in
       let level = ap con_number same in
       absurd (omega arith)
 
@@ -97,11 +98,11 @@ module _ (g : Graph) (p : Plan) (sound : IsSoundGraph g) (legal : IsLegalPlan g 
           leaves = subst (λ ks. HasLeaves t ks) (sym legal.leaves) leaves;
           steps =
               let many = same_length (leaves_of t) (numbers_of g) leaves.once numbers_differ leaves.just in
-              sizes (length (leaves_of t)) (length (numbers_of g)) (length g.edges) (step_count t) (length (merges_told p)) (length p.steps) (length way.end.live)
+              sizes (length (leaves_of t)) (length (numbers_of g)) (length (starts g)) (step_count t) (length (merges_told p)) (length p.steps) (length way.end.live)
               (leaf_count t) many constraints (clusters_left g sound (merges_told p) way.end way.leads way.once) (ap (λ (cs : List Cluster). length cs) alone) (length-map p.steps taken_told);
         }
-    | inr (one, none) ↦
-        let no = ap (λ (ts : List Taken). length ts) (sym is ∙ no_steps g sound (merges_told p) way.end way.leads way.once none) in
+    | inr (one, none, no_blocks) ↦
+        let no = ap (λ (ts : List Taken). length ts) (sym is ∙ no_steps g sound (merges_told p) way.end way.leads way.once none no_blocks) in
         absurd (omega (arith, length-append before (last ∷ [])))
   ]
     where
@@ -117,8 +118,8 @@ module _ (g : Graph) (p : Plan) (sound : IsSoundGraph g) (legal : IsLegalPlan g 
         let no : length (merges_told p) ≡ 0 = length-map p.steps taken_told ∙ ap (λ (ss : List PlanStep). length ss) none in
         let all = ap (λ (ks : List ConId). length ks) legal.leaves in
         omega (arith, constraints)
-    | inr (one, no_edges) ↦
-        let no = ap (λ (es : List Edge). length es) no_edges in
+    | inr (one, no_edges, no_blocks) ↦
+        let no = ap (λ (ss : List Start). length ss) (no_starts g no_edges no_blocks) in
         let all = ap (λ (ks : List ConId). length ks) legal.leaves in
         omega (arith, constraints)
   ]

@@ -12,7 +12,7 @@ use Rattle.sk_base.specs.Drawn.{shape_of}
 use Rattle.sk_base.specs.SoundGraph.{IsSoundGraph}
 use Rattle.sk_base.proofs.Members.{contains_mapped, mapped_from}
 use Rattle.sk_family.specs.declared.Cluster.{Cluster}
-use Rattle.sk_family.specs.Body.{initial_bodies}
+use Rattle.sk_family.specs.Body.{initial_bodies, starts}
 use Rattle.sk_family.specs.Clusters.{Clusters, body_of, bodies, initial_clusters, IsSound}
 use Rattle.sk_family.proofs.Soundness.{sound_initial, starting_bodies}
 use Rattle.sk_rules.specs.declared.Taken.{Taken}
@@ -97,7 +97,7 @@ pub record IsAt (s : Sketch) (g : Graph) (taken : List Taken) (place : ℕ) (f :
 pub at_start : (s : Sketch) (g : Graph) (taken : List Taken) → IsSoundGraph g → ((end : Clusters) × Leads g (initial_clusters g) taken end × IsWhole g end) → EachTakesOnce g (initial_clusters g) taken → IsAt s g taken 0 (initial_clusters g) []
 at_start s g taken sound leads once = record {
   sound = sound_initial g sound;
-  reached = subst (λ f. Reach g (initial_bodies g) f) (sym (starting_bodies g.edges)) stays;
+  reached = subst (λ f. Reach g (initial_bodies g) f) (sym (starting_bodies (starts g))) stays;
   leads = leads;
   once = once;
   so_far = λ more h. h;

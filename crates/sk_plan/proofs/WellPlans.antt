@@ -1,33 +1,33 @@
 -- A graph with a legal plan has the verdict well.
-use Rattle.std.proofs.Common.{◌≡◌, ◌≢◌, inl, inr, refl, ◌-◌, ◌*◌, ◌≤◌, false, List, [], ◌∷◌, ◌++◌, length, ap, sym, subst, ◌∙◌, arith}
+use Rattle.std.proofs.Common.{◌≡◌, inl, inr, refl, ◌-◌, ◌*◌, ◌≤◌, false, List, [], ◌∷◌, length, ap, sym, subst, ◌∙◌, arith}
 use Rattle.std.specs.Prelude.{Contains, map, nat_lt}
 use Rattle.std.proofs.lemmas.Bool.Decides.{nat_tests}
-use Rattle.std.proofs.lemmas.List.Elements.{Contains-append_cases, Contains-append_left, Contains-append_right, All-contains}
 use Rattle.sk_base.specs.declared.Elem.{Elem}
 use Rattle.sk_base.specs.declared.Edge.{Edge}
+use Rattle.sk_base.specs.declared.Block.{Block}
 use Rattle.sk_base.specs.declared.Node.{Node}
 use Rattle.sk_base.specs.declared.Graph.{Graph}
-use Rattle.sk_base.specs.Numbering.{elem_number}
 use Rattle.sk_base.specs.SoundGraph.{IsSoundGraph}
 use Rattle.sk_base.proofs.Members.{contains_none, contains_head, contains_one, contains_mapped, mapped_from}
 use Rattle.sk_base.proofs.Pairs.{pairs_none, pairs_cons}
-use Rattle.sk_base.proofs.Unions.{union_cases}
 use Rattle.sk_family.specs.declared.Cluster.{Cluster}
-use Rattle.sk_family.specs.Body.{Body, starting, initial_bodies}
+use Rattle.sk_family.specs.Body.{Body, Start, initial_bodies}
 use Rattle.sk_family.specs.Clusters.{body_of, bodies, initial_clusters}
-use Rattle.sk_family.proofs.Bodies.{Within, whole_within}
-use Rattle.sk_rules.specs.Excess.{held}
-use Rattle.sk_rules.specs.Reach.{Step, Reach, IsClosed, IsNormal}
-use Rattle.sk_rules.proofs.Families.{kept_along}
+use Rattle.sk_family.proofs.GraphStarts.{no_starts}
+use Rattle.sk_rules.specs.Excess.{weight_where, is_inside, held}
+use Rattle.sk_rules.specs.Reach.{Reach, IsClosed, IsNormal}
+use Rattle.sk_rules.proofs.KeptFamily.{holds_ends}
+use Rattle.sk_rules.proofs.KeptClusters.{reached_as_it_is}
 use Rattle.sk_rules.proofs.NormalForm.{normal_same}
 use Rattle.sk_tree.specs.declared.Plan.{Plan}
-use Rattle.sk_tree.specs.LegalPlan.{HasNodes, numbers_of, IsLegalPlan}
+use Rattle.sk_tree.specs.LegalPlan.{HasNodes, IsLegalPlan}
 use Rattle.sk_verdict.specs.declared.Judgement.{Judgement}
 use Rattle.sk_verdict.specs.declared.Part.{Part}
 use Rattle.sk_verdict.specs.declared.Verdict.TheVariants.{Well}
 use Rattle.sk_verdict.specs.Ordering.{PartBefore}
 use Rattle.sk_verdict.specs.Parts.{IsNamedByNone, IsPart, AreOfOnePart, elem_of, part_with}
 use Rattle.sk_verdict.specs.Judging.{IsJudgement, verdict_on}
+use Rattle.sk_verdict.proofs.Gathering.{named_apart}
 use Rattle.sk_verdict.proofs.Judgements.{judgement_moves}
 use Rattle.sk_plan.specs.Judged.{IsTheJudgement, IsWell}
 use Rattle.sk_tree.specs.PlanTree.{merges_told}
@@ -54,44 +54,11 @@ is_judged g f xs most of_one only = record {
   verdict = well_with g xs most;
 }
 
--- all ends of constraints
-abbrev ends_of : Graph → List Elem
-ends_of g = map (λ (d : Edge). d.u) g.edges ++ map (λ (d : Edge). d.v) g.edges
-
-abbrev all_ends : Graph → Body
-all_ends g = record { elements = ends_of g; owned = numbers_of g }
-
-module _ (g : Graph) where
-  starts_in : (d : Edge) → Contains g.edges d → Within (starting d) (all_ends g)
-  starts_in d d_in = record {
-    elements = λ e h. elim (union_cases elem_number (d.u ∷ []) (d.v ∷ []) e h) [
-      | inl left ↦ subst (λ x. Contains (ends_of g) x) (contains_one d.u e left) (Contains-append_left (map (λ (c : Edge). c.u) g.edges) (map (λ (c : Edge). c.v) g.edges) d.u (contains_mapped (λ (c : Edge). c.u) g.edges d d_in))
-      | inr right ↦ subst (λ x. Contains (ends_of g) x) (contains_one d.v e right) (Contains-append_right (map (λ (c : Edge). c.u) g.edges) (map (λ (c : Edge). c.v) g.edges) d.v (contains_mapped (λ (c : Edge). c.v) g.edges d d_in))
-    ];
-    owned = λ k h. subst (λ j. Contains (numbers_of g) j) (contains_one d.id k h) (contains_mapped (λ (c : Edge). c.id) g.edges d d_in);
-  }
-
-  abbrev AllIn : List Body → Type 0
-  AllIn f = (x : Body) → Contains f x → Within x (all_ends g)
-
-  start_in : AllIn (initial_bodies g)
-  start_in x x_in = (let found = mapped_from starting g.edges x x_in in subst (λ (y : Body). Within y (all_ends g)) found.2 (starts_in found.0 found.1))
-
-  step_in : (old new : List Body) → Step g old new → AllIn old → AllIn new
-  step_in old new one inside x x_in =
-      elim ((one.replaces x).0 x_in) [
-        | inl is ↦ subst (λ (y : Body). Within y (all_ends g)) (sym is) (whole_within one.merged (λ y y_in. inside y (one.among y y_in)))
-        | inr stayed ↦ inside x stayed.0
-      ]
-
-  -- what lies in a cluster is named by a constraint
-  named_in : (f : List Body) → Reach g (initial_bodies g) f → (x : Body) → Contains f x → (e : Elem) → Contains x.elements e → ¬ IsNamedByNone g e
-  named_in f reached x x_in e e_in by_none =
-      let inside = (kept_along g AllIn step_in (initial_bodies g) f reached start_in x x_in).elements e e_in in
-      elim (Contains-append_cases (map (λ (d : Edge). d.u) g.edges) (map (λ (d : Edge). d.v) g.edges) e inside) [
-        | inl left ↦ (let found = mapped_from (λ (d : Edge). d.u) g.edges e left in (All-contains (λ (d : Edge). (d.u ≢ e) × (d.v ≢ e)) g.edges found.0 by_none found.1).0 found.2)
-        | inr right ↦ (let found = mapped_from (λ (d : Edge). d.v) g.edges e right in (All-contains (λ (d : Edge). (d.u ≢ e) × (d.v ≢ e)) g.edges found.0 by_none found.1).1 found.2)
-      ]
+-- what lies in a cluster is named by a constraint
+named_in : (g : Graph) (f : List Body) → Reach g (initial_bodies g) f → (x : Body) → Contains f x → (e : Elem) → Contains x.elements e → ¬ IsNamedByNone g e
+named_in g f reached x x_in e e_in by_none =
+    let end = holds_ends g f (reached_as_it_is g f reached) x x_in e e_in in
+    named_apart g e by_none end.0 end.1 end.2
 
 module _ (g : Graph) (p : Plan) (sound : IsSoundGraph g) (legal : IsLegalPlan g p) where
   way : Arrives g (initial_clusters g) p.steps
@@ -128,15 +95,15 @@ module _ (g : Graph) (p : Plan) (sound : IsSoundGraph g) (legal : IsLegalPlan g 
           absurd (named_in g (bodies way.end) (run_reaches g (merges_told p) way.end sound way.leads) (body_of c) here e
           (subst (λ x. Contains c.elements x) found.2 (nodes found.0 found.1)) lone.named_by_none)
 
-  one_node : length g.nodes ≡ 1 → g.edges ≡ [] → IsWell g
-  one_node one none = by_nodes g.nodes refl
+  one_node : length g.nodes ≡ 1 → g.edges ≡ [] → g.blocks ≡ [] → IsWell g
+  one_node one none no_blocks = by_nodes g.nodes refl
     where
       no_clusters : (cs : List Cluster) → way.end.live ≡ cs → way.end.live ≡ []
       no_clusters [] is = is
       no_clusters (c ∷ cs) is =
           let left = clusters_left g sound (merges_told p) way.end way.leads way.once in
           let some = ap (λ (ds : List Cluster). length ds) is in
-          let no = ap (λ (es : List Edge). length es) none in
+          let no = ap (λ (ss : List Start). length ss) (no_starts g none no_blocks) in
           absurd (omega arith)
 
       none_in : (x : Body) → ¬ Contains (bodies way.end) x
@@ -157,9 +124,10 @@ module _ (g : Graph) (p : Plan) (sound : IsSoundGraph g) (legal : IsLegalPlan g 
       by_nodes [] is = (let no = ap (λ (ns : List Node). length ns) is in absurd (omega arith))
       by_nodes (n ∷ []) is =
           let no = ap (λ (es : List Edge). length es) none in
+          let no_block = ap (λ (bs : List Block). length bs) no_blocks in
           let in_nodes : Contains (map elem_of g.nodes) n.elem = contains_mapped elem_of g.nodes n (subst (λ ns. Contains ns n) (sym is) (contains_head n [])) in
-          let by_none : IsNamedByNone g n.elem = λ k d k_in. absurd (omega arith) in
-          let nothing_held = ap (λ (es : List Edge). held (record { nodes = g.nodes; edges = es }) (n.elem ∷ [])) none in (
+          let by_none : IsNamedByNone g n.elem = ((λ k d k_in. absurd (omega arith)), (λ k d k_in. absurd (omega arith))) in
+          let nothing_held : held g (n.elem ∷ []) ≡ 0 = ap (λ (ss : List Start). weight_where (is_inside (n.elem ∷ [])) ss) (no_starts g none no_blocks) in (
             judged_as_one g (n.elem ∷ []),
             judged_by (bodies way.end) (judged_as_one g (n.elem ∷ []))
                 (record { reached = run_reaches g (merges_told p) way.end sound way.leads; closed = closed })
@@ -171,5 +139,5 @@ module _ (g : Graph) (p : Plan) (sound : IsSoundGraph g) (legal : IsLegalPlan g 
   pub plan_well : IsWell g
   plan_well = elim way.whole [
     | inl (c, alone, nodes) ↦ one_cluster c alone nodes
-    | inr (one, none) ↦ one_node one none
+    | inr (one, none, no_blocks) ↦ one_node one none no_blocks
   ]

@@ -1,33 +1,37 @@
--- Where the verdict is well, one cluster with all nodes is left that isn't over, or there is one node and
--- no constraint.
-use Rattle.std.proofs.Common.{◌≡◌, ◌≢◌, ◌⊎◌, inl, inr, refl, ℕ, ◌+◌, ◌-◌, ◌*◌, ◌≤◌, ◌<◌, Bool, true, false, List, [], ◌∷◌, length, ap, sym, subst, ◌∙◌, arith}
-use Rattle.std.proofs.lemmas.List.Elements.{All-cons}
-use Rattle.std.specs.Prelude.{Contains, All, AllPairs, map, nat_lt, if◌then◌else◌, ◌||◌}
+-- Where the verdict is well, one cluster with all nodes is left that isn't over, or there is one node,
+-- no constraint and no block.
+use Rattle.std.proofs.Common.{◌≡◌, ◌⊎◌, inl, inr, refl, ℕ, ◌+◌, ◌-◌, ◌*◌, ◌≤◌, ◌<◌, Bool, true, false, List, [], ◌∷◌, length, get_or, ap, sym, subst, ◌∙◌, arith}
+use Rattle.std.proofs.lemmas.List.Elements.{Contains-get_or}
+use Rattle.std.specs.Prelude.{Contains, AllPairs, map, nat_lt, if◌then◌else◌, ◌||◌}
 use Rattle.std.specs.List.{list_any}
 use Rattle.std.proofs.lemmas.Bool.Decides.{nat_tests}
 use Rattle.sk_base.specs.declared.Elem.{Elem}
-use Rattle.sk_base.specs.declared.Edge.{Edge}
+use Rattle.sk_base.specs.declared.Pin.{Pin}
 use Rattle.sk_base.specs.declared.Node.{Node}
 use Rattle.sk_base.specs.declared.Graph.{Graph}
 use Rattle.sk_base.specs.ClusterNames.{IsBelow}
 use Rattle.sk_base.specs.SoundGraph.{IsSoundGraph, HasRisingNodes}
+use Rattle.sk_base.specs.Numbering.{elem_number, elem_exact}
+use Rattle.sk_base.proofs.Unions.{union_left, union_right}
 use Rattle.sk_base.proofs.Pairs.{pairs_head}
 use Rattle.sk_base.proofs.Members.{contains_none, contains_head, contains_later, contains_one, contains_cases, contains_mapped}
+use Rattle.sk_base.specs.Pins.{elements_of}
 use Rattle.sk_family.specs.declared.Cluster.{Cluster}
-use Rattle.sk_family.specs.Body.{Body, starting, initial_bodies}
+use Rattle.sk_family.specs.Body.{Body, Start, edge_start, block_start, starts, starting, initial_bodies}
 use Rattle.sk_family.specs.Clusters.{Clusters, body_of, bodies, IsSound}
 use Rattle.sk_family.proofs.Bodies.{elem_settles}
+use Rattle.sk_family.proofs.GraphStarts.{edge_starts, block_starts, among_start}
 use Rattle.sk_family.proofs.Naming.{below_differs, one_of_body}
 use Rattle.sk_rules.specs.Excess.{held}
 use Rattle.sk_rules.specs.Reach.{IsNormal}
 use Rattle.sk_rules.proofs.NormalForm.{reach_covers}
-use Rattle.sk_rules.proofs.Counting.{ends_in}
+use Rattle.sk_rules.proofs.Keeping.{contains_settles}
 use Rattle.sk_tree.specs.LegalPlan.{IsWhole}
 use Rattle.sk_verdict.specs.declared.Judgement.{Judgement}
 use Rattle.sk_verdict.specs.declared.Part.{Part}
 use Rattle.sk_verdict.specs.declared.Verdict.TheVariants.{Well, Over, Several}
 use Rattle.sk_verdict.specs.Judging.{IsJudgement, some_over}
-use Rattle.sk_verdict.specs.Parts.{IsLone, elem_of, part_with}
+use Rattle.sk_verdict.specs.Parts.{IsNamedByNone, IsLone, elem_of, part_with}
 use Rattle.sk_verdict.proofs.Normals.{more_than_one, has_two, same_elements}
 use Rattle.sk_plan.specs.Sparse.{HoldsNoneTooMany}
 
@@ -55,20 +59,42 @@ none_any p (y ∷ xs) none x x_in =
     neither false b is = (refl, is)
     neither true b is = absurd (cc)
 
--- a constraint that names the element, or none
-named_by : (es : List Edge) (e : Elem) → ((d : Edge) × Contains es d × ((d.u ≡ e) ⊎ (d.v ≡ e))) ⊎ All (λ (d : Edge). (d.u ≢ e) × (d.v ≢ e)) es
-named_by [] e = inr (λ k d k_in. absurd (omega arith))
-named_by (d ∷ es) e =
-    elim (elem_settles d.u e) [
-      | inl is_u ↦ inl (d, contains_head d es, inl is_u)
-      | inr not_u ↦ elim (elem_settles d.v e) [
-        | inl is_v ↦ inl (d, contains_head d es, inr is_v)
-        | inr not_v ↦ elim (named_by es e) [
-          | inl found ↦ inl (found.0, contains_later d es found.0 found.1, found.2)
-          | inr by_none ↦ inr (All-cons (λ (c : Edge). (c.u ≢ e) × (c.v ≢ e)) d es (not_u, not_v) by_none)
-        ]
+-- one of some constraints names the element, or none
+named_by : (ss : List Start) (e : Elem) → ((s : Start) × Contains ss s × Contains s.elements e) ⊎ ((s : Start) → Contains ss s → ¬ Contains s.elements e)
+named_by [] e = inr (λ s s_in. absurd (contains_none s s_in))
+named_by (s ∷ ss) e =
+    elim (contains_settles elem_settles s.elements e) [
+      | inl here ↦ inl (s, contains_head s ss, here)
+      | inr not_here ↦ elim (named_by ss e) [
+        | inl found ↦ inl (found.0, contains_later s ss found.0 found.1, found.2)
+        | inr by_none ↦ inr (λ t t_in. elim (contains_cases s ss t t_in) [
+          | inl is ↦ subst (λ (u : Start). ¬ Contains u.elements e) is not_here
+          | inr later ↦ by_none t later
+        ])
       ]
     ]
+
+-- what no start has is named by none
+by_none_named : (g : Graph) → IsSoundGraph g → (e : Elem) → ((s : Start) → Contains (starts g) s → ¬ Contains s.elements e) → IsNamedByNone g e
+by_none_named g sound e none = (
+  λ k d k_in. (
+      let edge = get_or g.edges k d in
+      let apart = none (edge_start edge) (edge_starts g edge (Contains-get_or g.edges k d k_in)) in (
+        λ is. apart (subst (λ z. Contains (edge_start edge).elements z) is (among_start (edge.u ∷ edge.v ∷ []) edge.u (contains_head edge.u (edge.v ∷ [])))),
+        λ is. apart (subst (λ z. Contains (edge_start edge).elements z) is (among_start (edge.u ∷ edge.v ∷ []) edge.v (contains_later edge.u (edge.v ∷ []) edge.v (contains_head edge.v [])))),
+      )),
+  λ k d k_in i q i_in is. (
+      let block = get_or g.blocks k d in
+      let pin = get_or block.pins i q in
+      none (block_start block) (block_starts g sound.blocks_rise sound.blocks_apart block (Contains-get_or g.blocks k d k_in))
+      (subst (λ z. Contains (block_start block).elements z) is
+      (among_start (elements_of block.pins) pin.elem (contains_mapped (λ (p : Pin). p.elem) block.pins pin (Contains-get_or block.pins i q i_in))))),
+)
+
+-- a list with no item
+no_items : {X : Type 0} (xs : List X) → ((x : X) → Contains xs x → ⊥) → xs ≡ []
+no_items [] none = refl
+no_items (x ∷ xs) none = absurd (none x (contains_head x xs))
 
 module _ (g : Graph) (sound : IsSoundGraph g) (f : Clusters) (family : IsSound f) (normal : IsNormal g (bodies f)) (j : Judgement) (judged : IsJudgement g (bodies f) j) (well : j.verdict ≡ Well) where
   told : (some_over j.parts ≡ false) × (nat_lt 1 (length j.parts) ≡ false)
@@ -110,32 +136,29 @@ module _ (g : Graph) (sound : IsSoundGraph g) (f : Clusters) (family : IsSound f
   one_cluster c d c_in d_in = one_of_body f family c d c_in d_in (one_body (body_of c) (body_of d) (contains_mapped body_of f.live c c_in) (contains_mapped body_of f.live d d_in))
 
   -- each constraint lies in a body
-  around : (e : Edge) → Contains g.edges e → (x : Body) × Contains (bodies f) x × Contains x.elements e.u × Contains x.elements e.v
-  around e e_in =
-      let found = reach_covers g (initial_bodies g) (bodies f) normal.reached (starting e) (contains_mapped starting g.edges e e_in) in
-      let ends = ends_in e in
-      (found.0, found.1, found.2.elements e.u ends.0, found.2.elements e.v ends.1)
+  around : (s : Start) → Contains (starts g) s → (x : Body) × Contains (bodies f) x × ((e : Elem) → Contains s.elements e → Contains x.elements e)
+  around s s_in =
+      let found = reach_covers g (initial_bodies g) (bodies f) normal.reached (starting s) (contains_mapped starting (starts g) s s_in) in
+      (found.0, found.1, found.2.elements)
 
   -- a node is in the body, or alone
   node_in : (n : Node) → Contains g.nodes n → ((x : Body) × Contains (bodies f) x × Contains x.elements n.elem) ⊎ IsLone g n.elem
-  node_in n n_in = elim (named_by g.edges n.elem) [
-    | inl (d, d_in, which) ↦ (let it = around d d_in in inl (
-      it.0,
-      it.1,
-      elim which [
-        | inl is_u ↦ subst (λ e. Contains it.0.elements e) is_u it.2
-        | inr is_v ↦ subst (λ e. Contains it.0.elements e) is_v it.3
-      ],
-    ))
-    | inr by_none ↦ inr (record { is_node = contains_mapped elem_of g.nodes n n_in; named_by_none = by_none })
+  node_in n n_in = elim (named_by (starts g) n.elem) [
+    | inl (s, s_in, there) ↦ (let it = around s s_in in inl (it.0, it.1, it.2 n.elem there))
+    | inr by_none ↦ inr (record { is_node = contains_mapped elem_of g.nodes n n_in; named_by_none = by_none_named g sound n.elem by_none })
   ]
 
   -- with no body there is no constraint, and each node is alone
-  no_edges : f.live ≡ [] → (es : List Edge) → g.edges ≡ es → g.edges ≡ []
-  no_edges none [] is = is
-  no_edges none (e ∷ es) is =
-      let it = around e (subst (λ ds. Contains ds e) (sym is) (contains_head e es)) in
-      absurd (contains_none it.0 (subst (λ cs. Contains (map body_of cs) it.0) none it.1))
+  nothing_starts : f.live ≡ [] → (s : Start) → ¬ Contains (starts g) s
+  nothing_starts none s s_in =
+      let it = around s s_in in
+      contains_none it.0 (subst (λ cs. Contains (map body_of cs) it.0) none it.1)
+
+  no_constraints : f.live ≡ [] → (g.edges ≡ []) × (g.blocks ≡ [])
+  no_constraints none = (
+    no_items g.edges (λ e e_in. nothing_starts none (edge_start e) (edge_starts g e e_in)),
+    no_items g.blocks (λ b b_in. nothing_starts none (block_start b) (block_starts g sound.blocks_rise sound.blocks_apart b b_in)),
+  )
 
   alone_if_none : f.live ≡ [] → (n : Node) → Contains g.nodes n → IsLone g n.elem
   alone_if_none none n n_in = elim (node_in n n_in) [
@@ -154,7 +177,7 @@ module _ (g : Graph) (sound : IsSoundGraph g) (f : Clusters) (family : IsSound f
   one_node none some [] is = (let no = ap (λ (ns : List Node). length ns) is in absurd (omega arith))
   one_node none some (n ∷ []) is = ap (λ (ns : List Node). length ns) is
   one_node none some (m ∷ n ∷ ns) is =
-      let rise : HasRisingNodes (record { nodes = m ∷ n ∷ ns; edges = g.edges }) = subst (λ (ps : List Node). HasRisingNodes (record { nodes = ps; edges = g.edges })) is sound.nodes_rise in
+      let rise : HasRisingNodes (record { nodes = m ∷ n ∷ ns; edges = g.edges; blocks = g.blocks }) = subst (λ (ps : List Node). HasRisingNodes (record { nodes = ps; edges = g.edges; blocks = g.blocks })) is sound.nodes_rise in
       let below = pairs_head (λ (x y : Node). x.elem.0 < y.elem.0) m (n ∷ ns) rise n (contains_head n ns) in
       let m_in : Contains g.nodes m = subst (λ ps. Contains ps m) (sym is) (contains_head m (n ∷ ns)) in
       let n_in : Contains g.nodes n = subst (λ ps. Contains ps n) (sym is) (contains_later m (n ∷ ns) n (contains_head n ns)) in
@@ -171,7 +194,7 @@ module _ (g : Graph) (sound : IsSoundGraph g) (f : Clusters) (family : IsSound f
   whole some = by_live f.live refl
     where
       by_live : (cs : List Cluster) → f.live ≡ cs → IsWhole g f
-      by_live [] is = inr (one_node is some g.nodes refl, no_edges is g.edges refl)
+      by_live [] is = (let none = no_constraints is in inr (one_node is some g.nodes refl, none.0, none.1))
       by_live (c ∷ []) is =
           let c_in : Contains f.live c = subst (λ ds. Contains ds c) (sym is) (contains_head c []) in
           let x_in = contains_mapped body_of f.live c c_in in

@@ -8,6 +8,6 @@ mod planned_tree;
 mod step;
 
 pub use error::PlanError;
-pub use law::{exact, joined_once, legal_plan, one_plan, sparse_parts};
+pub use law::{exact, joined_once, legal_plan, one_plan, sparse_parts, weights_among};
 pub use making::plan_of;
 pub use planned_tree::plan_tree;

@@ -1,5 +1,5 @@
 // The plan of a picker's run.
-ghost use Rattle.std.specs.Prelude.{◌≡◌, ◌+◌, ◌-◌, ◌<◌, ◌≤◌, All, IfOk, IfErr, OnOk, map, length};
+ghost use Rattle.std.specs.Prelude.{◌≡◌, ◌+◌, ◌-◌, ◌*◌, ◌<◌, [], ◌≤◌, All, IfOk, IfErr, OnOk, map, length};
 ghost use Rattle.sk_base.specs.SoundGraph.{IsSoundGraph};
 ghost use Rattle.sk_base.specs.SoundSketch.{IsSoundSketch};
 ghost use Rattle.sk_family.specs.Clusters.{Clusters, initial_clusters};
@@ -17,17 +17,18 @@ ghost use Rattle.sk_plan.specs.Sparse.{IsSparse, HasFewAngles};
 
 use crate::error::PlanError;
 use crate::step::plan_step;
-use sk_base::{ConId, Graph, List, NoMemory, Sketch};
+use sk_base::{Graph, List, NoMemory, Sketch};
 use sk_family::initial;
 use sk_rules::{Taken, do_merge};
-use sk_tree::{Plan, PlanStep};
+use sk_tree::{Plan, PlanStep, numbers_of};
 use sk_verdict::{Verdict, judge};
 use sk_worklist::{Picker, close_family};
 use std::alloc::Global;
 
 /// The plan of the picker's run on the graph `g` of the sketch `s`. There is one exactly where the
-/// verdict is well; else the judgement tells why. Where there is one, no k ≥ 2 different elements have
-/// more than 2k - 3 constraints among them, and no k ≥ 1 different lines more than k - 1 angles.
+/// verdict is well; else the judgement tells why. It has half as many steps as constraints but one, which
+/// without blocks is two fewer than elements. Where there is one, among no k ≥ 2 different elements do
+/// the constraints weigh more than 2k - 3, and no k ≥ 1 different lines have more than k - 1 angles.
 pub fn plan_of<P: Picker>(
     alloc: Global,
     s: &Sketch,
@@ -40,7 +41,8 @@ pub fn plan_of<P: Picker>(
     ensures legal { IfOk result (λ plan. IsLegalPlan g.now plan) }
     ensures run { IfOk result (λ plan. (end : Clusters) × IsRun P.answer P.after g.now (initial_clusters g.now) p.old (map merge_told plan.steps) end p.new) }
     ensures drawn { IfOk result (λ plan. All (λ step. HasDrawnChoice s.now step) plan.steps) }
-    ensures steps { IfOk result (λ plan. length plan.steps ≡ length s.now.elements - 2) }
+    ensures steps { IfOk result (λ plan. 2 * length plan.steps ≡ length s.now.constraints - 1) }
+    ensures without_blocks { IfOk result (λ plan. g.now.blocks ≡ [] → length plan.steps ≡ length s.now.elements - 2) }
     ensures leaves { IfOk result (λ plan. (t : Tree) → IsPlanTree plan t → HasLeaves t (numbers_of g.now)) }
     ensures sparse { OnOk result (IsSparse g.now) }
     ensures few_angles { OnOk result (HasFewAngles g.now) }
@@ -48,27 +50,16 @@ pub fn plan_of<P: Picker>(
     ensures not_well { IfErr result (λ error. TellsWhy g.now error) }
 {
     let mut family = initial(alloc, g)?;
+    let leaves = numbers_of(alloc, g)?;
     let taken = close_family(alloc, &mut family, g, p)?;
     let judgement = judge(alloc, &family, g)?;
     match judgement.verdict {
         Verdict::Well => {
-            let leaves = numbers(alloc, g)?;
             let steps = steps_of(alloc, s, g, taken.as_slice())?;
             Ok(Plan { leaves, steps })
         }
         Verdict::Over | Verdict::Several => Err(PlanError::NotWell(judgement)),
     }
-}
-
-/// The constraints' numbers.
-fn numbers(alloc: Global, graph: &Graph) -> Result<List<ConId>, NoMemory>
-    ensures { IfOk result (λ found. found ≡ numbers_of graph.now) }
-{
-    let mut found = List::new(alloc);
-    for edge in graph.edges.as_slice() {
-        found.push(edge.id)?;
-    }
-    Ok(found)
 }
 
 /// A plan's step for each merge, in order.

@@ -2,7 +2,7 @@ use Rattle.sk_family.specs.Clusters.{initial_clusters}
 use Rattle.sk_plan.proofs.Legal.{corners_of}
 use Rattle.sk_plan.proofs.PlanTrees.{tree_leaves, some_plan_tree}
 use Rattle.sk_plan.proofs.WellPlans.{plan_well}
-use Rattle.sk_plan.proofs.Planned.{plan_steps, plan_sparse, plan_few_angles}
+use Rattle.sk_plan.proofs.Planned.{plan_steps, plan_nodes, plan_sparse, plan_few_angles}
 use Rattle.sk_plan.proofs.law.legal_plan.Goals as goal
 
 pub returns-clause-well : goal.returns-clause-well
@@ -13,6 +13,9 @@ returns-clause-corners c g p legal s e s_in e_in = corners_of g (initial_cluster
 
 pub returns-clause-steps : goal.returns-clause-steps
 returns-clause-steps c = plan_steps
+
+pub returns-clause-without_blocks : goal.returns-clause-without_blocks
+returns-clause-without_blocks c g p sound legal none = plan_nodes g p sound legal none
 
 pub returns-clause-leaves : goal.returns-clause-leaves
 returns-clause-leaves c g p sound legal t is = tree_leaves g p sound legal t is

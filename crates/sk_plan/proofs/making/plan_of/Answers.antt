@@ -8,8 +8,11 @@ use Rattle.sk_tree.specs.LegalPlan.{IsLegalPlan}
 use Rattle.sk_plan.specs.Leaves.{HasLeaves}
 use Rattle.sk_plan.proofs.Planned.{plan_sparse, plan_few_angles}
 use Rattle.sk_plan.proofs.PlanTrees.{tree_leaves}
-use Rattle.sk_plan.proofs.WellRuns.{sound_of, ends_well, run_told, steps_count}
+use Rattle.sk_plan.proofs.WellRuns.{sound_of, ends_well, run_told, steps_count, nodes_count}
 use Rattle.sk_plan.proofs.making.plan_of.Goals as goal
+
+pub numbers_of-requires : goal.numbers_of-requires
+numbers_of-requires g c = sound_of c.args.s.now c.args.g.now c.requires.sound c.requires.graph
 
 pub initial-requires : goal.initial-requires
 initial-requires g c = sound_of c.args.s.now c.args.g.now c.requires.sound c.requires.graph
@@ -42,20 +45,27 @@ returns-in-Well-clause-run g c = (
 pub returns-in-Well-clause-steps : goal.returns-in-Well-clause-steps
 returns-in-Well-clause-steps g c = steps_count c.args.s.now c.args.g.now c.requires.graph (sound_of c.args.s.now c.args.g.now c.requires.sound c.requires.graph) c.in_ok-steps-in-Well.steps c.in_ok-steps-in-Well.ensures.legal
 
+pub returns-in-Well-clause-without_blocks : goal.returns-in-Well-clause-without_blocks
+returns-in-Well-clause-without_blocks g c none = nodes_count c.args.s.now c.args.g.now c.requires.graph (sound_of c.args.s.now c.args.g.now c.requires.sound c.requires.graph) c.in_ok-steps-in-Well.steps c.in_ok-steps-in-Well.ensures.legal none
+
+pub returns-in-Well-clause-legal : goal.returns-in-Well-clause-legal
+returns-in-Well-clause-legal g c = record {
+  leaves = c.in_ok-leaves.ensures;
+  steps = c.in_ok-steps-in-Well.ensures.legal;
+}
+
 pub returns-in-Well-clause-leaves : goal.returns-in-Well-clause-leaves
 returns-in-Well-clause-leaves g c t is =
-    let plan : Plan = record { leaves = c.in_ok-leaves-in-Well.leaves; steps = c.in_ok-steps-in-Well.steps } in
-    let legal : IsLegalPlan c.args.g.now plan = record { leaves = c.in_ok-leaves-in-Well.ensures; steps = c.in_ok-steps-in-Well.ensures.legal } in
+    let plan : Plan = record { leaves = c.in_ok-leaves.leaves; steps = c.in_ok-steps-in-Well.steps } in
+    let legal : IsLegalPlan c.args.g.now plan = returns-in-Well-clause-legal g c in
     subst (λ ks. HasLeaves t ks) legal.leaves (tree_leaves c.args.g.now plan (sound_of c.args.s.now c.args.g.now c.requires.sound c.requires.graph) legal t is)
 
 pub returns-in-Well-clause-sparse : goal.returns-in-Well-clause-sparse
 returns-in-Well-clause-sparse g c =
-    let plan : Plan = record { leaves = c.in_ok-leaves-in-Well.leaves; steps = c.in_ok-steps-in-Well.steps } in
-    let legal : IsLegalPlan c.args.g.now plan = record { leaves = c.in_ok-leaves-in-Well.ensures; steps = c.in_ok-steps-in-Well.ensures.legal } in
-    plan_sparse c.args.g.now plan (sound_of c.args.s.now c.args.g.now c.requires.sound c.requires.graph) legal
+    let plan : Plan = record { leaves = c.in_ok-leaves.leaves; steps = c.in_ok-steps-in-Well.steps } in
+    plan_sparse c.args.g.now plan (sound_of c.args.s.now c.args.g.now c.requires.sound c.requires.graph) (returns-in-Well-clause-legal g c)
 
 pub returns-in-Well-clause-few_angles : goal.returns-in-Well-clause-few_angles
 returns-in-Well-clause-few_angles g c =
-    let plan : Plan = record { leaves = c.in_ok-leaves-in-Well.leaves; steps = c.in_ok-steps-in-Well.steps } in
-    let legal : IsLegalPlan c.args.g.now plan = record { leaves = c.in_ok-leaves-in-Well.ensures; steps = c.in_ok-steps-in-Well.ensures.legal } in
-    plan_few_angles c.args.g.now plan (sound_of c.args.s.now c.args.g.now c.requires.sound c.requires.graph) legal
+    let plan : Plan = record { leaves = c.in_ok-leaves.leaves; steps = c.in_ok-steps-in-Well.steps } in
+    plan_few_angles c.args.g.now plan (sound_of c.args.s.now c.args.g.now c.requires.sound c.requires.graph) (returns-in-Well-clause-legal g c)

@@ -1,6 +1,7 @@
 use Rattle.std.proofs.Common.{subst, sym, arith}
 use Rattle.sk_family.specs.Clusters.{Clusters}
 use Rattle.sk_base.specs.declared.Graph.{Graph}
+use Rattle.sk_family.proofs.GraphStarts.{starts_many}
 use Rattle.sk_plan.proofs.Joined.{taken_holds}
 use Rattle.sk_plan.proofs.Finished.{clusters_left}
 use Rattle.sk_choice.proofs.DrawnKinds.{Draws, graph_draws}
@@ -32,7 +33,8 @@ do_merge-requires-clause-holds c =
 pub do_merge-requires-clause-room : goal.do_merge-requires-clause-room
 do_merge-requires-clause-room c =
     let left = clusters_left c.args.graph.now c.requires.sound c.args.taken.now c.requires.leads.0 c.requires.leads.1 c.requires.once in
-    let few = c.requires.sound.few_edges in
+    let few = c.requires.sound.few_constraints in
+    let all = starts_many c.args.graph.now c.requires.sound in
     let next = c.loop-merging.invariant.next in
     let inside = c.loop-merging-test.true in
     omega arith
