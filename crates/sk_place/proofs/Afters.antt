@@ -17,7 +17,7 @@ use Rattle.sk_base.proofs.Members.{mapped_from, filtered_from, contains_head, co
 use Rattle.sk_base.proofs.Pairs.{pairs_map}
 use Rattle.sk_base.proofs.Unions.{rising_same}
 use Rattle.sk_family.specs.declared.Cluster.{Cluster}
-use Rattle.sk_family.specs.Body.{Body, IsRisingBody, join_all}
+use Rattle.sk_family.specs.Body.{Body, IsRisingBody, join_all, starts}
 use Rattle.sk_family.specs.Clusters.{Clusters, IsNamed, initial_clusters, start_of, body_of, named, unnamed, made_of, whole_from, replaced}
 use Rattle.sk_family.proofs.Bodies.{Within, each_within, whole_within, rising_whole}
 use Rattle.sk_family.proofs.Naming.{below_chain, below_differs, named_among}
@@ -40,10 +40,9 @@ use Rattle.sk_place.specs.Steps.{setting, exchanged, ordered, joined, HasCorners
 use Rattle.sk_place.specs.Trees.{step_of, HasBoxes}
 use Rattle.sk_place.specs.Running.{held, HasTree, IsThere, ArePlaced, IsAfter, AreHeld, CanJoin}
 use Rattle.sk_place.proofs.Corners.{corners_ordered}
-use Rattle.sk_place.proofs.Edges.{edge_there}
 use Rattle.sk_place.proofs.Fitting.{corners_of, of_graph, constructible_of, IsOfGraph}
 use Rattle.sk_place.proofs.Outcomes.{HoldsOne, IsResult, result_in}
-use Rattle.sk_place.proofs.Frames.{start_placed}
+use Rattle.sk_place.proofs.Frames.{start_there, start_placed}
 use Rattle.sk_place.proofs.PlanSteps.{the_join, step_found}
 use Rattle.sk_place.proofs.Joins.{settled_join}
 
@@ -56,9 +55,9 @@ at_start {G} F g p sound legal live is = record {
   first = λ h. refl;
   latest = λ h. absurd (omega arith);
   slots = ap (λ (xs : List (Option (List (BoxAt G)))). length xs) is;
-  there = λ c c_in. (let from = mapped_from start_of g.edges c c_in in
-      subst (λ (d : Cluster). IsThere g live d.name) from.2 (rw (edge_there g sound from.0 from.1) refl));
-  placed = λ c c_in bs held_is. (let from = mapped_from start_of g.edges c c_in in
+  there = λ c c_in. (let from = mapped_from start_of (starts g) c c_in in
+      subst (λ (d : Cluster). IsThere g live d.name) from.2 (start_there g sound from.0 from.1));
+  placed = λ c c_in bs held_is. (let from = mapped_from start_of (starts g) c c_in in
       subst (λ (d : Cluster). ArePlaced F g p d bs) from.2
       (start_placed F g p sound legal from.0 bs from.1 (subst (λ (d : Cluster). held F g live d.name ≡ Some bs) (sym from.2) held_is)));
   settled = λ s none. absurd (contains_nothing s none);

@@ -4,7 +4,6 @@ use Rattle.std.specs.Prelude.{Contains, map}
 use Rattle.std.proofs.lemmas.List.{drop_all}
 use Rattle.std.proofs.Math.Seq.{get_or-append_seam}
 use Rattle.sk_base.specs.declared.ConId.{ConId}
-use Rattle.sk_base.specs.declared.Edge.{Edge}
 use Rattle.sk_base.specs.declared.Elem.{Elem}
 use Rattle.sk_base.specs.declared.Graph.{Graph}
 use Rattle.sk_base.specs.declared.Kind.{Kind}
@@ -15,7 +14,9 @@ use Rattle.sk_base.specs.SoundGraph.{HasNode, IsSoundGraph}
 use Rattle.sk_base.proofs.Members.{contains_head, contains_one, contains_mapped, mapped_from}
 use Rattle.sk_base.proofs.Pairs.{pairs_map, pairs_same}
 use Rattle.sk_family.specs.declared.Cluster.{Cluster}
+use Rattle.sk_family.specs.Body.{Start, starts}
 use Rattle.sk_family.specs.Clusters.{Clusters, initial_clusters, start_of}
+use Rattle.sk_family.proofs.GraphStarts.{no_starts}
 use Rattle.sk_steps.specs.Boxes.{kind_of}
 use Rattle.sk_tree.specs.declared.Plan.{Plan}
 use Rattle.sk_tree.specs.declared.PlanStep.{PlanStep}
@@ -42,7 +43,7 @@ use Rattle.sk_place.specs.Running.{held, HasTree, IsThere, ArePlaced, IsAfter, I
 use Rattle.sk_place.proofs.Lookups.{held_box}
 use Rattle.sk_place.proofs.Fitting.{rise_of, one_kind}
 use Rattle.sk_place.proofs.PlanSteps.{named_at}
-use Rattle.sk_place.proofs.Failing.{no_edges_no_steps}
+use Rattle.sk_place.proofs.Failing.{no_starts_no_steps}
 
 -- ---- the last name
 
@@ -81,11 +82,11 @@ module _ (g : Graph) (p : Plan) (legal : IsLegalPlan g p) where
 
   pub leaf_there : (n : Name) → IsLastName p (Some n) → ¬ (p.leaves ≡ [])
   leaf_there n (inl (before, last, is, n_is)) none =
-      no_edges_no_steps g p.steps legal.steps (some_steps before last is) (nothing_mapped g.edges (sym legal.leaves ∙ none))
+      no_starts_no_steps g p.steps legal.steps (some_steps before last is) (nothing_mapped (starts g) (sym legal.leaves ∙ none))
     where
-      nothing_mapped : (es : List Edge) → map (λ (e : Edge). e.id) es ≡ [] → es ≡ []
+      nothing_mapped : (ss : List Start) → map (λ (s : Start). s.number) ss ≡ [] → ss ≡ []
       nothing_mapped [] h = refl
-      nothing_mapped (e ∷ es) h = cc
+      nothing_mapped (s ∷ ss) h = cc
   leaf_there n (inr (k, rest, none, leaves_are, n_is)) empty = (let never : [] ≡ k ∷ rest = sym empty ∙ leaves_are in absurd (cc))
 
 -- ---- the cluster that is left
@@ -107,20 +108,20 @@ module _ {G : Type 0} (F : ℕ) (g : Graph) (p : Plan) (sound : IsSoundGraph g) 
       ap (λ (d : Cluster). d.name) same ∙ latest.1.has_name ∙ sym (last_named g p legal before last is) ∙ sym n_is
   left_named c alone (inr (k, rest, none, leaves_are, n_is)) =
       let start : after.family ≡ initial_clusters g = after.first (none_is g p legal none) in
-      let clusters_are : map start_of g.edges ≡ c ∷ [] = ap (λ (f : Clusters). f.live) (sym start) ∙ alone in
-      told g.edges clusters_are (sym legal.leaves ∙ leaves_are)
+      let clusters_are : map start_of (starts g) ≡ c ∷ [] = ap (λ (f : Clusters). f.live) (sym start) ∙ alone in
+      told (starts g) clusters_are (sym legal.leaves ∙ leaves_are)
     where
-      told : (es : List Edge) → map start_of es ≡ c ∷ [] → map (λ (e : Edge). e.id) es ≡ k ∷ rest → c.name ≡ n
+      told : (ss : List Start) → map start_of ss ≡ c ∷ [] → map (λ (s : Start). s.number) ss ≡ k ∷ rest → c.name ≡ n
       told [] a b = cc
-      told (e ∷ es) a b = (
-          let c_is : start_of e ≡ c = cc in
-          let k_is : e.id ≡ k = cc in
+      told (s ∷ ss) a b = (
+          let c_is : start_of s ≡ c = cc in
+          let k_is : s.number ≡ k = cc in
           ap (λ (d : Cluster). d.name) (sym c_is) ∙ ap (λ (j : ConId). Con j.0) k_is ∙ sym n_is)
 
   pub left : (c : Cluster) × IsLeft g after.family n c
   left = elim whole [
     | inl (c, alone, nodes) ↦ (c, record { lives = subst (λ (cs : List Cluster). Contains cs c) (sym alone) (contains_head c []); named = left_named c alone n_is; nodes = nodes })
-    | inr (one, none) ↦ absurd (leaf_there g p legal n n_is (legal.leaves ∙ ap (map (λ (e : Edge). e.id)) none))
+    | inr (one, no_edges, no_blocks) ↦ absurd (leaf_there g p legal n n_is (legal.leaves ∙ ap (map (λ (s : Start). s.number)) (no_starts g no_edges no_blocks)))
   ]
 
   pub left_there : IsThere g live n

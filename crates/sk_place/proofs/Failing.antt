@@ -4,7 +4,6 @@ use Rattle.std.specs.Prelude.{Contains, map, not}
 use Rattle.std.proofs.lemmas.Bool.{cases_Bool}
 use Rattle.std.proofs.lemmas.List.{get_or-take, drop-append-le, length-take}
 use Rattle.std.proofs.lemmas.List.Elements.{Contains-push, Contains-append_left}
-use Rattle.sk_base.specs.declared.Edge.{Edge}
 use Rattle.sk_base.specs.declared.Graph.{Graph}
 use Rattle.sk_base.specs.declared.Name.{Name}
 use Rattle.sk_base.specs.declared.Name.TheVariants.{Con, Step}
@@ -12,7 +11,9 @@ use Rattle.sk_base.specs.ClusterNames.{IsBelow, is_named}
 use Rattle.sk_base.specs.SoundGraph.{IsSoundGraph}
 use Rattle.sk_base.proofs.Members.{contains_none, contains_head, contains_later, contains_cases, contains_one, contains_filtered}
 use Rattle.sk_family.specs.declared.Cluster.{Cluster}
+use Rattle.sk_family.specs.Body.{Start, starts}
 use Rattle.sk_family.specs.Clusters.{Clusters, IsSound, IsLive, initial_clusters, start_of, unnamed, whole_from}
+use Rattle.sk_family.proofs.GraphStarts.{no_starts}
 use Rattle.sk_family.proofs.Naming.{among_named}
 use Rattle.sk_base.proofs.Splits.{in_drop}
 use Rattle.sk_family.proofs.Soundness.{sound_replaced}
@@ -60,7 +61,7 @@ ends_with_last g f (b ∷ bs) last (legal, rest) = ends_with_last g (merged f (m
 pub record IsPart (G : Type 0) (g : Graph) (steps : List PlanStep) (part whole : Tree) : Type 0 where
   pub up : (F : ℕ) (f : StepFault) → IsFault G F g steps part f → IsFault G F g steps whole f
 
-module _ (G : Type 0) (g : Graph) (p : Plan) (legal : IsLegalPlan g p) (some_edges : ¬ (g.edges ≡ [])) (top : Tree) (n : Name) (top_is : HasTree p n top) where
+module _ (G : Type 0) (g : Graph) (p : Plan) (legal : IsLegalPlan g p) (some_starts : ¬ (starts g ≡ [])) (top : Tree) (n : Name) (top_is : HasTree p n top) where
   pub parts : (rest : List PlanStep) (f : Clusters) → IsSound f → AreLegalSteps g f rest → ((s : PlanStep) → Contains rest s → Contains p.steps s) → EndsWith rest f n
       → (c : Cluster) → Contains f.live c → (t : Tree) × HasTree p c.name t × IsPart G g p.steps t top
   parts [] f sound whole within ends c c_in = elim whole [
@@ -69,7 +70,7 @@ module _ (G : Type 0) (g : Graph) (p : Plan) (legal : IsLegalPlan g p) (some_edg
         let e_is : only ≡ ends.0 = contains_one only ends.0 (subst (λ (cs : List Cluster). Contains cs ends.0) alone ends.1.lives) in
         let name_is : n ≡ c.name = sym ends.1.has_name ∙ ap (λ (d : Cluster). d.name) (sym e_is ∙ c_is) in
         (top, subst (λ (m : Name). HasTree p m top) name_is top_is, record { up = λ F f h. h })
-    | inr (one, none) ↦ absurd (some_edges none)
+    | inr (one, no_edges, no_blocks) ↦ absurd (some_starts (no_starts g no_edges no_blocks))
   ]
   parts (s ∷ ss) f sound (step_legal, rest_legal) within ends c c_in =
       let ns : List Name = s.one ∷ s.two ∷ s.three ∷ [] in
@@ -135,10 +136,10 @@ module _ (G : Type 0) (F : ℕ) (g : Graph) (p : Plan) (legal : IsLegalPlan g p)
 
 -- ---- the step that fails
 
-pub no_edges_no_steps : (g : Graph) (steps : List PlanStep) → AreLegalSteps g (initial_clusters g) steps → 0 < length steps → ¬ (g.edges ≡ [])
-no_edges_no_steps g [] legal some none = absurd (omega arith)
-no_edges_no_steps g (s ∷ ss) (legal, rest) some none =
-    let nobody : map start_of g.edges ≡ [] = ap (map start_of) none in
+pub no_starts_no_steps : (g : Graph) (steps : List PlanStep) → AreLegalSteps g (initial_clusters g) steps → 0 < length steps → ¬ (starts g ≡ [])
+no_starts_no_steps g [] legal some none = absurd (omega arith)
+no_starts_no_steps g (s ∷ ss) (legal, rest) some none =
+    let nobody : map start_of (starts g) ≡ [] = ap (map start_of) none in
     contains_none legal.joins.one (subst (λ (cs : List Cluster). Contains cs legal.joins.one) nobody legal.joins.one_named.lives)
 
 module _ {G : Type 0} (F : ℕ) (g : Graph) (p : Plan) (sound : IsSoundGraph g) (legal : IsLegalPlan g p)
@@ -160,15 +161,15 @@ module _ {G : Type 0} (F : ℕ) (g : Graph) (p : Plan) (sound : IsSoundGraph g) 
       ((third F g p sound legal i live after inside s s_is x y z are).trees c (subst (λ (n : Name). HasTree p n c) (sym j.three_named.has_name) join.third))
       f is)
 
-  pub edges_there : ¬ (g.edges ≡ [])
-  edges_there = no_edges_no_steps g p.steps legal.steps (omega arith)
+  pub starts_there : ¬ (starts g ≡ [])
+  starts_there = no_starts_no_steps g p.steps legal.steps (omega arith)
 
   pub leaves_there : ¬ (p.leaves ≡ [])
-  leaves_there none = edges_there (nothing_mapped g.edges (sym legal.leaves ∙ none))
+  leaves_there none = starts_there (nothing_mapped (starts g) (sym legal.leaves ∙ none))
     where
-      nothing_mapped : (es : List Edge) → map (λ (e : Edge). e.id) es ≡ [] → es ≡ []
+      nothing_mapped : (ss : List Start) → map (λ (t : Start). t.number) ss ≡ [] → ss ≡ []
       nothing_mapped [] h = refl
-      nothing_mapped (e ∷ es) h = cc
+      nothing_mapped (t ∷ ss) h = cc
 
   rest_is : drop i p.steps ≡ s ∷ drop (suc i) p.steps
   rest_is = drop-cons p.steps i s inside ∙ ap (λ (q : PlanStep). q ∷ drop (suc i) p.steps) s_is
@@ -194,7 +195,7 @@ module _ {G : Type 0} (F : ℕ) (g : Graph) (p : Plan) (sound : IsSoundGraph g) 
       let whole : Cluster = whole_from (Step after.family.next_step) ns after.family.live in
       let within : (q : PlanStep) → Contains (drop (suc i) p.steps) q → Contains p.steps q = in_drop (suc i) p.steps in
       let part =
-      parts G g p legal edges_there top last.step top_is (drop (suc i) p.steps) (merged after.family (merge_told s))
+      parts G g p legal starts_there top last.step top_is (drop (suc i) p.steps) (merged after.family (merge_told s))
       (sound_replaced after.family ns after.sound can) now.1 within ends_later whole (Contains-push (unnamed ns after.family.live) whole) in
       (last.step, top_is, (part.0, subst (λ (n : Name). HasTree p n part.0) (sym now.0.next) part.1, part.2))
 

@@ -1,7 +1,8 @@
 -- Trees on a finer grid.
-use Rattle.std.proofs.Common.{◌≡◌, inl, inr, ℕ, ◌+◌, List, [], ◌∷◌, Option, Some, None, Result, Ok, Err, refl, ap, sym, subst}
-use Rattle.sk_base.specs.declared.Edge.{Edge}
+use Rattle.std.proofs.Common.{◌≡◌, inl, inr, ℕ, ◌+◌, List, [], ◌∷◌, Option, Some, None, Result, Ok, Err, map, refl, ap, sym, subst}
 use Rattle.sk_base.specs.declared.Graph.{Graph}
+use Rattle.sk_base.specs.declared.Pin.{Pin}
+use Rattle.sk_interval.proofs.FinerSums.{micrometres-IsInside}
 use Rattle.sk_interval.specs.declared.Cause.{Cause}
 use Rattle.sk_steps.specs.declared.BoxOf.{BoxOf}
 use Rattle.sk_steps.specs.declared.What.{What}
@@ -14,11 +15,19 @@ use Rattle.sk_place.specs.declared.boxes.BoxAt.{BoxAt}
 use Rattle.sk_place.specs.declared.fault.StepFault.{StepFault}
 use Rattle.sk_place.specs.Clusters.{with_box}
 use Rattle.sk_place.specs.Steps.{joined}
-use Rattle.sk_place.specs.Trees.{edge_of, step_of, two_boxes, frame_of, made, boxes_in, boxes, HasBoxes}
+use Rattle.sk_place.specs.Trees.{Framed, edge, block, framed_of, step_of, two_boxes, pin_at, pin_boxes, frame_of, made, boxes_in, boxes, HasBoxes}
 use Rattle.sk_place.specs.Nesting.{AreInside}
-use Rattle.sk_place.proofs.InsideLists.{put_inside}
+use Rattle.sk_place.proofs.InsideLists.{put_inside, union_inside}
 use Rattle.sk_place.proofs.InsideSteps.{KeepsStep, joined_step}
 use Rattle.sk_place.proofs.Joins.{settled_join}
+
+-- the pins of a block
+points_inside : (G : Type 0) (F k : ℕ) (pins : List Pin) → AreInside {G = G} {H = G} k (map (pin_at (F + k)) pins) (map (pin_at F) pins)
+points_inside G F k [] = tt
+points_inside G F k (pin ∷ pins) = (refl, (micrometres-IsInside F k pin.x.0, micrometres-IsInside F k pin.y.0), points_inside G F k pins)
+
+pins_inside : (G : Type 0) (F k : ℕ) (pins : List Pin) → AreInside {G = G} {H = G} k (pin_boxes (F + k) pins) (pin_boxes F pins)
+pins_inside G F k pins = union_inside k (map (pin_at (F + k)) pins) (map (pin_at F) pins) [] [] (points_inside G F k pins) tt
 
 module _ {G : Type 0} (F k : ℕ) (g : Graph) (steps : List PlanStep) where
   -- a tree's boxes on the finer grid
@@ -27,9 +36,12 @@ module _ {G : Type 0} (F k : ℕ) (g : Graph) (steps : List PlanStep) where
     pub has : HasBoxes (F + k) g steps t fine
     pub inside : AreInside k fine bs
 
-  frame_inside : (e : Option Edge) (bs : List (BoxAt G)) → frame_of F e ≡ Some bs → (fine : List (BoxAt G)) × (frame_of (F + k) e ≡ Some fine) × AreInside k fine bs
+  frame_inside : (e : Option Framed) (bs : List (BoxAt G)) → frame_of F e ≡ Some bs → (fine : List (BoxAt G)) × (frame_of (F + k) e ≡ Some fine) × AreInside k fine bs
   frame_inside None bs is = (let never : None ≡ Some bs = is in absurd (cc))
-  frame_inside (Some e) bs is = told (leaf F e.measure) refl is
+  frame_inside (Some (block b)) bs is =
+      let bs_is : pin_boxes F b.pins ≡ bs = cc in
+      (pin_boxes (F + k) b.pins, refl, subst (λ (xs : List (BoxAt G)). AreInside {G = G} {H = G} k (pin_boxes (F + k) b.pins) xs) bs_is (pins_inside G F k b.pins))
+  frame_inside (Some (edge e)) bs is = told (leaf F e.measure) refl is
     where
       told : (r : Result (BoxOf G × BoxOf G) (What × Cause)) → leaf F e.measure ≡ r → two_boxes e r ≡ Some bs → (fine : List (BoxAt G)) × (two_boxes e (leaf (F + k) e.measure) ≡ Some fine) × AreInside k fine bs
       told (Err f) r_is found = (let never : None ≡ Some bs = found in absurd (cc))
@@ -70,7 +82,7 @@ module _ {G : Type 0} (F k : ℕ) (g : Graph) (steps : List PlanStep) where
 
   pub nest : (t : Tree) (bs : List (BoxAt G)) → HasBoxes F g steps t bs → HasInside t bs
   nest (Leaf c) bs has =
-      let finer = frame_inside (edge_of g c.0) bs has.are in
+      let finer = frame_inside (framed_of g c.0) bs has.are in
       record { fine = finer.0; has = record { are = finer.1; faultless = λ f h. absurd h }; inside = finer.2 }
   nest (Join' at step shared one two three) bs has =
       let by =

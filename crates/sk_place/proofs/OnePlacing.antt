@@ -18,7 +18,7 @@ use Rattle.sk_place.specs.declared.fault.StepFault.{StepFault}
 use Rattle.sk_place.specs.declared.fault.PlaceError.TheVariants.{Fault}
 use Rattle.sk_place.specs.Placing.{IsPlaced}
 use Rattle.sk_place.specs.Running.{HasTree}
-use Rattle.sk_place.specs.Trees.{edge_of, frame_of, step_of, made, boxes_in, boxes, IsFault, IsFirstFault}
+use Rattle.sk_place.specs.Trees.{framed_of, frame_of, step_of, made, boxes_in, boxes, IsFault, IsFirstFault}
 use Rattle.sk_place.proofs.Joins.{here_named}
 use Rattle.sk_place.proofs.PlanSteps.{named_at, one_step, join_of, the_join, step_found}
 
@@ -40,7 +40,7 @@ module _ (G : Type 0) (F : ℕ) (g : Graph) (p : Plan) (legal : IsLegalPlan g p)
 
   -- all trees of a name have the same boxes
   same_boxes : (t u : Tree) (n : Name) → HasTree p n t → HasTree p n u → boxes {G = G} F g p.steps t ≡ boxes F g p.steps u
-  same_boxes (Leaf c) (Leaf d) n h k = (let same : c.0 ≡ d.0 = inside c.0 d.0 (sym h ∙ k) in ap (λ (j : ℕ). frame_of {G = G} F (edge_of g j)) same)
+  same_boxes (Leaf c) (Leaf d) n h k = (let same : c.0 ≡ d.0 = inside c.0 d.0 (sym h ∙ k) in ap (λ (j : ℕ). frame_of {G = G} F (framed_of g j)) same)
     where
       inside : (i j : ℕ) → Con i ≡ Con j → i ≡ j
       inside i j e = cc

@@ -20,19 +20,19 @@ use Rattle.sk_place.specs.declared.fault.StepFault.{StepFault}
 use Rattle.sk_steps.specs.ThirdElement.{IsConstructible}
 use Rattle.sk_place.specs.Clusters.{elements_of}
 use Rattle.sk_place.specs.Steps.{setting, ordered, given, joined, HasCorners}
-use Rattle.sk_place.specs.Trees.{edge_of, frame_of, HasBoxes}
+use Rattle.sk_place.specs.Trees.{framed_of, frame_of, HasBoxes}
 use Rattle.sk_place.specs.Placing.{IsPlaced}
 use Rattle.sk_place.specs.Nesting.{IsKept}
 use Rattle.sk_place.specs.Rounding.{AreBounded}
 
--- the boxes of a cluster by its name: a constraint's are those of its frame, a step's stand at its number
+-- the boxes of a cluster by its name: a constraint's and a block's are those of its frame, a step's stand at its number
 abbrev pub held : {G : Type 0} → ℕ → Graph → List (Option (List (BoxAt G))) → Name → Option (List (BoxAt G))
-held F g live (Con k) = frame_of F (edge_of g k)
+held F g live (Con k) = frame_of F (framed_of g k)
 held F g live (Step k) = slice_index_or live k None
 
--- a constraint of that number is there, or a step's boxes
+-- a constraint or a block of that number is there, or a step's boxes
 abbrev pub IsThere : {G : Type 0} → Graph → List (Option (List (BoxAt G))) → Name → Type 0
-IsThere g live (Con k) = IsSome (edge_of g k)
+IsThere g live (Con k) = IsSome (framed_of g k)
 IsThere g live (Step k) = IsSome (slice_index_or live k None)
 
 abbrev pub HasTree : Plan → Name → Tree → Type 0

@@ -1,23 +1,33 @@
 -- The boxes of a tree and its faults. Nothing here knows an order of work.
-use Rattle.std.specs.Prelude.{◌≡◌, ◌⊎◌, ◌==◌, ℕ, List, [], ◌∷◌, Option, Some, None, Result, Ok, Err, find}
+use Rattle.std.specs.Prelude.{◌≡◌, ◌⊎◌, ℕ, List, [], ◌∷◌, map, Option, Some, None, Result, Ok, Err, find}
+use Rattle.std.specs.Option.{option_map, option_or}
 use Rattle.sk_base.specs.declared.Edge.{Edge}
+use Rattle.sk_base.specs.declared.Block.{Block}
+use Rattle.sk_base.specs.declared.Pin.{Pin}
 use Rattle.sk_base.specs.declared.Graph.{Graph}
 use Rattle.sk_base.specs.declared.Name.{Name}
 use Rattle.sk_base.specs.ClusterNames.{name_eq, IsBelow}
+use Rattle.sk_base.specs.Lookups.{edge_numbered, block_numbered}
 use Rattle.sk_steps.specs.declared.BoxOf.{BoxOf}
-use Rattle.sk_steps.specs.Leaves.{leaf}
+use Rattle.sk_steps.specs.Leaves.{leaf, pin_box}
 use Rattle.sk_tree.specs.declared.PlanStep.{PlanStep}
 use Rattle.sk_tree.specs.declared.Tree.{Tree}
 use Rattle.sk_tree.specs.declared.Tree.TheVariants.{Leaf, Join'}
 use Rattle.sk_place.specs.declared.boxes.BoxAt.{BoxAt}
 use Rattle.sk_place.specs.declared.fault.StepFault.{StepFault}
-use Rattle.sk_place.specs.Clusters.{with_box}
+use Rattle.sk_place.specs.Clusters.{with_box, with_boxes}
 use Rattle.sk_place.specs.Steps.{joined}
 
--- the constraint of this number, and the step of this name
-abbrev pub edge_of : Graph → ℕ → Option Edge
-edge_of g k = find (λ (e : Edge). e.id.0 == k) g.edges
+-- what has a frame: a constraint between two elements, or a block
+pub data Framed : Type 0 where
+  edge : Edge → Framed
+  block : Block → Framed
 
+-- what has a frame, of this number
+abbrev pub framed_of : Graph → ℕ → Option Framed
+framed_of g k = option_or (option_map block (block_numbered g k)) (option_map edge (edge_numbered g k))
+
+-- the step of this name
 abbrev pub step_of : List PlanStep → Name → Option PlanStep
 step_of steps n = find (λ (s : PlanStep). name_eq s.step n) steps
 
@@ -25,9 +35,17 @@ abbrev pub two_boxes : {G N : Type 0} → Edge → Result (BoxOf G × BoxOf G) N
 two_boxes e (Ok found) = Some (with_box (record { elem = e.u; at = found.0 }) (record { elem = e.v; at = found.1 } ∷ []))
 two_boxes e (Err fault) = None
 
--- the boxes of a constraint's two ends, in its frame
-abbrev pub frame_of : {G : Type 0} → ℕ → Option Edge → Option (List (BoxAt G))
-frame_of F (Some e) = two_boxes e (leaf F e.measure)
+-- the points of pins, in rising order of their elements' numbers
+abbrev pub pin_at : {G : Type 0} → ℕ → Pin → BoxAt G
+pin_at F pin = record { elem = pin.elem; at = pin_box F pin }
+
+abbrev pub pin_boxes : {G : Type 0} → ℕ → List Pin → List (BoxAt G)
+pin_boxes F pins = with_boxes (map (pin_at F) pins) []
+
+-- the boxes of a constraint's two ends or of a block's pins, in its frame
+abbrev pub frame_of : {G : Type 0} → ℕ → Option Framed → Option (List (BoxAt G))
+frame_of F (Some (edge e)) = two_boxes e (leaf F e.measure)
+frame_of F (Some (block b)) = Some (pin_boxes F b.pins)
 frame_of F None = None
 
 -- what the step of this name makes of its three children's boxes: boxes, or a fault; nothing where a child has no boxes
@@ -43,9 +61,9 @@ boxes_in (Some (Ok x)) = Some x
 boxes_in (Some (Err e)) = None
 boxes_in None = None
 
--- the boxes of a tree: a constraint's frame, or what a step makes of the boxes of its three children
+-- the boxes of a tree: the frame of a constraint or a block, or what a step makes of the boxes of its three children
 abbrev pub boxes : {G : Type 0} → ℕ → Graph → List PlanStep → Tree → Option (List (BoxAt G))
-boxes F g steps (Leaf c) = frame_of F (edge_of g c.0)
+boxes F g steps (Leaf c) = frame_of F (framed_of g c.0)
 boxes F g steps (Join' p step shared one two three) =
     boxes_in (made F (step_of steps step) (boxes F g steps one) (boxes F g steps two) (boxes F g steps three))
 

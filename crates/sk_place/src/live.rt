@@ -1,17 +1,18 @@
 // The boxes of live clusters.
-ghost use Rattle.std.specs.Prelude.{◌≡◌, ◌≢◌, ℕ, ◌+◌, ◌∷◌, ◌++◌, [], length, IfOk, IfSome, OnOk, OnErr, None, Some, IsSome, Contains, slice_get, slice_set, slice_index_or};
+ghost use Rattle.std.specs.Prelude.{◌≡◌, ◌≢◌, ℕ, ◌+◌, ◌∷◌, ◌++◌, [], length, map, All, IfOk, IfSome, OnOk, OnErr, None, Some, IsSome, Contains, slice_get, slice_set, slice_index_or};
 ghost use Rattle.sk_base.specs.declared.Edge.{Edge as OfEdge};
 ghost use Rattle.sk_base.specs.declared.Name.{Name as OfName};
+ghost use Rattle.sk_base.specs.Pins.{IsOnSheet};
 ghost use Rattle.sk_base.specs.SoundGraph.{IsSoundGraph};
 ghost use Rattle.sk_steps.specs.Leaves.{IsSoundMeasure};
-ghost use Rattle.sk_place.specs.Trees.{edge_of, frame_of};
+ghost use Rattle.sk_place.specs.Trees.{edge as FramedEdge, framed_of, frame_of, pin_at, pin_boxes};
 ghost use Rattle.sk_place.specs.Running.{held, IsThere};
 
 use crate::boxes::BoxAt;
-use crate::lookup::put;
-use sk_base::{Edge, Graph, List, Name, NoMemory};
+use crate::lookup::{put, put_all};
+use sk_base::{ConId, Edge, Graph, List, Name, NoMemory, Pin};
 use sk_interval::Grid;
-use sk_steps::leaf_boxes;
+use sk_steps::{leaf_boxes, pin_box};
 use slab::Slab;
 use std::alloc::Global;
 use std::marker::Model;
@@ -70,21 +71,51 @@ impl<G: Grid> Live<G> {
     }
 }
 
-/// The constraint of that number.
-fn edge_of(g: &Graph, k: u32) -> &Edge
+/// The boxes of the constraint or the block of that number, in its frame.
+fn framed<G: Grid>(alloc: Global, g: &Graph, k: u32) -> Result<List<BoxAt<G>>, NoMemory>
     requires sound { IsSoundGraph g.now }
-    requires found { IsSome (edge_of g.now k) }
-    ensures { edge_of g.now k ≡ Some result.now }
+    requires there { IsSome (framed_of g.now k) }
+    ensures { IfOk result (λ bs. frame_of G.BITS (framed_of g.now k) ≡ Some bs) }
 {
-    let edges = g.edges.as_slice();
-    let place = edges.partition_point(|e| e.id.0 < k);
-    &edges[place]
+    match g.block(ConId(k)) {
+        Some(block) => pins_framed(alloc, block.pins.as_slice()),
+        None => match g.edge(ConId(k)) {
+            Some(edge) => ends_framed(alloc, edge),
+            None => unreachable!(),
+        },
+    }
+}
+
+/// The boxes of a block's pins, in its frame.
+fn pins_framed<G: Grid>(alloc: Global, pins: &[Pin]) -> Result<List<BoxAt<G>>, NoMemory>
+    requires { All IsOnSheet pins.now }
+    ensures { IfOk result (λ bs. bs ≡ pin_boxes G.BITS pins.now) }
+{
+    let points = points_of(alloc, pins)?;
+    let mut boxes = List::new(alloc);
+    put_all(&mut boxes, points.as_slice())?;
+    Ok(boxes)
+}
+
+/// The point of each pin, in their order.
+fn points_of<G: Grid>(alloc: Global, pins: &[Pin]) -> Result<List<BoxAt<G>>, NoMemory>
+    requires { All IsOnSheet pins.now }
+    ensures { IfOk result (λ points. points ≡ map (pin_at G.BITS) pins.now) }
+{
+    let mut points = List::new(alloc);
+    for pin in pins {
+        points.push(BoxAt {
+            elem: pin.elem,
+            at: pin_box(pin),
+        })?;
+    }
+    Ok(points)
 }
 
 /// The boxes of a constraint's two ends, in its frame.
-fn framed<G: Grid>(alloc: Global, edge: &Edge) -> Result<List<BoxAt<G>>, NoMemory>
+fn ends_framed<G: Grid>(alloc: Global, edge: &Edge) -> Result<List<BoxAt<G>>, NoMemory>
     requires { IsSoundMeasure edge.now.measure }
-    ensures { IfOk result (λ bs. frame_of G.BITS (Some edge.now) ≡ Some bs) }
+    ensures { IfOk result (λ bs. frame_of G.BITS (Some (FramedEdge edge.now)) ≡ Some bs) }
 {
     let (u, v) = leaf_boxes(edge);
     let mut boxes = List::new(alloc);
@@ -116,7 +147,7 @@ pub(crate) fn taken<G: Grid>(
     ensures others { (n : OfName) → n ≢ name → held G.BITS g.now live.new n ≡ held G.BITS g.now live.old n }
 {
     match name {
-        Name::Con(k) => framed(alloc, edge_of(g, k)),
+        Name::Con(k) => framed(alloc, g, k),
         Name::Step(k) => Ok(live.take(k as usize)),
     }
 }

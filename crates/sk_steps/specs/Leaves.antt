@@ -6,10 +6,12 @@ use Rattle.sk_base.specs.declared.Ratio.{Ratio}
 use Rattle.sk_base.specs.declared.Measure.{Measure}
 use Rattle.sk_base.specs.declared.Measure.TheVariants.{PointPoint, PointLine, LineLine}
 use Rattle.sk_base.specs.declared.Kind.{Kind}
+use Rattle.sk_base.specs.declared.Pin.{Pin}
 use Rattle.sk_base.specs.Bounds.{IsFromTo}
 use Rattle.sk_base.specs.SoundSketch.{IsSoundRatio}
 use Rattle.sk_interval.specs.declared.Cause.{Cause}
 use Rattle.sk_interval.specs.Interval.{Interval}
+use Rattle.sk_interval.specs.Operations.{of_micrometres}
 use Rattle.sk_steps.specs.Expressions.{Expression, at, number, micrometres, signed, ◌⊘◌, square_root, length_box, normal_box}
 use Rattle.sk_steps.specs.Quantities.{evaluate}
 use Rattle.sk_steps.specs.Boxes.{kind_of}
@@ -85,3 +87,7 @@ abbrev pub IsSoundMeasure : Measure → Type 0
 IsSoundMeasure (PointPoint far) = IsFromTo 1 2000000000 far.0
 IsSoundMeasure (PointLine far side) = IsFromTo 0 1000000000 far.0
 IsSoundMeasure (LineLine ratio sense) = IsSoundRatio ratio
+
+-- the point of a pin, in the frame of its block
+abbrev pub pin_box : {G : Type 0} → ℕ → Pin → BoxOf G
+pin_box F pin = Point (of_micrometres F pin.x.0) (of_micrometres F pin.y.0)

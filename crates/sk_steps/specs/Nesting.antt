@@ -1,6 +1,7 @@
 -- Boxes on a finer grid, of k further digits, inside those on a coarser one.
 use Rattle.std.specs.Prelude.{◌≡◌, ℕ, ◌+◌, ℤ, List, [], ◌∷◌, Result, Ok, Err}
 use Rattle.sk_base.specs.declared.Measure.{Measure}
+use Rattle.sk_base.specs.declared.Pin.{Pin}
 use Rattle.sk_interval.specs.declared.Cause.{Cause}
 use Rattle.sk_interval.specs.declared.Cause.TheVariants.{Flat, Gap, Range}
 use Rattle.sk_interval.specs.Interval.{Interval}
@@ -9,7 +10,7 @@ use Rattle.sk_steps.specs.declared.boxes.BoxOf.{BoxOf}
 use Rattle.sk_steps.specs.declared.boxes.BoxOf.TheVariants.{Point, Line}
 use Rattle.sk_steps.specs.declared.boxes.Given.{Given}
 use Rattle.sk_steps.specs.declared.what.What.{What}
-use Rattle.sk_steps.specs.Leaves.{leaf}
+use Rattle.sk_steps.specs.Leaves.{leaf, pin_box}
 use Rattle.sk_steps.specs.ThirdElement.{third_element}
 
 -- each interval of a list lies inside that at its place in the other
@@ -50,6 +51,10 @@ pub record IsGivenInside {G H : Type 0} (k : ℕ) (fine : Given G) (coarse : Giv
 -- on every finer grid, the frame has boxes inside these
 abbrev pub HoldsFinerFrames : {G : Type 0} → ℕ → Measure → BoxOf G × BoxOf G → Type 0
 HoldsFinerFrames {G} F measure coarse = (k : ℕ) → (fine : BoxOf G × BoxOf G) × (leaf (F + k) measure ≡ Ok fine) × AreBoxesInside k fine coarse
+
+-- on every finer grid, the pin has its point inside this one
+abbrev pub HoldsFinerPoint : {G : Type 0} → ℕ → Pin → BoxOf G → Type 0
+HoldsFinerPoint {G} F pin coarse = (k : ℕ) → IsBoxInside {G = G} k (pin_box (F + k) pin) coarse
 
 -- on every finer grid, boxes inside those given keep the answer
 abbrev pub IsKeptInside : {G : Type 0} → ℕ → Given G → Result (BoxOf G) (What × Cause) → Type 0

@@ -1,13 +1,14 @@
-//! The frames of starting clusters.
+//! The frames of starting clusters, of constraints and of blocks.
 ghost use Rattle.std.specs.Prelude.{◌≡◌, ◌≤◌, ◌<ℤ◌, ◌≤ℤ◌, ◌*◌, ◌^◌, [], pos, unsigned_abs};
+ghost use Rattle.sk_base.specs.Pins.{IsOnSheet};
 ghost use Rattle.sk_base.specs.SoundSketch.{IsSoundRatio};
 ghost use Rattle.sk_steps.specs.Expressions.{value, number, micrometres, ◌⊘◌, square_root, signed, length_box, normal_box};
-ghost use Rattle.sk_steps.specs.Leaves.{leaf, AreMeasured, IsSoundMeasure, opposite, by_sign, square_of};
-ghost use Rattle.sk_steps.specs.Nesting.{HoldsFinerFrames};
+ghost use Rattle.sk_steps.specs.Leaves.{leaf, AreMeasured, IsSoundMeasure, opposite, by_sign, square_of, pin_box};
+ghost use Rattle.sk_steps.specs.Nesting.{HoldsFinerFrames, HoldsFinerPoint};
 
 use crate::boxes::BoxOf;
 use crate::parts::signed;
-use sk_base::{Edge, Measure, Ratio, Sign, Um};
+use sk_base::{Edge, Measure, Pin, Ratio, Sign, Um};
 use sk_interval::{Grid, Iv};
 
 /// A length on one side of zero.
@@ -112,4 +113,16 @@ pub fn leaf_boxes<G: Grid>(e: &Edge) -> (BoxOf<G>, BoxOf<G>)
     ensures nested { HoldsFinerFrames G.BITS e.now.measure result }
 {
     frame(e.measure)
+}
+
+/// The box of a pin, in the frame of its block.
+pub fn pin_box<G: Grid>(p: &Pin) -> BoxOf<G>
+    requires { IsOnSheet p.now }
+    ensures value { result ≡ pin_box G.BITS p.now }
+    ensures nested { HoldsFinerPoint G.BITS p.now result }
+{
+    BoxOf::Point {
+        x: Iv::of_um(p.x),
+        y: Iv::of_um(p.y),
+    }
 }

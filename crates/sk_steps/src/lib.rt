@@ -9,7 +9,7 @@ mod third;
 mod what;
 
 pub use boxes::{BoxOf, Given, LineBox, PointBox};
-pub use leaf::{leaf_boxes, opposite};
+pub use leaf::{leaf_boxes, opposite, pin_box};
 pub use parts::{cross, dist2, dot, named, normal_cross, normal_dot};
 pub use third::third_element;
 pub use what::What;
