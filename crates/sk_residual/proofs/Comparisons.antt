@@ -1,17 +1,15 @@
 -- Which sign is the first that is turned over, and the corners of the steps of a legal plan.
-use Rattle.std.proofs.Common.{inl, inr, ◌≡◌, ℕ, ◌+◌, ◌<◌, List, [], ◌∷◌, ◌++◌, length, get_or, take, pos, refl, sym, subst, ap}
+use Rattle.std.proofs.Common.{inl, inr, ◌≡◌, ℕ, ◌+◌, ◌<◌, List, [], ◌∷◌, ◌++◌, length, get_or, take, refl, sym, subst, ap}
 use Rattle.std.specs.Prelude.{Contains, Option, Some, None, IsSome, IsNone, IfSome, ◌↔◌}
 use Rattle.std.specs.List.{flat_map}
 use Rattle.std.specs.Option.{option_map}
 use Rattle.std.proofs.lemmas.List.Elements.{Contains-append_right, Contains-append_cases}
-use Rattle.sk_base.specs.declared.Constraint.{Constraint}
 use Rattle.sk_base.specs.declared.Elem.{Elem}
 use Rattle.sk_base.specs.declared.Element.{Element}
 use Rattle.sk_base.specs.declared.Graph.{Graph}
 use Rattle.sk_base.specs.declared.Kind.{Kind}
 use Rattle.sk_base.specs.declared.Name.TheVariants.{Con}
 use Rattle.sk_base.specs.declared.Node.{Node}
-use Rattle.sk_base.specs.declared.Rule.TheVariants.{Distance}
 use Rattle.sk_base.specs.declared.Sign.TheVariants.{Plus}
 use Rattle.sk_base.specs.declared.Sketch.{Sketch}
 use Rattle.sk_base.specs.Drawn.{shape_of}
@@ -64,7 +62,7 @@ some_first signs None compared = tt
 some_first signs (Some sign) first = first
 
 -- each step of a legal plan is one that its family may take
-legal_step : (g : Graph) (f : Clusters) (steps : List PlanStep) → AreLegalSteps g f steps → (step : PlanStep) → Contains steps step → (at : Clusters) × IsLegalStep g at step
+pub legal_step : (g : Graph) (f : Clusters) (steps : List PlanStep) → AreLegalSteps g f steps → (step : PlanStep) → Contains steps step → (at : Clusters) × IsLegalStep g at step
 legal_step g f [] legal step h = absurd (contains_none step h)
 legal_step g f (s ∷ ss) legal step h =
     elim (contains_cases s ss step h) [
@@ -107,9 +105,6 @@ module _ (s : Sketch) (sound : IsSoundSketch s) where
   corners_of plan legal step h =
       let taken = legal_step (graph_of s) (initial_clusters (graph_of s)) plan.steps legal.steps step h in
       corners_at taken.0 step taken.1
-
-abbrev pub any_constraint : Constraint
-any_constraint = record { number = record { 0 = 0 }; rule = Distance (record { 0 = 0 }) (record { 0 = 0 }) (record { 0 = pos 0 }) }
 
 abbrev pub any_step : PlanStep
 any_step = record { step = Con 0; one = Con 0; two = Con 0; three = Con 0; a = record { 0 = 0 }; b = record { 0 = 0 }; c = record { 0 = 0 }; keeps = Con 0; choice = Turn Plus }

@@ -1,21 +1,23 @@
 -- How the elements of a sound sketch are drawn, and that they are placed so.
-use Rattle.std.proofs.Common.{◌≡◌, ◌==◌, pos, refl, sym, subst, arith}
+use Rattle.std.proofs.Common.{◌≡◌, ◌==◌, List, get_or, pos, refl, sym, subst, arith}
 use Rattle.std.specs.Prelude.{Contains, Option, None, Some, IsSome, unwrap_or}
 use Rattle.std.specs.Option.{option_map}
 use Rattle.std.proofs.lemmas.Bool.Decides.{nat_tests}
 use Rattle.sk_base.specs.declared.Elem.{Elem}
 use Rattle.sk_base.specs.declared.Element.{Element}
 use Rattle.sk_base.specs.declared.Kind.TheVariants as kinds
+use Rattle.sk_base.specs.declared.Pin.{Pin}
 use Rattle.sk_base.specs.declared.Placed.{Placed}
 use Rattle.sk_base.specs.declared.Shape.{Shape}
 use Rattle.sk_base.specs.declared.Shape.TheVariants.{Point, Line, Circle}
 use Rattle.sk_base.specs.declared.Sketch.{Sketch}
 use Rattle.sk_base.specs.Drawn.{element_of, shape_of, IsLine, HasCentre}
 use Rattle.sk_base.specs.Numbering.{elem_exact}
+use Rattle.sk_base.specs.SoundSketch.{IsCentred, IsSoundBlock}
 use Rattle.sk_base.proofs.Finding.{found_in}
 use Rattle.sk_base.proofs.Members.{contains_mapped}
 use Rattle.sk_graph.specs.SketchGraph.{kind_of, node_of, drawn_as, graph_of}
-use Rattle.sk_residual.specs.Placing.{IsPlacedAs, PlacesExactly}
+use Rattle.sk_residual.specs.Placing.{IsPlacedAs, AreMeasurable, PlacesExactly}
 use Rattle.sk_residual.specs.Telling.{IsDrawnPoint, IsDrawnLine}
 
 -- the element of the sketch that is drawn so
@@ -57,3 +59,17 @@ module _ (s : Sketch) (p : Placed) (exactly : PlacesExactly (graph_of s) p) (e :
 
   pub placed_line : IsDrawnLine s e → IsPlacedAs p e kinds.Line
   placed_line (drawn, line) = line_kind (drawn_as s e) line (placed_as drawn)
+
+-- the pins of a sound block are placed as points
+centred_drawn : (s : Sketch) (e : Elem) → IsCentred (shape_of s e) → IsDrawnPoint s e
+centred_drawn s e centred = at (shape_of s e) centred
+  where
+    at : (o : Option Shape) → IsCentred o → IsSome o × HasCentre (unwrap_or o (Point (record { 0 = pos 0 }) (record { 0 = pos 0 })))
+    at None centred = absurd centred
+    at (Some shape) centred = (refl, centred)
+
+pub block_measurable : (s : Sketch) (p : Placed) → PlacesExactly (graph_of s) p → (pins : List Pin) → IsSoundBlock s pins → AreMeasurable p pins
+block_measurable s p exactly pins sound = record {
+  on_sheet = sound.sound.on_sheet;
+  placed = λ i d i_in. placed_point s p exactly (get_or pins i d).elem (centred_drawn s (get_or pins i d).elem (sound.centred i d i_in));
+}

@@ -4,7 +4,8 @@ use Rattle.std.specs.Prelude.{Contains}
 use Rattle.std.specs.List.{flat_map}
 use Rattle.std.proofs.lemmas.Grind.{flat_map-append}
 use Rattle.std.proofs.lemmas.List.{take_more, at_drop_more, take-append-drop}
-use Rattle.std.proofs.lemmas.List.Elements.{Contains-append_cases}
+use Rattle.std.proofs.lemmas.List.Elements.{Contains-append_right, Contains-append_cases}
+use Rattle.sk_base.proofs.Members.{contains_head}
 use Rattle.sk_residual.specs.Least.{IsFirst}
 
 pub appended : {X : Type 0} (P : X → Type 0) (xs ys : List X) (x : X) → IsFirst P xs x → IsFirst P (xs ++ ys) x
@@ -15,6 +16,9 @@ appended P xs ys x first = record {
   has = first.has;
   none_before = first.none_before;
 }
+
+pub first_inside : {X : Type 0} (P : X → Type 0) (xs : List X) (x : X) → IsFirst P xs x → Contains xs x
+first_inside P xs x first = subst (λ ys. Contains ys x) (sym first.parts) (Contains-append_right first.before (x ∷ first.after) x (contains_head x first.after))
 
 module _ {X : Type 0} (P Q : X → Type 0) (excludes : (x : X) → Q x → ¬ P x) where
   -- each item has Q

@@ -9,3 +9,7 @@ pub mod Drawings
 pub mod Comparisons
 pub mod InOrder
 pub mod OneMeasured
+pub mod Rising
+pub mod Merging
+pub mod BlockLeast
+pub mod Threes

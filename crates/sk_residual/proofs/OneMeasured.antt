@@ -1,14 +1,14 @@
 -- What is measured of a placed sketch is one answer.
-use Rattle.std.proofs.Common.{◌≡◌, ◌⊎◌, inl, inr, ℕ, ◌<◌, ◌≤◌, List, [], ◌∷◌, ◌++◌, Option, None, Some, refl, ap, sym, subst, ◌∙◌, arith}
+use Rattle.std.proofs.Common.{◌≡◌, ◌⊎◌, inl, inr, ℕ, List, [], ◌∷◌, ◌++◌, Option, None, Some, refl, ap, sym, subst, ◌∙◌, arith}
 use Rattle.std.specs.Prelude.{Contains}
-use Rattle.std.proofs.lemmas.List.Elements.{Contains-append_right}
 use Rattle.sk_base.specs.declared.Placed.{Placed}
 use Rattle.sk_base.proofs.Members.{contains_head, contains_later, contains_none}
 use Rattle.sk_residual.specs.declared.beyond.Beyond.{Beyond}
 use Rattle.sk_residual.specs.declared.spotted.Spotted.{Spotted}
 use Rattle.sk_residual.specs.declared.turned.Turned.{Turned}
 use Rattle.sk_residual.specs.Least.{IsLeast, IsFirst}
-use Rattle.sk_residual.specs.Tolerances.{Item, name_of, Holds, IsOwnLeast, AllHold, IsWorst, IsWorstUnlessNone, IsAbove, IsFirstBeyond}
+pub use Rattle.sk_residual.proofs.Firsts.{first_inside}
+use Rattle.sk_residual.specs.Tolerances.{Item, name_of, Holds, IsOwnLeast, AllHold, IsWorstUnlessNone, IsAbove, IsFirstBeyond}
 use Rattle.sk_residual.specs.Turns.{IsTurned, AllAsDrawn}
 
 pub one_least : (P : ℕ → Type 0) (n m : ℕ) → IsLeast P n → IsLeast P m → n ≡ m
@@ -31,9 +31,6 @@ module _ {X : Type 0} where
         | inl is ↦ is
         | inr rest ↦ elim rest [ inl h ↦ absurd (first.none_before y h second.has) | inr h ↦ absurd (second.none_before x h first.has) ]
       ]
-
-  pub first_inside : (P : X → Type 0) (xs : List X) (x : X) → IsFirst P xs x → Contains xs x
-  first_inside P xs x first = subst (λ ys. Contains ys x) (sym first.parts) (Contains-append_right first.before (x ∷ first.after) x (contains_head x first.after))
 
 module _ (p : Placed) (items : List Item) where
   pub one_beyond : (limit : ℕ) (b d : Beyond) → IsFirstBeyond p items limit b → IsFirstBeyond p items limit d → b ≡ d

@@ -1,21 +1,20 @@
 -- Which item is the first that passes a limit.
 use Rattle.std.proofs.Common.{inl, inr, ◌≡◌, ℕ, ◌+◌, ◌≤◌, ◌<◌, List, [], ◌∷◌, ◌++◌, length, get_or, take, refl, sym, subst, arith}
-use Rattle.std.specs.Prelude.{Contains, Option, Some, None, IsNone, IfSome, ◌↔◌}
+use Rattle.std.specs.Prelude.{Contains, map, Option, Some, None, IsNone, IfSome, ◌↔◌}
 use Rattle.std.specs.List.{flat_map}
 use Rattle.std.proofs.lemmas.List.Elements.{Contains-append_right, Contains-append_cases}
 use Rattle.std.proofs.lemmas.List.Concat.{flat_map_single}
-use Rattle.sk_base.specs.declared.Edge.{Edge}
 use Rattle.sk_base.specs.declared.Placed.{Placed}
 use Rattle.sk_base.proofs.Members.{contains_none, contains_head, contains_one}
 use Rattle.sk_residual.specs.declared.spotted.Spotted.{Spotted}
 use Rattle.sk_residual.specs.declared.beyond.Beyond.{Beyond}
-use Rattle.sk_residual.specs.Tolerances.{Item, constraint, constraints, name_of, Holds, IsOwnLeast, AllHold, IsAbove, IsFirstBeyond}
+use Rattle.sk_residual.specs.Tolerances.{Item, name_of, Holds, IsOwnLeast, AllHold, IsAbove, IsFirstBeyond}
 use Rattle.sk_residual.specs.Telling.{IsSearched}
 use Rattle.sk_residual.proofs.Firsts.{appended, behind, all_so_far, first_there}
 use Rattle.sk_residual.proofs.Worsts.{holds_more}
 
 module _ (p : Placed) (limit : ℕ) where
-  excludes : (item : Item) → Holds p item limit → ¬ IsAbove p limit item
+  pub excludes : (item : Item) → Holds p item limit → ¬ IsAbove p limit item
   excludes item h (n, own, lt) = (let le : n ≤ limit = own.least limit h in omega arith)
 
   -- of one item
@@ -70,19 +69,20 @@ module _ (p : Placed) (limit : ℕ) where
       limited = beyond.limited;
     }
 
-  module _ (edges : List Edge) (i : ℕ) (d : Edge) (inside : i < length edges) where
-    as_flat : (es : List Edge) → flat_map (λ (e : Edge). constraint e ∷ []) es ≡ constraints es
-    as_flat es = flat_map_single (λ (e : Edge). constraint e) es
+  -- of items that are looked through one by one
+  module _ {Y : Type 0} (f : Y → Item) (ys : List Y) (i : ℕ) (d : Y) (inside : i < length ys) where
+    as_flat : (zs : List Y) → flat_map (λ y. f y ∷ []) zs ≡ map f zs
+    as_flat zs = flat_map_single f zs
 
-    pub constraints_more : AllHold p (constraints (take i edges)) limit → AllHold p (constraint (get_or edges i d) ∷ []) limit → AllHold p (constraints (take (i + 1) edges)) limit
-    constraints_more early here =
-        subst (λ xs. AllHold p xs limit) (as_flat (take (i + 1) edges))
-        (all_hold_more (λ (e : Edge). constraint e ∷ []) edges i d inside (subst (λ xs. AllHold p xs limit) (sym (as_flat (take i edges))) early) here)
+    pub mapped_more : AllHold p (map f (take i ys)) limit → AllHold p (f (get_or ys i d) ∷ []) limit → AllHold p (map f (take (i + 1) ys)) limit
+    mapped_more early here =
+        subst (λ xs. AllHold p xs limit) (as_flat (take (i + 1) ys))
+        (all_hold_more (λ y. f y ∷ []) ys i d inside (subst (λ xs. AllHold p xs limit) (sym (as_flat (take i ys))) early) here)
 
-    pub constraint_there : (b : Beyond) → AllHold p (constraints (take i edges)) limit → IsFirstBeyond p (constraint (get_or edges i d) ∷ []) limit b → IsFirstBeyond p (constraints edges) limit b
-    constraint_there b early beyond =
-        subst (λ xs. IsFirstBeyond p xs limit b) (as_flat edges)
-        (beyond_there (λ (e : Edge). constraint e ∷ []) edges i d inside b (subst (λ xs. AllHold p xs limit) (sym (as_flat (take i edges))) early) beyond)
+    pub mapped_there : (b : Beyond) → AllHold p (map f (take i ys)) limit → IsFirstBeyond p (f (get_or ys i d) ∷ []) limit b → IsFirstBeyond p (map f ys) limit b
+    mapped_there b early beyond =
+        subst (λ xs. IsFirstBeyond p xs limit b) (as_flat ys)
+        (beyond_there (λ y. f y ∷ []) ys i d inside b (subst (λ xs. AllHold p xs limit) (sym (as_flat (take i ys))) early) beyond)
 
   -- where all of the first hold, what is found is found in the second
   pub searched_behind : (xs ys : List Item) (o : Option Beyond) → AllHold p xs limit → IsSearched p ys limit o → IsSearched p (xs ++ ys) limit o

@@ -1,18 +1,20 @@
 -- What the places of the ends of a constraint are like.
-use Rattle.std.proofs.Common.{pos}
+use Rattle.std.proofs.Common.{pos, [], get_or}
 use Rattle.std.specs.Prelude.{Contains}
 use Rattle.sk_base.specs.declared.Elem.{Elem}
 use Rattle.sk_base.specs.declared.Kind.{Kind}
 use Rattle.sk_base.specs.declared.Kind.TheVariants as kinds
 use Rattle.sk_base.specs.declared.Node.{Node}
 use Rattle.sk_base.specs.declared.Edge.{Edge}
+use Rattle.sk_base.specs.declared.Block.{Block}
+use Rattle.sk_base.specs.declared.Pin.{Pin}
 use Rattle.sk_base.specs.declared.Measure.{Measure}
 use Rattle.sk_base.specs.declared.Measure.TheVariants.{PointPoint, PointLine, LineLine}
 use Rattle.sk_base.specs.declared.Graph.{Graph}
 use Rattle.sk_base.specs.declared.Placed.{Placed}
 use Rattle.sk_base.specs.SoundGraph.{IsSoundGraph, HasNode, Measures}
 use Rattle.sk_residual.specs.Holding.{FitsKinds}
-use Rattle.sk_residual.specs.Placing.{lies, IsPlacedAs, EndsArePlaced, IsModerate, IsMeasurable, PlacesExactly}
+use Rattle.sk_residual.specs.Placing.{lies, IsPlacedAs, EndsArePlaced, IsModerate, IsMeasurable, AreMeasurable, PlacesExactly}
 
 module _ (p : Placed) (u v : Elem) where
   pub first_end : (m : Measure) → EndsArePlaced p u v m → (kind : Kind) × IsPlacedAs p u kind
@@ -51,8 +53,20 @@ module _ (g : Graph) (p : Placed) (sound : IsSoundGraph g) (exactly : PlacesExac
       let measures = sound.edges_measure e h in
       record { moderate = moderate_of g e.u e.v e.measure measures; ends = ends_of e.u e.v e.measure measures }
 
+  -- so can each block
+  pub block_measurable : (b : Block) → Contains g.blocks b → AreMeasurable p b.pins
+  block_measurable b h =
+      let of = sound.blocks_sound b h in
+      record { on_sheet = of.pins.on_sheet; placed = λ i d i_in. placed_node (get_or b.pins i d).elem kinds.Point (of.at_points i d i_in) }
+
 abbrev pub any_node : Node
 any_node = record { elem = record { 0 = 0 }; kind = kinds.Point }
 
 abbrev pub any_edge : Edge
 any_edge = record { id = record { 0 = 0 }; u = record { 0 = 0 }; v = record { 0 = 0 }; measure = PointPoint (record { 0 = pos 0 }) }
+
+abbrev pub any_block : Block
+any_block = record { id = record { 0 = 0 }; pins = [] }
+
+abbrev pub any_pin : Pin
+any_pin = record { elem = record { 0 = 0 }; x = record { 0 = pos 0 }; y = record { 0 = pos 0 } }

@@ -1,5 +1,5 @@
 -- How the worst of some items grows with one more.
-use Rattle.std.proofs.Common.{◌≡◌, inl, inr, ℕ, ◌+◌, ◌-◌, ◌≤◌, ◌<◌, List, [], ◌∷◌, ◌++◌, refl, sym, subst, ap, ◌∙◌, arith}
+use Rattle.std.proofs.Common.{◌≡◌, inl, inr, ℕ, ◌+◌, ◌-◌, ◌≤◌, ◌<◌, List, [], ◌∷◌, ◌++◌, get_or, refl, sym, subst, ap, ◌∙◌, arith}
 use Rattle.std.specs.Prelude.{Contains, Option, None, Some, is_none, ◌||◌, nat_lt, true, false}
 use Rattle.std.proofs.lemmas.Bool.Decides.{nat_tests}
 use Rattle.std.specs.List.{flat_map}
@@ -11,31 +11,35 @@ use Rattle.sk_base.specs.declared.At.TheVariants as places
 use Rattle.sk_base.specs.declared.Measure.{Measure}
 use Rattle.sk_base.specs.declared.Measure.TheVariants.{PointPoint, PointLine, LineLine}
 use Rattle.sk_base.specs.declared.Edge.{Edge}
+use Rattle.sk_base.specs.declared.Block.{Block}
+use Rattle.sk_base.specs.declared.ConId.{ConId}
+use Rattle.sk_base.specs.declared.Pin.{Pin}
 use Rattle.sk_base.specs.declared.Graph.{Graph}
 use Rattle.sk_base.specs.declared.Kind.TheVariants as kinds
 use Rattle.sk_base.specs.declared.Node.{Node}
 use Rattle.sk_base.specs.declared.Placed.{Placed}
-use Rattle.sk_base.proofs.Members.{contains_none, contains_head, contains_one, contains_cases}
+use Rattle.sk_base.proofs.Members.{contains_none, contains_head, contains_later, contains_one, contains_cases, mapped_from}
+use Rattle.sk_base.proofs.Unions.{union_cases, union_right}
 use Rattle.sk_residual.specs.declared.spotted.Spotted.{Spotted}
 use Rattle.sk_residual.specs.declared.spotted.Spotted.TheVariants.{Con, Line}
-use Rattle.sk_residual.proofs.Firsts.{appended}
-use Rattle.sk_residual.specs.Holding.{IsLength, IsOffset, IsNormal, IsMet, tolerance_of}
+use Rattle.sk_residual.proofs.Firsts.{appended, first_inside}
+use Rattle.sk_residual.specs.Holding.{IsLength, IsOffset, IsNormal, IsMet, AreAsGiven, tolerance_of}
 use Rattle.sk_residual.specs.Placing.{lies}
-use Rattle.sk_residual.specs.Tolerances.{Item, normal, constraint, name_of, Holds, IsOwnLeast, AllHold, IsMissed, IsWorst, IsWorstUnlessNone, distances, distance_of_measure, lengthwise, anglewise, normals, angles, normal_of_kind, angle_of_measure, AllHoldWithin}
+use Rattle.sk_residual.specs.Tolerances.{Item, normal, constraint, block, name_of, number_of, IsPairMet, ArePinsMet, rigid, Holds, IsOwnLeast, AllHold, IsMissed, IsWorst, IsWorstUnlessNone, distances, distance_of_measure, lengthwise, anglewise, normals, angles, normal_of_kind, angle_of_measure, AllHoldWithin}
 use Rattle.sk_residual.specs.Telling.{IsTold, constraint_of}
 
 -- what holds within n holds within more
-longer : (length square n m : ℕ) → n ≤ m → IsLength length square n → IsLength length square m
-longer length square n m le h = record {
-  not_shorter = (let squares = mul-le (length - m) (length - m) (length - n) (length - n) (omega arith) (omega arith) in let was = h.not_shorter in omega (arith, squares, was));
-  not_longer = (let squares = mul-le (length + n) (length + n) (length + m) (length + m) (omega arith) (omega arith) in let was = h.not_longer in omega (arith, squares, was));
+longer : (shortest longest square n m : ℕ) → n ≤ m → IsLength shortest longest square n → IsLength shortest longest square m
+longer shortest longest square n m le h = record {
+  not_shorter = (let squares = mul-le (shortest - m) (shortest - m) (shortest - n) (shortest - n) (omega arith) (omega arith) in let was = h.not_shorter in omega (arith, squares, was));
+  not_longer = (let squares = mul-le (longest + n) (longest + n) (longest + m) (longest + m) (omega arith) (omega arith) in let was = h.not_longer in omega (arith, squares, was));
 }
 
 wider : (unit offset n m : ℕ) → n ≤ m → IsOffset unit offset n → IsOffset unit offset m
 wider unit offset n m le h = (let more = mul-le n unit m unit le (omega arith) in omega (arith, more, h))
 
 met_more : (measure : Measure) (u v : At) (n m : ℕ) → n ≤ m → IsMet measure u v n → IsMet measure u v m
-met_more (PointPoint len) (places.Point x y) (places.Point z r) n m le h = longer _ _ n m le h
+met_more (PointPoint len) (places.Point x y) (places.Point z r) n m le h = longer _ _ _ n m le h
 met_more (PointLine len side) (places.Point x y) (places.Line a b c) n m le h = wider _ _ n m le h
 met_more (LineLine ratio sense) (places.Line a b c) (places.Line d e f) n m le h = wider _ _ n m le h
 met_more (PointPoint len) (places.Point x y) (places.Line a b c) n m le h = absurd h
@@ -45,14 +49,26 @@ met_more (PointLine len side) (places.Line a b c) v n m le h = absurd h
 met_more (LineLine ratio sense) (places.Point x y) v n m le h = absurd h
 met_more (LineLine ratio sense) (places.Line a b c) (places.Point x y) n m le h = absurd h
 
+given_more : (a b : Pin) (u v : At) (n m : ℕ) → n ≤ m → AreAsGiven a b u v n → AreAsGiven a b u v m
+given_more a b (places.Point x y) (places.Point z r) n m le h = longer _ _ _ n m le h
+given_more a b (places.Point x y) (places.Line d e f) n m le h = absurd h
+given_more a b (places.Line d e f) v n m le h = absurd h
+
 normal_more : (line : At) (n m : ℕ) → n ≤ m → IsNormal line n → IsNormal line m
 normal_more (places.Point x y) n m le h = absurd h
 normal_more (places.Line a b c) n m le h = wider _ _ n m le h
 
 module _ (p : Placed) where
+  pub pair_more : (a b : Pin) (n m : ℕ) → n ≤ m → IsPairMet p n a b → IsPairMet p m a b
+  pair_more a b n m le h = given_more a b (lies p a.elem) (lies p b.elem) n m le h
+
+  pub pins_more : (pins : List Pin) (n m : ℕ) → n ≤ m → ArePinsMet p pins n → ArePinsMet p pins m
+  pins_more pins n m le h i j d i_j j_in = pair_more (get_or pins i d) (get_or pins j d) n m le (h i j d i_j j_in)
+
   pub holds_more : (item : Item) (n m : ℕ) → n ≤ m → Holds p item n → Holds p item m
   holds_more (normal line) n m le h = normal_more (lies p line) n m le h
   holds_more (constraint e) n m le h = met_more e.measure (lies p e.u) (lies p e.v) n m le h
+  holds_more (block b) n m le h = pins_more b.pins n m le h
 
   pub told_none : IsTold p [] (record { least = 0; at = None })
   told_none = record {
@@ -109,27 +125,34 @@ module _ (p : Placed) where
     told_else worst (Some a) above told = told_kept_at worst a (grind (arith, nat_tests, above)) told
 
 -- only constraints are on a distance
-on_distance : (edges : List Edge) (item : Item) → Contains (distances edges) item → (e : Edge) × (constraint e ≡ item)
+pub on_distance : (edges : List Edge) (item : Item) → Contains (distances edges) item → (e : Edge) × Contains edges e × (constraint e ≡ item)
 on_distance [] item h = absurd (contains_none item h)
 on_distance (e ∷ edges) item h =
     elim (Contains-append_cases (distance_of_measure e e.measure) (distances edges) item h) [
-      | inl here ↦ at_edge e e.measure item here
-      | inr later ↦ on_distance edges item later
+      | inl here ↦ (e, contains_head e edges, at_edge e e.measure item here)
+      | inr later ↦ let found = on_distance edges item later in (found.0, contains_later e edges found.0 found.1, found.2)
     ]
   where
-    at_edge : (e : Edge) (m : Measure) (item : Item) → Contains (distance_of_measure e m) item → (d : Edge) × (constraint d ≡ item)
-    at_edge e (PointPoint len) item here = (e, contains_one _ _ here)
-    at_edge e (PointLine len side) item here = (e, contains_one _ _ here)
+    at_edge : (e : Edge) (m : Measure) (item : Item) → Contains (distance_of_measure e m) item → constraint e ≡ item
+    at_edge e (PointPoint len) item here = contains_one _ _ here
+    at_edge e (PointLine len side) item here = contains_one _ _ here
     at_edge e (LineLine ratio sense) item here = absurd (contains_none item here)
 
--- so the worst of them is named by a constraint
-pub worst_distance_named : (p : Placed) (edges : List Edge) (n : ℕ) (at : Option Spotted) → IsWorstUnlessNone p (distances edges) n at → IsWorstUnlessNone p (distances edges) n (option_map (λ k. Con k) (constraint_of at))
-worst_distance_named p edges n None worst = worst
-worst_distance_named p edges n (Some (Con k)) worst = worst
-worst_distance_named p edges n (Some (Line e)) worst =
-    let inside : Contains (distances edges) worst.item = subst (λ items. Contains items worst.item) (sym worst.first.parts) (Contains-append_right worst.first.before (worst.item ∷ worst.first.after) worst.item (contains_head worst.item worst.first.after)) in
-    let is = on_distance edges worst.item inside in
-    let named : name_of (constraint is.0) ≡ Line e = ap name_of is.1 ∙ worst.named in
+-- what is lengthwise is named by a constraint's number
+lengthwise_named : (g : Graph) (item : Item) → Contains (lengthwise g) item → (k : ConId) × (Con k ≡ name_of item)
+lengthwise_named g item h =
+    elim (union_cases number_of (rigid g.blocks) (distances g.edges) item h) [
+      | inl rigid_in ↦ let found = mapped_from (λ (b : Block). block b) g.blocks item rigid_in in (found.0.id, ap name_of found.2)
+      | inr distance ↦ let found = on_distance g.edges item distance in (found.0.id, ap name_of found.2)
+    ]
+
+-- so is the worst of it
+pub worst_lengthwise_named : (p : Placed) (g : Graph) (n : ℕ) (at : Option Spotted) → IsWorstUnlessNone p (lengthwise g) n at → IsWorstUnlessNone p (lengthwise g) n (option_map (λ k. Con k) (constraint_of at))
+worst_lengthwise_named p g n None worst = worst
+worst_lengthwise_named p g n (Some (Con k)) worst = worst
+worst_lengthwise_named p g n (Some (Line e)) worst =
+    let is = lengthwise_named g worst.item (first_inside (λ i. IsOwnLeast p i n) (lengthwise g) worst.item worst.first) in
+    let named : Con is.0 ≡ Line e = is.1 ∙ worst.named in
     absurd (cc)
 
 -- each item of its lists holds within the tolerance of its kind
@@ -147,19 +170,20 @@ edge_within p e t w (PointPoint len) distance angle = distance (contains_head (c
 edge_within p e t w (PointLine len side) distance angle = distance (contains_head (constraint e) [])
 edge_within p e t w (LineLine ratio sense) distance angle = angle (contains_head (constraint e) [])
 
-pub all_hold_within : (p : Placed) (g : Graph) (t w : ℕ) → AllHold p (lengthwise g) t → AllHold p (anglewise g) w → AllHoldWithin p g t w
-all_hold_within p g t w lengths rest = record {
+pub all_hold_within : (p : Placed) (g : Graph) (t w : ℕ) → ((b : Block) → Contains g.blocks b → Contains (lengthwise g) (block b)) → AllHold p (lengthwise g) t → AllHold p (anglewise g) w → AllHoldWithin p g t w
+all_hold_within p g t w has_blocks lengths rest = record {
   lines = λ line h. rest (normal line) (Contains-append_left (normals g.nodes) (angles g.edges) (normal line) (contains_flat (λ (n : Node). normal_of_kind n.elem n.kind) g.nodes (record { elem = line; kind = kinds.Line }) (normal line) h (contains_head (normal line) [])));
   edges = λ e h. edge_within p e t w e.measure
-      (λ here. lengths (constraint e) (contains_flat (λ (x : Edge). distance_of_measure x x.measure) g.edges e (constraint e) h here))
+      (λ here. lengths (constraint e) (union_right number_of (rigid g.blocks) (distances g.edges) (constraint e) (contains_flat (λ (x : Edge). distance_of_measure x x.measure) g.edges e (constraint e) h here)))
       (λ here. rest (constraint e) (Contains-append_right (normals g.nodes) (angles g.edges) (constraint e) (contains_flat (λ (x : Edge). angle_of_measure x x.measure) g.edges e (constraint e) h here)));
+  blocks = λ b h. lengths (block b) (has_blocks b h);
 }
 
 -- a smaller number than the least leaves one out, the worst
 missed : (p : Placed) (items : List Item) (n : ℕ) (at : Spotted) → IsWorst p items n at → (m : ℕ) → m < n → IsMissed p items m
 missed p items n at worst m lt = (
   worst.item,
-  subst (λ xs. Contains xs worst.item) (sym worst.first.parts) (Contains-append_right worst.first.before (worst.item ∷ worst.first.after) worst.item (contains_head worst.item worst.first.after)),
+  first_inside (λ i. IsOwnLeast p i n) items worst.item worst.first,
   λ held. (let few : n ≤ m = worst.first.has.least m held in omega arith),
 )
 

@@ -1,5 +1,5 @@
 -- Where the elements of a graph are placed.
-use Rattle.std.specs.Prelude.{◌≡◌, pos, List, [], ◌∷◌, Contains, IsSome, unwrap_or}
+use Rattle.std.specs.Prelude.{◌≡◌, pos, List, [], ◌∷◌, All, Contains, IsSome, unwrap_or}
 use Rattle.sk_base.specs.declared.Elem.{Elem}
 use Rattle.sk_base.specs.declared.Kind.{Kind}
 use Rattle.sk_base.specs.declared.Kind.TheVariants as kinds
@@ -12,7 +12,9 @@ use Rattle.sk_base.specs.declared.Measure.TheVariants.{PointPoint, PointLine, Li
 use Rattle.sk_base.specs.declared.Node.{Node}
 use Rattle.sk_base.specs.declared.Edge.{Edge}
 use Rattle.sk_base.specs.declared.Graph.{Graph}
+use Rattle.sk_base.specs.declared.Pin.{Pin}
 use Rattle.sk_base.specs.Bounds.{IsFromTo}
+use Rattle.sk_base.specs.Pins.{IsOnSheet}
 use Rattle.sk_base.specs.Places.{place_of, IsPoint, IsLine, IsBounded}
 use Rattle.sk_base.specs.SoundSketch.{IsSoundRatio}
 
@@ -65,3 +67,12 @@ IsModerate (LineLine ratio sense) = IsSoundRatio ratio
 pub record IsMeasurable (p : Placed) (e : Edge) : Type 0 where
   pub moderate : IsModerate e.measure
   pub ends : EndsArePlaced p e.u e.v e.measure
+
+-- the pin's element is placed as a point
+abbrev pub IsPinPlaced : Placed → Pin → Type 0
+IsPinPlaced p pin = IsPlacedAs p pin.elem kinds.Point
+
+-- the pins have places within the sheet, and elements that are placed as points
+pub record AreMeasurable (p : Placed) (pins : List Pin) : Type 0 where
+  pub on_sheet : All IsOnSheet pins
+  pub placed : All (IsPinPlaced p) pins

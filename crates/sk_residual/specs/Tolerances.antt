@@ -1,5 +1,5 @@
--- What has a tolerance: the normals of the lines, and the constraints.
-use Rattle.std.specs.Prelude.{◌≡◌, ℕ, ◌<◌, List, [], ◌∷◌, ◌++◌, map, Contains, Option, MatchOption}
+-- What has a tolerance: the normals of the lines, the constraints between two elements, and the blocks.
+use Rattle.std.specs.Prelude.{◌≡◌, ◌⊎◌, ℕ, ◌<◌, List, [], ◌∷◌, ◌++◌, map, AllPairs, Contains, Option, MatchOption}
 use Rattle.std.specs.List.{flat_map}
 use Rattle.sk_base.specs.declared.Elem.{Elem}
 use Rattle.sk_base.specs.declared.Kind.{Kind}
@@ -8,29 +8,51 @@ use Rattle.sk_base.specs.declared.Measure.{Measure}
 use Rattle.sk_base.specs.declared.Measure.TheVariants.{PointPoint, PointLine, LineLine}
 use Rattle.sk_base.specs.declared.Node.{Node}
 use Rattle.sk_base.specs.declared.Edge.{Edge}
+use Rattle.sk_base.specs.declared.Block.{Block}
+use Rattle.sk_base.specs.declared.Pin.{Pin}
 use Rattle.sk_base.specs.declared.Graph.{Graph}
 use Rattle.sk_base.specs.declared.Placed.{Placed}
+use Rattle.sk_base.specs.Rising.{IsRising, union}
 use Rattle.sk_base.specs.SoundGraph.{HasNode}
 use Rattle.sk_residual.specs.declared.spotted.Spotted.{Spotted}
 use Rattle.sk_residual.specs.declared.spotted.Spotted.TheVariants.{Con, Line}
 use Rattle.sk_residual.specs.declared.beyond.Beyond.{Beyond}
 use Rattle.sk_residual.specs.Least.{IsLeast, IsFirst}
-use Rattle.sk_residual.specs.Holding.{IsNormal, IsMet, tolerance_of}
+use Rattle.sk_residual.specs.Holding.{IsNormal, IsMet, AreAsGiven, tolerance_of}
 use Rattle.sk_residual.specs.Placing.{lies}
 
 pub data Item : Type 0 where
   normal : Elem → Item
   constraint : Edge → Item
+  block : Block → Item
 
 -- how the item is named
 abbrev pub name_of : Item → Spotted
 name_of (normal line) = Line line
 name_of (constraint e) = Con e.id
+name_of (block b) = Con b.id
+
+-- the number in that name
+abbrev pub number_in : Spotted → ℕ
+number_in (Con k) = k.0
+number_in (Line e) = e.0
+
+abbrev pub number_of : Item → ℕ
+number_of item = number_in (name_of item)
+
+-- the two pins lie as far apart as they are given, within t
+abbrev pub IsPairMet : Placed → ℕ → Pin → Pin → Type 0
+IsPairMet p t a b = AreAsGiven a b (lies p a.elem) (lies p b.elem) t
+
+-- each two of the pins do
+abbrev pub ArePinsMet : Placed → List Pin → ℕ → Type 0
+ArePinsMet p pins t = AllPairs (IsPairMet p t) pins
 
 -- where the elements are placed the item holds within n, which is a t or a w as the item asks
 abbrev pub Holds : Placed → Item → ℕ → Type 0
 Holds p (normal line) n = IsNormal (lies p line) n
 Holds p (constraint e) n = IsMet e.measure (lies p e.u) (lies p e.v) n
+Holds p (block b) n = ArePinsMet p b.pins n
 
 -- n is the item's own least number
 abbrev pub IsOwnLeast : Placed → Item → ℕ → Type 0
@@ -70,26 +92,44 @@ angle_of_measure e (LineLine ratio sense) = constraint e ∷ []
 abbrev pub angles : List Edge → List Item
 angles edges = flat_map (λ (e : Edge). angle_of_measure e e.measure) edges
 
--- what the tolerance of lengths is of
+-- the blocks, in order
+abbrev pub rigid : List Block → List Item
+rigid blocks = map (λ (b : Block). block b) blocks
+
+-- what the tolerance of lengths is of: the distances and the blocks, in order of number
 abbrev pub lengthwise : Graph → List Item
-lengthwise g = distances g.edges
+lengthwise g = union number_of (rigid g.blocks) (distances g.edges)
 
 -- what the tolerance of angles is of: the normals, then the angles
 abbrev pub anglewise : Graph → List Item
 anglewise g = normals g.nodes ++ angles g.edges
 
--- all constraints, in order
-abbrev pub constraints : List Edge → List Item
-constraints edges = map (λ (e : Edge). constraint e) edges
+-- the constraints between two elements, in order
+abbrev pub between : List Edge → List Item
+between edges = map (λ (e : Edge). constraint e) edges
+
+-- these and the blocks, in order of number
+abbrev pub constraints : Graph → List Item
+constraints g = union number_of (rigid g.blocks) (between g.edges)
 
 -- the normals, then all constraints
 abbrev pub everything : Graph → List Item
-everything g = normals g.nodes ++ constraints g.edges
+everything g = normals g.nodes ++ constraints g
 
--- each normal holds within w, each constraint within t or w, as it asks
+-- all has the items of both lists, in order of number as each of them is
+pub record AreMerged (xs ys all : List Item) : Type 0 where
+  pub first_rises : IsRising number_of xs
+  pub second_rises : IsRising number_of ys
+  pub rises : IsRising number_of all
+  pub first : (item : Item) → Contains xs item → Contains all item
+  pub second : (item : Item) → Contains ys item → Contains all item
+  pub no_others : (item : Item) → Contains all item → Contains xs item ⊎ Contains ys item
+
+-- each normal holds within w, each constraint within t or w, as it asks, and each block within t
 pub record AllHoldWithin (p : Placed) (g : Graph) (t w : ℕ) : Type 0 where
   pub lines : (line : Elem) → HasNode g line kinds.Line → Holds p (normal line) w
   pub edges : (e : Edge) → Contains g.edges e → Holds p (constraint e) (tolerance_of e.measure t w)
+  pub blocks : (b : Block) → Contains g.blocks b → Holds p (block b) t
 
 -- the first item whose own least number is n has that name
 pub record IsWorst (p : Placed) (items : List Item) (n : ℕ) (at : Spotted) : Type 0 where

@@ -1,18 +1,19 @@
 // Which constraint or line passes a limit.
 ghost use Rattle.std.specs.Prelude.{◌≡◌, ◌↔◌, [], ◌∷◌, Contains, IsNone, IfSome};
+ghost use Rattle.sk_base.specs.declared.Block.{Block as OfBlock};
 ghost use Rattle.sk_base.specs.declared.Edge.{Edge as OfEdge};
 ghost use Rattle.sk_base.specs.declared.Node.{Node as OfNode};
 ghost use Rattle.sk_base.specs.declared.Placed.{Placed as OfPlaced};
 ghost use Rattle.sk_base.specs.SoundGraph.{IsSoundGraph};
-ghost use Rattle.sk_residual.specs.Placing.{IsPlacedAs, IsMeasurable, PlacesExactly};
-ghost use Rattle.sk_residual.specs.Tolerances.{Item, name_of, AllHold, IsOwnLeast, IsFirstBeyond, normal_of_kind, normals, constraints, everything};
-ghost use Rattle.sk_residual.specs.Telling.{IsSearched};
+ghost use Rattle.sk_residual.specs.Placing.{IsPlacedAs, IsMeasurable, AreMeasurable, PlacesExactly};
+ghost use Rattle.sk_residual.specs.Tolerances.{Item, name_of, AllHold, IsOwnLeast, IsFirstBeyond, normal_of_kind, normals, between, rigid, constraints, everything};
+ghost use Rattle.sk_residual.specs.Telling.{IsSearched, earlier};
 
-use crate::holding::{own_least, own_least_of_normal};
+use crate::holding::{own_least, own_least_of_block, own_least_of_normal};
 use crate::spotted::Spotted;
-use sk_base::{Edge, Graph, Kind, Node, Placed};
+use sk_base::{Block, Edge, Graph, Kind, Node, Placed};
 
-/// A constraint, or a line by its normal, whose own least number is above the limit.
+/// A constraint, a block among them, or a line by its normal, whose own least number is above the limit.
 #[derive(Clone, Copy, Debug, PartialEq, Eq)]
 pub struct Beyond {
     pub at: Spotted,
@@ -30,7 +31,7 @@ pub fn passed(p: &Placed, g: &Graph, limit: u64) -> Option<Beyond>
 {
     match line_beyond(p, g.nodes.as_slice(), limit) {
         Some(beyond) => Some(beyond),
-        None => constraint_beyond(p, g.edges.as_slice(), limit),
+        None => constraint_beyond(p, g, limit),
     }
 }
 
@@ -47,10 +48,52 @@ fn line_beyond(p: &Placed, nodes: &[Node], limit: u64) -> Option<Beyond>
     None
 }
 
-/// The first constraint that passes the limit.
-fn constraint_beyond(p: &Placed, edges: &[Edge], limit: u64) -> Option<Beyond>
+/// The first constraint or block that passes the limit.
+fn constraint_beyond(p: &Placed, g: &Graph, limit: u64) -> Option<Beyond>
+    requires graph { IsSoundGraph g.now }
+    requires placed { PlacesExactly g.now p.now }
+    ensures { IsSearched p.now (constraints g.now) limit result }
+{
+    earlier(
+        block_beyond(p, g.blocks.as_slice(), limit),
+        edge_beyond(p, g.edges.as_slice(), limit),
+    )
+}
+
+/// The first of two by number.
+fn earlier(one: Option<Beyond>, other: Option<Beyond>) -> Option<Beyond>
+    ensures { result ≡ earlier one other }
+{
+    match (one, other) {
+        (None, _) => other,
+        (_, None) => one,
+        (Some(b), Some(beside)) => {
+            if b.at.number() < beside.at.number() {
+                one
+            } else {
+                other
+            }
+        }
+    }
+}
+
+/// The first block that passes the limit.
+fn block_beyond(p: &Placed, blocks: &[Block], limit: u64) -> Option<Beyond>
+    requires { (b : OfBlock) → Contains blocks.now b → AreMeasurable p.now b.pins }
+    ensures { IsSearched p.now (rigid blocks.now) limit result }
+{
+    for b in blocks {
+        if let Some(beyond) = passing(Spotted::Con(b.id), own_least_of_block(p, b), limit) {
+            return Some(beyond);
+        }
+    }
+    None
+}
+
+/// The first constraint between two elements that passes the limit.
+fn edge_beyond(p: &Placed, edges: &[Edge], limit: u64) -> Option<Beyond>
     requires { (e : OfEdge) → Contains edges.now e → IsMeasurable p.now e }
-    ensures { IsSearched p.now (constraints edges.now) limit result }
+    ensures { IsSearched p.now (between edges.now) limit result }
 {
     for e in edges {
         if let Some(beyond) = passing(Spotted::Con(e.id), own_least(p, e), limit) {

@@ -1,15 +1,16 @@
 // Whether constraints hold where their ends are placed, and their own least numbers.
-ghost use Rattle.std.specs.Prelude.{◌≡◌, ◌≤◌, ◌^◌, ◌↔◌, IsTrue, Contains};
+ghost use Rattle.std.specs.Prelude.{◌≡◌, ◌≤◌, ◌^◌, ◌↔◌, All, IsTrue, Contains};
 ghost use Rattle.sk_base.specs.declared.Graph.{Graph as OfGraph};
 ghost use Rattle.sk_base.specs.declared.Kind.TheVariants as kinds;
 ghost use Rattle.sk_base.specs.SoundGraph.{IsSoundGraph};
 ghost use Rattle.sk_residual.specs.Holding.{tolerance_of};
-ghost use Rattle.sk_residual.specs.Placing.{IsPlacedAs, EndsArePlaced, IsMeasurable};
-ghost use Rattle.sk_residual.specs.Tolerances.{normal, constraint, Holds, IsOwnLeast};
+ghost use Rattle.sk_residual.specs.Placing.{IsPlacedAs, EndsArePlaced, IsMeasurable, IsPinPlaced, AreMeasurable};
+ghost use Rattle.sk_residual.specs.Tolerances.{normal, constraint, block, Holds, IsOwnLeast};
 
 use crate::measured::{is_met, least_of, least_of_normal};
+use crate::pins::least_of_pins;
 use crate::place::place;
-use sk_base::{Edge, Elem, Measure, Placed};
+use sk_base::{Block, Edge, Elem, Measure, Placed};
 
 /// Whether the constraint holds within `t`, or within `w` if it is an angle.
 pub fn meets(p: &Placed, e: &Edge, t: u64, w: u64) -> bool
@@ -25,6 +26,16 @@ pub fn meets(p: &Placed, e: &Edge, t: u64, w: u64) -> bool
         place(p, e.v),
         tolerance_of(e.measure, t, w),
     )
+}
+
+/// Whether each two pins of the block lie as far apart as they are given, within `t`.
+pub fn meets_block(p: &Placed, b: &Block, t: u64) -> bool
+    requires block { (g : OfGraph) × IsSoundGraph g × Contains g.blocks b.now }
+    requires placed { All (IsPinPlaced p.now) b.now.pins }
+    requires t { t ≤ 2 ^ 62 }
+    ensures { IsTrue result ↔ Holds p.now (block b.now) t }
+{
+    own_least_of_block(p, b) <= t
 }
 
 /// Whether the line's normal holds within `w`.
@@ -51,6 +62,14 @@ pub(crate) fn own_least(p: &Placed, e: &Edge) -> u64
     ensures { IsOwnLeast p.now (constraint e.now) result }
 {
     least_of(e.measure, place(p, e.u), place(p, e.v))
+}
+
+/// The block's own least number.
+pub(crate) fn own_least_of_block(p: &Placed, b: &Block) -> u64
+    requires { AreMeasurable p.now b.now.pins }
+    ensures { IsOwnLeast p.now (block b.now) result }
+{
+    least_of_pins(p, b.pins.as_slice())
 }
 
 /// The own least number of the line's normal.

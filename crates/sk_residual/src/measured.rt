@@ -1,17 +1,19 @@
 // What a measure asks, and how far two places are from it.
-ghost use Rattle.std.specs.Prelude.{◌≡◌, ◌≤◌, ◌^◌, ◌*◌, ◌↔◌, IsTrue, unsigned_abs};
+ghost use Rattle.std.specs.Prelude.{◌≡◌, ◌≤◌, ◌^◌, ◌*◌, ◌↔◌, ℕ, IsTrue, unsigned_abs};
 ghost use Rattle.sk_base.specs.Bounds.{IsWithin, IsFromTo};
-ghost use Rattle.sk_base.specs.Places.{IsLine, IsBounded};
+ghost use Rattle.sk_base.specs.Pins.{IsOnSheet};
+ghost use Rattle.sk_base.specs.Places.{IsPoint, IsLine, IsBounded};
 ghost use Rattle.sk_base.specs.SoundSketch.{IsSoundRatio};
 ghost use Rattle.sk_residual.specs.Least.{IsLeast};
 ghost use Rattle.sk_residual.specs.Offsets.{billion, distance_squared, height_above, height_offset, normal_offset, angle_offset, angle_unit};
-ghost use Rattle.sk_residual.specs.Holding.{IsMet, IsNormal, FitsKinds};
+ghost use Rattle.sk_residual.specs.Holding.{IsMet, IsNormal, FitsKinds, given_squared, AreAsGiven};
 ghost use Rattle.sk_residual.specs.Placing.{IsModerate};
 
 use crate::length::{least_of_length, length_holds};
 use crate::offset::{least_of_offset, offset_holds};
 use crate::whole::{cross, dot, scaled, signed, squared_difference};
-use sk_base::{At, Measure, Ratio, Sign, Um};
+use sk_base::{At, Measure, Pin, Ratio, Sign, Um};
+use sk_root::{root_ceil, root_floor};
 
 /// Parts per 10^9 of one.
 const ONE: i64 = 1_000_000_000;
@@ -55,7 +57,8 @@ pub fn least_of(measure: Measure, u: At, v: At) -> u64
 {
     match (measure, u, v) {
         (Measure::PointPoint(len), At::Point { x, y }, At::Point { x: z, y: t }) => {
-            least_of_length(square_of(x, y, z, t), nanometres(len))
+            let length = nanometres(len);
+            least_of_length(square_of(x, y, z, t), length, length)
         }
         (Measure::PointLine(len, side), At::Point { x, y }, At::Line { a, b, c }) => {
             least_of_offset(height_offset(len, side, height(x, y, a, b, c)), UNIT)
@@ -65,6 +68,33 @@ pub fn least_of(measure: Measure, u: At, v: At) -> u64
         }
         _ => unreachable!(),
     }
+}
+
+/// The least number within which two points are as far apart as the pins are given.
+pub fn least_of_pair(a: &Pin, b: &Pin, u: At, v: At) -> u64
+    requires a { IsOnSheet a.now }
+    requires b { IsOnSheet b.now }
+    requires u { IsPoint u × IsBounded u }
+    requires v { IsPoint v × IsBounded v }
+    ensures { IsLeast (AreAsGiven a.now b.now u v) result }
+{
+    match (u, v) {
+        (At::Point { x, y }, At::Point { x: z, y: t }) => {
+            let given = given_squared(a, b);
+            least_of_length(square_of(x, y, z, t), root_floor(given), root_ceil(given))
+        }
+        _ => unreachable!(),
+    }
+}
+
+/// The square of the distance of two pins' given places, in nanometres.
+fn given_squared(a: &Pin, b: &Pin) -> u128
+    requires a { IsOnSheet a.now }
+    requires b { IsOnSheet b.now }
+    ensures value { result ≡ given_squared a.now b.now }
+    ensures within { result ≤ 2 ^ 83 }
+{
+    1_000_000 * square_of(a.x.0, a.y.0, b.x.0, b.y.0)
 }
 
 /// The least number within which the line's normal has length one.
@@ -96,6 +126,7 @@ fn square_of(x: i64, y: i64, z: i64, t: i64) -> u128
     requires t { IsWithin 1152921504606846976 t }
     ensures value { result ≡ distance_squared x y z t }
     ensures within { result ≤ 2 ^ 123 }
+    ensures small { (most : ℕ) → IsWithin most x → IsWithin most y → IsWithin most z → IsWithin most t → result ≤ 8 * (most * most) }
 {
     squared_difference(x, z) + squared_difference(y, t)
 }

@@ -1,19 +1,20 @@
 // The least tolerance of a placed sketch.
 ghost use Rattle.std.specs.Prelude.{◌≡◌, ◌<◌, ◌++◌, ℕ, List, Contains};
 ghost use Rattle.std.specs.Option.{option_map};
+ghost use Rattle.sk_base.specs.declared.Block.{Block as OfBlock};
 ghost use Rattle.sk_base.specs.declared.Edge.{Edge as OfEdge};
 ghost use Rattle.sk_base.specs.declared.Node.{Node as OfNode};
 ghost use Rattle.sk_base.specs.SoundGraph.{IsSoundGraph};
 ghost use Rattle.sk_residual.specs.Least.{IsLeast};
-ghost use Rattle.sk_residual.specs.Placing.{IsPlacedAs, IsMeasurable, PlacesExactly};
-ghost use Rattle.sk_residual.specs.Tolerances.{Item, AllHold, AllHoldWithin, IsMissed, IsWorstUnlessNone, normals, distances, angles, lengthwise, anglewise};
+ghost use Rattle.sk_residual.specs.Placing.{IsPlacedAs, IsMeasurable, AreMeasurable, PlacesExactly};
+ghost use Rattle.sk_residual.specs.Tolerances.{Item, AllHold, AllHoldWithin, IsMissed, IsWorstUnlessNone, normals, distances, rigid, angles, lengthwise, anglewise};
 ghost use Rattle.sk_residual.specs.Telling.{IsTold, constraint_of};
 
 use crate::spotted::Spotted;
 use crate::worst::Worst;
-use sk_base::{ConId, Edge, Graph, Node, Placed};
+use sk_base::{Block, ConId, Edge, Graph, Node, Placed};
 
-/// The least tolerances with which a placed sketch holds: `t` in nanometres for lengths and heights,
+/// The least tolerances with which a placed sketch holds: `t` in nanometres for lengths, heights and blocks,
 /// `w` in parts per 10^9 for angles and the normals of lines. The worst of each is the first whose own
 /// least number is the tolerance.
 #[derive(Clone, Copy, Debug, PartialEq, Eq)]
@@ -36,7 +37,7 @@ pub fn least(p: &Placed, g: &Graph) -> Tolerance
     ensures worst_t { IsWorstUnlessNone p.now (lengthwise g.now) result.t (option_map (λ k. Spotted.Con k) result.worst_t) }
     ensures worst_w { IsWorstUnlessNone p.now (anglewise g.now) result.w result.worst_w }
 {
-    let lengthwise = worst_distance(p, g.edges.as_slice());
+    let lengthwise = worst_block(p, g.blocks.as_slice()).or(worst_distance(p, g.edges.as_slice()));
     let anglewise = worst_angle(p, g.edges.as_slice(), worst_normal(p, g.nodes.as_slice()));
     Tolerance {
         t: lengthwise.least,
@@ -54,6 +55,18 @@ fn worst_distance(p: &Placed, edges: &[Edge]) -> Worst
     let mut worst = Worst::none();
     for e in edges {
         worst = worst.with_distance(p, e);
+    }
+    worst
+}
+
+/// The worst block.
+fn worst_block(p: &Placed, blocks: &[Block]) -> Worst
+    requires { (b : OfBlock) → Contains blocks.now b → AreMeasurable p.now b.pins }
+    ensures { IsTold p.now (rigid blocks.now) result }
+{
+    let mut worst = Worst::none();
+    for b in blocks {
+        worst = worst.with_block(p, b);
     }
     worst
 }

@@ -1,5 +1,5 @@
 // Products of whole numbers that stay within 128 bits.
-ghost use Rattle.std.specs.Prelude.{◌≡◌, ◌≤◌, ◌^◌, ◌-ℤ◌, ◌*ℤ◌, ℕ, unsigned_abs};
+ghost use Rattle.std.specs.Prelude.{◌≡◌, ◌≤◌, ◌^◌, ◌*◌, ◌-ℤ◌, ◌*ℤ◌, ℕ, unsigned_abs};
 ghost use Rattle.sk_base.specs.Bounds.{IsWithin};
 ghost use Rattle.sk_residual.specs.Offsets.{squared, signed, cross, dot};
 
@@ -55,6 +55,7 @@ pub fn squared_difference(a: i64, b: i64) -> u128
     requires b { IsWithin 1152921504606846976 b }
     ensures value { result ≡ squared (a -ℤ b) }
     ensures within { result ≤ 2 ^ 122 }
+    ensures small { (most : ℕ) → IsWithin most a → IsWithin most b → result ≤ 4 * (most * most) }
 {
     let difference = (i128::from(a) - i128::from(b)).unsigned_abs();
     difference * difference

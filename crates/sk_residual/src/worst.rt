@@ -1,13 +1,13 @@
 // The worst of several items, as it grows item by item.
 ghost use Rattle.std.specs.Prelude.{◌≡◌, ◌||◌, ◌++◌, [], ◌∷◌, List, nat_lt, is_none};
 ghost use Rattle.sk_base.specs.declared.Placed.{Placed as OfPlaced};
-ghost use Rattle.sk_residual.specs.Placing.{IsPlacedAs, IsMeasurable};
-ghost use Rattle.sk_residual.specs.Tolerances.{Item, name_of, IsOwnLeast, normal_of_kind, distance_of_measure, angle_of_measure};
-ghost use Rattle.sk_residual.specs.Telling.{IsTold};
+ghost use Rattle.sk_residual.specs.Placing.{IsPlacedAs, IsMeasurable, AreMeasurable};
+ghost use Rattle.sk_residual.specs.Tolerances.{Item, name_of, block, AreMerged, IsOwnLeast, normal_of_kind, distance_of_measure, angle_of_measure};
+ghost use Rattle.sk_residual.specs.Telling.{IsTold, is_worse};
 
-use crate::holding::{own_least, own_least_of_normal};
+use crate::holding::{own_least, own_least_of_block, own_least_of_normal};
 use crate::spotted::Spotted;
-use sk_base::{Edge, Kind, Measure, Node, Placed};
+use sk_base::{Block, Edge, Kind, Measure, Node, Placed};
 
 /// The least number within which some items hold, and the first of them whose own it is.
 #[derive(Clone, Copy)]
@@ -44,6 +44,35 @@ impl Worst {
         ensures { result ≡ (is_none self.at || nat_lt self.least least) }
     {
         self.at.is_none() || self.least < least
+    }
+
+    /// Of all items that the one or the other is of, which are in order of number.
+    pub fn or(self, other: Worst) -> Worst
+        ensures { (p : OfPlaced) (xs ys all : List Item) → AreMerged xs ys all → IsTold p xs self → IsTold p ys other → IsTold p all result }
+    {
+        if self.is_worse(other) { self } else { other }
+    }
+
+    /// Whether it has the greater least number or, where both are the same, the first name.
+    fn is_worse(self, other: Worst) -> bool
+        ensures { result ≡ is_worse self other }
+    {
+        match (self.at, other.at) {
+            (None, _) => false,
+            (_, None) => true,
+            (Some(at), Some(beside)) => {
+                self.least > other.least
+                    || (self.least == other.least && at.number() < beside.number())
+            }
+        }
+    }
+
+    /// With the block.
+    pub fn with_block(self, p: &Placed, b: &Block) -> Worst
+        requires { AreMeasurable p.now b.now.pins }
+        ensures { (items : List Item) → IsTold p.now items self → IsTold p.now (items ++ block b.now ∷ []) result }
+    {
+        self.with(Spotted::Con(b.id), own_least_of_block(p, b))
     }
 
     /// With the normal, if the node is a line.

@@ -1,24 +1,21 @@
-use Rattle.std.proofs.Common.{List, get_or, subst, refl, arith}
-use Rattle.std.proofs.lemmas.List.{take_all}
-use Rattle.std.proofs.lemmas.List.Elements.{Contains-get_or}
+use Rattle.std.proofs.Common.{List, subst}
+use Rattle.std.specs.Prelude.{Contains}
+use Rattle.sk_base.specs.declared.Block.{Block}
 use Rattle.sk_base.specs.declared.Edge.{Edge}
-use Rattle.sk_residual.specs.Tolerances.{constraint, constraints, AllHold}
-use Rattle.sk_residual.proofs.Placings.{any_edge}
-use Rattle.sk_residual.proofs.Passings.{constraints_more, constraint_there}
+use Rattle.sk_residual.specs.Tolerances.{rigid, between, constraints}
+use Rattle.sk_residual.proofs.Merging.{merged_constraints, searched_merged}
+use Rattle.sk_residual.proofs.Placings.{measurable, block_measurable}
 use Rattle.sk_residual.proofs.beyond.constraint_beyond.Goals as goal
 
-pub own_least-requires : goal.own_least-requires
-own_least-requires c = c.requires (get_or c.args.edges.now c.loop-e.e-index any_edge) (Contains-get_or c.args.edges.now c.loop-e.e-index any_edge (omega arith))
+pub block_beyond-requires : goal.block_beyond-requires
+block_beyond-requires c = λ b h. block_measurable c.args.g.now c.args.p.now c.requires.graph c.requires.placed b (subst (λ (xs : List Block). Contains xs b) c.as_slice.ensures h)
 
-pub returns-in-Some : goal.returns-in-Some
-returns-in-Some c =
-    let e : Edge = get_or c.args.edges.now c.loop-e.e-index any_edge in
-    constraint_there c.args.p.now c.args.limit c.args.edges.now c.loop-e.e-index any_edge (omega arith) c.in-Some.beyond c.loop-e.invariant (c.in-Some.ensures c.args.p.now (constraint e) c.own_least.ensures refl)
-
-pub loop-e-preserved : goal.loop-e-preserved
-loop-e-preserved c =
-    let e : Edge = get_or c.args.edges.now c.loop-e.e-index any_edge in
-    constraints_more c.args.p.now c.args.limit c.args.edges.now c.loop-e.e-index any_edge (omega arith) c.loop-e.invariant (c.in_default.ensures c.args.p.now (constraint e) c.own_least.ensures refl)
+pub edge_beyond-requires : goal.edge_beyond-requires
+edge_beyond-requires c = λ e h. measurable c.args.g.now c.args.p.now c.requires.graph c.requires.placed e (subst (λ (xs : List Edge). Contains xs e) c.as_slice-2.ensures h)
 
 pub returns : goal.returns
-returns c = subst (λ (xs : List Edge). AllHold c.args.p.now (constraints xs) c.args.limit) (take_all c.loop-e.e-index c.args.edges.now (omega arith)) c.loop-e.invariant
+returns c =
+    let g = c.args.g.now in
+    rw c.earlier.ensures
+    (searched_merged c.args.p.now (rigid g.blocks) (between g.edges) (constraints g) (merged_constraints g c.requires.graph) c.args.limit c.block_beyond.result c.edge_beyond.result
+    (rw c.as_slice.ensures at c.block_beyond.ensures) (rw c.as_slice-2.ensures at c.edge_beyond.ensures))

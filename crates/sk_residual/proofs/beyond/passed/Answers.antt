@@ -1,18 +1,13 @@
 use Rattle.std.proofs.Common.{List, subst}
 use Rattle.std.specs.Prelude.{Contains, Some}
-use Rattle.sk_base.specs.declared.Edge.{Edge}
 use Rattle.sk_base.specs.declared.Node.{Node}
 use Rattle.sk_residual.specs.Tolerances.{normals, constraints, everything, AllHold, IsFirstBeyond}
 use Rattle.sk_residual.specs.Telling.{IsSearched}
-use Rattle.sk_residual.proofs.Placings.{measurable}
 use Rattle.sk_residual.proofs.Passings.{beyond_appended, searched_behind, none_exactly, some_first}
 use Rattle.sk_residual.proofs.beyond.passed.Goals as goal
 
 pub line_beyond-requires : goal.line_beyond-requires
 line_beyond-requires c = λ n h. c.requires.placed.nodes n (subst (λ (xs : List Node). Contains xs n) c.as_slice.ensures h)
-
-pub constraint_beyond-requires : goal.constraint_beyond-requires
-constraint_beyond-requires c = λ e h. measurable c.args.g.now c.args.p.now c.requires.graph c.requires.placed e (subst (λ (xs : List Edge). Contains xs e) c.as_slice-in-None.ensures h)
 
 -- a line is found
 found : (c : goal.In-Some) → IsFirstBeyond c.args.p.now (everything c.args.g.now) c.args.limit c.in-Some.beyond
@@ -28,7 +23,7 @@ returns-in-Some-clause-some c = found c
 searched : (c : goal.After-constraint_beyond) → IsSearched c.args.p.now (everything c.args.g.now) c.args.limit c.constraint_beyond.result
 searched c =
     let lines : AllHold c.args.p.now (normals c.args.g.now.nodes) c.args.limit = rw c.as_slice.ensures at c.in-None.ensures in
-    searched_behind c.args.p.now c.args.limit (normals c.args.g.now.nodes) (constraints c.args.g.now.edges) c.constraint_beyond.result lines (rw c.as_slice-in-None.ensures at c.constraint_beyond.ensures)
+    searched_behind c.args.p.now c.args.limit (normals c.args.g.now.nodes) (constraints c.args.g.now) c.constraint_beyond.result lines c.constraint_beyond.ensures
 
 pub returns-in-None-clause-none : goal.returns-in-None-clause-none
 returns-in-None-clause-none c = none_exactly c.args.p.now c.args.limit (everything c.args.g.now) c.constraint_beyond.result (searched c)

@@ -17,7 +17,7 @@ returns-in-PointPoint-Point-Point c =
     let t64 : FitsSigned w64 is.t = omega (arith, ints, v_bounded) in
     let square : c.square_of.result ≡ distance_squared is.x is.y is.z is.t = simp to_z-of_z at c.square_of.ensures.value in
     let length : c.nanometres.result ≡ 1000 * unsigned_abs is.len.0 = c.nanometres.ensures.value in
-    let told : IsTrue c.length_holds.result ↔ IsLength c.nanometres.result c.square_of.result c.args.n = c.length_holds.ensures in
+    let told : IsTrue c.length_holds.result ↔ IsLength c.nanometres.result c.nanometres.result c.square_of.result c.args.n = c.length_holds.ensures in
     rw (is.is-0, is.is-1, is.is-2) (rw (square, length) at told)
 
 pub returns-in-PointLine-Point-Line : goal.returns-in-PointLine-Point-Line

@@ -16,8 +16,8 @@ returns-in-PointPoint-Point-Point c =
     let z64 : FitsSigned w64 is.z = omega (arith, ints, v_bounded) in
     let t64 : FitsSigned w64 is.t = omega (arith, ints, v_bounded) in
     let square : c.square_of.result ≡ distance_squared is.x is.y is.z is.t = simp to_z-of_z at c.square_of.ensures.value in
-    let length : c.nanometres.result ≡ 1000 * unsigned_abs is.len.0 = c.nanometres.ensures.value in
-    let told : IsLeast (IsLength c.nanometres.result c.square_of.result) c.least_of_length.result = c.least_of_length.ensures in
+    let length : c.nanometres-length.result ≡ 1000 * unsigned_abs is.len.0 = c.nanometres-length.ensures.value in
+    let told : IsLeast (IsLength c.nanometres-length.result c.nanometres-length.result c.square_of.result) c.least_of_length.result = c.least_of_length.ensures in
     rw (is.is-0, is.is-1, is.is-2) (rw (square, length) at told)
 
 pub returns-in-PointLine-Point-Line : goal.returns-in-PointLine-Point-Line

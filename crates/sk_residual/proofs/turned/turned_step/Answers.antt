@@ -2,8 +2,8 @@ use Rattle.std.proofs.Common.{List, get_or, subst, arith}
 use Rattle.std.proofs.lemmas.List.{take_all}
 use Rattle.std.proofs.lemmas.List.Elements.{Contains-get_or}
 use Rattle.sk_tree.specs.declared.PlanStep.{PlanStep}
-use Rattle.sk_tree.specs.ByNumber.{by_number}
-use Rattle.sk_residual.specs.Turns.{choices, step_signs, AllAsDrawn}
+use Rattle.sk_residual.specs.Turns.{AllAsDrawn}
+use Rattle.sk_residual.specs.Turns.{signs_of_step, signs_of_steps}
 use Rattle.sk_residual.proofs.Comparisons.{as_drawn_more, turned_there, any_step}
 use Rattle.sk_residual.proofs.turned.turned_step.Goals as goal
 
@@ -12,11 +12,11 @@ turned_choice-requires-clause-corners c = c.requires.corners (get_or c.args.step
 
 pub returns-in-Some : goal.returns-in-Some
 returns-in-Some c =
-    turned_there (λ (x : PlanStep). choices c.args.s.now c.args.p.now x.step (by_number x.a x.b x.c)) c.args.steps.now c.loop-step.step-index any_step (omega arith) c.in-Some.turned c.loop-step.invariant c.in-Some.ensures
+    turned_there (signs_of_step c.args.wanted c.args.s.now c.args.p.now) c.args.steps.now c.loop-step.step-index any_step (omega arith) c.in-Some.turned c.loop-step.invariant c.in-Some.ensures
 
 pub loop-step-preserved : goal.loop-step-preserved
 loop-step-preserved c =
-    as_drawn_more (λ (x : PlanStep). choices c.args.s.now c.args.p.now x.step (by_number x.a x.b x.c)) c.args.steps.now c.loop-step.step-index any_step (omega arith) c.loop-step.invariant c.in_default.ensures
+    as_drawn_more (signs_of_step c.args.wanted c.args.s.now c.args.p.now) c.args.steps.now c.loop-step.step-index any_step (omega arith) c.loop-step.invariant c.in_default.ensures
 
 pub returns : goal.returns
-returns c = subst (λ (xs : List PlanStep). AllAsDrawn (step_signs c.args.s.now c.args.p.now xs)) (take_all c.loop-step.step-index c.args.steps.now (omega arith)) c.loop-step.invariant
+returns c = subst (λ (xs : List PlanStep). AllAsDrawn (signs_of_steps c.args.wanted c.args.s.now c.args.p.now xs)) (take_all c.loop-step.step-index c.args.steps.now (omega arith)) c.loop-step.invariant
