@@ -1,5 +1,5 @@
 -- An element that is written is read again.
-use Rattle.std.proofs.Common.{◌≡◌, ◌≢◌, ℕ, ◌+◌, ◌<◌, ◌≤◌, Bool, true, false, not, ◌&&◌, cond, nat_le, nat_eq, List, [], ◌∷◌, ◌++◌, length, Some, None, is_none, refl, sym, ap, ◌∙◌, arith, ℤ, pos, negsuc, codes, bytes_eq, IsTrue}
+use Rattle.std.proofs.Common.{◌≡◌, ◌≢◌, ℕ, ◌+◌, ◌<◌, ◌≤◌, Bool, true, false, not, ◌&&◌, cond, nat_le, nat_eq, List, [], ◌∷◌, ◌++◌, length, Option, Some, None, is_none, refl, sym, ap, ◌∙◌, arith, ℤ, pos, negsuc, codes, bytes_eq, IsTrue}
 use Rattle.std.specs.Prelude.{Contains, AllPairs, ◌≤ℤ◌}
 use Rattle.std.specs.List.{find, position_or_len}
 use Rattle.std.specs.Ordering.{int_eq}
@@ -17,29 +17,38 @@ use Rattle.sk_base.specs.Millimetres.{mm_of}
 use Rattle.sk_base.specs.SoundSketch.{IsSoundShape, IsLength}
 use Rattle.sk_base.proofs.Members.{contains_head, contains_later}
 use Rattle.sk_base.proofs.Pairs.{pairs_head, pairs_tail}
-use Rattle.sk_text.specs.Spelling.{mm_text}
+use Rattle.sk_base.specs.Spelling.{mm_text}
 use Rattle.sk_text.proofs.ReadBack.{mm_of-mm_text}
+use Rattle.sk_lang.specs.declared.version.Version.{Version}
+use Rattle.sk_lang.specs.declared.version.Version.TheVariants.{One, Two}
+use Rattle.sk_lang.specs.declared.keyword.Keyword.{Keyword}
 use Rattle.sk_lang.specs.declared.keyword.Keyword.TheVariants.{Point, Line, Circle}
-use Rattle.sk_lang.specs.declared.progress.Progress.{Progress}
 use Rattle.sk_lang.specs.declared.progress.Progress.TheVariants.{Within}
 use Rattle.sk_lang.specs.Quantities.{um, length_of, not_negative}
 use Rattle.sk_lang.specs.Conditions.{is_zero}
 use Rattle.sk_lang.specs.FirstCode.{first_code}
-use Rattle.sk_lang.specs.Codes.{code_of, word_rows}
-use Rattle.sk_lang.specs.Meaning.{progress_after, progress_after_words}
-use Rattle.sk_lang.specs.Canonical.{spaced, shape_words}
+use Rattle.sk_lang.specs.Codes.{code_of, entry_rows}
+use Rattle.sk_lang.specs.Keywords.{keyword_of}
+use Rattle.sk_lang.specs.Meaning.{entry_made, added, next_elem, next_con, progress_after, progress_after_words, progress_within}
+use Rattle.sk_lang.specs.Canonical.{shape_words}
+use Rattle.sk_base.specs.Spelling.{spaced}
 use Rattle.sk_lang.specs.Renumbered.{elements_from}
 use Rattle.sk_base.proofs.Finding.{found_in}
 use Rattle.sk_lang.proofs.Finding.{same_bytes, equal_bytes}
 use Rattle.sk_lang.proofs.Passing.{Passes, passes_to}
-use Rattle.sk_lang.proofs.Written.{IsWrittenLine, literal, name_written, mm_written, magnitude_within, written_line}
+use Rattle.sk_lang.proofs.Written.{IsWrittenLine, AreWritten, literal, name_written, mm_written, magnitude_within, short_line, written_line}
+
+-- a keyword of both versions
+pub shared : (v : Version) (word : List ℕ) (k : Keyword) → keyword_of One word ≡ Some k → keyword_of Two word ≡ Some k → keyword_of v word ≡ Some k
+shared One word k one two = one
+shared Two word k one two = two
 
 -- the words of a line decide
-pub code_by_words : (progress : Progress) (line : List ℕ) (words : List (List ℕ)) → IsWrittenLine line words → first_code (word_rows progress words) ≡ None → code_of progress line ≡ None
-code_by_words progress line words is clean = rw (is.short, is.ascii, is.words_are) clean
+pub code_by_words : (v : Version) (s : Sketch) (line first : List ℕ) (rest : List (List ℕ)) (k : Keyword) → IsWrittenLine line (first ∷ rest) → keyword_of v first ≡ Some k → first_code (entry_rows s k rest) ≡ None → code_of (Within v s) line ≡ None
+code_by_words v s line first rest k is keyword clean = rw (is.short, is.ascii, is.words_are v, keyword) clean
 
-pub progress_by_words : (progress : Progress) (line : List ℕ) (words : List (List ℕ)) → IsWrittenLine line words → progress_after progress line ≡ progress_after_words progress words
-progress_by_words progress line words is = ap (progress_after_words progress) is.words_are
+pub progress_by_words : (v : Version) (s : Sketch) (line first : List ℕ) (rest : List (List ℕ)) (k : Keyword) → IsWrittenLine line (first ∷ rest) → keyword_of v first ≡ Some k → progress_after (Within v s) line ≡ Within v (added s (entry_made s k rest (next_elem s) (next_con s)))
+progress_by_words v s line first rest k is keyword = ap (progress_after_words (Within v s)) (is.words_are v) ∙ ap (λ (o : Option Keyword). progress_within v s o rest) keyword
 
 pub different_bytes : (a b : List ℕ) → a ≢ b → bytes_eq a b ≡ false
 different_bytes a b other = by (bytes_eq a b) refl
@@ -106,40 +115,47 @@ length_by (negsuc n) low = absurd (omega (arith, ints))
 pub length_back : (x : Um) → IsLength x → mm_of (mm_text x.0) ≡ Some x.0 → (is_none (length_of (mm_text x.0)) ≡ false) × (is_zero (length_of (mm_text x.0)) ≡ false)
 length_back x is back = rw back (length_by x.0 is.0)
 
--- an element's line that is written
+-- an element's words and its line, which is written
+pub words_written : (name : List ℕ) (s : Shape) → IsTrue (is_name name) → IsSoundShape s → AreWritten (shape_words name s)
+words_written name (shape.Point x y) is sound =
+    (literal (codes "point") (omega arith) (omega arith) refl, (name_written name is, (mm_written x.0 (magnitude_within 1000000000 x.0 sound.0), (mm_written y.0 (magnitude_within 1000000000 y.0 sound.1), tt))))
+words_written name (shape.Line x1 y1 x2 y2) is sound =
+    (literal (codes "line") (omega arith) (omega arith) refl, (name_written name is, (mm_written x1.0 (magnitude_within 1000000000 x1.0 sound.0), (mm_written y1.0 (magnitude_within 1000000000 y1.0 sound.1), (mm_written x2.0 (magnitude_within 1000000000 x2.0 sound.2), (mm_written y2.0 (magnitude_within 1000000000 y2.0 sound.3), tt))))))
+words_written name (shape.Circle x y r) is sound =
+    (literal (codes "circle") (omega arith) (omega arith) refl, (name_written name is, (mm_written x.0 (magnitude_within 1000000000 x.0 sound.0), (mm_written y.0 (magnitude_within 1000000000 y.0 sound.1), (mm_written r.0 (magnitude_within 1000000000 r.0 (length_within r sound.2)), tt)))))
+
 pub shape_written : (name : List ℕ) (s : Shape) → IsTrue (is_name name) → IsSoundShape s → IsWrittenLine (spaced (shape_words name s)) (shape_words name s)
-shape_written name (shape.Point x y) is sound =
-    written_line (codes "point") (name ∷ mm_text x.0 ∷ mm_text y.0 ∷ [])
-    (literal (codes "point") (omega arith) (omega arith) refl, (name_written name is, (mm_written x.0 (magnitude_within 1000000000 x.0 sound.0), (mm_written y.0 (magnitude_within 1000000000 y.0 sound.1), tt)))) (omega arith)
-shape_written name (shape.Line x1 y1 x2 y2) is sound =
-    written_line (codes "line") (name ∷ mm_text x1.0 ∷ mm_text y1.0 ∷ mm_text x2.0 ∷ mm_text y2.0 ∷ [])
-    (literal (codes "line") (omega arith) (omega arith) refl, (name_written name is, (mm_written x1.0 (magnitude_within 1000000000 x1.0 sound.0), (mm_written y1.0 (magnitude_within 1000000000 y1.0 sound.1), (mm_written x2.0 (magnitude_within 1000000000 x2.0 sound.2), (mm_written y2.0 (magnitude_within 1000000000 y2.0 sound.3), tt)))))) (omega arith)
-shape_written name (shape.Circle x y r) is sound =
-    written_line (codes "circle") (name ∷ mm_text x.0 ∷ mm_text y.0 ∷ mm_text r.0 ∷ [])
-    (literal (codes "circle") (omega arith) (omega arith) refl, (name_written name is, (mm_written x.0 (magnitude_within 1000000000 x.0 sound.0), (mm_written y.0 (magnitude_within 1000000000 y.0 sound.1), (mm_written r.0 (magnitude_within 1000000000 r.0 (length_within r sound.2)), tt))))) (omega arith)
+shape_written name (shape.Point x y) is sound = written_line (codes "point") (name ∷ mm_text x.0 ∷ mm_text y.0 ∷ []) (words_written name (shape.Point x y) is sound) (omega arith)
+shape_written name (shape.Line x1 y1 x2 y2) is sound = written_line (codes "line") (name ∷ mm_text x1.0 ∷ mm_text y1.0 ∷ mm_text x2.0 ∷ mm_text y2.0 ∷ []) (words_written name (shape.Line x1 y1 x2 y2) is sound) (omega arith)
+shape_written name (shape.Circle x y r) is sound = written_line (codes "circle") (name ∷ mm_text x.0 ∷ mm_text y.0 ∷ mm_text r.0 ∷ []) (words_written name (shape.Circle x y r) is sound) (omega arith)
+
+pub shape_short : (name : List ℕ) (s : Shape) → IsTrue (is_name name) → IsSoundShape s → length (spaced (shape_words name s)) ≤ 102
+shape_short name (shape.Point x y) is sound = short_line (codes "point") (name ∷ mm_text x.0 ∷ mm_text y.0 ∷ []) (words_written name (shape.Point x y) is sound) (omega arith)
+shape_short name (shape.Line x1 y1 x2 y2) is sound = short_line (codes "line") (name ∷ mm_text x1.0 ∷ mm_text y1.0 ∷ mm_text x2.0 ∷ mm_text y2.0 ∷ []) (words_written name (shape.Line x1 y1 x2 y2) is sound) (omega arith)
+shape_short name (shape.Circle x y r) is sound = short_line (codes "circle") (name ∷ mm_text x.0 ∷ mm_text y.0 ∷ mm_text r.0 ∷ []) (words_written name (shape.Circle x y r) is sound) (omega arith)
 
 same_element : (m n : ℕ) (name : List ℕ) (s t : Shape) → m ≡ n → s ≡ t → (let first : Element = record { number = record { 0 = m }; label = name; shape = s } in first) ≡ (let second : Element = record { number = record { 0 = n }; label = name; shape = t } in second)
 same_element m n name s t p q = rw (p, q) refl
 
 -- one more element
-grown : (done : List Element) (number : Elem) (name : List ℕ) (s t : Shape) → t ≡ s
-    → Within (record { elements = elements_from 1 done ++ record { number = record { 0 = length (elements_from 1 done) + 1 }; label = name; shape = t } ∷ []; constraints = [] }) ≡ Within (elements_so_far (done ++ record { number = number; label = name; shape = s } ∷ []))
-grown done number name s t same =
+grown : (v : Version) (done : List Element) (number : Elem) (name : List ℕ) (s t : Shape) → t ≡ s
+    → Within v (record { elements = elements_from 1 done ++ record { number = record { 0 = length (elements_from 1 done) + 1 }; label = name; shape = t } ∷ []; constraints = [] }) ≡ Within v (elements_so_far (done ++ record { number = number; label = name; shape = s } ∷ []))
+grown v done number name s t same =
     let count : length (elements_from 1 done) + 1 ≡ 1 + length done = let len = length_from 1 done in omega arith in
     let e : Element = record { number = number; label = name; shape = s } in
-    ap (λ (x : Element). Within (let sketch : Sketch = record { elements = elements_from 1 done ++ x ∷ []; constraints = [] } in sketch)) (same_element (length (elements_from 1 done) + 1) (1 + length done) name t s count same)
-    ∙ ap (λ (es : List Element). Within (let sketch : Sketch = record { elements = es; constraints = [] } in sketch)) (sym (elements_push 1 done e))
+    ap (λ (x : Element). Within v (let sketch : Sketch = record { elements = elements_from 1 done ++ x ∷ []; constraints = [] } in sketch)) (same_element (length (elements_from 1 done) + 1) (1 + length done) name t s count same)
+    ∙ ap (λ (es : List Element). Within v (let sketch : Sketch = record { elements = es; constraints = [] } in sketch)) (sym (elements_push 1 done e))
 
 room_left : (done : List Element) → length done < 2000 → nat_le 2000 (length (elements_from 1 done)) ≡ false
 room_left done few = let len = length_from 1 done in grind (arith, nat_tests)
 
 -- the line of an element is read as that element, with the next number
-unfoldable pub IsReadAgain : List Element → Elem → List ℕ → Shape → Type 0
-IsReadAgain done number name s =
-    (code_of (Within (elements_so_far done)) (spaced (shape_words name s)) ≡ None)
-    × (progress_after (Within (elements_so_far done)) (spaced (shape_words name s)) ≡ Within (elements_so_far (done ++ record { number = number; label = name; shape = s } ∷ [])))
+unfoldable pub IsReadAgain : Version → List Element → Elem → List ℕ → Shape → Type 0
+IsReadAgain v done number name s =
+    (code_of (Within v (elements_so_far done)) (spaced (shape_words name s)) ≡ None)
+    × (progress_after (Within v (elements_so_far done)) (spaced (shape_words name s)) ≡ Within v (elements_so_far (done ++ record { number = number; label = name; shape = s } ∷ [])))
 
-flat_not : (x1 y1 x2 y2 : Um) → ¬ ((x1 ≡ x2) × (y1 ≡ y2)) → (int_eq x1.0 x2.0 && int_eq y1.0 y2.0) ≡ false
+pub flat_not : (x1 y1 x2 y2 : Um) → ¬ ((x1 ≡ x2) × (y1 ≡ y2)) → (int_eq x1.0 x2.0 && int_eq y1.0 y2.0) ≡ false
 flat_not x1 y1 x2 y2 other = by (int_eq x1.0 x2.0) (int_eq y1.0 y2.0) refl refl
   where
     by : (a b : Bool) → int_eq x1.0 x2.0 ≡ a → int_eq y1.0 y2.0 ≡ b → (a && b) ≡ false
@@ -149,9 +165,9 @@ flat_not x1 y1 x2 y2 other = by (int_eq x1.0 x2.0) (int_eq y1.0 y2.0) refl refl
         let um_of : ℤ → Um = λ z. record { 0 = z } in
         absurd (other (ap um_of ((Decides-int_eq x1.0 x2.0).0 p), ap um_of ((Decides-int_eq y1.0 y2.0).0 q)))
 
-pub element_again : (done : List Element) (number : Elem) (name : List ℕ) (s : Shape) → IsTrue (is_name name) → IsSoundShape s → ((x : Element) → Contains done x → x.label ≢ name) → length done < 2000 → IsReadAgain done number name s
+pub element_again : (v : Version) (done : List Element) (number : Elem) (name : List ℕ) (s : Shape) → IsTrue (is_name name) → IsSoundShape s → ((x : Element) → Contains done x → x.label ≢ name) → length done < 2000 → IsReadAgain v done number name s
 unfolding IsReadAgain
-element_again done number name (shape.Point x y) is sound other few =
+element_again v done number name (shape.Point x y) is sound other few =
     let w = shape_written name (shape.Point x y) is sound in
     let xb = coordinate_back x sound.0 in
     let yb = coordinate_back y sound.1 in
@@ -171,10 +187,10 @@ element_again done number name (shape.Point x y) is sound other few =
       elements = room_left done few;
       constraints = refl;
     } in (
-      code_by_words (Within (elements_so_far done)) (spaced (codes "point" ∷ rest)) (codes "point" ∷ rest) w (passes_to (elements_so_far done) Point rest passes),
-      progress_by_words (Within (elements_so_far done)) (spaced (codes "point" ∷ rest)) (codes "point" ∷ rest) w ∙ grown done number name (shape.Point x y) (shape.Point (um (mm_text x.0)) (um (mm_text y.0))) (rw (um_back x xb, um_back y yb) refl),
+      code_by_words v (elements_so_far done) (spaced (codes "point" ∷ rest)) (codes "point") rest Point w (shared v (codes "point") Point refl refl) (passes_to (elements_so_far done) Point rest passes),
+      progress_by_words v (elements_so_far done) (spaced (codes "point" ∷ rest)) (codes "point") rest Point w (shared v (codes "point") Point refl refl) ∙ grown v done number name (shape.Point x y) (shape.Point (um (mm_text x.0)) (um (mm_text y.0))) (rw (um_back x xb, um_back y yb) refl),
     )
-element_again done number name (shape.Line x1 y1 x2 y2) is sound other few =
+element_again v done number name (shape.Line x1 y1 x2 y2) is sound other few =
     let w = shape_written name (shape.Line x1 y1 x2 y2) is sound in
     let x1b = coordinate_back x1 sound.0 in
     let y1b = coordinate_back y1 sound.1 in
@@ -196,10 +212,10 @@ element_again done number name (shape.Line x1 y1 x2 y2) is sound other few =
       elements = room_left done few;
       constraints = refl;
     } in (
-      code_by_words (Within (elements_so_far done)) (spaced (codes "line" ∷ rest)) (codes "line" ∷ rest) w (passes_to (elements_so_far done) Line rest passes),
-      progress_by_words (Within (elements_so_far done)) (spaced (codes "line" ∷ rest)) (codes "line" ∷ rest) w ∙ grown done number name (shape.Line x1 y1 x2 y2) (shape.Line (um (mm_text x1.0)) (um (mm_text y1.0)) (um (mm_text x2.0)) (um (mm_text y2.0))) (rw (um_back x1 x1b, um_back y1 y1b, um_back x2 x2b, um_back y2 y2b) refl),
+      code_by_words v (elements_so_far done) (spaced (codes "line" ∷ rest)) (codes "line") rest Line w (shared v (codes "line") Line refl refl) (passes_to (elements_so_far done) Line rest passes),
+      progress_by_words v (elements_so_far done) (spaced (codes "line" ∷ rest)) (codes "line") rest Line w (shared v (codes "line") Line refl refl) ∙ grown v done number name (shape.Line x1 y1 x2 y2) (shape.Line (um (mm_text x1.0)) (um (mm_text y1.0)) (um (mm_text x2.0)) (um (mm_text y2.0))) (rw (um_back x1 x1b, um_back y1 y1b, um_back x2 x2b, um_back y2 y2b) refl),
     )
-element_again done number name (shape.Circle x y r) is sound other few =
+element_again v done number name (shape.Circle x y r) is sound other few =
     let w = shape_written name (shape.Circle x y r) is sound in
     let xb = coordinate_back x sound.0 in
     let yb = coordinate_back y sound.1 in
@@ -221,6 +237,6 @@ element_again done number name (shape.Circle x y r) is sound other few =
       elements = room_left done few;
       constraints = refl;
     } in (
-      code_by_words (Within (elements_so_far done)) (spaced (codes "circle" ∷ rest)) (codes "circle" ∷ rest) w (passes_to (elements_so_far done) Circle rest passes),
-      progress_by_words (Within (elements_so_far done)) (spaced (codes "circle" ∷ rest)) (codes "circle" ∷ rest) w ∙ grown done number name (shape.Circle x y r) (shape.Circle (um (mm_text x.0)) (um (mm_text y.0)) (um (mm_text r.0))) (rw (um_back x xb, um_back y yb, um_back r rb) refl),
+      code_by_words v (elements_so_far done) (spaced (codes "circle" ∷ rest)) (codes "circle") rest Circle w (shared v (codes "circle") Circle refl refl) (passes_to (elements_so_far done) Circle rest passes),
+      progress_by_words v (elements_so_far done) (spaced (codes "circle" ∷ rest)) (codes "circle") rest Circle w (shared v (codes "circle") Circle refl refl) ∙ grown v done number name (shape.Circle x y r) (shape.Circle (um (mm_text x.0)) (um (mm_text y.0)) (um (mm_text r.0))) (rw (um_back x xb, um_back y yb, um_back r rb) refl),
     )

@@ -7,7 +7,8 @@ use Rattle.std.proofs.lemmas.Bool.Decides.{nat_tests}
 use Rattle.std.proofs.lemmas.Int.{ints}
 use Rattle.sk_base.specs.Bounds.{IsWithin, IsFromTo}
 use Rattle.sk_base.specs.Millimetres.{mm_of, at_most, has_sign, without_sign, with_sign, unsigned_um, digits_of}
-use Rattle.sk_base.specs.SoundSketch.{IsCoordinate, IsLength, IsSoundRatio}
+use Rattle.sk_base.specs.Bounds.{IsCoordinate}
+use Rattle.sk_base.specs.SoundSketch.{IsLength, IsSoundRatio}
 use Rattle.sk_lang.specs.Quantities.{not_negative, length_of, is_slash, part_of_ratio, parts_round, ratio_of, um, ratio}
 use Rattle.sk_lang.specs.Conditions.{is_zero}
 
@@ -15,7 +16,7 @@ signed_within : (most n : ℕ) (negative : Bool) → n ≤ most → IsWithin mos
 signed_within most n true few = (omega (arith, ints), omega (arith, ints))
 signed_within most n false few = (omega (arith, ints), omega (arith, ints))
 
-limited : (most : ℕ) (negative : Bool) (o : Option ℕ) → IsWithin most (unwrap_or (option_map (with_sign negative) (at_most most o)) (pos 0))
+pub limited : (most : ℕ) (negative : Bool) (o : Option ℕ) → IsWithin most (unwrap_or (option_map (with_sign negative) (at_most most o)) (pos 0))
 limited most negative None = (omega (arith, ints), omega (arith, ints))
 limited most negative (Some n) = by (nat_le n most) refl
   where

@@ -5,9 +5,11 @@ use Rattle.std.proofs.lemmas.Bool.Decides.{nat_tests}
 use Rattle.sk_base.specs.declared.Sketch.{Sketch}
 use Rattle.sk_lang.specs.declared.code.Code.{Code}
 use Rattle.sk_lang.specs.declared.code.Code.TheVariants.{E15, E16, E18, E19, E20}
+use Rattle.sk_lang.specs.declared.version.Version.{Version}
 use Rattle.sk_lang.specs.declared.progress.Progress.{Progress}
 use Rattle.sk_lang.specs.declared.progress.Progress.TheVariants.{Before, Within, After}
 use Rattle.sk_lang.specs.declared.keyword.Keyword.{Keyword}
+use Rattle.sk_lang.specs.Header.{words_at}
 use Rattle.sk_lang.specs.Keywords.{keyword_of}
 use Rattle.sk_lang.specs.Codes.{code_of, word_rows, is_none_left}
 use Rattle.sk_lang.specs.FirstCode.{first_code}
@@ -47,12 +49,12 @@ or_code_err None n rest m code e = inr (refl, e)
 or_code_err (Some found) n rest m code e =
     let same = err_same n m found code (Err (n, found)) (Err (m, code)) refl refl e in inl (ap (λ c. Some c) same.1, sym same.0)
 
-at_end_ok : (progress : Progress) (n : ℕ) (s : Sketch) → at_end progress n ≡ Ok s → progress ≡ After s
+at_end_ok : (progress : Progress) (n : ℕ) (s : Sketch) → at_end progress n ≡ Ok s → (v : Version) × (progress ≡ After v s)
 at_end_ok Before n s e = cc
-at_end_ok (Within t) n s e = cc
-at_end_ok (After t) n s e = cc
+at_end_ok (Within v t) n s e = cc
+at_end_ok (After v t) n s e = (let same : t ≡ s = cc in (v, ap (λ (u : Sketch). After v u) same))
 
-read_ok : (lines : List (List ℕ)) (progress : Progress) (n : ℕ) (s : Sketch) → read_from progress n lines ≡ Ok s → HaveNoCode progress lines × (progress_along progress lines ≡ After s)
+read_ok : (lines : List (List ℕ)) (progress : Progress) (n : ℕ) (s : Sketch) → read_from progress n lines ≡ Ok s → HaveNoCode progress lines × ((v : Version) × (progress_along progress lines ≡ After v s))
 read_ok [] progress n s e = (tt, at_end_ok progress n s e)
 read_ok (line ∷ lines) progress n s e =
     let head = or_code_ok (code_of progress line) n (read_from (progress_after progress line) (n + 1) lines) s e in
@@ -90,9 +92,9 @@ blank_by false false (w ∷ ws) e = cc
 blank_by false true ws e = cc
 blank_by true b ws e = cc
 
-step_by : (a b : Bool) (ws : List (List ℕ)) → first_code ((a, E15) ∷ (b, E19) ∷ word_rows Before ws) ≡ None → (((not a && not b && is_none_left ws) ≡ true) × (progress_after_words Before ws ≡ Before)) ⊎ (progress_after_words Before ws ≡ Within empty_sketch)
+step_by : (a b : Bool) (ws : List (List ℕ)) → first_code ((a, E15) ∷ (b, E19) ∷ word_rows Before ws) ≡ None → (((not a && not b && is_none_left ws) ≡ true) × (progress_after_words Before ws ≡ Before)) ⊎ ((v : Version) × (progress_after_words Before ws ≡ Within v empty_sketch))
 step_by false false [] e = inl (refl, refl)
-step_by false false (w ∷ ws) e = inr refl
+step_by false false (w ∷ ws) e = inr (_, refl)
 step_by false true ws e = cc
 step_by true b ws e = cc
 
@@ -108,20 +110,20 @@ abbrev is_begun : Progress → Bool
 is_begun Before = false
 is_begun _ = true
 
-begun_within : (s : Sketch) (k : Option Keyword) (ws : List (List ℕ)) → is_begun (progress_within s k ws) ≡ true
-begun_within s (Some k) ws = refl
-begun_within s None ws = refl
+begun_within : (v : Version) (s : Sketch) (k : Option Keyword) (ws : List (List ℕ)) → is_begun (progress_within v s k ws) ≡ true
+begun_within v s (Some k) ws = refl
+begun_within v s None ws = refl
 
 begun_next : (progress : Progress) (ws : List (List ℕ)) → is_begun progress ≡ true → is_begun (progress_after_words progress ws) ≡ true
 begun_next Before ws e = cc
-begun_next (Within s) [] e = refl
-begun_next (Within s) (w ∷ ws) e = begun_within s (keyword_of w) ws
-begun_next (After s) [] e = refl
-begun_next (After s) (w ∷ ws) e = refl
+begun_next (Within v s) [] e = refl
+begun_next (Within v s) (w ∷ ws) e = begun_within v s (keyword_of v w) ws
+begun_next (After v s) [] e = refl
+begun_next (After v s) (w ∷ ws) e = refl
 
 led_begun : (lines : List (List ℕ)) (progress : Progress) → is_begun progress ≡ true → is_begun (progress_along progress lines) ≡ true
 led_begun [] progress e = e
-led_begun (line ∷ lines) progress e = led_begun lines (progress_after progress line) (begun_next progress (words_in line) e)
+led_begun (line ∷ lines) progress e = led_begun lines (progress_after progress line) (begun_next progress (words_at progress line) e)
 
 pub still_before : (lines : List (List ℕ)) → HaveNoCode Before lines → progress_along Before lines ≡ Before → list_all is_blank_line lines ≡ true
 still_before [] clean led = refl
@@ -132,7 +134,7 @@ still_before (line ∷ lines) clean led =
           let led_rest : progress_along Before lines ≡ Before = ap (λ progress. progress_along progress lines) (sym blank.1) ∙ led in
           rw blank.0 (still_before lines clean_rest led_rest)
       | inr begun ↦
-          let stays : is_begun (progress_along (progress_after Before line) lines) ≡ true = led_begun lines (progress_after Before line) (ap is_begun begun) in
+          let stays : is_begun (progress_along (progress_after Before line) lines) ≡ true = led_begun lines (progress_after Before line) (ap is_begun begun.1) in
           let is : is_begun (progress_along (progress_after Before line) lines) ≡ false = ap is_begun led in absurd cc
     ]
 
@@ -146,7 +148,7 @@ Reads-from bytes s e = elim (chosen (nat_lt 1048576 (length bytes)) (Err (0, E20
   | inr short ↦
       let test = short.0 in
       let lines = read_ok (lines_in bytes) Before 1 s short.1 in
-      record { fits = grind (arith, nat_tests); clean = lines.0; ended = lines.1 }
+      record { version = lines.1.0; fits = grind (arith, nat_tests); clean = lines.0; ended = lines.1.1 }
 ]
 
 refuses_as : (bytes : List ℕ) (n m : ℕ) (c d : Code) → n ≡ m → c ≡ d → Refuses bytes n c → Refuses bytes m d
@@ -167,13 +169,13 @@ refuses_at_end : (bytes : List ℕ) (progress : Progress) (m : ℕ) (code : Code
 refuses_at_end bytes Before m code fits clean led e =
     let same = err_same 0 m E18 code (Err (0, E18)) (Err (m, code)) refl refl e in
     refuses_as bytes 0 m E18 code same.0 same.1 (Empty fits (still_before (lines_in bytes) clean led))
-refuses_at_end bytes (Within s) m code fits clean led e =
+refuses_at_end bytes (Within v s) m code fits clean led e =
     let n = length (lines_in bytes) in
     let same = err_same (1 + n) m E16 code (Err (1 + n, E16)) (Err (m, code)) refl refl e in
     let number : n + 1 ≡ m = omega (arith, same.0) in
     let words = no_true (list_all is_blank_line (lines_in bytes)) (λ blank. let before = (all_blank (lines_in bytes) blank).1 in let within = led in cc) in
     refuses_as bytes (n + 1) m E16 code number same.1 (NoEnd fits words clean (ap has_ended led))
-refuses_at_end bytes (After s) m code fits clean led e = cc
+refuses_at_end bytes (After v s) m code fits clean led e = cc
 
 pub Refuses-from : (bytes : List ℕ) (m : ℕ) (code : Code) → reading bytes ≡ Err (m, code) → Refuses bytes m code
 Refuses-from bytes m code e = elim (chosen (nat_lt 1048576 (length bytes)) (Err (0, E20)) (read_from Before 1 (lines_in bytes)) (Err (m, code)) e) [
@@ -218,8 +220,8 @@ reading-Reads bytes s reads =
 
 open_end : (progress : Progress) (n : ℕ) → has_ended progress ≡ false → (progress ≡ Before → ⊥) → at_end progress n ≡ Err (n, E16)
 open_end Before n e begun = absurd (begun refl)
-open_end (Within s) n e begun = refl
-open_end (After s) n e begun = cc
+open_end (Within v s) n e begun = refl
+open_end (After v s) n e begun = cc
 
 pub reading-Refuses : (bytes : List ℕ) (n : ℕ) (code : Code) → Refuses bytes n code → reading bytes ≡ Err (n, code)
 reading-Refuses bytes n code (TooLong long) =

@@ -20,8 +20,8 @@ or_code (Some code) n rest = Err (n, code)
 -- what a text is read as whose lines lead here, n being the number of the line that would follow
 abbrev pub at_end : Progress → ℕ → Answer
 at_end Before n = Err (0, E18)
-at_end (Within s) n = Err (n, E16)
-at_end (After s) n = Ok s
+at_end (Within v s) n = Err (n, E16)
+at_end (After v s) n = Ok s
 
 -- what the lines from number n on are read as, where those before them lead
 abbrev pub read_from : Progress → ℕ → List (List ℕ) → Answer

@@ -8,19 +8,22 @@ use Rattle.sk_base.specs.declared.Shape.{Shape}
 use Rattle.sk_base.specs.declared.Rule.{Rule}
 use Rattle.sk_base.specs.declared.Sketch.{Sketch}
 use Rattle.sk_lex.specs.declared.Words.{Words}
-use Rattle.sk_lex.specs.Words.{words_in, bytes_of, is_too_long, has_wrong_byte}
+use Rattle.sk_lex.specs.Words.{bytes_of, is_too_long, has_wrong_byte}
 use Rattle.sk_lang.specs.declared.code.Code.TheVariants.{E15, E19}
+use Rattle.sk_lang.specs.declared.version.Version.{Version}
 use Rattle.sk_lang.specs.declared.keyword.Keyword.{Keyword}
-use Rattle.sk_lang.specs.declared.keyword.Keyword.TheVariants.{Point, Line, Circle, Distance, On, Tangent, Outside, Inside, Angle}
+use Rattle.sk_lang.specs.declared.keyword.Keyword.TheVariants.{Point, Line, Circle, Distance, On, Tangent, Outside, Inside, Angle, Block}
 use Rattle.sk_lang.specs.declared.entry.Entry.{Entry}
 use Rattle.sk_lang.specs.declared.entry.Entry.TheVariants as entry
 use Rattle.sk_lang.specs.declared.progress.Progress.TheVariants.{Within, After}
+use Rattle.sk_lang.specs.Comments.{words_under}
 use Rattle.sk_lang.specs.Keywords.{keyword_of, declares}
 use Rattle.sk_lang.specs.Named.{element_named}
 use Rattle.sk_lang.specs.FirstCode.{first_code}
 use Rattle.sk_lang.specs.Meaning.{shape_drawn, rule_asked, element_with, constraint_with, entry_made, progress_after, progress_after_words, progress_within}
 use Rattle.sk_lang.specs.Entry.{keyword_rows, rows_of, entry_code, IsKeywordEntry, IsEntryOfWords, IsEntryOf}
 use Rattle.sk_base.proofs.Tables.{passed}
+use Rattle.sk_lang.proofs.LineWords.{BeginsLine, begins_line}
 use Rattle.sk_lang.proofs.Passing.{Passes, passes_from}
 
 -- an element or a constraint
@@ -30,27 +33,28 @@ is_declared (entry.Constraint c) = true
 is_declared _ = false
 
 -- the words that declare it have no code
-pub record Declares (s : Sketch) (elem : Elem) (con : ConId) (said : Entry) : Type 0 where
+pub record Declares (v : Version) (s : Sketch) (elem : Elem) (con : ConId) (said : Entry) : Type 0 where
   pub keyword : Keyword
   pub rest : List (List ℕ)
+  pub begins : BeginsLine v keyword rest
   pub passes : Passes s keyword rest
   pub made : entry_made s keyword rest elem con ≡ Some said
 
-by_keyword : (s : Sketch) (line : List ℕ) (k : Option Keyword) (rest : List (List ℕ)) (elem : Elem) (con : ConId) (said : Entry) → first_code (keyword_rows s k rest) ≡ None → IsKeywordEntry s line k rest elem con said → is_declared said ≡ true → Declares s elem con said
-by_keyword s line None rest elem con (entry.Element e) clean is is_one = absurd is
-by_keyword s line None rest elem con (entry.Constraint c) clean is is_one = absurd is
-by_keyword s line None rest elem con entry.Blank clean is is_one = absurd is
-by_keyword s line None rest elem con (entry.Other ws) clean is is_one = cc
-by_keyword s line (Some k) rest elem con said clean is is_one = record { keyword = k; rest = rest; passes = passes_from s k rest clean; made = is }
+by_keyword : (v : Version) (s : Sketch) (line : List ℕ) (k : Option Keyword) (rest : List (List ℕ)) (elem : Elem) (con : ConId) (said : Entry) → ((word : Keyword) → k ≡ Some word → BeginsLine v word rest) → first_code (keyword_rows s k rest) ≡ None → IsKeywordEntry v s line k rest elem con said → is_declared said ≡ true → Declares v s elem con said
+by_keyword v s line None rest elem con (entry.Element e) begins clean is is_one = absurd is
+by_keyword v s line None rest elem con (entry.Constraint c) begins clean is is_one = absurd is
+by_keyword v s line None rest elem con entry.Blank begins clean is is_one = absurd is
+by_keyword v s line None rest elem con (entry.Other ws) begins clean is is_one = cc
+by_keyword v s line (Some k) rest elem con said begins clean is is_one = record { keyword = k; rest = rest; begins = begins k refl; passes = passes_from s k rest clean; made = is }
 
-by_words : (s : Sketch) (line : List ℕ) (ws : List (List ℕ)) (elem : Elem) (con : ConId) (said : Entry) → first_code (rows_of s ws) ≡ None → IsEntryOfWords s line ws elem con said → is_declared said ≡ true → Declares s elem con said
-by_words s line [] elem con said clean is is_one = let no = ap is_declared is in absurd cc
-by_words s line (first ∷ rest) elem con said clean is is_one = by_keyword s line (keyword_of first) rest elem con said clean is is_one
+by_words : (v : Version) (s : Sketch) (line : List ℕ) (ws : List (List ℕ)) (elem : Elem) (con : ConId) (said : Entry) → is_too_long line ≡ false → words_under v line ≡ ws → first_code (rows_of v s ws) ≡ None → IsEntryOfWords v s line ws elem con said → is_declared said ≡ true → Declares v s elem con said
+by_words v s line [] elem con said short words clean is is_one = let no = ap is_declared is in absurd cc
+by_words v s line (first ∷ rest) elem con said short words clean is is_one = by_keyword v s line (keyword_of v first) rest elem con said (λ k keyword. begins_line v line first rest k short words keyword) clean is is_one
 
-pub declares_by : (s : Sketch) (line : List ℕ) (elem : Elem) (con : ConId) (said : Entry) → entry_code s line ≡ None → IsEntryOf s line elem con said → is_declared said ≡ true → Declares s elem con said
-declares_by s line elem con said clean is is_one =
-    let long = passed (is_too_long line) E15 (first_code ((has_wrong_byte line, E19) ∷ rows_of s (words_in line))) clean in
-    let wrong = passed (has_wrong_byte line) E19 (first_code (rows_of s (words_in line))) long.1 in by_words s line (words_in line) elem con said wrong.1 is is_one
+pub declares_by : (v : Version) (s : Sketch) (line : List ℕ) (elem : Elem) (con : ConId) (said : Entry) → entry_code v s line ≡ None → IsEntryOf v s line elem con said → is_declared said ≡ true → Declares v s elem con said
+declares_by v s line elem con said clean is is_one =
+    let long = passed (is_too_long line) E15 (first_code ((has_wrong_byte line, E19) ∷ rows_of v s (words_under v line))) clean in
+    let wrong = passed (has_wrong_byte line) E19 (first_code (rows_of v s (words_under v line))) long.1 in by_words v s line (words_under v line) elem con said long.0 refl wrong.1 is is_one
 
 -- a name that is declared is a name, and new
 pub first_of_two : (a b : Bool) → (a || b) ≡ false → (a ≡ false) × (b ≡ false)
@@ -89,18 +93,19 @@ free_name s Tangent (u ∷ rest) elem con e p made = absurd (no_element con (rul
 free_name s Outside (u ∷ rest) elem con e p made = absurd (no_element con (rule_asked s Outside (u ∷ rest)) e made)
 free_name s Inside (u ∷ rest) elem con e p made = absurd (no_element con (rule_asked s Inside (u ∷ rest)) e made)
 free_name s Angle (u ∷ rest) elem con e p made = absurd (no_element con (rule_asked s Angle (u ∷ rest)) e made)
+free_name s Block (u ∷ rest) elem con e p made = absurd (no_element con (rule_asked s Block (u ∷ rest)) e made)
 
-pub element_is_new : (s : Sketch) (line : List ℕ) (elem : Elem) (con : ConId) (e : Element) → entry_code s line ≡ None → IsEntryOf s line elem con (entry.Element e) → element_named s e.label ≡ None
-element_is_new s line elem con e clean is =
-    let d = declares_by s line elem con (entry.Element e) clean is refl in free_name s d.keyword d.rest elem con e d.passes d.made
+pub element_is_new : (v : Version) (s : Sketch) (line : List ℕ) (elem : Elem) (con : ConId) (e : Element) → entry_code v s line ≡ None → IsEntryOf v s line elem con (entry.Element e) → element_named s e.label ≡ None
+element_is_new v s line elem con e clean is =
+    let d = declares_by v s line elem con (entry.Element e) clean is refl in free_name s d.keyword d.rest elem con e d.passes d.made
 
--- a line whose first word is none of the nine
-pub record SaysOther (line : List ℕ) (words : Words) : Type 0 where
+-- a line whose first word is no keyword
+pub record SaysOther (v : Version) (line : List ℕ) (words : Words) : Type 0 where
   pub first : List ℕ
   pub rest : List (List ℕ)
-  pub whole : words_in line ≡ first ∷ rest
-  pub keyword : keyword_of first ≡ None
-  pub bytes : map (bytes_of line) words.items ≡ words_in line
+  pub whole : words_under v line ≡ first ∷ rest
+  pub keyword : keyword_of v first ≡ None
+  pub bytes : map (bytes_of line) words.items ≡ words_under v line
 
 no_other_element : (elem : Elem) (name : List ℕ) (shape : Option Shape) (words : Words) → element_with elem name shape ≡ Some (entry.Other words) → ⊥
 no_other_element elem name None words is = cc
@@ -118,21 +123,21 @@ no_other s k (first ∷ rest) elem con words is = by (declares k) is
     by true e = no_other_element elem first (shape_drawn k rest) words e
     by false e = no_other_constraint con (rule_asked s k (first ∷ rest)) words e
 
-other_by_keyword : (s : Sketch) (line first : List ℕ) (rest : List (List ℕ)) (elem : Elem) (con : ConId) (words : Words) (k : Option Keyword) → words_in line ≡ first ∷ rest → keyword_of first ≡ k → IsKeywordEntry s line k rest elem con (entry.Other words) → SaysOther line words
-other_by_keyword s line first rest elem con words None whole none is = record { first = first; rest = rest; whole = whole; keyword = none; bytes = is.0 }
-other_by_keyword s line first rest elem con words (Some k) whole some is = absurd (no_other s k rest elem con words is)
+other_by_keyword : (v : Version) (s : Sketch) (line first : List ℕ) (rest : List (List ℕ)) (elem : Elem) (con : ConId) (words : Words) (k : Option Keyword) → words_under v line ≡ first ∷ rest → keyword_of v first ≡ k → IsKeywordEntry v s line k rest elem con (entry.Other words) → SaysOther v line words
+other_by_keyword v s line first rest elem con words None whole none is = record { first = first; rest = rest; whole = whole; keyword = none; bytes = is.0 }
+other_by_keyword v s line first rest elem con words (Some k) whole some is = absurd (no_other s k rest elem con words is)
 
-other_by_words : (s : Sketch) (line : List ℕ) (ws : List (List ℕ)) (elem : Elem) (con : ConId) (words : Words) → words_in line ≡ ws → IsEntryOfWords s line ws elem con (entry.Other words) → SaysOther line words
-other_by_words s line [] elem con words whole is = cc
-other_by_words s line (first ∷ rest) elem con words whole is = other_by_keyword s line first rest elem con words (keyword_of first) whole refl is
+other_by_words : (v : Version) (s : Sketch) (line : List ℕ) (ws : List (List ℕ)) (elem : Elem) (con : ConId) (words : Words) → words_under v line ≡ ws → IsEntryOfWords v s line ws elem con (entry.Other words) → SaysOther v line words
+other_by_words v s line [] elem con words whole is = cc
+other_by_words v s line (first ∷ rest) elem con words whole is = other_by_keyword v s line first rest elem con words (keyword_of v first) whole refl is
 
-pub says_other : (s : Sketch) (line : List ℕ) (elem : Elem) (con : ConId) (words : Words) → IsEntryOf s line elem con (entry.Other words) → SaysOther line words
-says_other s line elem con words is = other_by_words s line (words_in line) elem con words refl is
+pub says_other : (v : Version) (s : Sketch) (line : List ℕ) (elem : Elem) (con : ConId) (words : Words) → IsEntryOf v s line elem con (entry.Other words) → SaysOther v line words
+says_other v s line elem con words is = other_by_words v s line (words_under v line) elem con words refl is
 
-pub other_has_words : (line : List ℕ) (words : Words) → SaysOther line words → 0 < length words.items
-other_has_words line words other =
+pub other_has_words : (v : Version) (line : List ℕ) (words : Words) → SaysOther v line words → 0 < length words.items
+other_has_words v line words other =
     let count = sym (length-map words.items (bytes_of line)) ∙ ap length (other.bytes ∙ other.whole) in omega arith
 
 -- such a line ends the sketch
-pub other_ends : (s : Sketch) (line : List ℕ) (words : Words) → SaysOther line words → progress_after (Within s) line ≡ After s
-other_ends s line words other = ap (progress_after_words (Within s)) other.whole ∙ ap (λ (k : Option Keyword). progress_within s k other.rest) other.keyword
+pub other_ends : (v : Version) (s : Sketch) (line : List ℕ) (words : Words) → SaysOther v line words → progress_after (Within v s) line ≡ After v s
+other_ends v s line words other = ap (progress_after_words (Within v s)) other.whole ∙ ap (λ (k : Option Keyword). progress_within v s k other.rest) other.keyword

@@ -10,7 +10,7 @@ use Rattle.sk_lang.specs.Conditions.{is_bad_name, is_unknown, kinds_fit}
 use Rattle.sk_lang.specs.Named.{element_named}
 use Rattle.sk_lang.specs.Ends.{both_names, end_rows}
 
-err_is : {X E : Type 0} (r : Result X E) (e : E) → IsErr r × IsErrAnd r (λ x. x ≡ e) → r ≡ Err e
+pub err_is : {X E : Type 0} (r : Result X E) (e : E) → IsErr r × IsErrAnd r (λ x. x ≡ e) → r ≡ Err e
 err_is (Ok x) e h = (let never : false ≡ true = h.0 in absurd (cc))
 err_is (Err d) e h = ap Err h.1
 

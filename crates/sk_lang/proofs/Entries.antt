@@ -15,7 +15,8 @@ use Rattle.sk_lang.specs.declared.entry.Entry.TheVariants as entry
 use Rattle.sk_lang.specs.Keywords.{places}
 use Rattle.sk_lang.specs.Conditions.{lacks_radius}
 use Rattle.sk_lang.specs.Codes.{entry_rows}
-use Rattle.sk_lang.specs.FirstCode.{first_code, unless, map_ok}
+use Rattle.sk_lang.specs.FirstCode.{first_code, unless, told}
+use Rattle.sk_lang.specs.Entry.{IsRefusal}
 
 -- where the word at a place starts and ends
 pub word_within : (from : ℕ) (words : List Word) (to : ℕ) → StandInOrder from words to → (i : ℕ) (d : Word) → i < length words → ((get_or words i d).start < (get_or words i d).end) × ((get_or words i d).end ≤ to)
@@ -26,17 +27,17 @@ word_within from (word ∷ next ∷ more) to order zero d below =
     let start = order.2.0 in (order.1, omega arith)
 word_within from (word ∷ words) to order (suc i) d below = word_within word.end words to order.2 i d (omega arith)
 
-pub element_reading : (code : Option Code) (e : Element) (made : Option Entry) → made ≡ Some (entry.Element e) → MatchResult (map_ok entry.Element (unless code e)) (λ en. (code ≡ None) × (made ≡ Some en)) (λ c. code ≡ Some c)
+pub element_reading : (code : Option Code) (e : Element) (made : Option Entry) → made ≡ Some (entry.Element e) → MatchResult (told entry.Element (unless code e)) (λ en. (code ≡ None) × (made ≡ Some en)) (IsRefusal code)
 element_reading None e made is = (refl, is)
 element_reading (Some c) e made is = refl
 
-pub constraint_reading : (code : Option Code) (e : Constraint) (made : Option Entry) → made ≡ Some (entry.Constraint e) → MatchResult (map_ok entry.Constraint (unless code e)) (λ en. (code ≡ None) × (made ≡ Some en)) (λ c. code ≡ Some c)
+pub constraint_reading : (code : Option Code) (e : Constraint) (made : Option Entry) → made ≡ Some (entry.Constraint e) → MatchResult (told entry.Constraint (unless code e)) (λ en. (code ≡ None) × (made ≡ Some en)) (IsRefusal code)
 constraint_reading None e made is = (refl, is)
 constraint_reading (Some c) e made is = refl
 
-pub wrong_count : (s : Sketch) (k : Keyword) (rest : List (List ℕ)) (count : ℕ) → count ≡ length rest → lacks_radius k count ≡ false → (count ≡ length (places k) → ⊥) → first_code (entry_rows s k rest) ≡ Some E3
+pub wrong_count : (s : Sketch) (k : Keyword) (rest : List (List ℕ)) (count : ℕ) → count ≡ length rest → lacks_radius k count ≡ false → (count ≡ length (places k count) → ⊥) → first_code (entry_rows s k rest) ≡ Some E3
 wrong_count s k rest count is radius other =
-    let longer : nat_eq (length rest) (length (places k)) ≡ false = grind (arith, nat_tests) in
+    let longer : nat_eq (length rest) (length (places k (length rest))) ≡ false = rw (← is) (grind (arith, nat_tests)) in
     let fine : lacks_radius k (length rest) ≡ false = rw (← is) radius in
     rw (fine, longer) refl
 

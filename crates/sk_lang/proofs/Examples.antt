@@ -5,6 +5,7 @@ use Rattle.sk_base.specs.declared.Shape.TheVariants.{Point}
 use Rattle.sk_lang.specs.declared.code.Code.TheVariants.{E1, E2, E3, E4, E5, E6, E7, E8, E9, E10, E11, E12, E13, E15, E16, E17, E18, E19}
 use Rattle.sk_lang.proofs.Computed.{reading}
 use Rattle.sk_lang.specs.Codes.{code_of}
+use Rattle.sk_lang.specs.declared.version.Version.TheVariants.{One}
 use Rattle.sk_lang.specs.declared.progress.Progress.TheVariants.{Within}
 
 -- each line with its line feed
@@ -14,7 +15,7 @@ text lines = flat_map (λ line. line ++ 10 ∷ []) lines
 none : reading (text ([])) ≡ Err (0, E18)
 none = refl
 
-header : reading (text (codes "sketch 2" ∷ codes "end" ∷ [])) ≡ Err (1, E1)
+header : reading (text (codes "sketch 3" ∷ codes "end" ∷ [])) ≡ Err (1, E1)
 header = refl
 
 word : reading (text (codes "sketch 1" ∷ codes "points A 0 0" ∷ codes "end" ∷ [])) ≡ Err (2, E2)
@@ -78,5 +79,39 @@ lenient : reading (codes "sketch 1" ++ 13 ∷ 10 ∷ codes "  point A 0  -0.5" +
     ≡ Ok (record { elements = record { number = record { 0 = 1 }; label = codes "A"; shape = Point (record { 0 = pos 0 }) (record { 0 = neg_ℤ (pos 500) }) } ∷ []; constraints = [] })
 lenient = refl
 
-too_many_elements : code_of (Within (record { elements = replicate 2000 (record { number = record { 0 = 1 }; label = codes "A"; shape = Point (record { 0 = pos 0 }) (record { 0 = pos 0 }) }); constraints = [] })) (codes "point B 0 0") ≡ Some E13
+too_many_elements : code_of (Within One (record { elements = replicate 2000 (record { number = record { 0 = 1 }; label = codes "A"; shape = Point (record { 0 = pos 0 }) (record { 0 = pos 0 }) }); constraints = [] })) (codes "point B 0 0") ≡ Some E13
 too_many_elements = refl
+
+empty_2 : reading (text (codes "sketch 2" ∷ codes "end" ∷ [])) ≡ Err (2, E18)
+empty_2 = refl
+
+comment_before_header : reading (text (codes "# part" ∷ codes "sketch 2" ∷ codes "end" ∷ [])) ≡ Err (1, E1)
+comment_before_header = refl
+
+comment_on_header : reading (text (codes "sketch 2 # part" ∷ codes "end" ∷ [])) ≡ Err (1, E1)
+comment_on_header = refl
+
+no_radius_but_a_comment : reading (text (codes "sketch 2" ∷ codes "# part" ∷ codes "circle C 0 0 # 5" ∷ codes "end" ∷ [])) ≡ Err (3, E12)
+no_radius_but_a_comment = refl
+
+no_comment : reading (text (codes "sketch 1" ∷ codes "# part" ∷ codes "end" ∷ [])) ≡ Err (2, E2)
+no_comment = refl
+
+comments : reading (text (codes "sketch 2" ∷ codes "# part" ∷ codes "point A 0 0 # origin" ∷ codes "end# of it" ∷ codes "  # nothing" ∷ []))
+    ≡ Ok (record { elements = record { number = record { 0 = 1 }; label = codes "A"; shape = Point (record { 0 = pos 0 }) (record { 0 = pos 0 }) } ∷ []; constraints = [] })
+comments = refl
+
+no_block : reading (text (codes "sketch 1" ∷ codes "point A 0 0" ∷ codes "point B 1 0" ∷ codes "block A 0 0 B 1 0" ∷ codes "end" ∷ [])) ≡ Err (4, E2)
+no_block = refl
+
+one_place : reading (text (codes "sketch 2" ∷ codes "point A 0 0" ∷ codes "point B 1 0" ∷ codes "block A 0 0 B 0 0" ∷ codes "end" ∷ [])) ≡ Err (4, E9)
+one_place = refl
+
+one_pin : reading (text (codes "sketch 2" ∷ codes "point A 0 0" ∷ codes "point B 1 0" ∷ codes "block A 0 0" ∷ codes "end" ∷ [])) ≡ Err (4, E3)
+one_pin = refl
+
+line_in_block : reading (text (codes "sketch 2" ∷ codes "point A 0 0" ∷ codes "line L 1 0 2 0" ∷ codes "block A 0 0 L 0 0" ∷ codes "end" ∷ [])) ≡ Err (4, E7)
+line_in_block = refl
+
+one_name : reading (text (codes "sketch 2" ∷ codes "point A 0 0" ∷ codes "block A 0 0 A 1 0" ∷ codes "end" ∷ [])) ≡ Err (3, E10)
+one_name = refl

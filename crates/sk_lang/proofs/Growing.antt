@@ -1,8 +1,10 @@
 -- A sound sketch with one more sound element or constraint is sound.
-use Rattle.std.proofs.Common.{◌≡◌, ◌≢◌, ℕ, ◌<◌, Bool, false, nat_eq, List, [], ◌∷◌, ◌++◌, length, Option, Some, None, refl, sym, ap, ◌∙◌, arith, bytes_eq, IsTrue}
+use Rattle.std.proofs.Common.{◌≡◌, ◌≢◌, ℕ, ◌<◌, Bool, true, false, ◌&&◌, nat_eq, List, [], ◌∷◌, ◌++◌, length, Option, Some, None, refl, sym, ap, ◌∙◌, arith, bytes_eq, IsTrue}
 use Rattle.std.specs.Prelude.{All, Contains}
 use Rattle.std.specs.List.{find}
 use Rattle.std.specs.Option.{option_map, option_or}
+use Rattle.std.specs.Ordering.{int_eq}
+use Rattle.std.proofs.lemmas.Bool.Decides.{Decides-int_eq}
 use Rattle.std.proofs.lemmas.List.{length_push}
 use Rattle.std.proofs.lemmas.List.Folds.{find-append}
 use Rattle.std.proofs.lemmas.List.Elements.{All-push, All-weaker, All-contains}
@@ -10,8 +12,9 @@ use Rattle.sk_base.specs.declared.Elem.{Elem}
 use Rattle.sk_base.specs.declared.Element.{Element}
 use Rattle.sk_base.specs.declared.Constraint.{Constraint}
 use Rattle.sk_base.specs.declared.Shape.{Shape}
+use Rattle.sk_base.specs.declared.Um.{Um}
 use Rattle.sk_base.specs.declared.Rule.{Rule}
-use Rattle.sk_base.specs.declared.Rule.TheVariants.{Distance, On, Tangent, Outside, Inside, Angle}
+use Rattle.sk_base.specs.declared.Rule.TheVariants.{Distance, On, Tangent, Outside, Inside, Angle, Block}
 use Rattle.sk_base.specs.declared.Sketch.{Sketch}
 use Rattle.sk_base.specs.Labels.{is_name}
 use Rattle.sk_base.specs.Drawn.{element_of, shape_of}
@@ -19,6 +22,7 @@ use Rattle.sk_base.specs.SoundSketch.{IsSoundSketch, IsSoundShape, IsSoundRule, 
 use Rattle.sk_base.proofs.Pairs.{pairs_push}
 use Rattle.sk_lang.specs.Named.{element_named, number_named}
 use Rattle.sk_base.proofs.Finding.{found_in, none_found, found_rising}
+use Rattle.sk_lang.proofs.BlockLines.{block_still, block_also}
 use Rattle.sk_lang.proofs.Finding.{same_bytes, equal_bytes}
 
 abbrev pub with_element : Sketch → Element → Sketch
@@ -54,6 +58,7 @@ rule_still s e (Tangent u v) sound = joins_still s e MayBeTangent u v sound
 rule_still s e (Outside u v) sound = joins_still s e AreCircles u v sound
 rule_still s e (Inside u v) sound = joins_still s e MayNest u v sound
 rule_still s e (Angle l m ratio) sound = (joins_still s e AreLines l m sound.0, sound.1)
+rule_still s e (Block pins) sound = block_still s e pins sound
 
 -- a new element
 pub record IsNewElement (s : Sketch) (e : Element) : Type 0 where
@@ -89,6 +94,7 @@ rule_also s c (Tangent u v) sound = sound
 rule_also s c (Outside u v) sound = sound
 rule_also s c (Inside u v) sound = sound
 rule_also s c (Angle l m ratio) sound = sound
+rule_also s c (Block pins) sound = block_also s c pins sound
 
 -- a new constraint
 pub record IsNewConstraint (s : Sketch) (c : Constraint) : Type 0 where
@@ -116,15 +122,31 @@ pub drawn_named : (s : Sketch) (name : List ℕ) (e : Element) → IsSoundSketch
 drawn_named s name e sound is =
     found_rising (λ (x : Element). x.number.0) s.elements sound.elements_rise e (found_in (λ (x : Element). bytes_eq name x.label) s.elements e is).0
 
+-- places are two where a coordinate differs
+both_true : (a b : Bool) → a ≡ true → b ≡ true → (a && b) ≡ false → ⊥
+both_true true true p q is = cc
+both_true true false p q is = cc
+both_true false b p q is = cc
+
+pub differ : (x1 y1 x2 y2 : Um) → (int_eq x1.0 x2.0 && int_eq y1.0 y2.0) ≡ false → ¬ ((x1 ≡ x2) × (y1 ≡ y2))
+differ x1 y1 x2 y2 flat same =
+    let x = (Decides-int_eq x1.0 x2.0).1 (ap (λ (u : Um). u.0) same.0) in
+    let y = (Decides-int_eq y1.0 y2.0).1 (ap (λ (u : Um). u.0) same.1) in both_true (int_eq x1.0 x2.0) (int_eq y1.0 y2.0) x y flat
+
+-- elements of different names have different numbers
+pub numbers_apart : (s : Sketch) (u v : List ℕ) (e f : Element) → IsSoundSketch s → element_named s u ≡ Some e → element_named s v ≡ Some f → bytes_eq u v ≡ false → e.number ≢ f.number
+numbers_apart s u v e f sound u_is v_is other same =
+    let e_of = drawn_named s u e sound u_is in
+    let f_of = drawn_named s v f sound v_is in
+    let u_name = same_bytes u e.label (found_in (λ (x : Element). bytes_eq u x.label) s.elements e u_is).1 in
+    let v_name = same_bytes v f.label (found_in (λ (x : Element). bytes_eq v x.label) s.elements f v_is).1 in
+    let one : Some e ≡ Some f = sym e_of ∙ ap (element_of s) same ∙ f_of in
+    let element : e ≡ f = cc in
+    let equal = equal_bytes u v (u_name ∙ ap (λ (x : Element). x.label) element ∙ sym v_name) in cc
+
 -- two elements of different names may be joined where their shapes fit
 pub may_join : (s : Sketch) (fits : Shape → Shape → Type 0) (u v : List ℕ) (e f : Element) → IsSoundSketch s → element_named s u ≡ Some e → element_named s v ≡ Some f → bytes_eq u v ≡ false → fits e.shape f.shape → MayJoin s fits (number_named s u) (number_named s v)
 may_join s fits u v e f sound u_is v_is other fit =
     let e_of = drawn_named s u e sound u_is in
     let f_of = drawn_named s v f sound v_is in
-    let u_name = same_bytes u e.label (found_in (λ (x : Element). bytes_eq u x.label) s.elements e u_is).1 in
-    let v_name = same_bytes v f.label (found_in (λ (x : Element). bytes_eq v x.label) s.elements f v_is).1 in
-    let apart : e.number ≢ f.number = λ same. (
-    let one : Some e ≡ Some f = sym e_of ∙ ap (element_of s) same ∙ f_of in
-    let element : e ≡ f = cc in
-    let equal = equal_bytes u v (u_name ∙ ap (λ (x : Element). x.label) element ∙ sym v_name) in cc) in
-    rw (u_is, v_is) (apart, rw (e_of, f_of) fit)
+    rw (u_is, v_is) (numbers_apart s u v e f sound u_is v_is other, rw (e_of, f_of) fit)

@@ -6,13 +6,14 @@ use Rattle.std.proofs.Math.Seq.{take-append_seam, take-append-add}
 use Rattle.std.proofs.lemmas.Bool.{cases_lt}
 use Rattle.std.proofs.lemmas.List.{take_all, take-append-drop, length-take-le}
 use Rattle.sk_base.specs.declared.Sketch.{Sketch}
-use Rattle.sk_lex.specs.Words.{words_in}
 use Rattle.sk_lang.specs.declared.code.Code.{Code}
 use Rattle.sk_lang.specs.declared.front.Front.{Front}
+use Rattle.sk_lang.specs.declared.version.Version.{Version}
 use Rattle.sk_lang.specs.declared.progress.Progress.{Progress}
 use Rattle.sk_lang.specs.declared.progress.Progress.TheVariants.{Before, After}
 use Rattle.sk_lang.specs.Lines.{is_line_feed, lines_in, EndsLine}
 use Rattle.sk_lang.specs.Codes.{code_of}
+use Rattle.sk_lang.specs.Comments.{words_under}
 use Rattle.sk_lang.specs.Meaning.{progress_after_words}
 use Rattle.sk_lang.specs.Reading.{is_blank_line, progress_along, HaveNoCode, has_ended, Reads, Refuses, TooLong, Empty, AtLine, NoEnd}
 use Rattle.sk_lang.specs.Front.{has_ended_by, ReadsFront, RefusesFront}
@@ -21,14 +22,14 @@ use Rattle.sk_lang.proofs.LineByLine.{first_line, only_line}
 use Rattle.sk_lang.proofs.Standing.{along_append}
 use Rattle.sk_lang.proofs.WholeLines.{lines_in-append}
 
-stays_by : (s : Sketch) (words : List (List ℕ)) → progress_after_words (After s) words ≡ After s
-stays_by s [] = refl
-stays_by s (word ∷ words) = refl
+stays_by : (v : Version) (s : Sketch) (words : List (List ℕ)) → progress_after_words (After v s) words ≡ After v s
+stays_by v s [] = refl
+stays_by v s (word ∷ words) = refl
 
 -- a sketch that has ended stays as it is
-stays : (s : Sketch) (lines : List (List ℕ)) → progress_along (After s) lines ≡ After s
-stays s [] = refl
-stays s (line ∷ lines) = ap (λ (p : Progress). progress_along p lines) (stays_by s (words_in line)) ∙ stays s lines
+stays : (v : Version) (s : Sketch) (lines : List (List ℕ)) → progress_along (After v s) lines ≡ After v s
+stays v s [] = refl
+stays v s (line ∷ lines) = ap (λ (p : Progress). progress_along p lines) (stays_by v s (words_under v line)) ∙ stays v s lines
 
 -- the shorter front of one list is a front of the longer
 front_of_front : (xs ys ms ns : List (List ℕ)) → xs ++ ms ≡ ys ++ ns → length xs ≤ length ys → (more : List (List ℕ)) × (ys ≡ xs ++ more)
@@ -48,15 +49,15 @@ behind_front bytes front is = by is.whole
     by (inl whole) = (lines_in (drop front.used bytes), ap lines_in (sym (take-append-drop front.used bytes)) ∙ lines_in-append (take front.used bytes) (drop front.used bytes) whole)
     by (inr all) = ([], ap lines_in (sym (take_all front.used bytes (omega arith))) ∙ sym (append-nil (lines_in (take front.used bytes))))
 
-ended_behind : (front more : List (List ℕ)) (s : Sketch) → progress_along Before front ≡ After s → has_ended (progress_along Before (front ++ more)) ≡ true
-ended_behind front more s ended = ap has_ended (along_append front more Before ∙ ap (λ (p : Progress). progress_along p more) ended ∙ stays s more)
+ended_behind : (front more : List (List ℕ)) (v : Version) (s : Sketch) → progress_along Before front ≡ After v s → has_ended (progress_along Before (front ++ more)) ≡ true
+ended_behind front more v s ended = ap has_ended (along_append front more Before ∙ ap (λ (p : Progress). progress_along p more) ended ∙ stays v s more)
 
 all_front : (p : List ℕ → Bool) (xs ys : List (List ℕ)) → list_all p (xs ++ ys) ≡ true → list_all p xs ≡ true
 all_front p [] ys all = refl
 all_front p (x ∷ xs) ys all = let parts = both (p x) (list_all p (xs ++ ys)) all in rw parts.0 (all_front p xs ys parts.1)
 
-no_line_of_front : (lines front more before : List (List ℕ)) (line : List ℕ) (after : List (List ℕ)) (s : Sketch) (code : Code) → lines ≡ front ++ more → lines ≡ before ++ line ∷ after → HaveNoCode Before front → progress_along Before front ≡ After s → code_of (progress_along Before before) line ≡ Some code → has_ended (progress_along Before before) ≡ false → ⊥
-no_line_of_front lines front more before line after s code is parts clean ended coded unended =
+no_line_of_front : (lines front more before : List (List ℕ)) (line : List ℕ) (after : List (List ℕ)) (v : Version) (s : Sketch) (code : Code) → lines ≡ front ++ more → lines ≡ before ++ line ∷ after → HaveNoCode Before front → progress_along Before front ≡ After v s → code_of (progress_along Before before) line ≡ Some code → has_ended (progress_along Before before) ≡ false → ⊥
+no_line_of_front lines front more before line after v s code is parts clean ended coded unended =
     elim (cases_lt (length before) (length front)) [
       | inl shorter ↦ (
           let longer = length-append before (line ∷ []) in
@@ -66,29 +67,29 @@ no_line_of_front lines front more before line after s code is parts clean ended 
           let none = clean_at before line found.0 Before (subst (λ (ls : List (List ℕ)). HaveNoCode Before ls) whole clean) in cc)
       | inr longer ↦ (
           let found = front_of_front front before more (line ∷ after) (sym is ∙ parts) longer in
-          let over : has_ended (progress_along Before before) ≡ true = ap (λ (ls : List (List ℕ)). has_ended (progress_along Before ls)) found.1 ∙ ended_behind front found.0 s ended in cc)
+          let over : has_ended (progress_along Before before) ≡ true = ap (λ (ls : List (List ℕ)). has_ended (progress_along Before ls)) found.1 ∙ ended_behind front found.0 v s ended in cc)
     ]
 
 one_less : (n : ℕ) → n + 1 - 1 ≡ n
 one_less n = omega arith
 
-no_refusal : (bytes : List ℕ) (n : ℕ) (code : Code) (front more : List (List ℕ)) (s : Sketch) → length bytes ≤ 1048576 → lines_in bytes ≡ front ++ more → HaveNoCode Before front → progress_along Before front ≡ After s → Refuses bytes n code → has_ended_by (n - 1) bytes ≡ false → ⊥
-no_refusal bytes n code front more s fits is clean ended (TooLong long) unended = absurd (omega arith)
-no_refusal bytes n code front more s fits is clean ended (Empty short blank) unended =
+no_refusal : (bytes : List ℕ) (n : ℕ) (code : Code) (front more : List (List ℕ)) (v : Version) (s : Sketch) → length bytes ≤ 1048576 → lines_in bytes ≡ front ++ more → HaveNoCode Before front → progress_along Before front ≡ After v s → Refuses bytes n code → has_ended_by (n - 1) bytes ≡ false → ⊥
+no_refusal bytes n code front more v s fits is clean ended (TooLong long) unended = absurd (omega arith)
+no_refusal bytes n code front more v s fits is clean ended (Empty short blank) unended =
     let lines : list_all is_blank_line (front ++ more) ≡ true = ap (list_all is_blank_line) (sym is) ∙ blank in
     let before = (all_blank front (all_front is_blank_line front more lines)).1 in cc
-no_refusal bytes n code front more s fits is clean ended (AtLine short words before line c first) unended =
+no_refusal bytes n code front more v s fits is clean ended (AtLine short words before line c first) unended =
     let front_is : take (length before) (lines_in bytes) ≡ before = ap (take (length before)) first.parts ∙ take-append_seam before (line ∷ first.after) in
     let unended_there : has_ended (progress_along Before before) ≡ false =
     ap (λ (ls : List (List ℕ)). has_ended (progress_along Before ls)) (sym front_is) ∙ ap (λ (k : ℕ). has_ended_by k bytes) (sym (one_less (length before))) ∙ unended in
-    no_line_of_front (lines_in bytes) front more before line first.after s c is first.parts clean ended first.code_is unended_there
-no_refusal bytes n code front more s fits is clean ended (NoEnd short words none unfinished) unended =
-    let over : has_ended (progress_along Before (lines_in bytes)) ≡ true = ap (λ (ls : List (List ℕ)). has_ended (progress_along Before ls)) is ∙ ended_behind front more s ended in cc
+    no_line_of_front (lines_in bytes) front more before line first.after v s c is first.parts clean ended first.code_is unended_there
+no_refusal bytes n code front more v s fits is clean ended (NoEnd short words none unfinished) unended =
+    let over : has_ended (progress_along Before (lines_in bytes)) ≡ true = ap (λ (ls : List (List ℕ)). has_ended (progress_along Before ls)) is ∙ ended_behind front more v s ended in cc
 
 pub front_not_both : (bytes : List ℕ) (front : Front) (n : ℕ) (code : Code) → ReadsFront bytes front → RefusesFront bytes n code → ⊥
 front_not_both bytes front n code reads refuses =
     let behind = behind_front bytes front reads in
-    no_refusal bytes n code (lines_in (take front.used bytes)) behind.0 front.sketch reads.fits behind.1 reads.reads.clean reads.reads.ended refuses.refuses refuses.before_end
+    no_refusal bytes n code (lines_in (take front.used bytes)) behind.0 reads.reads.version front.sketch reads.fits behind.1 reads.reads.clean reads.reads.ended refuses.refuses refuses.before_end
 
 -- the front that ends first is the only one
 not_later : (bytes : List ℕ) (f g : Front) → ReadsFront bytes f → ReadsFront bytes g → f.lines < g.lines → ⊥
@@ -100,7 +101,7 @@ not_later bytes f g left right less =
     let size : g.lines - 1 ≡ length front + k = omega arith in
     let lines : take (g.lines - 1) (lines_in bytes) ≡ front ++ take k behind.0 =
     ap (λ (n : ℕ). take n (lines_in bytes)) size ∙ ap (take (length front + k)) behind.1 ∙ take-append-add front behind.0 k in
-    let over : has_ended_by (g.lines - 1) bytes ≡ true = ap (λ (ls : List (List ℕ)). has_ended (progress_along Before ls)) lines ∙ ended_behind front (take k behind.0) f.sketch left.reads.ended in
+    let over : has_ended_by (g.lines - 1) bytes ≡ true = ap (λ (ls : List (List ℕ)). has_ended (progress_along Before ls)) lines ∙ ended_behind front (take k behind.0) left.reads.version f.sketch left.reads.ended in
     let unended_there = right.last in absurd (cc)
 
 some_line : (bytes : List ℕ) → 0 < length bytes → 0 < length (lines_in bytes)

@@ -5,20 +5,20 @@ use Rattle.sk_base.specs.declared.Sketch.{Sketch}
 use Rattle.sk_base.proofs.Tables.{passed}
 use Rattle.sk_lang.specs.declared.keyword.Keyword.{Keyword}
 use Rattle.sk_lang.specs.Keywords.{places, declares}
-use Rattle.sk_lang.specs.Conditions.{is_bad_name, is_taken, is_unknown, has_wrong_kinds, is_bad_number, is_zero_number, has_equal_radii, has_same_names, is_drawn_flat, lacks_radius}
+use Rattle.sk_lang.specs.Conditions.{is_bad_name, is_taken, is_unknown, has_wrong_kinds, is_bad_number, is_zero_number, has_equals, has_same_names, is_drawn_flat, lacks_radius}
 use Rattle.sk_lang.specs.FirstCode.{first_code}
 use Rattle.sk_lang.specs.Codes.{entry_rows}
 
 -- what each test of an entry says
 pub record Passes (s : Sketch) (k : Keyword) (rest : List (List ℕ)) : Type 0 where
   pub radius : lacks_radius k (length rest) ≡ false
-  pub count : not (nat_eq (length rest) (length (places k))) ≡ false
-  pub names : list_any is_bad_name (zip (places k) rest) ≡ false
-  pub free : list_any (is_taken s) (zip (places k) rest) ≡ false
-  pub known : list_any (is_unknown s) (zip (places k) rest) ≡ false
+  pub count : not (nat_eq (length rest) (length (places k (length rest)))) ≡ false
+  pub names : list_any is_bad_name (zip (places k (length rest)) rest) ≡ false
+  pub free : list_any (is_taken s) (zip (places k (length rest)) rest) ≡ false
+  pub known : list_any (is_unknown s) (zip (places k (length rest)) rest) ≡ false
   pub kinds : has_wrong_kinds s k rest ≡ false
-  pub numbers : list_any is_bad_number (zip (places k) rest) ≡ false
-  pub zeros : (list_any is_zero_number (zip (places k) rest) || has_equal_radii s k rest) ≡ false
+  pub numbers : list_any is_bad_number (zip (places k (length rest)) rest) ≡ false
+  pub zeros : (list_any is_zero_number (zip (places k (length rest)) rest) || has_equals s k rest) ≡ false
   pub same : has_same_names k rest ≡ false
   pub flat : is_drawn_flat k rest ≡ false
   pub elements : (declares k && nat_le 2000 (length s.elements)) ≡ false

@@ -10,7 +10,7 @@ use Rattle.sk_base.specs.declared.Ratio.{Ratio}
 use Rattle.sk_base.specs.Bounds.{IsWithin, IsFromTo}
 use Rattle.sk_base.specs.Millimetres.{has_sign, with_sign}
 use Rattle.sk_base.specs.SoundSketch.{IsSoundRatio}
-use Rattle.sk_text.specs.Spelling.{magnitude, whole_text}
+use Rattle.sk_base.specs.Spelling.{magnitude, whole_text}
 use Rattle.sk_text.proofs.ReadBack.{digits_of-decimal, unsigned, LacksDigits, found_behind, drop_behind}
 use Rattle.sk_lang.specs.Quantities.{is_slash, part_of_ratio, parts_round, unsigned_ratio, ratio_of, ratio}
 use Rattle.sk_lang.specs.Conditions.{is_zero}

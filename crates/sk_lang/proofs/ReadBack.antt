@@ -5,7 +5,8 @@ use Rattle.std.specs.Str.Lines.{strip_carriage_return}
 use Rattle.std.proofs.lemmas.List.Splits.{slice_split_at, slice_split_none, length-slice_split}
 use Rattle.sk_lex.specs.Words.{is_blank, is_empty, words_in}
 use Rattle.sk_lang.specs.Lines.{is_line_feed, without_empty_end, lines_in}
-use Rattle.sk_lang.specs.Canonical.{spaced, ended_lines}
+use Rattle.sk_lang.specs.Canonical.{ended_lines}
+use Rattle.sk_base.specs.Spelling.{spaced}
 
 -- a word: some bytes, and no blank
 pub record IsWord (word : List ℕ) : Type 0 where

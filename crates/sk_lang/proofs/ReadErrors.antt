@@ -3,6 +3,7 @@ use Rattle.std.proofs.Common.{◌≡◌, ℕ, ◌+◌, ◌<◌, ◌≤◌, false
 use Rattle.sk_base.specs.declared.Sketch.{Sketch}
 use Rattle.sk_lang.specs.declared.entry.EntryError.{EntryError}
 use Rattle.sk_lang.specs.declared.entry.EntryError.TheVariants.{Refused, NoMemory}
+use Rattle.sk_lang.specs.declared.version.Version.{Version}
 use Rattle.sk_lang.specs.declared.progress.Progress.{Progress}
 use Rattle.sk_lang.specs.declared.progress.Progress.TheVariants.{Before, Within, After}
 use Rattle.sk_lang.specs.Lines.{IsFirstLine}
@@ -25,10 +26,10 @@ front_refusal_at bytes rest line after progress count NoMemory fits at more firs
 -- the text ends before its sketch does
 pub front_unended : (bytes : List ℕ) (progress : Progress) (count : ℕ) → length bytes ≤ 1048576 → StandsAt bytes [] progress count → has_ended progress ≡ false → IsFrontRefusal bytes (without_end progress count)
 front_unended bytes Before count fits at unended = front_empty_here bytes count fits at
-front_unended bytes (Within s) count fits at unended = front_unended_here bytes s count fits at
-front_unended bytes (After s) count fits at unended = cc
+front_unended bytes (Within v s) count fits at unended = front_unended_here bytes v s count fits at
+front_unended bytes (After v s) count fits at unended = cc
 
-pub ended_no_more : (progress : Progress) → ((s : Sketch) → progress ≡ After s → ⊥) → has_ended progress ≡ false
+pub ended_no_more : (progress : Progress) → ((v : Version) (s : Sketch) → progress ≡ After v s → ⊥) → has_ended progress ≡ false
 ended_no_more Before never = refl
-ended_no_more (Within s) never = refl
-ended_no_more (After s) never = absurd (never s refl)
+ended_no_more (Within v s) never = refl
+ended_no_more (After v s) never = absurd (never v s refl)

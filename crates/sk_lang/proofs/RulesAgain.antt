@@ -19,7 +19,8 @@ use Rattle.sk_base.specs.Labels.{is_name}
 use Rattle.sk_base.specs.Numbering.{elem_exact}
 use Rattle.sk_base.specs.SoundSketch.{IsSoundSketch, IsSoundRule, BothFit, MayJoin, MayBeApart, MayLieOn, MayBeTangent, AreCircles, AreLines, MayNest}
 use Rattle.sk_base.proofs.Pairs.{pairs_tell}
-use Rattle.sk_text.specs.Spelling.{mm_text}
+use Rattle.sk_base.specs.Spelling.{mm_text}
+use Rattle.sk_lang.specs.declared.version.Version.{Version}
 use Rattle.sk_lang.specs.declared.keyword.Keyword.TheVariants.{Distance, On, Tangent, Outside, Inside, Angle}
 use Rattle.sk_lang.specs.declared.progress.Progress.{Progress}
 use Rattle.sk_lang.specs.declared.progress.Progress.TheVariants.{Within}
@@ -27,14 +28,15 @@ use Rattle.sk_lang.specs.Named.{element_named, number_named}
 use Rattle.sk_lang.specs.Quantities.{um, ratio}
 use Rattle.sk_lang.specs.Codes.{code_of}
 use Rattle.sk_lang.specs.Meaning.{progress_after}
-use Rattle.sk_lang.specs.Canonical.{spaced, rule_words, ratio_text}
+use Rattle.sk_lang.specs.Canonical.{rule_words, ratio_text}
+use Rattle.sk_base.specs.Spelling.{spaced}
 use Rattle.sk_lang.specs.Renumbered.{elements_from, place_of, rule_renumbered, constraints_from}
 use Rattle.sk_base.proofs.Finding.{found_in}
 use Rattle.sk_lang.proofs.Fitting.{takes_apart, takes_on, takes_tangent, takes_outside, takes_angle, takes_inside}
 use Rattle.sk_lang.proofs.Passing.{Passes, passes_to}
 use Rattle.sk_lang.proofs.Written.{IsWrittenLine, literal, name_written, mm_written, magnitude_within, written_line}
 use Rattle.sk_lang.proofs.RatioBack.{ratio_tests, ratio_back, ratio_text_written}
-use Rattle.sk_lang.proofs.Again.{code_by_words, progress_by_words, different_bytes, found_again, coordinate_back, length_within, length_back, um_back}
+use Rattle.sk_lang.proofs.Again.{shared, code_by_words, progress_by_words, different_bytes, found_again, coordinate_back, length_within, length_back, um_back}
 
 -- two elements that a rule joins
 record AreJoined (s : Sketch) (fits : Shape → Shape → Type 0) (u v : Elem) : Type 0 where
@@ -50,10 +52,10 @@ record AreJoined (s : Sketch) (fits : Shape → Shape → Type 0) (u v : Elem) :
 numbered : (s : Sketch) (u : Elem) (e : Element) → element_of s u ≡ Some e → e.number.0 ≡ u.0
 numbered s u e is = let passes = (found_in (λ (x : Element). nat_eq x.number.0 u.0) s.elements e is).1 in grind (arith, nat_tests)
 
-among : (s : Sketch) (u : Elem) (e : Element) → element_of s u ≡ Some e → Contains s.elements e
+pub among : (s : Sketch) (u : Elem) (e : Element) → element_of s u ≡ Some e → Contains s.elements e
 among s u e is = (found_in (λ (x : Element). nat_eq x.number.0 u.0) s.elements e is).0
 
-labels_apart : (s : Sketch) (u v : Elem) (e f : Element) → IsSoundSketch s → u ≢ v → element_of s u ≡ Some e → element_of s v ≡ Some f → e.label ≢ f.label
+pub labels_apart : (s : Sketch) (u v : Elem) (e f : Element) → IsSoundSketch s → u ≢ v → element_of s u ≡ Some e → element_of s v ≡ Some f → e.label ≢ f.label
 labels_apart s u v e f sound other u_is v_is =
     elim (pairs_tell (λ (x y : Element). x.label ≢ y.label) s.elements sound.labels_differ e f (among s u e u_is) (among s v f v_is)) [
       | inl same ↦ absurd (other (elem_exact u v (sym (numbered s u e u_is) ∙ ap (λ (x : Element). x.number.0) same ∙ numbered s v f v_is)))
@@ -82,10 +84,10 @@ joined s fits u v sound may = joined_by s fits u v (element_of s u) (element_of 
 abbrev pub rules_so_far : Sketch → List Constraint → Sketch
 rules_so_far s done = record { elements = elements_from 1 s.elements; constraints = constraints_from s 1 done }
 
-again_named : (s : Sketch) (done : List Constraint) (u : Elem) (e : Element) → IsSoundSketch s → element_of s u ≡ Some e → element_named (rules_so_far s done) e.label ≡ Some (let again : Element = record e { number = place_of s u } in again)
+pub again_named : (s : Sketch) (done : List Constraint) (u : Elem) (e : Element) → IsSoundSketch s → element_of s u ≡ Some e → element_named (rules_so_far s done) e.label ≡ Some (let again : Element = record e { number = place_of s u } in again)
 again_named s done u e sound is = found_again u 1 s.elements e sound.labels_differ is
 
-again_numbered : (s : Sketch) (done : List Constraint) (u : Elem) (e : Element) → IsSoundSketch s → element_of s u ≡ Some e → number_named (rules_so_far s done) e.label ≡ place_of s u
+pub again_numbered : (s : Sketch) (done : List Constraint) (u : Elem) (e : Element) → IsSoundSketch s → element_of s u ≡ Some e → number_named (rules_so_far s done) e.label ≡ place_of s u
 again_numbered s done u e sound is = rw (again_named s done u e sound is) refl
 
 pub length_rules : (s : Sketch) (n : ℕ) (done : List Constraint) → length (constraints_from s n done) ≡ length done
@@ -102,25 +104,25 @@ rules_push s n (d ∷ done) c =
     ap (λ (cs : List Constraint). made s n (rule_renumbered s d.rule) ∷ cs) (rules_push s (n + 1) done c ∙ ap (λ (m : ℕ). constraints_from s (n + 1) done ++ made s m (rule_renumbered s c.rule) ∷ []) count)
 
 -- one more constraint
-ruled : (s : Sketch) (done : List Constraint) (number : ConId) (asked read : Rule) → read ≡ rule_renumbered s asked
-    → Within (record { elements = elements_from 1 s.elements; constraints = constraints_from s 1 done ++ made s (length (constraints_from s 1 done) + 1) read ∷ [] }) ≡ Within (rules_so_far s (done ++ record { number = number; rule = asked } ∷ []))
-ruled s done number asked read same =
+pub ruled : (v : Version) (s : Sketch) (done : List Constraint) (number : ConId) (asked read : Rule) → read ≡ rule_renumbered s asked
+    → Within v (record { elements = elements_from 1 s.elements; constraints = constraints_from s 1 done ++ made s (length (constraints_from s 1 done) + 1) read ∷ [] }) ≡ Within v (rules_so_far s (done ++ record { number = number; rule = asked } ∷ []))
+ruled v s done number asked read same =
     let count : length (constraints_from s 1 done) + 1 ≡ 1 + length done = let len = length_rules s 1 done in omega arith in
     let c : Constraint = record { number = number; rule = asked } in
-    let with_rules : List Constraint → Progress = λ cs. Within (record { elements = elements_from 1 s.elements; constraints = cs }) in
+    let with_rules : List Constraint → Progress = λ cs. Within v (record { elements = elements_from 1 s.elements; constraints = cs }) in
     ap (λ (m : ℕ). with_rules (constraints_from s 1 done ++ made s m read ∷ [])) count
     ∙ ap (λ (r : Rule). with_rules (constraints_from s 1 done ++ made s (1 + length done) r ∷ [])) same
     ∙ ap with_rules (sym (rules_push s 1 done c))
 
-room_left : (s : Sketch) (done : List Constraint) → length done < 4000 → nat_le 4000 (length (constraints_from s 1 done)) ≡ false
+pub room_left : (s : Sketch) (done : List Constraint) → length done < 4000 → nat_le 4000 (length (constraints_from s 1 done)) ≡ false
 room_left s done few = let len = length_rules s 1 done in grind (arith, nat_tests)
 
 -- the line of a constraint is read as that constraint, with the next number
-abbrev pub IsRuleAgain : Sketch → List Constraint → ConId → Rule → List (List ℕ) → Type 0
-IsRuleAgain s done number asked words =
+abbrev pub IsRuleAgain : Version → Sketch → List Constraint → ConId → Rule → List (List ℕ) → Type 0
+IsRuleAgain v s done number asked words =
     IsWrittenLine (spaced words) words
-    × (code_of (Within (rules_so_far s done)) (spaced words) ≡ None)
-    × (progress_after (Within (rules_so_far s done)) (spaced words) ≡ Within (rules_so_far s (done ++ record { number = number; rule = asked } ∷ [])))
+    × (code_of (Within v (rules_so_far s done)) (spaced words) ≡ None)
+    × (progress_after (Within v (rules_so_far s done)) (spaced words) ≡ Within v (rules_so_far s (done ++ record { number = number; rule = asked } ∷ [])))
 
 -- the names of two joined elements, read again
 record AreNamedAgain (s : Sketch) (done : List Constraint) (u v : Elem) (e f : Element) : Type 0 where
@@ -137,8 +139,8 @@ named_again s done fits u v j sound = record {
   second_number = again_numbered s done v j.second sound j.second_is;
 }
 
-distance_again : (s : Sketch) (done : List Constraint) (number : ConId) (u v : Elem) (len : Um) → IsSoundSketch s → IsSoundRule s (rule.Distance u v len) → length done < 4000 → IsRuleAgain s done number (rule.Distance u v len) (rule_words s (rule.Distance u v len))
-distance_again s done number u v len sound is few =
+pub distance_again : (version : Version) (s : Sketch) (done : List Constraint) (number : ConId) (u v : Elem) (len : Um) → IsSoundSketch s → IsSoundRule s (rule.Distance u v len) → length done < 4000 → IsRuleAgain version s done number (rule.Distance u v len) (rule_words s (rule.Distance u v len))
+distance_again version s done number u v len sound is few =
     let j = joined s MayBeApart u v sound is.0 in
     let so_far = rules_so_far s done in
     let fit = takes_apart j.first.shape j.second.shape j.fit in
@@ -165,10 +167,10 @@ distance_again s done number u v len sound is few =
     let value = um_back len back in
     let read : rule.Distance (number_named so_far j.first.label) (number_named so_far j.second.label) (um (mm_text len.0)) ≡ rule.Distance (place_of s u) (place_of s v) len = rw (n.first_number, n.second_number, value) refl in
     rw (j.first_is, j.second_is)
-    (w, code_by_words (Within so_far) (spaced words) words w (passes_to so_far Distance rest passes), progress_by_words (Within so_far) (spaced words) words w ∙ ruled s done number (rule.Distance u v len) (rule.Distance (number_named so_far j.first.label) (number_named so_far j.second.label) (um (mm_text len.0))) read)
+    (w, code_by_words version so_far (spaced words) (codes "distance") rest Distance w (shared version (codes "distance") Distance refl refl) (passes_to so_far Distance rest passes), progress_by_words version so_far (spaced words) (codes "distance") rest Distance w (shared version (codes "distance") Distance refl refl) ∙ ruled version s done number (rule.Distance u v len) (rule.Distance (number_named so_far j.first.label) (number_named so_far j.second.label) (um (mm_text len.0))) read)
 
-on_again : (s : Sketch) (done : List Constraint) (number : ConId) (u v : Elem) → IsSoundSketch s → IsSoundRule s (rule.On u v) → length done < 4000 → IsRuleAgain s done number (rule.On u v) (rule_words s (rule.On u v))
-on_again s done number u v sound is few =
+pub on_again : (version : Version) (s : Sketch) (done : List Constraint) (number : ConId) (u v : Elem) → IsSoundSketch s → IsSoundRule s (rule.On u v) → length done < 4000 → IsRuleAgain version s done number (rule.On u v) (rule_words s (rule.On u v))
+on_again version s done number u v sound is few =
     let j = joined s MayLieOn u v sound is in
     let so_far = rules_so_far s done in
     let fit = takes_on j.first.shape j.second.shape j.fit in
@@ -192,10 +194,10 @@ on_again s done number u v sound is few =
     } in
     let read : rule.On (number_named so_far j.first.label) (number_named so_far j.second.label) ≡ rule.On (place_of s u) (place_of s v) = rw (n.first_number, n.second_number) refl in
     rw (j.first_is, j.second_is)
-    (w, code_by_words (Within so_far) (spaced words) words w (passes_to so_far On rest passes), progress_by_words (Within so_far) (spaced words) words w ∙ ruled s done number (rule.On u v) (rule.On (number_named so_far j.first.label) (number_named so_far j.second.label)) read)
+    (w, code_by_words version so_far (spaced words) (codes "on") rest On w (shared version (codes "on") On refl refl) (passes_to so_far On rest passes), progress_by_words version so_far (spaced words) (codes "on") rest On w (shared version (codes "on") On refl refl) ∙ ruled version s done number (rule.On u v) (rule.On (number_named so_far j.first.label) (number_named so_far j.second.label)) read)
 
-tangent_again : (s : Sketch) (done : List Constraint) (number : ConId) (u v : Elem) → IsSoundSketch s → IsSoundRule s (rule.Tangent u v) → length done < 4000 → IsRuleAgain s done number (rule.Tangent u v) (rule_words s (rule.Tangent u v))
-tangent_again s done number u v sound is few =
+pub tangent_again : (version : Version) (s : Sketch) (done : List Constraint) (number : ConId) (u v : Elem) → IsSoundSketch s → IsSoundRule s (rule.Tangent u v) → length done < 4000 → IsRuleAgain version s done number (rule.Tangent u v) (rule_words s (rule.Tangent u v))
+tangent_again version s done number u v sound is few =
     let j = joined s MayBeTangent u v sound is in
     let so_far = rules_so_far s done in
     let fit = takes_tangent j.first.shape j.second.shape j.fit in
@@ -219,10 +221,10 @@ tangent_again s done number u v sound is few =
     } in
     let read : rule.Tangent (number_named so_far j.first.label) (number_named so_far j.second.label) ≡ rule.Tangent (place_of s u) (place_of s v) = rw (n.first_number, n.second_number) refl in
     rw (j.first_is, j.second_is)
-    (w, code_by_words (Within so_far) (spaced words) words w (passes_to so_far Tangent rest passes), progress_by_words (Within so_far) (spaced words) words w ∙ ruled s done number (rule.Tangent u v) (rule.Tangent (number_named so_far j.first.label) (number_named so_far j.second.label)) read)
+    (w, code_by_words version so_far (spaced words) (codes "tangent") rest Tangent w (shared version (codes "tangent") Tangent refl refl) (passes_to so_far Tangent rest passes), progress_by_words version so_far (spaced words) (codes "tangent") rest Tangent w (shared version (codes "tangent") Tangent refl refl) ∙ ruled version s done number (rule.Tangent u v) (rule.Tangent (number_named so_far j.first.label) (number_named so_far j.second.label)) read)
 
-outside_again : (s : Sketch) (done : List Constraint) (number : ConId) (u v : Elem) → IsSoundSketch s → IsSoundRule s (rule.Outside u v) → length done < 4000 → IsRuleAgain s done number (rule.Outside u v) (rule_words s (rule.Outside u v))
-outside_again s done number u v sound is few =
+pub outside_again : (version : Version) (s : Sketch) (done : List Constraint) (number : ConId) (u v : Elem) → IsSoundSketch s → IsSoundRule s (rule.Outside u v) → length done < 4000 → IsRuleAgain version s done number (rule.Outside u v) (rule_words s (rule.Outside u v))
+outside_again version s done number u v sound is few =
     let j = joined s AreCircles u v sound is in
     let so_far = rules_so_far s done in
     let fit = takes_outside j.first.shape j.second.shape j.fit in
@@ -246,10 +248,10 @@ outside_again s done number u v sound is few =
     } in
     let read : rule.Outside (number_named so_far j.first.label) (number_named so_far j.second.label) ≡ rule.Outside (place_of s u) (place_of s v) = rw (n.first_number, n.second_number) refl in
     rw (j.first_is, j.second_is)
-    (w, code_by_words (Within so_far) (spaced words) words w (passes_to so_far Outside rest passes), progress_by_words (Within so_far) (spaced words) words w ∙ ruled s done number (rule.Outside u v) (rule.Outside (number_named so_far j.first.label) (number_named so_far j.second.label)) read)
+    (w, code_by_words version so_far (spaced words) (codes "outside") rest Outside w (shared version (codes "outside") Outside refl refl) (passes_to so_far Outside rest passes), progress_by_words version so_far (spaced words) (codes "outside") rest Outside w (shared version (codes "outside") Outside refl refl) ∙ ruled version s done number (rule.Outside u v) (rule.Outside (number_named so_far j.first.label) (number_named so_far j.second.label)) read)
 
-inside_again : (s : Sketch) (done : List Constraint) (number : ConId) (u v : Elem) → IsSoundSketch s → IsSoundRule s (rule.Inside u v) → length done < 4000 → IsRuleAgain s done number (rule.Inside u v) (rule_words s (rule.Inside u v))
-inside_again s done number u v sound is few =
+pub inside_again : (version : Version) (s : Sketch) (done : List Constraint) (number : ConId) (u v : Elem) → IsSoundSketch s → IsSoundRule s (rule.Inside u v) → length done < 4000 → IsRuleAgain version s done number (rule.Inside u v) (rule_words s (rule.Inside u v))
+inside_again version s done number u v sound is few =
     let j = joined s MayNest u v sound is in
     let so_far = rules_so_far s done in
     let fit = takes_inside j.first.shape j.second.shape j.fit in
@@ -273,10 +275,10 @@ inside_again s done number u v sound is few =
     } in
     let read : rule.Inside (number_named so_far j.first.label) (number_named so_far j.second.label) ≡ rule.Inside (place_of s u) (place_of s v) = rw (n.first_number, n.second_number) refl in
     rw (j.first_is, j.second_is)
-    (w, code_by_words (Within so_far) (spaced words) words w (passes_to so_far Inside rest passes), progress_by_words (Within so_far) (spaced words) words w ∙ ruled s done number (rule.Inside u v) (rule.Inside (number_named so_far j.first.label) (number_named so_far j.second.label)) read)
+    (w, code_by_words version so_far (spaced words) (codes "inside") rest Inside w (shared version (codes "inside") Inside refl refl) (passes_to so_far Inside rest passes), progress_by_words version so_far (spaced words) (codes "inside") rest Inside w (shared version (codes "inside") Inside refl refl) ∙ ruled version s done number (rule.Inside u v) (rule.Inside (number_named so_far j.first.label) (number_named so_far j.second.label)) read)
 
-angle_again : (s : Sketch) (done : List Constraint) (number : ConId) (l m : Elem) (slope : Ratio) → IsSoundSketch s → IsSoundRule s (rule.Angle l m slope) → length done < 4000 → IsRuleAgain s done number (rule.Angle l m slope) (rule_words s (rule.Angle l m slope))
-angle_again s done number l m slope sound is few =
+pub angle_again : (version : Version) (s : Sketch) (done : List Constraint) (number : ConId) (l m : Elem) (slope : Ratio) → IsSoundSketch s → IsSoundRule s (rule.Angle l m slope) → length done < 4000 → IsRuleAgain version s done number (rule.Angle l m slope) (rule_words s (rule.Angle l m slope))
+angle_again version s done number l m slope sound is few =
     let j = joined s AreLines l m sound is.0 in
     let so_far = rules_so_far s done in
     let fit = takes_angle j.first.shape j.second.shape j.fit in
@@ -302,12 +304,4 @@ angle_again s done number l m slope sound is few =
     let value = ratio_back slope is.1 in
     let read : rule.Angle (number_named so_far j.first.label) (number_named so_far j.second.label) (ratio (ratio_text slope)) ≡ rule.Angle (place_of s l) (place_of s m) slope = rw (n.first_number, n.second_number, value) refl in
     rw (j.first_is, j.second_is)
-    (w, code_by_words (Within so_far) (spaced words) words w (passes_to so_far Angle rest passes), progress_by_words (Within so_far) (spaced words) words w ∙ ruled s done number (rule.Angle l m slope) (rule.Angle (number_named so_far j.first.label) (number_named so_far j.second.label) (ratio (ratio_text slope))) read)
-
-pub rule_again : (s : Sketch) (done : List Constraint) (number : ConId) (asked : Rule) → IsSoundSketch s → IsSoundRule s asked → length done < 4000 → IsRuleAgain s done number asked (rule_words s asked)
-rule_again s done number (rule.Distance u v len) = distance_again s done number u v len
-rule_again s done number (rule.On u v) = on_again s done number u v
-rule_again s done number (rule.Tangent u v) = tangent_again s done number u v
-rule_again s done number (rule.Outside u v) = outside_again s done number u v
-rule_again s done number (rule.Inside u v) = inside_again s done number u v
-rule_again s done number (rule.Angle l m slope) = angle_again s done number l m slope
+    (w, code_by_words version so_far (spaced words) (codes "angle") rest Angle w (shared version (codes "angle") Angle refl refl) (passes_to so_far Angle rest passes), progress_by_words version so_far (spaced words) (codes "angle") rest Angle w (shared version (codes "angle") Angle refl refl) ∙ ruled version s done number (rule.Angle l m slope) (rule.Angle (number_named so_far j.first.label) (number_named so_far j.second.label) (ratio (ratio_text slope))) read)

@@ -7,10 +7,11 @@ use Rattle.sk_base.specs.declared.Rule.{Rule}
 use Rattle.sk_base.specs.declared.Element.{Element}
 use Rattle.sk_base.specs.declared.Constraint.{Constraint}
 use Rattle.sk_base.specs.declared.Sketch.{Sketch}
-use Rattle.sk_lex.specs.Words.{words_in}
+use Rattle.sk_lang.specs.declared.version.Version.{Version}
 use Rattle.sk_lang.specs.declared.keyword.Keyword.{Keyword}
 use Rattle.sk_lang.specs.declared.entry.Entry.{Entry}
 use Rattle.sk_lang.specs.declared.entry.Entry.TheVariants as entry
+use Rattle.sk_lang.specs.Comments.{words_under}
 use Rattle.sk_lang.specs.Keywords.{keyword_of, declares}
 use Rattle.sk_lang.specs.Meaning.{shape_drawn, rule_asked, element_with, constraint_with, entry_made}
 use Rattle.sk_lang.specs.Entry.{IsOther, IsKeywordEntry, IsEntryOfWords, IsEntryOf, StandsOn, IsNumbered}
@@ -44,28 +45,28 @@ made_numbered s k (first ∷ rest) elem con said is = told (declares k) is
     told false is = constraint_numbered elem con (rule_asked s k (first ∷ rest)) said is
 
 -- what is made of a keyword's line stands on it
-stands_made : (line first : List ℕ) (rest : List (List ℕ)) (elem : Elem) (con : ConId) (x : Entry) → words_in line ≡ first ∷ rest → is_some (keyword_of first) ≡ true → IsMade elem con x → StandsOn line x
-stands_made line first rest elem con (entry.Element e) words keyword made = record { first = first; rest = rest; words = words; keyword = keyword }
-stands_made line first rest elem con (entry.Constraint c) words keyword made = record { first = first; rest = rest; words = words; keyword = keyword }
-stands_made line first rest elem con entry.Blank words keyword made = absurd made
-stands_made line first rest elem con (entry.Other ws) words keyword made = absurd made
+stands_made : (v : Version) (line first : List ℕ) (rest : List (List ℕ)) (elem : Elem) (con : ConId) (x : Entry) → words_under v line ≡ first ∷ rest → is_some (keyword_of v first) ≡ true → IsMade elem con x → StandsOn v line x
+stands_made v line first rest elem con (entry.Element e) words keyword made = record { first = first; rest = rest; words = words; keyword = keyword }
+stands_made v line first rest elem con (entry.Constraint c) words keyword made = record { first = first; rest = rest; words = words; keyword = keyword }
+stands_made v line first rest elem con entry.Blank words keyword made = absurd made
+stands_made v line first rest elem con (entry.Other ws) words keyword made = absurd made
 
-stands_other : (line first : List ℕ) (rest : List (List ℕ)) (x : Entry) → words_in line ≡ first ∷ rest → is_some (keyword_of first) ≡ false → IsOther line x → StandsOn line x
-stands_other line first rest (entry.Other ws) words keyword other = (record { first = first; rest = rest; words = words; keyword = keyword }, other)
-stands_other line first rest (entry.Element e) words keyword other = absurd other
-stands_other line first rest (entry.Constraint c) words keyword other = absurd other
-stands_other line first rest entry.Blank words keyword other = absurd other
+stands_other : (v : Version) (line first : List ℕ) (rest : List (List ℕ)) (x : Entry) → words_under v line ≡ first ∷ rest → is_some (keyword_of v first) ≡ false → IsOther v line x → StandsOn v line x
+stands_other v line first rest (entry.Other ws) words keyword other = (record { first = first; rest = rest; words = words; keyword = keyword }, other)
+stands_other v line first rest (entry.Element e) words keyword other = absurd other
+stands_other v line first rest (entry.Constraint c) words keyword other = absurd other
+stands_other v line first rest entry.Blank words keyword other = absurd other
 
-pub stands_on : (s : Sketch) (line : List ℕ) (elem : Elem) (con : ConId) (x : Entry) → IsEntryOf s line elem con x → StandsOn line x
-stands_on s line elem con x is = by (words_in line) refl is
+pub stands_on : (v : Version) (s : Sketch) (line : List ℕ) (elem : Elem) (con : ConId) (x : Entry) → IsEntryOf v s line elem con x → StandsOn v line x
+stands_on v s line elem con x is = by (words_under v line) refl is
   where
-    by : (ws : List (List ℕ)) → words_in line ≡ ws → IsEntryOfWords s line ws elem con x → StandsOn line x
-    by [] words blank = subst (StandsOn line) (sym blank) words
-    by (first ∷ rest) words says = told (keyword_of first) refl says
+    by : (ws : List (List ℕ)) → words_under v line ≡ ws → IsEntryOfWords v s line ws elem con x → StandsOn v line x
+    by [] words blank = subst (StandsOn v line) (sym blank) words
+    by (first ∷ rest) words says = told (keyword_of v first) refl says
       where
-        told : (o : Option Keyword) → keyword_of first ≡ o → IsKeywordEntry s line o rest elem con x → StandsOn line x
-        told None here other = stands_other line first rest x words (ap is_some here) other
-        told (Some k) here made = stands_made line first rest elem con x words (ap is_some here) (made_numbered s k rest elem con x made)
+        told : (o : Option Keyword) → keyword_of v first ≡ o → IsKeywordEntry v s line o rest elem con x → StandsOn v line x
+        told None here other = stands_other v line first rest x words (ap is_some here) other
+        told (Some k) here made = stands_made v line first rest elem con x words (ap is_some here) (made_numbered s k rest elem con x made)
 
 number_made : (elem : Elem) (con : ConId) (x : Entry) → IsMade elem con x → IsNumbered elem con x
 number_made elem con (entry.Element e) made = made
@@ -73,19 +74,19 @@ number_made elem con (entry.Constraint c) made = made
 number_made elem con entry.Blank made = tt
 number_made elem con (entry.Other ws) made = tt
 
-number_other : (line : List ℕ) (elem : Elem) (con : ConId) (x : Entry) → IsOther line x → IsNumbered elem con x
-number_other line elem con (entry.Other ws) other = tt
-number_other line elem con entry.Blank other = tt
-number_other line elem con (entry.Element e) other = absurd other
-number_other line elem con (entry.Constraint c) other = absurd other
+number_other : (v : Version) (line : List ℕ) (elem : Elem) (con : ConId) (x : Entry) → IsOther v line x → IsNumbered elem con x
+number_other v line elem con (entry.Other ws) other = tt
+number_other v line elem con entry.Blank other = tt
+number_other v line elem con (entry.Element e) other = absurd other
+number_other v line elem con (entry.Constraint c) other = absurd other
 
-pub is_numbered : (s : Sketch) (line : List ℕ) (elem : Elem) (con : ConId) (x : Entry) → IsEntryOf s line elem con x → IsNumbered elem con x
-is_numbered s line elem con x is = by (words_in line) is
+pub is_numbered : (v : Version) (s : Sketch) (line : List ℕ) (elem : Elem) (con : ConId) (x : Entry) → IsEntryOf v s line elem con x → IsNumbered elem con x
+is_numbered v s line elem con x is = by (words_under v line) is
   where
-    told : (o : Option Keyword) (rest : List (List ℕ)) → IsKeywordEntry s line o rest elem con x → IsNumbered elem con x
-    told None rest other = number_other line elem con x other
+    told : (o : Option Keyword) (rest : List (List ℕ)) → IsKeywordEntry v s line o rest elem con x → IsNumbered elem con x
+    told None rest other = number_other v line elem con x other
     told (Some k) rest made = number_made elem con x (made_numbered s k rest elem con x made)
 
-    by : (ws : List (List ℕ)) → IsEntryOfWords s line ws elem con x → IsNumbered elem con x
+    by : (ws : List (List ℕ)) → IsEntryOfWords v s line ws elem con x → IsNumbered elem con x
     by [] blank = subst (IsNumbered elem con) (sym blank) tt
-    by (first ∷ rest) says = told (keyword_of first) rest says
+    by (first ∷ rest) says = told (keyword_of v first) rest says

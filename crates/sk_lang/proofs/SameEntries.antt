@@ -3,17 +3,18 @@ use Rattle.std.proofs.Common.{◌≡◌, ◌⊎◌, inl, inr, ℕ, List, [], ◌
 use Rattle.sk_base.specs.declared.Elem.{Elem}
 use Rattle.sk_base.specs.declared.ConId.{ConId}
 use Rattle.sk_base.specs.declared.Sketch.{Sketch}
+use Rattle.sk_lang.specs.declared.version.Version.{Version}
 use Rattle.sk_lang.specs.declared.keyword.Keyword.{Keyword}
 use Rattle.sk_lang.specs.declared.entry.Entry.{Entry}
 use Rattle.sk_lang.specs.Keywords.{keyword_of}
 use Rattle.sk_lang.specs.Entry.{IsOther, IsKeywordEntry, IsEntryOfWords}
 
 -- what it says is told, or the words are those of another line
-pub same_entry : (s : Sketch) (line : List ℕ) (ws : List (List ℕ)) (elem : Elem) (con : ConId) (x y : Entry) → IsEntryOfWords s line ws elem con x → IsEntryOfWords s line ws elem con y
-    → (x ≡ y) ⊎ (IsOther line x × IsOther line y)
-same_entry s line [] elem con x y is other = inl (is ∙ sym other)
-same_entry s line (first ∷ rest) elem con x y is other = told (keyword_of first) is other
+pub same_entry : (v : Version) (s : Sketch) (line : List ℕ) (ws : List (List ℕ)) (elem : Elem) (con : ConId) (x y : Entry) → IsEntryOfWords v s line ws elem con x → IsEntryOfWords v s line ws elem con y
+    → (x ≡ y) ⊎ (IsOther v line x × IsOther v line y)
+same_entry v s line [] elem con x y is other = inl (is ∙ sym other)
+same_entry v s line (first ∷ rest) elem con x y is other = told (keyword_of v first) is other
   where
-    told : (o : Option Keyword) → IsKeywordEntry s line o rest elem con x → IsKeywordEntry s line o rest elem con y → (x ≡ y) ⊎ (IsOther line x × IsOther line y)
+    told : (o : Option Keyword) → IsKeywordEntry v s line o rest elem con x → IsKeywordEntry v s line o rest elem con y → (x ≡ y) ⊎ (IsOther v line x × IsOther v line y)
     told None is other = inr (is, other)
     told (Some k) is other = (let same : Some x ≡ Some y = sym is ∙ other in inl (cc))

@@ -1,11 +1,11 @@
 -- A line without a code says something.
-use Rattle.std.proofs.Common.{◌≡◌, inl, inr, refl, ℕ, zero, suc, ◌+◌, ◌-◌, ◌≤◌, false, not, List, [], ◌∷◌, ◌++◌, length, length-drop, drop, ap, sym, ◌∙◌, Option, None, Some, arith, append-nil}
+use Rattle.std.proofs.Common.{◌≡◌, inl, inr, refl, ℕ, zero, suc, ◌+◌, ◌-◌, ◌≤◌, false, not, List, [], ◌∷◌, ◌++◌, length, length-drop, drop, take, subst, ap, sym, ◌∙◌, Option, None, Some, arith, append-nil}
 use Rattle.std.specs.Prelude.{map, nat_eq}
 use Rattle.std.specs.List.{position_or_len}
 use Rattle.std.proofs.lemmas.List.Sums.{prefix_len-le-length}
 use Rattle.std.proofs.lemmas.Bool.{cases_lt}
 use Rattle.std.proofs.lemmas.Bool.Decides.{nat_tests}
-use Rattle.std.proofs.lemmas.List.{drop_all}
+use Rattle.std.proofs.lemmas.List.{drop_all, length-take-le}
 use Rattle.sk_base.specs.declared.Elem.{Elem}
 use Rattle.sk_base.specs.declared.ConId.{ConId}
 use Rattle.sk_base.specs.declared.Sketch.{Sketch}
@@ -13,20 +13,23 @@ use Rattle.sk_base.proofs.Tables.{passed}
 use Rattle.sk_lex.specs.declared.Word.{Word}
 use Rattle.sk_lex.specs.declared.Words.{Words}
 use Rattle.sk_lex.specs.Words.{is_too_long, has_wrong_byte, is_blank, words_in, bytes_of, StandInOrder}
-use Rattle.sk_lex.proofs.Splitting.{words_in-skip, words_in-word_at, words_in-pushed, StandInOrder-push, StandInOrder-wider}
+use Rattle.sk_lex.proofs.Splitting.{words_of_front, words_in-skip, words_in-word_at, words_in-pushed, StandInOrder-push, StandInOrder-wider}
 use Rattle.sk_lang.specs.declared.code.Code.TheVariants.{E15, E19}
 use Rattle.sk_lang.specs.declared.entry.Entry.{Entry}
 use Rattle.sk_lang.specs.declared.entry.Entry.TheVariants as entry
+use Rattle.sk_lang.specs.declared.version.Version.{Version}
+use Rattle.sk_lang.specs.declared.version.Version.TheVariants.{One, Two}
 use Rattle.sk_lang.specs.declared.keyword.Keyword.{Keyword}
-use Rattle.sk_lang.specs.declared.keyword.Keyword.TheVariants.{Point, Line, Circle, Distance, On, Tangent, Outside, Inside, Angle}
+use Rattle.sk_lang.specs.declared.keyword.Keyword.TheVariants.{Point, Line, Circle, Distance, On, Tangent, Outside, Inside, Angle, Block}
 use Rattle.sk_lang.specs.FirstCode.{first_code}
+use Rattle.sk_lang.specs.Comments.{is_hash, words_under}
 use Rattle.sk_lang.specs.Keywords.{keyword_of, places}
 use Rattle.sk_lang.specs.Meaning.{entry_made}
 use Rattle.sk_lang.specs.Entry.{keyword_rows, rows_of, entry_code, IsOther, IsKeywordEntry, IsEntryOfWords, IsEntryOf}
 use Rattle.sk_lang.proofs.Passing.{passes_from}
 
 -- as many words as the keyword asks for make an entry
-made_by : (s : Sketch) (k : Keyword) (rest : List (List ℕ)) (elem : Elem) (con : ConId) → not (nat_eq (length rest) (length (places k))) ≡ false → (x : Entry) × (entry_made s k rest elem con ≡ Some x)
+made_by : (s : Sketch) (k : Keyword) (rest : List (List ℕ)) (elem : Elem) (con : ConId) → not (nat_eq (length rest) (length (places k (length rest)))) ≡ false → (x : Entry) × (entry_made s k rest elem con ≡ Some x)
 made_by s Point (n ∷ x ∷ y ∷ []) elem con count = (_, refl)
 made_by s Line (n ∷ x ∷ y ∷ z ∷ u ∷ []) elem con count = (_, refl)
 made_by s Circle (n ∷ x ∷ y ∷ r ∷ []) elem con count = (_, refl)
@@ -36,6 +39,8 @@ made_by s Tangent (u ∷ v ∷ []) elem con count = (_, refl)
 made_by s Outside (u ∷ v ∷ []) elem con count = (_, refl)
 made_by s Inside (u ∷ v ∷ []) elem con count = (_, refl)
 made_by s Angle (l ∷ m ∷ slope ∷ []) elem con count = (_, refl)
+made_by s Block [] elem con count = cc
+made_by s Block (first ∷ rest) elem con count = (_, refl)
 made_by s k rest elem con count = absurd (grind (arith, nat_tests))
 
 -- the words of a line, each where it stands
@@ -66,21 +71,32 @@ module _ (line : List ℕ) where
             ])
       ]
 
-  some_words : (words : Words) × IsOther line (entry.Other words)
+  some_words : (words : Words) × AreAll words.items
   some_words =
       let found = all_from (length line) 0 [] (omega arith) (omega arith) refl (omega arith) in
       (record { items = found.0 }, found.1)
 
-by_keyword : (s : Sketch) (line : List ℕ) (k : Option Keyword) (rest : List (List ℕ)) (elem : Elem) (con : ConId) → first_code (keyword_rows s k rest) ≡ None → (x : Entry) × IsKeywordEntry s line k rest elem con x
-by_keyword s line None rest elem con clean = (let found = some_words line in (entry.Other found.0, found.1))
-by_keyword s line (Some k) rest elem con clean = made_by s k rest elem con (passes_from s k rest clean).count
+-- the words of what a line says, each where it stands in the line
+other_words : (v : Version) (line : List ℕ) → (words : Words) × IsOther v line (entry.Other words)
+other_words One line = some_words line
+other_words Two line =
+    let end = position_or_len is_hash line in
+    let short = prefix_len-le-length (λ b. not (is_hash b)) line in
+    let count = length-take-le end line short in
+    let found = some_words (take end line) in
+    let order = subst (λ (n : ℕ). StandInOrder 0 found.0.items n) count found.1.1 in
+    (found.0, (sym (words_of_front line end 0 found.0.items order) ∙ found.1.0, StandInOrder-wider 0 found.0.items end (length line) order short))
 
-by_words : (s : Sketch) (line : List ℕ) (ws : List (List ℕ)) (elem : Elem) (con : ConId) → first_code (rows_of s ws) ≡ None → (x : Entry) × IsEntryOfWords s line ws elem con x
-by_words s line [] elem con clean = (entry.Blank, refl)
-by_words s line (first ∷ rest) elem con clean = by_keyword s line (keyword_of first) rest elem con clean
+by_keyword : (v : Version) (s : Sketch) (line : List ℕ) (k : Option Keyword) (rest : List (List ℕ)) (elem : Elem) (con : ConId) → first_code (keyword_rows s k rest) ≡ None → (x : Entry) × IsKeywordEntry v s line k rest elem con x
+by_keyword v s line None rest elem con clean = (let found = other_words v line in (entry.Other found.0, found.1))
+by_keyword v s line (Some k) rest elem con clean = made_by s k rest elem con (passes_from s k rest clean).count
 
-pub some_entry : (s : Sketch) (line : List ℕ) (elem : Elem) (con : ConId) → entry_code s line ≡ None → (x : Entry) × IsEntryOf s line elem con x
-some_entry s line elem con clean =
-    let long = passed (is_too_long line) E15 (first_code ((has_wrong_byte line, E19) ∷ rows_of s (words_in line))) clean in
-    let wrong = passed (has_wrong_byte line) E19 (first_code (rows_of s (words_in line))) long.1 in
-    by_words s line (words_in line) elem con wrong.1
+by_words : (v : Version) (s : Sketch) (line : List ℕ) (ws : List (List ℕ)) (elem : Elem) (con : ConId) → first_code (rows_of v s ws) ≡ None → (x : Entry) × IsEntryOfWords v s line ws elem con x
+by_words v s line [] elem con clean = (entry.Blank, refl)
+by_words v s line (first ∷ rest) elem con clean = by_keyword v s line (keyword_of v first) rest elem con clean
+
+pub some_entry : (v : Version) (s : Sketch) (line : List ℕ) (elem : Elem) (con : ConId) → entry_code v s line ≡ None → (x : Entry) × IsEntryOf v s line elem con x
+some_entry v s line elem con clean =
+    let long = passed (is_too_long line) E15 (first_code ((has_wrong_byte line, E19) ∷ rows_of v s (words_under v line))) clean in
+    let wrong = passed (has_wrong_byte line) E19 (first_code (rows_of v s (words_under v line))) long.1 in
+    by_words v s line (words_under v line) elem con wrong.1

@@ -1,11 +1,10 @@
 -- A text that is read is read as a sound sketch.
-use Rattle.std.proofs.Common.{◌≡◌, ◌≢◌, ℕ, ◌<◌, Bool, true, false, not, ◌&&◌, ◌||◌, nat_le, List, [], ◌∷◌, length, Option, Some, None, is_none, refl, ap, subst, arith, IsTrue}
+use Rattle.std.proofs.Common.{◌≡◌, ◌≢◌, ℕ, ◌<◌, Bool, true, false, not, ◌||◌, nat_le, List, [], ◌∷◌, length, map, Option, Some, None, is_none, refl, subst, arith, IsTrue}
 use Rattle.std.specs.Prelude.{All}
 use Rattle.std.specs.Ordering.{int_eq}
 use Rattle.std.proofs.lemmas.Bool.Decides.{nat_tests, Decides-int_eq}
 use Rattle.sk_base.specs.declared.Elem.{Elem}
 use Rattle.sk_base.specs.declared.ConId.{ConId}
-use Rattle.sk_base.specs.declared.Um.{Um}
 use Rattle.sk_base.specs.declared.Element.{Element}
 use Rattle.sk_base.specs.declared.Constraint.{Constraint}
 use Rattle.sk_base.specs.declared.Shape.{Shape}
@@ -15,8 +14,9 @@ use Rattle.sk_base.specs.declared.Rule.TheVariants as rule
 use Rattle.sk_base.specs.declared.Sketch.{Sketch}
 use Rattle.sk_base.specs.Labels.{is_name}
 use Rattle.sk_base.specs.SoundSketch.{IsSoundSketch, IsSoundShape, IsSoundRule, MayBeApart, MayLieOn, MayBeTangent, AreCircles, AreLines, MayNest}
+use Rattle.sk_lang.specs.declared.version.Version.{Version}
 use Rattle.sk_lang.specs.declared.keyword.Keyword.{Keyword}
-use Rattle.sk_lang.specs.declared.keyword.Keyword.TheVariants.{Point, Line, Circle, Distance, On, Tangent, Outside, Inside, Angle}
+use Rattle.sk_lang.specs.declared.keyword.Keyword.TheVariants.{Point, Line, Circle, Distance, On, Tangent, Outside, Inside, Angle, Block}
 use Rattle.sk_lang.specs.declared.entry.Entry.{Entry}
 use Rattle.sk_lang.specs.declared.entry.Entry.TheVariants as entry
 use Rattle.sk_lang.specs.Kinds.{takes}
@@ -24,13 +24,16 @@ use Rattle.sk_lang.specs.Named.{element_named, number_named}
 use Rattle.sk_lang.specs.Quantities.{um, ratio}
 use Rattle.sk_lang.specs.Conditions.{kinds_fit, radii_equal}
 use Rattle.sk_base.specs.Drawn.{radius_of}
-use Rattle.sk_lang.specs.Meaning.{entry_made, added}
+use Rattle.sk_lang.specs.Meaning.{entry_made, pin_asked, added}
+use Rattle.sk_lang.specs.PinLines.{pins_in}
 use Rattle.sk_lang.specs.Entry.{entry_code, IsEntryOf}
+use Rattle.sk_lang.proofs.BlockSound.{block_sound}
+use Rattle.sk_lang.proofs.LineWords.{BeginsLine}
 use Rattle.sk_lang.proofs.Passing.{Passes}
 use Rattle.sk_lang.proofs.Declaring.{first_of_two, free_from, declares_by}
 use Rattle.sk_lang.proofs.Amounts.{coordinate_within, length_from_to, ratio_sound}
 use Rattle.sk_lang.proofs.Fitting.{may_be_apart, may_lie_on, may_be_tangent, are_circles, are_lines, may_nest}
-use Rattle.sk_lang.proofs.Growing.{with_element_sound, with_constraint_sound, may_join}
+use Rattle.sk_lang.proofs.Growing.{with_element_sound, with_constraint_sound, may_join, differ}
 
 -- numbers that are above those of the sketch
 pub record AreAbove (s : Sketch) (elem : Elem) (con : ConId) : Type 0 where
@@ -59,16 +62,6 @@ pub grow_point : (s : Sketch) (rest : List (List ℕ)) (elem : Elem) (con : ConI
 grow_point s (name ∷ x ∷ y ∷ []) elem con said sound above p made =
     said_is s _ said made (with_shape s Point name (x ∷ y ∷ []) elem (shape.Point (um x) (um y)) sound above.elements (first_of_two _ _ p.names).0 (free_from s name name (first_of_two _ _ p.free).0 refl) p.elements (coordinate_within x, coordinate_within y))
 grow_point s _ elem con said sound above p made = cc
-
-both_true : (a b : Bool) → a ≡ true → b ≡ true → (a && b) ≡ false → ⊥
-both_true true true p q is = cc
-both_true true false p q is = cc
-both_true false b p q is = cc
-
-differ : (x1 y1 x2 y2 : Um) → (int_eq x1.0 x2.0 && int_eq y1.0 y2.0) ≡ false → ¬ ((x1 ≡ x2) × (y1 ≡ y2))
-differ x1 y1 x2 y2 flat same =
-    let x = (Decides-int_eq x1.0 x2.0).1 (ap (λ (u : Um). u.0) same.0) in
-    let y = (Decides-int_eq y1.0 y2.0).1 (ap (λ (u : Um). u.0) same.1) in both_true (int_eq x1.0 x2.0) (int_eq y1.0 y2.0) x y flat
 
 pub grow_line : (s : Sketch) (rest : List (List ℕ)) (elem : Elem) (con : ConId) (said : Entry) → IsSoundSketch s → AreAbove s elem con → Passes s Line rest → entry_made s Line rest elem con ≡ Some said → Grows s said
 grow_line s (name ∷ x1 ∷ y1 ∷ x2 ∷ y2 ∷ []) elem con said sound above p made =
@@ -164,23 +157,30 @@ grow_angle s (l ∷ m ∷ slope ∷ []) elem con said sound above p made =
     said_is s _ said made (with_rule s con (rule.Angle (number_named s l) (number_named s m) (ratio slope)) sound above.constraints p.constraints (may_join s AreLines l m t.first t.second sound t.first_is t.second_is p.same fit, ratio_sound slope bad zero))
 grow_angle s _ elem con said sound above p made = cc
 
+grow_block : (v : Version) (s : Sketch) (rest : List (List ℕ)) (elem : Elem) (con : ConId) (said : Entry) → IsSoundSketch s → AreAbove s elem con → BeginsLine v Block rest → Passes s Block rest → entry_made s Block rest elem con ≡ Some said → Grows s said
+grow_block v s [] elem con said sound above begins p made = cc
+grow_block v s (first ∷ rest) elem con said sound above begins p made =
+    let pins = map (pin_asked s) (pins_in (first ∷ rest)) in
+    said_is s _ said made (with_rule s con (rule.Block pins) sound above.constraints p.constraints (block_sound v s (first ∷ rest) sound begins p))
+
 -- a sound sketch stays sound with what a line without a code declares
-pub grows : (s : Sketch) (k : Keyword) (rest : List (List ℕ)) (elem : Elem) (con : ConId) (said : Entry) → IsSoundSketch s → AreAbove s elem con → Passes s k rest → entry_made s k rest elem con ≡ Some said → Grows s said
-grows s Point = grow_point s
-grows s Line = grow_line s
-grows s Circle = grow_circle s
-grows s Distance = grow_distance s
-grows s On = grow_on s
-grows s Tangent = grow_tangent s
-grows s Outside = grow_outside s
-grows s Inside = grow_inside s
-grows s Angle = grow_angle s
+pub grows : (v : Version) (s : Sketch) (k : Keyword) (rest : List (List ℕ)) (elem : Elem) (con : ConId) (said : Entry) → IsSoundSketch s → AreAbove s elem con → BeginsLine v k rest → Passes s k rest → entry_made s k rest elem con ≡ Some said → Grows s said
+grows v s Point rest elem con said sound above begins = grow_point s rest elem con said sound above
+grows v s Line rest elem con said sound above begins = grow_line s rest elem con said sound above
+grows v s Circle rest elem con said sound above begins = grow_circle s rest elem con said sound above
+grows v s Distance rest elem con said sound above begins = grow_distance s rest elem con said sound above
+grows v s On rest elem con said sound above begins = grow_on s rest elem con said sound above
+grows v s Tangent rest elem con said sound above begins = grow_tangent s rest elem con said sound above
+grows v s Outside rest elem con said sound above begins = grow_outside s rest elem con said sound above
+grows v s Inside rest elem con said sound above begins = grow_inside s rest elem con said sound above
+grows v s Angle rest elem con said sound above begins = grow_angle s rest elem con said sound above
+grows v s Block rest elem con said sound above begins = grow_block v s rest elem con said sound above begins
 
 -- a sound sketch stays sound with what a line says
-pub says_sound : (s : Sketch) (line : List ℕ) (elem : Elem) (con : ConId) (said : Entry) → IsSoundSketch s → AreAbove s elem con → entry_code s line ≡ None → IsEntryOf s line elem con said → Grows s said
-says_sound s line elem con (entry.Element e) sound above clean is =
-    let d = declares_by s line elem con (entry.Element e) clean is refl in grows s d.keyword d.rest elem con (entry.Element e) sound above d.passes d.made
-says_sound s line elem con (entry.Constraint c) sound above clean is =
-    let d = declares_by s line elem con (entry.Constraint c) clean is refl in grows s d.keyword d.rest elem con (entry.Constraint c) sound above d.passes d.made
-says_sound s line elem con entry.Blank sound above clean is = sound
-says_sound s line elem con (entry.Other words) sound above clean is = sound
+pub says_sound : (v : Version) (s : Sketch) (line : List ℕ) (elem : Elem) (con : ConId) (said : Entry) → IsSoundSketch s → AreAbove s elem con → entry_code v s line ≡ None → IsEntryOf v s line elem con said → Grows s said
+says_sound v s line elem con (entry.Element e) sound above clean is =
+    let d = declares_by v s line elem con (entry.Element e) clean is refl in grows v s d.keyword d.rest elem con (entry.Element e) sound above d.begins d.passes d.made
+says_sound v s line elem con (entry.Constraint c) sound above clean is =
+    let d = declares_by v s line elem con (entry.Constraint c) clean is refl in grows v s d.keyword d.rest elem con (entry.Constraint c) sound above d.begins d.passes d.made
+says_sound v s line elem con entry.Blank sound above clean is = sound
+says_sound v s line elem con (entry.Other words) sound above clean is = sound

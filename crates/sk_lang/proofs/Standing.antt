@@ -7,6 +7,7 @@ use Rattle.sk_base.specs.declared.Sketch.{Sketch}
 use Rattle.sk_lang.specs.declared.code.Code.{Code}
 use Rattle.sk_lang.specs.declared.code.Code.TheVariants.{E16, E18}
 use Rattle.sk_lang.specs.declared.front.Front.{Front}
+use Rattle.sk_lang.specs.declared.version.Version.{Version}
 use Rattle.sk_lang.specs.declared.progress.Progress.{Progress}
 use Rattle.sk_lang.specs.declared.progress.Progress.TheVariants.{Before, Within, After}
 use Rattle.sk_lang.specs.Lines.{lines_in, EndsLine, IsFirstLine}
@@ -96,25 +97,25 @@ refused_here bytes rest line after progress count code fits at more first is =
 whole_front : (bytes : List ℕ) (progress : Progress) (count : ℕ) (at : StandsAt bytes [] progress count) → at.front ≡ bytes
 whole_front bytes progress count at = sym (at.cut ∙ append-nil at.front)
 
-pub reads_here : (bytes : List ℕ) (s : Sketch) (count : ℕ) → length bytes ≤ 1048576 → StandsAt bytes [] (After s) count → Reads bytes s
-reads_here bytes s count fits at =
-    let whole = whole_front bytes (After s) count at in
-    record { fits = fits; clean = subst (λ (bs : List ℕ). HaveNoCode Before (lines_in bs)) whole at.clean; ended = subst (λ (bs : List ℕ). progress_along Before (lines_in bs) ≡ After s) whole at.reached }
+pub reads_here : (bytes : List ℕ) (v : Version) (s : Sketch) (count : ℕ) → length bytes ≤ 1048576 → StandsAt bytes [] (After v s) count → Reads bytes s
+reads_here bytes v s count fits at =
+    let whole = whole_front bytes (After v s) count at in
+    record { version = v; fits = fits; clean = subst (λ (bs : List ℕ). HaveNoCode Before (lines_in bs)) whole at.clean; ended = subst (λ (bs : List ℕ). progress_along Before (lines_in bs) ≡ After v s) whole at.reached }
 
 pub empty_here : (bytes : List ℕ) (count : ℕ) → length bytes ≤ 1048576 → StandsAt bytes [] Before count → Refuses bytes 0 E18
 empty_here bytes count fits at =
     let whole = whole_front bytes Before count at in
     subst (λ (bs : List ℕ). length bs ≤ 1048576 → Refuses bs 0 E18) whole (λ short. Empty short (still_before (lines_in at.front) at.clean at.reached)) fits
 
-not_blank_within : (lines : List (List ℕ)) (s : Sketch) → progress_along Before lines ≡ Within s → list_all is_blank_line lines ≡ false
-not_blank_within lines s within = no_true (list_all is_blank_line lines) (λ blank. let before = (all_blank lines blank).1 in cc)
+not_blank_within : (lines : List (List ℕ)) (v : Version) (s : Sketch) → progress_along Before lines ≡ Within v s → list_all is_blank_line lines ≡ false
+not_blank_within lines v s within = no_true (list_all is_blank_line lines) (λ blank. let before = (all_blank lines blank).1 in cc)
 
-pub unended_here : (bytes : List ℕ) (s : Sketch) (count : ℕ) → length bytes ≤ 1048576 → StandsAt bytes [] (Within s) count → Refuses bytes (count + 1) E16
-unended_here bytes s count fits at =
-    let whole = whole_front bytes (Within s) count at in
+pub unended_here : (bytes : List ℕ) (v : Version) (s : Sketch) (count : ℕ) → length bytes ≤ 1048576 → StandsAt bytes [] (Within v s) count → Refuses bytes (count + 1) E16
+unended_here bytes v s count fits at =
+    let whole = whole_front bytes (Within v s) count at in
     let number : length (lines_in at.front) + 1 ≡ count + 1 = ap (λ (n : ℕ). n + 1) (sym at.count_is) in
     let short : length at.front ≤ 1048576 = let same = ap length whole in omega arith in
-    subst (λ (bs : List ℕ). Refuses bs (count + 1) E16) whole (subst (λ (n : ℕ). Refuses at.front n E16) number (NoEnd short (not_blank_within (lines_in at.front) s at.reached) at.clean (ap has_ended at.reached)))
+    subst (λ (bs : List ℕ). Refuses bs (count + 1) E16) whole (subst (λ (n : ℕ). Refuses at.front n E16) number (NoEnd short (not_blank_within (lines_in at.front) v s at.reached) at.clean (ap has_ended at.reached)))
 
 -- the lines before this one
 open_here : (bytes rest line after : List ℕ) (progress : Progress) (count : ℕ) → StandsAt bytes rest progress count → 0 < length rest → IsFirstLine rest line after → has_ended progress ≡ false → has_ended_by count bytes ≡ false
@@ -136,13 +137,13 @@ front_refused_here bytes rest line after progress count code fits at more first 
 pub front_empty_here : (bytes : List ℕ) (count : ℕ) → length bytes ≤ 1048576 → StandsAt bytes [] Before count → RefusesFront bytes 0 E18
 front_empty_here bytes count fits at = record { refuses = empty_here bytes count fits at; before_end = refl }
 
-pub front_unended_here : (bytes : List ℕ) (s : Sketch) (count : ℕ) → length bytes ≤ 1048576 → StandsAt bytes [] (Within s) count → RefusesFront bytes (count + 1) E16
-front_unended_here bytes s count fits at =
-    let whole = whole_front bytes (Within s) count at in
+pub front_unended_here : (bytes : List ℕ) (v : Version) (s : Sketch) (count : ℕ) → length bytes ≤ 1048576 → StandsAt bytes [] (Within v s) count → RefusesFront bytes (count + 1) E16
+front_unended_here bytes v s count fits at =
+    let whole = whole_front bytes (Within v s) count at in
     let lines : take count (lines_in bytes) ≡ lines_in at.front =
     subst (λ (bs : List ℕ). take count (lines_in bs) ≡ lines_in at.front) whole (rw at.count_is (take-length (lines_in at.front))) in
     record {
-      refuses = unended_here bytes s count fits at;
+      refuses = unended_here bytes v s count fits at;
       before_end = ap (λ (n : ℕ). has_ended_by n bytes) (one_less count) ∙ ap (λ (ls : List (List ℕ)). has_ended (progress_along Before ls)) lines ∙ ap has_ended at.reached;
     }
 
@@ -154,33 +155,36 @@ front_of : (bytes front rest : List ℕ) (used : ℕ) → bytes ≡ front ++ res
 front_of bytes front rest used cut is = ap (λ (n : ℕ). take n bytes) is ∙ ap (take (length front)) cut ∙ take-append_seam front rest
 
 -- the sketch ends with this line
-pub front_read_here : (bytes rest line after : List ℕ) (progress : Progress) (count used : ℕ) (s : Sketch) → length bytes ≤ 1048576 → StandsAt bytes rest progress count → 0 < length rest → IsFirstLine rest line after → has_ended progress ≡ false → code_of progress line ≡ None → progress_after progress line ≡ After s → used + length after ≡ length bytes → ReadsFront bytes (record { sketch = s; used = used; lines = count + 1 })
-front_read_here bytes rest line after progress count used s fits at more first unended is ended size =
+pub front_read_here : (bytes rest line after : List ℕ) (progress : Progress) (count used : ℕ) (v : Version) (s : Sketch) → length bytes ≤ 1048576 → StandsAt bytes rest progress count → 0 < length rest → IsFirstLine rest line after → has_ended progress ≡ false → code_of progress line ≡ None → progress_after progress line ≡ After v s → used + length after ≡ length bytes → ReadsFront bytes (record { sketch = s; used = used; lines = count + 1 }) × (progress_along Before (lines_in (take used bytes)) ≡ After v s)
+front_read_here bytes rest line after progress count used v s fits at more first unended is ended size =
     let next = stands_next bytes rest line after progress count at more first is in
     let parts = ap length next.cut ∙ length-append next.front after in
     let used_is : used ≡ length next.front = omega arith in
     let front = front_of bytes next.front after used next.cut used_is in
-    let read : Reads next.front s = record { fits = omega arith; clean = next.clean; ended = next.reached ∙ ended } in
-    record {
-      fits = fits;
-      within = omega arith;
-      whole = rw (front, used_is) (front_ends bytes next.front after next.cut next.ends);
-      reads = rw front read;
-      count = rw front next.count_is;
-      last = ap (λ (n : ℕ). has_ended_by n bytes) (one_less count) ∙ open_here bytes rest line after progress count at more first unended;
-    }
+    let ended_there = next.reached ∙ ended in
+    let read : Reads next.front s = record { version = v; fits = omega arith; clean = next.clean; ended = ended_there } in (
+      record {
+        fits = fits;
+        within = omega arith;
+        whole = rw (front, used_is) (front_ends bytes next.front after next.cut next.ends);
+        reads = rw front read;
+        count = rw front next.count_is;
+        last = ap (λ (n : ℕ). has_ended_by n bytes) (one_less count) ∙ open_here bytes rest line after progress count at more first unended;
+      },
+      rw front ended_there,
+    )
 
 behind_ends : (bytes : List ℕ) (used : ℕ) → EndsLine (take used bytes) ⊎ (used ≡ length bytes) → EndsLine (take used bytes) ⊎ (drop used bytes ≡ [])
 behind_ends bytes used (inl whole) = inl whole
 behind_ends bytes used (inr all) = inr (drop_all used bytes (omega arith))
 
 -- behind the front that was read
-pub stands_behind : (bytes rest : List ℕ) (front : Front) → ReadsFront bytes front → rest ≡ drop front.used bytes → StandsAt bytes rest (After front.sketch) front.lines
-stands_behind bytes rest front is behind = rw behind (let at : StandsAt bytes (drop front.used bytes) (After front.sketch) front.lines = record {
+pub stands_behind : (bytes rest : List ℕ) (v : Version) (front : Front) → ReadsFront bytes front → progress_along Before (lines_in (take front.used bytes)) ≡ After v front.sketch → rest ≡ drop front.used bytes → StandsAt bytes rest (After v front.sketch) front.lines
+stands_behind bytes rest v front is ended behind = rw behind (let at : StandsAt bytes (drop front.used bytes) (After v front.sketch) front.lines = record {
   front = take front.used bytes;
   cut = sym (take-append-drop front.used bytes);
   ends = behind_ends bytes front.used is.whole;
   clean = is.reads.clean;
-  reached = is.reads.ended;
+  reached = ended;
   count_is = is.count;
 } in at)

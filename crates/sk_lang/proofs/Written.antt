@@ -1,6 +1,6 @@
 -- Lines that are written: words of printable bytes with one space between.
-use Rattle.std.proofs.Common.{◌≡◌, ℕ, zero, suc, ◌+◌, ◌-◌, ◌*◌, ◌/◌, ◌%◌, ◌<◌, ◌≤◌, Bool, true, false, not, ◌&&◌, cond, nat_le, nat_eq, List, [], ◌∷◌, ◌++◌, length, get_or, refl, arith, ℤ, pos, negsuc, length-append, IsTrue}
-use Rattle.std.specs.List.{list_all, AllByRecursion}
+use Rattle.std.proofs.Common.{◌≡◌, ℕ, zero, suc, ◌+◌, ◌-◌, ◌*◌, ◌/◌, ◌%◌, ◌<◌, ◌≤◌, Bool, true, false, not, ◌&&◌, cond, nat_le, nat_eq, List, [], ◌∷◌, ◌++◌, length, take, get_or, refl, ap, ◌∙◌, arith, ℤ, pos, negsuc, length-append, IsTrue}
+use Rattle.std.specs.List.{list_all, before_first, position_or_len, AllByRecursion}
 use Rattle.std.specs.Fmt.{decimal}
 use Rattle.std.specs.Str.Parse.{AllDigits}
 use Rattle.std.specs.Char.{digit_value, is_ascii_alphabetic}
@@ -10,15 +10,18 @@ use Rattle.std.proofs.lemmas.Fmt.{decimal_is_IsNumeral, length-decimal-le}
 use Rattle.std.proofs.lemmas.List.Elements.{All-from_recursion}
 use Rattle.sk_base.specs.Bounds.{IsWithin}
 use Rattle.sk_base.specs.Labels.{is_name, is_name_byte}
-use Rattle.sk_text.specs.Spelling.{magnitude, with_minus, fraction_text, whole_text, mm_text}
+use Rattle.sk_base.specs.Spelling.{magnitude, with_minus, fraction_text, whole_text, mm_text}
 use Rattle.sk_lex.specs.Words.{is_too_long, is_text_byte, has_wrong_byte, is_blank, is_empty, words_in}
+use Rattle.sk_lang.specs.declared.version.Version.{Version}
+use Rattle.sk_lang.specs.declared.version.Version.TheVariants.{One, Two}
+use Rattle.sk_lang.specs.Comments.{is_hash, said_in, words_under}
 use Rattle.sk_lang.specs.Lines.{is_line_feed}
-use Rattle.sk_lang.specs.Canonical.{spaced}
+use Rattle.sk_base.specs.Spelling.{spaced}
 use Rattle.sk_lang.proofs.ReadBack.{IsWord, IsLine, words_in-spaced}
 
--- printable, and no blank
+-- printable, no blank and no `#`
 abbrev is_solid : ℕ → Bool
-is_solid b = nat_le 33 b && nat_le b 126
+is_solid b = nat_le 33 b && nat_le b 126 && not (nat_eq b 35)
 
 abbrev AreSolid : List ℕ → Type 0
 AreSolid [] = Unit {0}
@@ -142,9 +145,9 @@ abbrev pub AreWritten : List (List ℕ) → Type 0
 AreWritten [] = Unit {0}
 AreWritten (word ∷ words) = IsWritten word × AreWritten words
 
--- printable, or a space
-abbrev is_plain : ℕ → Bool
-is_plain b = nat_le 32 b && nat_le b 126
+-- printable or a space, and no `#`
+abbrev pub is_plain : ℕ → Bool
+is_plain b = nat_le 32 b && nat_le b 126 && not (nat_eq b 35)
 
 abbrev ArePlain : List ℕ → Type 0
 ArePlain [] = Unit {0}
@@ -219,28 +222,48 @@ written_words (word ∷ words) all = (written_word word all.0, written_words wor
 
 -- what the line of some words is
 pub record IsWrittenLine (line : List ℕ) (words : List (List ℕ)) : Type 0 where
-  pub words_are : words_in line ≡ words
+  pub words_are : (v : Version) → words_under v line ≡ words
   pub short : is_too_long line ≡ false
   pub ascii : has_wrong_byte line ≡ false
   pub is_line : IsLine line
-  pub few : length line ≤ 102
+  pub few : length line ≤ 200
 
-pub written_line : (word : List ℕ) (words : List (List ℕ)) → AreWritten (word ∷ words) → length words ≤ 5 → IsWrittenLine (spaced (word ∷ words)) (word ∷ words)
-written_line word words all count =
-    let len = spaced_length (word ∷ words) all in
-    let few : length (spaced (word ∷ words)) ≤ 102 = omega arith in
+plain_hash : (b : ℕ) → is_plain b ≡ true → is_hash b ≡ false
+plain_hash b is = grind (arith, nat_tests)
+
+uncut_by : (t : Bool) (n b : ℕ) (bytes : List ℕ) → t ≡ false → take n bytes ≡ bytes → take (cond (not t) (1 + n) 0) (b ∷ bytes) ≡ b ∷ bytes
+uncut_by true n b bytes is same = cc
+uncut_by false n b bytes is same = (let more : 1 + n ≡ suc n = omega arith in ap (λ (m : ℕ). take m (b ∷ bytes)) more ∙ ap (λ (bs : List ℕ). b ∷ bs) same)
+
+plain_uncut : (bytes : List ℕ) → ArePlain bytes → before_first is_hash bytes ≡ bytes
+plain_uncut [] all = refl
+plain_uncut (b ∷ bytes) all = uncut_by (is_hash b) (position_or_len is_hash bytes) b bytes (plain_hash b all.0) (plain_uncut bytes all.1)
+
+plain_said : (v : Version) (bytes : List ℕ) → ArePlain bytes → said_in v bytes ≡ bytes
+plain_said One bytes all = refl
+plain_said Two bytes all = plain_uncut bytes all
+
+-- words with one space between, which have at most 200 bytes
+pub fitting_line : (word : List ℕ) (words : List (List ℕ)) → AreWritten (word ∷ words) → length (spaced (word ∷ words)) ≤ 200 → IsWrittenLine (spaced (word ∷ words)) (word ∷ words)
+fitting_line word words all few =
     let plain = spaced_plain (word ∷ words) all in
     record {
-      words_are = words_in-spaced word words (written_word word all.0) (written_words words all.1);
+      words_are = λ v. ap words_in (plain_said v (spaced (word ∷ words)) plain) ∙ words_in-spaced word words (written_word word all.0) (written_words words all.1);
       short = grind (arith, nat_tests);
       ascii = plain_ascii (spaced (word ∷ words)) plain;
       is_line = plain_line (spaced (word ∷ words)) plain;
       few = few;
     }
 
+pub short_line : (word : List ℕ) (words : List (List ℕ)) → AreWritten (word ∷ words) → length words ≤ 5 → length (spaced (word ∷ words)) ≤ 102
+short_line word words all count = let len = spaced_length (word ∷ words) all in omega arith
+
+pub written_line : (word : List ℕ) (words : List (List ℕ)) → AreWritten (word ∷ words) → length words ≤ 5 → IsWrittenLine (spaced (word ∷ words)) (word ∷ words)
+written_line word words all count = fitting_line word words all (let len = short_line word words all count in omega arith)
+
 plain_all : (bytes : List ℕ) → list_all is_plain bytes ≡ true → ArePlain bytes
 plain_all [] is = tt
 plain_all (b ∷ bytes) is = let parts = both_hold (is_plain b) (list_all is_plain bytes) is in (parts.0, plain_all bytes parts.1)
 
-pub plain_text : (bytes : List ℕ) → list_all (λ b. nat_le 32 b && nat_le b 126) bytes ≡ true → IsLine bytes
+pub plain_text : (bytes : List ℕ) → list_all is_plain bytes ≡ true → IsLine bytes
 plain_text bytes is = plain_line bytes (plain_all bytes is)

@@ -1,16 +1,20 @@
--- The canonical text of a sketch.
+-- The canonical texts of a sketch.
 use Rattle.std.specs.Prelude.{ℕ, List, [], ◌∷◌, ◌++◌, map, codes}
-use Rattle.std.specs.List.{flat_map, join_with_byte}
+use Rattle.std.specs.List.{flat_map}
 use Rattle.sk_base.specs.declared.Ratio.{Ratio}
 use Rattle.sk_base.specs.declared.Shape.{Shape}
 use Rattle.sk_base.specs.declared.Shape.TheVariants.{Point, Line, Circle}
 use Rattle.sk_base.specs.declared.Rule.{Rule}
-use Rattle.sk_base.specs.declared.Rule.TheVariants.{Distance, On, Tangent, Outside, Inside, Angle}
+use Rattle.sk_base.specs.declared.Rule.TheVariants.{Distance, On, Tangent, Outside, Inside, Angle, Block}
 use Rattle.sk_base.specs.declared.Element.{Element}
 use Rattle.sk_base.specs.declared.Constraint.{Constraint}
 use Rattle.sk_base.specs.declared.Sketch.{Sketch}
-use Rattle.sk_text.specs.ElementNames.{name_of}
-use Rattle.sk_text.specs.Spelling.{whole_text, mm_text}
+use Rattle.sk_base.specs.ElementNames.{name_of}
+use Rattle.sk_base.specs.Pins.{block_words}
+use Rattle.sk_base.specs.Spelling.{whole_text, mm_text, spaced}
+use Rattle.sk_lang.specs.declared.version.Version.{Version}
+use Rattle.sk_lang.specs.declared.version.Version.TheVariants.{One, Two}
+use Rattle.sk_lang.specs.Blocks.{version_for}
 
 -- the words of an element's line
 abbrev pub shape_words : List ℕ → Shape → List (List ℕ)
@@ -29,10 +33,7 @@ rule_words s (Tangent u v) = codes "tangent" ∷ name_of s u ∷ name_of s v ∷
 rule_words s (Outside u v) = codes "outside" ∷ name_of s u ∷ name_of s v ∷ []
 rule_words s (Inside u v) = codes "inside" ∷ name_of s u ∷ name_of s v ∷ []
 rule_words s (Angle l m ratio) = codes "angle" ∷ name_of s l ∷ name_of s m ∷ ratio_text ratio ∷ []
-
--- the words with one space between
-abbrev pub spaced : List (List ℕ) → List ℕ
-spaced words = join_with_byte 32 words
+rule_words s (Block pins) = block_words s pins
 
 abbrev pub element_line : Element → List ℕ
 element_line element = spaced (shape_words element.label element.shape)
@@ -44,5 +45,17 @@ constraint_line s constraint = spaced (rule_words s constraint.rule)
 abbrev pub ended_lines : List (List ℕ) → List ℕ
 ended_lines lines = flat_map (λ line. line ++ 10 ∷ []) lines
 
+abbrev pub header : Version → List ℕ
+header One = codes "sketch 1"
+header Two = codes "sketch 2"
+
+-- the text under the header of a version
+abbrev pub text_under : Version → Sketch → List ℕ
+text_under v s = ended_lines (header v ∷ map element_line s.elements ++ map (constraint_line s) s.constraints ++ codes "end" ∷ [])
+
+-- under the header of version 1 exactly where the sketch has no block
 abbrev pub canonical : Sketch → List ℕ
-canonical s = ended_lines (codes "sketch 1" ∷ map element_line s.elements ++ map (constraint_line s) s.constraints ++ codes "end" ∷ [])
+canonical s = text_under (version_for s) s
+
+abbrev pub canonical_2 : Sketch → List ℕ
+canonical_2 s = text_under Two s

@@ -1,8 +1,9 @@
 -- The names of clusters as words of a text.
-use Rattle.std.specs.Prelude.{ℕ, Bool, false, ◌==◌, List, [], ◌∷◌, Option, None, is_none, unwrap_or, if◌then◌else◌}
+use Rattle.std.specs.Prelude.{ℕ, Bool, false, ◌==◌, ◌||◌, List, [], ◌∷◌, Option, None, is_none, unwrap_or, if◌then◌else◌}
 use Rattle.std.specs.Option.{option_map}
 use Rattle.sk_base.specs.declared.Name.{Name}
 use Rattle.sk_base.specs.declared.Name.TheVariants.{Con, Step}
+use Rattle.sk_base.specs.ClusterNames.{is_named}
 use Rattle.sk_base.specs.Millimetres.{digits_of}
 
 abbrev pub begins_with_zero : List ℕ → Bool
@@ -27,3 +28,8 @@ named word = unwrap_or (name_of word) (Con 0)
 -- E4: a word in a name's place isn't a name
 abbrev pub is_bad_name : List ℕ → Bool
 is_bad_name word = is_none (name_of word)
+
+-- E10: two of the names are one
+abbrev pub has_twins : List Name → Bool
+has_twins [] = false
+has_twins (n ∷ names) = is_named names n || has_twins names

@@ -1,7 +1,7 @@
 -- How codes are printed.
 use Rattle.std.specs.Prelude.{ℕ, List, codes}
 use Rattle.sk_lang.specs.declared.code.Code.{Code}
-use Rattle.sk_lang.specs.declared.code.Code.TheVariants.{E1, E2, E3, E4, E5, E6, E7, E8, E9, E10, E11, E12, E13, E14, E15, E16, E17, E18, E19, E20, S1, S2, S3, S4, S5}
+use Rattle.sk_lang.specs.declared.code.Code.TheVariants.{E1, E2, E3, E4, E5, E6, E7, E8, E9, E10, E11, E12, E13, E14, E15, E16, E17, E18, E19, E20, E21, S1, S2, S3, S4, S5}
 
 -- the code itself
 abbrev pub code_text : Code → List ℕ
@@ -25,6 +25,7 @@ code_text E17 = codes "E17"
 code_text E18 = codes "E18"
 code_text E19 = codes "E19"
 code_text E20 = codes "E20"
+code_text E21 = codes "E21"
 code_text S1 = codes "S1"
 code_text S2 = codes "S2"
 code_text S3 = codes "S3"
@@ -53,6 +54,7 @@ code_word E17 = codes "after-end"
 code_word E18 = codes "empty"
 code_word E19 = codes "not-ascii"
 code_word E20 = codes "too-long"
+code_word E21 = codes "too-many-flips"
 code_word S1 = codes "no-such-number"
 code_word S2 = codes "in-use"
 code_word S3 = codes "nothing-to-undo"

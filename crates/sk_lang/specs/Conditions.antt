@@ -1,17 +1,19 @@
 -- When each code of a line's words comes.
 use Rattle.std.specs.Prelude.{ℕ, Bool, false, ◌&&◌, not, ◌==◌, List, [], ◌∷◌, Option, Some, None, is_some, is_none, bytes_eq}
+use Rattle.std.specs.List.{list_any}
 use Rattle.std.specs.Ordering.{int_eq}
 use Rattle.std.specs.Option.{option_map}
-use Rattle.sk_base.specs.Drawn.{radius_of}
+use Rattle.sk_base.specs.Drawn.{radius_of, is_line}
 use Rattle.sk_base.specs.Labels.{is_name}
 use Rattle.sk_base.specs.Millimetres.{mm_of}
 use Rattle.sk_base.specs.declared.Element.{Element}
 use Rattle.sk_base.specs.declared.Sketch.{Sketch}
 use Rattle.sk_lang.specs.declared.keyword.Keyword.{Keyword}
-use Rattle.sk_lang.specs.declared.keyword.Keyword.TheVariants.{Line, Circle, Inside}
+use Rattle.sk_lang.specs.declared.keyword.Keyword.TheVariants.{Line, Circle, Inside, Block}
 use Rattle.sk_lang.specs.Keywords.{Place, NewName, UsedName, Coordinate, Length, Slope, declares}
 use Rattle.sk_lang.specs.Kinds.{takes}
 use Rattle.sk_lang.specs.Named.{element_named}
+use Rattle.sk_lang.specs.PinLines.{PinWords, pins_in, some_two}
 use Rattle.sk_lang.specs.Quantities.{length_of, ratio_of, um}
 
 -- a word and the place that it stands in
@@ -39,7 +41,12 @@ abbrev pub kinds_fit : Keyword → Option Element → Option Element → Bool
 kinds_fit k (Some u) (Some v) = takes k u.shape v.shape
 kinds_fit k _ _ = false
 
+abbrev pub is_drawn_line : Option Element → Bool
+is_drawn_line (Some e) = is_line e.shape
+is_drawn_line None = false
+
 abbrev pub has_wrong_kinds : Sketch → Keyword → List (List ℕ) → Bool
+has_wrong_kinds s Block words = list_any (λ (pin : PinWords). is_drawn_line (element_named s pin.name)) (pins_in words)
 has_wrong_kinds s k (u ∷ v ∷ more) = not (declares k) && not (kinds_fit k (element_named s u) (element_named s v))
 has_wrong_kinds s k _ = false
 
@@ -50,7 +57,7 @@ is_bad_number (Length, word) = is_none (length_of word)
 is_bad_number (Slope, word) = is_none (ratio_of word)
 is_bad_number _ = false
 
--- E9: a length or radius is 0, p is 0, or `inside` has equal radii
+-- E9: a length or radius is 0, p is 0, `inside` has equal radii, or a block has two equal places
 abbrev pub is_zero : Option ℕ → Bool
 is_zero (Some n) = n == 0
 is_zero None = false
@@ -64,12 +71,20 @@ abbrev pub radii_equal : Option Element → Option Element → Bool
 radii_equal (Some u) (Some v) = int_eq (radius_of u.shape) (radius_of v.shape)
 radii_equal _ _ = false
 
-abbrev pub has_equal_radii : Sketch → Keyword → List (List ℕ) → Bool
-has_equal_radii s Inside (u ∷ v ∷ more) = radii_equal (element_named s u) (element_named s v)
-has_equal_radii s _ _ = false
+abbrev pub at_one_place : PinWords → PinWords → Bool
+at_one_place a b = int_eq (um a.x).0 (um b.x).0 && int_eq (um a.y).0 (um b.y).0
 
--- E10: both names are one element
+abbrev pub has_equals : Sketch → Keyword → List (List ℕ) → Bool
+has_equals s Inside (u ∷ v ∷ more) = radii_equal (element_named s u) (element_named s v)
+has_equals s Block words = some_two at_one_place (pins_in words)
+has_equals s _ _ = false
+
+-- E10: two names are one element
+abbrev pub of_one_name : PinWords → PinWords → Bool
+of_one_name a b = bytes_eq a.name b.name
+
 abbrev pub has_same_names : Keyword → List (List ℕ) → Bool
+has_same_names Block words = some_two of_one_name (pins_in words)
 has_same_names k (u ∷ v ∷ more) = not (declares k) && bytes_eq u v
 has_same_names k _ = false
 

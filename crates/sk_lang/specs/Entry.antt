@@ -3,7 +3,7 @@ use Rattle.std.specs.Prelude.{◌≡◌, ⊤, ℕ, List, [], ◌∷◌, ◌++◌
 use Rattle.sk_base.specs.declared.Elem.{Elem}
 use Rattle.sk_base.specs.declared.ConId.{ConId}
 use Rattle.sk_base.specs.declared.Sketch.{Sketch}
-use Rattle.sk_lex.specs.Words.{words_in, bytes_of, StandInOrder}
+use Rattle.sk_lex.specs.Words.{bytes_of, StandInOrder}
 use Rattle.sk_lang.specs.declared.keyword.Keyword.{Keyword}
 use Rattle.sk_lang.specs.declared.code.Code.{Code}
 use Rattle.sk_lang.specs.declared.entry.Entry.{Entry}
@@ -11,55 +11,57 @@ use Rattle.sk_lang.specs.declared.entry.Entry.TheVariants.{Blank, Element, Const
 use Rattle.sk_lang.specs.declared.entry.EntryError.{EntryError}
 use Rattle.sk_lang.specs.declared.entry.EntryError.TheVariants.{Refused, NoMemory}
 use Rattle.sk_lang.specs.declared.code.ReadError.{ReadError}
+use Rattle.sk_lang.specs.declared.version.Version.{Version}
 use Rattle.sk_lang.specs.declared.code.ReadError.TheVariants as read
+use Rattle.sk_lang.specs.Comments.{words_under}
 use Rattle.sk_lang.specs.Keywords.{keyword_of}
 use Rattle.sk_lang.specs.Codes.{byte_rows, entry_rows}
 use Rattle.sk_lang.specs.FirstCode.{first_code}
 use Rattle.sk_lang.specs.Meaning.{entry_made}
 
--- the codes of a line whose first word is one of the nine
+-- the codes of a line whose first word is a keyword
 abbrev pub keyword_rows : Sketch → Option Keyword → List (List ℕ) → List (Bool × Code)
 keyword_rows s None rest = []
 keyword_rows s (Some k) rest = entry_rows s k rest
 
-abbrev pub rows_of : Sketch → List (List ℕ) → List (Bool × Code)
-rows_of s [] = []
-rows_of s (first ∷ rest) = keyword_rows s (keyword_of first) rest
+abbrev pub rows_of : Version → Sketch → List (List ℕ) → List (Bool × Code)
+rows_of v s [] = []
+rows_of v s (first ∷ rest) = keyword_rows s (keyword_of v first) rest
 
--- the code of a line that has a wrong byte, is too long or begins with one of the nine first words
-abbrev pub entry_code : Sketch → List ℕ → Option Code
-entry_code s line = first_code (byte_rows line ++ rows_of s (words_in line))
+-- the code of a line that has a wrong byte, is too long or begins with a keyword of the version
+abbrev pub entry_code : Version → Sketch → List ℕ → Option Code
+entry_code v s line = first_code (byte_rows line ++ rows_of v s (words_under v line))
 
-abbrev pub IsOther : List ℕ → Entry → Type 0
-IsOther line (Other words) = (map (bytes_of line) words.items ≡ words_in line) × StandInOrder 0 words.items (length line)
-IsOther line _ = ⊥
+abbrev pub IsOther : Version → List ℕ → Entry → Type 0
+IsOther v line (Other words) = (map (bytes_of line) words.items ≡ words_under v line) × StandInOrder 0 words.items (length line)
+IsOther v line _ = ⊥
 
-abbrev pub IsKeywordEntry : Sketch → List ℕ → Option Keyword → List (List ℕ) → Elem → ConId → Entry → Type 0
-IsKeywordEntry s line None rest elem con entry = IsOther line entry
-IsKeywordEntry s line (Some k) rest elem con entry = entry_made s k rest elem con ≡ Some entry
+abbrev pub IsKeywordEntry : Version → Sketch → List ℕ → Option Keyword → List (List ℕ) → Elem → ConId → Entry → Type 0
+IsKeywordEntry v s line None rest elem con entry = IsOther v line entry
+IsKeywordEntry v s line (Some k) rest elem con entry = entry_made s k rest elem con ≡ Some entry
 
-abbrev pub IsEntryOfWords : Sketch → List ℕ → List (List ℕ) → Elem → ConId → Entry → Type 0
-IsEntryOfWords s line [] elem con entry = entry ≡ Blank
-IsEntryOfWords s line (first ∷ rest) elem con entry = IsKeywordEntry s line (keyword_of first) rest elem con entry
+abbrev pub IsEntryOfWords : Version → Sketch → List ℕ → List (List ℕ) → Elem → ConId → Entry → Type 0
+IsEntryOfWords v s line [] elem con entry = entry ≡ Blank
+IsEntryOfWords v s line (first ∷ rest) elem con entry = IsKeywordEntry v s line (keyword_of v first) rest elem con entry
 
 -- what a line without such a code says
-abbrev pub IsEntryOf : Sketch → List ℕ → Elem → ConId → Entry → Type 0
-IsEntryOf s line elem con entry = IsEntryOfWords s line (words_in line) elem con entry
+abbrev pub IsEntryOf : Version → Sketch → List ℕ → Elem → ConId → Entry → Type 0
+IsEntryOf v s line elem con entry = IsEntryOfWords v s line (words_under v line) elem con entry
 
--- the line begins with one of the nine first words, or with another word
-pub record Begins (ws : List (List ℕ)) (with_keyword : Bool) : Type 0 where
+-- the line begins with a keyword of the version, or with another word
+pub record Begins (v : Version) (ws : List (List ℕ)) (with_keyword : Bool) : Type 0 where
   pub first : List ℕ
   pub rest : List (List ℕ)
   pub words : ws ≡ first ∷ rest
-  pub keyword : is_some (keyword_of first) ≡ with_keyword
+  pub keyword : is_some (keyword_of v first) ≡ with_keyword
 
--- An element or a constraint stands on a line that begins with one of the nine first words, another line begins
--- with another word and is told by all its words, and a blank line has no words.
-abbrev pub StandsOn : List ℕ → Entry → Type 0
-StandsOn line Blank = words_in line ≡ []
-StandsOn line (Element e) = Begins (words_in line) true
-StandsOn line (Constraint c) = Begins (words_in line) true
-StandsOn line (Other words) = Begins (words_in line) false × IsOther line (Other words)
+-- An element or a constraint stands on a line that begins with a keyword, another line begins with another word
+-- and is told by all its words, and a blank line has no words.
+abbrev pub StandsOn : Version → List ℕ → Entry → Type 0
+StandsOn v line Blank = words_under v line ≡ []
+StandsOn v line (Element e) = Begins v (words_under v line) true
+StandsOn v line (Constraint c) = Begins v (words_under v line) true
+StandsOn v line (Other words) = Begins v (words_under v line) false × IsOther v line (Other words)
 
 -- an element or a constraint has the number that was to be given
 abbrev pub IsNumbered : Elem → ConId → Entry → Type 0

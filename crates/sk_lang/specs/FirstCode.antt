@@ -1,17 +1,25 @@
 -- The first code of a table, and what a reader answers with it.
 use Rattle.std.specs.Prelude.{Bool, List, [], ◌∷◌, Option, Some, None, Result, Ok, Err, if◌then◌else◌}
 use Rattle.sk_lang.specs.declared.code.Code.{Code}
+use Rattle.sk_lang.specs.declared.entry.Entry.{Entry}
+use Rattle.sk_lang.specs.declared.entry.EntryError.{EntryError}
+use Rattle.sk_lang.specs.declared.entry.EntryError.TheVariants.{Refused}
 
 -- the first code whose condition holds
 abbrev pub first_code : List (Bool × Code) → Option Code
 first_code [] = None
 first_code (row ∷ rows) = if row.0 then Some row.1 else first_code rows
 
+-- the code where the condition holds
+abbrev pub coded : Bool → Code → Option Code
+coded condition code = if condition then Some code else None
+
 -- the code if there is one, else the value
 abbrev pub unless : {X : Type 0} → Option Code → X → Result X Code
 unless None x = Ok x
 unless (Some code) x = Err code
 
-abbrev pub map_ok : {X Y : Type 0} → (X → Y) → Result X Code → Result Y Code
-map_ok f (Ok x) = Ok (f x)
-map_ok f (Err code) = Err code
+-- what a line says, or the code that refuses it
+abbrev pub told : {X : Type 0} → (X → Entry) → Result X Code → Result Entry EntryError
+told entry (Ok x) = Ok (entry x)
+told entry (Err code) = Err (Refused code)

@@ -1,12 +1,16 @@
+pub mod Blocks
 pub mod ClusterWords
 pub mod Canonical
 pub mod CodeTexts
 pub mod Codes
+pub mod Comments
 pub mod Conditions
+pub mod EndLine
 pub mod Ends
 pub mod Entry
 pub mod FirstCode
 pub mod Front
+pub mod Header
 pub mod Index
 pub mod Keywords
 pub mod Kinds
@@ -14,6 +18,8 @@ pub mod LineCodes
 pub mod Lines
 pub mod Meaning
 pub mod Named
+pub mod PinCodes
+pub mod PinLines
 pub mod Quantities
 pub mod Reading
 pub mod Renumbered

@@ -1,21 +1,25 @@
 -- What a line without a code says, and where the reading stands behind it.
-use Rattle.std.specs.Prelude.{ℕ, ◌+◌, List, [], ◌∷◌, ◌++◌, length, Option, Some, None, if◌then◌else◌}
+use Rattle.std.specs.Prelude.{ℕ, ◌+◌, List, [], ◌∷◌, ◌++◌, length, map, Option, Some, None, unwrap_or, if◌then◌else◌}
 use Rattle.sk_base.specs.declared.Elem.{Elem}
 use Rattle.sk_base.specs.declared.ConId.{ConId}
 use Rattle.sk_base.specs.declared.Shape.{Shape}
 use Rattle.sk_base.specs.declared.Shape.TheVariants as shape
 use Rattle.sk_base.specs.declared.Rule.{Rule}
 use Rattle.sk_base.specs.declared.Rule.TheVariants as rule
+use Rattle.sk_base.specs.declared.Pin.{Pin}
 use Rattle.sk_base.specs.declared.Sketch.{Sketch}
-use Rattle.sk_lex.specs.Words.{words_in}
+use Rattle.sk_lang.specs.declared.version.Version.{Version}
+use Rattle.sk_lang.specs.declared.version.Version.TheVariants.{One}
 use Rattle.sk_lang.specs.declared.keyword.Keyword.{Keyword}
-use Rattle.sk_lang.specs.declared.keyword.Keyword.TheVariants.{Point, Line, Circle, Distance, On, Tangent, Outside, Inside, Angle}
+use Rattle.sk_lang.specs.declared.keyword.Keyword.TheVariants.{Point, Line, Circle, Distance, On, Tangent, Outside, Inside, Angle, Block}
 use Rattle.sk_lang.specs.declared.entry.Entry.{Entry}
 use Rattle.sk_lang.specs.declared.entry.Entry.TheVariants as entry
 use Rattle.sk_lang.specs.declared.progress.Progress.{Progress}
 use Rattle.sk_lang.specs.declared.progress.Progress.TheVariants.{Before, Within, After}
+use Rattle.sk_lang.specs.Header.{version_in, words_at}
 use Rattle.sk_lang.specs.Keywords.{keyword_of, declares}
 use Rattle.sk_lang.specs.Named.{number_named}
+use Rattle.sk_lang.specs.PinLines.{PinWords, pins_in}
 use Rattle.sk_lang.specs.Quantities.{um, ratio}
 
 -- the shape that a line with a new name draws, by the words behind the name
@@ -25,7 +29,10 @@ shape_drawn Line (x1 ∷ y1 ∷ x2 ∷ y2 ∷ []) = Some (shape.Line (um x1) (um
 shape_drawn Circle (x ∷ y ∷ r ∷ []) = Some (shape.Circle (um x) (um y) (um r))
 shape_drawn _ _ = None
 
--- the rule of a line with two used names, by all words behind the first
+abbrev pub pin_asked : Sketch → PinWords → Pin
+pin_asked s pin = record { elem = number_named s pin.name; x = um pin.x; y = um pin.y }
+
+-- the rule of a line with used names, by all words behind the first
 abbrev pub rule_asked : Sketch → Keyword → List (List ℕ) → Option Rule
 rule_asked s Distance (u ∷ v ∷ len ∷ []) = Some (rule.Distance (number_named s u) (number_named s v) (um len))
 rule_asked s On (u ∷ v ∷ []) = Some (rule.On (number_named s u) (number_named s v))
@@ -33,6 +40,7 @@ rule_asked s Tangent (u ∷ v ∷ []) = Some (rule.Tangent (number_named s u) (n
 rule_asked s Outside (u ∷ v ∷ []) = Some (rule.Outside (number_named s u) (number_named s v))
 rule_asked s Inside (u ∷ v ∷ []) = Some (rule.Inside (number_named s u) (number_named s v))
 rule_asked s Angle (l ∷ m ∷ slope ∷ []) = Some (rule.Angle (number_named s l) (number_named s m) (ratio slope))
+rule_asked s Block words = Some (rule.Block (map (pin_asked s) (pins_in words)))
 rule_asked s _ _ = None
 
 -- what a line without a code declares, by its first word and the words behind it
@@ -64,22 +72,22 @@ next_con s = record { 0 = length s.constraints + 1 }
 abbrev pub empty_sketch : Sketch
 empty_sketch = record { elements = []; constraints = [] }
 
-abbrev pub progress_within : Sketch → Option Keyword → List (List ℕ) → Progress
-progress_within s (Some k) rest = Within (added s (entry_made s k rest (next_elem s) (next_con s)))
-progress_within s None rest = After s
+abbrev pub progress_within : Version → Sketch → Option Keyword → List (List ℕ) → Progress
+progress_within v s (Some k) rest = Within v (added s (entry_made s k rest (next_elem s) (next_con s)))
+progress_within v s None rest = After v s
 
 abbrev pub progress_after_words : Progress → List (List ℕ) → Progress
 progress_after_words progress [] = progress
-progress_after_words Before (first ∷ rest) = Within empty_sketch
-progress_after_words (Within s) (first ∷ rest) = progress_within s (keyword_of first) rest
-progress_after_words (After s) (first ∷ rest) = After s
+progress_after_words Before (first ∷ rest) = Within (unwrap_or (version_in (first ∷ rest)) One) empty_sketch
+progress_after_words (Within v s) (first ∷ rest) = progress_within v s (keyword_of v first) rest
+progress_after_words (After v s) (first ∷ rest) = After v s
 
 -- where the line after this one stands
 abbrev pub progress_after : Progress → List ℕ → Progress
-progress_after progress line = progress_after_words progress (words_in line)
+progress_after progress line = progress_after_words progress (words_at progress line)
 
 -- how many elements and constraints there are
 abbrev pub size_of : Progress → ℕ
 size_of Before = 0
-size_of (Within s) = length s.elements + length s.constraints
-size_of (After s) = length s.elements + length s.constraints
+size_of (Within v s) = length s.elements + length s.constraints
+size_of (After v s) = length s.elements + length s.constraints

@@ -9,6 +9,7 @@ use Rattle.sk_lang.specs.declared.code.ReadError.TheVariants.{Refused, NoMemory}
 use Rattle.sk_lang.specs.declared.code.Code.TheVariants.{E16, E18, E20}
 use Rattle.sk_lang.specs.LineCodes.{along, HaveNone, HasFirst}
 use Rattle.sk_lang.specs.Lines.{lines_in}
+use Rattle.sk_lang.specs.declared.version.Version.{Version}
 use Rattle.sk_lang.specs.declared.progress.Progress.{Progress}
 use Rattle.sk_lang.specs.declared.progress.Progress.TheVariants.{Before, After}
 use Rattle.sk_lang.specs.Codes.{code_of, is_none_left}
@@ -31,14 +32,15 @@ abbrev pub HasFirstCode : List (List ℕ) → List (List ℕ) → List ℕ → C
 HasFirstCode lines before line code = HasFirst code_of progress_after Before lines before line code
 
 abbrev pub has_ended : Progress → Bool
-has_ended (After s) = true
+has_ended (After v s) = true
 has_ended _ = false
 
--- The text is read as the sketch.
+-- The text is read as the sketch, in the version that its header names.
 pub record Reads (bytes : List ℕ) (s : Sketch) : Type 0 where
+  pub version : Version
   pub fits : length bytes ≤ 1048576
   pub clean : HaveNoCode Before (lines_in bytes)
-  pub ended : progress_along Before (lines_in bytes) ≡ After s
+  pub ended : progress_along Before (lines_in bytes) ≡ After version s
 
 -- The text is refused, on a line and with a code.
 pub data Refuses (bytes : List ℕ) : ℕ → Code → Type 0 where

@@ -1,10 +1,11 @@
 -- A sketch whose elements and constraints are numbered anew.
-use Rattle.std.specs.Prelude.{ℕ, ◌+◌, ◌==◌, List, [], ◌∷◌}
+use Rattle.std.specs.Prelude.{ℕ, ◌+◌, ◌==◌, List, [], ◌∷◌, map}
 use Rattle.std.specs.List.{position_or_len}
 use Rattle.sk_base.specs.declared.Elem.{Elem}
 use Rattle.sk_base.specs.declared.Element.{Element}
 use Rattle.sk_base.specs.declared.Rule.{Rule}
-use Rattle.sk_base.specs.declared.Rule.TheVariants.{Distance, On, Tangent, Outside, Inside, Angle}
+use Rattle.sk_base.specs.declared.Rule.TheVariants.{Distance, On, Tangent, Outside, Inside, Angle, Block}
+use Rattle.sk_base.specs.declared.Pin.{Pin}
 use Rattle.sk_base.specs.declared.Constraint.{Constraint}
 use Rattle.sk_base.specs.declared.Sketch.{Sketch}
 
@@ -17,6 +18,9 @@ elements_from n (e ∷ es) = record e { number = record { 0 = n } } ∷ elements
 abbrev pub place_of : Sketch → Elem → Elem
 place_of s u = record { 0 = 1 + position_or_len (λ (x : Element). x.number.0 == u.0) s.elements }
 
+abbrev pub pin_renumbered : Sketch → Pin → Pin
+pin_renumbered s pin = record pin { elem = place_of s pin.elem }
+
 abbrev pub rule_renumbered : Sketch → Rule → Rule
 rule_renumbered s (Distance u v len) = Distance (place_of s u) (place_of s v) len
 rule_renumbered s (On u v) = On (place_of s u) (place_of s v)
@@ -24,6 +28,7 @@ rule_renumbered s (Tangent u v) = Tangent (place_of s u) (place_of s v)
 rule_renumbered s (Outside u v) = Outside (place_of s u) (place_of s v)
 rule_renumbered s (Inside u v) = Inside (place_of s u) (place_of s v)
 rule_renumbered s (Angle l m ratio) = Angle (place_of s l) (place_of s m) ratio
+rule_renumbered s (Block pins) = Block (map (pin_renumbered s) pins)
 
 -- the constraints in their order, numbered from here on, by the new numbers of their elements
 abbrev pub constraints_from : Sketch → ℕ → List Constraint → List Constraint

@@ -7,7 +7,7 @@ use thiserror::Error;
 /// Why a line, a text or an edit is refused.
 #[derive(Clone, Copy, Debug, PartialEq, Eq)]
 pub enum Code {
-    /// The first line that isn't blank isn't `sketch 1`.
+    /// The first line that isn't blank is neither `sketch 1` nor `sketch 2`.
     E1,
     /// The first word is unknown.
     E2,
@@ -23,9 +23,9 @@ pub enum Code {
     E7,
     /// A word in a number's place isn't one, passes its limit, or is a negative length or radius.
     E8,
-    /// A length, a radius or an angle's `p` is 0, or `inside` has equal radii.
+    /// A length, a radius or an angle's `p` is 0, `inside` has equal radii, or two places of a block are equal.
     E9,
-    /// Both names are one element.
+    /// Two names are one element.
     E10,
     /// The two drawn places of a line are equal.
     E11,
@@ -47,6 +47,8 @@ pub enum Code {
     E19,
     /// The text has more than 1,048,576 bytes.
     E20,
+    /// 64 lines of flips stand already.
+    E21,
     /// No constraint has the number.
     S1,
     /// A constraint uses the element.
@@ -87,6 +89,7 @@ impl Code {
             Code::E18 => "E18",
             Code::E19 => "E19",
             Code::E20 => "E20",
+            Code::E21 => "E21",
             Code::S1 => "S1",
             Code::S2 => "S2",
             Code::S3 => "S3",
@@ -120,6 +123,7 @@ impl Code {
             Code::E18 => "empty",
             Code::E19 => "not-ascii",
             Code::E20 => "too-long",
+            Code::E21 => "too-many-flips",
             Code::S1 => "no-such-number",
             Code::S2 => "in-use",
             Code::S3 => "nothing-to-undo",

@@ -1,5 +1,5 @@
 ghost use Rattle.std.specs.Prelude.{◌≡◌};
-ghost use Rattle.sk_lang.specs.declared.entry.EntryError.TheVariants.{NoMemory};
+ghost use Rattle.sk_lang.specs.declared.entry.EntryError.TheVariants.{NoMemory, Refused};
 
 use crate::code::{Code, ReadError};
 use sk_base::{Constraint, Element, NoMemory};
@@ -13,7 +13,7 @@ pub enum Entry {
     Blank,
     Element(Element),
     Constraint(Constraint),
-    /// The first word is none of the nine that begin an element or a constraint.
+    /// The first word is none that begins an element or a constraint in the version.
     Other(Words),
 }
 
@@ -45,5 +45,13 @@ impl From<NoMemory> for EntryError {
 
     fn from(_error: NoMemory) -> EntryError {
         EntryError::NoMemory
+    }
+}
+
+impl From<Code> for EntryError {
+    ghost from_gives = { λ code error. error ≡ Refused code };
+
+    fn from(code: Code) -> EntryError {
+        EntryError::Refused(code)
     }
 }

@@ -11,7 +11,7 @@ ghost use Rattle.sk_lang.specs.declared.code.Code.TheVariants.{E4, E5, E6, E7, E
 use crate::code::Code;
 use crate::keyword::Keyword;
 use crate::scope::Scope;
-use sk_base::{Element, Label, Shape, Um, parse_mm};
+use sk_base::{Element, Label, Shape, Sketch, Um, parse_mm};
 
 /// The most elements of a sketch.
 const MOST_ELEMENTS: usize = 2000;
@@ -47,6 +47,15 @@ pub(crate) fn declared<'a, S: Scope>(s: &'a S, name: Label) -> Result<&'a Elemen
         (λ code. (element_named (S.so_far s.now) name ≡ None) × (code ≡ E6)) }
 {
     s.named(name).ok_or(Code::E6)
+}
+
+/// The element of the sketch that has the name.
+pub fn element_named(s: &Sketch, name: Label) -> Result<&Element, Code>
+    ensures { MatchResult result
+        (λ element. element_named s.now name ≡ Some element.now)
+        (λ code. (element_named s.now name ≡ None) × (code ≡ E6)) }
+{
+    declared(s, name)
 }
 
 /// A coordinate.
@@ -127,7 +136,7 @@ fn takes(keyword: Keyword, u: &Shape, v: &Shape) -> bool
         Keyword::Tangent => (u.is_line() && is_circle(v)) || (is_circle(u) && v.is_line()),
         Keyword::Outside | Keyword::Inside => is_circle(u) && is_circle(v),
         Keyword::Angle => u.is_line() && v.is_line(),
-        Keyword::Point | Keyword::Line | Keyword::Circle => false,
+        Keyword::Point | Keyword::Line | Keyword::Circle | Keyword::Block => false,
     }
 }
 

@@ -1,9 +1,11 @@
-ghost use Rattle.std.specs.Prelude.{◌≡◌, ◌+◌, ◌<◌, ◌≤◌, length, drop, None, Err, IfOk, IfErr};
+ghost use Rattle.std.specs.Prelude.{◌≡◌, ◌+◌, ◌<◌, ◌≤◌, length, take, drop, None, Err, IfOk, IfErr};
 ghost use Rattle.sk_base.specs.SoundSketch.{IsSoundSketch};
 ghost use Rattle.sk_lang.specs.Lines.{lines_in};
 ghost use Rattle.sk_lang.specs.Codes.{code_of};
 ghost use Rattle.sk_lang.specs.Meaning.{progress_after, size_of};
 ghost use Rattle.sk_lang.specs.Entry.{IsRefusal};
+ghost use Rattle.sk_lang.specs.declared.progress.Progress.TheVariants.{Before, After};
+ghost use Rattle.sk_lang.specs.Reading.{progress_along};
 ghost use Rattle.sk_lang.specs.Front.{without_end, ReadsFront, IsFrontRefusal};
 
 use crate::code::{Code, ReadError};
@@ -11,6 +13,7 @@ use crate::entry::EntryError;
 use crate::header::{after_header, after_last};
 use crate::lines::split_line;
 use crate::progress::Progress;
+use crate::version::Version;
 use crate::within::after_entry;
 use sk_base::Sketch;
 use std::alloc::Global;
@@ -27,6 +30,13 @@ pub struct Front {
     pub lines: u32,
 }
 
+/// A front, and the version of its text.
+#[derive(Drop)]
+pub(crate) struct Opened {
+    pub(crate) version: Version,
+    pub(crate) front: Front,
+}
+
 /// Reads a text up to the `end` of its sketch. What follows is not looked at, but counts among the bytes
 /// of the text, of which there may be 1,048,576.
 pub fn read_sketch_front(alloc: Global, bytes: &[u8]) -> Result<Front, ReadError>
@@ -36,13 +46,14 @@ pub fn read_sketch_front(alloc: Global, bytes: &[u8]) -> Result<Front, ReadError
     ensures lines { IfOk result (λ front. front.lines + length (lines_in (drop front.used bytes.now)) ≤ length bytes.now) }
     ensures refuses { IfErr result (IsFrontRefusal bytes.now) }
 {
-    read_front(alloc, bytes)
+    Ok(read_front(alloc, bytes)?.front)
 }
 
 /// Reads the lines one after another, up to `end`.
-pub(crate) fn read_front(alloc: Global, bytes: &[u8]) -> Result<Front, ReadError>
-    ensures reads { IfOk result (ReadsFront bytes.now) }
-    ensures few { IfOk result (λ front. front.lines ≤ front.used) }
+pub(crate) fn read_front(alloc: Global, bytes: &[u8]) -> Result<Opened, ReadError>
+    ensures reads { IfOk result (λ opened. ReadsFront bytes.now opened.front) }
+    ensures version { IfOk result (λ opened. progress_along Before (lines_in (take opened.front.used bytes.now)) ≡ After opened.version opened.front.sketch) }
+    ensures few { IfOk result (λ opened. opened.front.lines ≤ opened.front.used) }
     ensures refuses { IfErr result (IsFrontRefusal bytes.now) }
 {
     if bytes.len() > MOST_BYTES {
@@ -59,13 +70,14 @@ pub(crate) fn read_front(alloc: Global, bytes: &[u8]) -> Result<Front, ReadError
             Err(error) => return Err(error.at_line(lines)),
         };
         match further {
-            Progress::After(sketch) => {
+            Progress::After(version, sketch) => {
                 let used = (bytes.len() - after.len()) as u32;
-                return Ok(Front {
+                let front = Front {
                     sketch,
                     used,
                     lines,
-                });
+                };
+                return Ok(Opened { version, front });
             }
             unended => progress = unended,
         }
@@ -95,7 +107,7 @@ fn after_line(alloc: Global, progress: Progress, line: &[u8]) -> Result<Progress
 {
     match progress {
         Progress::Before => after_header(alloc, line),
-        Progress::Within(draft) => after_entry(alloc, draft, line),
-        Progress::After(sketch) => after_last(alloc, sketch, line),
+        Progress::Within(version, draft) => after_entry(alloc, version, draft, line),
+        Progress::After(version, sketch) => after_last(alloc, version, sketch, line),
     }
 }

@@ -1,7 +1,8 @@
 ghost use Rattle.std.specs.Prelude.{◌≡◌};
-ghost use Rattle.sk_lang.specs.Keywords.{keyword_of};
+ghost use Rattle.sk_lang.specs.Keywords.{shared_keyword, keyword_of};
 
 use crate::lines::is_word;
+use crate::version::Version;
 
 /// The first words of entries.
 #[derive(Clone, Copy, Debug, PartialEq, Eq)]
@@ -15,11 +16,27 @@ pub(crate) enum Keyword {
     Outside,
     Inside,
     Angle,
+    Block,
 }
 
-/// The keyword that a word is.
-pub(crate) fn keyword_of(word: &[u8]) -> Option<Keyword>
-    ensures { result ≡ keyword_of word.now }
+/// The keyword that a word is. Version 2 has `block` too.
+pub(crate) fn keyword_of(version: Version, word: &[u8]) -> Option<Keyword>
+    ensures { result ≡ keyword_of version word.now }
+{
+    match version {
+        Version::One => shared_keyword(word),
+        Version::Two => {
+            if is_word(word, "block") {
+                return Some(Keyword::Block);
+            }
+            shared_keyword(word)
+        }
+    }
+}
+
+/// The keyword that a word is in each version.
+fn shared_keyword(word: &[u8]) -> Option<Keyword>
+    ensures { result ≡ shared_keyword word.now }
 {
     if is_word(word, "point") {
         Some(Keyword::Point)

@@ -7,8 +7,9 @@ ghost use Rattle.sk_base.specs.declared.Element.{Element as AnElement};
 ghost use Rattle.sk_base.specs.declared.Sketch.{Sketch};
 ghost use Rattle.sk_base.specs.SoundSketch.{IsSoundSketch, IsLength, IsSoundRatio};
 ghost use Rattle.sk_lang.specs.declared.code.Code.{Code};
+ghost use Rattle.sk_lang.specs.declared.version.Version.{Version};
 ghost use Rattle.sk_lang.specs.declared.entry.Entry.{Entry as AnEntry};
-ghost use Rattle.sk_lang.specs.Canonical.{canonical};
+ghost use Rattle.sk_lang.specs.Canonical.{canonical, canonical_2};
 ghost use Rattle.sk_lang.specs.Conditions.{is_zero};
 ghost use Rattle.sk_lang.specs.Entry.{entry_code, IsEntryOf, IsOther, StandsOn, IsNumbered};
 ghost use Rattle.sk_lang.specs.declared.front.Front.{Front};
@@ -37,22 +38,22 @@ pub fn one_front()
 /// A line without a code of its bytes or of an entry says something. Two things that a line says are equal, or
 /// both are another line's words, in the order in which they stand there.
 pub fn one_entry()
-    ensures some { (s : Sketch) (line : List ℕ) (elem : Elem) (con : ConId) → entry_code s line ≡ None → (x : AnEntry) × IsEntryOf s line elem con x }
-    ensures one { (s : Sketch) (line : List ℕ) (elem : Elem) (con : ConId) (x y : AnEntry) → IsEntryOf s line elem con x → IsEntryOf s line elem con y → (x ≡ y) ⊎ (IsOther line x × IsOther line y) }
+    ensures some { (v : Version) (s : Sketch) (line : List ℕ) (elem : Elem) (con : ConId) → entry_code v s line ≡ None → (x : AnEntry) × IsEntryOf v s line elem con x }
+    ensures one { (v : Version) (s : Sketch) (line : List ℕ) (elem : Elem) (con : ConId) (x y : AnEntry) → IsEntryOf v s line elem con x → IsEntryOf v s line elem con y → (x ≡ y) ⊎ (IsOther v line x × IsOther v line y) }
 {}
 
 /// What a line says is told by its first word, and has the number that was to be given.
 pub fn what_a_line_says()
-    ensures stands_on { (s : Sketch) (line : List ℕ) (elem : Elem) (con : ConId) (x : AnEntry) → IsEntryOf s line elem con x → StandsOn line x }
-    ensures numbered { (s : Sketch) (line : List ℕ) (elem : Elem) (con : ConId) (x : AnEntry) → IsEntryOf s line elem con x → IsNumbered elem con x }
+    ensures stands_on { (v : Version) (s : Sketch) (line : List ℕ) (elem : Elem) (con : ConId) (x : AnEntry) → IsEntryOf v s line elem con x → StandsOn v line x }
+    ensures numbered { (v : Version) (s : Sketch) (line : List ℕ) (elem : Elem) (con : ConId) (x : AnEntry) → IsEntryOf v s line elem con x → IsNumbered elem con x }
 {}
 
 /// A sound sketch stays sound with what a line without a code says, where the numbers that were to be given
 /// are above all of the sketch.
 pub fn entries_keep_soundness()
-    ensures { (s : Sketch) (line : List ℕ) (elem : Elem) (con : ConId) (x : AnEntry) → IsSoundSketch s
+    ensures { (v : Version) (s : Sketch) (line : List ℕ) (elem : Elem) (con : ConId) (x : AnEntry) → IsSoundSketch s
         → All (λ (e : AnElement). e.number.0 < elem.0) s.elements → All (λ (c : AConstraint). c.number.0 < con.0) s.constraints
-        → entry_code s line ≡ None → IsEntryOf s line elem con x → IsSoundSketch (added s (Some x)) }
+        → entry_code v s line ≡ None → IsEntryOf v s line elem con x → IsSoundSketch (added s (Some x)) }
 {}
 
 /// A word that reads as a length or as a ratio, and isn't 0, stands for one within the limits of a sketch.
@@ -61,13 +62,15 @@ pub fn quantities_are_sound()
     ensures ratio { (word : List ℕ) → is_none (ratio_of word) ≡ false → is_zero (option_map (λ parts. parts.0) (ratio_of word)) ≡ false → IsSoundRatio (ratio word) }
 {}
 
-/// What a text is read as is a sound sketch with an element.
+/// What a text is read as is a sound sketch with an element, numbered from 1 in the order of its lines.
 pub fn readable_is_sound()
     ensures sound { (bytes : List ℕ) (s : Sketch) → Reads bytes s → IsSoundSketch s }
     ensures some { (bytes : List ℕ) (s : Sketch) → Reads bytes s → 0 < length s.elements }
+    ensures numbered { (bytes : List ℕ) (s : Sketch) → Reads bytes s → renumbered s ≡ s }
 {}
 
-/// The canonical text of a sound sketch that has an element reads as that sketch, numbered anew from 1.
+/// Both canonical texts of a sound sketch that has an element read as that sketch, numbered anew from 1.
 pub fn written_reads_back()
-    ensures { (s : Sketch) → IsSoundSketch s → 0 < length s.elements → Reads (canonical s) (renumbered s) }
+    ensures canonical { (s : Sketch) → IsSoundSketch s → 0 < length s.elements → Reads (canonical s) (renumbered s) }
+    ensures canonical_2 { (s : Sketch) → IsSoundSketch s → 0 < length s.elements → Reads (canonical_2 s) (renumbered s) }
 {}

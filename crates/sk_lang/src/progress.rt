@@ -1,10 +1,12 @@
 use crate::draft::Draft;
+use crate::version::Version;
 use sk_base::Sketch;
 
-/// How far a text has been read: not yet to its header, within a sketch so far, or past its end.
+/// How far a text has been read: not yet to its header, within a sketch so far,
+/// or past its end.
 #[derive(Drop)]
 pub(crate) enum Progress {
     Before,
-    Within(Draft),
-    After(Sketch),
+    Within(Version, Draft),
+    After(Version, Sketch),
 }

@@ -13,34 +13,53 @@ use crate::line::entry_in;
 use crate::lines::{is_word, word};
 use crate::progress::Progress;
 use crate::scope::Scope;
+use crate::version::Version;
 use sk_base::{ConId, Elem, Sketch};
 use sk_lex::Word;
 use std::alloc::Global;
 
 /// How far the text has been read behind a line within the sketch.
-pub(crate) fn after_entry(alloc: Global, draft: Draft, line: &[u8]) -> Result<Progress, EntryError>
-    requires { size_of (Within draft) < 4294967295 }
-    ensures clean { IfOk result (λ _. code_of (Within draft) line.now ≡ None) }
-    ensures progress { IfOk result (λ after. after ≡ progress_after (Within draft) line.now) }
-    ensures size { IfOk result (λ after. size_of after ≤ size_of (Within draft) + 1) }
-    ensures refused { IfErr result (IsRefusal (code_of (Within draft) line.now)) }
+pub(crate) fn after_entry(
+    alloc: Global,
+    version: Version,
+    draft: Draft,
+    line: &[u8],
+) -> Result<Progress, EntryError>
+    requires { size_of (Within version draft) < 4294967295 }
+    ensures clean { IfOk result (λ _. code_of (Within version draft) line.now ≡ None) }
+    ensures progress { IfOk result (λ after. after ≡ progress_after (Within version draft) line.now) }
+    ensures size { IfOk result (λ after. size_of after ≤ size_of (Within version draft) + 1) }
+    ensures refused { IfErr result (IsRefusal (code_of (Within version draft) line.now)) }
 {
     let elem = Elem(draft.sketch().elements.len() as u32 + 1);
     let con = ConId(draft.sketch().constraints.len() as u32 + 1);
-    match entry_in(alloc, &draft, line, elem, con)? {
-        Entry::Blank => Ok(Progress::Within(draft)),
-        Entry::Element(element) => Ok(Progress::Within(draft.with_element(element)?)),
-        Entry::Constraint(constraint) => Ok(Progress::Within(draft.with_constraint(constraint)?)),
-        Entry::Other(words) => after_end(draft.into_sketch(), line, words.items.as_slice()),
+    match entry_in(alloc, version, &draft, line, elem, con)? {
+        Entry::Blank => Ok(Progress::Within(version, draft)),
+        Entry::Element(element) => Ok(Progress::Within(version, draft.with_element(element)?)),
+        Entry::Constraint(constraint) => Ok(Progress::Within(
+            version,
+            draft.with_constraint(constraint)?,
+        )),
+        Entry::Other(words) => after_end(
+            version,
+            draft.into_sketch(),
+            line,
+            words.items.as_slice(),
+        ),
     }
 }
 
-/// How far the text has been read behind a line whose first word is none of the nine.
-fn after_end(sketch: Sketch, line: &[u8], words: &[Word]) -> Result<Progress, EntryError>
+/// How far the text has been read behind a line whose first word is no keyword.
+fn after_end(
+    version: Version,
+    sketch: Sketch,
+    line: &[u8],
+    words: &[Word],
+) -> Result<Progress, EntryError>
     requires some { 0 < length words.now }
     requires order { StandInOrder 0 words.now (length line.now) }
     ensures { let ws = map (bytes_of line.now) words.now in MatchResult result
-        (λ after. (first_code (other_rows sketch ws) ≡ None) × (after ≡ After sketch))
+        (λ after. (first_code (other_rows sketch ws) ≡ None) × (after ≡ After version sketch))
         (IsRefusal (first_code (other_rows sketch ws))) }
 {
     if !is_word(word(line, words, 0), "end") {
@@ -52,5 +71,5 @@ fn after_end(sketch: Sketch, line: &[u8], words: &[Word]) -> Result<Progress, En
     if sketch.elements.is_empty() {
         return Err(EntryError::Refused(Code::E18));
     }
-    Ok(Progress::After(sketch))
+    Ok(Progress::After(version, sketch))
 }

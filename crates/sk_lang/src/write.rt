@@ -1,22 +1,75 @@
 ghost use Rattle.std.specs.Prelude.{◌≡◌, ◌++◌, [], ◌∷◌, map, IfOk, OnOk};
-ghost use Rattle.sk_text.specs.Spelling.{mm_text};
-ghost use Rattle.sk_lang.specs.Canonical.{element_line, constraint_line, ratio_text, ended_lines, canonical};
-ghost use Rattle.sk_text.specs.ElementNames.{name_of};
+ghost use Rattle.sk_base.specs.Pins.{block_words};
+ghost use Rattle.sk_base.specs.Spelling.{mm_text, spaced};
+ghost use Rattle.sk_lang.specs.Blocks.{is_block, has_block, version_for};
+ghost use Rattle.sk_lang.specs.Canonical.{element_line, constraint_line, ratio_text, ended_lines, header, text_under, canonical, canonical_2};
+ghost use Rattle.sk_base.specs.ElementNames.{name_of};
 
-use sk_base::{Constraint, Elem, Element, NoMemory, Ratio, Rule, Shape, Sketch, Text, Um};
+use crate::version::Version;
+use sk_base::{
+    Constraint, Elem, Element, List, NoMemory, Pin, Ratio, Rule, Shape, Sketch, Text, Um,
+};
 use sk_text::{Puts, put_name};
 use std::alloc::Global;
 
-/// The canonical text of the sketch.
+/// The canonical text of the sketch, under the header of version 1 exactly where it has no block.
 pub fn write_sketch(alloc: Global, s: &Sketch) -> Result<Text, NoMemory>
     ensures { IfOk result (λ text. text ≡ canonical s.now) }
 {
+    write_under(alloc, version_for(s), s)
+}
+
+/// The canonical text of the sketch under the header of version 2.
+pub fn write_sketch_2(alloc: Global, s: &Sketch) -> Result<Text, NoMemory>
+    ensures { IfOk result (λ text. text ≡ canonical_2 s.now) }
+{
+    write_under(alloc, Version::Two, s)
+}
+
+/// The least version that has a line for all that the sketch has.
+fn version_for(s: &Sketch) -> Version
+    ensures { result ≡ version_for s.now }
+{
+    if has_block(s) {
+        return Version::Two;
+    }
+    Version::One
+}
+
+fn has_block(s: &Sketch) -> bool
+    ensures { result ≡ has_block s.now }
+{
+    s.constraints
+        .as_slice()
+        .iter()
+        .any(|constraint| is_block(&constraint.rule))
+}
+
+fn is_block(rule: &Rule) -> bool
+    ensures { result ≡ is_block rule.now }
+{
+    matches!(rule, Rule::Block { .. })
+}
+
+/// The canonical text under the header of a version.
+fn write_under(alloc: Global, version: Version, s: &Sketch) -> Result<Text, NoMemory>
+    ensures { IfOk result (λ text. text ≡ text_under version s.now) }
+{
     let mut text = Text::new(alloc);
-    text.put(b"sketch 1\n")?;
+    put_header(&mut text, version)?;
     put_elements(&mut text, s)?;
     put_constraints(&mut text, s)?;
     text.put(b"end\n")?;
     Ok(text)
+}
+
+fn put_header(text: &mut Text, version: Version) -> Result<(), NoMemory>
+    ensures { OnOk result (text.new ≡ text.old ++ header version ++ 10 ∷ []) }
+{
+    match version {
+        Version::One => text.put(b"sketch 1\n"),
+        Version::Two => text.put(b"sketch 2\n"),
+    }
 }
 
 /// One canonical line without its line feed.
@@ -117,6 +170,7 @@ fn put_constraint(text: &mut Text, s: &Sketch, constraint: &Constraint) -> Resul
             put_name(text, s, m)?;
             put_ratio(text, ratio)
         }
+        Rule::Block { ref pins } => put_block(text, s, pins),
     }
 }
 
@@ -127,4 +181,17 @@ fn put_pair(text: &mut Text, s: &Sketch, word: &[u8], u: Elem, v: Elem) -> Resul
     text.put(word)?;
     put_name(text, s, u)?;
     put_name(text, s, v)
+}
+
+/// Puts the first word of a block, and each pin's name and place.
+fn put_block(text: &mut Text, s: &Sketch, pins: &List<Pin>) -> Result<(), NoMemory>
+    ensures { OnOk result (text.new ≡ text.old ++ spaced (block_words s.now pins.now)) }
+{
+    text.put(b"block")?;
+    for pin in pins.as_slice() {
+        put_name(text, s, pin.elem)?;
+        put_number(text, pin.x)?;
+        put_number(text, pin.y)?;
+    }
+    Ok(())
 }

@@ -21,9 +21,16 @@ returns-in-Err-clause-refuses c =
 pub returns-in-After-clause-reads : goal.returns-in-After-clause-reads
 returns-in-After-clause-reads c =
     let at = c.loop-rest.invariant in
-    let ended : progress_after c.loop-rest.progress c.split_line.result.0.now ≡ After c.in-After.sketch = sym c.in-Ok.ensures.progress ∙ c.in-After.is in
-    front_read_here c.args.bytes.now c.loop-rest.rest.now c.split_line.result.0.now c.split_line.result.1.now c.loop-rest.progress c.loop-rest.lines _ c.in-After.sketch
-    (omega arith) at.at (omega arith) c.split_line.ensures.first at.unended c.in-Ok.ensures.clean ended (omega (arith, at.numbered))
+    let ended : progress_after c.loop-rest.progress c.split_line.result.0.now ≡ After c.in-After.version c.in-After.sketch = sym c.in-Ok.ensures.progress ∙ c.in-After.is in
+    (front_read_here c.args.bytes.now c.loop-rest.rest.now c.split_line.result.0.now c.split_line.result.1.now c.loop-rest.progress c.loop-rest.lines _ c.in-After.version c.in-After.sketch
+    (omega arith) at.at (omega arith) c.split_line.ensures.first at.unended c.in-Ok.ensures.clean ended (omega (arith, at.numbered))).0
+
+pub returns-in-After-clause-version : goal.returns-in-After-clause-version
+returns-in-After-clause-version c =
+    let at = c.loop-rest.invariant in
+    let ended : progress_after c.loop-rest.progress c.split_line.result.0.now ≡ After c.in-After.version c.in-After.sketch = sym c.in-Ok.ensures.progress ∙ c.in-After.is in
+    (front_read_here c.args.bytes.now c.loop-rest.rest.now c.split_line.result.0.now c.split_line.result.1.now c.loop-rest.progress c.loop-rest.lines _ c.in-After.version c.in-After.sketch
+    (omega arith) at.at (omega arith) c.split_line.ensures.first at.unended c.in-Ok.ensures.clean ended (omega (arith, at.numbered))).1
 
 pub loop-rest-preserved : goal.loop-rest-preserved
 loop-rest-preserved c =

@@ -1,4 +1,4 @@
-use Rattle.sk_lex.specs.Words.{words_in}
+use Rattle.sk_lang.specs.Comments.{words_under}
 use Rattle.sk_lang.proofs.SameEntries.{same_entry}
 use Rattle.sk_lang.proofs.SomeEntries.{some_entry}
 use Rattle.sk_lang.proofs.law.one_entry.Goals as goal
@@ -7,4 +7,4 @@ pub returns-clause-some : goal.returns-clause-some
 returns-clause-some c = some_entry
 
 pub returns-clause-one : goal.returns-clause-one
-returns-clause-one c s line elem con x y is other = same_entry s line (words_in line) elem con x y is other
+returns-clause-one c v s line elem con x y is other = same_entry v s line (words_under v line) elem con x y is other

@@ -5,7 +5,7 @@ use Rattle.sk_lang.proofs.read.read_behind.Given as goal
 
 abbrev pub invariant-loop-rest : goal.invariant-loop-rest
 invariant-loop-rest l = record {
-  at : StandsAt l.bytes l.rest (After l.fn.front.sketch) l.number;
+  at : StandsAt l.bytes l.rest (After l.fn.opened.version l.fn.opened.front.sketch) l.number;
   numbered : l.number + length l.rest ≤ length l.bytes;
 }
 
