@@ -5,6 +5,8 @@ use Rattle.sk_base.specs.declared.ConId.{ConId}
 use Rattle.sk_base.specs.declared.Elem.{Elem}
 use Rattle.sk_base.specs.declared.Sketch.{Sketch}
 use Rattle.sk_graph.specs.SketchGraph.{graph_of}
+use Rattle.sk_lang.specs.declared.Version.TheVariants.{Two}
+use Rattle.sk_lang.specs.Comments.{words_under}
 use Rattle.sk_lang.specs.declared.Code.{Code}
 use Rattle.sk_lang.specs.declared.Code.TheVariants.{E3, E18}
 use Rattle.sk_lang.specs.declared.Entry.{Entry}
@@ -14,7 +16,6 @@ use Rattle.sk_lang.specs.Entry.{rows_of, IsEntryOf}
 use Rattle.sk_lang.specs.FirstCode.{first_code}
 use Rattle.sk_lang.specs.Keywords.{keyword_of}
 use Rattle.sk_lex.specs.declared.Words.{Words}
-use Rattle.sk_lex.specs.Words.{words_in}
 use Rattle.sk_plan.specs.Judged.{IsTheJudgement}
 use Rattle.sk_verdict.specs.declared.Verdict.TheVariants.{Well}
 use Rattle.sk_worklist.specs.declared.Order.{Order}
@@ -32,8 +33,8 @@ use Rattle.sk_session.proofs.ToSolve.{none_behind, some_left}
 
 -- a line that says neither an element nor a constraint, and isn't blank, begins with another word than those lines do
 abbrev pub OtherBegins : Type 0
-OtherBegins = (s : Sketch) (line : List ℕ) (elem : Elem) (con : ConId) (words : Words) → IsEntryOf s line elem con (entry.Other words)
-    → (first : List ℕ) × (rest : List (List ℕ)) × (words_in line ≡ first ∷ rest) × (is_some (keyword_of first) ≡ false)
+OtherBegins = (s : Sketch) (line : List ℕ) (elem : Elem) (con : ConId) (words : Words) → IsEntryOf Two s line elem con (entry.Other words)
+    → (first : List ℕ) × (rest : List (List ℕ)) × (words_under Two line ≡ first ∷ rest) × (is_some (keyword_of Two first) ≡ false)
 
 -- what a reply tells of a sketch
 abbrev pub TellsOf : Order → Sketch → Reply → Type 0
@@ -81,22 +82,22 @@ module _ (begins : OtherBegins) (old new : State) where
   obeys_told (Some Write) rest r clean h = only_told reply.Write r tt h
   obeys_told (Some End) rest r clean h = only_told reply.End r tt h
 
-  enters_told : (line : List ℕ) (said : Entry) → IsEntryOf (sketch_in old) line (next_elem old) (next_con old) said → code_in old line ≡ None → (r : Reply) → Enters old (words_in line) said r new → Told r
+  enters_told : (line : List ℕ) (said : Entry) → IsEntryOf Two (sketch_in old) line (next_elem old) (next_con old) said → code_in old line ≡ None → (r : Reply) → Enters old (words_under Two line) said r new → Told r
   enters_told line entry.Blank says clean r h = only_told reply.Blank r tt h
   enters_told line (entry.Element e) says clean r h = stands_told (Some (edit.Element e)) (reply.Declared e.number) r tt h
   enters_told line (entry.Constraint c) says clean r h = stands_told (Some (edit.Constraint c)) (reply.Constrained c.number) r tt h
   enters_told line (entry.Other words) says clean r h =
       let (first, rest, words_are, keyword) = begins (sketch_in old) line (next_elem old) (next_con old) words says in
       let obeys : Obeys old (command_of first) rest r new = subst (λ (ws : List (List ℕ)). ObeysWords old ws r new) words_are h in
-      let rows : first_code (word_rows old (words_in line)) ≡ first_code (command_rows old (command_of first) rest) =
+      let rows : first_code (word_rows old (words_under Two line)) ≡ first_code (command_rows old (command_of first) rest) =
       ap (λ (ws : List (List ℕ)). first_code (word_rows old ws)) words_are ∙ ap (λ (t : Bool). first_code (own_rows old t first rest)) keyword in
-      obeys_told (command_of first) rest r (sym rows ∙ none_behind (byte_rows line ++ rows_of (sketch_in old) (words_in line)) (word_rows old (words_in line)) clean) obeys
+      obeys_told (command_of first) rest r (sym rows ∙ none_behind (byte_rows line ++ rows_of Two (sketch_in old) (words_under Two line)) (word_rows old (words_under Two line)) clean) obeys
 
   -- the order stays, and what a question is answered is told of the sketch after the line, which has an element
   pub answers_told : (line : List ℕ) (r : Reply) → Answers old line r new → (new.order ≡ old.order) × TellsOf old.order (sketch_in new) r
   answers_told line r answers = told (code_in old line) refl answers
     where
       told : (o : Option Code) → code_in old line ≡ o
-          → ByCode o old ((said : Entry) × IsEntryOf (sketch_in old) line (next_elem old) (next_con old) said × Enters old (words_in line) said r new) r new → Told r
+          → ByCode o old ((said : Entry) × IsEntryOf Two (sketch_in old) line (next_elem old) (next_con old) said × Enters old (words_under Two line) said r new) r new → Told r
       told (Some code) here h = only_told (reply.Refused code) r tt h
       told None here (said, says, enters) = enters_told line said says here r enters

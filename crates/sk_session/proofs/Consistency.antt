@@ -6,6 +6,7 @@ use Rattle.std.proofs.lemmas.List.Sums.{fold-append}
 use Rattle.sk_base.specs.declared.Element.{Element}
 use Rattle.sk_base.specs.declared.Constraint.{Constraint}
 use Rattle.sk_base.specs.declared.Sketch.{Sketch}
+use Rattle.sk_base.specs.Rising.{union}
 use Rattle.sk_base.specs.SoundSketch.{IsSoundSketch}
 use Rattle.sk_base.proofs.Pairs.{pairs_none}
 use Rattle.sk_family.specs.Clusters.{Clusters, IsSound, initial_clusters, bodies}
@@ -37,6 +38,7 @@ empty_sound = record {
 }
 
 pub consistent_new : (f : Clusters) → f ≡ initial_clusters (graph_of empty) → IsConsistent [] empty 1 1 0 f
+unfolding union
 consistent_new f is =
     subst (λ g. IsConsistent [] empty 1 1 0 g) (sym is)
     (record {

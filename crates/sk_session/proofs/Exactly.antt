@@ -1,11 +1,12 @@
 -- Only lines with a code are refused.
 use Rattle.std.proofs.Common.{◌≡◌, ◌≢◌, inl, inr, ℕ, List, [], ◌∷◌, Option, Some, None, ap, sym, ◌∙◌}
 use Rattle.std.specs.Prelude.{◌↔◌}
+use Rattle.sk_lang.specs.declared.Version.TheVariants.{Two}
+use Rattle.sk_lang.specs.Comments.{words_under}
 use Rattle.sk_lang.specs.declared.Code.{Code}
 use Rattle.sk_lang.specs.declared.Entry.{Entry}
 use Rattle.sk_lang.specs.declared.Entry.TheVariants as entry
 use Rattle.sk_lang.specs.Entry.{IsEntryOf}
-use Rattle.sk_lex.specs.Words.{words_in}
 use Rattle.sk_session.specs.declared.command.Command.{Command}
 use Rattle.sk_session.specs.declared.command.Command.TheVariants.{Change, Undo, Check, Plan, Solve, Write, End}
 use Rattle.sk_session.specs.declared.edit.Edit.{Edit}
@@ -41,6 +42,6 @@ module _ (old : State) (answer : Reply) (new : State) (code : Code) (refused : a
 pub refused_exactly : (old new : State) (line : List ℕ) (answer : Reply) (code : Code) → Answers old line answer new → (answer ≡ reply.Refused code) ↔ (code_in old line ≡ Some code)
 refused_exactly old new line answer code answers = told (code_in old line) answers
   where
-    told : (o : Option Code) → ByCode o old ((x : Entry) × IsEntryOf (sketch_in old) line (next_elem old) (next_con old) x × Enters old (words_in line) x answer new) answer new → (answer ≡ reply.Refused code) ↔ (o ≡ Some code)
+    told : (o : Option Code) → ByCode o old ((x : Entry) × IsEntryOf Two (sketch_in old) line (next_elem old) (next_con old) x × Enters old (words_under Two line) x answer new) answer new → (answer ≡ reply.Refused code) ↔ (o ≡ Some code)
     told (Some d) (is, same) = ((λ h. (let both : reply.Refused d ≡ reply.Refused code = sym is ∙ h in let equal : d ≡ code = cc in ap Some equal)), (λ h. (let equal : d ≡ code = cc in is ∙ ap reply.Refused equal)))
-    told None (said, is, enters) = ((λ h. absurd (none_enters old answer new code h (words_in line) said enters)), (λ h. absurd (cc)))
+    told None (said, is, enters) = ((λ h. absurd (none_enters old answer new code h (words_under Two line) said enters)), (λ h. absurd (cc)))

@@ -1,4 +1,5 @@
 pub mod Places
+pub mod Starts
 pub mod Drawing
 pub mod Graphs
 pub mod Following

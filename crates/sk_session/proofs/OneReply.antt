@@ -11,6 +11,8 @@ use Rattle.sk_base.specs.SoundSketch.{IsSoundSketch}
 use Rattle.sk_family.specs.Body.{Body, SameBodies}
 use Rattle.sk_family.specs.Clusters.{Clusters, initial_clusters}
 use Rattle.sk_rules.specs.declared.Merge.{Merge}
+use Rattle.sk_lang.specs.declared.Version.TheVariants.{Two}
+use Rattle.sk_lang.specs.Comments.{words_under}
 use Rattle.sk_lang.specs.declared.Code.{Code}
 use Rattle.sk_lang.specs.declared.Entry.{Entry}
 use Rattle.sk_lang.specs.declared.Entry.TheVariants as entry
@@ -18,7 +20,6 @@ use Rattle.sk_lang.specs.Codes.{byte_rows}
 use Rattle.sk_lang.specs.Entry.{rows_of, IsOther, IsEntryOf}
 use Rattle.sk_lang.specs.FirstCode.{first_code}
 use Rattle.sk_lang.specs.Keywords.{keyword_of}
-use Rattle.sk_lex.specs.Words.{words_in}
 use Rattle.sk_graph.specs.SketchGraph.{graph_of}
 use Rattle.sk_graph.proofs.Soundness.{graph_is_sound}
 use Rattle.sk_worklist.specs.declared.Order.{Order}
@@ -43,7 +44,7 @@ use Rattle.sk_session.specs.Replies.{IsThePlan, Plans, Only, Stands, Obeys, Obey
 
 -- the laws of the layers below
 pub record Laws : Type 0 where
-  pub one_entry : (s : Sketch) (line : List ℕ) (elem : Elem) (con : ConId) (x y : Entry) → IsEntryOf s line elem con x → IsEntryOf s line elem con y → (x ≡ y) ⊎ (IsOther line x × IsOther line y)
+  pub one_entry : (s : Sketch) (line : List ℕ) (elem : Elem) (con : ConId) (x y : Entry) → IsEntryOf Two s line elem con x → IsEntryOf Two s line elem con y → (x ≡ y) ⊎ (IsOther Two line x × IsOther Two line y)
   pub one_judgement : (g : Graph) (one other : List Body) (j k : Judgement) → SameBodies one other → IsJudgement g one j → IsJudgement g other k → j ≡ k
   pub one_run : (g : Graph) (f : Clusters) (p : Choosing) (ms ns : List Merge) (one other : Clusters) (last end : Choosing)
       → IsRun place_of next_call g f p ms one last → IsRun place_of next_call g f p ns other end → (ms ≡ ns) × (one ≡ other) × (last ≡ end)
@@ -136,7 +137,7 @@ module _ (laws : Laws) (old : State) (kept : Clusters) (sound : IsSoundSketch (s
   words_same (first ∷ rest) one other new last h h' = obeys_same (command_of first) rest one other new last h h'
 
   -- what the words of another line say
-  other_enters : (state : State) (line : List ℕ) (ws : List (List ℕ)) (said : Entry) (answer : Reply) (new : State) → IsOther line said → Enters state ws said answer new → ObeysWords state ws answer new
+  other_enters : (state : State) (line : List ℕ) (ws : List (List ℕ)) (said : Entry) (answer : Reply) (new : State) → IsOther Two line said → Enters state ws said answer new → ObeysWords state ws answer new
   other_enters state line ws entry.Blank answer new is h = absurd is
   other_enters state line ws (entry.Element e) answer new is h = absurd is
   other_enters state line ws (entry.Constraint c) answer new is h = absurd is
@@ -165,20 +166,20 @@ module _ (laws : Laws) (old : State) (kept : Clusters) (sound : IsSoundSketch (s
 
   rows_alike : (ws : List (List ℕ)) → word_rows like ws ≡ word_rows old ws
   rows_alike [] = refl
-  rows_alike (first ∷ rest) = own_alike (is_some (keyword_of first)) first rest
+  rows_alike (first ∷ rest) = own_alike (is_some (keyword_of Two first)) first rest
 
   code_alike : (line : List ℕ) → code_in like line ≡ code_in old line
-  code_alike line = ap (λ rows. first_code ((byte_rows line ++ rows_of (sketch_in old) (words_in line)) ++ rows)) (rows_alike (words_in line))
+  code_alike line = ap (λ rows. first_code ((byte_rows line ++ rows_of Two (sketch_in old) (words_under Two line)) ++ rows)) (rows_alike (words_under Two line))
 
   abbrev Says : List ℕ → State → Reply → State → Type 0
-  Says line state answer new = (said : Entry) × IsEntryOf (sketch_in state) line (next_elem state) (next_con state) said × Enters state (words_in line) said answer new
+  Says line state answer new = (said : Entry) × IsEntryOf Two (sketch_in state) line (next_elem state) (next_con state) said × Enters state (words_under Two line) said answer new
 
   by_code_same : (line : List ℕ) (code : Option Code) (one other : Reply) (new last : State) → ByCode code old (Says line old one new) one new → ByCode code like (Says line like other last) other last → AreSame one other new last
   by_code_same line (Some code) one other new last h h' = only_same (reply.Refused code) one other new last h h'
   by_code_same line None one other new last (said, is, enters) (said', is', enters') =
       elim (laws.one_entry (sketch_in old) line (next_elem old) (next_con old) said said' is is') [
-        | inl same ↦ enters_same (words_in line) said' one other new last (subst (λ z. Enters old (words_in line) z one new) same enters) enters'
-        | inr (first, second) ↦ words_same (words_in line) one other new last (other_enters old line (words_in line) said one new first enters) (other_enters like line (words_in line) said' other last second enters')
+        | inl same ↦ enters_same (words_under Two line) said' one other new last (subst (λ z. Enters old (words_under Two line) z one new) same enters) enters'
+        | inr (first, second) ↦ words_same (words_under Two line) one other new last (other_enters old line (words_under Two line) said one new first enters) (other_enters like line (words_under Two line) said' other last second enters')
       ]
 
   answers_same : (line : List ℕ) (one other : Reply) (new last : State) → Answers old line one new → Answers like line other last → AreSame one other new last

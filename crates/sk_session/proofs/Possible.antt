@@ -1,5 +1,5 @@
 -- Lines without a code say edits that can be made.
-use Rattle.std.proofs.Common.{◌≡◌, ◌≢◌, inl, inr, ℕ, ◌==◌, ◌||◌, Bool, true, false, cond, List, [], ◌∷◌, Option, Some, None, Ok, Err, is_none, refl, ap, sym, subst, ◌∙◌, arith}
+use Rattle.std.proofs.Common.{◌≡◌, inl, inr, ℕ, ◌==◌, ◌||◌, Bool, true, false, cond, List, [], ◌∷◌, Option, Some, None, Ok, Err, is_none, refl, ap, sym, subst, ◌∙◌, arith}
 use Rattle.std.specs.Prelude.{Contains, not, unwrap_or, bytes_eq}
 use Rattle.std.specs.List.{list_any}
 use Rattle.std.specs.Option.{option_map}
@@ -13,7 +13,7 @@ use Rattle.sk_base.specs.declared.Rule.{Rule}
 use Rattle.sk_base.specs.declared.Rule.TheVariants as rule
 use Rattle.sk_base.specs.declared.Sketch.{Sketch}
 use Rattle.sk_base.specs.Labels.{is_name}
-use Rattle.sk_base.specs.Numbering.{con_exact, elem_number}
+use Rattle.sk_base.specs.Numbering.{con_exact, is_elem}
 use Rattle.sk_base.specs.SoundSketch.{IsSoundSketch, IsSoundRule, IsLength, IsSoundRatio}
 use Rattle.sk_base.proofs.Finding.{found_in}
 use Rattle.sk_base.proofs.Members.{contains_none, contains_cases}
@@ -24,7 +24,8 @@ use Rattle.sk_lang.specs.FirstCode.{first_code}
 use Rattle.sk_lang.specs.Named.{element_named, number_named}
 use Rattle.sk_lang.specs.Quantities.{length_of, ratio_of, um, ratio}
 use Rattle.sk_base.proofs.Tables.{passed}
-use Rattle.sk_graph.specs.SketchGraph.{first_of, second_of}
+use Rattle.sk_base.proofs.Numbers.{found_elem}
+use Rattle.sk_graph.specs.Naming.{named_by}
 use Rattle.sk_session.specs.declared.command.Change.{Change}
 use Rattle.sk_session.specs.declared.command.Change.TheVariants.{Drop, Set, Erase}
 use Rattle.sk_session.specs.declared.edit.Edit.{Edit}
@@ -48,7 +49,7 @@ can_constrain edits c is was_sound sound =
     let t = applied (edit.Constraint c) s in
     record {
       possible = (
-        rule_alike t s c.rule (record { first = refl; second = refl }) (All-contains (λ (x : Constraint). IsSoundRule t x.rule) t.constraints c sound.rules_sound (Contains-push s.constraints c)),
+        rule_alike t s c.rule (λ u named. refl) (All-contains (λ (x : Constraint). IsSoundRule t x.rule) t.constraints c sound.rules_sound (Contains-push s.constraints c)),
         λ x x_in. (let below = constraints_below edits x x_in in omega arith),
       );
       sound = was_sound;
@@ -66,14 +67,13 @@ has_numbered s k c is =
     let level : c.number.0 ≡ k.0 = grind (arith, nat_tests) in
     (c, found.0, con_exact c.number k level)
 
--- where no constraint passes the test, none uses the element
-unused : (x : Elem) (cs : List Constraint) → list_any (λ (c : Constraint). ((first_of c.rule).0 == x.0) || ((second_of c.rule).0 == x.0)) cs ≡ false
-    → (c : Constraint) → Contains cs c → (first_of c.rule ≢ x) × (second_of c.rule ≢ x)
+-- where no constraint passes the test, none names the element
+unused : (x : Elem) (cs : List Constraint) → list_any (λ (c : Constraint). is_elem (named_by c.rule) x) cs ≡ false → (c : Constraint) → Contains cs c → ¬ Contains (named_by c.rule) x
 unused x [] none c c_in = absurd (contains_none c c_in)
 unused x (d ∷ cs) none c c_in =
-    let split = neither (((first_of d.rule).0 == x.0) || ((second_of d.rule).0 == x.0)) (list_any (λ (y : Constraint). ((first_of y.rule).0 == x.0) || ((second_of y.rule).0 == x.0)) cs) none in
+    let split = neither (is_elem (named_by d.rule) x) (list_any (λ (y : Constraint). is_elem (named_by y.rule) x) cs) none in
     elim (contains_cases d cs c c_in) [
-      | inl here ↦ subst (λ (y : Constraint). (first_of y.rule ≢ x) × (second_of y.rule ≢ x)) here (apart d split.0)
+      | inl here ↦ subst (λ (y : Constraint). ¬ Contains (named_by y.rule) x) here (apart d split.0)
       | inr later ↦ unused x cs split.1 c later
     ]
   where
@@ -81,11 +81,8 @@ unused x (d ∷ cs) none c c_in =
     neither true b is = absurd (cc)
     neither false b is = (refl, is)
 
-    differs : (u : Elem) → (u.0 == x.0) ≡ false → u ≢ x
-    differs u other same = (let level : u.0 ≡ x.0 = ap elem_number same in let never : (u.0 == x.0) ≡ true = grind (arith, nat_tests) in absurd (cc))
-
-    apart : (y : Constraint) → (((first_of y.rule).0 == x.0) || ((second_of y.rule).0 == x.0)) ≡ false → (first_of y.rule ≢ x) × (second_of y.rule ≢ x)
-    apart y is = (let both = neither ((first_of y.rule).0 == x.0) ((second_of y.rule).0 == x.0) is in (differs (first_of y.rule) both.0, differs (second_of y.rule) both.1))
+    apart : (y : Constraint) → is_elem (named_by y.rule) x ≡ false → ¬ Contains (named_by y.rule) x
+    apart y is named = (let found = found_elem (named_by y.rule) x named in absurd (cc))
 
 has_named : (s : Sketch) (name : List ℕ) (e : Element) → element_named s name ≡ Some e → HasElement s (number_named s name)
 has_named s name e is =
@@ -104,6 +101,7 @@ can_set s sound k has (Some (rule.On u v)) value clean = absurd (cc)
 can_set s sound k has (Some (rule.Tangent u v)) value clean = absurd (cc)
 can_set s sound k has (Some (rule.Outside u v)) value clean = absurd (cc)
 can_set s sound k has (Some (rule.Inside u v)) value clean = absurd (cc)
+can_set s sound k has (Some (rule.Block pins)) value clean = absurd (cc)
 can_set s sound k has None value clean = absurd (cc)
 
 -- a change without a code says an edit that can be made, where its value is sound
@@ -159,6 +157,7 @@ module _ (quantities : SoundQuantities) where
   value_set (Some (rule.Tangent u v)) k value e clean is = absurd (cc)
   value_set (Some (rule.Outside u v)) k value e clean is = absurd (cc)
   value_set (Some (rule.Inside u v)) k value e clean is = absurd (cc)
+  value_set (Some (rule.Block pins)) k value e clean is = absurd (cc)
   value_set None k value e clean is = absurd (cc)
 
   -- a change without a code has a sound value

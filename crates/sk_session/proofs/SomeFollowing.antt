@@ -8,7 +8,7 @@ use Rattle.std.proofs.lemmas.List.Edits.{length-insert}
 use Rattle.std.proofs.lemmas.List.Elements.{Contains-push}
 use Rattle.sk_base.proofs.Splits.{in_drop, pairs_inserted}
 use Rattle.sk_base.specs.declared.ConId.{ConId}
-use Rattle.sk_base.specs.declared.Edge.{Edge}
+use Rattle.sk_base.specs.declared.Constraint.{Constraint}
 use Rattle.sk_base.specs.declared.Name.{Name}
 use Rattle.sk_base.specs.declared.Name.TheVariants.{Con}
 use Rattle.sk_base.specs.declared.Sketch.{Sketch}
@@ -16,6 +16,10 @@ use Rattle.sk_base.specs.ClusterNames.{IsBelow}
 use Rattle.sk_base.specs.SoundSketch.{IsSoundSketch}
 use Rattle.sk_base.proofs.Members.{contains_none, contains_cases}
 use Rattle.sk_base.proofs.Pairs.{pairs_none, pairs_tail, pairs_head}
+use Rattle.sk_base.specs.Numbering.{elem_number}
+use Rattle.sk_base.specs.Rising.{IsRising}
+use Rattle.sk_base.proofs.Unions.{rising_none, rising_union}
+use Rattle.sk_family.specs.Body.{Start, starts}
 use Rattle.sk_family.specs.declared.Cluster.{Cluster}
 use Rattle.sk_family.specs.Clusters.{Clusters, start_of, IsNamed, IsSound, ByName}
 use Rattle.sk_family.specs.Starts.{IsFree, HasStart}
@@ -23,16 +27,17 @@ use Rattle.sk_family.proofs.Dissolving.{dissolved, fewer_left, dissolved_sound, 
 use Rattle.sk_family.proofs.Naming.{below_irreflexive, below_asymmetric, below_chain, one_of_name}
 use Rattle.sk_family.proofs.Sorting.{HaveOtherNames}
 use Rattle.sk_family.proofs.Starting.{start_put, start_sound, with_start}
-use Rattle.sk_graph.specs.SketchGraph.{edge_of, graph_of}
-use Rattle.sk_rules.proofs.KeptClusters.{owned_is_edge}
+use Rattle.sk_graph.specs.Naming.{named_by}
+use Rattle.sk_graph.specs.SketchGraph.{graph_of}
+use Rattle.sk_rules.proofs.KeptClusters.{owned_is_constraint}
 use Rattle.sk_worklist.proofs.OneRun.{below_tells}
 use Rattle.sk_session.specs.declared.edit.Edit.{Edit}
 use Rattle.sk_session.specs.declared.edit.Edit.TheVariants as edit
 use Rattle.sk_session.specs.declared.edit.Former.{Former}
 use Rattle.sk_session.specs.declared.edit.Former.TheVariants as former
 use Rattle.sk_session.specs.Former.{IsFormer, LeadsTo}
-use Rattle.sk_session.specs.Making.{CanMake, HasConstraint, DissolvesOwner, Follows, FollowsBack, IsReachedIn}
-use Rattle.sk_session.proofs.Graphs.{rises, id_of}
+use Rattle.sk_session.specs.Making.{CanMake, HasConstraint, DissolvesOwner, Follows, FollowsBack, IsReachedIn, constraint_start}
+use Rattle.sk_session.proofs.Starts.{rises}
 use Rattle.sk_session.proofs.Owners.{free_number, owner_of, few_owned}
 use Rattle.sk_session.proofs.Undoing.{owner_back, none_dropped, start_back}
 
@@ -96,14 +101,17 @@ record IsNext (old new : Clusters) : Type 0 where
   sound : IsSound new
   few : length new.live ≤ length old.live + 3999
 
-started : (f : Clusters) → IsSound f → (e : Edge) → IsFree f e.id → length f.live ≤ 4294963297 → (g : Clusters) × HasStart e f g × IsNext f g
-started f sound e free room =
-    let at = place_for f.live sound.names_rise (Con e.id.0) in
+start_rises : (c : Constraint) → IsRising elem_number (constraint_start c).elements
+start_rises c = rising_union elem_number (named_by c.rule) [] (rising_none elem_number)
+
+started : (f : Clusters) → IsSound f → (e : Start) → IsRising elem_number e.elements → IsFree f e.number → length f.live ≤ 4294963297 → (g : Clusters) × HasStart e f g × IsNext f g
+started f sound e rises free room =
+    let at = place_for f.live sound.names_rise (Con e.number.0) in
     let less : length f.live < 4294967295 = omega arith in (
-      with_start f sound e free less at.place at.within at.before at.after,
-      start_put f sound e free less at.place at.within at.before at.after,
+      with_start f sound e rises free less at.place at.within at.before at.after,
+      start_put f sound e rises free less at.place at.within at.before at.after,
       record {
-        sound = start_sound f sound e free less at.place at.within at.before at.after;
+        sound = start_sound f sound e rises free less at.place at.within at.before at.after;
         few = (let size = length-insert f.live at.place (start_of e) in let within = at.within in omega (arith, size, within));
       },
     )
@@ -114,7 +122,7 @@ dissolves s s_sound f sound reach k has room =
     let rise = rises s s_sound in
     let owner = owner_of s s_sound f sound reach k has in
     let is_owner : IsNamed f owner.0.name owner.0 = record { lives = owner.1; has_name = refl } in
-    let others : (j : ConId) → Contains owner.0.owned j → j ≢ k → (d : Edge) × Contains g.edges d × (d.id ≡ j) = λ j c_j differ. owned_is_edge g f reach rise owner.0 j owner.1 c_j in
+    let others : (j : ConId) → Contains owner.0.owned j → j ≢ k → (d : Start) × Contains (starts g) d × (d.number ≡ j) = λ j c_j differ. owned_is_constraint g f reach rise owner.0 j owner.1 c_j in
     let sorted = some_sorted _ (all_differ g rise f sound owner.0.name k owner.0 is_owner owner.2 others) in
     let few = few_owned s s_sound f sound reach owner.0 owner.1 in
     let fewer = fewer_left g rise f sound owner.0.name k owner.0 is_owner owner.2 others sorted.sorted sorted.same in
@@ -142,7 +150,7 @@ pub followed : (e : Edit) (s : Sketch) → CanMake e s → (f : Clusters) → Is
 followed (edit.Element x) s can f sound reach room = record { new = f; follows = refl; sound = sound; few = omega arith }
 followed (edit.Constraint c) s can f sound reach room =
     let free = free_number s can.sound f sound reach c.number (λ x x_in same. (let below = can.possible.1 x x_in in absurd (omega arith))) in
-    let found = started f sound (edge_of s c) (subst (λ k. IsFree f k) (sym (id_of s c)) free) room in
+    let found = started f sound (constraint_start c) (start_rises c) free room in
     record { new = found.0; follows = found.1; sound = found.2.sound; few = found.2.few }
 followed (edit.Dropped k) s can f sound reach room =
     let found = dissolves s can.sound f sound reach k can.possible room in
@@ -167,7 +175,7 @@ module _ (b a : Sketch) (a_sound : IsSoundSketch a) (f : Clusters) (sound : IsSo
       record { new = found.0; follows = owner_back b a c was led f found.0 found.1; sound = found.2.sound; few = found.2.few }
   followed_back (edit.Dropped k) (former.Constraint c) led =
       let free = free_number a a_sound f sound reach c.number (λ x x_in. none_dropped b a k c led x x_in) in
-      let found = started f sound (edge_of a c) (subst (λ j. IsFree f j) (sym (id_of a c)) free) room in
+      let found = started f sound (constraint_start c) (start_rises c) free room in
       record { new = found.0; follows = start_back b a k c led f found.0 found.1; sound = found.2.sound; few = found.2.few }
   followed_back (edit.Dropped k) was led = absurd led.former
   followed_back (edit.Length k len) was led = record { new = f; follows = refl; sound = sound; few = omega arith }

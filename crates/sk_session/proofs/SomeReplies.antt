@@ -17,7 +17,8 @@ use Rattle.sk_family.specs.Clusters.{Clusters, bodies, IsSound}
 use Rattle.sk_family.proofs.Soundness.{sound_replaced}
 use Rattle.sk_graph.specs.SketchGraph.{graph_of}
 use Rattle.sk_graph.proofs.Soundness.{graph_is_sound}
-use Rattle.sk_lex.specs.Words.{words_in}
+use Rattle.sk_lang.specs.declared.Version.TheVariants.{Two}
+use Rattle.sk_lang.specs.Comments.{words_under}
 use Rattle.sk_lang.specs.declared.Code.{Code}
 use Rattle.sk_lang.specs.declared.Code.TheVariants.{E3, E18, S3, S5}
 use Rattle.sk_lang.specs.declared.Entry.{Entry}
@@ -72,12 +73,12 @@ IsKept state = (done : List Done) × (edits_of done ≡ state.edits) × IsConsis
 
 -- what the laws of the language give
 pub record GivenByLanguage : Type 0 where
-  pub entry : (s : Sketch) (line : List ℕ) (elem : Elem) (con : ConId) → entry_code s line ≡ None → (x : Entry) × IsEntryOf s line elem con x
+  pub entry : (s : Sketch) (line : List ℕ) (elem : Elem) (con : ConId) → entry_code Two s line ≡ None → (x : Entry) × IsEntryOf Two s line elem con x
   pub stands_on : EachStandsOn
-  pub numbered : (s : Sketch) (line : List ℕ) (elem : Elem) (con : ConId) (x : Entry) → IsEntryOf s line elem con x → IsNumbered elem con x
+  pub numbered : (s : Sketch) (line : List ℕ) (elem : Elem) (con : ConId) (x : Entry) → IsEntryOf Two s line elem con x → IsNumbered elem con x
   pub grown : (s : Sketch) (line : List ℕ) (elem : Elem) (con : ConId) (x : Entry) → IsSoundSketch s
       → All (λ (e : Element). e.number.0 < elem.0) s.elements → All (λ (c : Constraint). c.number.0 < con.0) s.constraints
-      → entry_code s line ≡ None → IsEntryOf s line elem con x → IsSoundSketch (added s (Some x))
+      → entry_code Two s line ≡ None → IsEntryOf Two s line elem con x → IsSoundSketch (added s (Some x))
   pub quantities : SoundQuantities
 
 -- what the layers below give
@@ -246,6 +247,7 @@ gives_setting (Some (rule.On u v)) k word e before is = absurd (cc)
 gives_setting (Some (rule.Tangent u v)) k word e before is = absurd (cc)
 gives_setting (Some (rule.Outside u v)) k word e before is = absurd (cc)
 gives_setting (Some (rule.Inside u v)) k word e before is = absurd (cc)
+gives_setting (Some (rule.Block pins)) k word e before is = absurd (cc)
 gives_setting None k word e before is = absurd (cc)
 
 gives_change : (s : Sketch) (change : Changing) (rest : List (List ℕ)) (e : Edit) (before : List Edit) → edit_made s change rest ≡ Some e → Gives e before
@@ -335,17 +337,17 @@ module _ (below : GivenBelow) (old : State) (was : IsKept old) where
   constraints_above k d within = constraints_below old.edits (get_or (sketch_in old).constraints k d) (Contains-get_or (sketch_in old).constraints k d within)
 
   -- what a line says, by the laws of the language
-  stands : (line : List ℕ) (said : Entry) → IsEntryOf (sketch_in old) line (next_elem old) (next_con old) said → StandsOn line said
+  stands : (line : List ℕ) (said : Entry) → IsEntryOf Two (sketch_in old) line (next_elem old) (next_con old) said → StandsOn Two line said
   stands line said is = below.language.stands_on (sketch_in old) line (next_elem old) (next_con old) said is
 
-  number : (line : List ℕ) (said : Entry) → IsEntryOf (sketch_in old) line (next_elem old) (next_con old) said → IsNumbered (next_elem old) (next_con old) said
+  number : (line : List ℕ) (said : Entry) → IsEntryOf Two (sketch_in old) line (next_elem old) (next_con old) said → IsNumbered (next_elem old) (next_con old) said
   number line said is = below.language.numbered (sketch_in old) line (next_elem old) (next_con old) said is
 
-  grows : (line : List ℕ) (said : Entry) → entry_code (sketch_in old) line ≡ None → IsEntryOf (sketch_in old) line (next_elem old) (next_con old) said → IsSoundSketch (added (sketch_in old) (Some said))
+  grows : (line : List ℕ) (said : Entry) → entry_code Two (sketch_in old) line ≡ None → IsEntryOf Two (sketch_in old) line (next_elem old) (next_con old) said → IsSoundSketch (added (sketch_in old) (Some said))
   grows line said clean is = below.language.grown (sketch_in old) line (next_elem old) (next_con old) said sound elements_above constraints_above clean is
 
-  taken : (line : List ℕ) (said : Entry) → entry_code (sketch_in old) line ≡ None → IsEntryOf (sketch_in old) line (next_elem old) (next_con old) said → Begins (words_in line) true → (e : Edit) (this : Reply)
-      → ((answer : Reply) (new : State) → Stands old (Some e) this answer new → Enters old (words_in line) said answer new) → CanMake e (sketch_in old) → Gives e old.edits → HasReply line
+  taken : (line : List ℕ) (said : Entry) → entry_code Two (sketch_in old) line ≡ None → IsEntryOf Two (sketch_in old) line (next_elem old) (next_con old) said → Begins Two (words_under Two line) true → (e : Edit) (this : Reply)
+      → ((answer : Reply) (new : State) → Stands old (Some e) this answer new → Enters old (words_under Two line) said answer new) → CanMake e (sketch_in old) → Gives e old.edits → HasReply line
   taken line said clean is begins e this enters can given = told (is_spent old) refl
     where
       told : (b : Bool) → is_spent old ≡ b → HasReply line
@@ -365,14 +367,14 @@ module _ (below : GivenBelow) (old : State) (was : IsKept old) where
           })
 
   -- what an entry declares stands, unless the edits are spent
-  entered : (line : List ℕ) (said : Entry) → entry_code (sketch_in old) line ≡ None → IsEntryOf (sketch_in old) line (next_elem old) (next_con old) said → HasReply line
+  entered : (line : List ℕ) (said : Entry) → entry_code Two (sketch_in old) line ≡ None → IsEntryOf Two (sketch_in old) line (next_elem old) (next_con old) said → HasReply line
   entered line entry.Blank clean is = (
       let none = stands line entry.Blank is in
-      let code : code_in old line ≡ None = code_behind (byte_rows line ++ rows_of (sketch_in old) (words_in line)) (word_rows old (words_in line)) clean ∙ ap (λ ws. first_code (word_rows old ws)) none in
+      let code : code_in old line ≡ None = code_behind (byte_rows line ++ rows_of Two (sketch_in old) (words_under Two line)) (word_rows old (words_under Two line)) clean ∙ ap (λ ws. first_code (word_rows old ws)) none in
       record {
         answer = reply.Blank;
         new = old;
-        answers = subst (λ c. ByCode c old ((x : Entry) × IsEntryOf (sketch_in old) line (next_elem old) (next_con old) x × Enters old (words_in line) x reply.Blank old) reply.Blank old) (sym code) (entry.Blank, is, (refl, refl));
+        answers = subst (λ c. ByCode c old ((x : Entry) × IsEntryOf Two (sketch_in old) line (next_elem old) (next_con old) x × Enters old (words_under Two line) x reply.Blank old) reply.Blank old) (sym code) (entry.Blank, is, (refl, refl));
         kept = was;
       })
   entered line (entry.Element e) clean is =
@@ -389,8 +391,8 @@ module _ (below : GivenBelow) (old : State) (was : IsKept old) where
       record { answer = found.answer; new = found.new; answers = answers_command old line words clean is begins found.answer found.new found.obeys; kept = found.kept }
 
   pub some_reply : (line : List ℕ) → HasReply line
-  some_reply line = told (entry_code (sketch_in old) line) refl
+  some_reply line = told (entry_code Two (sketch_in old) line) refl
     where
-      told : (o : Option Code) → entry_code (sketch_in old) line ≡ o → HasReply line
+      told : (o : Option Code) → entry_code Two (sketch_in old) line ≡ o → HasReply line
       told (Some code) is = record { answer = reply.Refused code; new = old; answers = answers_refused old line code (reply.Refused code) is refl; kept = was }
       told None is = (let found = below.language.entry (sketch_in old) line (next_elem old) (next_con old) is in entered line found.0 is found.1)

@@ -4,6 +4,8 @@ use Rattle.sk_base.specs.declared.ConId.{ConId}
 use Rattle.sk_base.specs.declared.Elem.{Elem}
 use Rattle.sk_base.specs.declared.Element.{Element}
 use Rattle.sk_base.specs.declared.Sketch.{Sketch}
+use Rattle.sk_lang.specs.declared.Version.TheVariants.{Two}
+use Rattle.sk_lang.specs.Comments.{words_under}
 use Rattle.sk_lang.specs.declared.Code.{Code}
 use Rattle.sk_lang.specs.declared.Code.TheVariants.{E18}
 use Rattle.sk_lang.specs.declared.Entry.{Entry}
@@ -11,7 +13,6 @@ use Rattle.sk_lang.specs.declared.Entry.TheVariants as entry
 use Rattle.sk_lang.specs.Codes.{byte_rows, is_none_left}
 use Rattle.sk_lang.specs.Entry.{rows_of, IsEntryOf, StandsOn}
 use Rattle.sk_lang.specs.FirstCode.{first_code}
-use Rattle.sk_lex.specs.Words.{words_in}
 use Rattle.sk_session.specs.declared.command.Command.{Command}
 use Rattle.sk_session.specs.declared.command.Command.TheVariants.{Change, Undo, Check, Plan, Solve, Write, End}
 use Rattle.sk_session.specs.declared.edit.Edit.{Edit}
@@ -38,7 +39,7 @@ some_left (x ∷ xs) is = omega arith
 
 -- what lines say is told by their first words
 abbrev pub EachStandsOn : Type 0
-EachStandsOn = (s : Sketch) (line : List ℕ) (elem : Elem) (con : ConId) (x : Entry) → IsEntryOf s line elem con x → StandsOn line x
+EachStandsOn = (s : Sketch) (line : List ℕ) (elem : Elem) (con : ConId) (x : Entry) → IsEntryOf Two s line elem con x → StandsOn Two line x
 
 module _ (stands_on : EachStandsOn) (old new : State) where
   none_stands : (made : Option Edit) (this : Reply) → (reply.Solve ≡ this → ⊥) → ¬ Stands old made this reply.Solve new
@@ -65,22 +66,22 @@ module _ (stands_on : EachStandsOn) (old new : State) where
       told true is = absurd (cc)
       told false is = refl
 
-  some_by_entry : (line : List ℕ) (said : Entry) → IsEntryOf (sketch_in old) line (next_elem old) (next_con old) said → Enters old (words_in line) said reply.Solve new → code_in old line ≡ None → 0 < length (sketch_in new).elements
+  some_by_entry : (line : List ℕ) (said : Entry) → IsEntryOf Two (sketch_in old) line (next_elem old) (next_con old) said → Enters old (words_under Two line) said reply.Solve new → code_in old line ≡ None → 0 < length (sketch_in new).elements
   some_by_entry line entry.Blank says (is, same) clean = absurd (cc)
   some_by_entry line (entry.Element e) says enters clean = absurd (none_stands (Some (edit.Element e)) (reply.Declared e.number) (λ x. cc) enters)
   some_by_entry line (entry.Constraint c) says enters clean = absurd (none_stands (Some (edit.Constraint c)) (reply.Constrained c.number) (λ x. cc) enters)
   some_by_entry line (entry.Other words) says enters clean =
       let begins = (stands_on (sketch_in old) line (next_elem old) (next_con old) (entry.Other words) says).0 in
       let obeys = solve_obeys (command_of begins.first) begins.rest (subst (λ (ws : List (List ℕ)). ObeysWords old ws reply.Solve new) begins.words enters) in
-      let none = none_behind (byte_rows line ++ rows_of (sketch_in old) (words_in line)) (word_rows old (words_in line)) clean in
-      let some = some_by_rows (command_of begins.first) begins.rest obeys.0 (sym (code_of_command old (words_in line) begins) ∙ none) in
+      let none = none_behind (byte_rows line ++ rows_of Two (sketch_in old) (words_under Two line)) (word_rows old (words_under Two line)) clean in
+      let some = some_by_rows (command_of begins.first) begins.rest obeys.0 (sym (code_of_command old (words_under Two line) begins) ∙ none) in
       subst (λ (z : State). 0 < length (sketch_in z).elements) (sym obeys.1) some
 
   pub solve_has_some : (line : List ℕ) → Answers old line reply.Solve new → 0 < length (sketch_in new).elements
   solve_has_some line answers = told (code_in old line) refl answers
     where
       told : (o : Option Code) → code_in old line ≡ o
-          → ByCode o old ((said : Entry) × IsEntryOf (sketch_in old) line (next_elem old) (next_con old) said × Enters old (words_in line) said reply.Solve new) reply.Solve new
+          → ByCode o old ((said : Entry) × IsEntryOf Two (sketch_in old) line (next_elem old) (next_con old) said × Enters old (words_under Two line) said reply.Solve new) reply.Solve new
           → 0 < length (sketch_in new).elements
       told (Some code) here (is, same) = absurd (cc)
       told None here (said, says, enters) = some_by_entry line said says enters here

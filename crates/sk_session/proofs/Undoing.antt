@@ -1,6 +1,7 @@
 -- What undoing an edit finds in the sketch that it led to, and what it leaves.
 use Rattle.std.proofs.Common.{◌≡◌, ◌≢◌, ◌==◌, List, [], ◌∷◌, ◌++◌, refl, ap, sym, subst, ◌∙◌}
 use Rattle.std.specs.Prelude.{Contains, map, not}
+use Rattle.std.proofs.lemmas.List.Elements.{All-contains}
 use Rattle.sk_base.specs.declared.Elem.{Elem}
 use Rattle.sk_base.specs.declared.ConId.{ConId}
 use Rattle.sk_base.specs.declared.Um.{Um}
@@ -11,11 +12,11 @@ use Rattle.sk_base.specs.declared.Constraint.{Constraint}
 use Rattle.sk_base.specs.declared.Sketch.{Sketch}
 use Rattle.sk_base.specs.Rising.{IsRising}
 use Rattle.sk_base.specs.Numbering.{con_number, elem_number}
-use Rattle.sk_base.specs.SoundSketch.{IsSoundSketch}
+use Rattle.sk_base.specs.SoundSketch.{IsSoundSketch, IsSoundRule}
 use Rattle.sk_base.proofs.Members.{contains_mapped, filtered_from}
 use Rattle.sk_family.specs.Clusters.{Clusters}
 use Rattle.sk_family.specs.Starts.{HasStart}
-use Rattle.sk_graph.specs.SketchGraph.{edge_of, graph_of}
+use Rattle.sk_graph.specs.SketchGraph.{graph_of}
 use Rattle.sk_session.specs.declared.edit.Edit.{Edit}
 use Rattle.sk_session.specs.declared.edit.Edit.TheVariants as edit
 use Rattle.sk_session.specs.declared.edit.Former.{Former}
@@ -23,10 +24,11 @@ use Rattle.sk_session.specs.declared.edit.Former.TheVariants as former
 use Rattle.sk_session.specs.Changes.{HasItem, without, with_item}
 use Rattle.sk_session.specs.Edits.{applied, changed, with_length, with_ratio, element_number, constraint_number}
 use Rattle.sk_session.specs.Former.{LeadsTo}
-use Rattle.sk_session.specs.Making.{DissolvesOwner, FollowsBack}
+use Rattle.sk_session.specs.Making.{DissolvesOwner, FollowsBack, constraint_start}
 use Rattle.sk_session.proofs.Places.{put_back, last_taken}
 use Rattle.sk_base.proofs.Numbers.{passes_differ}
 use Rattle.sk_session.proofs.Setting.{set_back}
+use Rattle.sk_session.proofs.Drawing.{rule_alike, drawn_same}
 use Rattle.sk_session.proofs.Graphs.{all_but_new}
 use Rattle.sk_session.proofs.Following.{dissolved_in}
 
@@ -39,6 +41,10 @@ by_lists s t elements constraints =
 
 pub retold : (e d : Edit) (f h : Former) (b a : Sketch) → e ≡ d → f ≡ h → LeadsTo e f b a → LeadsTo d h b a
 retold e d f h b a e_is f_is led = subst (λ x. LeadsTo d x b a) f_is (subst (λ x. LeadsTo x f b a) e_is led)
+
+-- what the copy of a former constraint tells
+pub copied : (f : Former) (c copy : Constraint) → f ≡ former.Constraint c → copy ≡ c → f ≡ former.Constraint copy
+copied f c copy is same = is ∙ ap former.Constraint (sym same)
 
 module _ (b a : Sketch) where
   pub element_back : (x : Element) (f : Former) → LeadsTo (edit.Element x) f b a → (es : List Element) → es ≡ without element_number x.number.0 a.elements → record { elements = es; constraints = a.constraints } ≡ b
@@ -59,7 +65,13 @@ module _ (b a : Sketch) where
   pub owner_back : (c : Constraint) (f : Former) → LeadsTo (edit.Constraint c) f b a → (old new : Clusters) → DissolvesOwner (graph_of a) c.number old new → DissolvesOwner (graph_of b) c.number old new
   owner_back c f led old new dissolves =
       let (n, (d, owns)) = subst (λ (s : Sketch). DissolvesOwner (graph_of s) c.number old new) led.is dissolves in
-      (n, (dissolved_in (graph_of (applied (edit.Constraint c) b)) (graph_of b) n c.number old new (all_but_new b c led.can.possible.1) d, owns))
+      (n, (dissolved_in (graph_of (applied (edit.Constraint c) b)) (graph_of b) n c.number old new (all_but_new b c led.can) d, owns))
+
+  pub rule_back : (k : ConId) (c : Constraint) → LeadsTo (edit.Dropped k) (former.Constraint c) b a → IsSoundRule a c.rule
+  rule_back k c led =
+      let t : Sketch = applied (edit.Dropped k) b in
+      let was = All-contains (λ (x : Constraint). IsSoundRule b x.rule) b.constraints c led.can.sound.rules_sound led.former.0 in
+      subst (λ (s : Sketch). IsSoundRule s c.rule) (sym led.is) (rule_alike b t c.rule (drawn_same b t.constraints c.rule) was)
 
   pub none_dropped : (k : ConId) (c : Constraint) → LeadsTo (edit.Dropped k) (former.Constraint c) b a → (x : Constraint) → Contains a.constraints x → x.number.0 ≢ c.number.0
   none_dropped k c led x x_in same =
@@ -74,9 +86,9 @@ module _ (b a : Sketch) where
       by_lists t b (elements ∙ ap (λ (s : Sketch). s.elements) led.is)
       (put_back constraint_number c b.constraints t.constraints led.can.sound.constraints_rise rise led.former.0 (subst (λ ys. HasItem c ys t.constraints) taken put))
 
-  pub start_back : (k : ConId) (c : Constraint) → LeadsTo (edit.Dropped k) (former.Constraint c) b a → (old new : Clusters) → HasStart (edge_of a c) old new → FollowsBack (edit.Dropped k) b old new
+  pub start_back : (k : ConId) (c : Constraint) → LeadsTo (edit.Dropped k) (former.Constraint c) b a → (old new : Clusters) → HasStart (constraint_start c) old new → FollowsBack (edit.Dropped k) b old new
   start_back k c led old new has =
-      (c, led.former.0, led.former.1, subst (λ (s : Sketch). HasStart (edge_of s c) old new) led.is has)
+      (c, led.former.0, led.former.1, has)
 
   -- the constraint with a changed rule is there
   changed_in : (k : ConId) (change : Rule → Rule) (c : Constraint) → Contains b.constraints c → a.constraints ≡ map (changed k change) b.constraints → (x : Constraint) × Contains a.constraints x × (x.number.0 ≡ c.number.0)

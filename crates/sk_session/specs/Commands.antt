@@ -1,5 +1,5 @@
 -- The commands of a session, and the codes of their lines in order.
-use Rattle.std.specs.Prelude.{ℕ, Bool, true, false, ◌==◌, ◌||◌, nat_le, not, List, [], ◌∷◌, ◌++◌, Option, Some, None, Result, Ok, Err, is_none, is_some, unwrap_or, find, codes, bytes_eq, if◌then◌else◌}
+use Rattle.std.specs.Prelude.{ℕ, Bool, true, false, ◌==◌, nat_le, not, List, [], ◌∷◌, ◌++◌, Option, Some, None, Result, Ok, Err, is_none, is_some, unwrap_or, find, codes, bytes_eq, if◌then◌else◌}
 use Rattle.std.specs.List.{list_any}
 use Rattle.std.specs.Option.{option_map}
 use Rattle.sk_base.specs.declared.Elem.{Elem}
@@ -9,7 +9,8 @@ use Rattle.sk_base.specs.declared.Rule.{Rule}
 use Rattle.sk_base.specs.declared.Rule.TheVariants as rule
 use Rattle.sk_base.specs.declared.Sketch.{Sketch}
 use Rattle.sk_base.specs.Labels.{is_name}
-use Rattle.sk_lex.specs.Words.{words_in}
+use Rattle.sk_lang.specs.declared.Version.TheVariants.{Two}
+use Rattle.sk_lang.specs.Comments.{words_under}
 use Rattle.sk_lang.specs.declared.Code.{Code}
 use Rattle.sk_lang.specs.declared.Code.TheVariants.{E2, E3, E4, E6, E8, E9, E18, S1, S2, S3, S4, S5}
 use Rattle.sk_lang.specs.ClusterWords.{plain_number}
@@ -20,7 +21,8 @@ use Rattle.sk_lang.specs.FirstCode.{first_code}
 use Rattle.sk_lang.specs.Keywords.{keyword_of}
 use Rattle.sk_lang.specs.Named.{element_named, number_named}
 use Rattle.sk_lang.specs.Quantities.{length_of, ratio_of, um, ratio}
-use Rattle.sk_graph.specs.SketchGraph.{first_of, second_of}
+use Rattle.sk_base.specs.Numbering.{is_elem}
+use Rattle.sk_graph.specs.Naming.{named_by}
 use Rattle.sk_session.specs.declared.command.Command.{Command}
 use Rattle.sk_session.specs.declared.command.Command.TheVariants.{Change, Undo, Check, Plan, Solve, Write, End}
 use Rattle.sk_session.specs.declared.command.Change.{Change as Changing}
@@ -56,9 +58,9 @@ constraint_with s k = find (λ (c : Constraint). c.number.0 == k.0) s.constraint
 abbrev pub rule_with : Sketch → ConId → Option Rule
 rule_with s k = option_map (λ (c : Constraint). c.rule) (constraint_with s k)
 
--- whether a constraint uses the element
+-- whether a constraint names the element
 abbrev pub is_used : Sketch → Elem → Bool
-is_used s x = list_any (λ (c : Constraint). ((first_of c.rule).0 == x.0) || ((second_of c.rule).0 == x.0)) s.constraints
+is_used s x = list_any (λ (c : Constraint). is_elem (named_by c.rule) x) s.constraints
 
 -- the codes of a new value, by the rule that gets it
 abbrev pub value_rows : Option Rule → List ℕ → List (Bool × Code)
@@ -92,11 +94,11 @@ own_rows state false first rest = command_rows state (command_of first) rest
 
 abbrev pub word_rows : State → List (List ℕ) → List (Bool × Code)
 word_rows state [] = []
-word_rows state (first ∷ rest) = own_rows state (is_some (keyword_of first)) first rest
+word_rows state (first ∷ rest) = own_rows state (is_some (keyword_of Two first)) first rest
 
 -- the code of a line
 abbrev pub code_in : State → List ℕ → Option Code
-code_in state line = first_code ((byte_rows line ++ rows_of (sketch_in state) (words_in line)) ++ word_rows state (words_in line))
+code_in state line = first_code ((byte_rows line ++ rows_of Two (sketch_in state) (words_under Two line)) ++ word_rows state (words_under Two line))
 
 -- the edit of a change without a code
 abbrev pub setting : Option Rule → ConId → List ℕ → Option Edit

@@ -1,6 +1,7 @@
 pub mod Changes
 pub mod Edits
 pub mod Making
+pub mod Origins
 pub mod Former
 pub mod Standing
 pub mod State

@@ -2,7 +2,8 @@
 use Rattle.std.specs.Prelude.{◌≡◌, ◌≢◌, ◌⊎◌, ℕ, Bool, true, false, All, List, [], ◌∷◌, map, Option, Some, None}
 use Rattle.sk_base.specs.declared.Elem.{Elem}
 use Rattle.sk_base.specs.declared.ConId.{ConId}
-use Rattle.sk_lex.specs.Words.{words_in}
+use Rattle.sk_lang.specs.declared.Version.TheVariants.{Two}
+use Rattle.sk_lang.specs.Comments.{words_under}
 use Rattle.sk_lang.specs.declared.Code.{Code}
 use Rattle.sk_lang.specs.declared.Code.TheVariants.{S5}
 use Rattle.sk_lang.specs.declared.Entry.{Entry}
@@ -98,7 +99,7 @@ ByCode None old does answer new = does
 -- a line with a code is refused with it; else comes what it says
 abbrev pub Answers : State → List ℕ → Reply → State → Type 0
 Answers old line answer new =
-    ByCode (code_in old line) old ((said : Entry) × IsEntryOf (sketch_in old) line (next_elem old) (next_con old) said × Enters old (words_in line) said answer new) answer new
+    ByCode (code_in old line) old ((said : Entry) × IsEntryOf Two (sketch_in old) line (next_elem old) (next_con old) said × Enters old (words_under Two line) said answer new) answer new
 
 -- the line is the one word `check`
 abbrev pub IsCheckLine : List (List ℕ) → Type 0

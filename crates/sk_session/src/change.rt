@@ -9,46 +9,51 @@ ghost use Rattle.sk_family.specs.Body.{initial_bodies};
 ghost use Rattle.sk_family.specs.Clusters.{IsSound, IsNamed, bodies};
 ghost use Rattle.sk_family.specs.Starts.{HasStart};
 ghost use Rattle.sk_rules.specs.Reach.{Reach};
-ghost use Rattle.sk_graph.specs.SketchGraph.{edge_of, graph_of};
+ghost use Rattle.sk_graph.specs.SketchGraph.{graph_of};
 ghost use Rattle.sk_session.specs.Changes.{HasItem, without};
 ghost use Rattle.sk_session.specs.Edits.{applied, constraint_number, element_number, with_length, with_ratio};
 ghost use Rattle.sk_session.specs.Former.{IsFormer, LeadsTo};
-ghost use Rattle.sk_session.specs.Making.{CanMake, Follows, FollowsBack, DissolvesOwner, HasConstraint, IsReachedIn};
+ghost use Rattle.sk_session.specs.Making.{CanMake, Follows, FollowsBack, DissolvesOwner, HasConstraint, IsReachedIn, constraint_start};
 ghost use Rattle.sk_session.specs.declared.edit.Edit.TheVariants as an_edit;
 ghost use Rattle.sk_session.specs.declared.edit.Former.TheVariants as a_former;
 ghost use Rattle.sk_base.specs.declared.Element.{Element as AnElement};
 
 use crate::edit::{Edit, Former};
 use crate::numbered::{exchange, get, put, take};
-use sk_base::{ConId, Constraint, Element, Name, NoMemory, Ratio, Rule, Sketch, Um};
+use crate::origin::{adopt, origin_of};
+use sk_base::{
+    ConId, Constraint, Element, Name, NoMemory, Ratio, Rule, Sketch, Um, copy_constraint,
+};
 use sk_family::{Cluster, Family};
-use sk_graph::{edge, reduce};
+use sk_graph::reduce;
 use std::alloc::Global;
 
 /// Adds a constraint, and its starting cluster. After `NoMemory` both are unchanged.
 pub(crate) fn add_constraint(
+    alloc: Global,
     sketch: &mut Sketch,
     family: &mut Family,
-    constraint: Constraint,
+    constraint: &Constraint,
 ) -> Result<(), NoMemory>
     requires sound { IsSoundSketch sketch.old }
-    requires rule { IsSoundRule sketch.old constraint.rule }
-    requires other { (x : AConstraint) → Contains sketch.old.constraints x → x.number.0 ≢ constraint.number.0 }
+    requires rule { IsSoundRule sketch.old constraint.now.rule }
+    requires other { (x : AConstraint) → Contains sketch.old.constraints x → x.number.0 ≢ constraint.now.number.0 }
     requires reached { IsReachedIn sketch.old family.old }
     requires room { length family.old.live < 4294967295 }
     requires named { IsSound family.old }
     ensures elements { sketch.new.elements ≡ sketch.old.elements }
     ensures rise { OnOk result (IsRising constraint_number sketch.new.constraints) }
-    ensures put { OnOk result (HasItem constraint sketch.old.constraints sketch.new.constraints) }
-    ensures starts { OnOk result (HasStart (edge_of sketch.old constraint) family.old family.new) }
+    ensures put { OnOk result (HasItem constraint.now sketch.old.constraints sketch.new.constraints) }
+    ensures starts { OnOk result (HasStart (constraint_start constraint.now) family.old family.new) }
     ensures count { OnOk result (length family.new.live ≡ length family.old.live + 1) }
     ensures err { OnErr result (sketch.new ≡ sketch.old) }
     ensures family_err { OnErr result (family.new ≡ family.old) }
     ensures family_sound { IsSound family.new }
 {
-    let start = edge(sketch, &constraint);
-    put(&mut sketch.constraints, constraint)?;
-    match family.adopt(&start) {
+    let origin = origin_of(alloc, sketch, constraint)?;
+    let copy = copy_constraint(alloc, constraint)?;
+    put(&mut sketch.constraints, copy)?;
+    match adopt(family, &origin) {
         Ok(()) => Ok(()),
         Err(NoMemory) => {
             take(&mut sketch.constraints, constraint.number.0);
@@ -115,28 +120,42 @@ fn owns(cluster: &Cluster, number: ConId) -> bool
     cluster.owned.as_slice().contains(&number)
 }
 
-/// Gives a distance a new length, and answers the constraint as it was.
-fn set_length(sketch: &mut Sketch, number: ConId, len: Um) -> Constraint
+/// Gives a distance a new length, and answers the constraint as it was. After `NoMemory` the sketch is
+/// unchanged.
+fn set_length(
+    alloc: Global,
+    sketch: &mut Sketch,
+    number: ConId,
+    len: Um,
+) -> Result<Constraint, NoMemory>
     requires sound { IsSoundSketch sketch.old }
     requires some { HasConstraint sketch.old number }
-    ensures former { Contains sketch.old.constraints result × (result.number ≡ number) }
-    ensures ok { sketch.new ≡ applied (an_edit.Length number len) sketch.old }
+    ensures former { IfOk result (λ former. Contains sketch.old.constraints former × (former.number ≡ number)) }
+    ensures ok { OnOk result (sketch.new ≡ applied (an_edit.Length number len) sketch.old) }
+    ensures err { OnErr result (sketch.new ≡ sketch.old) }
 {
-    let old = get(sketch.constraints.as_slice(), number.0);
+    let old = copy_constraint(alloc, get(sketch.constraints.as_slice(), number.0))?;
     let rule = with_length(old.rule, len);
-    exchange(&mut sketch.constraints, Constraint { number, rule })
+    Ok(exchange(&mut sketch.constraints, Constraint { number, rule }))
 }
 
-/// Gives an angle a new ratio, and answers the constraint as it was.
-fn set_ratio(sketch: &mut Sketch, number: ConId, ratio: Ratio) -> Constraint
+/// Gives an angle a new ratio, and answers the constraint as it was. After `NoMemory` the sketch is
+/// unchanged.
+fn set_ratio(
+    alloc: Global,
+    sketch: &mut Sketch,
+    number: ConId,
+    ratio: Ratio,
+) -> Result<Constraint, NoMemory>
     requires sound { IsSoundSketch sketch.old }
     requires some { HasConstraint sketch.old number }
-    ensures former { Contains sketch.old.constraints result × (result.number ≡ number) }
-    ensures ok { sketch.new ≡ applied (an_edit.Turned number ratio) sketch.old }
+    ensures former { IfOk result (λ former. Contains sketch.old.constraints former × (former.number ≡ number)) }
+    ensures ok { OnOk result (sketch.new ≡ applied (an_edit.Turned number ratio) sketch.old) }
+    ensures err { OnErr result (sketch.new ≡ sketch.old) }
 {
-    let old = get(sketch.constraints.as_slice(), number.0);
+    let old = copy_constraint(alloc, get(sketch.constraints.as_slice(), number.0))?;
     let rule = with_ratio(old.rule, ratio);
-    exchange(&mut sketch.constraints, Constraint { number, rule })
+    Ok(exchange(&mut sketch.constraints, Constraint { number, rule }))
 }
 
 fn with_length(rule: Rule, len: Um) -> Rule
@@ -177,21 +196,27 @@ pub(crate) fn change(
     ensures family_err { OnErr result (family.new ≡ family.old) }
     ensures family_sound { IsSound family.new }
 {
-    match *edit {
+    match edit {
         Edit::Element(element) => {
-            put(&mut sketch.elements, element)?;
+            put(&mut sketch.elements, *element)?;
             Ok(Former::Nothing)
         }
         Edit::Constraint(constraint) => {
-            add_constraint(sketch, family, constraint)?;
+            add_constraint(alloc, sketch, family, constraint)?;
             Ok(Former::Nothing)
         }
         Edit::Dropped(number) => {
-            let constraint = remove_constraint(alloc, sketch, family, number)?;
+            let constraint = remove_constraint(alloc, sketch, family, *number)?;
             Ok(Former::Constraint(constraint))
         }
-        Edit::Length(number, len) => Ok(Former::Constraint(set_length(sketch, number, len))),
-        Edit::Turned(number, ratio) => Ok(Former::Constraint(set_ratio(sketch, number, ratio))),
+        Edit::Length(number, len) => {
+            let constraint = set_length(alloc, sketch, *number, *len)?;
+            Ok(Former::Constraint(constraint))
+        }
+        Edit::Turned(number, ratio) => {
+            let constraint = set_ratio(alloc, sketch, *number, *ratio)?;
+            Ok(Former::Constraint(constraint))
+        }
         Edit::Erased(number) => Ok(Former::Element(take(&mut sketch.elements, number.0))),
     }
 }
@@ -215,30 +240,28 @@ pub(crate) fn change_back(
     ensures family_err { OnErr result (family.new ≡ family.old) }
     ensures family_sound { IsSound family.new }
 {
-    match *edit {
+    match edit {
         Edit::Element(element) => {
             take(&mut sketch.elements, element.number.0);
         }
         Edit::Constraint(constraint) => {
             remove_constraint(alloc, sketch, family, constraint.number)?;
         }
-        Edit::Dropped(_) => add_constraint(sketch, family, constraint_in(former))?,
-        Edit::Length(_, _) => {
-            exchange(&mut sketch.constraints, constraint_in(former));
-        }
-        Edit::Turned(_, _) => {
-            exchange(&mut sketch.constraints, constraint_in(former));
+        Edit::Dropped(_) => add_constraint(alloc, sketch, family, constraint_in(former))?,
+        Edit::Length(_, _) | Edit::Turned(_, _) => {
+            let constraint = copy_constraint(alloc, constraint_in(former))?;
+            exchange(&mut sketch.constraints, constraint);
         }
         Edit::Erased(_) => put(&mut sketch.elements, element_in(former))?,
     }
     Ok(())
 }
 
-fn constraint_in(former: &Former) -> Constraint
+fn constraint_in(former: &Former) -> &Constraint
     requires { (c : AConstraint) × (former.now ≡ a_former.Constraint c) }
-    ensures { former.now ≡ a_former.Constraint result }
+    ensures { former.now ≡ a_former.Constraint result.now }
 {
-    match *former {
+    match former {
         Former::Constraint(constraint) => constraint,
         Former::Nothing | Former::Element(_) => unreachable!(),
     }
@@ -248,8 +271,8 @@ fn element_in(former: &Former) -> Element
     requires { (e : AnElement) × (former.now ≡ a_former.Element e) }
     ensures { former.now ≡ a_former.Element result }
 {
-    match *former {
-        Former::Element(element) => element,
+    match former {
+        Former::Element(element) => *element,
         Former::Nothing | Former::Constraint(_) => unreachable!(),
     }
 }

@@ -2,7 +2,7 @@ use sk_base::{ConId, Constraint, Elem, Element, Ratio, Um};
 
 /// One accepted edit: an element line, a constraint line, a drop of a constraint, a new length of a
 /// distance, a new ratio of an angle, or an erasure of an element.
-#[derive(Clone, Copy, Debug, PartialEq, Eq)]
+#[derive(Drop)]
 pub enum Edit {
     Element(Element),
     Constraint(Constraint),
@@ -13,7 +13,7 @@ pub enum Edit {
 }
 
 /// What an edit took away or changed, as it stood before.
-#[derive(Clone, Copy, Debug, PartialEq, Eq)]
+#[derive(Drop)]
 pub(crate) enum Former {
     Nothing,
     Element(Element),
@@ -21,7 +21,7 @@ pub(crate) enum Former {
 }
 
 /// An edit that stands, with what undoing it puts back.
-#[derive(Clone, Copy, Debug, PartialEq, Eq)]
+#[derive(Drop)]
 pub(crate) struct Done {
     pub(crate) edit: Edit,
     pub(crate) former: Former,

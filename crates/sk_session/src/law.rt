@@ -1,5 +1,5 @@
 // Laws of edits.
-ghost use Rattle.std.specs.Prelude.{◌≡◌, ◌<◌, ◌↔◌, ℕ, List, Some, length};
+ghost use Rattle.std.specs.Prelude.{◌≡◌, ◌<◌, ◌↔◌, ℕ, List, Some, length, map};
 ghost use Rattle.sk_lang.specs.declared.Code.{Code};
 ghost use Rattle.sk_session.specs.declared.reply.Reply.{Reply as AReply};
 ghost use Rattle.sk_session.specs.declared.reply.Reply.TheVariants as a_reply;
@@ -12,14 +12,14 @@ ghost use Rattle.sk_base.specs.declared.Elem.{Elem};
 ghost use Rattle.sk_base.specs.declared.Um.{Um};
 ghost use Rattle.sk_base.specs.declared.Ratio.{Ratio};
 ghost use Rattle.sk_base.specs.SoundSketch.{IsSoundSketch, IsLength, IsSoundRatio};
-ghost use Rattle.sk_family.specs.Body.{initial_bodies};
+ghost use Rattle.sk_family.specs.Body.{starts, initial_bodies};
 ghost use Rattle.sk_family.specs.Clusters.{Clusters, IsSound, bodies};
 ghost use Rattle.sk_rules.specs.Reach.{Reach};
 ghost use Rattle.sk_graph.specs.SketchGraph.{graph_of};
 ghost use Rattle.sk_session.specs.declared.edit.Edit.{Edit as AnEdit};
 ghost use Rattle.sk_session.specs.declared.edit.Edit.TheVariants as an_edit;
 ghost use Rattle.sk_session.specs.Edits.{applied};
-ghost use Rattle.sk_session.specs.Making.{CanMake, IsUnused, Follows, FollowsBack};
+ghost use Rattle.sk_session.specs.Making.{CanMake, IsUnused, Follows, FollowsBack, constraint_start};
 
 use sk_lang::{one_entry, what_a_line_says};
 use sk_plan::one_plan;
@@ -32,6 +32,11 @@ pub fn stays_sound()
     ensures length { (s : Sketch) (k : ConId) (len : Um) → IsLength len → IsSoundSketch s → IsSoundSketch (applied (an_edit.Length k len) s) }
     ensures turned { (s : Sketch) (k : ConId) (ratio : Ratio) → IsSoundRatio ratio → IsSoundSketch s → IsSoundSketch (applied (an_edit.Turned k ratio) s) }
     ensures erased { (s : Sketch) (x : Elem) → IsUnused s x → IsSoundSketch s → IsSoundSketch (applied (an_edit.Erased x) s) }
+{}
+
+/// The constraints of a sound sketch's graph start as those of the sketch do, in their order.
+pub fn starts_as_named()
+    ensures { (s : Sketch) → IsSoundSketch s → starts (graph_of s) ≡ map constraint_start s.constraints }
 {}
 
 /// The kept family follows each edit, and its undoing, and is then one that merges of the initial

@@ -7,11 +7,14 @@ mod edit;
 mod law;
 mod lines;
 mod numbered;
+mod origin;
 mod reading;
 mod reply;
 mod session;
 
 pub use edit::Edit;
-pub use law::{kept_along, one_reply, refused_exactly, some_to_solve, stays_sound};
+pub use law::{
+    kept_along, one_reply, refused_exactly, some_to_solve, starts_as_named, stays_sound,
+};
 pub use reply::Reply;
 pub use session::Session;

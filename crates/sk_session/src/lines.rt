@@ -2,7 +2,9 @@
 ghost use Rattle.std.specs.Prelude.{◌≡◌, ◌⊎◌, ◌<◌, [], ◌∷◌, length, map, drop, not, if◌then◌else◌, true, false, None, Some, IfOk, OnErr, is_some};
 ghost use Rattle.std.specs.List.{slice_index_or};
 ghost use Rattle.sk_base.specs.SoundSketch.{IsSoundSketch};
-ghost use Rattle.sk_lex.specs.Words.{words_in, bytes_of, StandInOrder};
+ghost use Rattle.sk_lex.specs.Words.{bytes_of, StandInOrder};
+ghost use Rattle.sk_lang.specs.declared.Version.TheVariants.{Two};
+ghost use Rattle.sk_lang.specs.Comments.{words_under};
 ghost use Rattle.sk_lang.specs.Keywords.{keyword_of};
 ghost use Rattle.sk_lang.specs.Entry.{entry_code, IsEntryOf, StandsOn, IsNumbered};
 ghost use Rattle.sk_lang.specs.Meaning.{added};
@@ -27,7 +29,7 @@ use crate::reading::read_change;
 use crate::reply::Reply;
 use crate::session::Session;
 use sk_base::{ConId, Constraint, Elem, Element, NoMemory};
-use sk_lang::{Code, Entry, EntryError, read_entry, word};
+use sk_lang::{Code, Entry, EntryError, Version, read_entry, word};
 use sk_lex::Word;
 
 /// The most edits and undos that a session accepts.
@@ -182,14 +184,14 @@ impl Session {
 
     /// Does what a line without a code of its own says.
     fn enter(&mut self, line: &[u8], entry: Entry) -> Result<Reply, NoMemory>
-        requires clean { entry_code (sketch_in self.old) line.now ≡ None }
-        requires entry { IsEntryOf (sketch_in self.old) line.now (next_elem self.old) (next_con self.old) entry }
-        requires stands_on { StandsOn line.now entry }
+        requires clean { entry_code Two (sketch_in self.old) line.now ≡ None }
+        requires entry { IsEntryOf Two (sketch_in self.old) line.now (next_elem self.old) (next_con self.old) entry }
+        requires stands_on { StandsOn Two line.now entry }
         requires numbered { IsNumbered (next_elem self.old) (next_con self.old) entry }
         requires was_sound { IsSoundSketch (sketch_in self.old) }
         requires sound { IsSoundSketch (added (sketch_in self.old) (Some entry)) }
         ensures ok { IfOk result (λ said. Answers self.old line.now said self.new) }
-        ensures err { OnErr result (IsHalted self.old (words_in line.now) self.new) }
+        ensures err { OnErr result (IsHalted self.old (words_under Two line.now) self.new) }
     {
         match entry {
             Entry::Blank => Ok(Reply::Blank),
@@ -199,14 +201,14 @@ impl Session {
         }
     }
 
-    /// Does one command. The line comes without its line end.
+    /// Does one command. The line is one of version 2, and comes without its line end.
     pub fn command(&mut self, line: &[u8]) -> Result<Reply, NoMemory>
         ensures answer { IfOk result (λ said. Answers self.old line.now said self.new) }
-        ensures err { OnErr result (IsHalted self.old (words_in line.now) self.new) }
+        ensures err { OnErr result (IsHalted self.old (words_under Two line.now) self.new) }
     {
         let elem = Elem(self.next_elem());
         let con = ConId(self.next_con());
-        match read_entry(self.alloc(), self.sketch(), line, elem, con) {
+        match read_entry(self.alloc(), Version::Two, self.sketch(), line, elem, con) {
             Ok(entry) => self.enter(line, entry),
             Err(error) => refusal(error),
         }

@@ -6,17 +6,17 @@ ghost use Rattle.sk_session.specs.Changes.{HasItem, without, with_item};
 use sk_base::{Constraint, Element, List, NoMemory};
 
 /// What has a number of its own.
-pub(crate) trait HasNumber: Copy {
+pub(crate) trait HasNumber: Drop {
     ghost number: { Self → ℕ };
 
-    fn number(self) -> u32
-        ensures { result ≡ number self };
+    fn number(&self) -> u32
+        ensures { result ≡ number self.now };
 }
 
 impl HasNumber for Element {
     ghost number = { λ e. e.number.0 };
 
-    fn number(self) -> u32 {
+    fn number(&self) -> u32 {
         self.number.0
     }
 }
@@ -24,7 +24,7 @@ impl HasNumber for Element {
 impl HasNumber for Constraint {
     ghost number = { λ c. c.number.0 };
 
-    fn number(self) -> u32 {
+    fn number(&self) -> u32 {
         self.number.0
     }
 }
@@ -74,12 +74,12 @@ pub(crate) fn exchange<T: HasNumber>(items: &mut List<T>, item: T) -> T
 }
 
 /// The item of the number.
-pub(crate) fn get<T: HasNumber>(items: &[T], number: u32) -> T
+pub(crate) fn get<T: HasNumber>(items: &[T], number: u32) -> &T
     requires rise { IsRising T.number items.now }
     requires some { (x : T) × Contains items.now x × (T.number x ≡ number) }
-    ensures { Contains items.now result × (T.number result ≡ number) }
+    ensures { Contains items.now result.now × (T.number result.now ≡ number) }
 {
-    items[place_of(items, number)]
+    &items[place_of(items, number)]
 }
 
 /// The item of the number, if there is one.

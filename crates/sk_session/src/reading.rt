@@ -1,18 +1,21 @@
 // Lines that drop, set or erase.
-ghost use Rattle.std.specs.Prelude.{◌≡◌, ◌==◌, ◌||◌, ◌<◌, ◌≤◌, [], ◌∷◌, length, map, drop, find, true, false, Some, None, Ok, Err, is_none, MatchResult, IfOk, IfErr, option_copied};
+ghost use Rattle.std.specs.Prelude.{◌≡◌, ◌==◌, ◌<◌, ◌≤◌, [], ◌∷◌, length, map, drop, find, true, false, Some, None, Ok, Err, is_none, MatchResult, IfOk, IfErr, option_copied};
 ghost use Rattle.sk_base.specs.declared.Constraint.{Constraint as AConstraint};
 ghost use Rattle.sk_base.specs.Rising.{IsRising};
 ghost use Rattle.sk_lex.specs.Words.{bytes_of, StandInOrder};
 ghost use Rattle.sk_lang.specs.FirstCode.{first_code};
 ghost use Rattle.sk_lang.specs.Named.{element_named};
 ghost use Rattle.std.specs.Option.{option_map};
+ghost use Rattle.std.specs.List.{list_any};
 ghost use Rattle.sk_lang.specs.Conditions.{is_zero};
 ghost use Rattle.sk_lang.specs.Quantities.{length_of, ratio_of, um, ratio};
 ghost use Rattle.sk_lang.specs.declared.Code.TheVariants.{E6, E8, E9, S1, S2};
 ghost use Rattle.sk_session.specs.declared.edit.Edit.TheVariants as an_edit;
 ghost use Rattle.sk_session.specs.declared.command.Change.TheVariants as a_change;
 ghost use Rattle.sk_base.specs.declared.Element.{Element as AnElement};
-ghost use Rattle.sk_graph.specs.SketchGraph.{first_of, second_of};
+ghost use Rattle.sk_base.specs.declared.Pin.{Pin as APin};
+ghost use Rattle.sk_base.specs.Numbering.{is_elem};
+ghost use Rattle.sk_graph.specs.Naming.{named_by};
 ghost use Rattle.sk_session.specs.Commands.{value_rows, setting, from_made, number_of, constraint_with, is_used, change_rows, edit_made};
 ghost use Rattle.sk_session.specs.Edits.{constraint_number};
 ghost use Rattle.sk_session.specs.Making.{HasSoundValue};
@@ -20,7 +23,7 @@ ghost use Rattle.sk_session.specs.Making.{HasSoundValue};
 use crate::command::Change;
 use crate::edit::Edit;
 use crate::numbered::item_of;
-use sk_base::{ConId, Constraint, Elem, Element, Label, Rule, Sketch};
+use sk_base::{ConId, Constraint, Elem, Element, Label, Pin, Rule, Sketch};
 use sk_lang::{Code, label, length, not_zero, plain_number, slope, word};
 use sk_lex::Word;
 
@@ -35,12 +38,12 @@ fn number_of(word: &[u8]) -> Result<ConId, Code>
 }
 
 /// The constraint of that number.
-fn numbered(sketch: &Sketch, number: ConId) -> Result<Constraint, Code>
+fn numbered(sketch: &Sketch, number: ConId) -> Result<&Constraint, Code>
     requires { IsRising constraint_number sketch.now.constraints }
-    ensures { MatchResult result (λ c. constraint_with sketch.now number ≡ Some c) (λ code. (constraint_with sketch.now number ≡ None) × (code ≡ S1)) }
+    ensures { MatchResult result (λ c. constraint_with sketch.now number ≡ Some c.now) (λ code. (constraint_with sketch.now number ≡ None) × (code ≡ S1)) }
 {
     match find_numbered(sketch, number) {
-        Some(constraint) => Ok(*constraint),
+        Some(constraint) => Ok(constraint),
         None => Err(Code::S1),
     }
 }
@@ -72,7 +75,7 @@ fn find_named(sketch: &Sketch, name: Label) -> Option<&Element>
         .find(|element| name.as_bytes() == element.label.as_bytes())
 }
 
-/// Whether a constraint uses the element.
+/// Whether a constraint names the element.
 fn is_used(sketch: &Sketch, elem: Elem) -> bool
     ensures { result ≡ is_used sketch.now elem }
 {
@@ -80,20 +83,28 @@ fn is_used(sketch: &Sketch, elem: Elem) -> bool
         .constraints
         .as_slice()
         .iter()
-        .any(|constraint| uses(constraint, elem))
+        .any(|constraint| names(&constraint.rule, elem))
 }
 
-fn uses(constraint: &Constraint, elem: Elem) -> bool
-    ensures { result ≡ ((first_of constraint.now.rule).0 == elem.0) || ((second_of constraint.now.rule).0 == elem.0) }
+fn names(rule: &Rule, elem: Elem) -> bool
+    ensures { result ≡ is_elem (named_by rule.now) elem }
 {
-    match constraint.rule {
+    match *rule {
         Rule::Distance { u, v, .. }
         | Rule::On { u, v }
         | Rule::Tangent { u, v }
         | Rule::Outside { u, v }
-        | Rule::Inside { u, v } => u.0 == elem.0 || v.0 == elem.0,
-        Rule::Angle { l, m, .. } => l.0 == elem.0 || m.0 == elem.0,
+        | Rule::Inside { u, v } => elem.is_among(&[u, v]),
+        Rule::Angle { l, m, .. } => elem.is_among(&[l, m]),
+        Rule::Block { ref pins } => is_pinned(pins.as_slice(), elem),
     }
+}
+
+/// Whether one of the pins is at the element.
+fn is_pinned(pins: &[Pin], elem: Elem) -> bool
+    ensures { result ≡ list_any (λ (pin : APin). pin.elem.0 == elem.0) pins.now }
+{
+    pins.iter().any(|pin| pin.elem.0 == elem.0)
 }
 
 /// The drop that a line says, by the word behind the first.
@@ -115,20 +126,22 @@ fn read_set(sketch: &Sketch, number: &[u8], value: &[u8]) -> Result<Edit, Code>
 {
     let number = number_of(number)?;
     let constraint = numbered(sketch, number)?;
-    set_value(constraint.rule, number, value)
+    set_value(&constraint.rule, number, value)
 }
 
 /// The new value that a rule gets.
-fn set_value(rule: Rule, number: ConId, value: &[u8]) -> Result<Edit, Code>
-    ensures made { result ≡ from_made (first_code (value_rows (Some rule) value.now)) (setting (Some rule) number value.now) }
+fn set_value(rule: &Rule, number: ConId, value: &[u8]) -> Result<Edit, Code>
+    ensures made { result ≡ from_made (first_code (value_rows (Some rule.now) value.now)) (setting (Some rule.now) number value.now) }
     ensures value { IfOk result HasSoundValue }
 {
     match rule {
         Rule::Distance { .. } => new_length(number, value),
         Rule::Angle { .. } => new_ratio(number, value),
-        Rule::On { .. } | Rule::Tangent { .. } | Rule::Outside { .. } | Rule::Inside { .. } => {
-            Err(Code::S4)
-        }
+        Rule::On { .. }
+        | Rule::Tangent { .. }
+        | Rule::Outside { .. }
+        | Rule::Inside { .. }
+        | Rule::Block { .. } => Err(Code::S4),
     }
 }
 

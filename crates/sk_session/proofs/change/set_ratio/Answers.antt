@@ -1,4 +1,4 @@
-use Rattle.std.proofs.Common.{◌≡◌, ap, subst, ◌∙◌, List}
+use Rattle.std.proofs.Common.{◌≡◌, ap, sym, subst, ◌∙◌, List}
 use Rattle.std.specs.Prelude.{Contains, map}
 use Rattle.sk_base.specs.declared.Constraint.{Constraint}
 use Rattle.sk_base.specs.declared.Rule.{Rule}
@@ -12,9 +12,10 @@ pub returns-clause-ok : goal.returns-clause-ok
 returns-clause-ok c =
     let cs = c.args.sketch.now.constraints in
     let k = c.args.number in
-    let old = c.get-old.result in
-    let old_in : Contains cs old = subst (λ (xs : List Constraint). Contains xs old) c.as_slice.ensures c.get-old.ensures.0 in
-    let is = con_exact old.number k c.get-old.ensures.1 in
+    let old = c.in_ok-old.old in
+    let there : Contains cs c.get.result.now = subst (λ (xs : List Constraint). Contains xs c.get.result.now) c.as_slice.ensures c.get.ensures.0 in
+    let old_in : Contains cs old = subst (λ (x : Constraint). Contains cs x) (sym c.in_ok-old.ensures) there in
+    let is = con_exact old.number k (ap constraint_number c.in_ok-old.ensures ∙ c.get.ensures.1) in
     let made : c.exchange.new.items ≡ map (changed k (with_ratio c.args.ratio)) cs =
     c.exchange.ensures.new
     ∙ ap (λ (r : Rule). with_item constraint_number (record { number = k; rule = r }) cs) c.with_ratio-rule.ensures

@@ -33,4 +33,4 @@ set_told s number value k c is found =
 pub returns-clause-made : goal.returns-clause-made
 returns-clause-made c =
     c.set_value.ensures.made
-    ∙ set_told c.args.sketch.now c.args.number.now c.args.value.now c.in_ok-number.number c.in_ok-constraint.constraint c.in_ok-number.ensures c.in_ok-constraint.ensures
+    ∙ set_told c.args.sketch.now c.args.number.now c.args.value.now c.in_ok-number.number c.in_ok-constraint.constraint.now c.in_ok-number.ensures c.in_ok-constraint.ensures

@@ -1,4 +1,5 @@
 use Rattle.std.proofs.Common.{◌≡◌, ◌∷◌, [], Ok, Err, map, drop, refl, sym, subst}
+use Rattle.std.proofs.lemmas.Result.{IfOk-weaker}
 use Rattle.sk_base.specs.declared.Sketch.{Sketch}
 use Rattle.sk_base.specs.SoundSketch.{IsSoundSketch}
 use Rattle.sk_lex.specs.Words.{bytes_of}
@@ -10,7 +11,7 @@ use Rattle.sk_session.specs.Commands.{change_rows, edit_made, from_made, is_spen
 use Rattle.sk_session.specs.Making.{CanMake, HasSoundValue}
 use Rattle.sk_session.specs.State.{sketch_in}
 use Rattle.sk_session.specs.Replies.{Stands, ByCode}
-use Rattle.sk_session.proofs.Coding.{if_ok, code_front, takes_by_code}
+use Rattle.sk_session.proofs.Coding.{code_front, takes_by_code}
 use Rattle.sk_session.proofs.Possible.{can_change, from_ok, from_err}
 use Rattle.sk_session.proofs.session.Session.alter.Goals as goal
 
@@ -44,5 +45,5 @@ returns-in-Ok-clause-ok c =
     let is : Ok c.in-Ok.edit ≡ from_made (first_code (change_rows s c.args.change rest)) (edit_made s c.args.change rest) =
     subst (λ (t : Sketch). Ok c.in-Ok.edit ≡ from_made (first_code (change_rows t c.args.change rest)) (edit_made t c.args.change rest)) c.sketch.ensures.sketch c.in-Ok.ensures.made in
     let told = from_ok (first_code (change_rows s c.args.change rest)) (edit_made s c.args.change rest) c.in-Ok.edit is in
-    if_ok c.accept.result c.accept.ensures.ok (λ said takes.
-    takes_by_code (change_rows s c.args.change rest) (is_spent c.args.self.now) (edit_made s c.args.change rest) c.args.self.now c.in-Ok.edit reply.Done said c.accept.new.self told.0 told.1 takes)
+    IfOk-weaker c.accept.result _ _ (λ said takes.
+    takes_by_code (change_rows s c.args.change rest) (is_spent c.args.self.now) (edit_made s c.args.change rest) c.args.self.now c.in-Ok.edit reply.Done said c.accept.new.self told.0 told.1 takes) c.accept.ensures.ok

@@ -1,13 +1,15 @@
 use Rattle.std.proofs.Common.{◌≡◌, ◌<◌, Some, get_or, sym, subst, arith}
 use Rattle.std.specs.Prelude.{All}
 use Rattle.std.proofs.lemmas.List.Elements.{Contains-get_or}
+use Rattle.std.proofs.lemmas.Result.{IfOk-weaker}
 use Rattle.sk_base.specs.declared.Element.{Element}
 use Rattle.sk_base.specs.declared.Constraint.{Constraint}
 use Rattle.sk_base.specs.declared.Sketch.{Sketch}
+use Rattle.sk_lang.specs.declared.Version.TheVariants.{Two}
 use Rattle.sk_lang.specs.declared.EntryError.{EntryError}
 use Rattle.sk_lang.specs.Entry.{entry_code, IsRefusal}
 use Rattle.sk_session.specs.State.{sketch_in}
-use Rattle.sk_session.proofs.Coding.{if_ok, answers_refused}
+use Rattle.sk_session.proofs.Coding.{answers_refused}
 use Rattle.sk_session.proofs.Numbers.{elements_below, constraints_below}
 use Rattle.sk_session.proofs.session.Session.command.Goals as goal
 
@@ -30,9 +32,9 @@ returns-in-Err-clause-answer c =
     let old = c.args.self.now in
     let line = c.args.line.now in
     let s = sketch_in old in
-    let refused : IsRefusal (entry_code s line) c.in-Err.error =
-    subst (λ (t : Sketch). IsRefusal (entry_code t line) c.in-Err.error) c.sketch.ensures.sketch c.in-Err.ensures.refused in
-    if_ok c.refusal.result c.refusal.ensures (λ said told.
+    let refused : IsRefusal (entry_code Two s line) c.in-Err.error =
+    subst (λ (t : Sketch). IsRefusal (entry_code Two t line) c.in-Err.error) c.sketch.ensures.sketch c.in-Err.ensures.refused in
+    IfOk-weaker c.refusal.result _ _ (λ said told.
     let (code, error_is, said_is) = told in
-    let is : entry_code s line ≡ Some code = subst (λ (e : EntryError). IsRefusal (entry_code s line) e) error_is refused in
-    answers_refused old line code said is said_is)
+    let is : entry_code Two s line ≡ Some code = subst (λ (e : EntryError). IsRefusal (entry_code Two s line) e) error_is refused in
+    answers_refused old line code said is said_is) c.refusal.ensures
