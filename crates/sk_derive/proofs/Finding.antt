@@ -1,14 +1,30 @@
 -- What the walks to the merges by the tie rule find.
-use Rattle.std.proofs.Common.{◌≡◌, inl, inr, ℕ, ◌+◌, ◌<◌, ◌≤◌, List, [], ◌∷◌, ◌++◌, refl, ap, sym, subst, ◌∙◌, arith, take, length, get_or}
-use Rattle.std.specs.Prelude.{◌↔◌, Contains, AllPairs}
-use Rattle.std.proofs.lemmas.List.Elements.{Contains-push_cases, Contains-push, Contains-append_left}
+use Rattle.std.proofs.Common.{◌≡◌, inl, inr, ℕ, Bool, ◌+◌, ◌<◌, ◌≤◌, List, [], ◌∷◌, ◌++◌, refl, ap, sym, subst, ◌∙◌, arith, take, length, get_or}
+use Rattle.std.specs.Prelude.{◌↔◌, Contains, AllPairs, IsTrue}
+use Rattle.std.specs.List.{HoldsAt}
+use Rattle.std.specs.List.Sorted.{IsNonDecreasingBy, IsPartitionPoint}
+use Rattle.std.specs.Ordering.{nat_cmp, ordering_index}
+use Rattle.std.specs.declared.cmp.Ordering.TheVariants.{Less, Equal, Greater}
+use Rattle.std.proofs.lemmas.List.Elements.{Contains-get_or}
 use Rattle.sk_base.specs.declared.Elem.{Elem}
+use Rattle.sk_base.specs.declared.Name.{Name}
+use Rattle.sk_base.specs.declared.Kind.TheVariants.{Point}
+use Rattle.sk_base.specs.declared.Kind.{Kind}
+use Rattle.sk_base.specs.declared.Node.{Node}
+use Rattle.sk_base.specs.Numbering.{elem_exact}
+use Rattle.sk_base.specs.Rising.{IsRising}
+use Rattle.sk_base.specs.SoundGraph.{HasNode, HasRisingNodes}
+use Rattle.sk_base.proofs.Halves.{number_found, none_missed}
+use Rattle.sk_base.proofs.Members.{contains_none}
+use Rattle.sk_family.proofs.Naming.{one_of_name}
+use Rattle.sk_worklist.specs.Gather.{GrowsBy, FromSome, HoldsSome}
+use Rattle.sk_worklist.proofs.Growing.{grows_none, grows_one, grows_same, grows_step}
 use Rattle.sk_base.specs.declared.Graph.{Graph}
 use Rattle.sk_base.specs.ClusterNames.{IsBelow}
-use Rattle.sk_base.proofs.Pairs.{pairs_push}
+use Rattle.sk_base.proofs.Pairs.{pairs_push, pairs_tell}
 use Rattle.sk_family.specs.declared.Cluster.{Cluster}
 use Rattle.sk_family.specs.Body.{Body}
-use Rattle.sk_family.specs.Clusters.{Clusters, bodies, ByName, IsSound}
+use Rattle.sk_family.specs.Clusters.{Clusters, ByName, IsSound}
 use Rattle.sk_rules.specs.declared.Merge.{Merge}
 use Rattle.sk_rules.specs.declared.Merge.TheVariants.{Two, Three}
 use Rattle.sk_worklist.specs.Choices.{ComesFirst}
@@ -16,7 +32,7 @@ use Rattle.sk_worklist.proofs.Fronts.{front_more, front_all, front_before}
 use Rattle.sk_derive.specs.Ties.{AreTied, itself, further, HaveTiedLines}
 use Rattle.sk_derive.specs.Classes.{class_of, AreClasses, IsClassAmong}
 use Rattle.sk_derive.specs.WideChoices.{CanTakeByTie, AreTieMerges}
-use Rattle.sk_derive.specs.TieMerges.{IsTieMergeOf, first_name, AreBelow, FindsOf, AddsWhere, MayMerge}
+use Rattle.sk_derive.specs.TieMerges.{IsTieMergeOf, first_name, AreBelow, FindsOf, FindsAmong, AddsWhere, IsTiedTo, TieWith}
 use Rattle.sk_derive.proofs.Tying.{tied_start}
 
 module _ (g : Graph) (f : List Body) (classes : List ℕ) (are : AreClasses g f classes) where
@@ -63,72 +79,115 @@ module _ (g : Graph) (f : List Body) (classes : List ℕ) (are : AreClasses g f 
     pub one_is_tied : ((0 < j) × (j ≡ k)) ↔ HaveTiedLines g f x.elements y.elements
     one_is_tied = ((λ h. one_tied h.0 h.1), tied_same)
 
-module _ (g : Graph) (f : Clusters) (a : Cluster) (xs : List Cluster) (i : ℕ) (b : Cluster) (i_in : i < length xs) (b_is : b ≡ get_or xs i b) where
-  -- one more cluster, with which a may merge
-  found_more : (old mid : List Merge) → FindsOf g f a (take i xs) old mid → MayMerge g (bodies f) a b → FindsOf g f a (take (i + 1) xs) old (mid ++ Two a.name b.name ∷ [])
-  found_more old mid finds may m = (
-    (λ h. elim (Contains-push_cases mid (Two a.name b.name) m h) [
-      | inl before ↦ elim ((finds m).0 before) [
-        | inl was ↦ inl was
-        | inr (d, d_in, below, meets, is) ↦ inr (d, (front_more xs i b i_in d).1 (inl d_in), below, meets, is)
-      ]
-      | inr is ↦ inr (b, (front_more xs i b i_in b).1 (inr (sym b_is)), may.0, may.1, sym is)
-    ]),
-    (λ h. elim h [
-      | inl was ↦ Contains-append_left mid (Two a.name b.name ∷ []) m ((finds m).1 (inl was))
-      | inr (d, d_in, below, meets, is) ↦ elim ((front_more xs i b i_in d).0 d_in) [
-        | inl before ↦ Contains-append_left mid (Two a.name b.name ∷ []) m ((finds m).1 (inr (d, before, below, meets, is)))
-        | inr here ↦ subst (λ n. Contains (mid ++ Two a.name b.name ∷ []) n) (ap (λ (z : Cluster). Two a.name z.name) (b_is ∙ here) ∙ sym is)
-            (Contains-push mid (Two a.name b.name))
-      ]
-    ]),
+node_exact : (node : Node) (e : Elem) (k : Kind) → node.elem ≡ e → node.kind ≡ k → node ≡ record { elem = e; kind = k }
+node_exact node e k at is = subst (λ (x : Elem). node ≡ record { elem = x; kind = k }) at (subst (λ (y : Kind). node ≡ record { elem = node.elem; kind = y }) is refl)
+
+-- what a search by halves tells of an element among the nodes
+module _ (g : Graph) (nodes : List Node) (nodes_are : nodes ≡ g.nodes) (rise : HasRisingNodes g) (e : Elem) where
+  abbrev point : Node
+  point = record { elem = e; kind = Point }
+
+  all_rise : IsRising (λ (x : Node). x.elem.0) nodes
+  all_rise = subst (λ (l : List Node). AllPairs (λ (x y : Node). x.elem.0 < y.elem.0) l) (sym nodes_are) rise
+
+  pub point_found : (i : ℕ) → i < length nodes → HoldsAt (λ (y : Node). nat_cmp y.elem.0 e.0 ≡ Equal) nodes i → (d : Node) (b : Bool) → (IsTrue b ↔ ((get_or nodes i d).kind ≡ Point)) → IsTrue b ↔ HasNode g e Point
+  point_found i i_in found d b tells = (
+    (λ h. subst (λ (l : List Node). Contains l point) nodes_are (subst (λ (x : Node). Contains nodes x) (node_exact (get_or nodes i d) e Point (elem_exact (get_or nodes i d).elem e number) (tells.0 h)) here)),
+    (λ h. tells.1 (ap (λ (x : Node). x.kind) (one (subst (λ (l : List Node). Contains l point) (sym nodes_are) h)))),
   )
+    where
+      here : Contains nodes (get_or nodes i d)
+      here = Contains-get_or nodes i d i_in
 
-  -- one more cluster, with which it may not
-  found_same : (old mid : List Merge) → FindsOf g f a (take i xs) old mid → ¬ MayMerge g (bodies f) a b → FindsOf g f a (take (i + 1) xs) old mid
-  found_same old mid finds not_may m = (
-    (λ h. elim ((finds m).0 h) [
-      | inl was ↦ inl was
-      | inr (d, d_in, below, meets, is) ↦ inr (d, (front_more xs i b i_in d).1 (inl d_in), below, meets, is)
-    ]),
-    (λ h. elim h [
-      | inl was ↦ (finds m).1 (inl was)
-      | inr (d, d_in, below, meets, is) ↦ elim ((front_more xs i b i_in d).0 d_in) [
-        | inl before ↦ (finds m).1 (inr (d, before, below, meets, is))
-        | inr here ↦ absurd (not_may (subst (λ (z : Cluster). MayMerge g (bodies f) a z) (sym (b_is ∙ here)) (below, meets)))
-      ]
-    ]),
-  )
+      number : (get_or nodes i d).elem.0 ≡ e.0
+      number = number_found (λ (y : Node). y.elem.0) nodes e.0 i found d
 
-  pub found_step : (old mid new : List Merge) → FindsOf g f a (take i xs) old mid → AddsWhere (MayMerge g (bodies f) a b) mid new (Two a.name b.name) → FindsOf g f a (take (i + 1) xs) old new
-  found_step old mid new finds (inl (may, is)) = subst (λ ms. FindsOf g f a (take (i + 1) xs) old ms) (sym is) (found_more old mid finds may)
-  found_step old mid new finds (inr (not_may, is)) = subst (λ ms. FindsOf g f a (take (i + 1) xs) old ms) (sym is) (found_same old mid finds not_may)
+      one : Contains nodes point → get_or nodes i d ≡ point
+      one p_in =
+          elim (pairs_tell (λ (x y : Node). x.elem.0 < y.elem.0) nodes all_rise (get_or nodes i d) point here p_in) [
+            | inl same ↦ same
+            | inr (inl less) ↦ absurd (omega (arith, less, number))
+            | inr (inr more) ↦ absurd (omega (arith, more, number))
+          ]
 
-  before_new : (m : Merge) → IsBelow (first_name m) a.name → ComesFirst m (Two a.name b.name)
+  pub no_point : (i : ℕ)
+      → (IsNonDecreasingBy (λ (y : Node). ordering_index (nat_cmp y.elem.0 e.0)) nodes → IsPartitionPoint (λ (y : Node). nat_cmp y.elem.0 e.0 ≡ Less) (λ (y : Node). nat_cmp y.elem.0 e.0 ≡ Greater) nodes i)
+      → ¬ HasNode g e Point
+  no_point i parted h =
+      none_missed (λ (y : Node). y.elem.0) nodes e.0 all_rise i parted (record { elem = e; kind = Point }) (subst (λ (l : List Node). Contains l (record { elem = e; kind = Point })) (sym nodes_are) h) refl
+
+-- what is added where that holds
+pub adds_grows : {X : Type 0} (P : Type 0) (old new : List X) (x : X) → AddsWhere P old new x → GrowsBy (λ y. P × (y ≡ x)) old new
+adds_grows P old new x (inl (holds, is)) = subst (λ l. GrowsBy (λ y. P × (y ≡ x)) old l) (sym is) (grows_one (λ y. P × (y ≡ x)) old x (holds, refl) (λ y h. h.1))
+adds_grows P old new x (inr (fails, is)) = subst (λ l. GrowsBy (λ y. P × (y ≡ x)) old l) (sym is) (grows_none (λ y. P × (y ≡ x)) old (λ y h. fails h.0))
+
+-- what grew from nothing to the points among some elements
+pub points_told : (g : Graph) (es none points : List Elem) → none ≡ [] → GrowsBy (FromSome (λ (e d : Elem). HasNode g e Point × (d ≡ e)) es) none points
+    → (e : Elem) → Contains points e ↔ (Contains es e × HasNode g e Point)
+points_told g es none points empty grows e = (
+  (λ h. elim ((grows e).0 h) [
+    | inl was ↦ absurd (contains_none e (subst (λ l. Contains l e) empty was))
+    | inr (d, d_in, (point, is)) ↦ subst (λ x. Contains es x × HasNode g x Point) (sym is) (d_in, point)
+  ]),
+  (λ h. (grows e).1 (inr (e, h.0, (h.1, refl)))),
+)
+
+module _ (g : Graph) (f : Clusters) (a : Cluster) (ns : List Name) (i : ℕ) (d : Name) (i_in : i < length ns) where
+  abbrev next : Name
+  next = get_or ns i d
+
+  before_new : (m : Merge) → IsBelow (first_name m) a.name → ComesFirst m (Two a.name next)
   before_new (Two p q) h = inl h
   before_new (Three p q r) h = inl h
 
   -- the next merge stands behind all that were found
-  order_more : AllPairs ByName xs → (old mid : List Merge) → FindsOf g f a (take i xs) old mid → AreBelow old a.name → AllPairs ComesFirst mid
-      → AllPairs ComesFirst (mid ++ Two a.name b.name ∷ [])
+  order_more : AllPairs IsBelow ns → (old mid : List Merge) → FindsAmong g f a (take i ns) old mid → AreBelow old a.name → AllPairs ComesFirst mid
+      → AllPairs ComesFirst (mid ++ Two a.name next ∷ [])
   order_more rise old mid finds below ordered =
-      pairs_push ComesFirst mid (Two a.name b.name) ordered (λ m m_in. elim ((finds m).0 m_in) [
+      pairs_push ComesFirst mid (Two a.name next) ordered (λ m m_in. elim ((finds m).0 m_in) [
         | inl was ↦ before_new m (below m was)
-        | inr (d, d_in, d_below, meets, is) ↦ subst (λ n. ComesFirst n (Two a.name b.name)) (sym is)
-            (inr (refl, inl (subst (λ (z : Cluster). ByName d z) (sym b_is) (front_before xs i b i_in ByName rise d d_in))))
+        | inr (k, k_in, (tied, is)) ↦ subst (λ x. ComesFirst x (Two a.name next)) (sym is) (inr (refl, inl (front_before ns i d i_in IsBelow rise k k_in)))
       ])
 
-  pub order_step : AllPairs ByName xs → (old mid new : List Merge) → FindsOf g f a (take i xs) old mid → AddsWhere (MayMerge g (bodies f) a b) mid new (Two a.name b.name)
+  pub order_step : AllPairs IsBelow ns → (old mid new : List Merge) → FindsAmong g f a (take i ns) old mid → AddsWhere (IsTiedTo g f a next) mid new (Two a.name next)
       → AreBelow old a.name → AllPairs ComesFirst mid → AllPairs ComesFirst new
-  order_step rise old mid new finds (inl (may, is)) below ordered = subst (λ ms. AllPairs ComesFirst ms) (sym is) (order_more rise old mid finds below ordered)
-  order_step rise old mid new finds (inr (not_may, is)) below ordered = subst (λ ms. AllPairs ComesFirst ms) (sym is) ordered
+  order_step rise old mid new finds (inl (tied, is)) below ordered = subst (λ ms. AllPairs ComesFirst ms) (sym is) (order_more rise old mid finds below ordered)
+  order_step rise old mid new finds (inr (not_tied, is)) below ordered = subst (λ ms. AllPairs ComesFirst ms) (sym is) ordered
 
-module _ (g : Graph) (f : Clusters) (a : Cluster) where
-  pub found_all : (xs : List Cluster) (i : ℕ) → length xs ≤ i → (old new : List Merge) → FindsOf g f a (take i xs) old new → FindsOf g f a xs old new
-  found_all xs i over old new finds m = (
-    (λ h. elim ((finds m).0 h) [ inl was ↦ inl was | inr (b, b_in, below, meets, is) ↦ inr (b, (front_all xs i over b).0 b_in, below, meets, is) ]),
-    (λ h. (finds m).1 (elim h [ inl was ↦ inl was | inr (b, b_in, below, meets, is) ↦ inr (b, (front_all xs i over b).1 b_in, below, meets, is) ])),
+  pub found_step : (old mid new : List Merge) → FindsAmong g f a (take i ns) old mid → AddsWhere (IsTiedTo g f a next) mid new (Two a.name next) → FindsAmong g f a (take (i + 1) ns) old new
+  found_step old mid new finds adds = grows_step (TieWith g f a) ns old mid new i d i_in finds (adds_grows (IsTiedTo g f a next) mid new (Two a.name next) adds)
+
+-- the clusters below one that hold a point of it and are tied to it are those that it merges with
+module _ (g : Graph) (f : Clusters) (sound : IsSound f) (a : Cluster) (points : List Elem) (points_are : (e : Elem) → Contains points e ↔ (Contains a.elements e × HasNode g e Point))
+    (others : List Name) (others_are : (n : Name) → Contains others n ↔ HoldsSome f points a.name n) where
+  found_with : (m : Merge) → FromSome (TieWith g f a) others m → IsTieMergeOf g f a f.live m
+  found_with m (n, n_in, ((b, b_is, tied), is)) =
+      let (c, c_is, below, (e, e_in, c_e)) = (others_are n).0 n_in in
+      let (a_e, point) = (points_are e).0 e_in in (
+        b,
+        b_is.lives,
+        subst (λ k. IsBelow k a.name) (sym b_is.has_name) below,
+        ((e, point, (a_e, subst (λ (d : Cluster). Contains d.elements e) (one_of_name f sound n c b c_is b_is) c_e)), tied),
+        is ∙ ap (λ k. Two a.name k) (sym b_is.has_name),
+      )
+
+  with_found : (m : Merge) → IsTieMergeOf g f a f.live m → FromSome (TieWith g f a) others m
+  with_found m (b, b_in, below, ((e, point, both), tied), is) = (
+    b.name,
+    (others_are b.name).1 (b, record { lives = b_in; has_name = refl }, below, (e, (points_are e).1 (both.0, point), both.1)),
+    ((b, record { lives = b_in; has_name = refl }, tied), is),
   )
+
+  found_whole : (old new : List Merge) → FindsAmong g f a others old new → FindsOf g f a f.live old new
+  found_whole old new finds = grows_same (FromSome (TieWith g f a) others) (IsTieMergeOf g f a f.live) old new (λ m. (found_with m, with_found m)) finds
+
+-- the same, with the lists as they were read
+pub found_read : (g : Graph) (f : Clusters) → IsSound f → (a : Cluster) (es : List Elem) → es ≡ a.elements → (points : List Elem) → ((e : Elem) → Contains points e ↔ (Contains es e × HasNode g e Point))
+    → (ps : List Elem) → ps ≡ points → (others : List Name) → ((n : Name) → Contains others n ↔ HoldsSome f ps a.name n) → (ns : List Name) → ns ≡ others
+    → (old new : List Merge) → FindsAmong g f a ns old new → FindsOf g f a f.live old new
+found_read g f sound a es es_is points points_are ps ps_is others others_are ns ns_is old new finds =
+    found_whole g f sound a points (subst (λ (l : List Elem). (e : Elem) → Contains points e ↔ (Contains l e × HasNode g e Point)) es_is points_are)
+    others (subst (λ (l : List Elem). (n : Name) → Contains others n ↔ HoldsSome f l a.name n) ps_is others_are) old new (subst (λ (l : List Name). FindsAmong g f a l old new) ns_is finds)
 
 -- one more cluster whose merges are found
 module _ (g : Graph) (f : Clusters) (xs : List Cluster) (i : ℕ) (a : Cluster) (i_in : i < length xs) (a_is : a ≡ get_or xs i a) (mid new : List Merge)

@@ -3,4 +3,5 @@ pub mod WideForm
 pub mod Classing
 pub mod Finding
 pub mod WideRuns
+pub mod OneText
 pub mod OneWideRun

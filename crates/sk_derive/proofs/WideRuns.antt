@@ -7,20 +7,22 @@ use Rattle.std.proofs.lemmas.List.Elements.{All-nil, All-cons}
 use Rattle.sk_base.specs.declared.Name.{Name}
 use Rattle.sk_base.specs.declared.Name.TheVariants.{Step as StepName}
 use Rattle.sk_base.specs.declared.Elem.{Elem}
-use Rattle.sk_base.specs.declared.Edge.{Edge}
 use Rattle.sk_base.specs.declared.Graph.{Graph}
-use Rattle.sk_base.proofs.Members.{contains_none, contains_head, contains_later, contains_one, mapped_from}
+use Rattle.sk_base.specs.SoundGraph.{HasRisingEdges}
+use Rattle.sk_base.proofs.Members.{contains_none, contains_cases, contains_head, contains_later, contains_one, mapped_from}
 use Rattle.sk_base.proofs.Pairs.{pairs_none, pairs_cons, pairs_tell}
 use Rattle.sk_family.specs.declared.Cluster.{Cluster}
-use Rattle.sk_family.specs.Body.{Body}
-use Rattle.sk_family.specs.Clusters.{Clusters, body_of, bodies, named, unnamed, whole_from, CanBeReplaced, IsLive, IsSound, ByName, initial_clusters, start_of}
-use Rattle.sk_family.proofs.Naming.{below_differs}
+use Rattle.sk_family.specs.Body.{Body, Start, starts}
+use Rattle.sk_family.specs.Clusters.{Clusters, body_of, bodies, named, unnamed, whole_from, CanBeReplaced, IsLive, IsNamed, IsSound, ByName, initial_clusters, start_of}
+use Rattle.sk_family.proofs.GraphStarts.{starts_few}
+use Rattle.sk_family.proofs.Naming.{below_differs, one_of_name}
 use Rattle.sk_rules.specs.declared.merge.Merge.{Merge}
 use Rattle.sk_rules.specs.declared.merge.Merge.TheVariants.{Two, Three}
 use Rattle.sk_rules.specs.Merges.{names_of, merged}
 use Rattle.sk_rules.specs.Reach.{ReachBy, IsClosed, stays, goes}
 use Rattle.sk_rules.proofs.Merging.{replaced_replaces, named_among_bodies, bodies_differ, named_two, fewer_by}
 use Rattle.sk_worklist.specs.Choices.{AreChoices}
+use Rattle.sk_worklist.specs.Indexed.{HasElements}
 use Rattle.sk_worklist.specs.Run.{PicksLead}
 use Rattle.sk_worklist.proofs.Holding.{in_list}
 use Rattle.sk_derive.specs.Ties.{SharesPoint, MeetsByTie, CanMergeByTie}
@@ -91,6 +93,15 @@ module _ (g : Graph) (f : Clusters) (sound : IsSound f) where
   }
   tie_steps (Three x y z) (falls, never) = absurd never
 
+  -- what it names has an element
+  pub tie_elements : (m : Merge) → CanTakeByTie g f m → (n : Name) → Contains (names_of m) n → HasElements f n
+  tie_elements (Two x y) (falls, (a, b, x_is, y_is, ((p, point, both), tied))) n n_in c c_is =
+      elim (contains_cases x (y ∷ []) n n_in) [
+        | inl at_x ↦ (p, subst (λ (d : Cluster). Contains d.elements p) (one_of_name f sound n a c (subst (λ k. IsNamed f k a) at_x x_is) c_is) both.0)
+        | inr later ↦ (p, subst (λ (d : Cluster). Contains d.elements p) (one_of_name f sound n b c (subst (λ k. IsNamed f k b) (contains_one y n later) y_is) c_is) both.1)
+      ]
+  tie_elements (Three x y z) (falls, never) n n_in c c_is = absurd never
+
   -- it leaves one cluster fewer
   pub tie_lessens : (m : Merge) → CanTakeByTie g f m → length (merged f m).live + 1 ≡ length f.live
   tie_lessens (Two x y) (falls, (a, b, x_is, y_is, meets)) =
@@ -142,9 +153,10 @@ no_length (x ∷ xs) h = absurd (omega arith)
 pub empty_list : {X : Type 0} (xs : List X) → (length xs == 0) ≡ true → xs ≡ []
 empty_list xs h = no_length xs (length_told (length xs) h)
 
-map_length : (es : List Edge) → length (map start_of es) ≡ length es
-map_length es = simp length-map
+map_length : (ss : List Start) → length (map start_of ss) ≡ length ss
+map_length ss = simp length-map
 
-pub initial_room : (g : Graph) (f : Clusters) → f ≡ initial_clusters g → length g.edges ≤ 4000 → f.next_step + length f.live ≤ 4294967296
-initial_room g f is few =
-    subst (λ (h : Clusters). h.next_step + length h.live ≤ 4294967296) (sym is) (let same = map_length g.edges in omega (arith, same, few))
+pub initial_room : (g : Graph) (f : Clusters) → f ≡ initial_clusters g → HasRisingEdges g → length g.edges + length g.blocks ≤ 4000 → f.next_step + length f.live ≤ 4294967296
+initial_room g f is rise few =
+    subst (λ (h : Clusters). h.next_step + length h.live ≤ 4294967296) (sym is)
+    (let same = map_length (starts g) in let most = starts_few g rise in omega (arith, same, most, few))

@@ -1,14 +1,14 @@
 -- What is found on the way to all merges by the tie rule.
-use Rattle.std.specs.Prelude.{◌≡◌, ◌↔◌, ◌⊎◌, List, [], ◌∷◌, ◌++◌, Contains}
+use Rattle.std.specs.Prelude.{◌≡◌, ◌⊎◌, List, [], ◌∷◌, ◌++◌, Contains}
 use Rattle.sk_base.specs.declared.Name.{Name}
 use Rattle.sk_base.specs.declared.Graph.{Graph}
 use Rattle.sk_base.specs.ClusterNames.{IsBelow}
 use Rattle.sk_family.specs.declared.cluster.Cluster.{Cluster}
-use Rattle.sk_family.specs.Body.{Body}
-use Rattle.sk_family.specs.Clusters.{Clusters, bodies}
+use Rattle.sk_family.specs.Clusters.{Clusters, IsNamed, bodies}
 use Rattle.sk_rules.specs.declared.Merge.{Merge}
 use Rattle.sk_rules.specs.declared.Merge.TheVariants.{Two, Three}
-use Rattle.sk_derive.specs.Ties.{MeetsByTie}
+use Rattle.sk_worklist.specs.Gather.{GrowsBy, FromSome}
+use Rattle.sk_derive.specs.Ties.{HaveTiedLines, MeetsByTie}
 
 -- the merge is of a and a cluster below it, one of these, and the tie rule holds of the two
 abbrev pub IsTieMergeOf : Graph → Clusters → Cluster → List Cluster → Merge → Type 0
@@ -24,12 +24,20 @@ AreBelow merges n = (m : Merge) → Contains merges m → IsBelow (first_name m)
 
 -- new has what old has, and the merges of a with these clusters
 abbrev pub FindsOf : Graph → Clusters → Cluster → List Cluster → List Merge → List Merge → Type 0
-FindsOf g f a below old new = (m : Merge) → Contains new m ↔ (Contains old m ⊎ IsTieMergeOf g f a below m)
+FindsOf g f a below old new = GrowsBy (IsTieMergeOf g f a below) old new
 
--- the merge is added where that holds, and only there
-abbrev pub AddsWhere : Type 0 → List Merge → List Merge → Merge → Type 0
-AddsWhere holds old new m = (holds × (new ≡ old ++ m ∷ [])) ⊎ ((¬ holds) × (new ≡ old))
+-- a cluster of that name has a line that is tied to one of a
+abbrev pub IsTiedTo : Graph → Clusters → Cluster → Name → Type 0
+IsTiedTo g f a n = (b : Cluster) × IsNamed f n b × HaveTiedLines g (bodies f) a.elements b.elements
 
--- b is below a, and the tie rule holds of the two
-abbrev pub MayMerge : Graph → List Body → Cluster → Cluster → Type 0
-MayMerge g f a b = IsBelow b.name a.name × MeetsByTie g f a.elements b.elements
+-- the merge is that of a with the cluster of that name, which is tied to it
+abbrev pub TieWith : Graph → Clusters → Cluster → Name → Merge → Type 0
+TieWith g f a n m = IsTiedTo g f a n × (m ≡ Two a.name n)
+
+-- new has what old has, and the merges of a with those of these names that are tied to it
+abbrev pub FindsAmong : Graph → Clusters → Cluster → List Name → List Merge → List Merge → Type 0
+FindsAmong g f a names old new = GrowsBy (FromSome (TieWith g f a) names) old new
+
+-- the item is added where that holds, and only there
+abbrev pub AddsWhere : {X : Type 0} → Type 0 → List X → List X → X → Type 0
+AddsWhere holds old new x = (holds × (new ≡ old ++ x ∷ [])) ⊎ ((¬ holds) × (new ≡ old))

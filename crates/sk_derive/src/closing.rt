@@ -13,25 +13,29 @@ use crate::tie_merges::tie_merges;
 use sk_base::{Graph, Name, NoMemory};
 use sk_family::{Family, initial};
 use sk_rules::Merge;
-use sk_worklist::{Picker, close_family};
+use sk_worklist::{Picker, Worklist, close_with};
 use std::alloc::Global;
 
 /// The family where no choice is left by any of the three rules.
 pub fn derive<P: Picker>(alloc: Global, graph: &Graph, picker: &mut P) -> Result<Family, NoMemory>
     requires { IsSoundGraph graph.now }
     ensures run { IfOk result (λ f. (ms : Items AnyMerge) × IsWideRun P.answer P.after graph.now (initial_clusters graph.now) picker.old ms f picker.new) }
+    ensures sound { IfOk result (λ f. IsSound f) }
     ensures normal { IfOk result (λ f. IsWideNormal graph.now (bodies f)) }
     ensures only { IfOk result (λ f. IsTheOnlyWideNormal graph.now (bodies f)) }
 {
     let mut family = initial(alloc, graph)?;
+    let mut work = Worklist::of(alloc, &family, graph)?;
     loop {
-        let _taken = close_family(alloc, &mut family, graph, picker)?;
-        let merges = tie_merges(alloc, &family, graph)?;
+        let _taken = close_with(alloc, &mut work, &mut family, graph, picker)?;
+        let merges = tie_merges(alloc, &family, graph, &work)?;
         if merges.is_empty() {
             return Ok(family);
         }
         let merge = picked(merges.as_slice(), picker);
+        work.leave(&family, merge);
         let _name = take_by_tie(&mut family, merge)?;
+        work.enter(&family, merge)?;
     }
 }
 

@@ -1,14 +1,16 @@
 // The laws on wide normal families and wide runs.
 ghost use Rattle.std.specs.Prelude.{◌≡◌, List, Contains};
 ghost use Rattle.sk_base.specs.declared.Graph.{Graph};
-ghost use Rattle.sk_base.specs.SoundGraph.{HasRisingEdges};
+ghost use Rattle.sk_base.specs.declared.Sketch.{Sketch};
+ghost use Rattle.sk_base.specs.SoundGraph.{HasRisingEdges, IsSoundGraph};
 ghost use Rattle.sk_family.specs.Body.{Body, SameBodies};
-ghost use Rattle.sk_family.specs.Clusters.{Clusters};
+ghost use Rattle.sk_family.specs.Clusters.{Clusters, bodies, IsSound};
 ghost use Rattle.sk_rules.specs.declared.Merge.{Merge};
 ghost use Rattle.sk_rules.specs.Reach.{IsNormal};
 ghost use Rattle.sk_derive.specs.WideReach.{IsWideNormal, LiesIn};
 ghost use Rattle.sk_derive.specs.WideChoices.{AreWideChoices};
 ghost use Rattle.sk_derive.specs.WideRun.{IsWideRun};
+ghost use Rattle.sk_derive.specs.DerivedText.{derived_text};
 
 use sk_worklist::Picker;
 
@@ -32,4 +34,10 @@ pub fn one_list_of_wide_choices()
 pub fn one_wide_run<P: Picker>()
     ensures { (g : Graph) (f : Clusters) (p : P) (ms ns : List Merge) (one other : Clusters) (last end : P) → IsWideRun P.answer P.after g f p ms one last → IsWideRun P.answer P.after g f p ns other end
         → (ms ≡ ns) × (one ≡ other) × (last ≡ end) }
+{}
+
+/// All wide normal families of a graph have one text, whatever the names of their clusters.
+pub fn one_derived_text()
+    ensures { (g : Graph) (s : Sketch) (one other : Clusters) → IsSoundGraph g → IsSound one → IsSound other → IsWideNormal g (bodies one) → IsWideNormal g (bodies other)
+        → derived_text s one ≡ derived_text s other }
 {}

@@ -1,20 +1,24 @@
 // The merges by the tie rule.
-ghost use Rattle.std.specs.Prelude.{◌≡◌, ◌↔◌, ◌⊎◌, ◌<◌, IfOk, OnOk, IsTrue, List as Items, Contains, AllPairs};
+ghost use Rattle.std.specs.Prelude.{◌↔◌, ◌⊎◌, ◌≡◌, ◌<◌, IfOk, OnOk, IsTrue, List as Items, Contains, AllPairs};
+ghost use Rattle.sk_base.specs.declared.Elem.{Elem as Element};
 ghost use Rattle.sk_base.specs.declared.Graph.{Graph as AnyGraph};
 ghost use Rattle.sk_base.specs.declared.Kind.TheVariants.{Point};
-ghost use Rattle.sk_base.specs.SoundGraph.{HasNode};
+ghost use Rattle.sk_base.specs.ClusterNames.{IsBelow};
+ghost use Rattle.sk_base.specs.SoundGraph.{HasNode, HasRisingNodes};
 ghost use Rattle.sk_family.specs.Body.{Body};
 ghost use Rattle.sk_family.specs.Clusters.{bodies, body_of, IsSound};
 ghost use Rattle.sk_worklist.specs.Choices.{ComesFirst};
-ghost use Rattle.sk_derive.specs.Ties.{SharesPoint, HaveTiedLines, MeetsByTie};
+ghost use Rattle.sk_worklist.specs.Turns.{Follows};
+ghost use Rattle.sk_derive.specs.Ties.{HaveTiedLines};
 ghost use Rattle.sk_derive.specs.Classes.{AreClasses};
-ghost use Rattle.sk_derive.specs.TieMerges.{AreBelow, FindsOf, AddsWhere, MayMerge};
+ghost use Rattle.sk_derive.specs.TieMerges.{AreBelow, FindsOf, FindsAmong, AddsWhere, IsTiedTo};
 ghost use Rattle.sk_derive.specs.WideChoices.{AreTieMerges};
 
 use crate::classes::{class_among, classes_of};
-use sk_base::{Elem, Graph, Kind, List, NoMemory, Node};
+use sk_base::{Elem, Graph, Kind, List, Name, NoMemory, Node};
 use sk_family::{Cluster, Family};
 use sk_rules::Merge;
+use sk_worklist::Worklist;
 use std::alloc::Global;
 
 /// All merges by the tie rule, in order.
@@ -22,71 +26,123 @@ pub(crate) fn tie_merges(
     alloc: Global,
     family: &Family,
     graph: &Graph,
+    work: &Worklist,
 ) -> Result<List<Merge>, NoMemory>
+    requires rise { HasRisingNodes graph.now }
+    requires follows { Follows work.now graph.now family.now }
     ensures merges { IfOk result (AreTieMerges graph.now family.now) }
     ensures sound { OnOk result (IsSound family.now) }
 {
     let classes = classes_of(alloc, family, graph)?;
     let mut found = List::new(alloc);
     for cluster in family.clusters() {
-        add_merges_of(&mut found, cluster, family, graph, classes.as_slice())?;
+        let points = points_among(alloc, cluster.elements.as_slice(), graph)?;
+        let others = work.holding(points.as_slice(), cluster.name)?;
+        add_merges_of(
+            &mut found,
+            cluster,
+            others.as_slice(),
+            family,
+            classes.as_slice(),
+        )?;
     }
     Ok(found)
 }
 
-/// Adds the merges of the cluster with those below it.
-fn add_merges_of(
-    found: &mut List<Merge>,
-    cluster: &Cluster,
-    family: &Family,
-    graph: &Graph,
-    classes: &[usize],
-) -> Result<(), NoMemory>
-    requires classes { AreClasses graph.now (bodies family.now) classes.now }
-    requires lives { Contains family.now.live cluster.now }
-    ensures found { OnOk result (FindsOf graph.now family.now cluster.now family.now.live found.old found.new) }
-    ensures in_order { OnOk result (AllPairs ComesFirst found.old → AreBelow found.old cluster.now.name → AllPairs ComesFirst found.new) }
+/// The points among the elements.
+fn points_among(alloc: Global, elements: &[Elem], graph: &Graph) -> Result<List<Elem>, NoMemory>
+    requires { HasRisingNodes graph.now }
+    ensures { IfOk result (λ points. (e : Element) → Contains points e ↔ (Contains elements.now e × HasNode graph.now e Point)) }
 {
-    for other in family.clusters() {
-        add_if_may(found, cluster, other, graph, classes)?;
+    let mut points = List::new(alloc);
+    for elem in elements {
+        add_if_point(&mut points, *elem, graph)?;
     }
-    Ok(())
+    Ok(points)
 }
 
-/// Adds the merge of the two where it may be taken.
-fn add_if_may(
-    found: &mut List<Merge>,
-    cluster: &Cluster,
-    other: &Cluster,
-    graph: &Graph,
-    classes: &[usize],
-) -> Result<(), NoMemory>
-    ensures { OnOk result ((f : Items Body) → AreClasses graph.now f classes.now → Contains f (body_of cluster.now) → Contains f (body_of other.now)
-        → AddsWhere (MayMerge graph.now f cluster.now other.now) found.old found.new (Merge.Two cluster.now.name other.now.name)) }
+fn add_if_point(points: &mut List<Elem>, elem: Elem, graph: &Graph) -> Result<(), NoMemory>
+    requires { HasRisingNodes graph.now }
+    ensures { OnOk result (AddsWhere (HasNode graph.now elem Point) points.old points.new elem) }
 {
-    if may_merge(cluster, other, graph, classes) {
-        found.push(Merge::Two(cluster.name, other.name))
+    if is_point(graph, elem) {
+        points.push(elem)
     } else {
         Ok(())
     }
 }
 
-/// Whether the other cluster is below this one, and the tie rule holds of the two.
-fn may_merge(cluster: &Cluster, other: &Cluster, graph: &Graph, classes: &[usize]) -> bool
-    ensures { (f : Items Body) → AreClasses graph.now f classes.now → Contains f (body_of cluster.now) → Contains f (body_of other.now)
-        → (IsTrue result ↔ MayMerge graph.now f cluster.now other.now) }
+fn is_point(graph: &Graph, elem: Elem) -> bool
+    requires { HasRisingNodes graph.now }
+    ensures { IsTrue result ↔ HasNode graph.now elem Point }
 {
-    let xs = cluster.elements.as_slice();
-    let ys = other.elements.as_slice();
-    other.name.is_below(cluster.name) && meet_by_tie(graph, xs, ys, classes)
+    let nodes = graph.nodes.as_slice();
+    match nodes.binary_search_by_key(&elem.0, |node| node.elem.0) {
+        Ok(place) => is_point_node(&nodes[place]),
+        Err(_) => false,
+    }
 }
 
-/// Whether the tie rule holds of two clusters.
-fn meet_by_tie(graph: &Graph, xs: &[Elem], ys: &[Elem], classes: &[usize]) -> bool
-    ensures { (f : Items Body) (x y : Body) → AreClasses graph.now f classes.now → Contains f x → Contains f y → x.elements ≡ xs.now → y.elements ≡ ys.now
-        → (IsTrue result ↔ MeetsByTie graph.now f xs.now ys.now) }
+fn is_point_node(node: &Node) -> bool
+    ensures { IsTrue result ↔ (node.now.kind ≡ Point) }
 {
-    are_tied(xs, ys, classes) && share_a_point(graph, xs, ys)
+    match node.kind {
+        Kind::Point => true,
+        Kind::Line => false,
+    }
+}
+
+/// Adds the merges of the cluster with those of the others that are tied to it.
+fn add_merges_of(
+    found: &mut List<Merge>,
+    cluster: &Cluster,
+    others: &[Name],
+    family: &Family,
+    classes: &[usize],
+) -> Result<(), NoMemory>
+    requires classes { (g : AnyGraph) × AreClasses g (bodies family.now) classes.now }
+    requires lives { Contains family.now.live cluster.now }
+    ensures found { OnOk result ((g : AnyGraph) → AreClasses g (bodies family.now) classes.now → FindsAmong g family.now cluster.now others.now found.old found.new) }
+    ensures in_order { OnOk result (AllPairs IsBelow others.now → AllPairs ComesFirst found.old → AreBelow found.old cluster.now.name → AllPairs ComesFirst found.new) }
+{
+    for other in others {
+        add_if_tied(found, cluster, *other, family, classes)?;
+    }
+    Ok(())
+}
+
+/// Adds the merge with the other cluster where that is tied to this one.
+fn add_if_tied(
+    found: &mut List<Merge>,
+    cluster: &Cluster,
+    other: Name,
+    family: &Family,
+    classes: &[usize],
+) -> Result<(), NoMemory>
+    requires { Contains family.now.live cluster.now }
+    ensures { OnOk result ((g : AnyGraph) → AreClasses g (bodies family.now) classes.now
+        → AddsWhere (IsTiedTo g family.now cluster.now other) found.old found.new (Merge.Two cluster.now.name other)) }
+{
+    if is_tied_to(cluster, other, family, classes) {
+        found.push(Merge::Two(cluster.name, other))
+    } else {
+        Ok(())
+    }
+}
+
+/// Whether some line of the other cluster is tied to one of this.
+fn is_tied_to(cluster: &Cluster, other: Name, family: &Family, classes: &[usize]) -> bool
+    requires { Contains family.now.live cluster.now }
+    ensures { (g : AnyGraph) → AreClasses g (bodies family.now) classes.now → (IsTrue result ↔ IsTiedTo g family.now cluster.now other) }
+{
+    match family.cluster(other) {
+        Some(found) => are_tied(
+            cluster.elements.as_slice(),
+            found.elements.as_slice(),
+            classes,
+        ),
+        None => false,
+    }
 }
 
 /// Whether some line of the one is tied to some line of the other.
@@ -102,31 +158,4 @@ fn are_one(class: usize, other: usize) -> bool
     ensures { IsTrue result ↔ ((0 < class) × (class ≡ other)) }
 {
     class > 0 && class == other
-}
-
-/// Whether a point is in both.
-fn share_a_point(graph: &Graph, xs: &[Elem], ys: &[Elem]) -> bool
-    ensures { IsTrue result ↔ SharesPoint graph.now xs.now ys.now }
-{
-    for elem in xs {
-        if is_shared_point(graph, *elem, ys) {
-            return true;
-        }
-    }
-    false
-}
-
-fn is_shared_point(graph: &Graph, elem: Elem, ys: &[Elem]) -> bool
-    ensures { IsTrue result ↔ (Contains ys.now elem × HasNode graph.now elem Point) }
-{
-    ys.contains(&elem) && is_point(graph, elem)
-}
-
-fn is_point(graph: &Graph, elem: Elem) -> bool
-    ensures { IsTrue result ↔ HasNode graph.now elem Point }
-{
-    graph.nodes.as_slice().contains(&Node {
-        elem,
-        kind: Kind::Point,
-    })
 }

@@ -2,17 +2,19 @@ use Rattle.std.proofs.Common.{◌+◌, ◌≤◌, length, List}
 use Rattle.sk_family.specs.Body.{initial_bodies}
 use Rattle.sk_family.specs.Clusters.{bodies, initial_clusters}
 use Rattle.sk_rules.specs.declared.Merge.{Merge}
+use Rattle.sk_worklist.specs.Turns.{Follows}
 use Rattle.sk_derive.specs.WideReach.{WideReach}
 use Rattle.sk_derive.specs.WideRun.{WidePicksLead}
 use Rattle.sk_derive.proofs.closing.derive.Given as goal
 
-abbrev pub invariant-loop-family : goal.invariant-loop-family
-invariant-loop-family g l = record {
+abbrev pub invariant-loop-work : goal.invariant-loop-work
+invariant-loop-work g l = record {
   room : l.family.next_step + length l.family.live ≤ 4294967296;
   reached : WideReach l.graph (initial_bodies l.graph) (bodies l.family);
+  follows : Follows l.work l.graph l.family;
   picks : (ms : List Merge) × WidePicksLead g.P.Picker.answer g.P.Picker.after l.graph (initial_clusters l.graph) l.fn.picker ms l.family l.picker;
 }
 
 -- each merge by the tie rule leaves fewer clusters
-abbrev pub decreases-loop-family : goal.decreases-loop-family
-decreases-loop-family g l = length l.family.live
+abbrev pub decreases-loop-work : goal.decreases-loop-work
+decreases-loop-work g l = length l.family.live
