@@ -1,37 +1,53 @@
 -- How each constraint is decided, and what has been decided so far.
 use Rattle.std.proofs.Common.{◌≡◌, ◌⊎◌, inl, inr, ℕ, ◌+◌, ◌*◌, ◌<◌, ◌≤◌, Bool, true, false, List, [], ◌∷◌, ◌++◌, length, get_or, take, ap, sym, subst, ◌∙◌, arith}
-use Rattle.std.specs.Prelude.{Contains, AllPairs, IsTrue, IfOk, Result, Ok, Err, ◌↔◌}
+use Rattle.std.specs.Prelude.{map, Contains, AllPairs, IsTrue, IfOk, Result, Ok, Err, ◌↔◌}
 use Rattle.std.proofs.lemmas.List.Elements.{Contains-push_cases, Contains-append_left, Contains-append_right}
-use Rattle.std.proofs.lemmas.List.{take_more, take_all, get_or_default}
-use Rattle.std.proofs.lemmas.List.Sums.{count_by-le-length}
+use Rattle.std.proofs.lemmas.List.{length-map, take_more, take_all, get_or-map, get_or_default}
 use Rattle.sk_base.specs.declared.ConId.{ConId}
-use Rattle.sk_base.specs.declared.Edge.{Edge}
 use Rattle.sk_base.specs.declared.Graph.{Graph}
 use Rattle.sk_base.specs.SoundGraph.{IsSoundGraph}
 use Rattle.sk_base.specs.Numbering.{con_number}
 use Rattle.sk_base.specs.Rising.{IsRising}
-use Rattle.sk_base.proofs.Members.{contains_head, mapped_from}
+use Rattle.sk_base.proofs.Distinct.{no_longer}
+use Rattle.sk_base.proofs.Members.{contains_head, contains_mapped, mapped_from}
 use Rattle.sk_base.proofs.Pairs.{pairs_push}
 use Rattle.sk_base.proofs.Splits.{taken_from}
 use Rattle.sk_family.specs.declared.Cluster.{Cluster}
-use Rattle.sk_family.specs.Body.{Body}
-use Rattle.sk_family.specs.Clusters.{Clusters, bodies, body_of}
-use Rattle.sk_rules.specs.Excess.{is_inside}
+use Rattle.sk_family.specs.Body.{Body, Start, starts}
+use Rattle.sk_family.specs.Clusters.{Clusters, bodies, body_of, start_of}
+use Rattle.sk_family.specs.Starting.{any_start}
+use Rattle.sk_family.proofs.GraphStarts.{starts_few}
+use Rattle.sk_rules.specs.Excess.{weight_of, OwnsEnough, AreConstraints}
 use Rattle.sk_rules.specs.Reach.{IsNormal}
 use Rattle.sk_rules.proofs.NormalForm.{normal_same}
-use Rattle.sk_rules.proofs.Counting.{reached_tight, owned_is_held}
+use Rattle.sk_rules.proofs.Counting.{reached_tight}
 use Rattle.sk_spare.specs.Sparing.{HoldsAll, IsOwner, IsSpare}
 use Rattle.sk_spare.specs.Trying.{trial_graph}
-use Rattle.sk_spare.proofs.LeavingOut.{owns_more, trial_decides}
+use Rattle.sk_spare.proofs.LeavingOut.{distinct, owns_more, trial_decides}
 
--- what a body owns, and what it has
-pub few : (g : Graph) (f : List Body) → IsSoundGraph g → IsNormal g f → (x : Body) → Contains f x → (length x.owned ≤ 4000) × (length x.elements ≤ 4000)
-few g f sound normal x x_in =
-    let same = owned_is_held g f sound.edges_rise sound.two_ends normal x x_in in
-    let enough = (reached_tight g f sound.edges_rise normal.reached).enough x x_in in
-    let most = count_by-le-length (is_inside x.elements) g.edges in
-    let edges = sound.few_edges in
-    (omega arith, omega arith)
+-- what a body owns are constraints of the graph
+pub owned_constraints : (g : Graph) (f : List Body) → IsSoundGraph g → IsNormal g f → (x : Body) → Contains f x → AreConstraints g x.owned
+owned_constraints g f sound normal x x_in =
+    let tight = reached_tight g f sound.edges_rise normal.reached in
+    let rise = (tight.family.rising x x_in).owned in
+    record {
+      rise = rise;
+      few = (
+          let counted = no_longer x.owned (map number_of (starts g)) (distinct con_number x.owned rise) (λ k k_in. (
+          let (s, s_in, is, within) = tight.inside x x_in k k_in in
+          subst (λ j. Contains (map number_of (starts g)) j) is (contains_mapped number_of (starts g) s s_in))) in
+          let size : length (map number_of (starts g)) ≡ length (starts g) = rw length-map in
+          let most = starts_few g sound.edges_rise in
+          let all = sound.few_constraints in
+          omega arith);
+      there = λ k k_in. (let s = tight.inside x x_in k k_in in (s.0, s.1, s.2));
+    }
+  where
+    number_of : Start → ConId
+    number_of s = s.number
+
+pub owns_enough : (g : Graph) (f : List Body) → IsSoundGraph g → IsNormal g f → (x : Body) → Contains f x → OwnsEnough g x
+owns_enough g f sound normal x x_in = (reached_tight g f sound.edges_rise normal.reached).enough x x_in
 
 module _ (g : Graph) (f : List Body) (k : ConId) (x : Body) (sound : IsSoundGraph g) (own : IsOwner g f k x) where
   pub by_trial : (t : Bool) → (n : List Body) × IsNormal (trial_graph x.owned k g) n × (IsTrue t ↔ HoldsAll n x.elements) → IsTrue t ↔ IsSpare g k
@@ -39,7 +55,7 @@ module _ (g : Graph) (f : List Body) (k : ConId) (x : Body) (sound : IsSoundGrap
       let decides = trial_decides g f n k x sound own normal in
       ((λ h. decides.1 (tells.0 h)), (λ s. tells.1 (decides.0 s)))
 
-  pub by_count : ¬ (2 * length x.elements < length x.owned + 3) → IsTrue false ↔ IsSpare g k
+  pub by_count : ¬ (2 * length x.elements < weight_of g x.owned + 3) → IsTrue false ↔ IsSpare g k
   by_count enough = ((λ h. (let never : false ≡ true = h in absurd (cc))), (λ s. absurd (enough (owns_more g f k x sound own s))))
 
 pub by_none : (g : Graph) (f : Clusters) (k : ConId) → IsSoundGraph g → IsNormal g (bodies f) → ((c : Cluster) → Contains f.live c → ¬ Contains c.owned k) → IsTrue false ↔ IsSpare g k
@@ -51,33 +67,41 @@ by_none g f k sound normal none = (
       absurd (none found.0 found.1 (subst (λ (z : Body). Contains z.owned k) (sym found.2) s.owns.owns)))),
 )
 
+-- the starting clusters stand in order of their constraints
+module _ (g : Graph) (clusters : List Cluster) (are : clusters ≡ map start_of (starts g)) where
+  pub as_many : length clusters ≡ length (starts g)
+  as_many = (let mapped : length (map start_of (starts g)) ≡ length (starts g) = rw length-map in ap length are ∙ mapped)
+
+  pub start_there : (i : ℕ) (c : Cluster) → i < length clusters → c ≡ get_or clusters i c → c ≡ start_of (get_or (starts g) i any_start)
+  start_there i c i_in is = is ∙ ap (λ cs. get_or cs i c) are ∙ get_or-map start_of (starts g) i any_start c (let many = as_many in omega arith)
+
 -- one of the constraints has that number
-abbrev pub HasNumber : List Edge → ConId → Type 0
-HasNumber edges k = (d : Edge) × Contains edges d × (d.id ≡ k)
+abbrev pub HasNumber : List Start → ConId → Type 0
+HasNumber ss k = (s : Start) × Contains ss s × (s.number ≡ k)
 
 -- the spare ones of these constraints, rising
-pub record AreSpareOf (g : Graph) (edges : List Edge) (spares : List ConId) : Type 0 where
-  pub exactly : (k : ConId) → Contains spares k ↔ (HasNumber edges k × IsSpare g k)
+pub record AreSpareOf (g : Graph) (ss : List Start) (spares : List ConId) : Type 0 where
+  pub exactly : (k : ConId) → Contains spares k ↔ (HasNumber ss k × IsSpare g k)
   pub rise : IsRising con_number spares
 
-module _ (g : Graph) (edges : List Edge) (i : ℕ) (spares : List ConId) (so_far : AreSpareOf g (take i edges) spares) (i_in : i < length edges) (z : Edge) where
-  abbrev this : Edge
-  this = get_or edges i z
+module _ (g : Graph) (ss : List Start) (i : ℕ) (spares : List ConId) (so_far : AreSpareOf g (take i ss) spares) (i_in : i < length ss) (z : Start) where
+  abbrev this : Start
+  this = get_or ss i z
 
-  more : take (i + 1) edges ≡ take i edges ++ this ∷ []
-  more = take_more edges i z i_in
+  more : take (i + 1) ss ≡ take i ss ++ this ∷ []
+  more = take_more ss i z i_in
 
-  number_before : (k : ConId) → HasNumber (take i edges) k → HasNumber (take (i + 1) edges) k
-  number_before k (d, d_in, is) = (d, subst (λ ds. Contains ds d) (sym more) (Contains-append_left (take i edges) (this ∷ []) d d_in), is)
+  number_before : (k : ConId) → HasNumber (take i ss) k → HasNumber (take (i + 1) ss) k
+  number_before k (d, d_in, is) = (d, subst (λ ds. Contains ds d) (sym more) (Contains-append_left (take i ss) (this ∷ []) d d_in), is)
 
-  number_cases : (k : ConId) → HasNumber (take (i + 1) edges) k → HasNumber (take i edges) k ⊎ (this.id ≡ k)
+  number_cases : (k : ConId) → HasNumber (take (i + 1) ss) k → HasNumber (take i ss) k ⊎ (this.number ≡ k)
   number_cases k (d, d_in, is) =
-      elim (Contains-push_cases (take i edges) this d (subst (λ ds. Contains ds d) more d_in)) [
+      elim (Contains-push_cases (take i ss) this d (subst (λ ds. Contains ds d) more d_in)) [
         | inl before ↦ inl (d, before, is)
-        | inr here ↦ inr (ap (λ (e : Edge). e.id) here ∙ is)
+        | inr here ↦ inr (ap (λ (s : Start). s.number) here ∙ is)
       ]
 
-  pub without_it : ¬ IsSpare g this.id → AreSpareOf g (take (i + 1) edges) spares
+  pub without_it : ¬ IsSpare g this.number → AreSpareOf g (take (i + 1) ss) spares
   without_it not = record {
     exactly = λ k. (
       (λ h. (let was = (so_far.exactly k).0 h in (number_before k was.0, was.1))),
@@ -89,43 +113,39 @@ module _ (g : Graph) (edges : List Edge) (i : ℕ) (spares : List ConId) (so_far
     rise = so_far.rise;
   }
 
-  pub with_it : AllPairs (λ (d e : Edge). d.id.0 < e.id.0) edges → IsSpare g this.id → AreSpareOf g (take (i + 1) edges) (spares ++ this.id ∷ [])
+  pub with_it : AllPairs (λ (s t : Start). s.number.0 < t.number.0) ss → IsSpare g this.number → AreSpareOf g (take (i + 1) ss) (spares ++ this.number ∷ [])
   with_it rises is_spare = record {
     exactly = λ k. (
-      (λ h. elim (Contains-push_cases spares this.id k h) [
+      (λ h. elim (Contains-push_cases spares this.number k h) [
         | inl early ↦ (let was = (so_far.exactly k).0 early in (number_before k was.0, was.1))
         | inr here ↦ (
-          (this, subst (λ ds. Contains ds this) (sym more) (Contains-append_right (take i edges) (this ∷ []) this (contains_head this [])), here),
+          (this, subst (λ ds. Contains ds this) (sym more) (Contains-append_right (take i ss) (this ∷ []) this (contains_head this [])), here),
           subst (λ j. IsSpare g j) here is_spare,
         )
       ]),
       (λ h. elim (number_cases k h.0) [
-        | inl before ↦ Contains-append_left spares (this.id ∷ []) k ((so_far.exactly k).1 (before, h.1))
-        | inr here ↦ subst (λ j. Contains (spares ++ this.id ∷ []) j) here (Contains-append_right spares (this.id ∷ []) this.id (contains_head this.id []))
+        | inl before ↦ Contains-append_left spares (this.number ∷ []) k ((so_far.exactly k).1 (before, h.1))
+        | inr here ↦ subst (λ j. Contains (spares ++ this.number ∷ []) j) here (Contains-append_right spares (this.number ∷ []) this.number (contains_head this.number []))
       ]),
     );
-    rise = pairs_push (λ (j k : ConId). j.0 < k.0) spares this.id so_far.rise (λ j j_in. (
+    rise = pairs_push (λ (j k : ConId). j.0 < k.0) spares this.number so_far.rise (λ j j_in. (
         let (d, d_in, is) = ((so_far.exactly j).0 j_in).0 in
-        let (at, before, at_is) = taken_from edges i d (omega arith) d_in in
-        let less : (get_or edges at d).id.0 < (get_or edges i d).id.0 = rises at i d before i_in in
-        let here : get_or edges i d ≡ this = get_or_default edges i d z i_in in
-        let one = ap (λ (e : Edge). e.id.0) at_is in
-        let other = ap (λ (e : Edge). e.id.0) here in
+        let (at, before, at_is) = taken_from ss i d (omega arith) d_in in
+        let less : (get_or ss at d).number.0 < (get_or ss i d).number.0 = rises at i d before i_in in
+        let here : get_or ss i d ≡ this = get_or_default ss i d z i_in in
+        let one = ap (λ (s : Start). s.number.0) at_is in
+        let other = ap (λ (s : Start). s.number.0) here in
         let same = ap con_number is in
         omega (arith, less, one, other, same)));
   }
 
-pub all_decided : (g : Graph) → IsSoundGraph g → (i : ℕ) (spares : List ConId) → length g.edges ≤ i → AreSpareOf g (take i g.edges) spares → (k : ConId) → Contains spares k ↔ IsSpare g k
+pub all_decided : (g : Graph) → IsSoundGraph g → (i : ℕ) (spares : List ConId) → length (starts g) ≤ i → AreSpareOf g (take i (starts g)) spares → (k : ConId) → Contains spares k ↔ IsSpare g k
 all_decided g sound i spares over done k = (
   (λ h. ((done.exactly k).0 h).1),
   (λ s. (
-      let edge = (reached_tight g s.family sound.edges_rise s.owns.normal.reached).edges s.owner s.owns.in_family k s.owns.owns in
-      (done.exactly k).1 ((edge.0, subst (λ ds. Contains ds edge.0) (sym (take_all i g.edges over)) edge.1, edge.2), s))),
+      let start = (reached_tight g s.family sound.edges_rise s.owns.normal.reached).inside s.owner s.owns.in_family k s.owns.owns in
+      (done.exactly k).1 ((start.0, subst (λ ds. Contains ds start.0) (sym (take_all i (starts g) over)) start.1, start.2), s))),
 )
-
-pub if_ok : {T E : Type 0} {P Q : T → Type 0} (r : Result T E) → IfOk r P → ((x : T) → P x → Q x) → IfOk r Q
-if_ok (Ok x) h to = to x h
-if_ok (Err e) h to = tt
 
 -- a test that answers no
 pub not_told : {P : Type 0} (t : Bool) → IsTrue t ↔ P → t ≡ false → ¬ P

@@ -1,58 +1,111 @@
 -- The graphs with fewer constraints: what they hold, and that they are sound.
-use Rattle.std.proofs.Common.{◌≡◌, ◌≢◌, inl, inr, ◌<◌, Bool, true, false, List, [], ◌∷◌, refl, ap, subst, arith}
-use Rattle.std.specs.Prelude.{Contains, ◌↔◌, ◌==◌, ◌||◌, not, filter}
+use Rattle.std.proofs.Common.{◌≡◌, ◌≢◌, inl, inr, ℕ, ◌<◌, ◌≤◌, Bool, true, false, List, [], ◌∷◌, length, refl, ap, sym, subst, ◌∙◌, arith}
+use Rattle.std.specs.Prelude.{Contains, ◌↔◌, ◌==◌, filter, not}
 use Rattle.std.specs.List.{list_any}
-use Rattle.std.proofs.lemmas.Bool.Decides.{nat_tests}
 use Rattle.std.proofs.lemmas.List.Filters.{length-filter_both}
 use Rattle.sk_base.specs.declared.ConId.{ConId}
 use Rattle.sk_base.specs.declared.Edge.{Edge}
+use Rattle.sk_base.specs.declared.Block.{Block}
 use Rattle.sk_base.specs.declared.Graph.{Graph}
 use Rattle.sk_base.specs.declared.Measure.TheVariants.{PointPoint, PointLine, LineLine}
 use Rattle.sk_base.specs.declared.Measure.{Measure}
 use Rattle.sk_base.specs.declared.Elem.{Elem}
 use Rattle.sk_base.specs.SoundGraph.{IsSoundGraph, Measures}
 use Rattle.sk_base.specs.Numbering.{con_number, con_exact}
-use Rattle.sk_base.proofs.Members.{contains_none, contains_head, contains_later, contains_cases, contains_filtered, filtered_from}
+use Rattle.sk_base.proofs.Members.{contains_filtered, filtered_from}
 use Rattle.sk_base.proofs.Numbers.{other_passes, passes_differ, among_found, found_among}
-use Rattle.sk_base.proofs.Pairs.{pairs_filter}
-use Rattle.sk_rules.proofs.Counting.{both_true}
-use Rattle.sk_spare.specs.Sparing.{without}
+use Rattle.sk_base.proofs.Pairs.{pairs_filter, pairs_same}
+use Rattle.sk_family.specs.Body.{Start, start_number, edge_start, block_start, starts}
+use Rattle.sk_family.proofs.GraphStarts.{start_comes, edge_starts, block_starts, starts_rise}
+use Rattle.sk_rules.proofs.SummedWeights.{both_true}
+use Rattle.sk_spare.specs.Sparing.{differs_from, with_just, without}
 use Rattle.sk_spare.specs.Trying.{is_other, trial_graph}
 
-module _ (g : Graph) (k : ConId) where
-  pub in_without : (d : Edge) → Contains (without k g).edges d ↔ (Contains g.edges d × (d.id ≢ k))
-  in_without d = (
-    (λ h. (let was = filtered_from (λ (e : Edge). not (e.id.0 == k.0)) g.edges d h in (was.0, λ same. passes_differ d.id.0 k.0 was.1 (ap con_number same)))),
-    (λ h. contains_filtered (λ (e : Edge). not (e.id.0 == k.0)) g.edges d h.0 (other_passes d.id.0 k.0 (λ same. h.1 (con_exact d.id k same)))),
-  )
-
-  pub in_trial : (owned : List ConId) (d : Edge) → Contains (trial_graph owned k g).edges d ↔ (Contains g.edges d × Contains owned d.id × (d.id ≢ k))
-  in_trial owned d = (
-    (λ h. (
-        let was = filtered_from (is_other owned k) g.edges d h in
-        let both = both_true (list_any (λ (j : ConId). j.0 == d.id.0) owned) (not (d.id.0 == k.0)) was.1 in
-        (was.0, among_found con_number con_exact owned d.id both.0, λ same. passes_differ d.id.0 k.0 both.1 (ap con_number same)))),
-    (λ h. contains_filtered (is_other owned k) g.edges d h.0 (rw (found_among con_number owned d.id h.1) (other_passes d.id.0 k.0 (λ same. h.2 (con_exact d.id k same))))),
-  )
-
 -- with some of its constraints a graph is sound
-measures_stay : (g : Graph) (p : Edge → Bool) (u v : Elem) (m : Measure) → Measures g u v m → Measures (record { nodes = g.nodes; edges = filter p g.edges }) u v m
+measures_stay : (g : Graph) (p : ConId → Bool) (u v : Elem) (m : Measure) → Measures g u v m → Measures (with_just p g) u v m
 measures_stay g p u v (PointPoint len) h = h
 measures_stay g p u v (PointLine len side) h = h
 measures_stay g p u v (LineLine ratio sense) h = h
 
-pub sound_part : (g : Graph) (p : Edge → Bool) → IsSoundGraph g → IsSoundGraph (record { nodes = g.nodes; edges = filter p g.edges })
+no_longer_filtered : {X : Type 0} (p : X → Bool) (xs : List X) → length (filter p xs) ≤ length xs
+no_longer_filtered p xs = (let size = length-filter_both p (λ x. not (p x)) (λ x. refl) xs in omega arith)
+
+pub sound_part : (g : Graph) (p : ConId → Bool) → IsSoundGraph g → IsSoundGraph (with_just p g)
 sound_part g p sound = record {
   nodes_rise = sound.nodes_rise;
-  edges_rise = pairs_filter (λ (d e : Edge). d.id.0 < e.id.0) p g.edges sound.edges_rise;
+  edges_rise = pairs_filter (λ (d e : Edge). d.id.0 < e.id.0) (λ (e : Edge). p e.id) g.edges sound.edges_rise;
+  blocks_rise = pairs_filter (λ (b c : Block). b.id.0 < c.id.0) (λ (b : Block). p b.id) g.blocks sound.blocks_rise;
+  blocks_apart = λ e b e_in b_in. sound.blocks_apart e b (filtered_from (λ (d : Edge). p d.id) g.edges e e_in).0 (filtered_from (λ (c : Block). p c.id) g.blocks b b_in).0;
   few_nodes = sound.few_nodes;
-  few_edges = (let few = sound.few_edges in let size = length-filter_both p (λ e. not (p e)) (λ e. refl) g.edges in omega arith);
-  two_ends = λ e e_in. sound.two_ends e (filtered_from p g.edges e e_in).0;
-  edges_measure = λ e e_in. measures_stay g p e.u e.v e.measure (sound.edges_measure e (filtered_from p g.edges e e_in).0);
+  few_constraints = (
+      let few = sound.few_constraints in
+      let edges = no_longer_filtered (λ (e : Edge). p e.id) g.edges in
+      let blocks = no_longer_filtered (λ (b : Block). p b.id) g.blocks in
+      omega arith);
+  two_ends = λ e e_in. sound.two_ends e (filtered_from (λ (d : Edge). p d.id) g.edges e e_in).0;
+  edges_measure = λ e e_in. measures_stay g p e.u e.v e.measure (sound.edges_measure e (filtered_from (λ (d : Edge). p d.id) g.edges e e_in).0);
+  blocks_sound = λ b b_in. (
+      let was = sound.blocks_sound b (filtered_from (λ (c : Block). p c.id) g.blocks b b_in).0 in
+      record { pins = was.pins; at_points = was.at_points });
 }
 
+-- its constraints are those that pass, and start as they did
+module _ (g : Graph) (p : ConId → Bool) (sound : IsSoundGraph g) where
+  part_sound : IsSoundGraph (with_just p g)
+  part_sound = sound_part g p sound
+
+  from_part : (s : Start) → Contains (starts (with_just p g)) s → Contains (starts g) s × (p s.number ≡ true)
+  from_part s h =
+      elim (start_comes (with_just p g) s h) [
+        | inl (b, b_in, is) ↦ (
+            let was = filtered_from (λ (c : Block). p c.id) g.blocks b b_in in
+            subst (λ (t : Start). Contains (starts g) t × (p t.number ≡ true)) is (block_starts g sound.blocks_rise sound.blocks_apart b was.0, was.1))
+        | inr (e, e_in, is) ↦ (
+            let was = filtered_from (λ (d : Edge). p d.id) g.edges e e_in in
+            subst (λ (t : Start). Contains (starts g) t × (p t.number ≡ true)) is (edge_starts g e was.0, was.1))
+      ]
+
+  to_part : (s : Start) → Contains (starts g) s → p s.number ≡ true → Contains (starts (with_just p g)) s
+  to_part s h passes =
+      elim (start_comes g s h) [
+        | inl (b, b_in, is) ↦ (
+            let kept = contains_filtered (λ (c : Block). p c.id) g.blocks b b_in (subst (λ (t : Start). p t.number ≡ true) (sym is) passes) in
+            subst (λ (t : Start). Contains (starts (with_just p g)) t) is (block_starts (with_just p g) part_sound.blocks_rise part_sound.blocks_apart b kept))
+        | inr (e, e_in, is) ↦ (
+            let kept = contains_filtered (λ (d : Edge). p d.id) g.edges e e_in (subst (λ (t : Start). p t.number ≡ true) (sym is) passes) in
+            subst (λ (t : Start). Contains (starts (with_just p g)) t) is (edge_starts (with_just p g) e kept))
+      ]
+
+  pub starts_of_part : starts (with_just p g) ≡ filter (λ (s : Start). p s.number) (starts g)
+  starts_of_part =
+      pairs_same (λ (s t : Start). start_number s < start_number t) (λ s h. absurd (omega arith)) (λ s t one other. absurd (omega arith))
+      (starts (with_just p g)) (filter (λ (s : Start). p s.number) (starts g))
+      (starts_rise (with_just p g) part_sound.edges_rise)
+      (pairs_filter (λ (s t : Start). start_number s < start_number t) (λ (s : Start). p s.number) (starts g) (starts_rise g sound.edges_rise))
+      (λ s h. (let was = from_part s h in contains_filtered (λ (t : Start). p t.number) (starts g) s was.0 was.1))
+      (λ s h. (let was = filtered_from (λ (t : Start). p t.number) (starts g) s h in to_part s was.0 was.1))
+
+  pub in_part : (s : Start) → Contains (starts (with_just p g)) s ↔ (Contains (starts g) s × (p s.number ≡ true))
+  in_part s = (from_part s, (λ h. to_part s h.0 h.1))
+
 pub sound_without : (g : Graph) (k : ConId) → IsSoundGraph g → IsSoundGraph (without k g)
-sound_without g k sound = sound_part g (λ e. not (e.id.0 == k.0)) sound
+sound_without g k sound = sound_part g (differs_from k) sound
 
 pub sound_trial : (g : Graph) (k : ConId) (owned : List ConId) → IsSoundGraph g → IsSoundGraph (trial_graph owned k g)
 sound_trial g k owned sound = sound_part g (is_other owned k) sound
+
+module _ (g : Graph) (k : ConId) (sound : IsSoundGraph g) where
+  pub in_without : (s : Start) → Contains (starts (without k g)) s ↔ (Contains (starts g) s × (s.number ≢ k))
+  in_without s = (
+    (λ h. (let was = (in_part g (differs_from k) sound s).0 h in (was.0, λ same. passes_differ s.number.0 k.0 was.1 (ap con_number same)))),
+    (λ h. (in_part g (differs_from k) sound s).1 (h.0, other_passes s.number.0 k.0 (λ same. h.1 (con_exact s.number k same)))),
+  )
+
+  pub in_trial : (owned : List ConId) (s : Start) → Contains (starts (trial_graph owned k g)) s ↔ (Contains (starts g) s × Contains owned s.number × (s.number ≢ k))
+  in_trial owned s = (
+    (λ h. (
+        let was = (in_part g (is_other owned k) sound s).0 h in
+        let both = both_true (list_any (λ (j : ConId). j.0 == s.number.0) owned) (differs_from k s.number) was.1 in
+        (was.0, among_found con_number con_exact owned s.number both.0, λ same. passes_differ s.number.0 k.0 both.1 (ap con_number same)))),
+    (λ h. (in_part g (is_other owned k) sound s).1 (h.0, rw (found_among con_number owned s.number h.1) (other_passes s.number.0 k.0 (λ same. h.2 (con_exact s.number k same))))),
+  )

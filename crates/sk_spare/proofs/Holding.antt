@@ -7,7 +7,7 @@ use Rattle.sk_family.specs.declared.Cluster.{Cluster}
 use Rattle.sk_family.specs.Body.{Body}
 use Rattle.sk_family.specs.Clusters.{body_of}
 use Rattle.sk_base.specs.Numbering.{is_elem}
-use Rattle.sk_rules.proofs.Counting.{both_true}
+use Rattle.sk_rules.proofs.SummedWeights.{both_true}
 use Rattle.sk_base.proofs.Numbers.{elem_found, found_elem}
 use Rattle.sk_spare.specs.Sparing.{HoldsAll}
 use Rattle.sk_spare.specs.Trying.{holds_all, some_holds}

@@ -5,22 +5,22 @@ use Rattle.std.specs.Prelude.{Contains, AllPairs, ◌↔◌}
 use Rattle.std.proofs.lemmas.List.Elements.{Contains-append_left, Contains-append_right, Contains-append_cases}
 use Rattle.sk_base.specs.declared.Elem.{Elem}
 use Rattle.sk_base.specs.declared.ConId.{ConId}
-use Rattle.sk_base.specs.declared.Edge.{Edge}
 use Rattle.sk_base.specs.declared.Graph.{Graph}
 use Rattle.sk_base.specs.SoundGraph.{IsSoundGraph}
 use Rattle.sk_base.specs.Numbering.{elem_number, con_number}
 use Rattle.sk_base.specs.Rising.{IsRising}
-use Rattle.sk_base.proofs.Members.{contains_one, contains_cases, contains_mapped, mapped_from}
-use Rattle.sk_base.proofs.Pairs.{pairs_cons}
-use Rattle.sk_base.proofs.Unions.{union_cases}
+use Rattle.sk_base.proofs.Members.{contains_one, contains_mapped, mapped_from}
 use Rattle.sk_base.proofs.Distinct.{no_longer}
-use Rattle.sk_family.specs.Body.{Body, starting, initial_bodies, SameBodies}
+use Rattle.sk_family.specs.Body.{Body, Start, starts, starting, initial_bodies, SameBodies}
+use Rattle.sk_family.proofs.GraphStarts.{start_at}
 use Rattle.sk_family.proofs.Bodies.{Within, within_itself, whole_within, body_settles}
 use Rattle.sk_rules.specs.Reach.{Step, IsClosed, IsNormal, either_rule}
 use Rattle.sk_rules.specs.Keeping.{IsReached, Dissolves}
-use Rattle.sk_rules.proofs.Families.{kept_along, edge_at}
+use Rattle.sk_rules.specs.Excess.{weight_of}
+use Rattle.sk_rules.proofs.Families.{kept_along}
 use Rattle.sk_rules.proofs.NormalForm.{IsCovered, step_inside, either_gathers, one_around, reach_covers, one_of_two, normal_same}
 use Rattle.sk_rules.proofs.Counting.{IsTight, reached_tight, owned_is_held}
+use Rattle.sk_rules.proofs.WeighedGraphs.{sound_two_each}
 use Rattle.sk_rules.proofs.Keeping.{others, reached_then, can_carry}
 use Rattle.sk_rules.proofs.KeptFamily.{dissolved_is_reached}
 use Rattle.sk_verdict.specs.Judging.{IsOver}
@@ -29,19 +29,17 @@ use Rattle.sk_verdict.proofs.Normals.{has_two}
 use Rattle.sk_spare.specs.Sparing.{without, HoldsAll, TakesPlace, IsOwner, IsSpare}
 use Rattle.sk_spare.specs.Trying.{trial_graph}
 use Rattle.sk_spare.proofs.Graphs.{in_without, in_trial, sound_without, sound_trial}
+use Rattle.sk_spare.proofs.Lighter.{weighs_without, weighs_one_more, weighs_something, two_long}
 use Rattle.sk_spare.proofs.Closing.{no_merge_of_one, closed_same}
 
-starting_within : (d : Edge) (x : Body) → Contains x.owned d.id → Contains x.elements d.u → Contains x.elements d.v → Within (starting d) x
-starting_within d x owned u_in v_in = record {
-  elements = λ e h. elim (union_cases elem_number (d.u ∷ []) (d.v ∷ []) e h) [
-    | inl first ↦ subst (λ z. Contains x.elements z) (contains_one d.u e first) u_in
-    | inr second ↦ subst (λ z. Contains x.elements z) (contains_one d.v e second) v_in
-  ];
-  owned = λ j h. subst (λ z. Contains x.owned z) (contains_one d.id j h) owned;
+starting_within : (s : Start) (x : Body) → Contains x.owned s.number → ((e : Elem) → Contains s.elements e → Contains x.elements e) → Within (starting s) x
+starting_within s x owned within = record {
+  elements = within;
+  owned = λ j h. subst (λ z. Contains x.owned z) (contains_one s.number j h) owned;
 }
 
 -- no item of a rising list stands twice
-distinct : {X : Type 0} (number : X → ℕ) (xs : List X) → IsRising number xs → AllPairs (λ a b. a ≢ b) xs
+pub distinct : {X : Type 0} (number : X → ℕ) (xs : List X) → IsRising number xs → AllPairs (λ a b. a ≢ b) xs
 distinct number xs rises i j d i_j j_in same = (let less = rises i j d i_j j_in in let level = ap number same in absurd (omega arith))
 
 module _ (g : Graph) (f : List Body) (k : ConId) (x : Body) (sound : IsSoundGraph g) (own : IsOwner g f k x) where
@@ -73,12 +71,12 @@ module _ (g : Graph) (f : List Body) (k : ConId) (x : Body) (sound : IsSoundGrap
         kept_along (without k g) (λ m. IsCovered m f)
         (step_inside (either_rule (without k g)) (either_gathers (without k g)) f (λ some among can. own.normal.closed some among (can_carry (without k g) g some (λ y y_in e e_in line. line) can)))
         (initial_bodies (without k g)) s.left s.normal.reached (λ y y_in. (
-        let found = mapped_from starting (without k g).edges y y_in in
+        let found = mapped_from starting (starts (without k g)) y y_in in
         reach_covers g (initial_bodies g) f own.normal.reached y
-        (subst (λ z. Contains (initial_bodies g) z) found.2 (contains_mapped starting g.edges found.0 ((in_without g k found.0).0 found.1).0))))
+        (subst (λ z. Contains (initial_bodies g) z) found.2 (contains_mapped starting (starts g) found.0 ((in_without g k sound found.0).0 found.1).0))))
 
     -- with just enough constraints, one less would be too few
-    pub owns_more : 2 * length x.elements < length x.owned + 3
+    pub owns_more : 2 * length x.elements < weight_of g x.owned + 3
     owns_more =
         let (y, y_in, holds) = left_holds in
         let around = left_covered y y_in in
@@ -88,21 +86,21 @@ module _ (g : Graph) (f : List Body) (k : ConId) (x : Body) (sound : IsSoundGrap
         let enough = left_tight.enough y y_in in
         let longer = no_longer x.elements y.elements (distinct elem_number x.elements (owner_tight.family.rising x own.in_family).elements) holds in
         let left_out : (j : ConId) → Contains y.owned j → k ≢ j = λ j h same. (
-        let edge = left_tight.edges y y_in j h in
-        ((in_without g k edge.0).0 edge.1).1 (edge.2 ∙ sym same)) in
-        let fewer = no_longer (k ∷ y.owned) x.owned
-        (pairs_cons (λ i j. i ≢ j) k y.owned (distinct con_number y.owned (left_tight.family.rising y y_in).owned) left_out)
-        (λ j h. elim (contains_cases k y.owned j h) [
-          | inl here ↦ subst (λ i. Contains x.owned i) here own.owns
-          | inr later ↦ within.owned j later
-        ]) in
-        omega arith
+        let start = left_tight.inside y y_in j h in
+        ((in_without g k sound start.0).0 start.1).1 (start.2 ∙ sym same)) in
+        let light = weighs_without g k sound y.owned left_out in
+        let (start, start_in, start_is, inside) = owner_tight.inside x own.in_family k own.owns in
+        let more = weighs_one_more g start start_in y.owned x.owned within.owned (λ h. left_out start.number h (sym start_is)) (subst (λ j. Contains x.owned j) (sym start_is) own.owns) in
+        let some = weighs_something g sound start start_in in
+        omega (arith, enough, longer, light, more, some)
 
     pub spare_is_over : IsOver (part_with g x.elements)
     spare_is_over =
         let more = owns_more in
-        let same = owned_is_held g f sound.edges_rise sound.two_ends own.normal x own.in_family in
-        omega arith
+        let same = owned_is_held g f sound.edges_rise (sound_two_each g sound) own.normal x own.in_family in
+        let (u, v, differ, u_in, v_in) = has_two g f sound own.normal x own.in_family in
+        let two = two_long x.elements u v differ u_in v_in in
+        omega (arith, more, same, two)
 
 module _ (g : Graph) (f : List Body) (k : ConId) (x : Body) (sound : IsSoundGraph g) (own : IsOwner g f k x)
     (rest : List Body) (in_rest : (y : Body) → Contains rest y ↔ (Contains f y × (y ≢ x))) where
@@ -128,36 +126,36 @@ module _ (g : Graph) (f : List Body) (k : ConId) (x : Body) (sound : IsSoundGrap
 
   start_within : (y : Body) → Contains (initial_bodies trial) y → Within y x
   start_within y y_in =
-      let found = mapped_from starting trial.edges y y_in in
-      let was = (in_trial g k x.owned found.0).0 found.1 in
-      let edge = tight.edges x own.in_family found.0.id was.1 in
-      let same : edge.0 ≡ found.0 = edge_at g sound.edges_rise edge.0 found.0 edge.1 was.0 edge.2 in
+      let found = mapped_from starting (starts trial) y y_in in
+      let was = (in_trial g k sound x.owned found.0).0 found.1 in
+      let (start, start_in, is, within) = tight.inside x own.in_family found.0.number was.1 in
+      let same : start ≡ found.0 = start_at g sound.edges_rise start found.0 start_in was.0 is in
       subst (λ z. Within z x) found.2 (starting_within found.0 x was.1
-      (subst (λ (e : Edge). Contains x.elements e.u) same edge.3) (subst (λ (e : Edge). Contains x.elements e.v) same edge.4))
+      (subst (λ (t : Start). (e : Elem) → Contains t.elements e → Contains x.elements e) same within))
 
   dissolves : Dissolves small f x k (rest ++ initial_bodies trial)
   dissolves y = (
     (λ h. elim (Contains-append_cases rest (initial_bodies trial) y h) [
       | inl kept ↦ inl ((in_rest y).0 kept)
-      | inr starts ↦ (
-          let found = mapped_from starting trial.edges y starts in
-          let was = (in_trial g k x.owned found.0).0 found.1 in
-          inr (found.0, (in_without g k found.0).1 (was.0, was.2), was.1, was.2, sym found.2))
+      | inr starts_so ↦ (
+          let found = mapped_from starting (starts trial) y starts_so in
+          let was = (in_trial g k sound x.owned found.0).0 found.1 in
+          inr (found.0, (in_without g k sound found.0).1 (was.0, was.2), was.1, was.2, sym found.2))
     ]),
     (λ h. elim h [
       | inl kept ↦ Contains-append_left rest (initial_bodies trial) y ((in_rest y).1 kept)
       | inr (d, d_in, owned, differs, is) ↦ subst (λ z. Contains (rest ++ initial_bodies trial) z) (sym is)
           (Contains-append_right rest (initial_bodies trial) (starting d)
-          (contains_mapped starting trial.edges d ((in_trial g k x.owned d).1 (((in_without g k d).0 d_in).0, owned, differs))))
+          (contains_mapped starting (starts trial) d ((in_trial g k sound x.owned d).1 (((in_without g k sound d).0 d_in).0, owned, differs))))
     ]),
   )
 
   start_beside : IsBeside (initial_bodies trial)
   start_beside = (
     start_within,
-    dissolved_is_reached g small f (sound_without g k sound).edges_rise (λ d d_in. ((λ h. h), (λ h. h)))
+    dissolved_is_reached g small f (sound_without g k sound).edges_rise (λ d d_in e e_in line. line)
         (record { reached_as = f; reach = own.normal.reached; same = λ y. ((λ h. h), (λ h. h)) })
-        sound.edges_rise x k (rest ++ initial_bodies trial) own.in_family own.owns (in_without g k) dissolves,
+        sound.edges_rise x k (rest ++ initial_bodies trial) own.in_family own.owns (in_without g k sound) dissolves,
   )
 
   step_beside : (m new : List Body) → Step trial m new → IsBeside m → IsBeside new

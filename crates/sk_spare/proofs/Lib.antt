@@ -1,4 +1,5 @@
 pub mod Graphs
+pub mod Lighter
 pub mod Closing
 pub mod LeavingOut
 pub mod Holding

@@ -1,17 +1,30 @@
 -- Which constraints of a graph may go.
-use Rattle.std.specs.Prelude.{◌≢◌, ◌↔◌, ◌⊎◌, ◌==◌, not, List, filter, Contains}
+use Rattle.std.specs.Prelude.{◌≢◌, ◌↔◌, ◌⊎◌, ◌==◌, not, Bool, List, filter, Contains}
 use Rattle.sk_base.specs.declared.Elem.{Elem}
 use Rattle.sk_base.specs.declared.ConId.{ConId}
 use Rattle.sk_base.specs.declared.Edge.{Edge}
+use Rattle.sk_base.specs.declared.Block.{Block}
 use Rattle.sk_base.specs.declared.Graph.{Graph}
 use Rattle.sk_base.specs.Numbering.{con_number}
 use Rattle.sk_base.specs.Rising.{IsRising}
 use Rattle.sk_family.specs.Body.{Body}
 use Rattle.sk_rules.specs.Reach.{IsNormal}
 
+-- the graph with just the constraints whose numbers pass, blocks among them
+abbrev pub with_just : (ConId → Bool) → Graph → Graph
+with_just passes g = record {
+  nodes = g.nodes;
+  edges = filter (λ (e : Edge). passes e.id) g.edges;
+  blocks = filter (λ (b : Block). passes b.id) g.blocks;
+}
+
+-- whether it is not the constraint of that number
+abbrev pub differs_from : ConId → ConId → Bool
+differs_from k j = not (j.0 == k.0)
+
 -- the graph without the constraint of that number
 abbrev pub without : ConId → Graph → Graph
-without k g = record { nodes = g.nodes; edges = filter (λ (e : Edge). not (e.id.0 == k.0)) g.edges }
+without k g = with_just (differs_from k) g
 
 -- one of the family's bodies holds all of these elements
 abbrev pub HoldsAll : List Body → List Elem → Type 0

@@ -1,20 +1,20 @@
 -- What a cluster is tried by without one of its constraints.
-use Rattle.std.specs.Prelude.{Bool, ◌==◌, ◌&&◌, not, List, filter}
+use Rattle.std.specs.Prelude.{Bool, ◌==◌, ◌&&◌, List}
 use Rattle.std.specs.List.{list_any, list_all}
 use Rattle.sk_base.specs.declared.Elem.{Elem}
 use Rattle.sk_base.specs.declared.ConId.{ConId}
-use Rattle.sk_base.specs.declared.Edge.{Edge}
 use Rattle.sk_base.specs.declared.Graph.{Graph}
 use Rattle.sk_family.specs.declared.Cluster.{Cluster}
 use Rattle.sk_base.specs.Numbering.{is_elem}
+use Rattle.sk_spare.specs.Sparing.{differs_from, with_just}
 
 -- whether the constraint is one of these, and not the one of that number
-abbrev pub is_other : List ConId → ConId → Edge → Bool
-is_other owned k e = list_any (λ (j : ConId). j.0 == e.id.0) owned && not (e.id.0 == k.0)
+abbrev pub is_other : List ConId → ConId → ConId → Bool
+is_other owned k j = list_any (λ (i : ConId). i.0 == j.0) owned && differs_from k j
 
 -- the graph of these constraints alone, but for one
 abbrev pub trial_graph : List ConId → ConId → Graph → Graph
-trial_graph owned k g = record { nodes = g.nodes; edges = filter (is_other owned k) g.edges }
+trial_graph owned k g = with_just (is_other owned k) g
 
 -- whether all of these elements are held
 abbrev pub holds_all : List Elem → List Elem → Bool

@@ -12,7 +12,7 @@ ghost use Rattle.sk_spare.specs.Trying.{trial_graph};
 
 /// Where a constraint is left out, the clusters that don't own it stay as they are, and what the
 /// owner's other constraints make alone takes its place. So that decides whether the constraint may
-/// go; and where it may, its owner holds more constraints than are due.
+/// go; and where it may, its owner holds more than is due. The constraint may be a rigid block.
 pub fn trials()
     ensures some { (g : Graph) (f n : List Body) (k : ConId) (x : Body) → IsSoundGraph g → IsOwner g f k x → IsNormal (trial_graph x.owned k g) n
         → (m : List Body) × IsNormal (without k g) m × TakesPlace f x n m }

@@ -1,10 +1,11 @@
 // The spare constraints of a graph.
-ghost use Rattle.std.specs.Prelude.{◌+◌, ◌*◌, ◌<◌, ◌≤◌, ◌↔◌, IfOk, IfSome, IfNone, IsTrue, Contains, List as Items, length};
+ghost use Rattle.std.specs.Prelude.{◌≡◌, ◌+◌, ◌*◌, ◌<◌, ◌≤◌, ◌↔◌, IfOk, IfSome, IfNone, IsTrue, Contains, List as Items, length};
 ghost use Rattle.sk_base.specs.declared.ConId.{ConId as Number};
 ghost use Rattle.sk_base.specs.SoundGraph.{IsSoundGraph};
 ghost use Rattle.sk_family.specs.declared.Cluster.{Cluster as ACluster};
-ghost use Rattle.sk_family.specs.Body.{Body};
-ghost use Rattle.sk_family.specs.Clusters.{bodies, body_of};
+ghost use Rattle.sk_family.specs.Body.{Body, Start};
+ghost use Rattle.sk_family.specs.Clusters.{bodies, body_of, start_of};
+ghost use Rattle.sk_rules.specs.Excess.{weight_of, AreConstraints};
 ghost use Rattle.sk_rules.specs.Reach.{IsNormal};
 ghost use Rattle.sk_verdict.specs.Judging.{IsOver};
 ghost use Rattle.sk_verdict.specs.Parts.{part_with};
@@ -12,7 +13,8 @@ ghost use Rattle.sk_spare.specs.Sparing.{AreSpares, IsOwner, IsSpare};
 
 use crate::trial::{normal_family, stays_whole};
 use sk_base::{ConId, Graph, List, NoMemory};
-use sk_family::{Cluster, Family};
+use sk_family::{Cluster, Family, initial};
+use sk_rules::weight_of;
 use std::alloc::Global;
 
 /// The constraints of which each alone may go: without it, the elements of the cluster that owns it
@@ -22,14 +24,24 @@ pub fn spare(alloc: Global, graph: &Graph) -> Result<List<ConId>, NoMemory>
     ensures spares { IfOk result (AreSpares graph.now) }
     ensures over { IfOk result (λ spares. (k : Number) (f : Items Body) (x : Body) → Contains spares k → IsOwner graph.now f k x → IsOver (part_with graph.now x.elements)) }
 {
+    let starts = initial(alloc, graph)?;
     let family = normal_family(alloc, graph)?;
     let mut spares = List::new(alloc);
-    for edge in graph.edges.as_slice() {
-        if is_spare(alloc, graph, &family, edge.id)? {
-            spares.push(edge.id)?;
+    for start in starts.clusters() {
+        let number = number_of(start);
+        if is_spare(alloc, graph, &family, number)? {
+            spares.push(number)?;
         }
     }
     Ok(spares)
+}
+
+/// The constraint that starts with the cluster.
+fn number_of(start: &Cluster) -> ConId
+    requires { (s : Start) × (start.now ≡ start_of s) }
+    ensures { (s : Start) → start.now ≡ start_of s → result ≡ s.number }
+{
+    start.owned.as_slice()[0]
 }
 
 /// Whether the constraint may go.
@@ -70,17 +82,19 @@ fn can_lose(alloc: Global, graph: &Graph, owner: &Cluster, number: ConId) -> Res
     requires owner { (f : Items Body) × IsOwner graph.now f number (body_of owner.now) }
     ensures { IfOk result (λ may_go. IsTrue may_go ↔ IsSpare graph.now number) }
 {
-    if !is_over(owner) {
+    if !is_over(graph, owner) {
         return Ok(false);
     }
     stays_whole(alloc, graph, owner, number)
 }
 
-/// Whether the cluster owns more constraints than are due.
-fn is_over(cluster: &Cluster) -> bool
-    requires elements { length cluster.now.elements ≤ 4000 }
-    requires owned { length cluster.now.owned ≤ 4000 }
-    ensures { IsTrue result ↔ (2 * length cluster.now.elements < length cluster.now.owned + 3) }
+/// Whether what the cluster owns weighs more than is due.
+fn is_over(graph: &Graph, cluster: &Cluster) -> bool
+    requires sound { IsSoundGraph graph.now }
+    requires enough { 2 * length cluster.now.elements ≤ weight_of graph.now cluster.now.owned + 3 }
+    requires owned { AreConstraints graph.now cluster.now.owned }
+    ensures { IsTrue result ↔ (2 * length cluster.now.elements < weight_of graph.now cluster.now.owned + 3) }
 {
-    2 * cluster.elements.len() < cluster.owned.len() + 3
+    let held = weight_of(graph, cluster.owned.as_slice());
+    2 * cluster.elements.len() < held as usize + 3
 }

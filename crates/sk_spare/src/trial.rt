@@ -1,5 +1,7 @@
 // What a cluster becomes without one of its constraints.
-ghost use Rattle.std.specs.Prelude.{◌≡◌, ◌↔◌, IfOk, IsTrue, List as Items};
+ghost use Rattle.std.specs.Prelude.{◌≡◌, ◌↔◌, IfOk, IsTrue, List as Items, filter};
+ghost use Rattle.sk_base.specs.declared.Edge.{Edge as AnEdge};
+ghost use Rattle.sk_base.specs.declared.Block.{Block as ABlock};
 ghost use Rattle.sk_base.specs.SoundGraph.{IsSoundGraph};
 ghost use Rattle.sk_family.specs.Body.{Body};
 ghost use Rattle.sk_family.specs.Clusters.{bodies};
@@ -7,7 +9,7 @@ ghost use Rattle.sk_rules.specs.Reach.{IsNormal};
 ghost use Rattle.sk_spare.specs.Sparing.{HoldsAll};
 ghost use Rattle.sk_spare.specs.Trying.{is_other, trial_graph, holds_all, some_holds};
 
-use sk_base::{ConId, Edge, Elem, Graph, List, NoMemory};
+use sk_base::{Block, ConId, Edge, Elem, Graph, List, NoMemory, copy_block};
 use sk_family::{Cluster, Family, initial};
 use sk_worklist::{Chosen, Order, close_family};
 use std::alloc::Global;
@@ -38,20 +40,54 @@ fn trial_graph(
 {
     let mut nodes = List::new(alloc);
     nodes.extend(graph.nodes.as_slice())?;
-    let mut edges = List::new(alloc);
-    for edge in graph.edges.as_slice() {
-        if is_other(owned, number, edge) {
-            edges.push(*edge)?;
+    Ok(Graph {
+        nodes,
+        edges: other_edges(alloc, graph.edges.as_slice(), owned, number)?,
+        blocks: other_blocks(alloc, graph.blocks.as_slice(), owned, number)?,
+    })
+}
+
+/// Those between two elements.
+fn other_edges(
+    alloc: Global,
+    edges: &[Edge],
+    owned: &[ConId],
+    number: ConId,
+) -> Result<List<Edge>, NoMemory>
+    ensures { IfOk result (λ others. others ≡ filter (λ (e : AnEdge). is_other owned.now number e.id) edges.now) }
+{
+    let mut others = List::new(alloc);
+    for edge in edges {
+        if is_other(owned, number, edge.id) {
+            others.push(*edge)?;
         }
     }
-    Ok(Graph { nodes, edges })
+    Ok(others)
+}
+
+/// Those that are blocks.
+fn other_blocks(
+    alloc: Global,
+    blocks: &[Block],
+    owned: &[ConId],
+    number: ConId,
+) -> Result<List<Block>, NoMemory>
+    ensures { IfOk result (λ others. others ≡ filter (λ (b : ABlock). is_other owned.now number b.id) blocks.now) }
+{
+    let mut others = List::new(alloc);
+    for block in blocks {
+        if is_other(owned, number, block.id) {
+            others.push(copy_block(alloc, block)?)?;
+        }
+    }
+    Ok(others)
 }
 
 /// Whether the constraint is one of these, and not the one of that number.
-fn is_other(owned: &[ConId], number: ConId, edge: &Edge) -> bool
-    ensures { result ≡ is_other owned.now number edge.now }
+fn is_other(owned: &[ConId], number: ConId, constraint: ConId) -> bool
+    ensures { result ≡ is_other owned.now number constraint }
 {
-    owned.contains(&edge.id) && edge.id.0 != number.0
+    owned.contains(&constraint) && constraint.0 != number.0
 }
 
 /// A normal family of the graph.

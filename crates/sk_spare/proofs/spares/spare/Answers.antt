@@ -1,35 +1,52 @@
-use Rattle.std.proofs.Common.{◌+◌, ◌<◌, List, length, take, ap, sym, subst, ◌∙◌, arith}
-use Rattle.std.specs.Prelude.{AllPairs}
+use Rattle.std.proofs.Common.{◌≡◌, ◌+◌, ◌<◌, ◌++◌, List, [], ◌∷◌, length, get_or, take, ap, sym, subst, ◌∙◌, arith}
+use Rattle.std.specs.Prelude.{map}
 use Rattle.sk_base.specs.declared.ConId.{ConId}
-use Rattle.sk_base.specs.declared.Edge.{Edge}
-use Rattle.sk_family.specs.Starting.{any_edge}
-use Rattle.sk_spare.proofs.Deciding.{AreSpareOf, with_it, without_it, all_decided, not_told}
+use Rattle.sk_family.specs.declared.Cluster.{Cluster}
+use Rattle.sk_family.specs.Body.{Start, starts}
+use Rattle.sk_family.specs.Clusters.{Clusters, start_of}
+use Rattle.sk_family.specs.Starting.{any_start}
+use Rattle.sk_family.proofs.GraphStarts.{starts_rise}
+use Rattle.sk_spare.specs.Sparing.{IsSpare}
+use Rattle.sk_spare.proofs.Deciding.{AreSpareOf, as_many, start_there, with_it, without_it, all_decided, not_told}
 use Rattle.sk_spare.proofs.LeavingOut.{spare_is_over}
 use Rattle.sk_spare.proofs.spares.spare.Goals as goal
 use Rattle.sk_spare.proofs.spares.spare.Goals.{then-branch+in_ok-push, else-branch}
 
-pub loop-edge-preserved : goal.loop-edge-preserved
-loop-edge-preserved c =
+pub number_of-number-requires : goal.number_of-number-requires
+number_of-number-requires c = (
+  get_or (starts c.args.graph.now) c.loop-start.start-index any_start,
+  start_there c.args.graph.now c.clusters-start-items.result.now (c.clusters-start-items.ensures.live ∙ ap (λ (f : Clusters). f.live) c.in_ok-starts.ensures.clusters)
+      c.loop-start.start-index c.start-item.result c.loop-start-test.true c.start-item.is,
+)
+
+pub loop-start-preserved : goal.loop-start-preserved
+loop-start-preserved c =
     let g = c.args.graph.now in
-    let edges = c.as_slice-edge-items.result.now in
-    let i = c.loop-edge.edge-index in
-    let rises : AllPairs (λ (d e : Edge). d.id.0 < e.id.0) edges =
-    subst (λ (ds : List Edge). AllPairs (λ (d e : Edge). d.id.0 < e.id.0) ds) (sym c.as_slice-edge-items.ensures) c.requires.edges_rise in
+    let i = c.loop-start.start-index in
+    let are : c.clusters-start-items.result.now ≡ map start_of (starts g) = c.clusters-start-items.ensures.live ∙ ap (λ (f : Clusters). f.live) c.in_ok-starts.ensures.clusters in
+    let this : Start = get_or (starts g) i any_start in
+    let is : c.number_of-number.result ≡ this.number = c.number_of-number.ensures this (start_there g c.clusters-start-items.result.now are i c.start-item.result c.loop-start-test.true c.start-item.is) in
+    let within : i < length (starts g) = (let many = as_many g c.clusters-start-items.result.now are in let below = c.loop-start-test.true in omega arith) in
     elim c.if-branch.branch [
-      | then-branch+in_ok-push w ↦ subst (λ (ks : List ConId). AreSpareOf g (take (i + 1) edges) ks) (sym (w.spares-is ∙ w.in_ok-push.ensures.ok))
-          (with_it g edges i c.loop-edge.spares c.loop-edge.invariant c.loop-edge-test.true any_edge rises (c.in_ok-is_spare.ensures.0 w.if-branch.true))
-      | else-branch w ↦ subst (λ (ks : List ConId). AreSpareOf g (take (i + 1) edges) ks) (sym w.spares-is)
-          (without_it g edges i c.loop-edge.spares c.loop-edge.invariant c.loop-edge-test.true any_edge
-          (not_told c.in_ok-is_spare.field-0 c.in_ok-is_spare.ensures w.if-branch.false))
+      | then-branch+in_ok-push w ↦ subst (λ (ks : List ConId). AreSpareOf g (take (i + 1) (starts g)) ks) (sym (w.spares-is ∙ w.in_ok-push.ensures.ok))
+          (subst (λ (k : ConId). AreSpareOf g (take (i + 1) (starts g)) (c.loop-start.spares ++ k ∷ [])) (sym is)
+          (with_it g (starts g) i c.loop-start.spares c.loop-start.invariant within any_start (starts_rise g c.requires.edges_rise)
+          (subst (λ (k : ConId). IsSpare g k) is (c.in_ok-is_spare.ensures.0 w.if-branch.true))))
+      | else-branch w ↦ subst (λ (ks : List ConId). AreSpareOf g (take (i + 1) (starts g)) ks) (sym w.spares-is)
+          (without_it g (starts g) i c.loop-start.spares c.loop-start.invariant within any_start
+          (subst (λ (k : ConId). ¬ IsSpare g k) is (not_told c.in_ok-is_spare.field-0 c.in_ok-is_spare.ensures w.if-branch.false)))
     ]
 
 pub returns-clause-spares : goal.returns-clause-spares
-returns-clause-spares c = record {
-  exactly = all_decided c.args.graph.now c.requires c.loop-edge.edge-index c.loop-edge.spares
-      (omega (arith, c.loop-edge-test.false, ap (λ (ds : List Edge). length ds) c.as_slice-edge-items.ensures))
-      (subst (λ (ds : List Edge). AreSpareOf c.args.graph.now (take c.loop-edge.edge-index ds) c.loop-edge.spares) c.as_slice-edge-items.ensures c.loop-edge.invariant);
-  rise = c.loop-edge.invariant.rise;
-}
+returns-clause-spares c =
+    let g = c.args.graph.now in
+    let are : c.clusters-start-items.result.now ≡ map start_of (starts g) = c.clusters-start-items.ensures.live ∙ ap (λ (f : Clusters). f.live) c.in_ok-starts.ensures.clusters in
+    record {
+      exactly = all_decided g c.requires c.loop-start.start-index c.loop-start.spares
+          (let many = as_many g c.clusters-start-items.result.now are in omega (arith, c.loop-start-test.false, many))
+          c.loop-start.invariant;
+      rise = c.loop-start.invariant.rise;
+    }
 
 pub returns-clause-over : goal.returns-clause-over
 returns-clause-over c k f x k_in own = spare_is_over c.args.graph.now f k x c.requires own (((returns-clause-spares c).exactly k).0 k_in)
