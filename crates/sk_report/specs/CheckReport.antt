@@ -2,7 +2,7 @@
 use Rattle.std.specs.Prelude.{ℕ, ◌+◌, if◌then◌else◌, nat_lt, List, [], ◌∷◌, ◌++◌, length, codes}
 use Rattle.std.specs.Fmt.{decimal}
 use Rattle.sk_base.specs.declared.Sketch.{Sketch}
-use Rattle.sk_text.specs.ElementNames.{names_of}
+use Rattle.sk_base.specs.ElementNames.{names_of}
 use Rattle.sk_verdict.specs.declared.Verdict.{Verdict}
 use Rattle.sk_verdict.specs.declared.Verdict.TheVariants.{Well, Over, Several}
 use Rattle.sk_verdict.specs.declared.Part.{Part}

@@ -4,8 +4,8 @@ use Rattle.std.specs.Fmt.{decimal}
 use Rattle.sk_base.specs.declared.Constraint.{Constraint}
 use Rattle.sk_base.specs.declared.Rule.{Rule}
 use Rattle.sk_base.specs.declared.Sketch.{Sketch}
-use Rattle.sk_text.specs.ElementNames.{name_of}
-use Rattle.sk_text.specs.Spelling.{whole_text}
+use Rattle.sk_base.specs.ElementNames.{name_of}
+use Rattle.sk_base.specs.Spelling.{whole_text}
 use Rattle.sk_interval.specs.declared.Cause.{Cause}
 use Rattle.sk_steps.specs.Words.{word_of}
 use Rattle.sk_place.specs.declared.Phase.{Phase}
@@ -39,7 +39,7 @@ bits_words bits = codes " bits " ++ (decimal bits ++ codes "\n")
 abbrev pub fault_line : Sketch → StepFault → ℕ → List ℕ
 fault_line s f bits = ((fault_head f ++ 32 ∷ name_of s f.elem) ++ cause_words f.cause) ++ bits_words bits
 
--- lengths and heights are told in nanometres, angles in parts per 10^9
+-- lengths, heights and the places of blocks are told in nanometres, angles in parts per 10^9
 abbrev pub rule_unit : Rule → List ℕ
 rule_unit (Rule.Distance u v len) = codes "nm"
 rule_unit (Rule.On u v) = codes "nm"
@@ -47,6 +47,7 @@ rule_unit (Rule.Tangent u v) = codes "nm"
 rule_unit (Rule.Outside u v) = codes "nm"
 rule_unit (Rule.Inside u v) = codes "nm"
 rule_unit (Rule.Angle l m ratio) = codes "ppb"
+rule_unit (Rule.Block pins) = codes "nm"
 
 abbrev pub constraint_unit : Option Constraint → List ℕ
 constraint_unit None = codes "nm"

@@ -13,7 +13,7 @@ use Rattle.sk_tree.specs.declared.Choice.{Choice}
 use Rattle.sk_tree.specs.declared.Choice.TheVariants.{Turn, Advance, Nothing}
 use Rattle.sk_tree.specs.declared.PlanStep.{PlanStep}
 use Rattle.sk_tree.specs.declared.Plan.{Plan}
-use Rattle.sk_text.specs.ElementNames.{names_of}
+use Rattle.sk_base.specs.ElementNames.{names_of}
 use Rattle.sk_text.specs.ClusterName.{cluster_name}
 
 -- the constraint of that number

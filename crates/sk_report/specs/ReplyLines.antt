@@ -5,7 +5,7 @@ use Rattle.sk_base.specs.declared.ConId.{ConId}
 use Rattle.sk_base.specs.declared.Elem.{Elem}
 use Rattle.sk_base.specs.declared.Sketch.{Sketch}
 use Rattle.sk_lang.specs.declared.Code.{Code}
-use Rattle.sk_text.specs.ElementNames.{name_of}
+use Rattle.sk_base.specs.ElementNames.{name_of}
 use Rattle.sk_lang.specs.CodeTexts.{code_text, code_word}
 
 -- to a change or an undo

@@ -9,8 +9,8 @@ use Rattle.sk_base.specs.declared.Placed.{Placed}
 use Rattle.sk_base.specs.declared.Shape.{Shape}
 use Rattle.sk_base.specs.declared.Sketch.{Sketch}
 use Rattle.sk_base.specs.Places.{place_of}
-use Rattle.sk_text.specs.ElementNames.{name_of}
-use Rattle.sk_text.specs.Spelling.{whole_text}
+use Rattle.sk_base.specs.ElementNames.{name_of}
+use Rattle.sk_base.specs.Spelling.{whole_text}
 use Rattle.sk_tree.specs.declared.Plan.{Plan}
 use Rattle.sk_residual.specs.declared.Spotted.{Spotted}
 use Rattle.sk_residual.specs.declared.Tolerance.{Tolerance}
@@ -74,6 +74,10 @@ tolerance_lines s t = length_line t ++ angle_line s t
 abbrev pub solve_counts : Plan → ℕ → List ℕ
 solve_counts p bits = codes "steps " ++ (decimal (length p.steps) ++ (codes "\nbits " ++ (decimal bits ++ codes "\n")))
 
--- the report: the verdict, the number of steps, the grid, a line for each element, and the tolerance
+-- a line for each element, and the tolerance
+abbrev pub places_report : Sketch → Placed → Tolerance → List ℕ
+places_report s at t = element_lines at s.elements ++ tolerance_lines s t
+
+-- the report: the verdict, the number of steps, the grid, where each element lies, and the tolerance
 abbrev pub solve_report : Sketch → Plan → ℕ → Placed → Tolerance → List ℕ
-solve_report s p bits at t = ((codes "verdict well\n" ++ solve_counts p bits) ++ element_lines at s.elements) ++ tolerance_lines s t
+solve_report s p bits at t = (codes "verdict well\n" ++ solve_counts p bits) ++ places_report s at t

@@ -85,14 +85,14 @@ fn spotted_unit(s: &Sketch, at: Spotted) -> &'static str
     match at {
         Spotted::Line(_) => "ppb",
         Spotted::Con(number) => match constraint_of(s, number) {
-            Some(constraint) => rule_unit(constraint.rule),
+            Some(constraint) => rule_unit(&constraint.rule),
             None => "nm",
         },
     }
 }
 
-fn rule_unit(rule: Rule) -> &'static str
-    ensures { result.now ≡ rule_unit rule }
+fn rule_unit(rule: &Rule) -> &'static str
+    ensures { result.now ≡ rule_unit rule.now }
 {
     match rule {
         Rule::Angle { .. } => "ppb",
@@ -100,7 +100,8 @@ fn rule_unit(rule: Rule) -> &'static str
         | Rule::On { .. }
         | Rule::Tangent { .. }
         | Rule::Outside { .. }
-        | Rule::Inside { .. } => "nm",
+        | Rule::Inside { .. }
+        | Rule::Block { .. } => "nm",
     }
 }
 

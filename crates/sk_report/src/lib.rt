@@ -17,4 +17,4 @@ pub use grow::grow_text;
 pub use plan::plan_text;
 pub use refusal::refused_text;
 pub use reply::{code_text, constrained_text, declared_text, done_text};
-pub use solve::solve_text;
+pub use solve::{places_text, solve_text};

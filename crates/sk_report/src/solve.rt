@@ -1,9 +1,9 @@
 // The report on placed elements.
 ghost use Rattle.std.specs.Prelude.{◌≡◌, ◌*ℤ◌, pos, ◌++◌, ◌∷◌, [], IfOk, OnOk};
-ghost use Rattle.sk_text.specs.Spelling.{whole_text};
+ghost use Rattle.sk_base.specs.Spelling.{whole_text};
 ghost use Rattle.sk_base.specs.Places.{place_of};
-ghost use Rattle.sk_text.specs.ElementNames.{name_of};
-ghost use Rattle.sk_report.specs.SolveReport.{numbers_text, point_line, circle_line, line_line, centre_line, lying_line, element_line, element_lines, spotted_words, constraint_or_none, spotted_or_none, length_line, angle_line, tolerance_lines, solve_counts, solve_report};
+ghost use Rattle.sk_base.specs.ElementNames.{name_of};
+ghost use Rattle.sk_report.specs.SolveReport.{numbers_text, point_line, circle_line, line_line, centre_line, lying_line, element_line, element_lines, spotted_words, constraint_or_none, spotted_or_none, length_line, angle_line, tolerance_lines, solve_counts, places_report, solve_report};
 
 use sk_base::{At, ConId, Element, NoMemory, Placed, Shape, Sketch, Text, Um};
 use sk_residual::{Spotted, Tolerance};
@@ -26,9 +26,32 @@ pub fn solve_text(
     let mut text = Text::new(alloc);
     text.put(b"verdict well\n")?;
     put_counts(alloc, &mut text, p, bits)?;
-    put_elements(&mut text, s.elements.as_slice(), at)?;
-    put_tolerance(alloc, &mut text, s, t)?;
+    put_places(alloc, &mut text, s, at, t)?;
     Ok(text)
+}
+
+/// Where each element lies, in nanometres and in parts per 10^9, and the tolerance: the lines of the
+/// solve report that tell it.
+pub fn places_text(alloc: Global, s: &Sketch, at: &Placed, t: &Tolerance) -> Result<Text, NoMemory>
+    ensures { IfOk result (λ text. text ≡ places_report s.now at.now t.now) }
+{
+    let mut text = Text::new(alloc);
+    put_places(alloc, &mut text, s, at, t)?;
+    Ok(text)
+}
+
+/// Puts a line for each element, and the two lines that tell the tolerance.
+fn put_places(
+    alloc: Global,
+    text: &mut Text,
+    s: &Sketch,
+    at: &Placed,
+    t: &Tolerance,
+) -> Result<(), NoMemory>
+    ensures { OnOk result (text.new ≡ text.old ++ places_report s.now at.now t.now) }
+{
+    put_elements(text, s.elements.as_slice(), at)?;
+    put_tolerance(alloc, text, s, t)
 }
 
 /// Puts the number of steps and the binary digits of the grid, a line each.
