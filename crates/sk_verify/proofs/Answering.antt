@@ -13,14 +13,14 @@ use Rattle.sk_residual.specs.declared.Spotted.{Spotted}
 use Rattle.sk_residual.specs.declared.Spotted.TheVariants as spotted
 use Rattle.sk_residual.specs.declared.Turned.{Turned}
 use Rattle.sk_residual.specs.Least.{IsFirst}
-use Rattle.sk_residual.specs.Tolerances.{Item, everything, name_of}
+use Rattle.sk_residual.specs.Tolerances.{everything, name_of}
 use Rattle.sk_residual.specs.Turns.{signs, IsTurned}
 use Rattle.sk_tree.specs.declared.PlanStep.{PlanStep}
 use Rattle.sk_verify.specs.declared.claim.Claim.{Claim}
 use Rattle.sk_verify.specs.declared.failure.Failure.{Failure}
 use Rattle.sk_verify.specs.declared.failure.Failure.TheVariants.{Step, Parts, Element as OfElement, Line, Con, Sign}
 use Rattle.sk_verify.specs.Claims.{IsTold, HoldsAsClaimed, plan_claimed}
-use Rattle.sk_verify.specs.Failing.{HasRightSteps, LeavesWhole, AllTold, AllHoldAsClaimed, HasDrawnSigns, IsJoined, IsComplete, IsMet, IsAccepted, IsFirstUntold, IsFirstOff, IsFirstTurned, FailsFirst}
+use Rattle.sk_verify.specs.Failing.{AllTold, AllHoldAsClaimed, HasDrawnSigns, IsAccepted, IsFirstUntold, IsFirstOff, IsFirstTurned, FailsFirst}
 use Rattle.sk_verify.specs.RightSteps.{AreRight, IsFirstWrong, next_after}
 
 module _ {X : Type 0} (P : X → Type 0) where

@@ -3,23 +3,24 @@ use Rattle.std.proofs.Common.{◌≡◌, List, [], ◌∷◌, refl}
 use Rattle.std.specs.Prelude.{All, Contains}
 use Rattle.std.proofs.lemmas.List.Elements.{All-nil, All-cons, Contains-append_left, Contains-append_right}
 use Rattle.sk_base.specs.declared.Edge.{Edge}
-use Rattle.sk_base.specs.declared.Elem.{Elem}
 use Rattle.sk_base.specs.declared.Graph.{Graph}
 use Rattle.sk_base.specs.declared.Kind.TheVariants as kinds
 use Rattle.sk_base.specs.declared.Node.{Node}
 use Rattle.sk_base.specs.declared.Sketch.{Sketch}
-use Rattle.sk_base.specs.SoundGraph.{IsSoundGraph}
+use Rattle.sk_base.specs.SoundGraph.{IsSoundGraph, HasRisingBlocks, HasBlocksApart}
 use Rattle.sk_base.proofs.Members.{contains_head, contains_mapped}
+use Rattle.sk_base.proofs.Unions.{union_right}
 use Rattle.sk_choice.specs.DrawnChoice.{HasDrawnChoice}
 use Rattle.sk_family.specs.Clusters.{Clusters, initial_clusters}
 use Rattle.sk_graph.specs.SketchGraph.{graph_of}
 use Rattle.sk_residual.specs.Placing.{PlacesExactly}
-use Rattle.sk_residual.specs.Tolerances.{normal, constraint, normals, normal_of_kind, constraints, AllHoldWithin}
+use Rattle.sk_residual.specs.Tolerances.{Item, normal, constraint, block, number_of, normals, normal_of_kind, between, rigid, constraints, AllHoldWithin}
+use Rattle.sk_residual.proofs.Merging.{block_in}
 use Rattle.sk_residual.proofs.Worsts.{contains_flat}
 use Rattle.sk_tree.specs.declared.PlanStep.{PlanStep}
 use Rattle.sk_tree.specs.LegalPlan.{IsWhole, AreLegalSteps, IsLegalPlan}
 use Rattle.sk_verify.specs.declared.claim.Claim.{Claim}
-use Rattle.sk_verify.specs.Claims.{IsFitting, plan_claimed}
+use Rattle.sk_verify.specs.Claims.{IsFitting, HoldsAsClaimed, plan_claimed}
 use Rattle.sk_verify.specs.Failing.{IsJoined, IsAccepted}
 use Rattle.sk_verify.specs.RightSteps.{AreRight, after, next_after}
 use Rattle.sk_verify.proofs.Complete.{told_exactly}
@@ -45,8 +46,12 @@ module _ (s : Sketch) (g : Graph) (c : Claim) (is : IsAccepted s g c) where
   pub placed : g ≡ graph_of s → IsSoundGraph g → IsFitting g c → PlacesExactly g c.at
   placed same sound fits = told_exactly s g same sound c fits is.met.complete.told
 
-  pub holds : AllHoldWithin c.at g c.t c.w
-  holds = record {
-    lines = λ line node. is.met.holds (normal line) (Contains-append_left (normals g.nodes) (constraints g.edges) (normal line) (contains_flat (λ (n : Node). normal_of_kind n.elem n.kind) g.nodes (record { elem = line; kind = kinds.Line }) (normal line) node (contains_head (normal line) [])));
-    edges = λ e inside. is.met.holds (constraint e) (Contains-append_right (normals g.nodes) (constraints g.edges) (constraint e) (contains_mapped (λ (x : Edge). constraint x) g.edges e inside));
+  of_constraints : (item : Item) → Contains (constraints g) item → HoldsAsClaimed c item
+  of_constraints item inside = is.met.holds item (Contains-append_right (normals g.nodes) (constraints g) item inside)
+
+  pub holds : HasRisingBlocks g → HasBlocksApart g → AllHoldWithin c.at g c.t c.w
+  holds rise apart = record {
+    lines = λ line node. is.met.holds (normal line) (Contains-append_left (normals g.nodes) (constraints g) (normal line) (contains_flat (λ (n : Node). normal_of_kind n.elem n.kind) g.nodes (record { elem = line; kind = kinds.Line }) (normal line) node (contains_head (normal line) [])));
+    edges = λ e inside. of_constraints (constraint e) (union_right number_of (rigid g.blocks) (between g.edges) (constraint e) (contains_mapped (λ (x : Edge). constraint x) g.edges e inside));
+    blocks = λ b inside. of_constraints (block b) (block_in g rise apart b inside);
   }

@@ -1,16 +1,13 @@
 -- Where each element is told, just the nodes of the graph are placed.
-use Rattle.std.proofs.Common.{◌≡◌, ◌≢◌, inl, inr, ◌==◌, ◌<◌, true, false, List, pos, refl, sym, subst, ap, ◌∙◌, arith}
+use Rattle.std.proofs.Common.{◌≡◌, ◌≢◌, inl, inr, ◌==◌, ◌<◌, true, pos, refl, sym, subst, ap, ◌∙◌, arith}
 use Rattle.std.specs.Prelude.{Contains, Option, Some, None, IsSome, find, unwrap_or}
 use Rattle.std.specs.Option.{option_map}
 use Rattle.std.proofs.lemmas.Bool.Decides.{eqb_tells}
 use Rattle.sk_base.specs.declared.At.{At}
 use Rattle.sk_base.specs.declared.At.TheVariants.{Point}
 use Rattle.sk_base.specs.declared.Elem.{Elem}
-use Rattle.sk_base.specs.declared.Element.{Element}
 use Rattle.sk_base.specs.declared.Graph.{Graph}
-use Rattle.sk_base.specs.declared.Kind.{Kind}
 use Rattle.sk_base.specs.declared.Node.{Node}
-use Rattle.sk_base.specs.declared.Placed.{Placed}
 use Rattle.sk_base.specs.declared.Sketch.{Sketch}
 use Rattle.sk_base.specs.declared.Spot.{Spot}
 use Rattle.sk_base.specs.Numbering.{elem_exact}
@@ -22,7 +19,7 @@ use Rattle.sk_base.proofs.Pairs.{pairs_tell}
 use Rattle.sk_graph.specs.SketchGraph.{node_of, graph_of}
 use Rattle.sk_residual.specs.Placing.{lies, HasKind, IsPlacedAs, IsSpotOf, PlacesExactly}
 use Rattle.sk_verify.specs.declared.claim.Claim.{Claim}
-use Rattle.sk_verify.specs.Claims.{IsFitting, IsTold}
+use Rattle.sk_verify.specs.Claims.{IsFitting}
 use Rattle.sk_verify.specs.Failing.{AllTold}
 
 -- what is found, where something is

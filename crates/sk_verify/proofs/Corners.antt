@@ -1,5 +1,5 @@
 -- What is known of live clusters holds of whatever clusters have their names.
-use Rattle.std.proofs.Common.{◌≡◌, Bool, List, [], ◌∷◌, sym, subst}
+use Rattle.std.proofs.Common.{Bool, List, subst}
 use Rattle.std.specs.Prelude.{IsTrue, ◌↔◌, Contains}
 use Rattle.sk_base.specs.declared.Elem.{Elem}
 use Rattle.sk_base.specs.declared.Graph.{Graph}

@@ -6,7 +6,9 @@ use Rattle.sk_base.specs.declared.Name.{Name}
 use Rattle.sk_base.specs.declared.Name.TheVariants.{Step}
 use Rattle.sk_base.specs.declared.Sketch.{Sketch}
 use Rattle.sk_base.specs.SoundGraph.{IsSoundGraph}
+use Rattle.sk_family.specs.Body.{starts}
 use Rattle.sk_family.specs.Clusters.{Clusters, initial_clusters, start_of}
+use Rattle.sk_family.proofs.GraphStarts.{starts_few}
 use Rattle.sk_tree.specs.declared.PlanStep.{PlanStep}
 use Rattle.sk_verify.specs.RightSteps.{IsRightStep, AreRight, IsFirstWrong, after, next_after}
 use Rattle.sk_verify.specs.Stepping.{HasRoom, LeadsTo}
@@ -49,4 +51,7 @@ module _ (s : Sketch) (g : Graph) (steps : List PlanStep) (i : ℕ) (f : Cluster
       }
 
 pub room_at_start : (g : Graph) → IsSoundGraph g → HasRoom (initial_clusters g)
-room_at_start g sound = let same : length (initial_clusters g).live ≡ length g.edges = length-map g.edges start_of in omega (arith, sound.few_edges)
+room_at_start g sound =
+    let same : length (initial_clusters g).live ≡ length (starts g) = length-map (starts g) start_of in
+    let few = starts_few g sound.edges_rise in
+    omega (arith, few, sound.few_constraints)

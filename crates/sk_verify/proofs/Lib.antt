@@ -1,4 +1,7 @@
+pub mod ClaimSoFar
+pub mod FittingClaims
 pub mod Fronts
+pub mod StepWords
 pub mod Tests
 pub mod Corners
 pub mod Leading

@@ -1,9 +1,10 @@
 -- What a line of a claim says, and its codes.
-use Rattle.std.specs.Prelude.{ℕ, ℤ, pos, negsuc, Bool, true, false, ◌||◌, not, ◌==◌, List, [], ◌∷◌, ◌++◌, length, Option, Some, None, is_some, is_none, unwrap_or, option_and_then, codes, bytes_eq, if◌then◌else◌}
+use Rattle.std.specs.Prelude.{ℕ, ℤ, pos, negsuc, Bool, true, false, ◌&&◌, ◌||◌, not, ◌==◌, List, [], ◌∷◌, ◌++◌, length, Option, Some, None, is_some, is_none, unwrap_or, option_and_then, codes, bytes_eq, if◌then◌else◌}
 use Rattle.std.specs.List.{list_any, zip}
 use Rattle.std.specs.Option.{option_map}
 use Rattle.sk_base.specs.declared.At.TheVariants as at
 use Rattle.sk_base.specs.declared.Element.{Element}
+use Rattle.sk_base.specs.declared.Placed.{Placed}
 use Rattle.sk_base.specs.declared.Shape.{Shape}
 use Rattle.sk_base.specs.declared.Shape.TheVariants as shapes
 use Rattle.sk_base.specs.declared.Sign.{Sign}
@@ -24,13 +25,12 @@ use Rattle.sk_tree.specs.declared.Choice.{Choice}
 use Rattle.sk_tree.specs.declared.Choice.TheVariants.{Turn, Advance, Nothing}
 use Rattle.sk_tree.specs.declared.PlanStep.{PlanStep}
 use Rattle.sk_verify.specs.declared.claim.Radius.{Radius}
-
--- the claim as far as it was read; its tolerances are the last of it
-pub record SoFar : Type 0 where
-  pub steps : List PlanStep
-  pub spots : List Spot
-  pub radii : List Radius
-  pub tolerances : Option (ℕ × ℕ)
+use Rattle.sk_verify.specs.declared.claim_line.SoFar.{SoFar}
+use Rattle.sk_verify.specs.declared.claim_line.Tolerances.{Tolerances}
+use Rattle.sk_verify.specs.declared.first_word.First.{First}
+use Rattle.sk_verify.specs.declared.first_word.First.TheVariants as begins
+use Rattle.sk_verify.specs.declared.first_word.Figure.{Figure}
+use Rattle.sk_verify.specs.declared.first_word.Figure.TheVariants as figure
 
 -- the whole number that a word is: an optional `-` and 1 to 19 digits, at most so much in absolute value
 abbrev pub whole_of : ℕ → List ℕ → Option ℤ
@@ -73,6 +73,10 @@ choice_of (word ∷ sign ∷ []) =
     else (if bytes_eq word (codes "advance") then option_map Advance (sign_of sign) else None)
 choice_of _ = None
 
+-- the words that stand in each step
+abbrev pub are_fixed : List ℕ → List ℕ → List ℕ → Bool
+are_fixed joins at keeps = bytes_eq joins (codes "joins") && bytes_eq at (codes "at") && bytes_eq keeps (codes "keeps")
+
 -- E4: a word in the place of an element's name isn't a name
 abbrev pub is_no_name : List ℕ → Bool
 is_no_name word = not (is_name word)
@@ -85,82 +89,82 @@ is_unknown s word = is_none (element_named s word)
 abbrev pub is_choice_long : List (List ℕ) → Bool
 is_choice_long choice = (length choice == 1) || (length choice == 2)
 
+-- the codes of the names of elements in a step
+abbrev pub corner_rows : Sketch → List (List ℕ) → List (Bool × Code)
+corner_rows s corners =
+    (list_any is_no_name corners, E4) ∷
+    (list_any (is_unknown s) corners, E6) ∷ []
+
 -- the codes of the words behind `step`, of which there are 12, or 13 where a sign stands at the end
 abbrev pub step_rows : Sketch → List (List ℕ) → List (Bool × Code)
 step_rows s (name ∷ joins ∷ x ∷ y ∷ z ∷ at ∷ a ∷ b ∷ c ∷ keeps ∷ kept ∷ choice) =
     (not (is_choice_long choice), E3) ∷
-    (not (bytes_eq joins (codes "joins")) || not (bytes_eq at (codes "at")) || not (bytes_eq keeps (codes "keeps")) || is_none (choice_of choice), E2) ∷
-    (list_any is_bad_name (name ∷ x ∷ y ∷ z ∷ kept ∷ []) || list_any is_no_name (a ∷ b ∷ c ∷ []), E4) ∷
-    (list_any (is_unknown s) (a ∷ b ∷ c ∷ []), E6) ∷ []
+    (not (are_fixed joins at keeps) || is_none (choice_of choice), E2) ∷
+    (list_any is_bad_name (name ∷ x ∷ y ∷ z ∷ kept ∷ []), E4) ∷
+    corner_rows s (a ∷ b ∷ c ∷ [])
 step_rows s _ = (true, E3) ∷ []
 
--- what an element line tells of
-pub data Told : Type 0 where
-  point : Told
-  circle : Told
-  line : Told
-
 -- E7: the first word doesn't fit the element's shape
-abbrev pub fits_shape : Told → Shape → Bool
-fits_shape point (shapes.Point x y) = true
-fits_shape circle (shapes.Circle x y r) = true
-fits_shape line (shapes.Line x1 y1 x2 y2) = true
+abbrev pub fits_shape : Figure → Shape → Bool
+fits_shape figure.Point (shapes.Point x y) = true
+fits_shape figure.Circle (shapes.Circle x y r) = true
+fits_shape figure.Line (shapes.Line x1 y1 x2 y2) = true
 fits_shape _ _ = false
 
-abbrev pub fits_element : Told → Option Element → Bool
-fits_element told (Some element) = fits_shape told element.shape
-fits_element told None = false
+abbrev pub fits_element : Figure → Option Element → Bool
+fits_element kind (Some element) = fits_shape kind element.shape
+fits_element kind None = false
 
 -- the limits of the numbers behind the name
-abbrev pub limits_of : Told → List ℕ
-limits_of point = length_limit ∷ length_limit ∷ []
-limits_of circle = length_limit ∷ length_limit ∷ length_limit ∷ []
-limits_of line = normal_limit ∷ normal_limit ∷ length_limit ∷ []
+abbrev pub limits_of : Figure → List ℕ
+limits_of figure.Point = length_limit ∷ length_limit ∷ []
+limits_of figure.Circle = length_limit ∷ length_limit ∷ length_limit ∷ []
+limits_of figure.Line = normal_limit ∷ normal_limit ∷ length_limit ∷ []
 
 -- E8: a word in a number's place isn't one, or passes its limit
 abbrev pub is_bad_whole : ℕ × List ℕ → Bool
 is_bad_whole (most, word) = is_none (whole_of most word)
 
 -- E5: the element stands already
-abbrev pub is_placed : Sketch → SoFar → List ℕ → Bool
-is_placed s c name = is_some (place_of (record { spots = c.spots }) (number_named s name))
+abbrev pub is_placed : Sketch → Placed → List ℕ → Bool
+is_placed s at name = is_some (place_of at (number_named s name))
 
--- the codes of the words behind the first of an element line
-abbrev pub element_rows : Sketch → SoFar → Told → List (List ℕ) → List (Bool × Code)
-element_rows s c told [] = (true, E3) ∷ []
-element_rows s c told (name ∷ numbers) =
-    (not (length numbers == length (limits_of told)), E3) ∷
+-- the codes of the name in an element line
+abbrev pub name_rows : Sketch → Figure → List ℕ → List (Bool × Code)
+name_rows s kind name =
     (is_no_name name, E4) ∷
     (is_unknown s name, E6) ∷
-    (not (fits_element told (element_named s name)), E7) ∷
-    (list_any is_bad_whole (zip (limits_of told) numbers), E8) ∷
-    (is_placed s c name, E5) ∷ []
+    (not (fits_element kind (element_named s name)), E7) ∷ []
+
+-- the codes of the words behind the first of an element line
+abbrev pub element_rows : Sketch → Placed → Figure → List (List ℕ) → List (Bool × Code)
+element_rows s at kind [] = (true, E3) ∷ []
+element_rows s at kind (name ∷ numbers) =
+    (not (length numbers == length (limits_of kind)), E3) ∷
+    name_rows s kind name ++
+    (list_any is_bad_whole (zip (limits_of kind) numbers), E8) ∷
+    (is_placed s at name, E5) ∷ []
 
 -- the codes of the words behind `tolerance`
 abbrev pub tolerance_rows : List (List ℕ) → List (Bool × Code)
 tolerance_rows (t ∷ w ∷ []) = (is_none (count_of tolerance_limit t) || is_none (count_of tolerance_limit w), E8) ∷ []
 tolerance_rows _ = (true, E3) ∷ []
 
--- the first words of a claim's lines
-pub data First : Type 0 where
-  step : First
-  element : Told → First
-  tolerances : First
-
+-- what the first word of a line says of it
 abbrev pub first_of : List ℕ → Option First
 first_of word =
-    if bytes_eq word (codes "step") then Some step
-    else (if bytes_eq word (codes "point") then Some (element point)
-    else (if bytes_eq word (codes "circle") then Some (element circle)
-    else (if bytes_eq word (codes "line") then Some (element line)
-    else (if bytes_eq word (codes "tolerance") then Some tolerances else None))))
+    if bytes_eq word (codes "step") then Some begins.Step
+    else (if bytes_eq word (codes "point") then Some (begins.Element figure.Point)
+    else (if bytes_eq word (codes "circle") then Some (begins.Element figure.Circle)
+    else (if bytes_eq word (codes "line") then Some (begins.Element figure.Line)
+    else (if bytes_eq word (codes "tolerance") then Some begins.Tolerance else None))))
 
 -- the codes of the words behind the first
 abbrev pub rows_behind : Sketch → SoFar → Option First → List (List ℕ) → List (Bool × Code)
 rows_behind s c None rest = (true, E2) ∷ []
-rows_behind s c (Some step) rest = step_rows s rest
-rows_behind s c (Some (element told)) rest = element_rows s c told rest
-rows_behind s c (Some tolerances) rest = tolerance_rows rest
+rows_behind s c (Some begins.Step) rest = step_rows s rest
+rows_behind s c (Some (begins.Element kind)) rest = element_rows s c.at kind rest
+rows_behind s c (Some begins.Tolerance) rest = tolerance_rows rest
 
 -- the codes of a line with words; nothing may follow the tolerances
 abbrev pub word_rows : Sketch → SoFar → List (List ℕ) → List (Bool × Code)
@@ -187,27 +191,28 @@ step_said s (name ∷ joins ∷ x ∷ y ∷ z ∷ at ∷ a ∷ b ∷ c ∷ keeps
 step_said s _ = []
 
 -- the place that the words say
-abbrev pub spot_said : Sketch → Told → List (List ℕ) → List Spot
-spot_said s line (name ∷ a ∷ b ∷ c ∷ rest) = record { elem = number_named s name; at = at.Line (whole normal_limit a) (whole normal_limit b) (whole length_limit c) } ∷ []
-spot_said s point (name ∷ x ∷ y ∷ rest) = record { elem = number_named s name; at = at.Point (whole length_limit x) (whole length_limit y) } ∷ []
-spot_said s circle (name ∷ x ∷ y ∷ rest) = record { elem = number_named s name; at = at.Point (whole length_limit x) (whole length_limit y) } ∷ []
+abbrev pub spot_said : Sketch → Figure → List (List ℕ) → List Spot
+spot_said s figure.Line (name ∷ a ∷ b ∷ c ∷ rest) = record { elem = number_named s name; at = at.Line (whole normal_limit a) (whole normal_limit b) (whole length_limit c) } ∷ []
+spot_said s figure.Point (name ∷ x ∷ y ∷ rest) = record { elem = number_named s name; at = at.Point (whole length_limit x) (whole length_limit y) } ∷ []
+spot_said s figure.Circle (name ∷ x ∷ y ∷ rest) = record { elem = number_named s name; at = at.Point (whole length_limit x) (whole length_limit y) } ∷ []
 spot_said s _ _ = []
 
 -- the radius that the words say
-abbrev pub radius_said : Sketch → Told → List (List ℕ) → List Radius
-radius_said s circle (name ∷ x ∷ y ∷ r ∷ rest) = record { elem = number_named s name; nm = whole length_limit r } ∷ []
+abbrev pub radius_said : Sketch → Figure → List (List ℕ) → List Radius
+radius_said s figure.Circle (name ∷ x ∷ y ∷ r ∷ rest) = record { elem = number_named s name; nm = whole length_limit r } ∷ []
 radius_said s _ _ = []
 
-abbrev pub tolerances_said : List (List ℕ) → Option (ℕ × ℕ)
-tolerances_said (t ∷ w ∷ rest) = Some (tolerance t, tolerance w)
+-- the tolerances that the words say
+abbrev pub tolerances_said : List (List ℕ) → Option Tolerances
+tolerances_said (t ∷ w ∷ rest) = Some (record { t = tolerance t; w = tolerance w })
 tolerances_said _ = None
 
 -- what is claimed with a line that has no code
 abbrev pub with_words : Sketch → SoFar → Option First → List (List ℕ) → SoFar
 with_words s c None rest = c
-with_words s c (Some step) rest = record c { steps = c.steps ++ step_said s rest }
-with_words s c (Some (element told)) rest = record c { spots = c.spots ++ spot_said s told rest; radii = c.radii ++ radius_said s told rest }
-with_words s c (Some tolerances) rest = record c { tolerances = tolerances_said rest }
+with_words s c (Some begins.Step) rest = record c { steps = c.steps ++ step_said s rest }
+with_words s c (Some (begins.Element kind)) rest = record c { at = record { spots = c.at.spots ++ spot_said s kind rest }; radii = c.radii ++ radius_said s kind rest }
+with_words s c (Some begins.Tolerance) rest = record c { tolerances = tolerances_said rest }
 
 abbrev pub with_line : Sketch → SoFar → List (List ℕ) → SoFar
 with_line s c [] = c

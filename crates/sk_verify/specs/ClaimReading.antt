@@ -1,5 +1,5 @@
 -- What the text behind a sketch is read as a claim, and where it is refused.
-use Rattle.std.specs.Prelude.{◌≡◌, ⊤, ℕ, ◌+◌, List, [], ◌∷◌, ◌++◌, length, Option, Some, None}
+use Rattle.std.specs.Prelude.{◌≡◌, ⊤, ℕ, ◌+◌, List, [], length, Some, None}
 use Rattle.sk_base.specs.declared.Sketch.{Sketch}
 use Rattle.sk_lex.specs.Words.{words_in}
 use Rattle.sk_lang.specs.LineCodes.{along, HaveNone, HasFirst}
@@ -9,10 +9,11 @@ use Rattle.sk_lang.specs.declared.Code.TheVariants.{E16}
 use Rattle.sk_lang.specs.declared.ReadError.{ReadError}
 use Rattle.sk_lang.specs.declared.ReadError.TheVariants.{Refused, NoMemory}
 use Rattle.sk_verify.specs.declared.claim.Claim.{Claim}
-use Rattle.sk_verify.specs.ClaimLines.{SoFar, code_of, with_line}
+use Rattle.sk_verify.specs.declared.claim_line.SoFar.{SoFar}
+use Rattle.sk_verify.specs.ClaimLines.{code_of, with_line}
 
 abbrev pub nothing_yet : SoFar
-nothing_yet = record { steps = []; spots = []; radii = []; tolerances = None }
+nothing_yet = record { steps = []; at = record { spots = [] }; radii = []; tolerances = None }
 
 -- what is claimed with one more line
 abbrev pub claimed_after : Sketch → SoFar → List ℕ → SoFar
@@ -33,9 +34,9 @@ HasFirstCode s lines before line code = HasFirst (code_of s) (claimed_after s) n
 -- the claim is what was read, with its tolerances
 pub record IsClaimOf (c : SoFar) (claim : Claim) : Type 0 where
   pub steps : claim.steps ≡ c.steps
-  pub spots : claim.at.spots ≡ c.spots
+  pub at : claim.at ≡ c.at
   pub radii : claim.radii ≡ c.radii
-  pub tolerances : c.tolerances ≡ Some (claim.t, claim.w)
+  pub tolerances : c.tolerances ≡ Some (record { t = claim.t; w = claim.w })
 
 -- The text is read as the claim.
 pub record ReadsClaim (s : Sketch) (bytes : List ℕ) (claim : Claim) : Type 0 where

@@ -25,7 +25,7 @@ use Rattle.sk_verify.specs.Claims.{IsTold, HoldsAsClaimed, plan_claimed}
 abbrev pub HasRightSteps : Sketch → Graph → Claim → Type 0
 HasRightSteps s g c = AreRight s g (initial_clusters g) c.steps
 
--- the steps leave one cluster with all nodes, or there is one node and no constraint
+-- the steps leave one cluster with all nodes, or there is one node, no constraint and no block
 abbrev pub LeavesWhole : Graph → Claim → Type 0
 LeavesWhole g c = IsWhole g (after (initial_clusters g) c.steps)
 

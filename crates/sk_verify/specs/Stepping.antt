@@ -1,12 +1,12 @@
 -- What the functions of this crate tell each other on the way.
-use Rattle.std.specs.Prelude.{◌≡◌, ⊤, ℕ, ◌+◌, ◌≤◌, List, Option, MatchOption, length}
+use Rattle.std.specs.Prelude.{◌≡◌, ⊤, ◌+◌, ◌≤◌, nat_lt, if◌then◌else◌, List, Option, Some, None, MatchOption, length}
 use Rattle.sk_base.specs.declared.Element.{Element}
 use Rattle.sk_base.specs.declared.Elem.{Elem}
 use Rattle.sk_base.specs.declared.Graph.{Graph}
 use Rattle.sk_base.specs.declared.Sketch.{Sketch}
 use Rattle.sk_family.specs.Clusters.{Clusters, initial_clusters}
 use Rattle.sk_residual.specs.declared.Spotted.{Spotted}
-use Rattle.sk_residual.specs.Tolerances.{Item}
+use Rattle.sk_residual.specs.Tolerances.{Item, number_in}
 use Rattle.sk_tree.specs.declared.PlanStep.{PlanStep}
 use Rattle.sk_verify.specs.declared.claim.Claim.{Claim}
 use Rattle.sk_verify.specs.declared.failure.Failure.{Failure}
@@ -46,3 +46,9 @@ IsTelling c elements untold = MatchOption untold (AllTold c elements) (IsFirstUn
 -- all hold as claimed, or the first that doesn't is named
 abbrev pub IsMeasured : Claim → List Item → Option Spotted → Type 0
 IsMeasured c items off = MatchOption off (AllHoldAsClaimed c items) (IsFirstOff c items)
+
+-- the first of two by number
+abbrev pub earlier : Option Spotted → Option Spotted → Option Spotted
+earlier None other = other
+earlier (Some at) None = Some at
+earlier (Some at) (Some other) = if nat_lt (number_in at) (number_in other) then Some at else Some other

@@ -3,7 +3,7 @@ use Rattle.std.specs.Prelude.{List, ℕ, ◌++◌, length, codes}
 use Rattle.std.specs.Fmt.{decimal}
 use Rattle.sk_base.specs.declared.Name.TheVariants as names
 use Rattle.sk_base.specs.declared.Sketch.{Sketch}
-use Rattle.sk_text.specs.ElementNames.{name_of}
+use Rattle.sk_base.specs.ElementNames.{name_of}
 use Rattle.sk_text.specs.ClusterName.{cluster_name}
 use Rattle.sk_verify.specs.declared.claim.Claim.{Claim}
 use Rattle.sk_verify.specs.declared.failure.Failure.{Failure}

@@ -3,7 +3,6 @@ ghost use Rattle.std.specs.Prelude.{◌≡◌, IfOk, IfErr};
 ghost use Rattle.sk_base.specs.SoundGraph.{IsSoundGraph};
 ghost use Rattle.sk_base.specs.SoundSketch.{IsSoundSketch};
 ghost use Rattle.sk_graph.specs.SketchGraph.{graph_of};
-ghost use Rattle.sk_tree.specs.LegalPlan.{numbers_of};
 ghost use Rattle.sk_verify.specs.Claims.{IsFitting, plan_claimed};
 ghost use Rattle.sk_verify.specs.Failing.{IsJoined, IsComplete, IsMet, IsAccepted, IsFirstFailure};
 
@@ -13,9 +12,9 @@ use crate::holding::first_off;
 use crate::stepping::family_after;
 use crate::told::first_untold;
 use crate::whole::is_whole;
-use sk_base::{ConId, Graph, List, NoMemory, Sketch};
+use sk_base::{Graph, List, NoMemory, Sketch};
 use sk_residual::{Spotted, first_turned};
-use sk_tree::Plan;
+use sk_tree::{Plan, numbers_of};
 use std::alloc::Global;
 
 /// Checks the claim, by the sketch and its graph alone. The first thing that fails is told.
@@ -97,21 +96,11 @@ fn check_signs(alloc: Global, s: &Sketch, g: &Graph, claim: &Claim) -> Result<()
 
 /// The plan that has the claimed steps.
 fn plan_claimed(alloc: Global, g: &Graph, claim: &Claim) -> Result<Plan, NoMemory>
+    requires { IsSoundGraph g.now }
     ensures { IfOk result (λ plan. plan ≡ plan_claimed g.now claim.now) }
 {
-    let leaves = numbers(alloc, g)?;
+    let leaves = numbers_of(alloc, g)?;
     let mut steps = List::new(alloc);
     steps.extend(claim.steps.as_slice())?;
     Ok(Plan { leaves, steps })
-}
-
-/// The constraints' numbers.
-fn numbers(alloc: Global, g: &Graph) -> Result<List<ConId>, NoMemory>
-    ensures { IfOk result (λ found. found ≡ numbers_of g.now) }
-{
-    let mut found = List::new(alloc);
-    for edge in g.edges.as_slice() {
-        found.push(edge.id)?;
-    }
-    Ok(found)
 }

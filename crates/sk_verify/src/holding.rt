@@ -1,13 +1,13 @@
 // Whether each line and each constraint holds within the claimed tolerances.
-ghost use Rattle.std.specs.Prelude.{◌≡◌, ◌≤◌, ◌^◌, Contains};
+ghost use Rattle.std.specs.Prelude.{◌≡◌, ◌≤◌, ◌^◌};
 ghost use Rattle.sk_base.specs.SoundGraph.{IsSoundGraph};
 ghost use Rattle.sk_residual.specs.Placing.{IsPlacedAs, PlacesExactly};
-ghost use Rattle.sk_residual.specs.Tolerances.{normal_of_kind, normals, constraints, everything};
-ghost use Rattle.sk_verify.specs.Stepping.{IsMeasured};
+ghost use Rattle.sk_residual.specs.Tolerances.{normal_of_kind, normals, between, rigid, constraints, everything};
+ghost use Rattle.sk_verify.specs.Stepping.{IsMeasured, earlier};
 
 use crate::claim::Claim;
 use sk_base::{Graph, Kind, Node};
-use sk_residual::{Spotted, meets, meets_normal};
+use sk_residual::{Spotted, meets, meets_block, meets_normal};
 
 /// The first line, and else the first constraint, that doesn't hold within the claimed tolerance.
 pub(crate) fn first_off(g: &Graph, claim: &Claim) -> Option<Spotted>
@@ -53,13 +53,56 @@ fn normal_off(claim: &Claim, node: &Node) -> Option<Spotted>
     }
 }
 
-/// The first constraint that doesn't hold.
+/// The first constraint or block that doesn't hold.
 fn constraint_off(g: &Graph, claim: &Claim) -> Option<Spotted>
     requires sound { IsSoundGraph g.now }
     requires placed { PlacesExactly g.now claim.now.at }
     requires t { claim.now.t ≤ 2 ^ 62 }
     requires w { claim.now.w ≤ 2 ^ 62 }
-    ensures { IsMeasured claim.now (constraints g.now.edges) result }
+    ensures { IsMeasured claim.now (constraints g.now) result }
+{
+    earlier(block_off(g, claim), edge_off(g, claim))
+}
+
+/// The first of two by number.
+fn earlier(one: Option<Spotted>, other: Option<Spotted>) -> Option<Spotted>
+    ensures { result ≡ earlier one other }
+{
+    match (one, other) {
+        (None, _) => other,
+        (_, None) => one,
+        (Some(at), Some(beside)) => {
+            if at.number() < beside.number() {
+                one
+            } else {
+                other
+            }
+        }
+    }
+}
+
+/// The first block that doesn't hold.
+fn block_off(g: &Graph, claim: &Claim) -> Option<Spotted>
+    requires sound { IsSoundGraph g.now }
+    requires placed { PlacesExactly g.now claim.now.at }
+    requires t { claim.now.t ≤ 2 ^ 62 }
+    ensures { IsMeasured claim.now (rigid g.now.blocks) result }
+{
+    for b in g.blocks.as_slice() {
+        if !meets_block(&claim.at, b, claim.t) {
+            return Some(Spotted::Con(b.id));
+        }
+    }
+    None
+}
+
+/// The first constraint between two elements that doesn't hold.
+fn edge_off(g: &Graph, claim: &Claim) -> Option<Spotted>
+    requires sound { IsSoundGraph g.now }
+    requires placed { PlacesExactly g.now claim.now.at }
+    requires t { claim.now.t ≤ 2 ^ 62 }
+    requires w { claim.now.w ≤ 2 ^ 62 }
+    ensures { IsMeasured claim.now (between g.now.edges) result }
 {
     for e in g.edges.as_slice() {
         if !meets(&claim.at, e, claim.t, claim.w) {

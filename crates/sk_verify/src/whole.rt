@@ -6,7 +6,7 @@ ghost use Rattle.sk_tree.specs.LegalPlan.{IsWhole, HasNodes};
 use sk_base::{Elem, Graph};
 use sk_family::{Cluster, Family};
 
-/// Whether one cluster with all nodes is left, or there is one node and no constraint.
+/// Whether one cluster with all nodes is left, or there is one node, no constraint and no block.
 pub(crate) fn is_whole(g: &Graph, family: &Family) -> bool
     ensures { IsTrue result ↔ IsWhole g.now family.now }
 {
@@ -24,9 +24,9 @@ fn is_all_in_one(g: &Graph, clusters: &[Cluster]) -> bool
 }
 
 fn is_lone(g: &Graph) -> bool
-    ensures { IsTrue result ↔ ((length g.now.nodes ≡ 1) × (g.now.edges ≡ [])) }
+    ensures { IsTrue result ↔ ((length g.now.nodes ≡ 1) × (g.now.edges ≡ []) × (g.now.blocks ≡ [])) }
 {
-    g.nodes.len() == 1 && g.edges.is_empty()
+    g.nodes.len() == 1 && g.edges.is_empty() && g.blocks.is_empty()
 }
 
 /// Whether each node is one of the cluster's elements.

@@ -1,4 +1,4 @@
-use Rattle.std.proofs.Common.{◌≡◌, subst, sym, refl}
+use Rattle.std.proofs.Common.{subst, sym}
 use Rattle.sk_base.specs.declared.Graph.{Graph}
 use Rattle.sk_residual.specs.Placing.{PlacesExactly}
 use Rattle.sk_tree.specs.declared.Plan.{Plan}

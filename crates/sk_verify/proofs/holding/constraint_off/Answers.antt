@@ -1,31 +1,11 @@
-use Rattle.std.proofs.Common.{List, get_or, subst, refl, rules, arith}
-use Rattle.std.specs.Prelude.{Contains}
-use Rattle.std.proofs.lemmas.List.{take_all}
-use Rattle.std.proofs.lemmas.List.Elements.{Contains-get_or}
-use Rattle.sk_base.specs.declared.Edge.{Edge}
-use Rattle.sk_base.proofs.Searches.{refused}
-use Rattle.sk_residual.specs.Tolerances.{constraints}
-use Rattle.sk_residual.specs.declared.Spotted.TheVariants.{Con}
-use Rattle.sk_residual.proofs.Placings.{any_edge, measurable}
-use Rattle.sk_verify.specs.Failing.{AllHoldAsClaimed, IsFirstOff}
-use Rattle.sk_verify.proofs.Measuring.{constraints_more, constraint_there}
+use Rattle.sk_residual.specs.Tolerances.{rigid, between, constraints}
+use Rattle.sk_residual.proofs.Merging.{merged_constraints}
+use Rattle.sk_verify.proofs.Measuring.{measured_merged}
 use Rattle.sk_verify.proofs.holding.constraint_off.Goals as goal
 
-pub meets-requires-clause-placed : goal.meets-requires-clause-placed
-meets-requires-clause-placed c =
-    let e : Edge = get_or c.as_slice-e-items.result.now c.loop-e.e-index any_edge in
-    (measurable c.args.g.now c.args.claim.now.at c.requires.sound c.requires.placed e
-    (subst (λ (es : List Edge). Contains es e) c.as_slice-e-items.ensures (Contains-get_or c.as_slice-e-items.result.now c.loop-e.e-index any_edge (omega arith)))).ends
-
-pub returns-then-not-meets : goal.returns-then-not-meets
-returns-then-not-meets c =
-    let e : Edge = get_or c.as_slice-e-items.result.now c.loop-e.e-index any_edge in
-    subst (λ (es : List Edge). IsFirstOff c.args.claim.now (constraints es) (Con e.id)) c.as_slice-e-items.ensures
-    (constraint_there c.args.claim.now c.as_slice-e-items.result.now c.loop-e.e-index any_edge (omega arith) c.loop-e.invariant (refused (search rules)) (Con e.id) refl)
-
-pub loop-e-preserved : goal.loop-e-preserved
-loop-e-preserved c = constraints_more c.args.claim.now c.as_slice-e-items.result.now c.loop-e.e-index any_edge (omega arith) c.loop-e.invariant (c.meets.ensures.0 (search rules))
-
 pub returns : goal.returns
-returns c = subst (λ (es : List Edge). AllHoldAsClaimed c.args.claim.now (constraints es)) c.as_slice-e-items.ensures
-    (subst (λ (es : List Edge). AllHoldAsClaimed c.args.claim.now (constraints es)) (take_all c.loop-e.e-index c.as_slice-e-items.result.now (omega arith)) c.loop-e.invariant)
+returns c =
+    let g = c.args.g.now in
+    rw c.earlier.ensures
+    (measured_merged c.args.claim.now (rigid g.blocks) (between g.edges) (constraints g) (merged_constraints g c.requires.sound) c.block_off.result c.edge_off.result
+    c.block_off.ensures c.edge_off.ensures)

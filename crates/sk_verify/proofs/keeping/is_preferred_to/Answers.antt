@@ -1,4 +1,4 @@
-use Rattle.std.proofs.Common.{sym, subst}
+use Rattle.std.proofs.Common.{subst}
 use Rattle.sk_family.specs.declared.Cluster.{Cluster}
 use Rattle.sk_family.proofs.Naming.{one_of_name}
 use Rattle.sk_tree.specs.LegalPlan.{IsPreferred}

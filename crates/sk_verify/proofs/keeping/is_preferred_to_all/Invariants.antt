@@ -1,4 +1,4 @@
-use Rattle.std.specs.Prelude.{Contains, take}
+use Rattle.std.specs.Prelude.{take}
 use Rattle.sk_base.specs.declared.Name.{Name}
 use Rattle.sk_family.specs.declared.Cluster.{Cluster}
 use Rattle.sk_family.specs.Clusters.{IsNamed}

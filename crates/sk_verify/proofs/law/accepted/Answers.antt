@@ -11,4 +11,4 @@ pub returns-clause-placed : goal.returns-clause-placed
 returns-clause-placed c = λ s g claim same sound fits is. placed s g claim is same sound fits
 
 pub returns-clause-holds : goal.returns-clause-holds
-returns-clause-holds c = holds
+returns-clause-holds c = λ s g claim rise apart is. holds s g claim is rise apart

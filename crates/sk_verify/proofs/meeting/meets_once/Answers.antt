@@ -1,4 +1,4 @@
-use Rattle.sk_verify.proofs.Tests.{both_then, both_else, same_as}
+use Rattle.sk_verify.proofs.Tests.{both_then, same_as}
 use Rattle.sk_verify.proofs.meeting.meets_once.Goals as goal
 
 pub returns-then-is_triangle : goal.returns-then-is_triangle

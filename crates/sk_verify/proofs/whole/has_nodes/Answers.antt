@@ -1,4 +1,4 @@
-use Rattle.std.proofs.Common.{◌≡◌, List, get_or, refl, subst, rules}
+use Rattle.std.proofs.Common.{List, get_or, refl, subst, rules}
 use Rattle.std.specs.Prelude.{Contains}
 use Rattle.std.proofs.lemmas.List.Elements.{Contains-get_or}
 use Rattle.sk_base.specs.declared.Node.{Node}

@@ -1,8 +1,0 @@
-use Rattle.std.specs.Prelude.{take}
-use Rattle.sk_residual.specs.Tolerances.{constraints}
-use Rattle.sk_verify.specs.Failing.{AllHoldAsClaimed}
-use Rattle.sk_verify.proofs.holding.constraint_off.Given as goal
-
--- the constraints so far hold
-abbrev pub invariant-loop-e : goal.invariant-loop-e
-invariant-loop-e l = AllHoldAsClaimed l.claim (constraints (take l.e-index l.e-items))
