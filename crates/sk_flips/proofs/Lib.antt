@@ -1,0 +1,9 @@
+pub mod SpotsPlaced
+pub mod FlippedPlans
+pub mod InTurn
+pub mod OpenSteps
+pub mod Untouched
+pub mod Differing
+pub mod Meeting
+pub mod FlipsSoFar
+pub mod StepWords

@@ -1,0 +1,5 @@
+pub mod Flipping
+pub mod Placements
+pub mod Alternatives
+pub mod FlipLines
+pub mod FlipReading

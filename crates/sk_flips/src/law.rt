@@ -1,0 +1,57 @@
+// What holds of alternatives.
+ghost use Rattle.std.specs.Prelude.{◌≡◌, ◌≢◌, ℕ, [], All, Contains, List as Items};
+ghost use Rattle.sk_base.specs.declared.Name.{Name};
+ghost use Rattle.sk_base.specs.declared.Placed.{Placed};
+ghost use Rattle.sk_base.specs.declared.Sketch.{Sketch};
+ghost use Rattle.sk_base.specs.SoundSketch.{IsSoundSketch};
+ghost use Rattle.sk_choice.specs.DrawnChoice.{HasDrawnChoice};
+ghost use Rattle.sk_graph.specs.SketchGraph.{graph_of};
+ghost use Rattle.sk_residual.specs.declared.Tolerance.{Tolerance};
+ghost use Rattle.sk_residual.specs.declared.Wanted.TheVariants.{Drawn, Chosen};
+ghost use Rattle.sk_residual.specs.Tolerances.{AllHoldWithin};
+ghost use Rattle.sk_residual.specs.Turns.{signs, signs_wanted};
+ghost use Rattle.sk_tree.specs.declared.Plan.{Plan};
+ghost use Rattle.sk_tree.specs.declared.PlanStep.{PlanStep};
+ghost use Rattle.sk_tree.specs.LegalPlan.{IsLegalPlan};
+ghost use Rattle.sk_flips.specs.declared.alternative.Alternative.TheVariants.{Found};
+ghost use Rattle.sk_flips.specs.declared.placing.Placement.{Placement};
+ghost use Rattle.sk_flips.specs.Alternatives.{alternative_of, placed_signs, IsAlternative};
+ghost use Rattle.sk_flips.specs.Flipping.{flipped};
+ghost use Rattle.sk_flips.specs.Placements.{IsTolerance, IsPlacement};
+
+use sk_graph::sound_graph;
+use sk_interval::Grid;
+
+/// A plan is as legal with some of its choices turned over.
+pub fn turned_plan_is_legal()
+    ensures { (s : Sketch) (p : Plan) (names : Items Name) → IsLegalPlan (graph_of s) p → IsLegalPlan (graph_of s) (flipped names p) }
+{}
+
+/// Of a plan with the choices of the drawing, the signs as it chooses them are those that are drawn.
+pub fn untouched_plan_is_drawn()
+    ensures { (s : Sketch) (at : Placed) (p : Plan) → IsSoundSketch s → IsLegalPlan (graph_of s) p → All (λ step. HasDrawnChoice s step) p.steps → signs_wanted Chosen s at p ≡ signs s at p }
+{}
+
+/// Where elements are found, each line, each constraint and each block holds within the tolerance that is
+/// told with them, and the tolerance is the least.
+pub fn found_is_met<G: Grid>()
+    ensures met { (F limit : ℕ) (s : Sketch) (p : Plan) (names : Items Name) (at : Placed) (tol : Tolerance) → IsSoundSketch s → IsAlternative G F limit s p names (Found at tol) → AllHoldWithin at (graph_of s) tol.t tol.w }
+    ensures least { (F limit : ℕ) (s : Sketch) (p : Plan) (names : Items Name) (at : Placed) (tol : Tolerance) → IsAlternative G F limit s p names (Found at tol) → IsTolerance at (graph_of s) tol }
+{
+    sound_graph();
+}
+
+/// Where elements are found for two lists, each step that stands in one of them alone has another placed
+/// sign there than here.
+pub fn alternatives_differ<G: Grid>()
+    ensures { (F limit : ℕ) (s : Sketch) (p : Plan) (names others : Items Name) (at there : Placed) (tol beside : Tolerance) → IsSoundSketch s → IsLegalPlan (graph_of s) p
+        → IsAlternative G F limit s p names (Found at tol) → IsAlternative G F limit s p others (Found there beside)
+        → (n : Name) → Contains names n → ¬ Contains others n
+        → (step : PlanStep) × Contains p.steps step × (step.step ≡ n) × (placed_signs s at step ≢ placed_signs s there step) }
+{}
+
+/// For the empty list a plan with the choices of the drawing gives just what comes of placing it as drawn.
+pub fn untouched_plan_is_placed<G: Grid>()
+    ensures { (F limit : ℕ) (s : Sketch) (p : Plan) (placement : Placement) → IsSoundSketch s → IsLegalPlan (graph_of s) p → All (λ step. HasDrawnChoice s step) p.steps
+        → IsPlacement Drawn G F limit s p placement → IsAlternative G F limit s p [] (alternative_of placement) }
+{}
