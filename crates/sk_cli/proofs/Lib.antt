@@ -6,6 +6,7 @@ pub mod FittingOffers
 pub mod KeyNames
 pub mod KeyValues
 pub mod Keys
+pub mod Migrating
 pub mod Numbers
 pub mod OfferAnswers
 pub mod OfferBytes
@@ -34,6 +35,8 @@ pub mod SomeRequests
 pub mod SomeRuns
 pub mod SomeSessions
 pub mod SomeShared
+pub mod SomeSpares
+pub mod SomeWide
 pub mod Strides
 pub mod Telling
 pub mod WhyEnds

@@ -1,6 +1,7 @@
 -- Words ask for one thing at most, and with an input they have one outcome at most.
 use Rattle.std.proofs.Common.{◌≡◌, ◌⊎◌, inl, inr, ℕ, ◌<◌, ◌≤◌, List, [], ◌∷◌, ◌++◌, length, refl, sym, ap, ◌∙◌, subst, Option, arith}
 use Rattle.std.specs.Prelude.{All, map, drop}
+use Rattle.sk_base.specs.declared.ConId.{ConId}
 use Rattle.sk_base.specs.declared.Sketch.{Sketch}
 use Rattle.sk_base.specs.declared.Graph.{Graph}
 use Rattle.sk_family.specs.Body.{Body, SameBodies}
@@ -17,7 +18,7 @@ use Rattle.sk_verdict.specs.declared.Verdict.TheVariants.{Well}
 use Rattle.sk_base.specs.SoundSketch.{IsSoundSketch}
 use Rattle.sk_base.specs.SoundGraph.{IsSoundGraph}
 use Rattle.sk_graph.proofs.Soundness.{graph_is_sound}
-use Rattle.sk_family.specs.Clusters.{Clusters, initial_clusters}
+use Rattle.sk_family.specs.Clusters.{Clusters, IsSound, bodies, initial_clusters}
 use Rattle.sk_rules.specs.declared.Merge.{Merge}
 use Rattle.sk_worklist.specs.Orders.{Choosing, place_of, next_call}
 use Rattle.sk_worklist.specs.Run.{IsRun}
@@ -26,6 +27,10 @@ use Rattle.sk_tree.specs.LegalPlan.{IsLegalPlan, merge_told}
 use Rattle.sk_choice.specs.DrawnChoice.{HasDrawnChoice}
 use Rattle.sk_plan.specs.Judged.{IsTheJudgement, IsWell}
 use Rattle.sk_report.specs.PlanReport.{plan_report}
+use Rattle.sk_spare.specs.Sparing.{AreSpares}
+use Rattle.sk_spare.specs.SpareReport.{spare_report}
+use Rattle.sk_derive.specs.WideReach.{IsWideNormal}
+use Rattle.sk_derive.specs.DerivedText.{derived_text}
 use Rattle.sk_lang.specs.declared.Front.{Front}
 use Rattle.sk_lang.specs.Front.{ReadsFront, RefusesFront}
 use Rattle.sk_offers.specs.Offering.{starting_table}
@@ -37,8 +42,10 @@ use Rattle.sk_cli.proofs.OneOffering.{same_lines}
 use Rattle.sk_session.proofs.Consistency.{empty_sound}
 use Rattle.sk_worklist.specs.declared.Order.{Order}
 use Rattle.sk_worklist.specs.declared.Order.TheVariants.{First}
+use Rattle.sk_cli.specs.declared.accounts.Account.{Account}
+use Rattle.sk_cli.specs.declared.accounts.Account.TheVariants.{Parts, Spares, Derived, Migrated}
 use Rattle.sk_cli.specs.declared.command.Command.{Command}
-use Rattle.sk_cli.specs.declared.command.Command.TheVariants.{Check, Plan, Solve, Dxf, Offers, Session, Grow}
+use Rattle.sk_cli.specs.declared.command.Command.TheVariants.{Check, Plan, Solve, Dxf, Offers, Session, Grow, Migrate, Spare, Derive}
 use Rattle.sk_cli.specs.declared.request.Request.{Request}
 use Rattle.sk_cli.specs.declared.status.Status.{Status}
 use Rattle.sk_cli.specs.declared.status.Status.TheVariants.{Done, Refused, NotWell}
@@ -49,13 +56,14 @@ use Rattle.sk_cli.specs.declared.solving.Report.TheVariants.{Places, Drawing, Su
 use Rattle.sk_cli.proofs.Sizes.{HasFitSize, size_fits, some_injective}
 use Rattle.sk_gen.specs.DatumSketch.{datum_sketch}
 use Rattle.sk_cli.specs.Asking.{OrderKey, BitsKey, WithinKey, SizeKey, values_of, IsOrder, IsBits, IsLimit, IsSize, Asks}
+use Rattle.sk_cli.specs.Accounts.{IsAccount}
 use Rattle.sk_cli.specs.Grids.{grid_of, digits_of}
 use Rattle.sk_cli.specs.Solving.{IsPlacement, status_of, placement_words}
 use Rattle.sk_cli.proofs.CommandWords.{one_command}
 use Rattle.sk_cli.proofs.KeyValues.{one_said, one_set}
 use Rattle.sk_cli.proofs.Numbers.{one_order, one_bits, one_limit, one_size}
 use Rattle.sk_cli.proofs.OnePlacement.{same_placement}
-use Rattle.sk_cli.specs.Outcome.{IsReport, IsRefusalText, IsCheckAnswer, IsPlanBy, IsPlanReport, IsReportNotWell, IsPlanAnswer, IsPlanOrReport, IsSolved, IsSolveAnswer, IsGrowAnswer, IsAnswer, IsAnswerOf, IsOutcome, AreFirstReplies}
+use Rattle.sk_cli.specs.Outcome.{IsAccountOf, IsRefusalText, IsAccountAnswer, IsPlanBy, IsPlanReport, IsReportNotWell, IsPlanAnswer, IsPlanOrReport, IsSolved, IsSolveAnswer, IsGrowAnswer, IsAnswer, IsAnswerOf, IsOutcome, AreFirstReplies}
 use Rattle.sk_cli.proofs.OneSession.{OneReply, same_replies, front_replies}
 use Rattle.sk_cli.specs.SessionAnswer.{IsSessionAnswer, RepliesToFront, HasEnded, at_start}
 
@@ -89,20 +97,14 @@ pub same_judgement : OneJudgement → (g : Graph) (j k : Judgement) → IsTheJud
 same_judgement law g j k first second =
     law g first.normal first.normal j k (λ x. (λ h. h, λ h. h)) (first.every first.normal first.is_normal) (second.every first.normal first.is_normal)
 
-same_report : OneSketch → OneJudgement → (bytes text another : List ℕ) → IsReport bytes text → IsReport bytes another → text ≡ another
-same_report one_sketch law bytes text another (s, j, reads, judged, is) (t, k, reads', judged', is') =
-    let sketch_is = one_sketch bytes s t reads reads' in
-    let judgement_is = same_judgement law (graph_of t) j k (subst (λ z. IsTheJudgement (graph_of z) j) sketch_is judged) judged' in
-    is ∙ ap (λ z. check_report z j) sketch_is ∙ ap (λ z. check_report t z) judgement_is ∙ sym is'
-
 same_refusal : OneRefusal → (bytes text another : List ℕ) → IsRefusalText bytes text → IsRefusalText bytes another → text ≡ another
 same_refusal one_refusal bytes text another (r, refuses, is) (q, refuses', is') =
     let same = one_refusal bytes r.line q.line r.code q.code refuses refuses' in
     let make : ℕ → Code → Refusal = λ n c. record { line = n; code = c } in
     is ∙ ap (λ n. refusal_line (make n r.code)) same.0 ∙ ap (λ c. refusal_line (make q.line c)) same.1 ∙ sym is'
 
-pub no_report : NotBoth → (bytes text another : List ℕ) → IsReport bytes text → IsRefusalText bytes another → ⊥
-no_report not_both bytes text another (s, j, reads, judged, is) (r, refuses, is') = not_both bytes s r.line r.code reads refuses
+no_account : NotBoth → (account : Account) (bytes text another : List ℕ) → IsAccountOf account bytes text → IsRefusalText bytes another → ⊥
+no_account not_both account bytes text another (s, reads, told) (r, refuses, is) = not_both bytes s r.line r.code reads refuses
 
 -- further laws of the layers below
 abbrev SoundRead : Type 0
@@ -119,6 +121,13 @@ OneRun = (g : Graph) (f : Clusters) (p : Choosing) (ms ns : List Merge) (one oth
 abbrev SoundMade : Type 0
 SoundMade = (n : ℕ) → 3 ≤ n → n ≤ 1000 → IsSoundSketch (datum_sketch n)
 
+abbrev OneSpares : Type 0
+OneSpares = (g : Graph) (one other : List ConId) → AreSpares g one → AreSpares g other → one ≡ other
+
+abbrev OneDerived : Type 0
+OneDerived = (g : Graph) (s : Sketch) (one other : Clusters) → IsSoundGraph g → IsSound one → IsSound other → IsWideNormal g (bodies one) → IsWideNormal g (bodies other)
+    → derived_text s one ≡ derived_text s other
+
 pub record FrontLaws : Type 0 where
   pub one_front : (bytes : List ℕ) (f g : Front) → ReadsFront bytes f → ReadsFront bytes g → f ≡ g
   pub one_refusal : (bytes : List ℕ) (n m : ℕ) (c d : Code) → RefusesFront bytes n c → RefusesFront bytes m d → (n ≡ m) × (c ≡ d)
@@ -131,6 +140,8 @@ pub record LowerLaws : Type 0 where
   pub front : FrontLaws
   pub made : SoundMade
   pub reply : OneReply
+  pub spares : OneSpares
+  pub derived : OneDerived
 
 pub same_plan : LowerLaws → (order : Order) (s : Sketch) → IsSoundGraph (graph_of s) → (p q : ThePlan) → IsPlanBy order s p → IsPlanBy order s q → p ≡ q
 same_plan laws order s sound p q first second =
@@ -332,25 +343,49 @@ front_of_outcome law laws words bytes text whole status (request, asks, is, fron
       | inr (refused, long, why) ↦ absurd (omega (arith, long, front.fits))
     ]
 
--- a report or a refusal
-pub told_check : (bytes : List ℕ) (status : Status) (text : List ℕ) → IsCheckAnswer bytes status text → ((status ≡ Done) × IsReport bytes text) ⊎ ((status ≡ Refused) × IsRefusalText bytes text)
-told_check bytes Done text answer = inl (refl, answer)
-told_check bytes Refused text answer = inr (refl, answer)
-told_check bytes status text answer = absurd answer
+-- an account of a sketch
+same_account : OneJudgement → LowerLaws → (account : Account) (s : Sketch) → IsSoundGraph (graph_of s) → (text another : List ℕ) → IsAccount account s text → IsAccount account s another → text ≡ another
+same_account law laws Parts s sound text another (j, judged, is) (k, judged', is') = is ∙ ap (λ z. check_report s z) (same_judgement law (graph_of s) j k judged judged') ∙ sym is'
+same_account law laws Spares s sound text another (ks, are, is) (ls, are', is') = is ∙ ap (λ z. spare_report s z) (laws.spares (graph_of s) ks ls are are') ∙ sym is'
+same_account law laws Migrated s sound text another is is' = is ∙ sym is'
+same_account law laws Derived s sound text another (f, f_sound, normal, is) (h, h_sound, normal', is') =
+    is ∙ laws.derived (graph_of s) s f h sound f_sound h_sound normal normal' ∙ sym is'
+
+same_account_of : OneSketch → OneJudgement → LowerLaws → (account : Account) (bytes text another : List ℕ) → IsAccountOf account bytes text → IsAccountOf account bytes another → text ≡ another
+same_account_of one_sketch law laws account bytes text another (s, reads, told) (t, reads', told') =
+    same_account law laws account t (graph_is_sound t (laws.sound bytes t reads')) text another (subst (λ z. IsAccount account z text) (one_sketch bytes s t reads reads') told) told'
+
+-- an account or a refusal
+pub told_account : (account : Account) (bytes : List ℕ) (status : Status) (text : List ℕ) → IsAccountAnswer account bytes status text
+    → ((status ≡ Done) × IsAccountOf account bytes text) ⊎ ((status ≡ Refused) × IsRefusalText bytes text)
+told_account account bytes Done text answer = inl (refl, answer)
+told_account account bytes Refused text answer = inr (refl, answer)
+told_account account bytes status text answer = absurd answer
+
+same_accounted : OneSketch → OneRefusal → NotBoth → OneJudgement → LowerLaws → (account : Account) (bytes : List ℕ) (status other : Status) (text another : List ℕ)
+    → IsAccountAnswer account bytes status text → IsAccountAnswer account bytes other another → (status ≡ other) × (text ≡ another)
+same_accounted one_sketch one_refusal not_both law laws account bytes status other text another first second =
+    elim (told_account account bytes status text first) [
+      | inl done ↦ elim (told_account account bytes other another second) [
+        | inl done' ↦ (done.0 ∙ sym done'.0, same_account_of one_sketch law laws account bytes text another done.1 done'.1)
+        | inr refused ↦ absurd (no_account not_both account bytes text another done.1 refused.1)
+      ]
+      | inr refused ↦ elim (told_account account bytes other another second) [
+        | inl done ↦ absurd (no_account not_both account bytes another text done.1 refused.1)
+        | inr refused' ↦ (refused.0 ∙ sym refused'.0, same_refusal one_refusal bytes text another refused.1 refused'.1)
+      ]
+    ]
 
 same_answer : OneSketch → OneRefusal → NotBoth → OneJudgement → LowerLaws → (command : Command) (request : Request) → HasFitSize request → (bytes : List ℕ) (status other : Status) (text another : List ℕ)
     → IsAnswerOf command request bytes status text → IsAnswerOf command request bytes other another → (status ≡ other) × (text ≡ another)
 same_answer one_sketch one_refusal not_both law laws Check request fit bytes status other text another first second =
-    elim (told_check bytes status text first) [
-      | inl done ↦ elim (told_check bytes other another second) [
-        | inl done' ↦ (done.0 ∙ sym done'.0, same_report one_sketch law bytes text another done.1 done'.1)
-        | inr refused ↦ absurd (no_report not_both bytes text another done.1 refused.1)
-      ]
-      | inr refused ↦ elim (told_check bytes other another second) [
-        | inl done ↦ absurd (no_report not_both bytes another text done.1 refused.1)
-        | inr refused' ↦ (refused.0 ∙ sym refused'.0, same_refusal one_refusal bytes text another refused.1 refused'.1)
-      ]
-    ]
+    same_accounted one_sketch one_refusal not_both law laws Parts bytes status other text another first second
+same_answer one_sketch one_refusal not_both law laws Migrate request fit bytes status other text another first second =
+    same_accounted one_sketch one_refusal not_both law laws Migrated bytes status other text another first second
+same_answer one_sketch one_refusal not_both law laws Spare request fit bytes status other text another first second =
+    same_accounted one_sketch one_refusal not_both law laws Spares bytes status other text another first second
+same_answer one_sketch one_refusal not_both law laws Derive request fit bytes status other text another first second =
+    same_accounted one_sketch one_refusal not_both law laws Derived bytes status other text another first second
 same_answer one_sketch one_refusal not_both law laws Offers request fit bytes status other text another first second = same_offers laws law bytes status other text another first second
 same_answer one_sketch one_refusal not_both law laws Session request fit bytes status other text another first second = same_session law laws request bytes status other text another first second
 same_answer one_sketch one_refusal not_both law laws Solve request fit bytes status other text another first second =

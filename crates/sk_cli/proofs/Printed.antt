@@ -1,9 +1,9 @@
 -- What the texts of an outcome tell.
-use Rattle.std.proofs.Common.{◌≡◌, ◌≢◌, inl, inr, ℕ, ◌<◌, ◌*◌, ◌-◌, Bool, true, false, List, [], ◌∷◌, length, refl, ap, sym, subst, ◌∙◌, arith}
-use Rattle.std.specs.Prelude.{◌↔◌, if◌then◌else◌, All, Contains, map}
+use Rattle.std.proofs.Common.{◌≡◌, ◌≢◌, inl, inr, ℕ, ◌<◌, ◌*◌, ◌-◌, Bool, true, false, List, [], ◌∷◌, length, get_or, refl, ap, sym, subst, ◌∙◌, arith}
+use Rattle.std.specs.Prelude.{◌↔◌, if◌then◌else◌, Contains}
 use Rattle.std.proofs.lemmas.Bool.Decides.{nat_tests}
+use Rattle.std.proofs.lemmas.List.Elements.{Contains-get_or}
 use Rattle.std.proofs.Common.{nat_lt}
-use Rattle.sk_base.specs.declared.Edge.{Edge}
 use Rattle.sk_base.specs.declared.Elem.{Elem}
 use Rattle.sk_base.specs.declared.Element.{Element}
 use Rattle.sk_base.specs.declared.Graph.{Graph}
@@ -12,7 +12,8 @@ use Rattle.sk_base.specs.declared.Placed.{Placed}
 use Rattle.sk_base.specs.declared.Sketch.{Sketch}
 use Rattle.sk_base.specs.SoundGraph.{HasRisingEdges, IsSoundGraph}
 use Rattle.sk_base.proofs.Members.{contains_none, contains_head, contains_mapped}
-use Rattle.sk_family.specs.Body.{Body, SameBodies, starting, initial_bodies}
+use Rattle.sk_family.specs.Body.{Body, SameBodies, Start, starts, edge_start, block_start, starting, initial_bodies}
+use Rattle.sk_family.proofs.GraphStarts.{edge_starts, block_starts}
 use Rattle.sk_rules.specs.Excess.{held}
 use Rattle.sk_rules.specs.Reach.{IsNormal}
 use Rattle.sk_rules.proofs.NormalForm.{reach_covers}
@@ -31,6 +32,7 @@ use Rattle.sk_plan.specs.Judged.{IsTheJudgement, IsWell}
 use Rattle.sk_residual.specs.declared.Tolerance.{Tolerance}
 use Rattle.sk_residual.specs.Placing.{PlacesExactly}
 use Rattle.sk_residual.specs.Turns.{signs, AllAsDrawn}
+use Rattle.sk_residual.proofs.Merging.{has_blocks}
 use Rattle.sk_residual.proofs.Worsts.{all_hold_within}
 use Rattle.sk_report.specs.PlanReport.{plan_report}
 use Rattle.sk_worklist.specs.declared.Order.{Order}
@@ -81,18 +83,26 @@ module _ (g : Graph) (sound : IsSoundGraph g) (f : List Body) (normal : IsNormal
 
     -- a node is in some part
     pub some_part : (n : Node) → Contains g.nodes n → 0 < length j.parts
-    some_part n n_in = by_edges g.edges refl
+    some_part n n_in = by_starts (starts g) refl
       where
         holds : (xs : List Elem) → AreOfOnePart g f xs → 0 < length j.parts
         holds xs one = let inside = (is.parts (part_with g xs)).1 (one, refl) in omega (arith, inside.1)
 
-        by_edges : (ds : List Edge) → g.edges ≡ ds → 0 < length j.parts
-        by_edges [] none =
-            let by_none : IsNamedByNone g n.elem = subst (λ ds. All (λ (d : Edge). (d.u ≢ n.elem) × (d.v ≢ n.elem)) ds) (sym none) (λ k d k_in. absurd (omega arith)) in
-            holds (n.elem ∷ []) (inr (n.elem, record { is_node = contains_mapped elem_of g.nodes n n_in; named_by_none = by_none }, refl))
-        by_edges (d ∷ ds) some =
-            let d_in : Contains g.edges d = subst (λ es. Contains es d) (sym some) (contains_head d ds) in
-            let around = reach_covers g (initial_bodies g) f normal.reached (starting d) (contains_mapped starting g.edges d d_in) in
+        -- where nothing starts there is neither a constraint between two elements nor a block
+        by_none : starts g ≡ [] → IsNamedByNone g n.elem
+        by_none none = (
+          (λ k d k_in. absurd (contains_none (edge_start (get_or g.edges k d))
+              (subst (λ ss. Contains ss (edge_start (get_or g.edges k d))) none (edge_starts g (get_or g.edges k d) (Contains-get_or g.edges k d k_in))))),
+          (λ k b k_in. absurd (contains_none (block_start (get_or g.blocks k b))
+              (subst (λ ss. Contains ss (block_start (get_or g.blocks k b))) none
+              (block_starts g sound.blocks_rise sound.blocks_apart (get_or g.blocks k b) (Contains-get_or g.blocks k b k_in))))),
+        )
+
+        by_starts : (ss : List Start) → starts g ≡ ss → 0 < length j.parts
+        by_starts [] none = holds (n.elem ∷ []) (inr (n.elem, record { is_node = contains_mapped elem_of g.nodes n n_in; named_by_none = by_none none }, refl))
+        by_starts (s ∷ ss) some =
+            let s_in : Contains (starts g) s = subst (λ ts. Contains ts s) (sym some) (contains_head s ss) in
+            let around = reach_covers g (initial_bodies g) f normal.reached (starting s) (contains_mapped starting (starts g) s s_in) in
             holds around.0.elements (inl (around.0, around.1, refl))
 
 -- a sketch that has an element has a part
@@ -179,11 +189,6 @@ module _ (law : OneJudgement) (s : Sketch) (j : Judgement) (judged : IsTheJudgem
         | inr (short, report) ↦ ((λ same. (let clash : NotWell ≡ Done = sym short ∙ same in cc)), (λ one. absurd (still_well law s text (is_well one) report)))
       ]
 
--- where no constraint has a number, there is none
-pub none_mapped : (ds : List Edge) → map (λ (e : Edge). e.id) ds ≡ [] → ds ≡ []
-none_mapped [] is = refl
-none_mapped (d ∷ ds) is = cc
-
 -- the text of a plan
 pub planned_text : (order : Order) (s : Sketch) (status : Status) (text : List ℕ) → IsPlanOrReport order s status text → status ≡ Done
     → (p : ThePlan) × IsWell (graph_of s) × IsPlanBy order s p × (text ≡ plan_report s p)
@@ -214,7 +219,7 @@ module _ (report : Report) (request : Request) (s : Sketch) (status : Status) (t
         plan = its;
         lie = lie;
         exactly = subst (λ (z : Placed). PlacesExactly (graph_of s) z) (sym lie.2) (exactly_there G F (graph_of s) p sound its.1.legal lie.0 lie.1);
-        holds = all_hold_within here (graph_of s) t.t t.w least.lengths.holds least.angles.holds;
+        holds = all_hold_within here (graph_of s) t.t t.w (has_blocks (graph_of s) sound) least.lengths.holds least.angles.holds;
         least = least;
         within = none;
         drawn = drawn;

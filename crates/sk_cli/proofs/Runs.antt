@@ -12,8 +12,10 @@ use Rattle.sk_lang.specs.declared.Refusal.{Refusal}
 use Rattle.sk_lang.specs.Reading.{Refuses, TooLong, Empty, AtLine, NoEnd}
 use Rattle.sk_lang.specs.Front.{RefusesFront}
 use Rattle.sk_cli.specs.OffersReport.{IsRefusedAt}
+use Rattle.sk_cli.specs.declared.accounts.Account.{Account}
+use Rattle.sk_cli.specs.declared.accounts.Account.TheVariants.{Parts, Spares, Derived, Migrated}
 use Rattle.sk_cli.specs.declared.command.Command.{Command}
-use Rattle.sk_cli.specs.declared.command.Command.TheVariants.{Check, Plan, Solve, Dxf, Offers, Session, Grow}
+use Rattle.sk_cli.specs.declared.command.Command.TheVariants.{Check, Plan, Solve, Dxf, Offers, Session, Grow, Migrate, Spare, Derive}
 use Rattle.sk_cli.specs.declared.placing.Placement.{Placement}
 use Rattle.sk_cli.specs.declared.request.Request.{Request}
 use Rattle.sk_cli.specs.declared.solving.Report.{Report}
@@ -24,7 +26,7 @@ use Rattle.sk_cli.specs.declared.status.Status.TheVariants.{Done, Refused, Usage
 use Rattle.sk_cli.specs.Asking.{Asks, AreOfForm, TakesInput, AskForInput}
 use Rattle.sk_cli.proofs.OneOutcome.{same_request}
 use Rattle.sk_cli.specs.Solving.{status_of}
-use Rattle.sk_cli.specs.Outcome.{IsOutcome, IsAnswer, IsAnswerOf, IsSolved, IsWritten, usage_line}
+use Rattle.sk_cli.specs.Outcome.{IsOutcome, IsAnswer, IsAnswerOf, IsAccountAnswer, IsSolved, IsWritten, usage_line}
 use Rattle.sk_cli.specs.SessionAnswer.{RepliesToFront}
 use Rattle.sk_cli.specs.SessionEnding.{SessionEnds}
 use Rattle.sk_cli.specs.Ending.{IsTold, Ends, Sends}
@@ -65,10 +67,16 @@ still_refused_at : (text bytes : List ℕ) → length text ≡ 1048577 → 10485
 still_refused_at text bytes long longer r (inl refuses) = inl (still_front text bytes long longer r.line r.code refuses.refuses)
 still_refused_at text bytes long longer r (inr behind) = absurd (omega (arith, long, behind.1.fits))
 
+still_accounted : (text bytes : List ℕ) → length text ≡ 1048577 → 1048577 ≤ length bytes → (account : Account) (status : Status) (out : List ℕ) → IsAccountAnswer account text status out → IsAccountAnswer account bytes status out
+still_accounted text bytes long longer account Done out answer = absurd (omega (arith, long, answer.1.fits))
+still_accounted text bytes long longer account Refused out answer = (answer.0, still_refused text bytes long longer answer.0.line answer.0.code answer.1, answer.2)
+still_accounted text bytes long longer account status out answer = absurd answer
+
 still_answered : (text bytes : List ℕ) → length text ≡ 1048577 → 1048577 ≤ length bytes → (command : Command) (request : Request) (status : Status) (out : List ℕ) → IsAnswerOf command request text status out → IsAnswerOf command request bytes status out
-still_answered text bytes long longer Check request Done out answer = absurd (omega (arith, long, answer.2.fits))
-still_answered text bytes long longer Check request Refused out answer = (answer.0, still_refused text bytes long longer answer.0.line answer.0.code answer.1, answer.2)
-still_answered text bytes long longer Check request status out answer = absurd answer
+still_answered text bytes long longer Check request status out answer = still_accounted text bytes long longer Parts status out answer
+still_answered text bytes long longer Migrate request status out answer = still_accounted text bytes long longer Migrated status out answer
+still_answered text bytes long longer Spare request status out answer = still_accounted text bytes long longer Spares status out answer
+still_answered text bytes long longer Derive request status out answer = still_accounted text bytes long longer Derived status out answer
 still_answered text bytes long longer Plan request Refused out answer = (answer.0, still_refused text bytes long longer answer.0.line answer.0.code answer.1, answer.2)
 still_answered text bytes long longer Plan request status out answer = absurd (omega (arith, long, answer.1.fits))
 still_answered text bytes long longer Solve request Refused out answer = (answer.0, still_refused text bytes long longer answer.0.line answer.0.code answer.1, answer.2)
@@ -134,6 +142,9 @@ no_read_fault Dxf request bytes text answer = solved_told Drawing request answer
 no_read_fault Grow request bytes text answer = solved_told Sums request (datum_sketch answer.0) ReadFault text answer.2
 no_read_fault Offers request bytes text answer = answer
 no_read_fault Session request bytes text answer = answer
+no_read_fault Migrate request bytes text answer = answer
+no_read_fault Spare request bytes text answer = answer
+no_read_fault Derive request bytes text answer = answer
 
 no_want : (command : Command) (request : Request) (bytes text : List ℕ) → ¬ IsAnswerOf command request bytes NoMemory text
 no_want Check request bytes text answer = answer
@@ -143,6 +154,9 @@ no_want Dxf request bytes text answer = solved_told Drawing request answer.0 NoM
 no_want Grow request bytes text answer = solved_told Sums request (datum_sketch answer.0) NoMemory text answer.2
 no_want Offers request bytes text answer = answer
 no_want Session request bytes text answer = answer
+no_want Migrate request bytes text answer = answer
+no_want Spare request bytes text answer = answer
+no_want Derive request bytes text answer = answer
 
 no_write_fault : (command : Command) (request : Request) (bytes text : List ℕ) → ¬ IsAnswerOf command request bytes WriteFault text
 no_write_fault Check request bytes text answer = answer
@@ -152,6 +166,9 @@ no_write_fault Dxf request bytes text answer = solved_told Drawing request answe
 no_write_fault Grow request bytes text answer = solved_told Sums request (datum_sketch answer.0) WriteFault text answer.2
 no_write_fault Offers request bytes text answer = answer
 no_write_fault Session request bytes text answer = answer
+no_write_fault Migrate request bytes text answer = answer
+no_write_fault Spare request bytes text answer = answer
+no_write_fault Derive request bytes text answer = answer
 
 outcome_no_read_fault : (words : List (List ℕ)) (bytes text : List ℕ) → ¬ IsOutcome words bytes ReadFault text
 outcome_no_read_fault words bytes text outcome = elim outcome [ inl asked ↦ no_read_fault asked.0.command asked.0 bytes text asked.2 | inr usage ↦ (let same = usage.1 in cc) ]

@@ -1,10 +1,16 @@
 -- What passes a test among finitely many items, listed in a strict order.
-use Rattle.std.proofs.Common.{◌≡◌, ◌⊎◌, inl, inr, List, [], ◌∷◌, ◌++◌, sym, ◌∙◌, subst}
+use Rattle.std.proofs.Common.{◌≡◌, ◌⊎◌, inl, inr, ℕ, ◌<◌, List, [], ◌∷◌, ◌++◌, sym, ◌∙◌, subst}
 use Rattle.std.specs.Prelude.{Contains, AllPairs, map, ◌↔◌}
 use Rattle.std.proofs.lemmas.List.Elements.{Contains-append_left, Contains-append_right, Contains-append_cases}
 use Rattle.sk_base.proofs.Members.{contains_none, contains_head, contains_later, contains_one, contains_cases, contains_mapped, mapped_from}
 use Rattle.sk_base.proofs.Pairs.{pairs_none, pairs_tail, pairs_head, pairs_cons}
+use Rattle.sk_base.proofs.Unions.{which}
 use Rattle.sk_cli.proofs.Deciding.{Decided}
+
+-- items that their number tells are in a strict order
+pub number_tells : {X : Type 0} (number : X → ℕ) → ((x y : X) → number x ≡ number y → x ≡ y) → (x y : X) → (number x < number y) ⊎ ((x ≡ y) ⊎ (number y < number x))
+number_tells number exact x y =
+    elim (which (number x) (number y)) [ inl less ↦ inl less | inr (inl same) ↦ inr (inl (exact x y same)) | inr (inr more) ↦ inr (inr more) ]
 
 module _ {X : Type 0} (R : X → X → Type 0) (tells : (x y : X) → R x y ⊎ ((x ≡ y) ⊎ R y x)) (chain : (x y z : X) → R x y → R y z → R x z) where
   -- the list with an item put in

@@ -88,7 +88,7 @@ module _ (g : Graph) (f : Clusters) where
   name_lives : (n : Name) (c : Cluster) → IsNamed f n c → Contains (live_names f) n
   name_lives n c h = subst (λ (m : Name). Contains (live_names f) m) h.has_name (contains_mapped (λ (d : Cluster). d.name) f.live c h.lives)
 
-  pairs : List Merge
+  pub pairs : List Merge
   pairs = times Two (live_names f) (live_names f)
 
   three_of : Name → (Name × Name) → Merge
@@ -100,9 +100,13 @@ module _ (g : Graph) (f : Clusters) where
   triples : List Merge
   triples = times three_of (live_names f) (times two_of (live_names f) (live_names f))
 
-  pair_listed : (x y : Name) → CanTake g f (Two x y) → Contains pairs (Two x y)
+  -- each pair of live names is listed
+  pub names_listed : (x y : Name) (a b : Cluster) → IsNamed f x a → IsNamed f y b → Contains pairs (Two x y)
   unfolding pairs
-  pair_listed x y (falls, (a, b, x_is, y_is, shares)) = in_times Two (live_names f) (live_names f) x y (name_lives x a x_is) (name_lives y b y_is)
+  names_listed x y a b x_is y_is = in_times Two (live_names f) (live_names f) x y (name_lives x a x_is) (name_lives y b y_is)
+
+  pair_listed : (x y : Name) → CanTake g f (Two x y) → Contains pairs (Two x y)
+  pair_listed x y (falls, (a, b, x_is, y_is, shares)) = names_listed x y a b x_is y_is
 
   triple_listed : (x y z : Name) → CanTake g f (Three x y z) → Contains triples (Three x y z)
   unfolding triples three_of two_of

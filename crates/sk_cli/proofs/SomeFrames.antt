@@ -1,11 +1,13 @@
--- Each constraint of a sound graph has its frame.
+-- Each constraint of a sound graph has its frame, and each block.
 use Rattle.std.proofs.Common.{◌≡◌, refl, ℕ, ◌≤◌, ◌*◌, ◌<◌, ◌<ℤ◌, ℤ, pos, unsigned_abs, List, [], ◌∷◌, ◌++◌, ap, ◌∙◌, Ok, arith}
-use Rattle.std.specs.Prelude.{Some, Result}
+use Rattle.std.specs.Prelude.{Option, Some, None, IsSome, Result, false, true}
+use Rattle.std.specs.Option.{option_map, option_or}
 use Rattle.std.proofs.lemmas.Int.{ints}
 use Rattle.sk_base.specs.declared.Sign.{Sign}
 use Rattle.sk_base.specs.declared.Sign.TheVariants.{Plus, Minus}
 use Rattle.sk_base.specs.declared.Ratio.{Ratio}
 use Rattle.sk_base.specs.declared.Edge.{Edge}
+use Rattle.sk_base.specs.declared.Block.{Block}
 use Rattle.sk_base.specs.declared.Graph.{Graph}
 use Rattle.sk_base.specs.declared.Measure.{Measure}
 use Rattle.sk_base.specs.declared.Measure.TheVariants.{PointPoint, PointLine, LineLine}
@@ -21,9 +23,9 @@ use Rattle.sk_steps.specs.Quantities.{named, then_list, evaluate_after}
 use Rattle.sk_steps.specs.Leaves.{by_sign, opposite, square_of, part, frame, framed, frame_of, leaf, IsSoundMeasure}
 use Rattle.sk_steps.proofs.LeafLemmas.{length-ok, whole-ok, norm, ratio, root-ok, quotient-ok, normal-ok, IsSquare, square_within}
 use Rattle.sk_place.specs.declared.BoxAt.{BoxAt}
-use Rattle.sk_place.specs.Trees.{edge_of, two_boxes, frame_of as frame_in}
-use Rattle.sk_place.proofs.Edges.{edge_there, edge_measured}
-use Rattle.std.specs.Prelude.{Contains}
+use Rattle.sk_base.specs.Lookups.{edge_numbered, block_numbered}
+use Rattle.sk_place.specs.Trees.{edge, block, framed_of, two_boxes, pin_boxes, frame_of as frame_in}
+use Rattle.sk_place.proofs.Edges.{edge_measured}
 
 module _ (F : ℕ) where
   -- the expression has no cause
@@ -102,11 +104,17 @@ module _ (F : ℕ) where
   pub some_leaf : {G : Type 0} (m : Measure) → IsSoundMeasure m → (boxes : BoxOf G × BoxOf G) × (leaf F m ≡ Ok boxes)
   some_leaf m sound = (let found = all_found (frame m) (frame_gives m sound) [] in (framed m found.0, ap (λ (r : Result (List Interval) (What × Cause)). frame_of m r) found.1))
 
-  pub some_frame : {G : Type 0} (g : Graph) → IsSoundGraph g → (e : Edge) → Contains g.edges e → (bs : List (BoxAt G)) × (frame_in F (edge_of g e.id.0) ≡ Some bs)
-  some_frame {G} g sound e e_in =
-      let there = edge_there g sound e e_in in
-      let found = some_leaf {G = G} e.measure (edge_measured g sound e.id.0 e there) in
-      told found.0 found.1 there
+  pub some_frame : {G : Type 0} (g : Graph) → IsSoundGraph g → (k : ℕ) → IsSome (framed_of g k) → (bs : List (BoxAt G)) × (frame_in F (framed_of g k) ≡ Some bs)
+  some_frame {G} g sound k there = by_block (block_numbered g k) (edge_numbered g k) refl there
     where
-      told : (boxes : BoxOf G × BoxOf G) → leaf F e.measure ≡ Ok boxes → edge_of g e.id.0 ≡ Some e → (bs : List (BoxAt G)) × (frame_in F (edge_of g e.id.0) ≡ Some bs)
-      told boxes is there = (_, ap (λ o. frame_in F o) there ∙ ap (λ (r : Result (BoxOf G × BoxOf G) (What × Cause)). two_boxes e r) is)
+      two : (e : Edge) (boxes : BoxOf G × BoxOf G) → leaf F e.measure ≡ Ok boxes → (bs : List (BoxAt G)) × (frame_in F (Some (edge e)) ≡ Some bs)
+      two e boxes is = (_, ap (λ (r : Result (BoxOf G × BoxOf G) (What × Cause)). two_boxes e r) is)
+
+      by_edge : (e : Option Edge) → edge_numbered g k ≡ e → IsSome (option_map edge e) → (bs : List (BoxAt G)) × (frame_in F (option_map edge e) ≡ Some bs)
+      by_edge (Some e) is some = (let found = some_leaf {G = G} e.measure (edge_measured g sound k e is) in two e found.0 found.1)
+      by_edge None is some = (let never : false ≡ true = some in absurd (cc))
+
+      by_block : (b : Option Block) (e : Option Edge) → edge_numbered g k ≡ e → IsSome (option_or (option_map block b) (option_map edge e))
+          → (bs : List (BoxAt G)) × (frame_in F (option_or (option_map block b) (option_map edge e)) ≡ Some bs)
+      by_block (Some b) e is some = (pin_boxes F b.pins, refl)
+      by_block None e is some = by_edge e is some

@@ -4,6 +4,7 @@ use Rattle.std.specs.Prelude.{Contains, map}
 use Rattle.std.proofs.lemmas.List.Elements.{Contains-append_left, Contains-append_right}
 use Rattle.sk_base.specs.declared.Elem.{Elem}
 use Rattle.sk_base.specs.declared.Edge.{Edge}
+use Rattle.sk_base.specs.declared.Pin.{Pin}
 use Rattle.sk_base.specs.declared.Graph.{Graph}
 use Rattle.sk_base.specs.SoundGraph.{IsSoundGraph}
 use Rattle.sk_base.specs.ElementOrder.{ElementsBefore}
@@ -16,7 +17,7 @@ use Rattle.sk_rules.proofs.NormalForm.{normal_same}
 use Rattle.sk_verdict.specs.declared.Part.{Part}
 use Rattle.sk_verdict.specs.declared.Judgement.{Judgement}
 use Rattle.sk_verdict.specs.Ordering.{PartBefore}
-use Rattle.sk_verdict.specs.Parts.{elem_of, IsLone, AreOfOnePart, part_with}
+use Rattle.sk_verdict.specs.Parts.{elem_of, HasNoPin, IsLone, AreOfOnePart, part_with}
 use Rattle.sk_verdict.specs.Judging.{IsJudgement, verdict_on}
 use Rattle.sk_verdict.proofs.Judgements.{judgement_moves}
 use Rattle.sk_plan.specs.Judged.{IsTheJudgement}
@@ -28,7 +29,8 @@ lone_decided : (g : Graph) (e : Elem) → Decided (IsLone g e)
 lone_decided g e =
     moved (λ h. record { is_node = h.0; named_by_none = h.1 }) (λ (h : IsLone g e). (h.is_node, h.named_by_none))
     (both (is_in elem_settles (map elem_of g.nodes) e)
-    (all_decided (λ (d : Edge). (d.u ≢ e) × (d.v ≢ e)) (λ d. both (denied (elem_settles d.u e)) (denied (elem_settles d.v e))) g.edges))
+    (both (all_decided (λ (d : Edge). (d.u ≢ e) × (d.v ≢ e)) (λ d. both (denied (elem_settles d.u e)) (denied (elem_settles d.v e))) g.edges)
+    (all_decided (HasNoPin e) (λ b. all_decided (λ (pin : Pin). pin.elem ≢ e) (λ pin. denied (elem_settles pin.elem e)) b.pins) g.blocks)))
 
 module _ (g : Graph) (f : List Body) where
   part_decided : (xs : List Elem) → Decided (AreOfOnePart g f xs)

@@ -1,16 +1,18 @@
 -- Where the elements of a graph are placed, each item has its own least number, and so there is a worst one, and a first
 -- that is above a limit or none.
-use Rattle.std.proofs.Common.{◌≡◌, ◌≢◌, ◌⊎◌, inl, inr, refl, ℕ, zero, suc, ◌+◌, ◌*◌, ◌<◌, ℤ, pos, negsuc, unsigned_abs, Bool, true, false, List, [], ◌∷◌, ◌++◌, ap, sym, subst, append_assoc, Option, None, Some, arith}
-use Rattle.std.specs.Prelude.{Contains, is_none, ◌||◌, nat_lt}
+use Rattle.std.proofs.Common.{◌≡◌, ◌≢◌, ◌⊎◌, inl, inr, refl, ℕ, zero, suc, ◌+◌, ◌*◌, ◌<◌, ◌≤◌, ℤ, pos, negsuc, unsigned_abs, Bool, true, false, List, [], ◌∷◌, ◌++◌, length, get_or, take, ap, sym, subst, append_assoc, add-one, Option, None, Some, arith}
+use Rattle.std.specs.Prelude.{All, Contains, max, is_none, ◌||◌, nat_lt}
 use Rattle.std.specs.Int.{div_ceil}
 use Rattle.std.specs.List.{flat_map}
 use Rattle.std.proofs.lemmas.Int.{ints}
-use Rattle.std.proofs.lemmas.List.{append-nil}
+use Rattle.std.proofs.lemmas.List.{append-nil, take_all}
 use Rattle.std.proofs.lemmas.List.Elements.{Contains-append_cases}
 use Rattle.sk_base.specs.declared.At.{At}
 use Rattle.sk_base.specs.declared.At.TheVariants as places
 use Rattle.sk_base.specs.declared.Elem.{Elem}
 use Rattle.sk_base.specs.declared.Edge.{Edge}
+use Rattle.sk_base.specs.declared.Block.{Block}
+use Rattle.sk_base.specs.declared.Pin.{Pin}
 use Rattle.sk_base.specs.declared.Node.{Node}
 use Rattle.sk_base.specs.declared.Graph.{Graph}
 use Rattle.sk_base.specs.declared.Kind.{Kind}
@@ -19,9 +21,10 @@ use Rattle.sk_base.specs.declared.Measure.{Measure}
 use Rattle.sk_base.specs.declared.Measure.TheVariants.{PointPoint, PointLine, LineLine}
 use Rattle.sk_base.specs.declared.Placed.{Placed}
 use Rattle.sk_base.specs.SoundGraph.{IsSoundGraph, HasNode}
-use Rattle.sk_base.specs.Places.{IsLine}
+use Rattle.sk_base.specs.Places.{IsPoint, IsLine}
+use Rattle.sk_base.specs.Rising.{union}
 use Rattle.sk_base.proofs.Members.{nat_settles, contains_none, contains_head, contains_later, contains_one, contains_cases, mapped_from}
-use Rattle.sk_base.proofs.Unions.{which}
+use Rattle.sk_base.proofs.Unions.{which, union_cases}
 use Rattle.sk_root.specs.Roots.{floor_root, ceil_root, IsGreatestBelow, IsLeastAbove}
 use Rattle.sk_root.proofs.RootLemmas.{root_below, floor_root-bounds, ceil_root-least}
 use Rattle.sk_residual.specs.declared.Beyond.{Beyond}
@@ -29,14 +32,15 @@ use Rattle.sk_residual.specs.declared.Spotted.{Spotted}
 use Rattle.sk_residual.specs.declared.Turned.{Turned}
 use Rattle.sk_residual.specs.Least.{IsLeast, IsFirst}
 use Rattle.sk_residual.specs.Offsets.{billion, distance_squared, angle_unit}
-use Rattle.sk_residual.specs.Holding.{IsOffset, IsNormal, IsMet, FitsKinds}
-use Rattle.sk_residual.specs.Placing.{lies, IsModerate, PlacesExactly}
-use Rattle.sk_residual.specs.Tolerances.{Item, normal, constraint, name_of, IsOwnLeast, AllHold, IsFirstBeyond, distance_of_measure, angles, angle_of_measure, normals, normal_of_kind, constraints, lengthwise, anglewise, everything}
+use Rattle.sk_residual.specs.Holding.{IsOffset, IsNormal, IsMet, FitsKinds, given_squared, AreAsGiven}
+use Rattle.sk_residual.specs.Placing.{lies, IsModerate, IsPlacedAs, IsPinPlaced, PlacesExactly}
+use Rattle.sk_residual.specs.Tolerances.{Item, normal, constraint, block, name_of, number_of, IsPairMet, ArePinsMet, IsOwnLeast, AllHold, IsFirstBeyond, distances, distance_of_measure, angles, angle_of_measure, normals, normal_of_kind, rigid, between, constraints, lengthwise, anglewise, everything}
 use Rattle.sk_residual.specs.Turns.{value_of, IsAsDrawn, IsTurned, AllAsDrawn}
-use Rattle.sk_residual.specs.Telling.{IsTold}
+use Rattle.sk_residual.specs.Telling.{IsTold, AreMetWith}
+use Rattle.sk_residual.proofs.BlockLeast.{none_with, none_met, least_with_more, least_met_more}
 use Rattle.sk_residual.proofs.LengthLemmas.{least_length}
 use Rattle.sk_residual.proofs.OffsetLemmas.{least_offset}
-use Rattle.sk_residual.proofs.Placings.{ends_fit, measurable}
+use Rattle.sk_residual.proofs.Placings.{ends_fit, measurable, block_measurable, any_pin}
 use Rattle.sk_residual.proofs.Worsts.{told_none, told_then, told_else}
 use Rattle.sk_residual.proofs.Passings.{all_one, beyond_one, beyond_appended, beyond_behind}
 
@@ -62,7 +66,7 @@ unit_positive (negsuc n) q slanted = omega (arith, ints)
 least_met : (m : Measure) (u v : At) → FitsKinds m u v → IsModerate m → SomeLeast (IsMet m u v)
 least_met (PointPoint len) (places.Point x y) (places.Point z t) fits moderate =
     let square = distance_squared x y z t in
-    (_, least_length (1000 * unsigned_abs len.0) square (floor_root square) (ceil_root square) (greatest_root square) (least_root square))
+    (_, least_length (1000 * unsigned_abs len.0) (1000 * unsigned_abs len.0) square (floor_root square) (ceil_root square) (greatest_root square) (least_root square))
 least_met (PointLine len side) (places.Point x y) (places.Line a b c) fits moderate = within_unit _ _ (omega arith)
 least_met (LineLine ratio sense) (places.Line a b c) (places.Line d e f) fits moderate = within_unit (angle_unit ratio) _ (unit_positive ratio.p ratio.q moderate.0)
 least_met (PointPoint len) (places.Line a b c) v fits moderate = absurd fits.0
@@ -76,6 +80,40 @@ least_normal : (at : At) → IsLine at → SomeLeast (IsNormal at)
 least_normal (places.Point x y) line = absurd line
 least_normal (places.Line a b c) line = within_unit _ _ (omega arith)
 
+least_given : (a b : Pin) (u v : At) → IsPoint u → IsPoint v → SomeLeast (AreAsGiven a b u v)
+least_given a b (places.Point x y) (places.Point z t) first second =
+    let given = given_squared a b in
+    let square = distance_squared x y z t in
+    (_, least_length (floor_root given) (ceil_root given) square (floor_root square) (ceil_root square) (greatest_root square) (least_root square))
+least_given a b (places.Point x y) (places.Line c d e) first second = absurd second
+least_given a b (places.Line c d e) v first second = absurd first
+
+module _ (p : Placed) (pins : List Pin) (placed : All (IsPinPlaced p) pins) where
+  -- so many of the pins lie as far from a further one as they are given
+  least_with : (further : Pin) → IsPoint (lies p further.elem) → (i : ℕ) → i ≤ length pins → SomeLeast (AreMetWith p (take i pins) further)
+  least_with further at_point zero inside = (0, none_with p further)
+  least_with further at_point (suc i) inside =
+      let so_far = least_with further at_point i (omega arith) in
+      let pin = get_or pins i any_pin in
+      let at : IsPlacedAs p pin.elem kinds.Point = placed i any_pin (omega arith) in
+      let here : SomeLeast (λ (t : ℕ). IsPairMet p t pin further) = least_given pin further (lies p pin.elem) (lies p further.elem) at.has_kind at_point in
+      subst (λ (k : ℕ). SomeLeast (AreMetWith p (take k pins) further)) (add-one i)
+      (max so_far.0 here.0, least_with_more p pins i any_pin further so_far.0 here.0 (omega arith) so_far.1 here.1)
+
+  -- and from each other
+  least_among : (i : ℕ) → i ≤ length pins → SomeLeast (ArePinsMet p (take i pins))
+  least_among zero inside = (0, none_met p)
+  least_among (suc i) inside =
+      let so_far = least_among i (omega arith) in
+      let pin = get_or pins i any_pin in
+      let at : IsPlacedAs p pin.elem kinds.Point = placed i any_pin (omega arith) in
+      let here = least_with pin at.has_kind i (omega arith) in
+      subst (λ (k : ℕ). SomeLeast (ArePinsMet p (take k pins))) (add-one i)
+      (max so_far.0 here.0, least_met_more p pins i any_pin so_far.0 here.0 (omega arith) so_far.1 here.1)
+
+  least_pins : SomeLeast (ArePinsMet p pins)
+  least_pins = subst (λ (xs : List Pin). SomeLeast (ArePinsMet p xs)) (take_all (length pins) pins (omega arith)) (least_among (length pins) (omega arith))
+
 -- each of some items has its own least number
 abbrev pub AllOwn : Placed → List Item → Type 0
 AllOwn p items = (item : Item) → Contains items item → (n : ℕ) × IsOwnLeast p item n
@@ -87,8 +125,14 @@ module _ (g : Graph) (p : Placed) (sound : IsSoundGraph g) (exactly : PlacesExac
   own_constraint : (e : Edge) → Contains g.edges e → (n : ℕ) × IsOwnLeast p (constraint e) n
   own_constraint e e_in = (let can = measurable g p sound exactly e e_in in least_met e.measure (lies p e.u) (lies p e.v) (ends_fit p e.u e.v e.measure can.ends) can.moderate)
 
-  pub own_constraints : AllOwn p (constraints g.edges)
-  own_constraints item h = (let it = mapped_from (λ (e : Edge). constraint e) g.edges item h in subst (λ i. (n : ℕ) × IsOwnLeast p i n) it.2 (own_constraint it.0 it.1))
+  own_block : (b : Block) → Contains g.blocks b → (n : ℕ) × IsOwnLeast p (block b) n
+  own_block b b_in = least_pins p b.pins (block_measurable g p sound exactly b b_in).placed
+
+  own_rigid : AllOwn p (rigid g.blocks)
+  own_rigid item h = (let it = mapped_from (λ (b : Block). block b) g.blocks item h in subst (λ i. (n : ℕ) × IsOwnLeast p i n) it.2 (own_block it.0 it.1))
+
+  own_between : AllOwn p (between g.edges)
+  own_between item h = (let it = mapped_from (λ (e : Edge). constraint e) g.edges item h in subst (λ i. (n : ℕ) × IsOwnLeast p i n) it.2 (own_constraint it.0 it.1))
 
   own_normals_of : (nodes : List Node) → ((n : Node) → Contains nodes n → Contains g.nodes n) → AllOwn p (normals nodes)
   own_normals_of [] within item h = absurd (contains_none item h)
@@ -127,11 +171,20 @@ module _ (g : Graph) (p : Placed) (sound : IsSoundGraph g) (exactly : PlacesExac
   own_both : (xs ys : List Item) → AllOwn p xs → AllOwn p ys → AllOwn p (xs ++ ys)
   own_both xs ys first second item h = elim (Contains-append_cases xs ys item h) [ inl early ↦ first item early | inr late ↦ second item late ]
 
+  own_united : (xs ys : List Item) → AllOwn p xs → AllOwn p ys → AllOwn p (union number_of xs ys)
+  own_united xs ys first second item h = elim (union_cases number_of xs ys item h) [ inl early ↦ first item early | inr late ↦ second item late ]
+
+  own_constraints : AllOwn p (constraints g)
+  own_constraints = own_united (rigid g.blocks) (between g.edges) own_rigid own_between
+
   pub own_everything : AllOwn p (everything g)
-  own_everything = own_both (normals g.nodes) (constraints g.edges) own_normals own_constraints
+  own_everything = own_both (normals g.nodes) (constraints g) own_normals own_constraints
+
+  own_distances : AllOwn p (distances g.edges)
+  own_distances = own_flat (λ (e : Edge). distance_of_measure e e.measure) (λ e item h. only_distance e e.measure item h) g.edges (λ e h. h)
 
   pub own_lengthwise : AllOwn p (lengthwise g)
-  own_lengthwise = own_flat (λ (e : Edge). distance_of_measure e e.measure) (λ e item h. only_distance e e.measure item h) g.edges (λ e h. h)
+  own_lengthwise = own_united (rigid g.blocks) (distances g.edges) own_rigid own_distances
 
   pub own_anglewise : AllOwn p (anglewise g)
   own_anglewise = own_both (normals g.nodes) (angles g.edges) own_normals (own_flat (λ (e : Edge). angle_of_measure e e.measure) (λ e item h. only_angle e e.measure item h) g.edges (λ e h. h))

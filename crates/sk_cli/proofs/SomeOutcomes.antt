@@ -9,6 +9,7 @@ use Rattle.sk_lang.specs.declared.Code.{Code}
 use Rattle.sk_lang.specs.declared.Front.{Front}
 use Rattle.sk_lang.specs.declared.Refusal.{Refusal}
 use Rattle.sk_lang.specs.Front.{ReadsFront, RefusesFront}
+use Rattle.sk_lang.specs.Canonical.{canonical_2}
 use Rattle.sk_lang.specs.Reading.{Reads, Refuses}
 use Rattle.sk_graph.specs.SketchGraph.{graph_of}
 use Rattle.sk_graph.proofs.Soundness.{graph_is_sound}
@@ -25,12 +26,16 @@ use Rattle.sk_residual.specs.Placing.{PlacesExactly}
 use Rattle.sk_residual.specs.Telling.{constraint_of}
 use Rattle.sk_residual.specs.Tolerances.{lengthwise, anglewise, everything}
 use Rattle.sk_residual.specs.Turns.{signs}
-use Rattle.sk_residual.proofs.Worsts.{worst_distance_named}
+use Rattle.sk_residual.proofs.Worsts.{worst_lengthwise_named}
 use Rattle.sk_report.specs.CheckReport.{check_report}
 use Rattle.sk_report.specs.PlanReport.{plan_report}
 use Rattle.sk_report.specs.RefusalLine.{refusal_line}
+use Rattle.sk_spare.specs.SpareReport.{spare_report}
+use Rattle.sk_derive.specs.DerivedText.{derived_text}
+use Rattle.sk_cli.specs.declared.accounts.Account.{Account}
+use Rattle.sk_cli.specs.declared.accounts.Account.TheVariants.{Parts, Spares, Derived, Migrated}
 use Rattle.sk_cli.specs.declared.command.Command.{Command}
-use Rattle.sk_cli.specs.declared.command.Command.TheVariants.{Check, Plan, Solve, Dxf, Offers, Session, Grow}
+use Rattle.sk_cli.specs.declared.command.Command.TheVariants.{Check, Plan, Solve, Dxf, Offers, Session, Grow, Migrate, Spare, Derive}
 use Rattle.sk_cli.specs.declared.placing.Placement.{Placement}
 use Rattle.sk_cli.specs.declared.placing.Placement.TheVariants.{Fault, Beyond, Turned, Holds}
 use Rattle.sk_cli.specs.declared.request.Request.{Request}
@@ -38,8 +43,9 @@ use Rattle.sk_cli.specs.declared.solving.Report.{Report}
 use Rattle.sk_cli.specs.declared.solving.Report.TheVariants.{Places, Drawing, Sums}
 use Rattle.sk_cli.specs.declared.status.Status.{Status}
 use Rattle.sk_cli.specs.declared.status.Status.TheVariants.{Done, Refused, Usage, NotWell}
+use Rattle.sk_cli.specs.Accounts.{IsAccount}
 use Rattle.sk_cli.specs.Grids.{grid_of, digits_of}
-use Rattle.sk_cli.specs.Outcome.{usage_line, IsPlanBy, IsReportNotWell, IsSolved, IsSolveAnswer, IsAnswerOf, IsOutcome}
+use Rattle.sk_cli.specs.Outcome.{usage_line, IsPlanBy, IsReportNotWell, IsSolved, IsSolveAnswer, IsAnswerOf, IsAccountAnswer, IsOutcome}
 use Rattle.sk_cli.specs.Solving.{midpoints, IsMeasured, IsPlacement, status_of, placement_words}
 use Rattle.sk_cli.proofs.FittingOffers.{read_fit}
 use Rattle.sk_cli.proofs.OfferAnswers.{some_answer as read_or_refused}
@@ -51,6 +57,8 @@ use Rattle.sk_cli.proofs.SomeMeasures.{own_everything, own_lengthwise, own_angle
 use Rattle.sk_cli.proofs.SomePlaces.{some_places}
 use Rattle.sk_cli.proofs.SomePlans.{judgement_there, some_plan}
 use Rattle.sk_cli.proofs.SomeRequests.{form_decided}
+use Rattle.sk_cli.proofs.SomeSpares.{some_spares}
+use Rattle.sk_cli.proofs.SomeWide.{some_wide}
 use Rattle.sk_session.proofs.SomeReplies.{GivenByLanguage, well_or_not}
 use Rattle.sk_cli.proofs.SomeSessions.{SomeToSolve, some_session}
 
@@ -74,7 +82,7 @@ some_measured limit s p at sound exactly =
                 record {
                   lengths = lengths.2.least;
                   angles = angles.2.least;
-                  worst_length = worst_distance_named at g.edges lengths.0 lengths.1 lengths.2.at;
+                  worst_length = worst_lengthwise_named at g lengths.0 lengths.1 lengths.2.at;
                   worst_angle = angles.2.at;
                 },
               ),
@@ -122,10 +130,17 @@ planned order s sketch some =
 abbrev Answered : Command → Request → List ℕ → Type 0
 Answered command request bytes = (status : Status) × (text : List ℕ) × IsAnswerOf command request bytes status text
 
-checked : LawsBelow → (request : Request) (bytes : List ℕ) → Answered Check request bytes
-checked laws request bytes =
+-- what is told of a sketch
+some_account : (account : Account) (s : Sketch) → IsSoundSketch s → (text : List ℕ) × IsAccount account s text
+some_account Parts s sketch = let j = the_judgement_of s sketch in (check_report s j.0, (j.0, j.1, refl))
+some_account Spares s sketch = let found = some_spares (graph_of s) (graph_is_sound s sketch) in (spare_report s found.0, (found.0, found.1, refl))
+some_account Migrated s sketch = (canonical_2 s, refl)
+some_account Derived s sketch = let found = some_wide (graph_of s) (graph_is_sound s sketch) in (derived_text s found.family, (found.family, found.sound, found.normal, refl))
+
+accounted : LawsBelow → (account : Account) (bytes : List ℕ) → (status : Status) × (text : List ℕ) × IsAccountAnswer account bytes status text
+accounted laws account bytes =
     elim (laws.answer bytes) [
-      | inl (s, reads) ↦ (let j = the_judgement_of s (laws.sound bytes s reads) in (Done, check_report s j.0, (s, j.0, reads, j.1, refl)))
+      | inl (s, reads) ↦ (let told = some_account account s (laws.sound bytes s reads) in (Done, told.0, (s, reads, told.1)))
       | inr (n, (code, refuses)) ↦ (let r : Refusal = record { line = n; code = code } in (Refused, refusal_line r, (r, refuses, refl)))
     ]
 
@@ -199,7 +214,10 @@ offers_answer laws request bytes =
     ]
 
 answered : LawsBelow → (command : Command) (request : Request) → (command ≡ Grow → (n : ℕ) × (request.size ≡ Some n) × (3 ≤ n) × (n ≤ 1000)) → (bytes : List ℕ) → Answered command request bytes
-answered laws Check request size bytes = checked laws request bytes
+answered laws Check request size bytes = accounted laws Parts bytes
+answered laws Migrate request size bytes = accounted laws Migrated bytes
+answered laws Spare request size bytes = accounted laws Spares bytes
+answered laws Derive request size bytes = accounted laws Derived bytes
 answered laws Plan request size bytes = planned_answer laws request bytes
 answered laws Solve request size bytes = solve_answer laws Places request bytes
 answered laws Dxf request size bytes = solve_answer laws Drawing request bytes

@@ -17,9 +17,7 @@ use Rattle.sk_place.specs.Placing.{IsPlaced, lone_boxes}
 use Rattle.sk_place.specs.Rounding.{AreBounded}
 use Rattle.sk_place.specs.Running.{held, IsThere, AreHeld, IsAfter, IsLastName}
 use Rattle.sk_place.specs.Steps.{joined}
-use Rattle.sk_place.specs.Trees.{edge_of, frame_of}
 use Rattle.sk_place.proofs.Afters.{at_start, at_next, can_join}
-use Rattle.sk_place.proofs.Edges.{some_edge, edge_found}
 use Rattle.sk_place.proofs.Ending.{no_tree, leaf_there, left_there, left_boxes, left_nodes, left_bounded, lone_nodes, lone_bounded}
 use Rattle.sk_place.proofs.Failing.{failed_run}
 use Rattle.sk_session.proofs.SomeReplies.{last_or_none}
@@ -33,11 +31,7 @@ item_at (x ∷ xs) (suc i) inside = (let rest = item_at xs i (omega arith) in (r
 
 module _ (G : Type 0) (F : ℕ) (g : Graph) (p : Plan) (sound : IsSoundGraph g) (legal : IsLegalPlan g p) where
   held_there : (live : List (Option (List (BoxAt G)))) (n : Name) → IsThere g live n → (bs : List (BoxAt G)) × (held F g live n ≡ Some bs)
-  held_there live (Con k) there =
-      let found = some_edge g k there in
-      let at = edge_found g k found.0 found.1 in
-      let frame = some_frame F {G = G} g sound found.0 at.there in
-      (frame.0, subst (λ (j : ℕ). frame_of F (edge_of g j) ≡ Some frame.0) at.number frame.1)
+  held_there live (Con k) there = some_frame F {G = G} g sound k there
   held_there live (Step k) there = told (slice_index_or live k None) refl there
     where
       told : (o : Option (List (BoxAt G))) → slice_index_or live k None ≡ o → IsSome o → (bs : List (BoxAt G)) × (slice_index_or live k None ≡ Some bs)

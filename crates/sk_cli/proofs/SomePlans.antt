@@ -12,7 +12,7 @@ use Rattle.sk_base.specs.SoundSketch.{IsSoundSketch}
 use Rattle.sk_base.proofs.Members.{contains_one, contains_cases}
 use Rattle.sk_base.proofs.Unions.{which}
 use Rattle.sk_family.specs.declared.Cluster.{Cluster}
-use Rattle.sk_family.specs.Body.{initial_bodies}
+use Rattle.sk_family.specs.Body.{starts, initial_bodies}
 use Rattle.sk_family.specs.Clusters.{Clusters, bodies, initial_clusters, IsNamed, IsSound}
 use Rattle.sk_family.proofs.Naming.{below_irreflexive, below_asymmetric, below_chain, one_of_name}
 use Rattle.sk_family.proofs.Soundness.{sound_initial, starting_bodies}
@@ -165,7 +165,7 @@ module _ (s : Sketch) (g : Graph) (sound : IsSoundGraph g) (draws : Draws s g) w
 -- a run from the start, and the judgement at its end
 module _ {P : Type 0} (answer : P → ℕ → ℕ) (after : P → ℕ → P) (below : (p : P) (n : ℕ) → 0 < n → answer p n < n) (p : P) where
   module _ (g : Graph) (sound : IsSoundGraph g) where
-    the_run : SomeRun answer after g (initial_clusters g) p
+    pub the_run : SomeRun answer after g (initial_clusters g) p
     the_run = some_run answer after g below (initial_clusters g) p (sound_initial g sound)
 
     the_taken : (ts : List Taken) × Leads g (initial_clusters g) ts the_run.end × (map merge_of ts ≡ the_run.merges)
@@ -174,7 +174,7 @@ module _ {P : Type 0} (answer : P → ℕ → ℕ) (after : P → ℕ → P) (be
     end_closed : IsClosed g (bodies the_run.end)
     end_closed = none_closes g the_run.end (sound_end g (initial_clusters g) the_run.end the_taken.0 (sound_initial g sound) the_taken.1) the_run.run.ends
 
-    end_normal : IsNormal g (bodies the_run.end)
+    pub end_normal : IsNormal g (bodies the_run.end)
     end_normal = run_normal g the_taken.0 the_run.end sound the_taken.1 end_closed
 
     pub judgement_there : (j : Judgement) × IsTheJudgement g j
@@ -197,7 +197,7 @@ module _ {P : Type 0} (answer : P → ℕ → ℕ) (after : P → ℕ → P) (be
       let taken = the_taken g sound in
       let normal = end_normal g sound in
       let ends = ends_well s g refl some sound (initial_clusters g) r.end taken.0 refl taken.1 (end_closed g sound) j (judged.every (bodies r.end) normal) well in
-      let start : Reach g (initial_bodies g) (bodies (initial_clusters g)) = subst (λ f. Reach g (initial_bodies g) f) (sym (starting_bodies g.edges)) stays in
+      let start : Reach g (initial_bodies g) (bodies (initial_clusters g)) = subst (λ f. Reach g (initial_bodies g) f) (sym (starting_bodies (starts g))) stays in
       let steps = steps_from s g sound (graph_draws s sketch) (initial_clusters g) r.end taken.0 (sound_initial g sound) start ends.leads ends.once ends.whole in
       record {
         plan = record { leaves = numbers_of g; steps = steps.steps };

@@ -9,7 +9,7 @@ use Rattle.sk_worklist.specs.declared.Order.TheVariants.{First, Last, Stride}
 use Rattle.sk_cli.specs.declared.bits.Bits.{Bits}
 use Rattle.sk_cli.specs.declared.bits.Bits.TheVariants.{Sixteen, TwentySeven, ThirtyEight}
 use Rattle.sk_cli.specs.declared.command.Command.{Command}
-use Rattle.sk_cli.specs.declared.command.Command.TheVariants.{Check, Plan, Solve, Dxf, Offers, Session, Grow}
+use Rattle.sk_cli.specs.declared.command.Command.TheVariants.{Check, Plan, Solve, Dxf, Offers, Session, Grow, Migrate, Spare, Derive}
 use Rattle.sk_cli.specs.declared.request.Request.{Request}
 use Rattle.sk_cli.specs.Commands.{command_word}
 use Rattle.sk_cli.specs.Asking.{Key, OrderKey, BitsKey, WithinKey, SizeKey, key_name, takes, behind, values_of, IsKeyOf, IsNumber, IsOrder, IsBits, IsLimit, IsSize, Says, IsSet, HasSize, HasKeys, AreOfForm}
@@ -110,7 +110,7 @@ key_decided command word =
     (some_in (λ key. IsTrue (takes command key) × IsSome (behind (key_name key) word)) (λ key. both (bool_decided (takes command key)) (bool_decided (is_some (behind (key_name key) word)))) all_keys)
 
 all_commands : List Command
-all_commands = Check ∷ Plan ∷ Solve ∷ Dxf ∷ Offers ∷ Session ∷ Grow ∷ []
+all_commands = Check ∷ Plan ∷ Solve ∷ Dxf ∷ Offers ∷ Session ∷ Grow ∷ Migrate ∷ Spare ∷ Derive ∷ []
 
 command_listed : (command : Command) → Contains all_commands command
 unfolding all_commands
@@ -121,6 +121,9 @@ command_listed Dxf = (3, omega arith, refl)
 command_listed Offers = (4, omega arith, refl)
 command_listed Session = (5, omega arith, refl)
 command_listed Grow = (6, omega arith, refl)
+command_listed Migrate = (7, omega arith, refl)
+command_listed Spare = (8, omega arith, refl)
+command_listed Derive = (9, omega arith, refl)
 
 unsized_decided : (command : Command) → Decided (HasSize command None)
 unsized_decided Check = inl tt
@@ -130,6 +133,9 @@ unsized_decided Dxf = inl tt
 unsized_decided Offers = inl tt
 unsized_decided Session = inl tt
 unsized_decided Grow = inr (λ h. h)
+unsized_decided Migrate = inl tt
+unsized_decided Spare = inl tt
+unsized_decided Derive = inl tt
 
 sized_by : (command : Command) (n : ℕ) → HasSize command (Some n)
 sized_by Check n = tt
@@ -139,6 +145,9 @@ sized_by Dxf n = tt
 sized_by Offers n = tt
 sized_by Session n = tt
 sized_by Grow n = tt
+sized_by Migrate n = tt
+sized_by Spare n = tt
+sized_by Derive n = tt
 
 -- the keys ask for something of the command
 abbrev AskOf : Command → List (List ℕ) → Type 0

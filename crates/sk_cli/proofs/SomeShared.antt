@@ -3,7 +3,7 @@ use Rattle.std.proofs.Common.{◌≡◌, ◌≢◌, ◌⊎◌, inl, inr, refl, �
 use Rattle.std.specs.Prelude.{Contains, AllPairs, Some, None, ◌↔◌}
 use Rattle.sk_base.specs.declared.Elem.{Elem}
 use Rattle.sk_base.specs.declared.Graph.{Graph}
-use Rattle.sk_base.specs.Numbering.{elem_exact}
+use Rattle.sk_base.specs.Numbering.{elem_exact, elem_number}
 use Rattle.sk_base.proofs.Members.{contains_none, contains_head, contains_later, contains_one, contains_cases}
 use Rattle.sk_base.proofs.Pairs.{pairs_tail, pairs_head}
 use Rattle.sk_base.proofs.Unions.{which}
@@ -15,14 +15,14 @@ use Rattle.sk_rules.specs.Rules.{IsShared, IsTriangle, SharesTwo, MeetsInThree}
 use Rattle.sk_rules.specs.Merges.{Holds, IsLeastPair, ComesBefore, IsLeastTriangle, IsLeastShared}
 use Rattle.sk_family.proofs.Bodies.{elem_settles}
 use Rattle.sk_cli.proofs.Deciding.{both, is_in}
-use Rattle.sk_cli.proofs.Selecting.{selected, times, in_times}
+use Rattle.sk_cli.proofs.Selecting.{number_tells, selected, times, in_times}
 use Rattle.sk_cli.proofs.SomeChoices.{triangle_decided}
 
 abbrev Lower : Elem → Elem → Type 0
 Lower a b = a.0 < b.0
 
 lower_tells : (a b : Elem) → Lower a b ⊎ ((a ≡ b) ⊎ Lower b a)
-lower_tells a b = elim (which a.0 b.0) [ inl less ↦ inl less | inr (inl same) ↦ inr (inl (elem_exact a b same)) | inr (inr more) ↦ inr (inr more) ]
+lower_tells = number_tells elem_number elem_exact
 
 lower_chain : (a b c : Elem) → Lower a b → Lower b c → Lower a c
 lower_chain a b c h k = omega arith

@@ -1,6 +1,6 @@
 -- What a command says of a sketch tells the headline of it.
 use Rattle.std.proofs.Common.{◌≡◌, ◌≢◌, inl, inr, ℕ, ◌<◌, List, [], ◌++◌, length, refl, ap, sym, subst, ◌∙◌}
-use Rattle.std.specs.Prelude.{IsTrue}
+use Rattle.std.specs.Prelude.{IsTrue, true, false}
 use Rattle.sk_base.specs.declared.Graph.{Graph}
 use Rattle.sk_base.specs.declared.Sketch.{Sketch}
 use Rattle.sk_base.specs.SoundGraph.{IsSoundGraph}
@@ -17,31 +17,36 @@ use Rattle.sk_plan.specs.Judged.{IsTheJudgement}
 use Rattle.sk_plan.specs.Leaves.{HasLeaves}
 use Rattle.sk_report.specs.CheckReport.{check_report}
 use Rattle.sk_worklist.specs.declared.Order.{Order}
+use Rattle.sk_cli.specs.declared.accounts.Account.TheVariants.{Parts}
 use Rattle.sk_cli.specs.declared.command.Command.{Command}
-use Rattle.sk_cli.specs.declared.command.Command.TheVariants.{Check, Plan, Solve, Dxf, Offers, Session, Grow}
+use Rattle.sk_cli.specs.declared.command.Command.TheVariants.{Check, Plan, Solve, Dxf, Offers, Session, Grow, Migrate, Spare, Derive}
 use Rattle.sk_cli.specs.declared.request.Request.{Request}
 use Rattle.sk_cli.specs.declared.solving.Report.{Report}
 use Rattle.sk_cli.specs.declared.status.Status.{Status}
 use Rattle.sk_cli.specs.declared.status.Status.TheVariants.{Done, NotWell}
+use Rattle.sk_cli.specs.Accounts.{IsAccount}
 use Rattle.sk_cli.specs.Asking.{places}
-use Rattle.sk_cli.specs.Causes.{IsReportOf, IsSketchOf}
+use Rattle.sk_cli.specs.Causes.{plans, IsReportOf, IsSketchOf}
 use Rattle.sk_cli.specs.Headline.{WritesCheckReport, MayStandBefore, UsesEachOnce, Tells}
 use Rattle.sk_cli.specs.OffersReport.{IsOffersReport, IsOffersAnswer}
-use Rattle.sk_cli.specs.Outcome.{IsReport, IsRefusalText, IsPlanOrReport, IsReportNotWell, IsSolved, IsAnswerOf}
-use Rattle.sk_cli.proofs.OneOutcome.{OneSketch, NotBoth, OneJudgement, LowerLaws, told_check, told_plan, told_planned}
-use Rattle.sk_cli.proofs.Printed.{OneNormal, tells_clusters, part_of_sketch, none_mapped, planned_both, planned_text, unplaced, solved_text, failed_text}
+use Rattle.sk_cli.specs.Outcome.{IsAccountOf, IsRefusalText, IsPlanOrReport, IsReportNotWell, IsSolved, IsAnswerOf}
+use Rattle.sk_cli.proofs.OneOutcome.{OneSketch, NotBoth, OneJudgement, LowerLaws, told_account, told_plan, told_planned}
+use Rattle.sk_cli.proofs.Printed.{OneNormal, tells_clusters, part_of_sketch, planned_both, planned_text, unplaced, solved_text, failed_text}
 use Rattle.sk_cli.proofs.WhyEnds.{solved_about, not_well_both, planned_not_well}
 
 -- what is solved of a sketch for a command that places the elements
 abbrev pub IsSolvedFor : Command → Request → Sketch → Status → List ℕ → Type 0
 IsSolvedFor command request s status text = (report : Report) × IsReportOf command report × IsSolved report request s status text
 
--- what a command says of a sketch
+-- what a command says of a sketch, so far as the headline tells it
 abbrev pub IsSaid : Command → Request → Sketch → Status → List ℕ → Type 0
-IsSaid Check request s status text = (j : Judgement) × IsTheJudgement (graph_of s) j × (text ≡ check_report s j)
+IsSaid Check request s status text = IsAccount Parts s text
 IsSaid Plan request s status text = (0 < length s.elements) × IsPlanOrReport request.order s status text
 IsSaid Offers request s status text = status ≡ Done → (j : Judgement) × (lines : List ℕ) × IsTheJudgement (graph_of s) j × (text ≡ lines ++ check_report s j)
 IsSaid Session request s status text = ⊥
+IsSaid Migrate request s status text = Unit {0}
+IsSaid Spare request s status text = Unit {0}
+IsSaid Derive request s status text = Unit {0}
 IsSaid Solve request s status text = IsSolvedFor Solve request s status text
 IsSaid Dxf request s status text = IsSolvedFor Dxf request s status text
 IsSaid Grow request s status text = IsSolvedFor Grow request s status text
@@ -53,9 +58,8 @@ module _ (one_sketch : OneSketch) (not_both : NotBoth) (laws : LowerLaws) (bytes
   not_refused : Reads bytes s → ¬ IsRefusalText bytes text
   not_refused reads (r, refuses, is) = not_both bytes s r.line r.code reads refuses
 
-  check_said : Reads bytes s → IsReport bytes text → (j : Judgement) × IsTheJudgement (graph_of s) j × (text ≡ check_report s j)
-  check_said reads (t, j, reads', judged, is) =
-      let same = one_sketch bytes t s reads' reads in (j, subst (λ z. IsTheJudgement (graph_of z) j) same judged, is ∙ ap (λ z. check_report z j) same)
+  check_said : Reads bytes s → IsAccountOf Parts bytes text → IsAccount Parts s text
+  check_said reads (t, reads', told) = subst (λ z. IsAccount Parts z text) (one_sketch bytes t s reads' reads) told
 
   plan_said : (order : Order) (status : Status) → Reads bytes s → (t : Sketch) → Reads bytes t → IsPlanOrReport order t status text → IsPlanOrReport order s status text
   plan_said order status reads t reads' told = subst (λ z. IsPlanOrReport order z status text) (one_sketch bytes t s reads' reads) told
@@ -72,7 +76,7 @@ done_report bytes text status answer is = subst (λ z. IsOffersAnswer bytes z te
 pub said_about : OneSketch → NotBoth → SomeRead → LowerLaws → (command : Command) (request : Request) (bytes text : List ℕ) (status : Status) (s : Sketch) → IsAnswerOf command request bytes status text
     → IsSketchOf command request bytes s → IsSaid command request s status text
 said_about one_sketch not_both some_read laws Check request bytes text status s answer reads =
-    elim (told_check bytes status text answer) [
+    elim (told_account Parts bytes status text answer) [
       | inl report ↦ check_said one_sketch not_both laws bytes text s reads report.1
       | inr line ↦ absurd (not_refused one_sketch not_both laws bytes text s reads line.1)
     ]
@@ -84,6 +88,9 @@ said_about one_sketch not_both some_read laws Plan request bytes text status s a
 said_about one_sketch not_both some_read laws Offers request bytes text status s answer (g, reads, s_is) =
     λ done. offers_said one_sketch not_both laws bytes text s g reads s_is (done_report bytes text status answer done)
 said_about one_sketch not_both some_read laws Session request bytes text status s answer about = absurd about
+said_about one_sketch not_both some_read laws Migrate request bytes text status s answer about = tt
+said_about one_sketch not_both some_read laws Spare request bytes text status s answer about = tt
+said_about one_sketch not_both some_read laws Derive request bytes text status s answer about = tt
 said_about one_sketch not_both some_read laws Solve request bytes text status s answer about = solved_about one_sketch not_both Solve request bytes text status s answer refl about
 said_about one_sketch not_both some_read laws Dxf request bytes text status s answer about = solved_about one_sketch not_both Dxf request bytes text status s answer refl about
 said_about one_sketch not_both some_read laws Grow request bytes text status s answer about = solved_about one_sketch not_both Grow request bytes text status s answer refl about
@@ -95,7 +102,7 @@ pub record LegalPlans : Type 0 where
 
 uses_each_once : LegalPlans → (g : Graph) (p : ThePlan) → IsSoundGraph g → IsLegalPlan g p → UsesEachOnce g p
 uses_each_once plans g p sound legal = record {
-  tree = λ some. plans.tree g p sound legal (λ none. some (none_mapped g.edges (sym legal.leaves ∙ none)));
+  tree = λ some. plans.tree g p sound legal (λ none. some (sym legal.leaves ∙ none));
   leaves = λ tree is. subst (λ leaves. HasLeaves tree leaves) legal.leaves (plans.leaves g p sound legal tree is);
 }
 
@@ -121,6 +128,18 @@ short_planned status writes = absurd writes
 done_offers : (status : Status) → WritesCheckReport Offers status → status ≡ Done
 done_offers Done writes = refl
 done_offers status writes = absurd writes
+
+-- nothing is told of a sketch by a command that writes no check report, plans nothing and places nothing
+nothing_told : (command : Command) (request : Request) (s : Sketch) (status : Status) (text : List ℕ) → plans command ≡ false → places command ≡ false → ((any : Status) → ¬ WritesCheckReport command any) → command ≢ Plan
+    → Tells command request s status text
+nothing_told command request s status text no_plan no_places no_report other = record {
+  clusters = λ writes. absurd (no_report status writes);
+  not_well = λ planned. absurd (let clash : false ≡ true = sym no_plan ∙ planned in cc);
+  planned = λ same. absurd (other same);
+  plan = λ same done. absurd (other same);
+  placed = λ placed done. absurd (let clash : false ≡ true = sym no_places ∙ placed in cc);
+  failure = λ placed other short. absurd (let clash : false ≡ true = sym no_places ∙ placed in cc);
+}
 
 module _ (normal : OneNormal) (plans : LegalPlans) (law : OneJudgement) (laws : LowerLaws) (request : Request) (s : Sketch) (status : Status) (text : List ℕ) (sound : IsSoundGraph (graph_of s)) where
   reported : IsReportNotWell s text → (j : Judgement) × (text ≡ check_report s j) × IsTheJudgement (graph_of s) j
@@ -182,6 +201,9 @@ module _ (normal : OneNormal) (plans : LegalPlans) (law : OneJudgement) (laws : 
   tells Plan (some, answer) = planned_tells some answer
   tells Offers said = offers_tells said
   tells Session said = absurd said
+  tells Migrate said = nothing_told Migrate request s status text refl refl (λ status writes. writes) (λ same. cc)
+  tells Spare said = nothing_told Spare request s status text refl refl (λ status writes. writes) (λ same. cc)
+  tells Derive said = nothing_told Derive request s status text refl refl (λ status writes. writes) (λ same. cc)
   tells Solve solved = placed_tells Solve refl (λ same. cc) solved
   tells Dxf solved = placed_tells Dxf refl (λ same. cc) solved
   tells Grow solved = placed_tells Grow refl (λ same. cc) solved

@@ -13,10 +13,13 @@ use Rattle.sk_plan.proofs.PlanTrees.{some_plan_tree}
 use Rattle.sk_place.proofs.OnePlacing.{one_list, not_both}
 use Rattle.sk_residual.specs.Tolerances.{AllHold, IsAbove, everything}
 use Rattle.sk_residual.specs.Turns.{signs, AllAsDrawn}
-use Rattle.sk_residual.proofs.OneMeasured.{first_inside, not_beyond}
+use Rattle.sk_residual.proofs.Firsts.{first_inside}
+use Rattle.sk_residual.proofs.OneMeasured.{not_beyond}
 use Rattle.sk_residual.specs.Turns.{IsTurned}
+use Rattle.sk_cli.specs.declared.accounts.Account.{Account}
+use Rattle.sk_cli.specs.declared.accounts.Account.TheVariants.{Parts, Spares, Derived, Migrated}
 use Rattle.sk_cli.specs.declared.command.Command.{Command}
-use Rattle.sk_cli.specs.declared.command.Command.TheVariants.{Check, Plan, Solve, Dxf, Offers, Session, Grow}
+use Rattle.sk_cli.specs.declared.command.Command.TheVariants.{Check, Plan, Solve, Dxf, Offers, Session, Grow, Migrate, Spare, Derive}
 use Rattle.sk_cli.specs.declared.placing.Placement.{Placement}
 use Rattle.sk_cli.specs.declared.placing.Placement.TheVariants.{Fault, Beyond, Turned, Holds}
 use Rattle.sk_cli.specs.declared.request.Request.{Request}
@@ -28,11 +31,13 @@ use Rattle.sk_cli.specs.declared.status.Status.TheVariants.{Done, Refused, Usage
 use Rattle.sk_cli.specs.Asking.{Asks, AreOfForm, places}
 use Rattle.sk_cli.specs.Grids.{grid_of, digits_of}
 use Rattle.sk_cli.specs.Solving.{midpoints, status_of, IsMeasured, IsPlacement}
-use Rattle.sk_cli.specs.Outcome.{IsPlanBy, IsPlanOrReport, IsSolved, IsAnswer, IsAnswerOf, IsOutcome}
+use Rattle.sk_cli.specs.Outcome.{IsPlanBy, IsPlanOrReport, IsSolved, IsAnswer, IsAnswerOf, IsAccountAnswer, IsOutcome}
 use Rattle.sk_cli.specs.Causes.{plans, IsReportOf, IsSketchOf, IsRefusedInput, IsItsPlan, HasFault, LieAt, NonePasses, SomePasses, SomeTurned}
 use Rattle.sk_cli.proofs.OnePlacement.{told_placed}
-use Rattle.sk_cli.proofs.OneOutcome.{OneSketch, NotBoth, OneJudgement, LowerLaws, still_well, same_plan, same_request, told_check, told_plan, told_planned, told_solve, told_offers, told_session, not_read_and_refused}
+use Rattle.sk_cli.proofs.OneOutcome.{OneSketch, NotBoth, OneJudgement, LowerLaws, still_well, same_plan, same_request, told_account, told_plan, told_planned, told_solve, told_offers, told_session, not_read_and_refused}
 use Rattle.sk_cli.proofs.Runs.{solved_told}
+use Rattle.sk_lang.specs.declared.Refusal.{Refusal}
+use Rattle.sk_lang.specs.Reading.{Refuses}
 use Rattle.sk_report.specs.RefusalLine.{refusal_line}
 use Rattle.sk_worklist.specs.declared.Order.{Order}
 use Rattle.sk_cli.proofs.Sizes.{HasFitSize, some_injective}
@@ -150,6 +155,9 @@ pub solved_about : OneSketch → NotBoth → (command : Command) (request : Requ
 solved_about one_sketch not_both Check request bytes text status s answer placed reads = cc
 solved_about one_sketch not_both Plan request bytes text status s answer placed reads = cc
 solved_about one_sketch not_both Offers request bytes text status s answer placed reads = cc
+solved_about one_sketch not_both Migrate request bytes text status s answer placed reads = cc
+solved_about one_sketch not_both Spare request bytes text status s answer placed reads = cc
+solved_about one_sketch not_both Derive request bytes text status s answer placed reads = cc
 solved_about one_sketch not_both Session request bytes text status s answer placed about = absurd about
 solved_about one_sketch not_both Solve request bytes text status s answer placed reads =
     elim (told_solve Places request bytes status text answer) [
@@ -224,6 +232,9 @@ pub not_well_about : OneSketch → NotBoth → OneJudgement → LowerLaws → (c
     → IsTrue (plans command) → IsSketchOf command request bytes s → (status ≡ NotWell) ↔ ¬ IsWell (graph_of s)
 not_well_about one_sketch not_both law laws Check request bytes text status s answer planned about = cc
 not_well_about one_sketch not_both law laws Offers request bytes text status s answer planned about = cc
+not_well_about one_sketch not_both law laws Migrate request bytes text status s answer planned about = cc
+not_well_about one_sketch not_both law laws Spare request bytes text status s answer planned about = cc
+not_well_about one_sketch not_both law laws Derive request bytes text status s answer planned about = cc
 not_well_about one_sketch not_both law laws Session request bytes text status s answer planned about = absurd about
 not_well_about one_sketch not_both law laws Plan request bytes text status s answer planned reads =
     elim (told_plan request.order bytes status text answer) [
@@ -237,11 +248,18 @@ not_well_about one_sketch not_both law laws Dxf request bytes text status s answ
 not_well_about one_sketch not_both law laws Grow request bytes text status s answer planned about =
     let solved = solved_about one_sketch not_both Grow request bytes text status s answer refl about in not_well_both law laws solved.0 request s status text solved.2
 
+-- an account comes with one of two statuses
+no_other_account : (account : Account) (bytes text : List ℕ) (status : Status) → IsAccountAnswer account bytes status text → status ≢ Done → ¬ (status ≢ Refused)
+no_other_account account bytes text status answer done refused =
+    elim (told_account account bytes status text answer) [ inl told ↦ done told.0 | inr line ↦ refused line.0 ]
+
 -- a status that tells neither that the command did its work nor that the input is refused comes only of a sketch that is planned
 planned_sketch : (command : Command) (request : Request) (bytes text : List ℕ) (status : Status) → IsAnswerOf command request bytes status text → status ≢ Done → status ≢ Refused
     → IsTrue (plans command) × ((s : Sketch) × IsSketchOf command request bytes s)
-planned_sketch Check request bytes text status answer done refused =
-    elim (told_check bytes status text answer) [ inl report ↦ absurd (done report.0) | inr line ↦ absurd (refused line.0) ]
+planned_sketch Check request bytes text status answer done refused = absurd (no_other_account Parts bytes text status answer done refused)
+planned_sketch Migrate request bytes text status answer done refused = absurd (no_other_account Migrated bytes text status answer done refused)
+planned_sketch Spare request bytes text status answer done refused = absurd (no_other_account Spares bytes text status answer done refused)
+planned_sketch Derive request bytes text status answer done refused = absurd (no_other_account Derived bytes text status answer done refused)
 planned_sketch Offers request bytes text status answer done refused =
     elim (told_offers bytes status text answer) [ inl report ↦ absurd (done report.0) | inr line ↦ absurd (refused line.0) ]
 planned_sketch Session request bytes text status answer done refused =
@@ -263,6 +281,9 @@ placed_sketch command request bytes text status answer done refused short =
     placed : (command : Command) → IsAnswerOf command request bytes status text → IsTrue (plans command) → IsTrue (places command)
     placed Check answer planned = cc
     placed Offers answer planned = cc
+    placed Migrate answer planned = cc
+    placed Spare answer planned = cc
+    placed Derive answer planned = cc
     placed Session answer planned = cc
     placed Plan answer planned =
         elim (told_plan request.order bytes status text answer) [
@@ -316,6 +337,9 @@ no_usage Solve request bytes text answer = solved_told Places request answer.0 U
 no_usage Dxf request bytes text answer = solved_told Drawing request answer.0 Usage text answer.2
 no_usage Offers request bytes text answer = answer
 no_usage Session request bytes text answer = answer
+no_usage Migrate request bytes text answer = answer
+no_usage Spare request bytes text answer = answer
+no_usage Derive request bytes text answer = answer
 no_usage Grow request bytes text answer = solved_told Sums request (datum_sketch answer.0) Usage text answer.2
 
 pub usage_both : (words : List (List ℕ)) (bytes text : List ℕ) (status : Status) → IsOutcome words bytes status text → (status ≡ Usage) ↔ ¬ AreOfForm words
@@ -325,6 +349,9 @@ usage_both words bytes text status (inr (not_form, is, text_is)) = ((λ same. no
 
 refused_so : (command : Command) (request : Request) (bytes text : List ℕ) → IsAnswerOf command request bytes Refused text → IsRefusedInput command bytes
 refused_so Check request bytes text (r, refuses, is) = (r, refuses)
+refused_so Migrate request bytes text (r, refuses, is) = (r, refuses)
+refused_so Spare request bytes text (r, refuses, is) = (r, refuses)
+refused_so Derive request bytes text (r, refuses, is) = (r, refuses)
 refused_so Plan request bytes text (r, refuses, is) = (r, refuses)
 refused_so Solve request bytes text (r, refuses, is) = (r, refuses)
 refused_so Dxf request bytes text (r, refuses, is) = (r, refuses)
@@ -338,9 +365,15 @@ too_long request bytes text Done (front, over) long = absurd (omega (arith, long
 too_long request bytes text Refused answer long = refl
 too_long request bytes text status answer long = absurd answer
 
+so_refused_account : NotBoth → (account : Account) (bytes text : List ℕ) (status : Status) → IsAccountAnswer account bytes status text → (r : Refusal) → Refuses bytes r.line r.code → status ≡ Refused
+so_refused_account not_both account bytes text status answer r refuses =
+    elim (told_account account bytes status text answer) [ inl (done, (s, reads, told)) ↦ absurd (not_both bytes s r.line r.code reads refuses) | inr refused ↦ refused.0 ]
+
 so_refused : OneSketch → NotBoth → LowerLaws → (command : Command) (request : Request) (bytes text : List ℕ) (status : Status) → IsAnswerOf command request bytes status text → IsRefusedInput command bytes → status ≡ Refused
-so_refused one_sketch not_both laws Check request bytes text status answer (r, refuses) =
-    elim (told_check bytes status text answer) [ inl (done, (s, j, reads, judged, is)) ↦ absurd (not_both bytes s r.line r.code reads refuses) | inr refused ↦ refused.0 ]
+so_refused one_sketch not_both laws Check request bytes text status answer (r, refuses) = so_refused_account not_both Parts bytes text status answer r refuses
+so_refused one_sketch not_both laws Migrate request bytes text status answer (r, refuses) = so_refused_account not_both Migrated bytes text status answer r refuses
+so_refused one_sketch not_both laws Spare request bytes text status answer (r, refuses) = so_refused_account not_both Spares bytes text status answer r refuses
+so_refused one_sketch not_both laws Derive request bytes text status answer (r, refuses) = so_refused_account not_both Derived bytes text status answer r refuses
 so_refused one_sketch not_both laws Plan request bytes text status answer (r, refuses) =
     elim (told_plan request.order bytes status text answer) [ inl refused ↦ refused.0 | inr (s, reads, told) ↦ absurd (not_both bytes s r.line r.code reads refuses) ]
 so_refused one_sketch not_both laws Solve request bytes text status answer (r, refuses) =

@@ -7,7 +7,7 @@ use Rattle.sk_worklist.specs.declared.Order.TheVariants.{First, Last, Stride}
 use Rattle.sk_cli.specs.declared.bits.Bits.{Bits}
 use Rattle.sk_cli.specs.declared.bits.Bits.TheVariants.{Sixteen, TwentySeven, ThirtyEight}
 use Rattle.sk_cli.specs.declared.command.Command.{Command}
-use Rattle.sk_cli.specs.declared.command.Command.TheVariants.{Check, Plan, Solve, Dxf, Offers, Session, Grow}
+use Rattle.sk_cli.specs.declared.command.Command.TheVariants.{Check, Plan, Solve, Dxf, Offers, Session, Grow, Migrate, Spare, Derive}
 use Rattle.sk_cli.specs.declared.request.Request.{Request}
 use Rattle.sk_cli.specs.Commands.{command_word}
 
@@ -49,6 +49,19 @@ key_name BitsKey = codes "bits="
 key_name WithinKey = codes "within="
 key_name SizeKey = codes "n="
 
+-- it is told in which order to merge
+abbrev pub orders : Command → Bool
+orders Check = true
+orders Plan = true
+orders Solve = true
+orders Dxf = true
+orders Offers = true
+orders Session = true
+orders Grow = true
+orders Migrate = false
+orders Spare = false
+orders Derive = true
+
 -- it places the elements of a sketch
 abbrev pub places : Command → Bool
 places Check = false
@@ -58,6 +71,9 @@ places Dxf = true
 places Offers = false
 places Session = true
 places Grow = true
+places Migrate = false
+places Spare = false
+places Derive = false
 
 -- it makes its sketch
 abbrev pub makes : Command → Bool
@@ -68,10 +84,13 @@ makes Dxf = false
 makes Offers = false
 makes Session = false
 makes Grow = true
+makes Migrate = false
+makes Spare = false
+makes Derive = false
 
--- the keys of a command: each takes an order, one that places elements a grid and a limit, one that makes a sketch its size
+-- the keys of a command: all but `migrate` and `spare` take an order, those that place elements a grid and a limit, one that makes a sketch its size
 abbrev pub takes : Command → Key → Bool
-takes command OrderKey = true
+takes command OrderKey = orders command
 takes command BitsKey = places command
 takes command WithinKey = places command
 takes command SizeKey = makes command

@@ -1,7 +1,7 @@
 -- The words of commands.
 use Rattle.std.specs.Prelude.{ℕ, List, codes}
 use Rattle.sk_cli.specs.declared.command.Command.{Command}
-use Rattle.sk_cli.specs.declared.command.Command.TheVariants.{Check, Plan, Solve, Dxf, Offers, Session, Grow}
+use Rattle.sk_cli.specs.declared.command.Command.TheVariants.{Check, Plan, Solve, Dxf, Offers, Session, Grow, Migrate, Spare, Derive}
 
 abbrev pub command_word : Command → List ℕ
 command_word Check = codes "check"
@@ -11,3 +11,6 @@ command_word Dxf = codes "dxf"
 command_word Offers = codes "offers"
 command_word Session = codes "session"
 command_word Grow = codes "grow"
+command_word Migrate = codes "migrate"
+command_word Spare = codes "spare"
+command_word Derive = codes "derive"

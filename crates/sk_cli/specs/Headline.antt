@@ -47,8 +47,8 @@ use Rattle.sk_cli.specs.SessionAnswer.{RepliesToFront, IsReplied}
 use Rattle.sk_cli.specs.Solving.{IsTolerance, report_words}
 
 -- the parts of two or more elements are the clusters of the only family that merging reaches and no rule can merge
--- further, and just those of them are over that hold more than 2n - 3 constraints; the other parts are the elements that no
--- constraint names, one each, which hold nothing and are never over
+-- further, and just those of them are over that hold more than 2n - 3 constraints, where a block of k points counts as
+-- 2k - 3; the other parts are the elements that no constraint names, one each, which hold nothing and are never over
 pub record TellsClusters (g : Graph) (j : Judgement) : Type 0 where
   pub family : List Body
   pub normal : IsNormal g family
@@ -82,13 +82,13 @@ abbrev pub EndsWithClusters : Command → Sketch → List ℕ → Type 0
 EndsWithClusters command s text =
     (j : Judgement) × (lines : List ℕ) × MayStandBefore command lines × (text ≡ lines ++ check_report s j) × TellsClusters (graph_of s) j
 
--- the plan has a tree, unless there is no constraint, and its leaves are all constraints, each once
+-- the plan has a tree, unless there is no constraint, and its leaves are all constraints, each once; a block is one of them
 pub record UsesEachOnce (g : Graph) (p : ThePlan) : Type 0 where
-  pub tree : g.edges ≢ [] → (t : Tree) × IsPlanTree p t
+  pub tree : numbers_of g ≢ [] → (t : Tree) × IsPlanTree p t
   pub leaves : (t : Tree) → IsPlanTree p t → HasLeaves t (numbers_of g)
 
 -- where the plan places the elements, all of them and no others, each normal and each constraint holds within the tolerance,
--- which is the least, none is above the limit, and all signs are as drawn
+-- which is the least, none is above the limit, and all signs are as drawn, or for a block as its places are given
 pub record HoldsAt (request : Request) (s : Sketch) (p : ThePlan) (at : Placed) (t : Tolerance) : Type 0 where
   pub plan : IsItsPlan request s p
   pub lie : LieAt request s p at

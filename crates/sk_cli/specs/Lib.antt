@@ -1,9 +1,11 @@
+pub mod Accounts
 pub mod Asking
 pub mod Causes
 pub mod Commands
 pub mod Ending
 pub mod Grids
 pub mod Headline
+pub mod Migration
 pub mod OfferLines
 pub mod OfferReading
 pub mod OffersReport

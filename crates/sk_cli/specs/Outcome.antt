@@ -5,31 +5,32 @@ use Rattle.sk_lang.specs.declared.Refusal.{Refusal as OneRefusal}
 use Rattle.sk_lang.specs.Reading.{Reads, Refuses}
 use Rattle.sk_graph.specs.SketchGraph.{graph_of}
 use Rattle.sk_worklist.specs.declared.Order.{Order}
-use Rattle.sk_verdict.specs.declared.Judgement.{Judgement}
 use Rattle.sk_tree.specs.declared.Plan.{Plan as ThePlan}
-use Rattle.sk_plan.specs.Judged.{IsTheJudgement, IsWell}
+use Rattle.sk_plan.specs.Judged.{IsWell}
 use Rattle.sk_gen.specs.DatumSketch.{datum_sketch}
-use Rattle.sk_report.specs.CheckReport.{check_report}
 use Rattle.sk_report.specs.PlanReport.{plan_report}
 use Rattle.sk_report.specs.RefusalLine.{refusal_line}
+use Rattle.sk_cli.specs.declared.accounts.Account.{Account}
+use Rattle.sk_cli.specs.declared.accounts.Account.TheVariants.{Parts, Spares, Derived, Migrated}
 use Rattle.sk_cli.specs.declared.command.Command.{Command}
-use Rattle.sk_cli.specs.declared.command.Command.TheVariants.{Check, Plan, Solve, Dxf, Offers, Session, Grow}
+use Rattle.sk_cli.specs.declared.command.Command.TheVariants.{Check, Plan, Solve, Dxf, Offers, Session, Grow, Migrate, Spare, Derive}
 use Rattle.sk_cli.specs.declared.request.Request.{Request}
 use Rattle.sk_cli.specs.declared.solving.Report.{Report}
 use Rattle.sk_cli.specs.declared.solving.Report.TheVariants.{Places, Drawing, Sums}
 use Rattle.sk_cli.specs.declared.status.Status.{Status}
 use Rattle.sk_cli.specs.declared.status.Status.TheVariants.{Done, Refused, Usage, NotWell}
+use Rattle.sk_cli.specs.Accounts.{IsAccount}
 use Rattle.sk_cli.specs.Asking.{Asks, AreOfForm}
 use Rattle.sk_cli.specs.OffersReport.{IsOffersAnswer}
 use Rattle.sk_cli.specs.SessionAnswer.{IsSessionAnswer, RepliesToFront}
 pub use Rattle.sk_cli.specs.Solved.{IsPlanBy, IsReportNotWell, IsPlacedPlan, IsSolved}
 
 abbrev pub usage_line : List ℕ
-usage_line = codes "usage: sketch check|plan|solve|dxf|offers|session|grow [order=first|last|0..65535] [bits=16|27|38] [within=1..1000000] [n=3..1000]\n"
+usage_line = codes "usage: sketch check|plan|solve|dxf|offers|session|grow|migrate|spare|derive [order=first|last|0..65535] [bits=16|27|38] [within=1..1000000] [n=3..1000]\n"
 
--- the check report of the sketch that the text is read as
-abbrev pub IsReport : List ℕ → List ℕ → Type 0
-IsReport bytes text = (s : Sketch) × (j : Judgement) × Reads bytes s × IsTheJudgement (graph_of s) j × (text ≡ check_report s j)
+-- what is told of the sketch that the text is read as
+abbrev pub IsAccountOf : Account → List ℕ → List ℕ → Type 0
+IsAccountOf account bytes text = (s : Sketch) × Reads bytes s × IsAccount account s text
 
 -- the line that names the first faulty line of the text and its code
 abbrev pub IsRefusalText : List ℕ → List ℕ → Type 0
@@ -45,11 +46,11 @@ IsPlanOrReport order s Done text = IsPlanReport order s text
 IsPlanOrReport order s NotWell text = IsReportNotWell s text
 IsPlanOrReport order s status text = ⊥
 
--- what `check` answers to an input
-abbrev pub IsCheckAnswer : List ℕ → Status → List ℕ → Type 0
-IsCheckAnswer bytes Done text = IsReport bytes text
-IsCheckAnswer bytes Refused text = IsRefusalText bytes text
-IsCheckAnswer bytes status text = ⊥
+-- what `check`, `migrate`, `spare` and `derive` answer to an input, each with its account
+abbrev pub IsAccountAnswer : Account → List ℕ → Status → List ℕ → Type 0
+IsAccountAnswer account bytes Done text = IsAccountOf account bytes text
+IsAccountAnswer account bytes Refused text = IsRefusalText bytes text
+IsAccountAnswer account bytes status text = ⊥
 
 -- what `plan` answers to an input
 abbrev pub IsPlanAnswer : Order → List ℕ → Status → List ℕ → Type 0
@@ -65,16 +66,19 @@ IsSolveAnswer report request bytes status text = (s : Sketch) × Reads bytes s �
 abbrev pub IsGrowAnswer : Request → Status → List ℕ → Type 0
 IsGrowAnswer request status text = (n : ℕ) × (request.size ≡ Some n) × IsSolved Sums request (datum_sketch n) status text
 
--- what a command answers to an input. What `check` and `offers` answer is the same for every order, and what `grow`
--- answers is the same for every input.
+-- what a command answers to an input. What `check`, `derive` and `offers` answer is the same for every order, and what
+-- `grow` answers is the same for every input.
 abbrev pub IsAnswerOf : Command → Request → List ℕ → Status → List ℕ → Type 0
-IsAnswerOf Check request bytes status text = IsCheckAnswer bytes status text
+IsAnswerOf Check request bytes status text = IsAccountAnswer Parts bytes status text
 IsAnswerOf Plan request bytes status text = IsPlanAnswer request.order bytes status text
 IsAnswerOf Solve request bytes status text = IsSolveAnswer Places request bytes status text
 IsAnswerOf Dxf request bytes status text = IsSolveAnswer Drawing request bytes status text
 IsAnswerOf Offers request bytes status text = IsOffersAnswer bytes status text
 IsAnswerOf Session request bytes status text = IsSessionAnswer request bytes status text
 IsAnswerOf Grow request bytes status text = IsGrowAnswer request status text
+IsAnswerOf Migrate request bytes status text = IsAccountAnswer Migrated bytes status text
+IsAnswerOf Spare request bytes status text = IsAccountAnswer Spares bytes status text
+IsAnswerOf Derive request bytes status text = IsAccountAnswer Derived bytes status text
 
 abbrev pub IsAnswer : Request → List ℕ → Status → List ℕ → Type 0
 IsAnswer request bytes status text = IsAnswerOf request.command request bytes status text

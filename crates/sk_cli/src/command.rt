@@ -1,6 +1,6 @@
 // The commands by their words.
 ghost use Rattle.std.specs.Prelude.{◌≡◌, IfSome, IfNone};
-ghost use Rattle.sk_cli.specs.Asking.{places, makes};
+ghost use Rattle.sk_cli.specs.Asking.{orders, places, makes};
 ghost use Rattle.sk_cli.specs.declared.command.Command.{Command as AnyCommand};
 ghost use Rattle.sk_cli.specs.Commands.{command_word};
 
@@ -21,16 +21,44 @@ pub enum Command {
     Session,
     /// Makes a sketch, places its elements, and sums up where they lie.
     Grow,
+    /// Writes a sketch in the second version of its language.
+    Migrate,
+    /// Lists the constraints of a sketch that may go.
+    Spare,
+    /// Lists the clusters of a sketch that derived angles lead to.
+    Derive,
 }
 
 impl Command {
+    /// Whether it is told in which order to merge.
+    pub(crate) fn orders(self) -> bool
+        ensures { result ≡ orders self }
+    {
+        match self {
+            Command::Check
+            | Command::Plan
+            | Command::Solve
+            | Command::Dxf
+            | Command::Offers
+            | Command::Session
+            | Command::Grow
+            | Command::Derive => true,
+            Command::Migrate | Command::Spare => false,
+        }
+    }
+
     /// Whether it places elements, and so takes a grid and a limit.
     pub(crate) fn places(self) -> bool
         ensures { result ≡ places self }
     {
         match self {
             Command::Solve | Command::Dxf | Command::Session | Command::Grow => true,
-            Command::Check | Command::Plan | Command::Offers => false,
+            Command::Check
+            | Command::Plan
+            | Command::Offers
+            | Command::Migrate
+            | Command::Spare
+            | Command::Derive => false,
         }
     }
 
@@ -45,7 +73,10 @@ impl Command {
             | Command::Solve
             | Command::Dxf
             | Command::Offers
-            | Command::Session => false,
+            | Command::Session
+            | Command::Migrate
+            | Command::Spare
+            | Command::Derive => false,
         }
     }
 }
@@ -69,6 +100,12 @@ pub fn command_of(word: &str) -> Option<Command>
         Some(Command::Session)
     } else if word == "grow" {
         Some(Command::Grow)
+    } else if word == "migrate" {
+        Some(Command::Migrate)
+    } else if word == "spare" {
+        Some(Command::Spare)
+    } else if word == "derive" {
+        Some(Command::Derive)
     } else {
         None
     }

@@ -15,15 +15,19 @@ ghost use Rattle.sk_cli.specs.declared.command.Command.{Command};
 ghost use Rattle.sk_cli.specs.Headline.{Tells, TellsAsAsked, RepliesNext};
 ghost use Rattle.sk_cli.specs.Causes.{plans, IsSketchOf, IsRefusedInput, IsItsPlan, HasFault, LieAt, NonePasses, SomePasses, SomeTurned};
 ghost use Rattle.sk_cli.specs.Outcome.{IsOutcome, AreFirstReplies};
+ghost use Rattle.sk_cli.specs.Migration.{AskOfOneSketch, IsMigrated};
+ghost use Rattle.sk_lang.specs.Reading.{Reads};
 
+use sk_derive::one_derived_text;
 use sk_gen::datum_sketch_is_sound;
 use sk_lang::{
     entries_keep_soundness, one_answer, one_entry, one_front, quantities_are_sound,
-    readable_is_sound, what_a_line_says,
+    readable_is_sound, what_a_line_says, written_reads_back,
 };
 use sk_plan::{legal_plan, one_plan};
 use sk_rules::one_normal_form;
 use sk_session::{one_reply, some_to_solve};
+use sk_spare::one_list_of_spares;
 use sk_verdict::one_judgement;
 use sk_worklist::{Chosen, one_run};
 
@@ -45,6 +49,8 @@ pub fn one_outcome()
     one_plan();
     one_run::<Chosen>();
     one_reply();
+    one_list_of_spares();
+    one_derived_text();
     datum_sketch_is_sound();
 }
 
@@ -61,6 +67,8 @@ pub fn first_replies_are_a_front()
     one_plan();
     one_run::<Chosen>();
     one_reply();
+    one_list_of_spares();
+    one_derived_text();
     datum_sketch_is_sound();
 }
 
@@ -79,14 +87,27 @@ pub fn some_outcome()
     datum_sketch_is_sound();
 }
 
+/// Where `migrate` is done, what it writes reads as the very sketch that was read, so that the commands
+/// whose whole input is one sketch (`check`, `plan`, `solve`, `dxf`, `migrate`, `spare` and `derive`) answer
+/// both texts alike, whatever their keys.
+pub fn migrated_reads_the_same()
+    ensures reads { (bytes text : List ℕ) → IsMigrated bytes text → (s : Sketch) × Reads bytes s × Reads text s }
+    ensures same { (bytes migrated : List ℕ) → IsMigrated bytes migrated → (words : List (List ℕ)) → AskOfOneSketch words
+        → (status : Status) (text : List ℕ) → IsOutcome words bytes status text ↔ IsOutcome words migrated status text }
+{
+    one_answer();
+    readable_is_sound();
+    written_reads_back();
+}
+
 /// Why each status comes. It is `Usage` exactly where the words aren't of the form, and `Refused` exactly
 /// where the input is. It is `NotWell` exactly where the command plans a sketch whose verdict isn't well,
-/// so never where it is `check`, `offers` or `session`. Where the command places the elements of a sketch,
-/// and nowhere else, it is `StepFault` exactly where a step has a fault, or none has, no least number is
-/// above the limit and a sign is turned, and `Tolerance` exactly where no step has a fault and some least
-/// number is above the limit. Of a sketch that is placed it is `Done` exactly where none of these is so; for
-/// `check`, `offers` and `session`, which don't plan, exactly where the input isn't refused; and for `plan`
-/// exactly where the input is read as a sketch whose verdict is well.
+/// so never where it is `check`, `offers`, `session`, `migrate`, `spare` or `derive`, which don't plan. Where the
+/// command places the elements of a sketch, and nowhere else, it is `StepFault` exactly where a step has a
+/// fault, or none has, no least number is above the limit and a sign is turned, and `Tolerance` exactly
+/// where no step has a fault and some least number is above the limit. Of a sketch that is placed it is
+/// `Done` exactly where none of these is so; for a command that doesn't plan, exactly where the input isn't
+/// refused; and for `plan` exactly where the input is read as a sketch whose verdict is well.
 pub fn causes()
     ensures usage { (words : List (List ℕ)) (bytes text : List ℕ) (status : Status) → IsOutcome words bytes status text
         → (status ≡ Status.Usage) ↔ (AreOfForm words → ⊥) }
@@ -115,6 +136,8 @@ pub fn causes()
     one_plan();
     one_run::<Chosen>();
     one_reply();
+    one_list_of_spares();
+    one_derived_text();
     datum_sketch_is_sound();
 }
 
@@ -124,7 +147,8 @@ pub fn causes()
 /// exactly where just one part remains and it isn't over, and the plan uses each constraint once; printed
 /// places are those of all elements and no others, and meet each constraint within the printed tolerance,
 /// which is the least, with all signs as drawn; else the first faulty step, line or constraint is named,
-/// or the first turned sign.
+/// or the first turned sign. A block of k points counts as 2k - 3 of the constraints that a cluster holds,
+/// and as one of those that a plan uses; it is drawn as its places are given.
 ///
 /// It is told of the sketch that a command is about (`sketch`), and of the sketch in a session now, by the
 /// replies to `check`, `plan` and `solve`, each of which stands in what is written behind the replies to
@@ -145,6 +169,8 @@ pub fn headline()
     one_run::<Chosen>();
     what_a_line_says();
     one_reply();
+    one_list_of_spares();
+    one_derived_text();
     datum_sketch_is_sound();
     legal_plan();
 }

@@ -1,9 +1,9 @@
 //! The top call: the words of the command line, a source and a sink go in, and a status comes out.
 #![tactic(auto)]
 
+mod accounts;
 mod answer;
 mod bits;
-mod check;
 mod command;
 mod grow;
 mod law;
@@ -21,10 +21,12 @@ mod solving;
 mod status;
 mod top;
 
+pub use accounts::Account;
 pub use bits::Bits;
 pub use command::Command;
 pub use law::{
-    causes, first_replies_are_a_front, headline, one_outcome, one_request, some_outcome,
+    causes, first_replies_are_a_front, headline, migrated_reads_the_same, one_outcome, one_request,
+    some_outcome,
 };
 pub use offer_line::OfferLine;
 pub use offer_reading::{one_reading_of_offers, read_offers};

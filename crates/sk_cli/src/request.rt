@@ -54,6 +54,9 @@ fn has_size(command: Command, size: Option<u32>) -> bool
         | Command::Solve
         | Command::Dxf
         | Command::Offers
-        | Command::Session => true,
+        | Command::Session
+        | Command::Migrate
+        | Command::Spare
+        | Command::Derive => true,
     }
 }

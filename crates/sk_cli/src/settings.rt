@@ -5,7 +5,7 @@ ghost use Rattle.sk_worklist.specs.declared.Order.{Order as AnyOrder};
 ghost use Rattle.sk_cli.specs.declared.bits.Bits.{Bits as AnyBits};
 ghost use Rattle.sk_cli.specs.declared.request.Request.{Request as AnyRequest};
 ghost use Rattle.sk_cli.specs.declared.settings.Settings.{Settings as OtherSettings};
-ghost use Rattle.sk_cli.specs.Asking.{makes, behind, HasKeys, IsNumber, IsOrder, IsBits, IsLimit, IsSize, LeadsWithZero};
+ghost use Rattle.sk_cli.specs.Asking.{orders, makes, behind, HasKeys, IsNumber, IsOrder, IsBits, IsLimit, IsSize, LeadsWithZero};
 ghost use Rattle.sk_cli.specs.Settings.{AreSet, Adds};
 
 use crate::bits::Bits;
@@ -54,7 +54,7 @@ impl Settings {
         ensures none { IfNone result ((after : OtherSettings) → Adds command word.now self after → ⊥) }
     {
         if let Some(value) = behind(word, "order=") {
-            return self.with_order(value);
+            return self.with_order(command, value);
         }
         if let Some(value) = behind(word, "n=") {
             return self.with_size(command, value);
@@ -68,11 +68,11 @@ impl Settings {
         self.with_within(behind(word, "within=")?)
     }
 
-    fn with_order(self, value: &[u8]) -> Option<Settings>
-        ensures some { IfSome result (λ after. (order : AnyOrder) × IsOrder value.now order × (self.order ≡ None) × (after ≡ record self { order = Some order })) }
-        ensures none { IfNone result ((order : AnyOrder) → IsOrder value.now order → self.order ≡ None → ⊥) }
+    fn with_order(self, command: Command, value: &[u8]) -> Option<Settings>
+        ensures some { IfSome result (λ after. (order : AnyOrder) × IsTrue (orders command) × IsOrder value.now order × (self.order ≡ None) × (after ≡ record self { order = Some order })) }
+        ensures none { IfNone result ((order : AnyOrder) → IsTrue (orders command) → IsOrder value.now order → self.order ≡ None → ⊥) }
     {
-        if self.order.is_some() {
+        if !command.orders() || self.order.is_some() {
             return None;
         }
         let order = order_named(value)?;

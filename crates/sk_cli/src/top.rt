@@ -7,8 +7,8 @@ ghost use Rattle.sk_cli.specs.Asking.{TakesInput, AskForInput};
 ghost use Rattle.sk_cli.specs.Outcome.{IsAnswer, IsWritten};
 ghost use Rattle.sk_cli.specs.Ending.{IsTold, Ends, HasInput, Sends};
 
+use crate::accounts::{Account, account_of};
 use crate::answer::{Answer, refused};
-use crate::check::check;
 use crate::command::Command;
 use crate::grow::grow;
 use crate::offers::offers;
@@ -24,7 +24,7 @@ use sk_lang::{Code, Refusal};
 use std::alloc::Global;
 
 const USAGE: &str =
-    "usage: sketch check|plan|solve|dxf|offers|session|grow [order=first|last|0..65535] [bits=16|27|38] [within=1..1000000] [n=3..1000]\n";
+    "usage: sketch check|plan|solve|dxf|offers|session|grow|migrate|spare|derive [order=first|last|0..65535] [bits=16|27|38] [within=1..1000000] [n=3..1000]\n";
 
 /// The most bytes of an input.
 const MOST_BYTES: usize = 1_048_576;
@@ -121,13 +121,16 @@ fn answer(alloc: Global, request: Request, bytes: &[u8]) -> Result<Answer, NoMem
     ensures { IfOk result (λ answer. IsAnswer request bytes.now answer.status answer.text) }
 {
     match request.command {
-        Command::Check => check(alloc, request.order, bytes),
+        Command::Check => account_of(alloc, Account::Parts, request.order, bytes),
         Command::Plan => plan(alloc, request.order, bytes),
         Command::Solve => solve(alloc, request, Report::Places, bytes),
         Command::Dxf => solve(alloc, request, Report::Drawing, bytes),
         Command::Offers => offers(alloc, request.order, bytes),
         Command::Session => refused(alloc, &TOO_LONG),
         Command::Grow => grow(alloc, request),
+        Command::Migrate => account_of(alloc, Account::Migrated, request.order, bytes),
+        Command::Spare => account_of(alloc, Account::Spares, request.order, bytes),
+        Command::Derive => account_of(alloc, Account::Derived, request.order, bytes),
     }
 }
 

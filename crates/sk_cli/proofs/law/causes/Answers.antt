@@ -21,6 +21,8 @@ returns c =
       front = record { one_front = c.one_front.ensures.one_front; one_refusal = c.one_front.ensures.one_refusal; not_both = c.one_front.ensures.not_both };
       made = c.datum_sketch_is_sound.ensures;
       reply = c.one_reply.ensures;
+      spares = c.one_list_of_spares.ensures;
+      derived = c.one_derived_text.ensures;
     } in
     let law = c.one_judgement.ensures in
     let one_sketch = c.one_answer.ensures.one_sketch in

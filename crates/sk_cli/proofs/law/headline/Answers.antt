@@ -1,4 +1,5 @@
 use Rattle.sk_lang.specs.declared.Entry.TheVariants as entry
+use Rattle.sk_lang.specs.declared.Version.TheVariants.{Two}
 use Rattle.sk_session.proofs.Asked.{OtherBegins}
 use Rattle.sk_cli.proofs.OneOutcome.{LowerLaws}
 use Rattle.sk_cli.proofs.Sizes.{size_fits}
@@ -16,9 +17,11 @@ returns c =
       front = record { one_front = c.one_front.ensures.one_front; one_refusal = c.one_front.ensures.one_refusal; not_both = c.one_front.ensures.not_both };
       made = c.datum_sketch_is_sound.ensures;
       reply = c.one_reply.ensures;
+      spares = c.one_list_of_spares.ensures;
+      derived = c.one_derived_text.ensures;
     } in
     let begins : OtherBegins = λ s line elem con words says.
-    (let other = (c.what_a_line_says.ensures.stands_on s line elem con (entry.Other words) says).0 in (other.first, other.rest, other.words, other.keyword)) in
+    (let other = (c.what_a_line_says.ensures.stands_on Two s line elem con (entry.Other words) says).0 in (other.first, other.rest, other.words, other.keyword)) in
     let law = c.one_judgement.ensures in
     let normal = c.one_normal_form.ensures in
     let plans : LegalPlans = record { tree = c.legal_plan.ensures.tree; leaves = c.legal_plan.ensures.leaves } in

@@ -10,5 +10,7 @@ returns c =
       run = c.one_run.ensures;
       made = c.datum_sketch_is_sound.ensures;
       reply = c.one_reply.ensures;
+      spares = c.one_list_of_spares.ensures;
+      derived = c.one_derived_text.ensures;
       front = record { one_front = c.one_front.ensures.one_front; one_refusal = c.one_front.ensures.one_refusal; not_both = c.one_front.ensures.not_both };
     })

@@ -1,3 +1,4 @@
+use Rattle.sk_lang.specs.declared.Version.TheVariants.{Two}
 use Rattle.sk_cli.proofs.SomeOutcomes.{some_outcome}
 use Rattle.sk_cli.proofs.law.some_outcome.Goals as goal
 
@@ -10,10 +11,10 @@ returns c words bytes =
       sound = c.readable_is_sound.ensures.sound;
       some = c.readable_is_sound.ensures.some;
       language = record {
-        entry = c.one_entry.ensures.some;
-        stands_on = c.what_a_line_says.ensures.stands_on;
-        numbered = c.what_a_line_says.ensures.numbered;
-        grown = c.entries_keep_soundness.ensures;
+        entry = c.one_entry.ensures.some Two;
+        stands_on = c.what_a_line_says.ensures.stands_on Two;
+        numbered = c.what_a_line_says.ensures.numbered Two;
+        grown = c.entries_keep_soundness.ensures Two;
         quantities = record { length = c.quantities_are_sound.ensures.length; ratio = c.quantities_are_sound.ensures.ratio };
       };
       to_solve = c.some_to_solve.ensures;

@@ -1,0 +1,23 @@
+-- What is told of a sketch that is read, whatever its verdict.
+use Rattle.std.specs.Prelude.{◌≡◌, ℕ, List}
+use Rattle.sk_base.specs.declared.ConId.{ConId}
+use Rattle.sk_base.specs.declared.Sketch.{Sketch}
+use Rattle.sk_family.specs.Clusters.{Clusters, IsSound, bodies}
+use Rattle.sk_lang.specs.Canonical.{canonical_2}
+use Rattle.sk_graph.specs.SketchGraph.{graph_of}
+use Rattle.sk_verdict.specs.declared.Judgement.{Judgement}
+use Rattle.sk_plan.specs.Judged.{IsTheJudgement}
+use Rattle.sk_report.specs.CheckReport.{check_report}
+use Rattle.sk_spare.specs.Sparing.{AreSpares}
+use Rattle.sk_spare.specs.SpareReport.{spare_report}
+use Rattle.sk_derive.specs.WideReach.{IsWideNormal}
+use Rattle.sk_derive.specs.DerivedText.{derived_text}
+use Rattle.sk_cli.specs.declared.accounts.Account.{Account}
+use Rattle.sk_cli.specs.declared.accounts.Account.TheVariants.{Parts, Spares, Derived, Migrated}
+
+-- the check report; or which constraints are spare; or the clusters of a wide normal family; or the sketch itself, in version 2
+abbrev pub IsAccount : Account → Sketch → List ℕ → Type 0
+IsAccount Parts s text = (j : Judgement) × IsTheJudgement (graph_of s) j × (text ≡ check_report s j)
+IsAccount Spares s text = (spares : List ConId) × AreSpares (graph_of s) spares × (text ≡ spare_report s spares)
+IsAccount Derived s text = (f : Clusters) × IsSound f × IsWideNormal (graph_of s) (bodies f) × (text ≡ derived_text s f)
+IsAccount Migrated s text = text ≡ canonical_2 s

@@ -1,0 +1,114 @@
+// What is told of a sketch that is read, whatever its verdict: by `check`, `migrate`, `spare` and `derive`.
+ghost use Rattle.std.specs.Prelude.{◌≡◌, ◌<◌, length, IfOk};
+ghost use Rattle.sk_base.specs.SoundSketch.{IsSoundSketch};
+ghost use Rattle.sk_base.specs.SoundGraph.{IsSoundGraph};
+ghost use Rattle.sk_plan.specs.Judged.{IsTheJudgement};
+ghost use Rattle.sk_cli.specs.declared.accounts.Account.TheVariants as accounts;
+ghost use Rattle.sk_cli.specs.Accounts.{IsAccount};
+ghost use Rattle.sk_cli.specs.Outcome.{IsAccountAnswer};
+
+use crate::answer::{Answer, refused};
+use crate::status::Status;
+use sk_base::{Graph, NoMemory, Sketch, Text};
+use sk_derive::{derive, derive_text};
+use sk_family::initial;
+use sk_graph::reduce;
+use sk_lang::{ReadError, read_sketch, write_sketch_2};
+use sk_report::check_text;
+use sk_spare::{spare, spare_text};
+use sk_verdict::{Judgement, judge};
+use sk_worklist::{Chosen, Order, close_family};
+use std::alloc::Global;
+
+/// What is told of a sketch that is read, whatever its verdict.
+#[derive(Clone, Copy, Debug, PartialEq, Eq)]
+pub enum Account {
+    /// The verdict, and the parts.
+    Parts,
+    /// The constraints that may go.
+    Spares,
+    /// The clusters that merging by derived angles besides leads to.
+    Derived,
+    /// The sketch itself, in the second version of the language.
+    Migrated,
+}
+
+/// The answer to an input whose sketch is given this account of. The order of merges changes nothing
+/// in it.
+pub fn account_of(
+    alloc: Global,
+    account: Account,
+    order: Order,
+    bytes: &[u8],
+) -> Result<Answer, NoMemory>
+    ensures { IfOk result (λ answer. IsAccountAnswer account bytes.now answer.status answer.text) }
+{
+    match read_sketch(alloc, bytes) {
+        Ok(sketch) => Ok(Answer {
+            status: Status::Done,
+            text: account_text(alloc, account, order, &sketch)?,
+        }),
+        Err(ReadError::Refused(refusal)) => refused(alloc, &refusal),
+        Err(ReadError::NoMemory) => Err(NoMemory),
+    }
+}
+
+fn account_text(
+    alloc: Global,
+    account: Account,
+    order: Order,
+    sketch: &Sketch,
+) -> Result<Text, NoMemory>
+    requires sound { IsSoundSketch sketch.now }
+    requires some { 0 < length sketch.now.elements }
+    ensures { IfOk result (IsAccount account sketch.now) }
+{
+    match account {
+        Account::Parts => parts(alloc, order, sketch),
+        Account::Spares => spares(alloc, sketch),
+        Account::Derived => derived(alloc, order, sketch),
+        Account::Migrated => write_sketch_2(alloc, sketch),
+    }
+}
+
+/// The check report of the sketch.
+fn parts(alloc: Global, order: Order, sketch: &Sketch) -> Result<Text, NoMemory>
+    requires sound { IsSoundSketch sketch.now }
+    requires some { 0 < length sketch.now.elements }
+    ensures { IfOk result (IsAccount accounts.Parts sketch.now) }
+{
+    let graph = reduce(alloc, sketch)?;
+    let judgement = judgement_of(alloc, order, &graph)?;
+    check_text(alloc, sketch, &judgement)
+}
+
+/// The judgement on the family that merges in this order lead to, and so on every normal one.
+fn judgement_of(alloc: Global, order: Order, graph: &Graph) -> Result<Judgement, NoMemory>
+    requires sound { IsSoundGraph graph.now }
+    requires some { 0 < length graph.now.nodes }
+    ensures { IfOk result (IsTheJudgement graph.now) }
+{
+    let mut family = initial(alloc, graph)?;
+    close_family(alloc, &mut family, graph, &mut Chosen::new(order))?;
+    judge(alloc, &family, graph)
+}
+
+/// The report of the sketch's spare constraints.
+fn spares(alloc: Global, sketch: &Sketch) -> Result<Text, NoMemory>
+    requires { IsSoundSketch sketch.now }
+    ensures { IfOk result (IsAccount accounts.Spares sketch.now) }
+{
+    let graph = reduce(alloc, sketch)?;
+    let spares = spare(alloc, &graph)?;
+    spare_text(alloc, sketch, &spares)
+}
+
+/// The clusters that merges by the three rules, in this order and so in every one, lead to.
+fn derived(alloc: Global, order: Order, sketch: &Sketch) -> Result<Text, NoMemory>
+    requires { IsSoundSketch sketch.now }
+    ensures { IfOk result (IsAccount accounts.Derived sketch.now) }
+{
+    let graph = reduce(alloc, sketch)?;
+    let family = derive(alloc, &graph, &mut Chosen::new(order))?;
+    derive_text(alloc, sketch, &family)
+}
