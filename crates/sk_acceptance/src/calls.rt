@@ -1,5 +1,5 @@
 // The calls below the top call, on drawings that are read.
-ghost use Rattle.std.specs.Prelude.{◌≡◌, ◌<◌, ◌-◌, length, IfOk};
+ghost use Rattle.std.specs.Prelude.{◌≡◌, ◌<◌, ◌-◌, ◌*◌, length, IfOk};
 ghost use Rattle.sk_base.specs.SoundGraph.{IsSoundGraph};
 ghost use Rattle.sk_base.specs.SoundSketch.{IsSoundSketch};
 ghost use Rattle.sk_graph.specs.SketchGraph.{graph_of};
@@ -31,7 +31,7 @@ pub(crate) fn planned(alloc: Global, sketch: &Sketch) -> Result<Plan, Fail>
     requires some { 0 < length sketch.now.elements }
     ensures graph { IfOk result (λ _. IsSoundGraph (graph_of sketch.now)) }
     ensures legal { IfOk result (λ plan. IsLegalPlan (graph_of sketch.now) plan) }
-    ensures steps { IfOk result (λ plan. length plan.steps ≡ length sketch.now.elements - 2) }
+    ensures steps { IfOk result (λ plan. 2 * length plan.steps ≡ length sketch.now.constraints - 1) }
 {
     let graph = reduce(alloc, sketch)?;
     match plan_of(alloc, sketch, &graph, &mut Chosen::new(Order::First)) {
@@ -68,12 +68,6 @@ fn edges_told(alloc: Global, text: &str) -> Result<String, Fail> {
     Ok(lines)
 }
 
-#[test]
-fn a_belt_line_touches_both_wheels(rt: HostRuntime) -> Result<(), Fail> {
-    assert_eq!(rt; edges_told(rt.alloc(), BELT)?.as_str(), BELT_EDGES);
-    Ok(())
-}
-
 /// The canonical text of the sketch, and that of each constraint alone, a line each.
 fn written(alloc: Global, text: &str) -> Result<Vec<u8>, Fail> {
     let sketch = sketch_of(alloc, text)?;
@@ -88,7 +82,8 @@ fn written(alloc: Global, text: &str) -> Result<Vec<u8>, Fail> {
 }
 
 #[test]
-fn sketches_are_written_in_their_canonical_text(rt: HostRuntime) -> Result<(), Fail> {
+fn sketches_are_reduced_and_written(rt: HostRuntime) -> Result<(), Fail> {
+    assert_eq!(rt; edges_told(rt.alloc(), BELT)?.as_str(), BELT_EDGES);
     let text = "sketch 1\npoint A 0 0\npoint  B 01.0\t0\n\ndistance A B 2.50\nend\n";
     let wanted = "sketch 1\npoint A 0 0\npoint B 1 0\ndistance A B 2.5\nend\ndistance A B 2.5\n";
     assert_eq!(rt; written(rt.alloc(), text)?.as_slice(), wanted.as_bytes());

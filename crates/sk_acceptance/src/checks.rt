@@ -1,8 +1,6 @@
 // Drawings and their reports.
-use crate::row::rows_pass;
-use std::test::Fail;
 
-const REPORTS: &str = "
+pub const REPORTS: &str = "
 $ check
 sketch 1
 point A 0 0
@@ -246,8 +244,3 @@ part 1 sound elements 2 held 1 due 1 : X Y
 part 2 sound elements 2 held 1 due 1 : X Z
 part 3 sound elements 2 held 1 due 1 : Y Z
 ";
-
-#[test]
-fn drawings_get_their_reports(rt: HostRuntime) -> Result<(), Fail> {
-    rows_pass(&rt, rt.alloc(), REPORTS)
-}

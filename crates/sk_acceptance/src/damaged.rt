@@ -1,7 +1,7 @@
 // A small sketch, cut before each of its bytes, and with each byte changed: what each text is answered.
 //
 // A mask has a mark for each byte of the sketch, line below line, the last mark of a line for its line feed.
-use crate::row::{answers, rows_pass};
+use crate::row::answers;
 use std::alloc::Global;
 use std::process::Abort;
 use std::test::Fail;
@@ -143,55 +143,39 @@ fn is_answered(
     answers(rt, alloc, &["check"], text, 1, written.as_bytes())
 }
 
-/// The sketch with that byte in its place.
-fn changed(alloc: Global, place: usize, byte: u8) -> Result<Vec<u8>, Fail> {
+/// The sketch with that byte in that place, or cut there.
+fn damaged_text(alloc: Global, place: usize, byte: Option<u8>) -> Result<Vec<u8>, Fail> {
     let mut text = Vec::new(alloc);
     text.extend_from_slice(TRIANGLE)?;
     if place < text.len() {
-        text[place] = byte;
+        match byte {
+            Some(byte) => text[place] = byte,
+            None => text.truncate(place),
+        }
     }
     Ok(text)
 }
 
-/// The marks of a line pass, whose first byte is at that place.
-fn line_passes(
-    rt: &impl Abort,
-    alloc: Global,
-    byte: Option<u8>,
-    start: usize,
-    (line, marks): (u32, &str),
-) -> Result<(), Fail> {
-    for (column, mark) in marks.bytes().enumerate() {
-        let place = start.saturating_add(column).min(TRIANGLE.len());
-        match byte {
-            None => is_answered(rt, alloc, &TRIANGLE[..place], mark, line)?,
-            Some(byte) => {
-                let text = changed(alloc, place, byte)?;
-                is_answered(rt, alloc, text.as_slice(), mark, line)?;
-            }
-        }
-    }
-    Ok(())
-}
-
 /// Each text with that byte in the place of another passes, or each that is cut.
 fn mask_passes(rt: &impl Abort, alloc: Global, byte: Option<u8>, mask: &str) -> Result<(), Fail> {
-    let mut start = 0usize;
-    for (line, marks) in (0u32..9).zip(mask.split("\n")) {
-        line_passes(rt, alloc, byte, start, (line, marks))?;
-        start = start.saturating_add(marks.len());
+    let (mut place, mut line) = (0usize, 0u32);
+    for mark in mask.bytes() {
+        if mark == b'\n' {
+            line = line.saturating_add(1);
+        } else {
+            let text = damaged_text(alloc, place, byte)?;
+            is_answered(rt, alloc, text.as_slice(), mark, line)?;
+            place = place.saturating_add(1);
+        }
     }
-    assert_eq!(rt; start, TRIANGLE.len());
+    assert_eq!(rt; place, TRIANGLE.len());
     Ok(())
 }
 
+/// The sketch is cut before each byte; each byte is changed to each of some, and to bytes beyond ASCII.
 #[test]
-fn each_cut_has_its_answer(rt: HostRuntime) -> Result<(), Fail> {
-    mask_passes(&rt, rt.alloc(), None, CUT)
-}
-
-#[test]
-fn each_changed_byte_has_its_answer(rt: HostRuntime) -> Result<(), Fail> {
+fn each_damaged_text_has_its_answer(rt: HostRuntime) -> Result<(), Fail> {
+    mask_passes(&rt, rt.alloc(), None, CUT)?;
     let rows = [
         (" \t", BLANK),
         ("\n", LINE_FEED),
@@ -206,11 +190,12 @@ fn each_changed_byte_has_its_answer(rt: HostRuntime) -> Result<(), Fail> {
             mask_passes(&rt, rt.alloc(), Some(byte), mask)?;
         }
     }
+    mask_passes(&rt, rt.alloc(), Some(0xc3), OTHER)?;
     mask_passes(&rt, rt.alloc(), Some(0xff), OTHER)
 }
 
 /// Lines at the limit of their length, and one byte beyond it.
-const LONG_LINES: &str = "
+pub const LONG_LINES: &str = "
 $ check
 sketch 1
 point A 7 7
@@ -228,8 +213,3 @@ end
 > 1
 refused line 3 E15 line-too-long
 ";
-
-#[test]
-fn long_lines_have_their_answers(rt: HostRuntime) -> Result<(), Fail> {
-    rows_pass(&rt, rt.alloc(), LONG_LINES)
-}

@@ -1,46 +1,174 @@
-// Closing by the three rules, on drawings that are read.
-use crate::calls::sketch_of;
-use sk_derive::{derive, derive_text};
-use sk_graph::reduce;
-use sk_worklist::{Chosen, Order};
-use std::alloc::Global;
-use std::test::Fail;
+// Closing by the three rules.
 
-/// Whether the text of the derived clusters is this one, in the order.
-fn derives_to(alloc: Global, text: &str, order: Order, wanted: &str) -> Result<bool, Fail> {
-    let sketch = sketch_of(alloc, text)?;
-    let graph = reduce(alloc, &sketch)?;
-    let family = derive(alloc, &graph, &mut Chosen::new(order))?;
-    let report = derive_text(alloc, &sketch, &family)?;
-    Ok(report.as_bytes() == wanted.as_bytes())
-}
-
-/// Two angles add up, so a point on the outer lines pins them together.
-#[test]
-fn angles_add_up(rt: HostRuntime) -> Result<(), Fail> {
-    let text =
-        "sketch 1\nline X 0 0 1 0\nline Y 0 0 1 1\nline Z 0 0 0 1\npoint P 0 0\nangle X Y 1/1\nangle Y Z 1/1\non P X\non P Z\nend\n";
-    let wanted = "clusters 3\ncluster 1 : X Y\ncluster 2 : X Z P\ncluster 3 : Y Z\n";
-    let alloc = rt.alloc();
-    assert!(rt; derives_to(alloc, text, Order::First, wanted)?);
-    assert!(rt; derives_to(alloc, text, Order::Last, wanted)?);
-    assert!(rt; derives_to(alloc, text, Order::Stride(7), wanted)?);
-    Ok(())
-}
-
-/// No point is shared by two clusters with tied lines, so the first two rules decide.
-#[test]
-fn two_triangles_stay_two(rt: HostRuntime) -> Result<(), Fail> {
-    let text =
-        "sketch 1\npoint A 0 0\npoint B 1 0\npoint C 0 1\npoint D -1 0\npoint E 0 -1\ndistance A B 1\ndistance A C 1\ndistance B C 1.4\ndistance A D 1\ndistance A E 1\ndistance D E 1.4\nend\n";
-    let wanted = "clusters 2\ncluster 1 : A B C\ncluster 2 : A D E\n";
-    assert!(rt; derives_to(rt.alloc(), text, Order::First, wanted)?);
-    Ok(())
-}
-
-#[test]
-fn a_lone_point_is_no_cluster(rt: HostRuntime) -> Result<(), Fail> {
-    let text = "sketch 1\npoint A 0 0\nend\n";
-    assert!(rt; derives_to(rt.alloc(), text, Order::First, "clusters 0\n")?);
-    Ok(())
-}
+/// Two angles add up, so a point on the outer lines pins them together, in every order; by the first two rules alone
+/// there are four clusters. No point is shared by two clusters with tied lines in two triangles that meet in a point,
+/// so there the first two rules decide. Lone points are no clusters, and a text that isn't a sketch is refused.
+pub const DERIVED: &str = "
+$ derive
+sketch 1
+line X 0 0 1 0
+line Y 0 0 1 1
+line Z 0 0 0 1
+point P 0 0
+angle X Y 1/1
+angle Y Z 1/1
+on P X
+on P Z
+end
+> 0
+clusters 3
+cluster 1 : X Y
+cluster 2 : X Z P
+cluster 3 : Y Z
+$ derive order=first
+sketch 1
+line X 0 0 1 0
+line Y 0 0 1 1
+line Z 0 0 0 1
+point P 0 0
+angle X Y 1/1
+angle Y Z 1/1
+on P X
+on P Z
+end
+> 0
+clusters 3
+cluster 1 : X Y
+cluster 2 : X Z P
+cluster 3 : Y Z
+$ derive order=last
+sketch 1
+line X 0 0 1 0
+line Y 0 0 1 1
+line Z 0 0 0 1
+point P 0 0
+angle X Y 1/1
+angle Y Z 1/1
+on P X
+on P Z
+end
+> 0
+clusters 3
+cluster 1 : X Y
+cluster 2 : X Z P
+cluster 3 : Y Z
+$ derive order=0
+sketch 1
+line X 0 0 1 0
+line Y 0 0 1 1
+line Z 0 0 0 1
+point P 0 0
+angle X Y 1/1
+angle Y Z 1/1
+on P X
+on P Z
+end
+> 0
+clusters 3
+cluster 1 : X Y
+cluster 2 : X Z P
+cluster 3 : Y Z
+$ derive order=1
+sketch 1
+line X 0 0 1 0
+line Y 0 0 1 1
+line Z 0 0 0 1
+point P 0 0
+angle X Y 1/1
+angle Y Z 1/1
+on P X
+on P Z
+end
+> 0
+clusters 3
+cluster 1 : X Y
+cluster 2 : X Z P
+cluster 3 : Y Z
+$ derive order=7
+sketch 1
+line X 0 0 1 0
+line Y 0 0 1 1
+line Z 0 0 0 1
+point P 0 0
+angle X Y 1/1
+angle Y Z 1/1
+on P X
+on P Z
+end
+> 0
+clusters 3
+cluster 1 : X Y
+cluster 2 : X Z P
+cluster 3 : Y Z
+$ derive order=65535
+sketch 1
+line X 0 0 1 0
+line Y 0 0 1 1
+line Z 0 0 0 1
+point P 0 0
+angle X Y 1/1
+angle Y Z 1/1
+on P X
+on P Z
+end
+> 0
+clusters 3
+cluster 1 : X Y
+cluster 2 : X Z P
+cluster 3 : Y Z
+$ check
+sketch 1
+line X 0 0 1 0
+line Y 0 0 1 1
+line Z 0 0 0 1
+point P 0 0
+angle X Y 1/1
+angle Y Z 1/1
+on P X
+on P Z
+end
+> 0
+verdict open
+elements 4
+constraints 4
+parts 4
+part 1 sound elements 2 held 1 due 1 : X Y
+part 2 sound elements 2 held 1 due 1 : X P
+part 3 sound elements 2 held 1 due 1 : Y Z
+part 4 sound elements 2 held 1 due 1 : Z P
+$ derive
+sketch 1
+point A 0 0
+point B 1 0
+point C 0 1
+point D 1 1
+point E 2 0
+distance A B 1
+distance A C 1
+distance B C 1
+distance A D 1
+distance A E 1
+distance D E 1
+end
+> 0
+clusters 2
+cluster 1 : A B C
+cluster 2 : A D E
+$ derive
+sketch 1
+point A 0 0
+point B 1 0
+end
+> 0
+clusters 0
+$ derive
+sketch 1
+point A 0 0
+distance A B 3
+end
+> 1
+refused line 3 E6 unknown
+$ derive
+> 1
+refused line 0 E18 empty
+";

@@ -1,8 +1,6 @@
 // Drawings and their DXF texts.
-use crate::row::rows_pass;
-use std::test::Fail;
 
-const DRAWN: &str = "
+pub const DRAWN: &str = "
 $ dxf
 sketch 1
 line X 0 0 100 0
@@ -79,8 +77,3 @@ parts 2
 part 1 sound elements 1 held 0 due 0 : A
 part 2 sound elements 1 held 0 due 0 : B
 ";
-
-#[test]
-fn drawings_are_drawn(rt: HostRuntime) -> Result<(), Fail> {
-    rows_pass(&rt, rt.alloc(), DRAWN)
-}

@@ -28,7 +28,7 @@ constraints 0
 parts 1
 part 1 sound elements 1 held 0 due 0 : A
 $ check
-sketch 2
+sketch 3
 > 1
 refused line 1 E1 header
 $ plan
@@ -145,6 +145,35 @@ ok A
 ok
 refused S3 nothing-to-undo
 refused E18 empty
+$ migrate
+sketch 1
+point A 7 7
+end
+> 0
+sketch 2
+point A 7 7
+end
+$ spare
+sketch 1
+point A 0 0
+point B 1 0
+distance A B 1
+distance A B 1
+end
+> 0
+spare 2
+c1 : distance A B 1
+c2 : distance A B 1
+$ derive order=7
+sketch 1
+point A 0 0
+point B 1 0
+distance A B 1
+distance A B 1
+end
+> 0
+clusters 1
+cluster 1 : A B
 ";
 
 /// A call that reads nothing, and one with words that aren't of the form.
@@ -162,7 +191,7 @@ length tolerance 0 nm at c2
 angle tolerance 0 ppb at line X
 $ check check
 > 2
-usage: sketch check|plan|solve|dxf|offers|session|grow [order=first|last|0..65535] [bits=16|27|38] [within=1..1000000] [n=3..1000]
+usage: sketch check|plan|solve|dxf|offers|session|grow|migrate|spare|derive [order=first|last|0..65535] [bits=16|27|38] [within=1..1000000] [n=3..1000]
 ";
 
 /// Calls with one byte a call of the source and of the sink, where one call of each fails, or none where its
@@ -209,19 +238,11 @@ fn each_write_fails(rt: &impl Abort, alloc: Global, call: &Call) -> Result<(), F
 }
 
 #[test]
-fn each_call_of_a_source_may_fail(rt: HostRuntime) -> Result<(), Fail> {
+fn each_call_of_a_device_may_fail(rt: HostRuntime) -> Result<(), Fail> {
     for row in READERS.split("$ ").skip(1) {
-        each_read_fails(&rt, rt.alloc(), &call_of(rt.alloc(), row)?)?;
-    }
-    Ok(())
-}
-
-#[test]
-fn each_call_of_a_sink_may_fail(rt: HostRuntime) -> Result<(), Fail> {
-    for table in [READERS, OTHERS] {
-        for row in table.split("$ ").skip(1) {
-            each_write_fails(&rt, rt.alloc(), &call_of(rt.alloc(), row)?)?;
-        }
+        let call = call_of(rt.alloc(), row)?;
+        each_read_fails(&rt, rt.alloc(), &call)?;
+        each_write_fails(&rt, rt.alloc(), &call)?;
     }
     Ok(())
 }
@@ -233,37 +254,47 @@ fn some_calls_read_nothing(rt: HostRuntime) -> Result<(), Fail> {
         let call = call_of(rt.alloc(), row)?;
         let written = call.written.as_bytes();
         answers_by_bytes(&rt, rt.alloc(), &call, (1, 0), call.status, written)?;
+        each_write_fails(&rt, rt.alloc(), &call)?;
     }
     Ok(())
 }
 
 /// Whole pieces a call: the first read, the first write, no room at all, a room of five bytes, calls that never come.
+/// A session writes whole replies: a read that fails, even the one behind the last line, leaves nothing written, and a
+/// write that fails leaves the replies before it.
 #[test]
 fn faults_have_their_statuses(rt: HostRuntime) -> Result<(), Fail> {
     let alloc = rt.alloc();
-    check_ends(&rt, alloc, (TRIANGLE, &[1]), (1000, &[]), 3, b"")?;
-    check_ends(&rt, alloc, (TRIANGLE, &[]), (1000, &[1]), 4, b"")?;
-    check_ends(&rt, alloc, (TRIANGLE, &[]), (0, &[]), 4, b"")?;
-    check_ends(&rt, alloc, (TRIANGLE, &[]), (5, &[]), 4, b"verdi")?;
-    check_ends(
+    let check = ["check"];
+    answers_over(&rt, alloc, &check, (TRIANGLE, &[1]), (1000, &[]), 3, b"")?;
+    answers_over(&rt, alloc, &check, (TRIANGLE, &[]), (1000, &[1]), 4, b"")?;
+    answers_over(&rt, alloc, &check, (TRIANGLE, &[]), (0, &[]), 4, b"")?;
+    answers_over(&rt, alloc, &check, (TRIANGLE, &[]), (5, &[]), 4, b"verdi")?;
+    let (never, report) = ([0, 9].as_slice(), LONE_POINT_REPORT);
+    answers_over(
         &rt,
         alloc,
-        (LONE_POINT, &[0, 9]),
-        (1000, &[0, 9]),
+        &check,
+        (LONE_POINT, never),
+        (1000, never),
         0,
-        LONE_POINT_REPORT,
-    )
-}
-
-fn check_ends(
-    rt: &impl Abort,
-    alloc: Global,
-    source: (&[u8], &[u64]),
-    sink: (u32, &[u64]),
-    status: u8,
-    written: &[u8],
-) -> Result<(), Fail> {
-    answers_over(rt, alloc, &["check"], source, sink, status, written)
+        report,
+    )?;
+    let session = ["session"];
+    let lines = b"point A 0 0\n\npoint B 1 0\nwrite\n".as_slice();
+    answers_over(&rt, alloc, &session, (lines, &[2]), (1000, &[]), 3, b"")?;
+    answers_over(&rt, alloc, &session, (lines, &[]), (7, &[]), 4, b"ok A\nok")?;
+    answers_over(
+        &rt,
+        alloc,
+        &session,
+        (lines, &[]),
+        (1000, &[2]),
+        4,
+        b"ok A\n",
+    )?;
+    let replies = b"ok A\nok B\n".as_slice();
+    answers_over(&rt, alloc, &session, (lines, &[]), (1000, &[3]), 4, replies)
 }
 
 /// The adapters over std's readers and writers hand on what they are given.

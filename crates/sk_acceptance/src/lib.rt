@@ -3,6 +3,8 @@
 #![tactic(auto)]
 
 #[cfg(test)]
+mod blocks;
+#[cfg(test)]
 mod calls;
 #[cfg(test)]
 mod checks;
@@ -44,6 +46,8 @@ mod solves;
 #[cfg(test)]
 mod spares;
 #[cfg(test)]
+mod tables;
+#[cfg(test)]
 mod texts;
 #[cfg(test)]
 mod tolerances;
@@ -53,5 +57,7 @@ mod trees;
 mod usage;
 #[cfg(test)]
 mod verified;
+#[cfg(test)]
+mod versions;
 
 pub use claims::accepted_is_well;

@@ -95,59 +95,55 @@ parts 1
 part 1 over elements 3 held 3999 due 3 : A B C
 ";
 
-/// Each two of three points have 1,333 distances.
+/// Each two of three points have 1,333 distances; an element too many and a constraint too many are refused.
 #[test]
-fn three_pairs_repeat(rt: HostRuntime) -> Result<(), Fail> {
+fn one_more_is_refused(rt: HostRuntime) -> Result<(), Fail> {
     let alloc = rt.alloc();
-    let mut text = String::from_str(alloc, "sketch 1\npoint A 0 0\npoint B 1 0\npoint C 0 1\n")?;
-    put_often(&mut text, "distance A B 1\n", 1333)?;
-    put_often(&mut text, "distance B C 1\n", 1333)?;
-    put_often(&mut text, "distance A C 1\n", 1333)?;
-    text.push_str("end\n")?;
-    answers(&rt, alloc, &["check"], text.as_bytes(), 0, PAIRS.as_bytes())
-}
-
-#[test]
-fn an_element_too_many_is_refused(rt: HostRuntime) -> Result<(), Fail> {
-    let alloc = rt.alloc();
-    let mut text = String::from_str(alloc, "sketch 1\n")?;
-    put_points(alloc, &mut text, 2001)?;
+    let mut pairs = String::from_str(alloc, "sketch 1\npoint A 0 0\npoint B 1 0\npoint C 0 1\n")?;
+    put_often(&mut pairs, "distance A B 1\n", 1333)?;
+    put_often(&mut pairs, "distance B C 1\n", 1333)?;
+    put_often(&mut pairs, "distance A C 1\n", 1333)?;
+    pairs.push_str("end\n")?;
+    answers(
+        &rt,
+        alloc,
+        &["check"],
+        pairs.as_bytes(),
+        0,
+        PAIRS.as_bytes(),
+    )?;
+    let mut points = String::from_str(alloc, "sketch 1\n")?;
+    put_points(alloc, &mut points, 2001)?;
     let written = b"refused line 2002 E13 too-many-elements\n";
-    answers(&rt, alloc, &["check"], text.as_bytes(), 1, written)
-}
-
-#[test]
-fn a_constraint_too_many_is_refused(rt: HostRuntime) -> Result<(), Fail> {
-    let alloc = rt.alloc();
-    let mut text = String::from_str(alloc, "sketch 1\npoint A 0 0\npoint B 1 0\n")?;
-    put_often(&mut text, "distance A B 1\n", 4001)?;
+    answers(&rt, alloc, &["check"], points.as_bytes(), 1, written)?;
+    let mut often = String::from_str(alloc, "sketch 1\npoint A 0 0\npoint B 1 0\n")?;
+    put_often(&mut often, "distance A B 1\n", 4001)?;
     let written = b"refused line 4004 E14 too-many-constraints\n";
-    answers(&rt, alloc, &["check"], text.as_bytes(), 1, written)
+    answers(&rt, alloc, &["check"], often.as_bytes(), 1, written)?;
+    let mut block = String::from_str(alloc, "sketch 2\npoint A 0 0\npoint B 1 0\n")?;
+    put_often(&mut block, "distance A B 1\n", 4000)?;
+    block.push_str("block A 0 0 B 1 0\n")?;
+    answers(&rt, alloc, &["check"], block.as_bytes(), 1, written)
 }
 
 const TOO_LONG: &[u8] = b"refused line 0 E20 too-long\n";
 
-/// As many line feeds as a sketch may have bytes are no sketch, and a session without replies.
+/// As many line feeds as a sketch may have bytes are no sketch, and a session without replies. As many spaces are one
+/// line, which a session answers.
 #[test]
-fn a_sketch_a_byte_too_long_is_refused(rt: HostRuntime) -> Result<(), Fail> {
+fn a_byte_too_long_is_refused(rt: HostRuntime) -> Result<(), Fail> {
     let alloc = rt.alloc();
-    let mut text = String::from_str(alloc, "")?;
-    put_often(&mut text, "\n", 1_048_576)?;
+    let mut lines = String::from_str(alloc, "")?;
+    put_often(&mut lines, "\n", 1_048_576)?;
     let empty = b"refused line 0 E18 empty\n";
-    answers(&rt, alloc, &["check"], text.as_bytes(), 1, empty)?;
-    answers(&rt, alloc, &["session"], text.as_bytes(), 0, b"")?;
-    text.push_str("\n")?;
-    answers(&rt, alloc, &["check"], text.as_bytes(), 1, TOO_LONG)
-}
-
-/// As many spaces are one line, which a session answers.
-#[test]
-fn a_session_a_byte_too_long_is_refused(rt: HostRuntime) -> Result<(), Fail> {
-    let alloc = rt.alloc();
-    let mut text = String::from_str(alloc, "")?;
-    put_often(&mut text, " ", 1_048_576)?;
+    answers(&rt, alloc, &["check"], lines.as_bytes(), 1, empty)?;
+    answers(&rt, alloc, &["session"], lines.as_bytes(), 0, b"")?;
+    lines.push_str("\n")?;
+    answers(&rt, alloc, &["check"], lines.as_bytes(), 1, TOO_LONG)?;
+    let mut spaces = String::from_str(alloc, "")?;
+    put_often(&mut spaces, " ", 1_048_576)?;
     let long_line = b"refused E15 line-too-long\n";
-    answers(&rt, alloc, &["session"], text.as_bytes(), 0, long_line)?;
-    text.push_str(" ")?;
-    answers(&rt, alloc, &["session"], text.as_bytes(), 1, TOO_LONG)
+    answers(&rt, alloc, &["session"], spaces.as_bytes(), 0, long_line)?;
+    spaces.push_str(" ")?;
+    answers(&rt, alloc, &["session"], spaces.as_bytes(), 1, TOO_LONG)
 }

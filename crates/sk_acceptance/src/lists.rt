@@ -25,25 +25,29 @@ fn texts_grow_at_the_end(rt: HostRuntime) -> Result<(), Fail> {
     Ok(())
 }
 
+/// Numbers of millimetres, and how many micrometres each has; the last is empty.
+const NUMBERS: &str = "\
+2.50 2500
+-1 -1000
+-0.000 0
+0001000 1000000
+1000000 1000000000
+1000000.001 none
+12345678 none
+0.0001 none
+.5 none
+5. none
++1 none
+--1 none
+- none
+ none";
+
 #[test]
-fn numbers_are_read(rt: HostRuntime) {
-    let rows: [(&[u8], Option<i64>); 14] = [
-        (b"2.50", Some(2500)),
-        (b"-1", Some(-1000)),
-        (b"-0.000", Some(0)),
-        (b"0001000", Some(1_000_000)),
-        (b"1000000", Some(1_000_000_000)),
-        (b"1000000.001", None),
-        (b"12345678", None),
-        (b"0.0001", None),
-        (b".5", None),
-        (b"5.", None),
-        (b"+1", None),
-        (b"--1", None),
-        (b"-", None),
-        (b"", None),
-    ];
-    for (bytes, um) in rows {
-        assert_eq!(rt; parse_mm(bytes).ok(), um.map(Um));
+fn numbers_are_read(rt: HostRuntime) -> Result<(), Fail> {
+    for line in NUMBERS.split("\n") {
+        let (number, wanted) = line.split_once(' ').ok_or("a number and a value")?;
+        let um = wanted.parse::<i64>().ok();
+        assert_eq!(rt; parse_mm(number.as_bytes()).ok(), um.map(Um));
     }
+    Ok(())
 }

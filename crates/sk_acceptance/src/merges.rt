@@ -1,12 +1,10 @@
 // The merges that closing and a finished board answer, on drawings that are read. Elements and
 // constraints are numbered from 1 in order of their lines.
-ghost use Rattle.std.specs.Prelude.{◌≤◌};
-
 use crate::calls::sketch_of;
 use sk_base::Name;
 use sk_family::initial;
 use sk_graph::reduce;
-use sk_offers::{Answer, Board};
+use sk_offers::Board;
 use sk_rules::{Merge, Taken};
 use sk_worklist::{Chosen, Order, close_family};
 use std::alloc::Global;
@@ -78,60 +76,35 @@ fn closed_by(alloc: Global, text: &str, order: Order) -> Result<String, Fail> {
     told(alloc, taken.as_slice())
 }
 
-/// The first choice and the last one; a choice by strides is the first at the first call.
-#[test]
-fn merges_by_their_order(rt: HostRuntime) -> Result<(), Fail> {
-    assert_eq!(rt;
-        closed_by(rt.alloc(), KITE, Order::First)?.as_str(),
-        UPWARDS
-    );
-    assert_eq!(rt;
-        closed_by(rt.alloc(), KITE, Order::Last)?.as_str(),
-        DOWNWARDS
-    );
-    assert_eq!(rt;
-        closed_by(rt.alloc(), KITE, Order::Stride(7))?.as_str(),
-        UPWARDS
-    );
-    Ok(())
-}
-
-/// Of three distances between the same points the first two merge, and then their step with the third.
-#[test]
-fn pairs_merge_before_triangles(rt: HostRuntime) -> Result<(), Fail> {
-    assert_eq!(rt;
-        closed_by(rt.alloc(), THREEFOLD, Order::Last)?.as_str(),
-        PAIRS
-    );
-    Ok(())
-}
-
-/// The kite's board.
-fn board(alloc: Global) -> Result<Board, Fail> {
+/// What the kite's board answers to two offers of the triangle B C D, and its merges at its end.
+fn board_told(alloc: Global) -> Result<String, Fail> {
     let graph = reduce(alloc, &sketch_of(alloc, KITE)?)?;
-    Ok(Board::new(alloc, graph)?)
-}
-
-/// The answer to an offer of the triangle B C D.
-fn offered(board: &mut Board, worker: u8) -> Result<Answer, Fail>
-    requires { (1 ≤ worker) × (worker ≤ 64) }
-{
+    let mut board = Board::new(alloc, graph)?;
     let merge = Merge::Three(Name::Con(5), Name::Con(4), Name::Con(3));
-    Ok(board.offer(worker, merge)?)
-}
-
-/// The merges of the board at its end.
-fn finished(alloc: Global, board: Board) -> Result<String, Fail> {
+    let first = board.offer(1, merge)?;
+    let second = board.offer(2, merge)?;
     let finished = board.finish(&mut Chosen::new(Order::First))?;
-    told(alloc, finished.taken.as_slice())
+    let merges = told(alloc, finished.taken.as_slice())?;
+    Ok(format!(in alloc; "{first:?}\n{second:?}\n{merges}")?)
 }
 
 /// The offered merge comes first, and then the picked one; an offer of a merged cluster is stale.
+const OFFERED: &str = "\
+Taken(Step(1))
+Stale(Con(5))
+Step(1) Three(Con(5), Con(4), Con(3)) Shared { a: Elem(4), b: Elem(2), c: Some(Elem(3)) }
+Step(2) Three(Step(1), Con(2), Con(1)) Shared { a: Elem(3), b: Elem(1), c: Some(Elem(2)) }
+";
+
+/// The first choice and the last one; a choice by strides is the first at the first call. Of three distances between
+/// the same points the first two merge, and then their step with the third.
 #[test]
-fn a_finished_board_has_all_merges(rt: HostRuntime) -> Result<(), Fail> {
-    let mut board = board(rt.alloc())?;
-    assert_eq!(rt; offered(&mut board, 1)?, Answer::Taken(Name::Step(1)));
-    assert_eq!(rt; offered(&mut board, 2)?, Answer::Stale(Name::Con(5)));
-    assert_eq!(rt; finished(rt.alloc(), board)?.as_str(), DOWNWARDS);
+fn merges_by_their_order(rt: HostRuntime) -> Result<(), Fail> {
+    let alloc = rt.alloc();
+    assert_eq!(rt; closed_by(alloc, KITE, Order::First)?.as_str(), UPWARDS);
+    assert_eq!(rt; closed_by(alloc, KITE, Order::Last)?.as_str(), DOWNWARDS);
+    assert_eq!(rt; closed_by(alloc, KITE, Order::Stride(7))?.as_str(), UPWARDS);
+    assert_eq!(rt; closed_by(alloc, THREEFOLD, Order::Last)?.as_str(), PAIRS);
+    assert_eq!(rt; board_told(alloc)?.as_str(), OFFERED);
     Ok(())
 }

@@ -1,10 +1,10 @@
 // Offered merges, orders of merges, and what both come to.
-use crate::row::{answers, rows_pass};
+use crate::row::answers;
 use std::alloc::Global;
 use std::process::Abort;
 use std::test::Fail;
 
-const OFFERS: &str = "
+pub const OFFERS: &str = "
 $ offers
 sketch 1
 point A 0 0
@@ -140,11 +140,6 @@ offer 1 c1 c2
 > 1
 refused line 5 E17 after-end
 ";
-
-#[test]
-fn offers_get_their_answers(rt: HostRuntime) -> Result<(), Fail> {
-    rows_pass(&rt, rt.alloc(), OFFERS)
-}
 
 /// A triangle with one side twice.
 const DOUBLED: &str = "\

@@ -58,13 +58,6 @@ Line { a: -1000000000, b: 0, c: 0 }
 Point { x: 30000000, y: 5000000 }
 ";
 
-#[test]
-fn a_plate_is_placed(rt: HostRuntime) -> Result<(), Fail> {
-    let places = plate_places(rt.alloc())?;
-    assert_eq!(rt; told(rt.alloc(), &places)?.as_str(), PLACES);
-    Ok(())
-}
-
 const DRAWN: &str = "0\nSECTION\n2\nENTITIES\n\
     0\nLINE\n8\n0\n10\n20.000000\n20\n0.000000\n11\n40.000000\n21\n0.000000\n\
     0\nLINE\n8\n0\n10\n0.000000\n20\n-5.000000\n11\n0.000000\n21\n15.000000\n\
@@ -72,9 +65,10 @@ const DRAWN: &str = "0\nSECTION\n2\nENTITIES\n\
     0\nENDSEC\n0\nEOF\n";
 
 #[test]
-fn a_plate_is_drawn(rt: HostRuntime) -> Result<(), Fail> {
-    let sketch = sketch_of(rt.alloc(), PLATE)?;
-    let text = dxf_text(rt.alloc(), &plate_places(rt.alloc())?, &sketch)?;
+fn a_plate_is_placed_and_drawn(rt: HostRuntime) -> Result<(), Fail> {
+    let places = plate_places(rt.alloc())?;
+    assert_eq!(rt; told(rt.alloc(), &places)?.as_str(), PLACES);
+    let text = dxf_text(rt.alloc(), &places, &sketch_of(rt.alloc(), PLATE)?)?;
     assert_eq!(rt; text.as_bytes(), DRAWN.as_bytes());
     Ok(())
 }

@@ -1,8 +1,6 @@
 // Drawings and their construction plans.
-use crate::row::rows_pass;
-use std::test::Fail;
 
-const PLANS: &str = "
+pub const PLANS: &str = "
 $ plan
 sketch 1
 point A 0 0
@@ -148,8 +146,3 @@ step s4 joins s1 c12 c1 at B A S keeps s1 advance +
 step s5 joins s4 s2 c13 at E C B keeps s4 advance +
 step s6 joins s5 s3 c2 at N W A keeps s5 none
 ";
-
-#[test]
-fn drawings_get_their_plans(rt: HostRuntime) -> Result<(), Fail> {
-    rows_pass(&rt, rt.alloc(), PLANS)
-}

@@ -1,10 +1,8 @@
 // Texts that aren't sketches, and the first faulty line with its first code.
-use crate::row::{answers, rows_pass};
-use std::test::Fail;
 
-const REFUSALS: &str = "
+pub const REFUSALS: &str = "
 $ check
-sketch 2
+sketch 3
 end
 > 1
 refused line 1 E1 header
@@ -115,15 +113,3 @@ $ check
 > 1
 refused line 0 E18 empty
 ";
-
-#[test]
-fn each_code_has_its_line(rt: HostRuntime) -> Result<(), Fail> {
-    rows_pass(&rt, rt.alloc(), REFUSALS)
-}
-
-#[test]
-fn a_byte_beyond_ascii_is_refused(rt: HostRuntime) -> Result<(), Fail> {
-    let input = b"sketch 1\npoint \xc3 0 0\n";
-    let written = b"refused line 2 E19 not-ascii\n";
-    answers(&rt, rt.alloc(), &["check"], input, 1, written)
-}

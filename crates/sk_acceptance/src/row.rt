@@ -53,22 +53,18 @@ pub fn call_of(alloc: Global, row: &str) -> Result<Call<'_>, Fail> {
 /// Each row of the table passes.
 pub fn rows_pass(rt: &impl Abort, alloc: Global, table: &str) -> Result<(), Fail> {
     for row in table.split("$ ").skip(1) {
-        row_passes(rt, alloc, row)?;
+        let call = call_of(alloc, row)?;
+        let (words, written) = (call.words.as_slice(), call.written.as_bytes());
+        answers(
+            rt,
+            alloc,
+            words,
+            call.input.as_bytes(),
+            call.status,
+            written,
+        )?;
     }
     Ok(())
-}
-
-fn row_passes(rt: &impl Abort, alloc: Global, row: &str) -> Result<(), Fail> {
-    let call = call_of(alloc, row)?;
-    let (input, written) = (call.input.as_bytes(), call.written.as_bytes());
-    answers(
-        rt,
-        alloc,
-        call.words.as_slice(),
-        input,
-        call.status,
-        written,
-    )
 }
 
 /// Calls with these words on this input, and compares the status and the bytes.

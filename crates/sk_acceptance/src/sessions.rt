@@ -1,12 +1,11 @@
 // Sessions, and the family that is kept across their lines.
-use crate::row::{answers_over, rows_pass};
 use sk_base::{Elem, Name};
 use sk_lang::Code;
 use sk_session::{Reply, Session};
 use sk_worklist::Order;
 use std::test::Fail;
 
-const SESSIONS: &str = "
+pub const SESSIONS: &str = "
 $ session
 point A 0 0
 point B 4 0
@@ -343,32 +342,6 @@ ok B
 ok c1
 fault c1 tolerance 2 nm limit 1
 ";
-
-#[test]
-fn sessions_get_their_replies(rt: HostRuntime) -> Result<(), Fail> {
-    rows_pass(&rt, rt.alloc(), SESSIONS)
-}
-
-/// A read that fails leaves nothing written, even the one behind the last line. A sink with little room
-/// keeps a front of the replies, and one that fails at a later reply the whole ones before it.
-#[test]
-fn a_failing_session_keeps_a_front(rt: HostRuntime) -> Result<(), Fail> {
-    let alloc = rt.alloc();
-    let words = ["session"];
-    let lines = b"point A 0 0\n\npoint B 1 0\nwrite\n".as_slice();
-    answers_over(&rt, alloc, &words, (lines, &[2]), (1000, &[]), 3, b"")?;
-    answers_over(&rt, alloc, &words, (lines, &[]), (7, &[]), 4, b"ok A\nok")?;
-    answers_over(&rt, alloc, &words, (lines, &[]), (1000, &[2]), 4, b"ok A\n")?;
-    answers_over(
-        &rt,
-        alloc,
-        &words,
-        (lines, &[]),
-        (1000, &[3]),
-        4,
-        b"ok A\nok B\n",
-    )
-}
 
 /// Two triangles that share a point: one of them loses a side, is checked, and gets it back.
 const HINGED: &str = "\

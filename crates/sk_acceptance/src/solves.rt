@@ -1,8 +1,6 @@
 // Drawings and where their elements lie, or the first fault.
-use crate::row::rows_pass;
-use std::test::Fail;
 
-const POINTS: &str = "
+pub const POINTS: &str = "
 $ solve
 sketch 1
 point A 0 0
@@ -118,7 +116,7 @@ length tolerance 0 nm at c1
 angle tolerance 0 ppb at none
 ";
 
-const LINES: &str = "
+pub const LINES: &str = "
 $ solve
 sketch 1
 point A 0 0
@@ -217,7 +215,8 @@ length tolerance 0 nm at none
 angle tolerance 0 ppb at line L
 ";
 
-const FAULTS: &str = "
+/// The first fault, on each grid and beyond each limit.
+pub const FAULTS: &str = "
 $ solve
 sketch 1
 point A 0 0
@@ -358,7 +357,7 @@ fault c1 tolerance 2 nm limit 1
 /// What has no place: a point on a line beyond its distance, a line along two wheels of which one lies in the
 /// other, a point between two parallel lines; a child that two parallel lines would carry, and one that is
 /// carried by two points too near to one another for the grid.
-const PLACELESS: &str = "
+pub const PLACELESS: &str = "
 $ solve
 sketch 1
 line L 0 0 100 0
@@ -442,7 +441,7 @@ fault s3 first b M range bits 16
 
 /// Lines at angles that the coarsest grid misses: the one has a normal of 707107544 by 707107544, the other one of
 /// 384620667 by 923072815.
-const TILTED: &str = "
+pub const TILTED: &str = "
 $ solve bits=16
 sketch 1
 line X 0 0 10 0
@@ -485,7 +484,7 @@ angle tolerance 4937 ppb at c1
 
 /// A strip whose first triangle is possible and whose second is not, on each grid; and three triangles that meet at
 /// three corners, of which the second and the third are impossible.
-const LATER_FAULTS: &str = "
+pub const LATER_FAULTS: &str = "
 $ solve
 sketch 1
 point A 0 0
@@ -549,36 +548,3 @@ end
 > 7
 fault s2 build height E gap -1443109011456 -1443109011456 bits 38
 ";
-
-#[test]
-fn points_are_placed(rt: HostRuntime) -> Result<(), Fail> {
-    rows_pass(&rt, rt.alloc(), POINTS)
-}
-
-#[test]
-fn lines_are_placed(rt: HostRuntime) -> Result<(), Fail> {
-    rows_pass(&rt, rt.alloc(), LINES)
-}
-
-/// The first fault, on each grid and beyond each limit.
-#[test]
-fn faults_are_named(rt: HostRuntime) -> Result<(), Fail> {
-    rows_pass(&rt, rt.alloc(), FAULTS)
-}
-
-/// The first of the steps that fail is told.
-#[test]
-fn a_later_step_is_told(rt: HostRuntime) -> Result<(), Fail> {
-    rows_pass(&rt, rt.alloc(), LATER_FAULTS)
-}
-
-/// What can't be constructed or carried, and by which number it shows.
-#[test]
-fn placeless_elements_are_named(rt: HostRuntime) -> Result<(), Fail> {
-    rows_pass(&rt, rt.alloc(), PLACELESS)
-}
-
-#[test]
-fn a_coarse_grid_misses_angles(rt: HostRuntime) -> Result<(), Fail> {
-    rows_pass(&rt, rt.alloc(), TILTED)
-}

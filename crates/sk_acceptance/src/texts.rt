@@ -15,17 +15,12 @@ distance P1 Y 18
 end
 ";
 
-#[test]
-fn the_least_datum_sketch_has_one_point(rt: HostRuntime) -> Result<(), Fail> {
-    let text = write_sketch(rt.alloc(), &datum_sketch(rt.alloc(), 3)?)?;
-    assert_eq!(rt; text.as_bytes(), DATUM.as_bytes());
-    Ok(())
-}
-
 /// Its constraints make one graph, which is one plan of one step.
 #[test]
-fn the_least_datum_sketch_is_planned(rt: HostRuntime) -> Result<(), Fail> {
-    let plan = planned(rt.alloc(), &datum_sketch(rt.alloc(), 3)?)?;
-    assert_eq!(rt; plan.steps.len(), 1);
+fn the_least_datum_sketch_has_one_point(rt: HostRuntime) -> Result<(), Fail> {
+    let sketch = datum_sketch(rt.alloc(), 3)?;
+    let text = write_sketch(rt.alloc(), &sketch)?;
+    assert_eq!(rt; text.as_bytes(), DATUM.as_bytes());
+    assert_eq!(rt; planned(rt.alloc(), &sketch)?.steps.len(), 1);
     Ok(())
 }

@@ -6,11 +6,12 @@ ghost use Rattle.std.specs.Prelude.{◌<◌, ◌≤◌, ◌^◌, length, IsTrue,
 ghost use Rattle.sk_base.specs.Bounds.{IsWithin};
 ghost use Rattle.sk_base.specs.Places.{IsBounded};
 ghost use Rattle.sk_base.specs.SoundGraph.{IsSoundGraph};
+ghost use Rattle.sk_base.specs.SoundSketch.{IsSoundSketch};
 ghost use Rattle.sk_residual.specs.Placing.{HasKind, PlacesExactly, AreSpotsOf};
 
 use crate::calls::{planned, sketch_of};
 use crate::row::words_of;
-use sk_base::{At, Graph, Kind, List, Placed, Spot, Text};
+use sk_base::{At, Graph, Kind, List, Placed, Sketch, Spot, Text};
 use sk_graph::reduce;
 use sk_report::{passed_text, solve_text, turned_text};
 use sk_residual::{first_turned, least, meets, passed};
@@ -471,43 +472,19 @@ fn is_part(part: i64) -> bool
     -2_000_000_000 <= part && part <= 2_000_000_000
 }
 
-/// The report on the drawing that is placed there.
-fn report(alloc: Global, text: &str, places: &[At]) -> Result<Text, Fail> {
-    let sketch = sketch_of(alloc, text)?;
-    let graph = reduce(alloc, &sketch)?;
-    let at = placed(alloc, &graph, places)?;
-    let plan = planned(alloc, &sketch)?;
-    Ok(solve_text(alloc, &sketch, &plan, 38, &at, &least(&at, &graph))?)
-}
-
-/// What is first beyond the limit, or no text.
-fn beyond(alloc: Global, text: &str, places: &[At], limit: u64) -> Result<Text, Fail> {
-    let sketch = sketch_of(alloc, text)?;
-    let graph = reduce(alloc, &sketch)?;
-    let at = placed(alloc, &graph, places)?;
-    match passed(&at, &graph, limit) {
-        Some(beyond) => Ok(passed_text(alloc, &sketch, &beyond)?),
-        None => Ok(Text::new(alloc)),
-    }
-}
-
-/// The first turned sign, or no text.
-fn turned(alloc: Global, text: &str, places: &[At]) -> Result<Text, Fail> {
-    let sketch = sketch_of(alloc, text)?;
-    let graph = reduce(alloc, &sketch)?;
-    let at = placed(alloc, &graph, places)?;
-    let plan = planned(alloc, &sketch)?;
-    match first_turned(&at, &sketch, &plan) {
-        Some(turned) => Ok(turned_text(alloc, &turned)?),
-        None => Ok(Text::new(alloc)),
-    }
-}
-
-/// The three, one behind another.
+/// The report on the drawing that is placed there, what is first beyond the limit, and the first turned sign.
 fn judged(alloc: Global, text: &str, places: &[At], limit: u64) -> Result<Text, Fail> {
-    let mut judged = report(alloc, text, places)?;
-    judged.put(beyond(alloc, text, places, limit)?.as_bytes())?;
-    judged.put(turned(alloc, text, places)?.as_bytes())?;
+    let sketch = sketch_of(alloc, text)?;
+    let graph = reduce(alloc, &sketch)?;
+    let at = placed(alloc, &graph, places)?;
+    let plan = planned(alloc, &sketch)?;
+    let mut judged = solve_text(alloc, &sketch, &plan, 38, &at, &least(&at, &graph))?;
+    if let Some(beyond) = passed(&at, &graph, limit) {
+        judged.put(passed_text(alloc, &sketch, &beyond)?.as_bytes())?;
+    }
+    if let Some(turned) = first_turned(&at, &sketch, &plan) {
+        judged.put(turned_text(alloc, &turned)?.as_bytes())?;
+    }
     Ok(judged)
 }
 
@@ -521,27 +498,14 @@ fn row_passes(rt: &impl Abort, alloc: Global, row: &str) -> Result<(), Fail> {
     Ok(())
 }
 
-fn rows_pass(rt: &impl Abort, alloc: Global, table: &str) -> Result<(), Fail> {
-    for row in table.split("$ ").skip(1) {
-        row_passes(rt, alloc, row)?;
+#[test]
+fn drawings_have_their_tolerance_and_signs(rt: HostRuntime) -> Result<(), Fail> {
+    for table in [POINTS, LINES, WORST, TURNED] {
+        for row in table.split("$ ").skip(1) {
+            row_passes(&rt, rt.alloc(), row)?;
+        }
     }
     Ok(())
-}
-
-#[test]
-fn places_hold_within_their_tolerance(rt: HostRuntime) -> Result<(), Fail> {
-    rows_pass(&rt, rt.alloc(), POINTS)?;
-    rows_pass(&rt, rt.alloc(), LINES)
-}
-
-#[test]
-fn what_is_worst_is_named(rt: HostRuntime) -> Result<(), Fail> {
-    rows_pass(&rt, rt.alloc(), WORST)
-}
-
-#[test]
-fn turned_signs_are_named(rt: HostRuntime) -> Result<(), Fail> {
-    rows_pass(&rt, rt.alloc(), TURNED)
 }
 
 const EVEN_TRIANGLE: &str = "\

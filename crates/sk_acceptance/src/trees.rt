@@ -7,7 +7,6 @@ use sk_base::{ConId, List};
 use sk_plan::plan_tree;
 use sk_tree::{Tree, build, height, leaf_tree, leaves, steps};
 use std::alloc::Global;
-use std::process::Abort;
 use std::test::Fail;
 
 const RECTANGLE: &str = "\
@@ -36,72 +35,49 @@ distance B C 25
 end
 ";
 
-/// Whether the drawing's plan has a tree.
-fn has_tree(alloc: Global, text: &str) -> Result<bool, Fail> {
-    let plan = planned(alloc, &sketch_of(alloc, text)?)?;
-    Ok(plan_tree(alloc, &plan)?.is_some())
-}
-
-/// The numbers of the tree's leaves, from left to right, a space before each.
-fn leaf_numbers(alloc: Global, tree: &Tree) -> Result<String, Fail> {
-    let mut text = String::from_str(alloc, "")?;
+/// The tree's leaves from left to right, how many joins it has, and how many of them stand above one another.
+fn told(alloc: Global, tree: &Tree) -> Result<String, Fail>
+    requires { step_count tree.now < 2 ^ 32 }
+{
+    let mut text = String::from_str(alloc, "leaves")?;
     for leaf in leaves(alloc, tree)?.as_slice() {
         let number = leaf.0;
         text.push_str(format!(in alloc; " {number}")?.as_str())?;
     }
+    let (joins, high) = (steps(tree), height(tree));
+    text.push_str(format!(in alloc; " joins {joins} height {high}")?.as_str())?;
     Ok(text)
 }
 
-/// Compares the leaves, and how many joins the tree has, in all and above one another.
-fn is_like(
-    rt: &impl Abort,
-    alloc: Global,
-    tree: &Tree,
-    numbers: &str,
-    size: (u32, u32),
-) -> Result<(), Fail>
-    requires { step_count tree.now < 2 ^ 32 }
-{
-    let (joins, high) = size;
-    assert_eq!(rt; leaf_numbers(alloc, tree)?.as_str(), numbers);
-    assert_eq!(rt; steps(tree), joins);
-    assert_eq!(rt; height(tree), high);
-    Ok(())
-}
-
-/// Compares the tree of the drawing's plan.
-fn is_planned_as(
-    rt: &impl Abort,
-    alloc: Global,
-    text: &str,
-    numbers: &str,
-    size: (u32, u32),
-) -> Result<(), Fail> {
+/// The tree of the drawing's plan.
+fn planned_as(alloc: Global, text: &str) -> Result<String, Fail> {
     let plan = planned(alloc, &sketch_of(alloc, text)?)?;
     match plan_tree(alloc, &plan)? {
-        Some(tree) => is_like(rt, alloc, &tree, numbers, size),
-        None => Err(Fail::from("the drawing has constraints")),
+        Some(tree) => told(alloc, &tree),
+        None => Ok(String::from_str(alloc, "no tree")?),
     }
 }
 
+/// The rectangle's plan has six joins, four of them above one another, and each constraint once.
+const RECTANGLE_TREE: &str = "leaves 9 4 3 12 1 10 6 5 13 11 8 7 2 joins 6 height 4";
+
 #[test]
-fn no_merge_makes_no_tree(rt: HostRuntime) -> Result<(), Fail> {
+fn plans_are_trees(rt: HostRuntime) -> Result<(), Fail> {
     let alloc = rt.alloc();
+    let (point, pair) = (
+        "sketch 1\npoint A 7 7\nend\n",
+        "sketch 1\npoint A 0 0\npoint B 1 0\ndistance A B 2.50\nend\n",
+    );
     assert!(rt; build(alloc, &List::new(alloc))?.is_none());
-    assert!(rt; !has_tree(alloc, "sketch 1\npoint A 7 7\nend\n")?);
+    assert_eq!(rt;
+        told(alloc, &leaf_tree(ConId(7)))?.as_str(),
+        "leaves 7 joins 0 height 0"
+    );
+    assert_eq!(rt; planned_as(alloc, point)?.as_str(), "no tree");
+    assert_eq!(rt;
+        planned_as(alloc, pair)?.as_str(),
+        "leaves 1 joins 0 height 0"
+    );
+    assert_eq!(rt; planned_as(alloc, RECTANGLE)?.as_str(), RECTANGLE_TREE);
     Ok(())
-}
-
-#[test]
-fn a_constraint_alone_is_a_leaf(rt: HostRuntime) -> Result<(), Fail> {
-    is_like(&rt, rt.alloc(), &leaf_tree(ConId(7)), " 7", (0, 0))?;
-    let text = "sketch 1\npoint A 0 0\npoint B 1 0\ndistance A B 2.50\nend\n";
-    is_planned_as(&rt, rt.alloc(), text, " 1", (0, 0))
-}
-
-/// The rectangle's plan as a tree: six joins, four of them above one another, and each constraint once.
-#[test]
-fn a_rectangle_is_a_tree_of_six_joins(rt: HostRuntime) -> Result<(), Fail> {
-    let numbers = " 9 4 3 12 1 10 6 5 13 11 8 7 2";
-    is_planned_as(&rt, rt.alloc(), RECTANGLE, numbers, (6, 4))
 }

@@ -5,7 +5,7 @@ use std::process::Abort;
 use std::test::Fail;
 
 const USAGE: &str =
-    "usage: sketch check|plan|solve|dxf|offers|session|grow [order=first|last|0..65535] [bits=16|27|38] [within=1..1000000] [n=3..1000]\n";
+    "usage: sketch check|plan|solve|dxf|offers|session|grow|migrate|spare|derive [order=first|last|0..65535] [bits=16|27|38] [within=1..1000000] [n=3..1000]\n";
 
 /// The words of a call on each line, between single spaces; the first line has one empty word.
 const NO_FORMS: &str = "
@@ -35,7 +35,23 @@ grow n=2
 grow n=1001
 grow n=0003
 grow bits=16
-session n=3";
+session n=3
+migrate migrate
+migrate order=first
+migrate bits=16
+migrate within=1
+migrate n=3
+spare spare
+spare order=first
+spare bits=16
+spare within=1
+spare n=3
+derive order=
+derive order=00
+derive order=first order=last
+derive bits=16
+derive within=1
+derive n=3";
 
 /// The first read would fail, so a call that reads would end with another status.
 #[test]

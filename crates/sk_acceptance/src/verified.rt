@@ -66,35 +66,26 @@ fn told(alloc: Global, places: &str) -> Result<Text, Fail> {
     }
 }
 
+/// One nanometre too high C is too far from A, and from B, which comes later. Mirrored, C is on the other side of A
+/// and B than it is drawn.
 #[test]
-fn exact_places_are_accepted(rt: HostRuntime) -> Result<(), Fail> {
-    let text = told(
-        rt.alloc(),
-        "point 0 0\npoint 4000000 0\npoint 4000000 3000000\n",
-    )?;
-    let wanted = "verified steps 1 length 0 nm angle 0 ppb\n";
-    assert_eq!(rt; text.as_bytes(), wanted.as_bytes());
-    Ok(())
-}
-
-/// One nanometre too high C is too far from A, and from B, which comes later.
-#[test]
-fn a_nanometre_off_is_refused(rt: HostRuntime) -> Result<(), Fail> {
-    let text = told(
-        rt.alloc(),
-        "point 0 0\npoint 4000000 0\npoint 4000000 3000001\n",
-    )?;
-    assert_eq!(rt; text.as_bytes(), "verify fails c2\n".as_bytes());
-    Ok(())
-}
-
-/// Mirrored, C is on the other side of A and B than it is drawn.
-#[test]
-fn a_mirrored_triangle_is_refused(rt: HostRuntime) -> Result<(), Fail> {
-    let text = told(
-        rt.alloc(),
-        "point 0 0\npoint 4000000 0\npoint 4000000 -3000000\n",
-    )?;
-    assert_eq!(rt; text.as_bytes(), "verify fails sign s1\n".as_bytes());
+fn claims_are_checked(rt: HostRuntime) -> Result<(), Fail> {
+    let rows = [
+        (
+            "point 0 0\npoint 4000000 0\npoint 4000000 3000000\n",
+            "verified steps 1 length 0 nm angle 0 ppb\n",
+        ),
+        (
+            "point 0 0\npoint 4000000 0\npoint 4000000 3000001\n",
+            "verify fails c2\n",
+        ),
+        (
+            "point 0 0\npoint 4000000 0\npoint 4000000 -3000000\n",
+            "verify fails sign s1\n",
+        ),
+    ];
+    for (places, wanted) in rows {
+        assert_eq!(rt; told(rt.alloc(), places)?.as_bytes(), wanted.as_bytes());
+    }
     Ok(())
 }

@@ -1,0 +1,48 @@
+// The tables of calls, each of which stands in the module of its subject.
+use crate::row::rows_pass;
+use crate::{
+    blocks, checks, damaged, derived, drawn, grown, offers, plans, refusals, sessions, solves,
+    spares, versions,
+};
+use std::test::Fail;
+
+#[test]
+fn texts_get_their_answers(rt: HostRuntime) -> Result<(), Fail> {
+    let tables = [
+        checks::REPORTS,
+        plans::PLANS,
+        offers::OFFERS,
+        sessions::SESSIONS,
+        refusals::REFUSALS,
+        damaged::LONG_LINES,
+        spares::SPARES,
+        derived::DERIVED,
+    ];
+    for table in tables {
+        rows_pass(&rt, rt.alloc(), table)?;
+    }
+    Ok(())
+}
+
+#[test]
+fn drawings_are_placed(rt: HostRuntime) -> Result<(), Fail> {
+    let tables = [
+        solves::POINTS,
+        solves::LINES,
+        solves::FAULTS,
+        solves::PLACELESS,
+        solves::TILTED,
+        solves::LATER_FAULTS,
+        drawn::DRAWN,
+        grown::GROWN,
+        blocks::BLOCKS,
+        versions::VERSIONS,
+        versions::COMMENTS,
+        versions::REFUSED,
+        versions::MIGRATED,
+    ];
+    for table in tables {
+        rows_pass(&rt, rt.alloc(), table)?;
+    }
+    Ok(())
+}
