@@ -18,3 +18,5 @@ pub mod Splits
 pub mod Tables
 pub mod Unions
 pub mod NameOrder
+pub mod Deciding
+pub mod Selecting

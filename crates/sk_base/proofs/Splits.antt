@@ -1,5 +1,5 @@
 -- Lists in front of a place, from it on, and one behind the other.
-use Rattle.std.proofs.Common.{◌≡◌, ◌⊎◌, ◌∙◌, inl, inr, ℕ, zero, suc, ◌+◌, ◌<◌, ◌≤◌, List, [], ◌∷◌, ◌++◌, length, get_or, subst, sym, take, drop, arith}
+use Rattle.std.proofs.Common.{◌≡◌, ◌⊎◌, ◌∙◌, inl, inr, ap, refl, ℕ, zero, suc, ◌+◌, ◌<◌, ◌≤◌, List, [], ◌∷◌, ◌++◌, length, get_or, subst, sym, take, drop, arith}
 use Rattle.std.specs.Prelude.{Contains, AllPairs, insert, ◌↔◌}
 use Rattle.std.proofs.lemmas.List.{take-append-drop, length-take, length-drop, get_or-take, get_or-drop}
 use Rattle.std.proofs.lemmas.List.Elements.{Contains-append_cases, Contains-append_left, Contains-append_right}
@@ -76,3 +76,12 @@ module _ {X : Type 0} (R : X → X → Type 0) where
         | inl here ↦ subst (λ w. R x w) here (before x x_in)
         | inr later ↦ pairs_across i xs r x z x_in later
       ])
+
+-- a list has a last item, or none
+pub last_or_none : {X : Type 0} (xs : List X) → (xs ≡ []) ⊎ ((before : List X) × (last : X) × (xs ≡ before ++ last ∷ []))
+last_or_none [] = inl refl
+last_or_none {X} (x ∷ xs) =
+    elim (last_or_none xs) [
+      | inl none ↦ inr ([], x, ap (λ (ys : List X). x ∷ ys) none)
+      | inr (before, last, is) ↦ inr (x ∷ before, last, ap (λ (ys : List X). x ∷ ys) is)
+    ]

@@ -5,3 +5,4 @@ pub mod Finding
 pub mod WideRuns
 pub mod OneText
 pub mod OneWideRun
+pub mod SomeWide

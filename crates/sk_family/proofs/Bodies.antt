@@ -1,22 +1,13 @@
 -- Bodies inside one another, and what joining two makes.
-use Rattle.std.proofs.Common.{◌≡◌, ◌⊎◌, inl, inr, ℕ, List, [], ◌∷◌, ap, subst, ◌∙◌}
+use Rattle.std.proofs.Common.{◌≡◌, ◌⊎◌, inl, inr, List, [], ◌∷◌, ap, subst, ◌∙◌}
 use Rattle.std.specs.Prelude.{Contains, fold}
 use Rattle.sk_base.specs.declared.Elem.{Elem}
 use Rattle.sk_base.specs.declared.ConId.{ConId}
 use Rattle.sk_base.specs.Numbering.{elem_number, con_number, elem_exact, con_exact}
 use Rattle.sk_family.specs.Body.{Body, IsRisingBody, join, join_all, nothing}
-use Rattle.sk_base.proofs.Members.{contains_none, contains_head, contains_later, contains_cases, Settles, nat_settles, list_settles}
+use Rattle.sk_base.proofs.Members.{contains_none, contains_head, contains_later, contains_cases, Settles, list_settles}
+use Rattle.sk_base.proofs.Deciding.{elem_settles, con_settles}
 use Rattle.sk_base.proofs.Unions.{rising_none, rising_union, rising_same, union_left, union_right, union_cases}
-
-settles_by : {X : Type 0} (number : X → ℕ) → ((x y : X) → number x ≡ number y → x ≡ y) → Settles X
-settles_by number exact x y =
-    elim (nat_settles (number x) (number y)) [ inl same ↦ inl (exact x y same) | inr other ↦ inr (λ e. other (ap number e)) ]
-
-pub elem_settles : Settles Elem
-elem_settles = settles_by elem_number elem_exact
-
-pub con_settles : Settles ConId
-con_settles = settles_by con_number con_exact
 
 pub same_body : (x y : Body) → x.elements ≡ y.elements → x.owned ≡ y.owned → x ≡ y
 same_body x y elements owned =

@@ -1,10 +1,11 @@
 // Clusters, and what two of them share.
-ghost use Rattle.std.specs.Prelude.{◌≡◌, ◌<◌, ◌^◌, ◌∷◌, ◌++◌, [], List as Items, length};
+ghost use Rattle.std.specs.Prelude.{◌≡◌, ◌<◌, ◌^◌, ◌∷◌, ◌++◌, [], IfOk, List as Items, length};
 ghost use Rattle.sk_base.specs.declared.Elem.{Elem as Element};
 ghost use Rattle.sk_family.specs.Sharing.{shared, overlap_of, counted};
 ghost use Rattle.sk_base.specs.Numbering.{is_elem};
 
-use sk_base::{ConId, Elem, List, Name};
+use sk_base::{ConId, Elem, List, Name, NoMemory};
+use std::alloc::Global;
 
 /// A rigid set of elements, with the constraints that it owns. Both lists rise, and hold nothing
 /// twice.
@@ -21,6 +22,31 @@ pub struct Overlap {
     pub count: u32,
     pub first: Option<Elem>,
     pub second: Option<Elem>,
+}
+
+/// The same clusters once more.
+pub(crate) fn copy_all(alloc: Global, clusters: &[Cluster]) -> Result<Vec<Cluster>, NoMemory>
+    ensures { IfOk result (λ copies. copies.items ≡ clusters.now) }
+{
+    let mut copies = Vec::new(alloc);
+    for cluster in clusters {
+        copies.push(copy_of(alloc, cluster)?)?;
+    }
+    Ok(copies)
+}
+
+fn copy_of(alloc: Global, cluster: &Cluster) -> Result<Cluster, NoMemory>
+    ensures { IfOk result (λ copy. copy ≡ cluster.now) }
+{
+    let mut elements = List::new(alloc);
+    elements.extend(cluster.elements.as_slice())?;
+    let mut owned = List::new(alloc);
+    owned.extend(cluster.owned.as_slice())?;
+    Ok(Cluster {
+        name: cluster.name,
+        elements,
+        owned,
+    })
 }
 
 /// What the two clusters share. The count stays at the greatest `u32` where more are shared, which no

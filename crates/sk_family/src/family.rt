@@ -10,7 +10,7 @@ ghost use Rattle.sk_family.specs.Clusters.{AddsNamed, cluster_of, initial_cluste
 ghost use Rattle.sk_family.specs.Starting.{starts_but};
 ghost use Rattle.sk_family.specs.Starts.{IsFree, HasStart, CanBeDissolved, IsDissolved};
 
-use crate::cluster::Cluster;
+use crate::cluster::{Cluster, copy_all};
 use crate::order::place_of;
 use crate::row::Row;
 use crate::start::{all_starts, block_cluster, edge_cluster, exchange, starts_of};
@@ -106,6 +106,18 @@ impl Family {
     {
         let clusters = self.clusters.as_slice();
         &clusters[place_of(clusters, name)..]
+    }
+
+    /// The same family once more.
+    pub fn copy(&self) -> Result<Family, NoMemory>
+        ensures same { IfOk result (λ copy. copy ≡ self.now) }
+        ensures sound { IsSound self.now }
+    {
+        Ok(Family {
+            alloc: self.alloc,
+            clusters: Row::of(copy_all(self.alloc, self.clusters.as_slice())?),
+            next: self.next,
+        })
     }
 
     /// Puts one cluster in the place of those named, and answers its name, the next step's. It has

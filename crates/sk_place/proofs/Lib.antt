@@ -19,3 +19,5 @@ pub mod Midpoints
 pub mod Bounding
 pub mod Keys
 pub mod OnePlacing
+pub mod SomeFrames
+pub mod SomePlaces

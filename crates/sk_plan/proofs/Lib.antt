@@ -14,3 +14,4 @@ pub mod Wells
 pub mod WellRuns
 pub mod WellPlans
 mod OnePlan
+pub mod SomePlans

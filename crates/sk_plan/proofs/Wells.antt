@@ -19,7 +19,7 @@ use Rattle.sk_base.specs.Pins.{elements_of}
 use Rattle.sk_family.specs.declared.Cluster.{Cluster}
 use Rattle.sk_family.specs.Body.{Body, Start, edge_start, block_start, starts, starting, initial_bodies}
 use Rattle.sk_family.specs.Clusters.{Clusters, body_of, bodies, IsSound}
-use Rattle.sk_family.proofs.Bodies.{elem_settles}
+use Rattle.sk_base.proofs.Deciding.{elem_settles}
 use Rattle.sk_family.proofs.GraphStarts.{edge_starts, block_starts, among_start}
 use Rattle.sk_family.proofs.Naming.{below_differs, one_of_body}
 use Rattle.sk_rules.specs.Excess.{held}

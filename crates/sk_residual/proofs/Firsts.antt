@@ -1,11 +1,12 @@
 -- The first item with a property, in lists that are put together.
-use Rattle.std.proofs.Common.{◌≡◌, inl, inr, ℕ, ◌+◌, ◌<◌, List, [], ◌∷◌, ◌++◌, length, get_or, take, drop, sym, subst, ap, ◌∙◌, append_assoc, append-nil}
+use Rattle.std.proofs.Common.{◌≡◌, ◌⊎◌, refl, inl, inr, ℕ, ◌+◌, ◌<◌, List, [], ◌∷◌, ◌++◌, length, get_or, take, drop, sym, subst, ap, ◌∙◌, append_assoc, append-nil}
 use Rattle.std.specs.Prelude.{Contains}
 use Rattle.std.specs.List.{flat_map}
 use Rattle.std.proofs.lemmas.Grind.{flat_map-append}
 use Rattle.std.proofs.lemmas.List.{take_more, at_drop_more, take-append-drop}
 use Rattle.std.proofs.lemmas.List.Elements.{Contains-append_right, Contains-append_cases}
-use Rattle.sk_base.proofs.Members.{contains_head}
+use Rattle.sk_base.proofs.Members.{contains_none, contains_head, contains_later, contains_cases}
+use Rattle.sk_base.proofs.Deciding.{Decided}
 use Rattle.sk_residual.specs.Least.{IsFirst}
 
 pub appended : {X : Type 0} (P : X → Type 0) (xs ys : List X) (x : X) → IsFirst P xs x → IsFirst P (xs ++ ys) x
@@ -19,6 +20,30 @@ appended P xs ys x first = record {
 
 pub first_inside : {X : Type 0} (P : X → Type 0) (xs : List X) (x : X) → IsFirst P xs x → Contains xs x
 first_inside P xs x first = subst (λ ys. Contains ys x) (sym first.parts) (Contains-append_right first.before (x ∷ first.after) x (contains_head x first.after))
+
+-- all items are so, or one is the first that isn't
+pub all_or_first : {X : Type 0} (P : X → Type 0) (xs : List X) → ((x : X) → Contains xs x → Decided (P x)) → ((x : X) → Contains xs x → P x) ⊎ ((x : X) × IsFirst (λ y. ¬ P y) xs x)
+all_or_first P [] decide = inl (λ x h. absurd (contains_none x h))
+all_or_first P (x ∷ xs) decide =
+    elim (decide x (contains_head x xs)) [
+      | inr fails ↦ inr (x, record { before = []; after = xs; parts = refl; has = fails; none_before = λ y h. absurd (contains_none y h) })
+      | inl here ↦ elim (all_or_first P xs (λ y h. decide y (contains_later x xs y h))) [
+        | inl all ↦ inl (λ y h. elim (contains_cases x xs y h) [ inl same ↦ subst (λ z. P z) same here | inr later ↦ all y later ])
+        | inr (y, first) ↦ inr (
+          y,
+          record {
+            before = x ∷ first.before;
+            after = first.after;
+            parts = ap (λ zs. x ∷ zs) first.parts;
+            has = first.has;
+            none_before = λ z h. elim (contains_cases x first.before z h) [
+              | inl same ↦ (λ fails. fails (subst (λ u. P u) same here))
+              | inr later ↦ first.none_before z later
+            ];
+          },
+        )
+      ]
+    ]
 
 module _ {X : Type 0} (P Q : X → Type 0) (excludes : (x : X) → Q x → ¬ P x) where
   -- each item has Q

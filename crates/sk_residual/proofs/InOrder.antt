@@ -36,7 +36,7 @@ node_of (n ∷ nodes) (s ∷ spots) are spot h =
       | inr later ↦ let found = node_of nodes spots are.1 spot later in (found.0, contains_later n nodes found.0 found.1, found.2)
     ]
 
-spots_rise : (nodes : List Node) (spots : List Spot) → AreSpotsOf nodes spots → AllPairs (λ (x y : Node). x.elem.0 < y.elem.0) nodes → IsRising (λ (x : Spot). x.elem.0) spots
+pub spots_rise : (nodes : List Node) (spots : List Spot) → AreSpotsOf nodes spots → AllPairs (λ (x y : Node). x.elem.0 < y.elem.0) nodes → IsRising (λ (x : Spot). x.elem.0) spots
 spots_rise nodes [] are rise = pairs_none (λ (x y : Spot). x.elem.0 < y.elem.0)
 spots_rise [] (s ∷ spots) are rise = absurd are
 spots_rise (n ∷ nodes) (s ∷ spots) are rise =

@@ -13,3 +13,4 @@ pub mod Rising
 pub mod Merging
 pub mod BlockLeast
 pub mod Threes
+pub mod SomeMeasures

@@ -124,19 +124,33 @@ module _ (p : Placed) where
     told_else worst None above told = absurd (cc)
     told_else worst (Some a) above told = told_kept_at worst a (grind (arith, nat_tests, above)) told
 
+-- what edges give, each nothing or its own constraint, are their constraints
+of_edges : (of : Edge → List Item) → ((e : Edge) (item : Item) → Contains (of e) item → constraint e ≡ item) → (edges : List Edge) (item : Item) → Contains (flat_map of edges) item
+    → (e : Edge) × Contains edges e × (constraint e ≡ item)
+of_edges of own [] item h = absurd (contains_none item h)
+of_edges of own (e ∷ edges) item h =
+    elim (Contains-append_cases (of e) (flat_map of edges) item h) [
+      | inl here ↦ (e, contains_head e edges, own e item here)
+      | inr later ↦ let found = of_edges of own edges item later in (found.0, contains_later e edges found.0 found.1, found.2)
+    ]
+
 -- only constraints are on a distance
 pub on_distance : (edges : List Edge) (item : Item) → Contains (distances edges) item → (e : Edge) × Contains edges e × (constraint e ≡ item)
-on_distance [] item h = absurd (contains_none item h)
-on_distance (e ∷ edges) item h =
-    elim (Contains-append_cases (distance_of_measure e e.measure) (distances edges) item h) [
-      | inl here ↦ (e, contains_head e edges, at_edge e e.measure item here)
-      | inr later ↦ let found = on_distance edges item later in (found.0, contains_later e edges found.0 found.1, found.2)
-    ]
+on_distance = of_edges (λ (e : Edge). distance_of_measure e e.measure) (λ e. at_edge e e.measure)
   where
     at_edge : (e : Edge) (m : Measure) (item : Item) → Contains (distance_of_measure e m) item → constraint e ≡ item
     at_edge e (PointPoint len) item here = contains_one _ _ here
     at_edge e (PointLine len side) item here = contains_one _ _ here
     at_edge e (LineLine ratio sense) item here = absurd (contains_none item here)
+
+-- or on an angle
+pub on_angle : (edges : List Edge) (item : Item) → Contains (angles edges) item → (e : Edge) × Contains edges e × (constraint e ≡ item)
+on_angle = of_edges (λ (e : Edge). angle_of_measure e e.measure) (λ e. at_edge e e.measure)
+  where
+    at_edge : (e : Edge) (m : Measure) (item : Item) → Contains (angle_of_measure e m) item → constraint e ≡ item
+    at_edge e (PointPoint len) item here = absurd (contains_none item here)
+    at_edge e (PointLine len side) item here = absurd (contains_none item here)
+    at_edge e (LineLine ratio sense) item here = contains_one _ _ here
 
 -- what is lengthwise is named by a constraint's number
 lengthwise_named : (g : Graph) (item : Item) → Contains (lengthwise g) item → (k : ConId) × (Con k ≡ name_of item)

@@ -24,8 +24,8 @@ use sk_orient::{
 };
 use sk_tree::{Choice, Plan, PlanStep, in_order};
 
-/// A sign as it is drawn, where zero is plus, and as it is placed: −1, 0 or 1. It is that of the
-/// constraint or the step of that name.
+/// A sign as it is drawn, where zero is plus, or as it is wanted in place of that, and as it is placed:
+/// −1, 0 or 1. It is that of the constraint or the step of that name.
 #[derive(Clone, Copy, Debug, PartialEq, Eq)]
 pub struct Turned {
     pub at: Name,

@@ -10,7 +10,8 @@ use Rattle.sk_base.specs.SoundGraph.{HasRisingEdges}
 use Rattle.sk_family.specs.Body.{Body, Start, starts, join_all, starting, initial_bodies, SameBodies}
 use Rattle.sk_base.proofs.Members.{Settles, contains_none, contains_head, contains_later, contains_one, contains_cases, contains_mapped, mapped_from}
 use Rattle.sk_family.proofs.GraphStarts.{start_at}
-use Rattle.sk_family.proofs.Bodies.{body_settles, con_settles, each_within, owner_of}
+use Rattle.sk_family.proofs.Bodies.{body_settles, each_within, owner_of}
+use Rattle.sk_base.proofs.Deciding.{con_settles}
 use Rattle.sk_rules.specs.Rules.{IsLine}
 use Rattle.sk_rules.specs.Reach.{CanMerge, AreAmong, Step, Reach, stays, goes}
 use Rattle.sk_rules.specs.Keeping.{IsReached, IsOwned, Completes, CarriesOver}

@@ -11,3 +11,4 @@ pub mod Keeping
 pub mod KeptFamily
 pub mod KeptClusters
 pub mod LeastPairs
+pub mod SettledRules

@@ -92,8 +92,8 @@ fn third_corner(
     None
 }
 
-/// Whether the three make a triangle.
-fn is_triangle(
+/// Whether the three elements let clusters with these elements merge by the triangle rule.
+pub fn is_triangle(
     graph: &Graph,
     a: Elem,
     b: Elem,

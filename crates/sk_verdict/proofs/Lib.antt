@@ -3,3 +3,4 @@ pub mod Placing
 pub mod Normals
 pub mod Judgements
 pub mod Lone
+pub mod SomeJudgements

@@ -13,7 +13,7 @@ use Rattle.sk_worklist.specs.declared.index.Index.{Index}
 use Rattle.sk_base.specs.ClusterNames.{IsBelow}
 use Rattle.sk_base.proofs.Pairs.{pairs_push}
 use Rattle.sk_family.proofs.Naming.{below_irreflexive}
-use Rattle.sk_family.proofs.Bodies.{elem_settles}
+use Rattle.sk_base.proofs.Deciding.{elem_settles}
 use Rattle.sk_worklist.proofs.Fronts.{front_more, front_before, pairs_weaken}
 use Rattle.sk_worklist.specs.Indexed.{HoldersGrow, IsHeld, IsIndex, RisesIn, holders_of}
 use Rattle.sk_worklist.proofs.Growing.{some_inside}
