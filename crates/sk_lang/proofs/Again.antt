@@ -36,7 +36,8 @@ use Rattle.sk_lang.specs.Renumbered.{elements_from}
 use Rattle.sk_base.proofs.Finding.{found_in}
 use Rattle.sk_lang.proofs.Finding.{same_bytes, equal_bytes}
 use Rattle.sk_lang.proofs.Passing.{Passes, passes_to}
-use Rattle.sk_lang.proofs.Written.{IsWrittenLine, AreWritten, literal, name_written, mm_written, magnitude_within, short_line, written_line}
+use Rattle.sk_lang.proofs.SolidLines.{IsLineOf, literal, name_spelled}
+use Rattle.sk_lang.proofs.Written.{AreWritten, mm_written, magnitude_within, short_line, written_line}
 
 -- a keyword of both versions
 pub shared : (v : Version) (word : List ℕ) (k : Keyword) → keyword_of One word ≡ Some k → keyword_of Two word ≡ Some k → keyword_of v word ≡ Some k
@@ -44,10 +45,10 @@ shared One word k one two = one
 shared Two word k one two = two
 
 -- the words of a line decide
-pub code_by_words : (v : Version) (s : Sketch) (line first : List ℕ) (rest : List (List ℕ)) (k : Keyword) → IsWrittenLine line (first ∷ rest) → keyword_of v first ≡ Some k → first_code (entry_rows s k rest) ≡ None → code_of (Within v s) line ≡ None
+pub code_by_words : (v : Version) (s : Sketch) (line first : List ℕ) (rest : List (List ℕ)) (k : Keyword) → IsLineOf line (first ∷ rest) → keyword_of v first ≡ Some k → first_code (entry_rows s k rest) ≡ None → code_of (Within v s) line ≡ None
 code_by_words v s line first rest k is keyword clean = rw (is.short, is.ascii, is.words_are v, keyword) clean
 
-pub progress_by_words : (v : Version) (s : Sketch) (line first : List ℕ) (rest : List (List ℕ)) (k : Keyword) → IsWrittenLine line (first ∷ rest) → keyword_of v first ≡ Some k → progress_after (Within v s) line ≡ Within v (added s (entry_made s k rest (next_elem s) (next_con s)))
+pub progress_by_words : (v : Version) (s : Sketch) (line first : List ℕ) (rest : List (List ℕ)) (k : Keyword) → IsLineOf line (first ∷ rest) → keyword_of v first ≡ Some k → progress_after (Within v s) line ≡ Within v (added s (entry_made s k rest (next_elem s) (next_con s)))
 progress_by_words v s line first rest k is keyword = ap (progress_after_words (Within v s)) (is.words_are v) ∙ ap (λ (o : Option Keyword). progress_within v s o rest) keyword
 
 pub different_bytes : (a b : List ℕ) → a ≢ b → bytes_eq a b ≡ false
@@ -118,13 +119,13 @@ length_back x is back = rw back (length_by x.0 is.0)
 -- an element's words and its line, which is written
 pub words_written : (name : List ℕ) (s : Shape) → IsTrue (is_name name) → IsSoundShape s → AreWritten (shape_words name s)
 words_written name (shape.Point x y) is sound =
-    (literal (codes "point") (omega arith) (omega arith) refl, (name_written name is, (mm_written x.0 (magnitude_within 1000000000 x.0 sound.0), (mm_written y.0 (magnitude_within 1000000000 y.0 sound.1), tt))))
+    (literal (codes "point") 16 (omega arith) (omega arith) refl, (name_spelled name is, (mm_written x.0 (magnitude_within 1000000000 x.0 sound.0), (mm_written y.0 (magnitude_within 1000000000 y.0 sound.1), tt))))
 words_written name (shape.Line x1 y1 x2 y2) is sound =
-    (literal (codes "line") (omega arith) (omega arith) refl, (name_written name is, (mm_written x1.0 (magnitude_within 1000000000 x1.0 sound.0), (mm_written y1.0 (magnitude_within 1000000000 y1.0 sound.1), (mm_written x2.0 (magnitude_within 1000000000 x2.0 sound.2), (mm_written y2.0 (magnitude_within 1000000000 y2.0 sound.3), tt))))))
+    (literal (codes "line") 16 (omega arith) (omega arith) refl, (name_spelled name is, (mm_written x1.0 (magnitude_within 1000000000 x1.0 sound.0), (mm_written y1.0 (magnitude_within 1000000000 y1.0 sound.1), (mm_written x2.0 (magnitude_within 1000000000 x2.0 sound.2), (mm_written y2.0 (magnitude_within 1000000000 y2.0 sound.3), tt))))))
 words_written name (shape.Circle x y r) is sound =
-    (literal (codes "circle") (omega arith) (omega arith) refl, (name_written name is, (mm_written x.0 (magnitude_within 1000000000 x.0 sound.0), (mm_written y.0 (magnitude_within 1000000000 y.0 sound.1), (mm_written r.0 (magnitude_within 1000000000 r.0 (length_within r sound.2)), tt)))))
+    (literal (codes "circle") 16 (omega arith) (omega arith) refl, (name_spelled name is, (mm_written x.0 (magnitude_within 1000000000 x.0 sound.0), (mm_written y.0 (magnitude_within 1000000000 y.0 sound.1), (mm_written r.0 (magnitude_within 1000000000 r.0 (length_within r sound.2)), tt)))))
 
-pub shape_written : (name : List ℕ) (s : Shape) → IsTrue (is_name name) → IsSoundShape s → IsWrittenLine (spaced (shape_words name s)) (shape_words name s)
+pub shape_written : (name : List ℕ) (s : Shape) → IsTrue (is_name name) → IsSoundShape s → IsLineOf (spaced (shape_words name s)) (shape_words name s)
 shape_written name (shape.Point x y) is sound = written_line (codes "point") (name ∷ mm_text x.0 ∷ mm_text y.0 ∷ []) (words_written name (shape.Point x y) is sound) (omega arith)
 shape_written name (shape.Line x1 y1 x2 y2) is sound = written_line (codes "line") (name ∷ mm_text x1.0 ∷ mm_text y1.0 ∷ mm_text x2.0 ∷ mm_text y2.0 ∷ []) (words_written name (shape.Line x1 y1 x2 y2) is sound) (omega arith)
 shape_written name (shape.Circle x y r) is sound = written_line (codes "circle") (name ∷ mm_text x.0 ∷ mm_text y.0 ∷ mm_text r.0 ∷ []) (words_written name (shape.Circle x y r) is sound) (omega arith)

@@ -35,7 +35,8 @@ use Rattle.sk_lang.proofs.Again.{code_by_words, progress_by_words, different_byt
 use Rattle.sk_lang.proofs.Passing.{Passes, passes_to}
 use Rattle.sk_lang.proofs.PinTests.{in_threes, places_length, tested}
 use Rattle.sk_lang.proofs.RulesAgain.{rules_so_far, among, labels_apart, again_named, ruled, room_left, IsRuleAgain}
-use Rattle.sk_lang.proofs.Written.{IsWrittenLine, AreWritten, literal, name_written, mm_written, magnitude_within, fitting_line}
+use Rattle.sk_lang.proofs.SolidLines.{IsLineOf, literal, name_spelled, fitting_line}
+use Rattle.sk_lang.proofs.Written.{AreWritten, mm_written, magnitude_within, written_solid}
 
 -- a pin's words as they are written
 abbrev pin_written : Sketch → Pin → PinWords
@@ -93,7 +94,7 @@ module _ (s : Sketch) (done : List Constraint) (sound : IsSoundSketch s) where
       let k = kept pin (contains_head pin pins) in
       let on = sheet pin (contains_head pin pins) in
       let rest = pins_written pins (λ p there. kept p (contains_later pin pins p there)) (λ p there. sheet p (contains_later pin pins p there)) in
-      (rw (name_is s pin k) (name_written k.element.label k.name), (mm_written pin.x.0 (magnitude_within 1000000000 pin.x.0 on.0), (mm_written pin.y.0 (magnitude_within 1000000000 pin.y.0 on.1), rest)))
+      (rw (name_is s pin k) (name_spelled k.element.label k.name), (mm_written pin.x.0 (magnitude_within 1000000000 pin.x.0 on.0), (mm_written pin.y.0 (magnitude_within 1000000000 pin.y.0 on.1), rest)))
 
   none_mapped : (test : PinWords → Bool) (pins : List Pin) → ((pin : Pin) → Contains pins pin → test (pin_written s pin) ≡ false) → list_any test (map (pin_written s) pins) ≡ false
   none_mapped test [] fails = refl
@@ -155,7 +156,7 @@ block_again s done number (pin ∷ pins) sound block few =
     let rest = flat_map (pin_words s) all in
     let sheet : (p : Pin) → Contains all p → IsOnSheet p = λ p there. All-contains IsOnSheet all p block.sound.on_sheet there in
     let kept : (p : Pin) → Contains all p → IsKept s p = λ p there. kept_by s p (element_of s p.elem) sound refl (All-contains (λ (q : Pin). IsCentred (option_map (λ (x : Element). x.shape) (element_of s q.elem))) all p block.centred there) (sheet p there) in
-    let w : IsWrittenLine (spaced (codes "block" ∷ rest)) (codes "block" ∷ rest) = fitting_line (codes "block") rest (literal (codes "block") (omega arith) (omega arith) refl, pins_written s done sound all kept sheet) block.fits in
+    let w : IsLineOf (spaced (codes "block" ∷ rest)) (codes "block" ∷ rest) = fitting_line (codes "block") rest (written_solid (codes "block" ∷ rest) (literal (codes "block") 16 (omega arith) (omega arith) refl, pins_written s done sound all kept sheet)) block.fits in
     let passes = passes_back s done sound all block kept few in
     let read : rule.Block (map (pin_asked so_far) (pins_in rest)) ≡ rule.Block (map (pin_renumbered s) all) =
     ap (λ (ps : List PinWords). rule.Block (map (pin_asked so_far) ps)) (pins_back s all) ∙ ap (λ (ps : List Pin). rule.Block ps) (all_back s done sound all kept) in

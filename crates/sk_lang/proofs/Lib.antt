@@ -34,6 +34,7 @@ pub mod SameEntries
 pub mod SameNumbers
 pub mod SomeFronts
 pub mod Shorter
+pub mod SolidLines
 pub mod Sound
 pub mod Standing
 pub mod WholeLines

@@ -34,7 +34,8 @@ use Rattle.sk_lang.specs.Renumbered.{elements_from, place_of, rule_renumbered, c
 use Rattle.sk_base.proofs.Finding.{found_in}
 use Rattle.sk_lang.proofs.Fitting.{takes_apart, takes_on, takes_tangent, takes_outside, takes_angle, takes_inside}
 use Rattle.sk_lang.proofs.Passing.{Passes, passes_to}
-use Rattle.sk_lang.proofs.Written.{IsWrittenLine, literal, name_written, mm_written, magnitude_within, written_line}
+use Rattle.sk_lang.proofs.SolidLines.{IsLineOf, literal, name_spelled}
+use Rattle.sk_lang.proofs.Written.{mm_written, magnitude_within, written_line}
 use Rattle.sk_lang.proofs.RatioBack.{ratio_tests, ratio_back, ratio_text_written}
 use Rattle.sk_lang.proofs.Again.{shared, code_by_words, progress_by_words, different_bytes, found_again, coordinate_back, length_within, length_back, um_back}
 
@@ -120,7 +121,7 @@ room_left s done few = let len = length_rules s 1 done in grind (arith, nat_test
 -- the line of a constraint is read as that constraint, with the next number
 abbrev pub IsRuleAgain : Version → Sketch → List Constraint → ConId → Rule → List (List ℕ) → Type 0
 IsRuleAgain v s done number asked words =
-    IsWrittenLine (spaced words) words
+    IsLineOf (spaced words) words
     × (code_of (Within v (rules_so_far s done)) (spaced words) ≡ None)
     × (progress_after (Within v (rules_so_far s done)) (spaced words) ≡ Within v (rules_so_far s (done ++ record { number = number; rule = asked } ∷ [])))
 
@@ -149,7 +150,7 @@ distance_again version s done number u v len sound is few =
     let tests = length_back len is.1 back in
     let rest = j.first.label ∷ j.second.label ∷ mm_text len.0 ∷ [] in
     let words = codes "distance" ∷ rest in
-    let w : IsWrittenLine (spaced words) words = written_line (codes "distance") rest (literal (codes "distance") (omega arith) (omega arith) refl, (name_written j.first.label j.first_name, (name_written j.second.label j.second_name, (mm_written len.0 (magnitude_within 1000000000 len.0 (length_within len is.1)), tt)))) (omega arith) in
+    let w : IsLineOf (spaced words) words = written_line (codes "distance") rest (literal (codes "distance") 16 (omega arith) (omega arith) refl, (name_spelled j.first.label j.first_name, (name_spelled j.second.label j.second_name, (mm_written len.0 (magnitude_within 1000000000 len.0 (length_within len is.1)), tt)))) (omega arith) in
     let passes : Passes so_far Distance rest = record {
       radius = refl;
       count = refl;
@@ -177,7 +178,7 @@ on_again version s done number u v sound is few =
     let n = named_again s done MayLieOn u v j sound in
     let rest = j.first.label ∷ j.second.label ∷ [] in
     let words = codes "on" ∷ rest in
-    let w : IsWrittenLine (spaced words) words = written_line (codes "on") rest (literal (codes "on") (omega arith) (omega arith) refl, (name_written j.first.label j.first_name, (name_written j.second.label j.second_name, tt))) (omega arith) in
+    let w : IsLineOf (spaced words) words = written_line (codes "on") rest (literal (codes "on") 16 (omega arith) (omega arith) refl, (name_spelled j.first.label j.first_name, (name_spelled j.second.label j.second_name, tt))) (omega arith) in
     let passes : Passes so_far On rest = record {
       radius = refl;
       count = refl;
@@ -204,7 +205,7 @@ tangent_again version s done number u v sound is few =
     let n = named_again s done MayBeTangent u v j sound in
     let rest = j.first.label ∷ j.second.label ∷ [] in
     let words = codes "tangent" ∷ rest in
-    let w : IsWrittenLine (spaced words) words = written_line (codes "tangent") rest (literal (codes "tangent") (omega arith) (omega arith) refl, (name_written j.first.label j.first_name, (name_written j.second.label j.second_name, tt))) (omega arith) in
+    let w : IsLineOf (spaced words) words = written_line (codes "tangent") rest (literal (codes "tangent") 16 (omega arith) (omega arith) refl, (name_spelled j.first.label j.first_name, (name_spelled j.second.label j.second_name, tt))) (omega arith) in
     let passes : Passes so_far Tangent rest = record {
       radius = refl;
       count = refl;
@@ -231,7 +232,7 @@ outside_again version s done number u v sound is few =
     let n = named_again s done AreCircles u v j sound in
     let rest = j.first.label ∷ j.second.label ∷ [] in
     let words = codes "outside" ∷ rest in
-    let w : IsWrittenLine (spaced words) words = written_line (codes "outside") rest (literal (codes "outside") (omega arith) (omega arith) refl, (name_written j.first.label j.first_name, (name_written j.second.label j.second_name, tt))) (omega arith) in
+    let w : IsLineOf (spaced words) words = written_line (codes "outside") rest (literal (codes "outside") 16 (omega arith) (omega arith) refl, (name_spelled j.first.label j.first_name, (name_spelled j.second.label j.second_name, tt))) (omega arith) in
     let passes : Passes so_far Outside rest = record {
       radius = refl;
       count = refl;
@@ -258,7 +259,7 @@ inside_again version s done number u v sound is few =
     let n = named_again s done MayNest u v j sound in
     let rest = j.first.label ∷ j.second.label ∷ [] in
     let words = codes "inside" ∷ rest in
-    let w : IsWrittenLine (spaced words) words = written_line (codes "inside") rest (literal (codes "inside") (omega arith) (omega arith) refl, (name_written j.first.label j.first_name, (name_written j.second.label j.second_name, tt))) (omega arith) in
+    let w : IsLineOf (spaced words) words = written_line (codes "inside") rest (literal (codes "inside") 16 (omega arith) (omega arith) refl, (name_spelled j.first.label j.first_name, (name_spelled j.second.label j.second_name, tt))) (omega arith) in
     let passes : Passes so_far Inside rest = record {
       radius = refl;
       count = refl;
@@ -286,7 +287,7 @@ angle_again version s done number l m slope sound is few =
     let tests = ratio_tests slope is.1 in
     let rest = j.first.label ∷ j.second.label ∷ ratio_text slope ∷ [] in
     let words = codes "angle" ∷ rest in
-    let w : IsWrittenLine (spaced words) words = written_line (codes "angle") rest (literal (codes "angle") (omega arith) (omega arith) refl, (name_written j.first.label j.first_name, (name_written j.second.label j.second_name, (ratio_text_written slope is.1, tt)))) (omega arith) in
+    let w : IsLineOf (spaced words) words = written_line (codes "angle") rest (literal (codes "angle") 16 (omega arith) (omega arith) refl, (name_spelled j.first.label j.first_name, (name_spelled j.second.label j.second_name, (ratio_text_written slope is.1, tt)))) (omega arith) in
     let passes : Passes so_far Angle rest = record {
       radius = refl;
       count = refl;

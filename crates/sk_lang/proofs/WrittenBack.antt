@@ -27,7 +27,7 @@ use Rattle.sk_lang.specs.Canonical.{element_line, constraint_line, ended_lines, 
 use Rattle.sk_lang.specs.Renumbered.{elements_from, renumbered}
 use Rattle.sk_lang.proofs.ReadBack.{IsLine, lines_in-ended}
 use Rattle.sk_lang.proofs.Declaring.{first_of_two}
-use Rattle.sk_lang.proofs.Written.{is_plain, plain_text}
+use Rattle.sk_lang.proofs.SolidLines.{is_plain, plain_text}
 use Rattle.sk_lang.proofs.Again.{elements_so_far, element_again, shape_written, shape_short, IsReadAgain, length_from}
 use Rattle.sk_lang.proofs.RulesAgain.{rules_so_far, IsRuleAgain, distance_again, on_again, tangent_again, outside_again, inside_again, angle_again}
 use Rattle.sk_lang.proofs.BlockAgain.{block_again}
