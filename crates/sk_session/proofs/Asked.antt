@@ -29,7 +29,8 @@ use Rattle.sk_session.specs.Commands.{command_of, command_rows, own_rows, word_r
 use Rattle.sk_session.specs.Edits.{sketch_of}
 use Rattle.sk_session.specs.State.{State, sketch_in}
 use Rattle.sk_session.specs.Replies.{IsThePlan, Only, Stands, Obeys, ObeysWords, Enters, ByCode, Answers, next_elem, next_con}
-use Rattle.sk_session.proofs.ToSolve.{none_behind, some_left}
+use Rattle.sk_lang.proofs.FirstCodes.{none_behind}
+use Rattle.sk_session.proofs.ToSolve.{some_left}
 
 -- a line that says neither an element nor a constraint, and isn't blank, begins with another word than those lines do
 abbrev pub OtherBegins : Type 0

@@ -11,28 +11,13 @@ use Rattle.sk_lang.specs.declared.Entry.TheVariants as entry
 use Rattle.sk_lang.specs.Codes.{byte_rows}
 use Rattle.sk_lang.specs.Entry.{rows_of, entry_code, IsEntryOf, Begins}
 use Rattle.sk_lang.specs.FirstCode.{first_code}
+use Rattle.sk_lang.proofs.FirstCodes.{code_front, code_behind}
 use Rattle.sk_session.specs.declared.edit.Edit.{Edit}
 use Rattle.sk_session.specs.declared.reply.Reply.{Reply}
 use Rattle.sk_session.specs.declared.reply.Reply.TheVariants as reply
 use Rattle.sk_session.specs.State.{State, sketch_in}
 use Rattle.sk_session.specs.Commands.{is_spent, own_rows, word_rows, command_rows, command_of, code_in}
 use Rattle.sk_session.specs.Replies.{Takes, Stands, Enters, Obeys, ObeysWords, ByCode, Answers, next_elem, next_con}
-
-pub code_front : (rows more : List (Bool × Code)) (code : Code) → first_code rows ≡ Some code → first_code (rows ++ more) ≡ Some code
-code_front [] more code is = cc
-code_front (row ∷ rows) more code is = told row.0 refl is (code_front rows more code)
-  where
-    told : (t : Bool) → row.0 ≡ t → cond t (Some row.1) (first_code rows) ≡ Some code → (first_code rows ≡ Some code → first_code (rows ++ more) ≡ Some code) → cond row.0 (Some row.1) (first_code (rows ++ more)) ≡ Some code
-    told true here is later = rw here is
-    told false here is later = rw here (later is)
-
-pub code_behind : (rows more : List (Bool × Code)) → first_code rows ≡ None → first_code (rows ++ more) ≡ first_code more
-code_behind [] more is = refl
-code_behind (row ∷ rows) more is = told row.0 refl is (code_behind rows more)
-  where
-    told : (t : Bool) → row.0 ≡ t → cond t (Some row.1) (first_code rows) ≡ None → (first_code rows ≡ None → first_code (rows ++ more) ≡ first_code more) → cond row.0 (Some row.1) (first_code (rows ++ more)) ≡ first_code more
-    told true here is later = cc
-    told false here is later = rw here (later is)
 
 -- an edit is accepted by the last row of its table
 pub takes_by_code : (rows : List (Bool × Code)) (spent : Bool) (made : Option Edit) (old : State) (e : Edit) (this said : Reply) (new : State) → first_code rows ≡ None → made ≡ Some e

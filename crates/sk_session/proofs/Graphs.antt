@@ -19,7 +19,7 @@ use Rattle.sk_base.proofs.Members.{contains_none, contains_mapped, mapped_from, 
 use Rattle.sk_base.proofs.Numbers.{other_passes, passes_differ}
 use Rattle.sk_base.proofs.Unions.{union_cases}
 use Rattle.sk_family.specs.Body.{Start, starts, starting, initial_bodies}
-use Rattle.sk_family.proofs.Bodies.{con_settles}
+use Rattle.sk_base.proofs.Deciding.{con_settles}
 use Rattle.sk_family.proofs.GraphStarts.{start_at}
 use Rattle.sk_rules.specs.Rules.{IsLine}
 use Rattle.sk_rules.specs.Keeping.{HasOneMore, HasAllBut, KeepsKinds}

@@ -12,6 +12,7 @@ use Rattle.sk_base.specs.declared.Graph.{Graph}
 use Rattle.sk_base.specs.declared.Sketch.{Sketch}
 use Rattle.sk_base.specs.SoundGraph.{IsSoundGraph}
 use Rattle.sk_base.specs.SoundSketch.{IsSoundSketch}
+use Rattle.sk_base.proofs.Splits.{last_or_none}
 use Rattle.sk_base.proofs.Tables.{passed}
 use Rattle.sk_family.specs.Clusters.{Clusters, bodies, IsSound}
 use Rattle.sk_family.proofs.Soundness.{sound_replaced}
@@ -60,7 +61,8 @@ use Rattle.sk_session.specs.Making.{CanMake}
 use Rattle.sk_session.specs.Standing.{edits_of, Gives, IsConsistent, element_after, element_before}
 use Rattle.sk_session.specs.State.{State, sketch_in, graph_in, fresh, Accepts, TakesBack, Closes}
 use Rattle.sk_session.specs.Replies.{IsThePlan, Stands, Takes, Obeys, Enters, ByCode, Answers, next_elem, next_con}
-use Rattle.sk_session.proofs.Coding.{code_front, code_behind, answers_entry, answers_command, answers_refused}
+use Rattle.sk_lang.proofs.FirstCodes.{code_front, code_behind}
+use Rattle.sk_session.proofs.Coding.{answers_entry, answers_command, answers_refused}
 use Rattle.sk_session.proofs.Consistency.{edits_push, consistent_made, consistent_undone, consistent_merged, last_led}
 use Rattle.sk_session.proofs.Numbers.{elements_below, constraints_below}
 use Rattle.sk_session.proofs.Possible.{SoundQuantities, sound_value, can_declare, can_constrain, can_change}
@@ -119,15 +121,6 @@ accepted old (done, same, k) room e can given =
             (subst (λ n. IsConsistent (done ++ d ∷ []) (sketch_in new) (element_after e (next_element old.edits)) n new.count new.family) con made),
       );
     }
-
--- a list has a last item, or none
-pub last_or_none : {X : Type 0} (xs : List X) → (xs ≡ []) ⊎ ((before : List X) × (last : X) × (xs ≡ before ++ last ∷ []))
-last_or_none [] = inl refl
-last_or_none {X} (x ∷ xs) =
-    elim (last_or_none xs) [
-      | inl none ↦ inr ([], x, ap (λ (ys : List X). x ∷ ys) none)
-      | inr (before, last, is) ↦ inr (x ∷ before, last, ap (λ (ys : List X). x ∷ ys) is)
-    ]
 
 record HasTakenBack (old : State) : Type 0 where
   new : State

@@ -13,6 +13,7 @@ use Rattle.sk_lang.specs.declared.Entry.TheVariants as entry
 use Rattle.sk_lang.specs.Codes.{byte_rows, is_none_left}
 use Rattle.sk_lang.specs.Entry.{rows_of, IsEntryOf, StandsOn}
 use Rattle.sk_lang.specs.FirstCode.{first_code}
+use Rattle.sk_lang.proofs.FirstCodes.{none_behind}
 use Rattle.sk_session.specs.declared.command.Command.{Command}
 use Rattle.sk_session.specs.declared.command.Command.TheVariants.{Change, Undo, Check, Plan, Solve, Write, End}
 use Rattle.sk_session.specs.declared.edit.Edit.{Edit}
@@ -23,15 +24,6 @@ use Rattle.sk_session.specs.Commands.{command_of, command_rows, word_rows, edit_
 use Rattle.sk_session.specs.State.{State, sketch_in}
 use Rattle.sk_session.specs.Replies.{Stands, Obeys, ObeysWords, Enters, ByCode, Answers, next_elem, next_con}
 use Rattle.sk_session.proofs.Coding.{code_of_command}
-
--- without a code the later rows have none
-pub none_behind : (rows more : List (Bool × Code)) → first_code (rows ++ more) ≡ None → first_code more ≡ None
-none_behind [] more is = is
-none_behind (row ∷ rows) more is = told row.0 is (none_behind rows more)
-  where
-    told : (t : Bool) → cond t (Some row.1) (first_code (rows ++ more)) ≡ None → (first_code (rows ++ more) ≡ None → first_code more ≡ None) → first_code more ≡ None
-    told true is later = absurd (cc)
-    told false is later = later is
 
 pub some_left : (xs : List Element) → is_none_left xs ≡ false → 0 < length xs
 some_left [] is = absurd (cc)

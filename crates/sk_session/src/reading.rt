@@ -4,15 +4,13 @@ ghost use Rattle.sk_base.specs.declared.Constraint.{Constraint as AConstraint};
 ghost use Rattle.sk_base.specs.Rising.{IsRising};
 ghost use Rattle.sk_lex.specs.Words.{bytes_of, StandInOrder};
 ghost use Rattle.sk_lang.specs.FirstCode.{first_code};
-ghost use Rattle.sk_lang.specs.Named.{element_named};
 ghost use Rattle.std.specs.Option.{option_map};
 ghost use Rattle.std.specs.List.{list_any};
 ghost use Rattle.sk_lang.specs.Conditions.{is_zero};
 ghost use Rattle.sk_lang.specs.Quantities.{length_of, ratio_of, um, ratio};
-ghost use Rattle.sk_lang.specs.declared.Code.TheVariants.{E6, E8, E9, S1, S2};
+ghost use Rattle.sk_lang.specs.declared.Code.TheVariants.{E8, E9, S1, S2};
 ghost use Rattle.sk_session.specs.declared.edit.Edit.TheVariants as an_edit;
 ghost use Rattle.sk_session.specs.declared.command.Change.TheVariants as a_change;
-ghost use Rattle.sk_base.specs.declared.Element.{Element as AnElement};
 ghost use Rattle.sk_base.specs.declared.Pin.{Pin as APin};
 ghost use Rattle.sk_base.specs.Numbering.{is_elem};
 ghost use Rattle.sk_graph.specs.Naming.{named_by};
@@ -23,8 +21,8 @@ ghost use Rattle.sk_session.specs.Making.{HasSoundValue};
 use crate::command::Change;
 use crate::edit::Edit;
 use crate::numbered::item_of;
-use sk_base::{ConId, Constraint, Elem, Element, Label, Pin, Rule, Sketch};
-use sk_lang::{Code, label, length, not_zero, plain_number, slope, word};
+use sk_base::{ConId, Constraint, Elem, Pin, Rule, Sketch};
+use sk_lang::{Code, element_named, label, length, not_zero, plain_number, slope, word};
 use sk_lex::Word;
 
 /// The number that a word is.
@@ -53,26 +51,6 @@ fn find_numbered(sketch: &Sketch, number: ConId) -> Option<&Constraint>
     ensures { option_copied result ≡ constraint_with sketch.now number }
 {
     item_of(sketch.constraints.as_slice(), number.0)
-}
-
-/// The element of that name.
-fn named(sketch: &Sketch, name: Label) -> Result<Elem, Code>
-    ensures { MatchResult result (λ x. (e : AnElement) × (element_named sketch.now name ≡ Some e) × (e.number ≡ x)) (λ code. (element_named sketch.now name ≡ None) × (code ≡ E6)) }
-{
-    match find_named(sketch, name) {
-        Some(element) => Ok(element.number),
-        None => Err(Code::E6),
-    }
-}
-
-fn find_named(sketch: &Sketch, name: Label) -> Option<&Element>
-    ensures { option_copied result ≡ element_named sketch.now name }
-{
-    sketch
-        .elements
-        .as_slice()
-        .iter()
-        .find(|element| name.as_bytes() == element.label.as_bytes())
 }
 
 /// Whether a constraint names the element.
@@ -171,7 +149,7 @@ fn read_erase(sketch: &Sketch, name: &[u8]) -> Result<Edit, Code>
     ensures value { IfOk result HasSoundValue }
 {
     let name = label(name)?;
-    let number = named(sketch, name)?;
+    let number = element_named(sketch, name)?.number;
     if is_used(sketch, number) {
         return Err(Code::S2);
     }

@@ -11,7 +11,8 @@ use Rattle.sk_session.specs.Commands.{change_rows, edit_made, from_made, is_spen
 use Rattle.sk_session.specs.Making.{CanMake, HasSoundValue}
 use Rattle.sk_session.specs.State.{sketch_in}
 use Rattle.sk_session.specs.Replies.{Stands, ByCode}
-use Rattle.sk_session.proofs.Coding.{code_front, takes_by_code}
+use Rattle.sk_lang.proofs.FirstCodes.{code_front}
+use Rattle.sk_session.proofs.Coding.{takes_by_code}
 use Rattle.sk_session.proofs.Possible.{can_change, from_ok, from_err}
 use Rattle.sk_session.proofs.session.Session.alter.Goals as goal
 
