@@ -1,6 +1,6 @@
 -- How each constraint is decided, and what has been decided so far.
-use Rattle.std.proofs.Common.{◌≡◌, ◌⊎◌, inl, inr, ℕ, ◌+◌, ◌*◌, ◌<◌, ◌≤◌, Bool, true, false, List, [], ◌∷◌, ◌++◌, length, get_or, take, ap, sym, subst, ◌∙◌, arith}
-use Rattle.std.specs.Prelude.{map, Contains, AllPairs, IsTrue, IfOk, Result, Ok, Err, ◌↔◌}
+use Rattle.std.proofs.Common.{◌≡◌, ◌⊎◌, inl, inr, ℕ, ◌+◌, ◌*◌, ◌<◌, ◌≤◌, Bool, true, false, List, [], ◌∷◌, ◌++◌, length, get_or, take, drop, ap, sym, subst, ◌∙◌, arith}
+use Rattle.std.specs.Prelude.{map, Contains, AllPairs, IsTrue, ◌↔◌}
 use Rattle.std.proofs.lemmas.List.Elements.{Contains-push_cases, Contains-append_left, Contains-append_right}
 use Rattle.std.proofs.lemmas.List.{length-map, take_more, take_all, get_or-map, get_or_default}
 use Rattle.sk_base.specs.declared.ConId.{ConId}
@@ -18,11 +18,14 @@ use Rattle.sk_family.specs.Clusters.{Clusters, bodies, body_of, start_of}
 use Rattle.sk_family.specs.Starting.{any_start}
 use Rattle.sk_family.proofs.GraphStarts.{starts_few}
 use Rattle.sk_rules.specs.Excess.{weight_of, OwnsEnough, AreConstraints}
-use Rattle.sk_rules.specs.Reach.{IsNormal}
+use Rattle.sk_rules.specs.Reach.{IsClosed, IsNormal}
 use Rattle.sk_rules.proofs.NormalForm.{normal_same}
 use Rattle.sk_rules.proofs.Counting.{reached_tight}
-use Rattle.sk_spare.specs.Sparing.{HoldsAll, IsOwner, IsSpare}
-use Rattle.sk_spare.specs.Trying.{trial_graph}
+use Rattle.sk_spare.specs.Sparing.{IsOwner, IsSpare}
+use Rattle.sk_spare.specs.Trying.{some_holds}
+use Rattle.sk_spare.specs.Halving.{IsMadeOf, too, AreFurther, IsBeside, IsIn}
+use Rattle.sk_spare.proofs.PutBack.{trial_normal, early_further, late_further, early_back, late_back}
+use Rattle.sk_spare.proofs.Holding.{test_tells}
 use Rattle.sk_spare.proofs.LeavingOut.{distinct, owns_more, trial_decides}
 
 -- what a body owns are constraints of the graph
@@ -49,22 +52,118 @@ owned_constraints g f sound normal x x_in =
 pub owns_enough : (g : Graph) (f : List Body) → IsSoundGraph g → IsNormal g f → (x : Body) → Contains f x → OwnsEnough g x
 owns_enough g f sound normal x x_in = (reached_tight g f sound.edges_rise normal.reached).enough x x_in
 
-module _ (g : Graph) (f : List Body) (k : ConId) (x : Body) (sound : IsSoundGraph g) (own : IsOwner g f k x) where
-  pub by_trial : (t : Bool) → (n : List Body) × IsNormal (trial_graph x.owned k g) n × (IsTrue t ↔ HoldsAll n x.elements) → IsTrue t ↔ IsSpare g k
-  by_trial t (n, normal, tells) =
-      let decides = trial_decides g f n k x sound own normal in
-      ((λ h. decides.1 (tells.0 h)), (λ s. tells.1 (decides.0 s)))
+-- a constraint that the body owns, where it stands in a normal family
+pub owner_in : (g : Graph) (f : List Body) (x : Body) → IsIn g f x → (k : ConId) → Contains x.owned k → IsOwner g f k x
+owner_in g f x is k owns = record { normal = is.normal; in_family = is.in_family; owns = owns }
 
-  pub by_count : ¬ (2 * length x.elements < weight_of g x.owned + 3) → IsTrue false ↔ IsSpare g k
-  by_count enough = ((λ h. (let never : false ≡ true = h in absurd (cc))), (λ s. absurd (enough (owns_more g f k x sound own s))))
+-- with no more than is due, a body owns no spare constraint
+pub none_of_enough : (g : Graph) (f : List Body) (x : Body) → IsSoundGraph g → IsIn g f x → ¬ (2 * length x.elements < weight_of g x.owned + 3) → (k : ConId) → Contains x.owned k → ¬ IsSpare g k
+none_of_enough g f x sound is enough k owns s = enough (owns_more g f k x sound (owner_in g f x is k owns) s)
 
-pub by_none : (g : Graph) (f : Clusters) (k : ConId) → IsSoundGraph g → IsNormal g (bodies f) → ((c : Cluster) → Contains f.live c → ¬ Contains c.owned k) → IsTrue false ↔ IsSpare g k
-by_none g f k sound normal none = (
-  (λ h. (let never : false ≡ true = h in absurd (cc))),
+-- the family of all others that the owner has decides
+pub one_decides : (g : Graph) (f : List Body) (x : Body) → IsSoundGraph g → IsIn g f x → (k : ConId) → Contains x.owned k → (p : ConId → Bool) (n : Clusters) → IsBeside g x.owned (k ∷ []) p (bodies n)
+    → (t : Bool) → t ≡ some_holds n.live x.elements → IsTrue t ↔ IsSpare g k
+one_decides g f x sound is k owns p n beside t told =
+    let decides = trial_decides g f (bodies n) k x sound (owner_in g f x is k owns) (trial_normal g x.owned k p (bodies n) beside) in
+    let tells = test_tells n.live x.elements in (
+      (λ h. decides.1 (tells.0 (subst (λ (b : Bool). IsTrue b) told h))),
+      (λ s. subst (λ (b : Bool). IsTrue b) (sym told) (tells.1 (decides.0 s))),
+    )
+
+-- where some of the owner's constraints are set aside, each half of them can be put back
+module _ (g : Graph) (x : Body) (sound : IsSoundGraph g) (owner : (f : List Body) × IsIn g f x) (aside : List ConId) (rise : IsRising con_number aside)
+    (owned : (k : ConId) → Contains aside k → Contains x.owned k) (family : Clusters) (beside : (p : ConId → Bool) × IsBeside g x.owned aside p (bodies family)) (i : ℕ) where
+  owner_there : (k : ConId) → Contains x.owned k → (s : Start) × Contains (starts g) s × (s.number ≡ k)
+  owner_there = (owned_constraints g owner.0 sound owner.1.normal x owner.1.in_family).there
+
+  pub late_can : (p : ConId → Bool) × (AreFurther g p (drop i aside) × IsMadeOf g p (bodies family))
+  late_can = (beside.0, (late_further g x.owned aside beside.0 (bodies family) beside.1 rise owned owner_there i, beside.1.made))
+
+  pub early_can : (p : ConId → Bool) × (AreFurther g p (take i aside) × IsMadeOf g p (bodies family))
+  early_can = (beside.0, (early_further g x.owned aside beside.0 (bodies family) beside.1 rise owned owner_there i, beside.1.made))
+
+  pub with_late : i ≤ length aside → (more : Clusters) → ((p : ConId → Bool) → AreFurther g p (drop i aside) → IsMadeOf g p (bodies family) → IsMadeOf g (too p (drop i aside)) (bodies more))
+      → IsClosed g (bodies more) → (q : ConId → Bool) × IsBeside g x.owned (take i aside) q (bodies more)
+  unfolding late_can
+  with_late i_in more made closed = (
+    too beside.0 (drop i aside),
+    late_back g x.owned aside beside.0 (bodies family) beside.1 rise owned owner_there i i_in (bodies more) (made beside.0 late_can.1.0 late_can.1.1) closed,
+  )
+
+  pub with_early : i ≤ length aside → (more : Clusters) → ((p : ConId → Bool) → AreFurther g p (take i aside) → IsMadeOf g p (bodies family) → IsMadeOf g (too p (take i aside)) (bodies more))
+      → IsClosed g (bodies more) → (q : ConId → Bool) × IsBeside g x.owned (drop i aside) q (bodies more)
+  unfolding early_can
+  with_early i_in more made closed = (
+    too beside.0 (take i aside),
+    early_back g x.owned aside beside.0 (bodies family) beside.1 rise owned owner_there i i_in (bodies more) (made beside.0 early_can.1.0 early_can.1.1) closed,
+  )
+
+module _ (P : ConId → Type 0) (old : List ConId) where
+  pub found_one : (number : ConId) → P number → (k : ConId) → Contains (old ++ number ∷ []) k ↔ (Contains old k ⊎ ((k ≡ number) × P k))
+  found_one number has k = (
+    (λ h. elim (Contains-push_cases old number k h) [
+      | inl before ↦ inl before
+      | inr here ↦ inr (sym here, subst (λ j. P j) here has)
+    ]),
+    (λ h. elim h [
+      | inl before ↦ Contains-append_left old (number ∷ []) k before
+      | inr here ↦ Contains-append_right old (number ∷ []) k (subst (λ j. Contains (number ∷ []) j) (sym here.0) (contains_head number []))
+    ]),
+  )
+
+  pub found_none : (number : ConId) → ¬ P number → (k : ConId) → Contains old k ↔ (Contains old k ⊎ ((k ≡ number) × P k))
+  found_none number lacks k = (
+    (λ h. inl h),
+    (λ h. elim h [ inl before ↦ before | inr here ↦ absurd (lacks (subst (λ j. P j) here.0 here.1)) ]),
+  )
+
+  pub found_nothing : (owned : List ConId) → ((k : ConId) → Contains owned k → ¬ P k) → (k : ConId) → Contains old k ↔ (Contains old k ⊎ (Contains owned k × P k))
+  found_nothing owned lacks k = (
+    (λ h. inl h),
+    (λ h. elim h [ inl before ↦ before | inr here ↦ absurd (lacks k here.0 here.1) ]),
+  )
+
+-- one of the clusters owns the constraint
+abbrev pub IsOwnedBy : List Cluster → ConId → Type 0
+IsOwnedBy clusters k = (c : Cluster) × Contains clusters c × Contains c.owned k
+
+module _ (P : ConId → Type 0) (clusters : List Cluster) (i : ℕ) where
+  -- with those of one cluster more
+  pub found_of_one : (c : Cluster) → i < length clusters → c ≡ get_or clusters i c → (old new : List ConId)
+      → ((k : ConId) → Contains old k ↔ (IsOwnedBy (take i clusters) k × P k)) → ((k : ConId) → Contains new k ↔ (Contains old k ⊎ (Contains c.owned k × P k)))
+      → (k : ConId) → Contains new k ↔ (IsOwnedBy (take (i + 1) clusters) k × P k)
+  found_of_one c i_in is old new were are k =
+      let more : take (i + 1) clusters ≡ take i clusters ++ c ∷ [] = take_more clusters i c i_in ∙ ap (λ d. take i clusters ++ d ∷ []) (sym is) in (
+        (λ h. elim ((are k).0 h) [
+          | inl before ↦ (
+              let was = (were k).0 before in
+              ((was.0.0, subst (λ cs. Contains cs was.0.0) (sym more) (Contains-append_left (take i clusters) (c ∷ []) was.0.0 was.0.1), was.0.2), was.1))
+          | inr here ↦ ((c, subst (λ cs. Contains cs c) (sym more) (Contains-append_right (take i clusters) (c ∷ []) c (contains_head c [])), here.0), here.1)
+        ]),
+        (λ h. (
+            let (d, d_in, owns) = h.0 in
+            elim (Contains-push_cases (take i clusters) c d (subst (λ cs. Contains cs d) more d_in)) [
+              | inl before ↦ (are k).1 (inl ((were k).1 ((d, before, owns), h.1)))
+              | inr here ↦ (are k).1 (inr (subst (λ (e : Cluster). Contains e.owned k) (sym here) owns, h.1))
+            ])),
+      )
+
+-- each spare constraint has its owner among the clusters
+pub all_found : (g : Graph) (f : Clusters) → IsSoundGraph g → IsNormal g (bodies f) → (i : ℕ) (found : List ConId) → length f.live ≤ i
+    → ((k : ConId) → Contains found k ↔ (IsOwnedBy (take i f.live) k × IsSpare g k)) → (k : ConId) → Contains found k ↔ IsSpare g k
+all_found g f sound normal i found over are k = (
+  (λ h. ((are k).0 h).1),
   (λ s. (
       let here = (normal_same g s.family (bodies f) sound.edges_rise s.owns.normal normal s.owner).0 s.owns.in_family in
-      let found = mapped_from body_of f.live s.owner here in
-      absurd (none found.0 found.1 (subst (λ (z : Body). Contains z.owned k) (sym found.2) s.owns.owns)))),
+      let owner = mapped_from body_of f.live s.owner here in
+      (are k).1 (
+        (
+          owner.0,
+          subst (λ cs. Contains cs owner.0) (sym (take_all i f.live over)) owner.1,
+          subst (λ (z : Body). Contains z.owned k) (sym owner.2) s.owns.owns,
+        ),
+        s,
+      ))),
 )
 
 -- the starting clusters stand in order of their constraints

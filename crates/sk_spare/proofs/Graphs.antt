@@ -1,5 +1,5 @@
 -- The graphs with fewer constraints: what they hold, and that they are sound.
-use Rattle.std.proofs.Common.{◌≡◌, ◌≢◌, inl, inr, ℕ, ◌<◌, ◌≤◌, Bool, true, false, List, [], ◌∷◌, length, refl, ap, sym, subst, ◌∙◌, arith}
+use Rattle.std.proofs.Common.{◌≡◌, ◌≢◌, inl, inr, ◌<◌, ◌≤◌, Bool, true, List, length, refl, ap, sym, subst, arith}
 use Rattle.std.specs.Prelude.{Contains, ◌↔◌, ◌==◌, filter, not}
 use Rattle.std.specs.List.{list_any}
 use Rattle.std.proofs.lemmas.List.Filters.{length-filter_both}
@@ -15,7 +15,7 @@ use Rattle.sk_base.specs.Numbering.{con_number, con_exact}
 use Rattle.sk_base.proofs.Members.{contains_filtered, filtered_from}
 use Rattle.sk_base.proofs.Numbers.{other_passes, passes_differ, among_found, found_among}
 use Rattle.sk_base.proofs.Pairs.{pairs_filter, pairs_same}
-use Rattle.sk_family.specs.Body.{Start, start_number, edge_start, block_start, starts}
+use Rattle.sk_family.specs.Body.{Start, start_number, starts}
 use Rattle.sk_family.proofs.GraphStarts.{start_comes, edge_starts, block_starts, starts_rise}
 use Rattle.sk_rules.proofs.SummedWeights.{both_true}
 use Rattle.sk_spare.specs.Sparing.{differs_from, with_just, without}

@@ -1,5 +1,5 @@
 -- What constraints weigh where one of them is left out.
-use Rattle.std.proofs.Common.{◌≡◌, ◌≢◌, refl, ℕ, ◌+◌, ◌*◌, ◌-◌, ◌≤◌, Bool, true, false, cond, List, [], ◌∷◌, length, ap, sym, ◌∙◌, arith}
+use Rattle.std.proofs.Common.{◌≡◌, ◌≢◌, refl, ◌+◌, ◌≤◌, Bool, true, false, cond, List, [], ◌∷◌, length, ap, sym, ◌∙◌, arith}
 use Rattle.std.specs.Prelude.{Contains, filter, not, ◌&&◌, ◌||◌}
 use Rattle.sk_base.specs.declared.Elem.{Elem}
 use Rattle.sk_base.specs.declared.ConId.{ConId}
@@ -15,7 +15,7 @@ use Rattle.sk_rules.proofs.SummedWeights.{weighs_one, weighs_more, weights_add, 
 use Rattle.sk_spare.specs.Sparing.{differs_from, without}
 use Rattle.sk_spare.proofs.Graphs.{starts_of_part}
 
-not_true : (b : Bool) → (b ≡ true → ⊥) → b ≡ false
+pub not_true : (b : Bool) → (b ≡ true → ⊥) → b ≡ false
 not_true true h = absurd (h refl)
 not_true false h = refl
 

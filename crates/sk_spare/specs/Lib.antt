@@ -1,3 +1,4 @@
 pub mod Sparing
 pub mod SpareReport
 pub mod Trying
+pub mod Halving

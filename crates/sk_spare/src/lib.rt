@@ -1,6 +1,7 @@
 //! The constraints that a sketch can spare.
 #![tactic(auto)]
 
+mod halves;
 mod law;
 mod spares;
 mod text;

@@ -1,20 +1,18 @@
 // The spare constraints of a graph.
-ghost use Rattle.std.specs.Prelude.{◌≡◌, ◌+◌, ◌*◌, ◌<◌, ◌≤◌, ◌↔◌, IfOk, IfSome, IfNone, IsTrue, Contains, List as Items, length};
+ghost use Rattle.std.specs.Prelude.{◌≡◌, ◌↔◌, IfOk, IsTrue, Contains, List as Items};
 ghost use Rattle.sk_base.specs.declared.ConId.{ConId as Number};
 ghost use Rattle.sk_base.specs.SoundGraph.{IsSoundGraph};
-ghost use Rattle.sk_family.specs.declared.Cluster.{Cluster as ACluster};
 ghost use Rattle.sk_family.specs.Body.{Body, Start};
-ghost use Rattle.sk_family.specs.Clusters.{bodies, body_of, start_of};
-ghost use Rattle.sk_rules.specs.Excess.{weight_of, AreConstraints};
+ghost use Rattle.sk_family.specs.Clusters.{bodies, start_of};
 ghost use Rattle.sk_rules.specs.Reach.{IsNormal};
 ghost use Rattle.sk_verdict.specs.Judging.{IsOver};
 ghost use Rattle.sk_verdict.specs.Parts.{part_with};
 ghost use Rattle.sk_spare.specs.Sparing.{AreSpares, IsOwner, IsSpare};
 
-use crate::trial::{normal_family, stays_whole};
+use crate::halves::try_owned;
+use crate::trial::normal_family;
 use sk_base::{ConId, Graph, List, NoMemory};
 use sk_family::{Cluster, Family, initial};
-use sk_rules::weight_of;
 use std::alloc::Global;
 
 /// The constraints of which each alone may go: without it, the elements of the cluster that owns it
@@ -26,10 +24,11 @@ pub fn spare(alloc: Global, graph: &Graph) -> Result<List<ConId>, NoMemory>
 {
     let starts = initial(alloc, graph)?;
     let family = normal_family(alloc, graph)?;
+    let found = found_in(alloc, graph, &family)?;
     let mut spares = List::new(alloc);
     for start in starts.clusters() {
         let number = number_of(start);
-        if is_spare(alloc, graph, &family, number)? {
+        if is_among(number, &found) {
             spares.push(number)?;
         }
     }
@@ -44,57 +43,21 @@ fn number_of(start: &Cluster) -> ConId
     start.owned.as_slice()[0]
 }
 
-/// Whether the constraint may go.
-fn is_spare(alloc: Global, graph: &Graph, family: &Family, number: ConId) -> Result<bool, NoMemory>
+fn is_among(number: ConId, found: &List<ConId>) -> bool
+    ensures { IsTrue result ↔ Contains found.now number }
+{
+    found.as_slice().contains(&number)
+}
+
+/// The spare constraints, as they come cluster by cluster.
+fn found_in(alloc: Global, graph: &Graph, family: &Family) -> Result<List<ConId>, NoMemory>
     requires sound { IsSoundGraph graph.now }
     requires normal { IsNormal graph.now (bodies family.now) }
-    ensures { IfOk result (λ may_go. IsTrue may_go ↔ IsSpare graph.now number) }
+    ensures { IfOk result (λ found. (k : Number) → Contains found k ↔ IsSpare graph.now k) }
 {
-    match owner_of(family.clusters(), number) {
-        Some(owner) => can_lose(alloc, graph, owner, number),
-        None => Ok(false),
+    let mut found = List::new(alloc);
+    for cluster in family.clusters() {
+        try_owned(alloc, graph, cluster, &mut found)?;
     }
-}
-
-/// The cluster that owns the constraint.
-fn owner_of(clusters: &[Cluster], number: ConId) -> Option<&Cluster>
-    ensures none { IfNone result ((c : ACluster) → Contains clusters.now c → ¬ Contains c.owned number) }
-    ensures lives { IfSome result (λ c. Contains clusters.now c.now) }
-    ensures owns { IfSome result (λ c. Contains c.now.owned number) }
-{
-    for cluster in clusters {
-        if owns(cluster, number) {
-            return Some(cluster);
-        }
-    }
-    None
-}
-
-fn owns(cluster: &Cluster, number: ConId) -> bool
-    ensures { IsTrue result ↔ Contains cluster.now.owned number }
-{
-    cluster.owned.as_slice().contains(&number)
-}
-
-/// Whether the constraint, which the cluster owns, may go. A cluster that isn't over needs no trial.
-fn can_lose(alloc: Global, graph: &Graph, owner: &Cluster, number: ConId) -> Result<bool, NoMemory>
-    requires sound { IsSoundGraph graph.now }
-    requires owner { (f : Items Body) × IsOwner graph.now f number (body_of owner.now) }
-    ensures { IfOk result (λ may_go. IsTrue may_go ↔ IsSpare graph.now number) }
-{
-    if !is_over(graph, owner) {
-        return Ok(false);
-    }
-    stays_whole(alloc, graph, owner, number)
-}
-
-/// Whether what the cluster owns weighs more than is due.
-fn is_over(graph: &Graph, cluster: &Cluster) -> bool
-    requires sound { IsSoundGraph graph.now }
-    requires enough { 2 * length cluster.now.elements ≤ weight_of graph.now cluster.now.owned + 3 }
-    requires owned { AreConstraints graph.now cluster.now.owned }
-    ensures { IsTrue result ↔ (2 * length cluster.now.elements < weight_of graph.now cluster.now.owned + 3) }
-{
-    let held = weight_of(graph, cluster.owned.as_slice());
-    2 * cluster.elements.len() < held as usize + 3
+    Ok(found)
 }

@@ -1,94 +1,19 @@
-// What a cluster becomes without one of its constraints.
-ghost use Rattle.std.specs.Prelude.{◌≡◌, ◌↔◌, IfOk, IsTrue, List as Items, filter};
-ghost use Rattle.sk_base.specs.declared.Edge.{Edge as AnEdge};
-ghost use Rattle.sk_base.specs.declared.Block.{Block as ABlock};
+// Closed families of some of a cluster's constraints.
+ghost use Rattle.std.specs.Prelude.{◌≡◌, ◌+◌, ◌≤◌, ◌<◌, Bool, Contains, IfOk, OnOk, length};
+ghost use Rattle.sk_base.specs.declared.ConId.{ConId as Number};
 ghost use Rattle.sk_base.specs.SoundGraph.{IsSoundGraph};
-ghost use Rattle.sk_family.specs.Body.{Body};
-ghost use Rattle.sk_family.specs.Clusters.{bodies};
-ghost use Rattle.sk_rules.specs.Reach.{IsNormal};
-ghost use Rattle.sk_spare.specs.Sparing.{HoldsAll};
-ghost use Rattle.sk_spare.specs.Trying.{is_other, trial_graph, holds_all, some_holds};
+ghost use Rattle.sk_family.specs.Body.{Start, starts};
+ghost use Rattle.sk_family.specs.Clusters.{bodies, IsSound};
+ghost use Rattle.sk_family.specs.Starting.{start_with};
+ghost use Rattle.sk_family.specs.Starts.{HasStart, IsFree};
+ghost use Rattle.sk_rules.specs.Reach.{IsClosed, IsNormal};
+ghost use Rattle.sk_spare.specs.Halving.{AreFurther, IsMadeOf, too};
+ghost use Rattle.sk_spare.specs.Trying.{holds_all, some_holds};
 
-use sk_base::{Block, ConId, Edge, Elem, Graph, List, NoMemory, copy_block};
+use sk_base::{ConId, Elem, Graph, NoMemory};
 use sk_family::{Cluster, Family, initial};
 use sk_worklist::{Chosen, Order, close_family};
 use std::alloc::Global;
-
-/// Whether the elements of the cluster stay in one cluster where its other constraints stand alone.
-pub(crate) fn stays_whole(
-    alloc: Global,
-    graph: &Graph,
-    owner: &Cluster,
-    number: ConId,
-) -> Result<bool, NoMemory>
-    requires { IsSoundGraph graph.now }
-    ensures { IfOk result (λ whole. (n : Items Body) × IsNormal (trial_graph owner.now.owned number graph.now) n × (IsTrue whole ↔ HoldsAll n owner.now.elements)) }
-{
-    let trial = trial_graph(alloc, graph, owner.owned.as_slice(), number)?;
-    let family = normal_family(alloc, &trial)?;
-    Ok(some_holds(family.clusters(), owner.elements.as_slice()))
-}
-
-/// The graph of these constraints alone, but for one.
-fn trial_graph(
-    alloc: Global,
-    graph: &Graph,
-    owned: &[ConId],
-    number: ConId,
-) -> Result<Graph, NoMemory>
-    ensures { IfOk result (λ trial. trial ≡ trial_graph owned.now number graph.now) }
-{
-    let mut nodes = List::new(alloc);
-    nodes.extend(graph.nodes.as_slice())?;
-    Ok(Graph {
-        nodes,
-        edges: other_edges(alloc, graph.edges.as_slice(), owned, number)?,
-        blocks: other_blocks(alloc, graph.blocks.as_slice(), owned, number)?,
-    })
-}
-
-/// Those between two elements.
-fn other_edges(
-    alloc: Global,
-    edges: &[Edge],
-    owned: &[ConId],
-    number: ConId,
-) -> Result<List<Edge>, NoMemory>
-    ensures { IfOk result (λ others. others ≡ filter (λ (e : AnEdge). is_other owned.now number e.id) edges.now) }
-{
-    let mut others = List::new(alloc);
-    for edge in edges {
-        if is_other(owned, number, edge.id) {
-            others.push(*edge)?;
-        }
-    }
-    Ok(others)
-}
-
-/// Those that are blocks.
-fn other_blocks(
-    alloc: Global,
-    blocks: &[Block],
-    owned: &[ConId],
-    number: ConId,
-) -> Result<List<Block>, NoMemory>
-    ensures { IfOk result (λ others. others ≡ filter (λ (b : ABlock). is_other owned.now number b.id) blocks.now) }
-{
-    let mut others = List::new(alloc);
-    for block in blocks {
-        if is_other(owned, number, block.id) {
-            others.push(copy_block(alloc, block)?)?;
-        }
-    }
-    Ok(others)
-}
-
-/// Whether the constraint is one of these, and not the one of that number.
-fn is_other(owned: &[ConId], number: ConId, constraint: ConId) -> bool
-    ensures { result ≡ is_other owned.now number constraint }
-{
-    owned.contains(&constraint) && constraint.0 != number.0
-}
 
 /// A normal family of the graph.
 pub(crate) fn normal_family(alloc: Global, graph: &Graph) -> Result<Family, NoMemory>
@@ -100,8 +25,64 @@ pub(crate) fn normal_family(alloc: Global, graph: &Graph) -> Result<Family, NoMe
     Ok(family)
 }
 
+/// The closed family of what the family is made of and these constraints too.
+pub(crate) fn with_these(
+    alloc: Global,
+    graph: &Graph,
+    family: &Family,
+    numbers: &[ConId],
+) -> Result<Family, NoMemory>
+    requires sound { IsSoundGraph graph.now }
+    requires further { (p : Number → Bool) × (AreFurther graph.now p numbers.now × IsMadeOf graph.now p (bodies family.now)) }
+    requires room { family.now.next_step + length family.now.live + length numbers.now ≤ 4001 }
+    ensures made { IfOk result (λ more. (p : Number → Bool) → AreFurther graph.now p numbers.now → IsMadeOf graph.now p (bodies family.now) → IsMadeOf graph.now (too p numbers.now) (bodies more)) }
+    ensures closed { IfOk result (λ more. IsClosed graph.now (bodies more)) }
+    ensures room { IfOk result (λ more. more.next_step + length more.live ≤ family.now.next_step + length family.now.live + length numbers.now) }
+{
+    let mut more = family.copy()?;
+    adopt_all(&mut more, graph, numbers)?;
+    close_family(alloc, &mut more, graph, &mut Chosen::new(Order::First))?;
+    Ok(more)
+}
+
+/// Puts in the starting clusters of these constraints.
+fn adopt_all(family: &mut Family, graph: &Graph, numbers: &[ConId]) -> Result<(), NoMemory>
+    requires sound { IsSoundGraph graph.now }
+    requires further { (p : Number → Bool) × (AreFurther graph.now p numbers.now × IsMadeOf graph.now p (bodies family.old)) }
+    requires room { length family.old.live + length numbers.now < 4294967296 }
+    requires named { IsSound family.old }
+    ensures made { OnOk result ((p : Number → Bool) → AreFurther graph.now p numbers.now → IsMadeOf graph.now p (bodies family.old) → IsMadeOf graph.now (too p numbers.now) (bodies family.new)) }
+    ensures count { OnOk result (length family.new.live ≡ length family.old.live + length numbers.now) }
+    ensures next_step { OnOk result (family.new.next_step ≡ family.old.next_step) }
+    ensures sound { OnOk result (IsSound family.new) }
+{
+    for number in numbers {
+        adopt_start(family, graph, *number)?;
+    }
+    Ok(())
+}
+
+/// Puts in the starting cluster of the constraint.
+fn adopt_start(family: &mut Family, graph: &Graph, number: ConId) -> Result<(), NoMemory>
+    requires sound { IsSoundGraph graph.now }
+    requires there { (s : Start) × Contains (starts graph.now) s × (s.number ≡ number) }
+    requires free { IsFree family.old number }
+    requires room { length family.old.live < 4294967295 }
+    ensures ok { OnOk result (HasStart (start_with graph.now number) family.old family.new) }
+    ensures count { OnOk result (length family.new.live ≡ length family.old.live + 1) }
+    ensures sound { IsSound family.new }
+{
+    match graph.edge(number) {
+        Some(edge) => family.adopt(edge),
+        None => match graph.block(number) {
+            Some(block) => family.adopt_block(block),
+            None => unreachable!(),
+        },
+    }
+}
+
 /// Whether one of the clusters holds all of these elements.
-fn some_holds(clusters: &[Cluster], elements: &[Elem]) -> bool
+pub(crate) fn some_holds(clusters: &[Cluster], elements: &[Elem]) -> bool
     ensures { result ≡ some_holds clusters.now elements.now }
 {
     clusters

@@ -1,7 +1,6 @@
 use Rattle.std.proofs.Common.{◌≡◌, ◌+◌, ◌<◌, ◌++◌, List, [], ◌∷◌, length, get_or, take, ap, sym, subst, ◌∙◌, arith}
 use Rattle.std.specs.Prelude.{map}
 use Rattle.sk_base.specs.declared.ConId.{ConId}
-use Rattle.sk_family.specs.declared.Cluster.{Cluster}
 use Rattle.sk_family.specs.Body.{Start, starts}
 use Rattle.sk_family.specs.Clusters.{Clusters, start_of}
 use Rattle.sk_family.specs.Starting.{any_start}
@@ -10,7 +9,7 @@ use Rattle.sk_spare.specs.Sparing.{IsSpare}
 use Rattle.sk_spare.proofs.Deciding.{AreSpareOf, as_many, start_there, with_it, without_it, all_decided, not_told}
 use Rattle.sk_spare.proofs.LeavingOut.{spare_is_over}
 use Rattle.sk_spare.proofs.spares.spare.Goals as goal
-use Rattle.sk_spare.proofs.spares.spare.Goals.{then-branch+in_ok-push, else-branch}
+use Rattle.sk_spare.proofs.spares.spare.Goals.{then-is_among+in_ok-push, else-is_among}
 
 pub number_of-number-requires : goal.number_of-number-requires
 number_of-number-requires c = (
@@ -24,17 +23,18 @@ loop-start-preserved c =
     let g = c.args.graph.now in
     let i = c.loop-start.start-index in
     let are : c.clusters-start-items.result.now ≡ map start_of (starts g) = c.clusters-start-items.ensures.live ∙ ap (λ (f : Clusters). f.live) c.in_ok-starts.ensures.clusters in
+    let number = c.number_of-number.result in
     let this : Start = get_or (starts g) i any_start in
     let is : c.number_of-number.result ≡ this.number = c.number_of-number.ensures this (start_there g c.clusters-start-items.result.now are i c.start-item.result c.loop-start-test.true c.start-item.is) in
     let within : i < length (starts g) = (let many = as_many g c.clusters-start-items.result.now are in let below = c.loop-start-test.true in omega arith) in
-    elim c.if-branch.branch [
-      | then-branch+in_ok-push w ↦ subst (λ (ks : List ConId). AreSpareOf g (take (i + 1) (starts g)) ks) (sym (w.spares-is ∙ w.in_ok-push.ensures.ok))
+    elim c.if-is_among.branch [
+      | then-is_among+in_ok-push w ↦ subst (λ (ks : List ConId). AreSpareOf g (take (i + 1) (starts g)) ks) (sym (w.spares-is ∙ w.in_ok-push.ensures.ok))
           (subst (λ (k : ConId). AreSpareOf g (take (i + 1) (starts g)) (c.loop-start.spares ++ k ∷ [])) (sym is)
           (with_it g (starts g) i c.loop-start.spares c.loop-start.invariant within any_start (starts_rise g c.requires.edges_rise)
-          (subst (λ (k : ConId). IsSpare g k) is (c.in_ok-is_spare.ensures.0 w.if-branch.true))))
-      | else-branch w ↦ subst (λ (ks : List ConId). AreSpareOf g (take (i + 1) (starts g)) ks) (sym w.spares-is)
+          (subst (λ (k : ConId). IsSpare g k) is ((c.in_ok-found.ensures number).0 (c.is_among.ensures.0 w.if-is_among.true)))))
+      | else-is_among w ↦ subst (λ (ks : List ConId). AreSpareOf g (take (i + 1) (starts g)) ks) (sym w.spares-is)
           (without_it g (starts g) i c.loop-start.spares c.loop-start.invariant within any_start
-          (subst (λ (k : ConId). ¬ IsSpare g k) is (not_told c.in_ok-is_spare.field-0 c.in_ok-is_spare.ensures w.if-branch.false)))
+          (subst (λ (k : ConId). ¬ IsSpare g k) is (λ s. not_told c.is_among.result c.is_among.ensures w.if-is_among.false ((c.in_ok-found.ensures number).1 s))))
     ]
 
 pub returns-clause-spares : goal.returns-clause-spares
