@@ -31,6 +31,7 @@ use Rattle.sk_lang.specs.FirstCode.{first_code}
 use Rattle.sk_lang.specs.Named.{element_named, number_named}
 use Rattle.sk_lang.specs.Kinds.{is_circle}
 use Rattle.sk_lang.specs.Lines.{lines_in}
+use Rattle.sk_lang.specs.Quantities.{not_negative}
 use Rattle.sk_lang.proofs.Amounts.{limited}
 use Rattle.sk_lang.proofs.FirstCodes.{none_behind}
 use Rattle.sk_lex.specs.Words.{words_in}
@@ -44,7 +45,7 @@ use Rattle.sk_verify.specs.declared.first_word.First.TheVariants as begins
 use Rattle.sk_verify.specs.declared.first_word.Figure.{Figure}
 use Rattle.sk_verify.specs.declared.first_word.Figure.TheVariants as figure
 use Rattle.sk_verify.specs.Claims.{IsFitting, TellsCircles}
-use Rattle.sk_verify.specs.ClaimLines.{whole_of, whole, not_negative, tolerance, tolerance_limit, length_limit, normal_limit, limits_of, is_bad_whole, is_no_name, is_unknown, is_placed, first_of, fits_shape, fits_element, element_rows, tolerance_rows, rows_behind, word_rows, tolerances_said, with_words, with_line}
+use Rattle.sk_verify.specs.ClaimLines.{whole_of, whole, tolerance, tolerance_limit, length_limit, normal_limit, limits_of, is_bad_whole, is_no_name, is_unknown, is_placed, first_of, fits_shape, fits_element, element_rows, tolerance_rows, rows_behind, word_rows, tolerances_said, with_words, with_line}
 use Rattle.sk_verify.proofs.Complete.{found_spot}
 use Rattle.sk_verify.specs.ClaimReading.{nothing_yet, claimed_after, claimed_along, HaveNoCode, IsClaimOf, ReadsClaim}
 
@@ -340,7 +341,7 @@ placed_at p spot e there same = some_place (find (λ (x : Spot). x.elem.0 == e.0
     let level : spot.elem.0 ≡ e.0 = ap (λ (x : Elem). x.0) same in grind (arith, nat_tests))
 
 -- and an element that is placed has a spot
-spot_of : (p : Placed) (e : Elem) → IsSome (place_of p e) → (spot : Spot) × Contains p.spots spot × (spot.elem ≡ e)
+pub spot_of : (p : Placed) (e : Elem) → IsSome (place_of p e) → (spot : Spot) × Contains p.spots spot × (spot.elem ≡ e)
 spot_of p e is =
     let found = found_spot (find (λ (x : Spot). x.elem.0 == e.0) p.spots) is in
     let there = found_in (λ (x : Spot). x.elem.0 == e.0) p.spots found.0 found.1 in

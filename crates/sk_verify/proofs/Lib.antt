@@ -1,4 +1,6 @@
+pub mod ClaimExamples
 pub mod ClaimSoFar
+pub mod PrintedWords
 pub mod FittingClaims
 pub mod Fronts
 pub mod StepWords
@@ -9,3 +11,11 @@ pub mod Measuring
 pub mod Complete
 pub mod Claimed
 pub mod Answering
+pub mod SaidElements
+pub mod SpelledNumbers
+pub mod WrittenSteps
+pub mod WrittenPlaces
+pub mod WrittenClaims
+pub mod Accepting
+pub mod SaidSteps
+pub mod SomeFailures

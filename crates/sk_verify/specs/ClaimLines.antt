@@ -1,5 +1,5 @@
 -- What a line of a claim says, and its codes.
-use Rattle.std.specs.Prelude.{ℕ, ℤ, pos, negsuc, Bool, true, false, ◌&&◌, ◌||◌, not, ◌==◌, List, [], ◌∷◌, ◌++◌, length, Option, Some, None, is_some, is_none, unwrap_or, option_and_then, codes, bytes_eq, if◌then◌else◌}
+use Rattle.std.specs.Prelude.{ℕ, ℤ, pos, Bool, true, false, ◌&&◌, ◌||◌, not, ◌==◌, List, [], ◌∷◌, ◌++◌, length, Option, Some, None, is_some, is_none, unwrap_or, option_and_then, codes, bytes_eq, if◌then◌else◌}
 use Rattle.std.specs.List.{list_any, zip}
 use Rattle.std.specs.Option.{option_map}
 use Rattle.sk_base.specs.declared.At.TheVariants as at
@@ -21,6 +21,7 @@ use Rattle.sk_lang.specs.ClusterWords.{named, is_bad_name}
 use Rattle.sk_lang.specs.Codes.{byte_rows}
 use Rattle.sk_lang.specs.FirstCode.{first_code}
 use Rattle.sk_lang.specs.Named.{element_named, number_named}
+use Rattle.sk_lang.specs.Quantities.{not_negative}
 use Rattle.sk_tree.specs.declared.Choice.{Choice}
 use Rattle.sk_tree.specs.declared.Choice.TheVariants.{Turn, Advance, Nothing}
 use Rattle.sk_tree.specs.declared.PlanStep.{PlanStep}
@@ -35,11 +36,6 @@ use Rattle.sk_verify.specs.declared.first_word.Figure.TheVariants as figure
 -- the whole number that a word is: an optional `-` and 1 to 19 digits, at most so much in absolute value
 abbrev pub whole_of : ℕ → List ℕ → Option ℤ
 whole_of most word = option_map (with_sign (has_sign word)) (at_most most (digits_of 19 (without_sign word)))
-
--- a number that is not below 0
-abbrev pub not_negative : ℤ → Option ℕ
-not_negative (pos n) = Some n
-not_negative (negsuc n) = None
 
 -- the same where the number isn't below 0
 abbrev pub count_of : ℕ → List ℕ → Option ℕ

@@ -1,5 +1,5 @@
 -- What is claimed of a sketch, and when the parts of it are right.
-use Rattle.std.specs.Prelude.{◌≡◌, ◌≢◌, true, ◌≤◌, ◌^◌, pos, ◌*ℤ◌, List, AllPairs, Contains, IsSome}
+use Rattle.std.specs.Prelude.{◌≡◌, ◌≢◌, true, ◌≤◌, ◌^◌, ℤ, pos, ◌*ℤ◌, List, AllPairs, Contains, IsSome}
 use Rattle.sk_base.specs.declared.Elem.{Elem}
 use Rattle.sk_base.specs.declared.Element.{Element}
 use Rattle.sk_base.specs.declared.Graph.{Graph}
@@ -31,11 +31,15 @@ pub record TellsCircles (s : Sketch) (c : Claim) : Type 0 where
   pub of_circles : (r : Radius) → Contains c.radii r → (x : Element) × Contains s.elements x × (x.number ≡ r.elem) × (is_circle x.shape ≡ true) × IsSome (place_of c.at x.number)
   pub each : (x : Element) → Contains s.elements x → is_circle x.shape ≡ true → IsSome (place_of c.at x.number) → (r : Radius) × Contains c.radii r × (r.elem ≡ x.number)
 
+-- a radius in nanometres, of one in micrometres
+abbrev pub radius_nm : ℤ → ℤ
+radius_nm um = pos 1000 *ℤ um
+
 -- a circle has its own radius, told in nanometres; a point and a line have none
 abbrev pub HasItsRadius : List Radius → Elem → Shape → Type 0
 HasItsRadius radii e (Point x y) = Unit {0}
 HasItsRadius radii e (Line x1 y1 x2 y2) = Unit {0}
-HasItsRadius radii e (Circle x y r) = Contains radii (record { elem = e; nm = pos 1000 *ℤ r.0 })
+HasItsRadius radii e (Circle x y r) = Contains radii (record { elem = e; nm = radius_nm r.0 })
 
 -- the element has a place, and a circle its radius
 pub record IsTold (c : Claim) (x : Element) : Type 0 where

@@ -6,3 +6,5 @@ pub mod Stepping
 pub mod Texts
 pub mod ClaimLines
 pub mod ClaimReading
+pub mod Printed
+pub mod ClaimText

@@ -8,7 +8,7 @@ ghost use Rattle.sk_verify.specs.Failing.{IsJoined, IsComplete, IsMet, IsAccepte
 
 use crate::claim::Claim;
 use crate::failure::{Failure, VerifyError};
-use crate::holding::first_off;
+use crate::holding::first_unmet;
 use crate::stepping::family_after;
 use crate::told::first_untold;
 use crate::whole::is_whole;
@@ -70,7 +70,7 @@ fn check_tolerances(s: &Sketch, g: &Graph, claim: &Claim) -> Result<(), VerifyEr
     ensures ok { IfOk result (λ _. IsMet s.now g.now claim.now) }
     ensures fails { IfErr result (IsFirstFailure s.now g.now claim.now) }
 {
-    match first_off(g, claim) {
+    match first_unmet(g, claim) {
         Some(Spotted::Line(line)) => Err(VerifyError::Fails(Failure::Line(line))),
         Some(Spotted::Con(number)) => Err(VerifyError::Fails(Failure::Con(number))),
         None => Ok(()),

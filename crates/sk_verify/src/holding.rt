@@ -10,7 +10,7 @@ use sk_base::{Graph, Kind, Node};
 use sk_residual::{Spotted, meets, meets_block, meets_normal};
 
 /// The first line, and else the first constraint, that doesn't hold within the claimed tolerance.
-pub(crate) fn first_off(g: &Graph, claim: &Claim) -> Option<Spotted>
+pub(crate) fn first_unmet(g: &Graph, claim: &Claim) -> Option<Spotted>
     requires sound { IsSoundGraph g.now }
     requires placed { PlacesExactly g.now claim.now.at }
     requires t { claim.now.t ≤ 2 ^ 62 }

@@ -25,5 +25,8 @@ pub use checking::verify;
 pub use claim::{Claim, Radius};
 pub use claim_reading::{one_reading_of_claims, read_claim};
 pub use failure::{Failure, VerifyError};
-pub use law::{accepted, one_answer};
+pub use law::{
+    accepted, accepted_so, legal_steps_can_be_said, one_answer, printed_words_read_back,
+    written_claims_read_back,
+};
 pub use texts::{failure_text, verified_text};

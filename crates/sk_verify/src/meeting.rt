@@ -1,12 +1,12 @@
 // Whether three clusters meet once, in three elements.
 ghost use Rattle.std.specs.Prelude.{◌≡◌, ◌≢◌, ◌↔◌, IsTrue, Contains};
 ghost use Rattle.sk_base.specs.SoundGraph.{HasNode};
-ghost use Rattle.sk_rules.specs.Rules.{IsLine, IsShared, IsTriangle};
 ghost use Rattle.sk_tree.specs.Meeting.{MeetsOnce, JoinsOnce};
 ghost use Rattle.sk_verify.specs.Shared.{SharesNoOther};
 
 use sk_base::{Elem, Graph, Kind, Node};
 use sk_family::Family;
+use sk_rules::is_triangle;
 use sk_tree::PlanStep;
 
 /// Whether live clusters of the step's names meet once in its elements.
@@ -33,18 +33,7 @@ pub(crate) fn joins_once(g: &Graph, family: &Family, step: &PlanStep) -> bool
 fn meets_once(g: &Graph, step: &PlanStep, xs: &[Elem], ys: &[Elem], zs: &[Elem]) -> bool
     ensures { IsTrue result ↔ MeetsOnce g.now xs.now ys.now zs.now step.now.a step.now.b step.now.c }
 {
-    is_triangle(g, step, xs, ys, zs) && share_no_others(step, xs, ys, zs)
-}
-
-/// Whether the three elements meet the triangle rule.
-fn is_triangle(g: &Graph, step: &PlanStep, xs: &[Elem], ys: &[Elem], zs: &[Elem]) -> bool
-    ensures { IsTrue result ↔ IsTriangle g.now xs.now ys.now zs.now step.now.a step.now.b step.now.c }
-{
-    is_shared(step.a, xs, ys)
-        && is_shared(step.b, ys, zs)
-        && is_shared(step.c, zs, xs)
-        && are_different(step.a, step.b, step.c)
-        && !are_lines(g, step.a, step.b, step.c)
+    is_triangle(g, step.a, step.b, step.c, xs, ys, zs) && share_no_others(step, xs, ys, zs)
 }
 
 /// Whether no two of the three lists share any other element.
@@ -59,13 +48,6 @@ fn share_neither(step: &PlanStep, xs: &[Elem], ys: &[Elem], zs: &[Elem]) -> bool
     ensures { IsTrue result ↔ (SharesNoOther ys.now zs.now step.now.b × SharesNoOther zs.now xs.now step.now.c) }
 {
     shares_no_other(ys, zs, step.b) && shares_no_other(zs, xs, step.c)
-}
-
-/// Whether the element is in both.
-fn is_shared(elem: Elem, xs: &[Elem], ys: &[Elem]) -> bool
-    ensures { IsTrue result ↔ IsShared xs.now ys.now elem }
-{
-    xs.contains(&elem) && ys.contains(&elem)
 }
 
 fn shares_no_other(xs: &[Elem], ys: &[Elem], elem: Elem) -> bool
@@ -83,19 +65,6 @@ fn is_other_in(x: Elem, elem: Elem, ys: &[Elem]) -> bool
     ensures { IsTrue result ↔ ((x ≢ elem) × Contains ys.now x) }
 {
     x != elem && ys.contains(&x)
-}
-
-fn are_different(a: Elem, b: Elem, c: Elem) -> bool
-    ensures { IsTrue result ↔ ((a ≢ b) × (b ≢ c) × (c ≢ a)) }
-{
-    a != b && b != c && c != a
-}
-
-/// Whether all three are lines.
-fn are_lines(g: &Graph, a: Elem, b: Elem, c: Elem) -> bool
-    ensures { IsTrue result ↔ (IsLine g.now a × IsLine g.now b × IsLine g.now c) }
-{
-    has_node(g, a, Kind::Line) && has_node(g, b, Kind::Line) && has_node(g, c, Kind::Line)
 }
 
 /// Whether the element is a node of that kind.
