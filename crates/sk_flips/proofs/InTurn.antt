@@ -1,5 +1,5 @@
 -- What comes of lists of steps, one list after another.
-use Rattle.std.proofs.Common.{ℕ, List, [], ◌∷◌, ◌++◌}
+use Rattle.std.proofs.Common.{◌≡◌, ℕ, suc, List, [], ◌∷◌, ◌++◌, length, refl, ap}
 use Rattle.sk_base.specs.declared.Name.{Name}
 use Rattle.sk_base.specs.declared.Sketch.{Sketch}
 use Rattle.sk_tree.specs.declared.Plan.{Plan}
@@ -16,6 +16,13 @@ module _ (G : Type 0) (F limit : ℕ) (s : Sketch) (p : Plan) where
   alternatives_more [] (b ∷ alternatives) names a are is = absurd are
   alternatives_more (first ∷ lists) [] names a are is = absurd are
   alternatives_more (first ∷ lists) (b ∷ alternatives) names a are is = (are.0, alternatives_more lists alternatives names a are.1 is)
+
+  -- as many as there are lists
+  pub as_many : (lists : List (List Name)) (alternatives : List Alternative) → AreAlternatives G F limit s p lists alternatives → length alternatives ≡ length lists
+  as_many [] [] are = refl
+  as_many [] (a ∷ alternatives) are = absurd are
+  as_many (names ∷ lists) [] are = absurd are
+  as_many (names ∷ lists) (a ∷ alternatives) are = ap suc (as_many lists alternatives are.1)
 
   -- of a turned plan that is placed so
   pub is_alternative : (names : List Name) (placement : Placement) → IsTurnedPlacement G F limit s p names placement → IsAlternative G F limit s p names (alternative_of placement)

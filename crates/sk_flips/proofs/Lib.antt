@@ -1,4 +1,5 @@
 pub mod SpotsPlaced
+pub mod FewFlips
 pub mod FlippedPlans
 pub mod InTurn
 pub mod OpenSteps
@@ -7,3 +8,4 @@ pub mod Differing
 pub mod Meeting
 pub mod FlipsSoFar
 pub mod StepWords
+pub mod OnePlacement

@@ -17,7 +17,8 @@ use std::alloc::Global;
 
 /// What comes of turning the choices of some steps: where the elements lie then, and within which
 /// tolerance all holds; or a step that has no choice, the first step with a fault, the first line or
-/// constraint beyond the limit, or the first sign that isn't placed as it is chosen.
+/// constraint beyond the limit, or the first sign that isn't placed as it is wanted: that of a step as
+/// the turned plan chooses it, any other as it is drawn.
 #[derive(Drop)]
 pub enum Alternative {
     Found { at: Placed, tol: Tolerance },

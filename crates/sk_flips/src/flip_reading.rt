@@ -1,5 +1,5 @@
 // The flips that stand behind a sketch.
-ghost use Rattle.std.specs.Prelude.{◌≡◌, ◌<◌, ◌+◌, ◌⊎◌, ℕ, List as Items, length, IfOk, IfErr};
+ghost use Rattle.std.specs.Prelude.{◌≡◌, ◌<◌, ◌≤◌, ◌+◌, ◌⊎◌, ℕ, List as Items, length, IfOk, IfErr};
 ghost use Rattle.sk_base.specs.declared.Name.{Name as OfName};
 ghost use Rattle.sk_lang.specs.Lines.{lines_in};
 ghost use Rattle.sk_lang.specs.declared.Code.{Code as AnyCode};
@@ -15,6 +15,7 @@ use std::alloc::Global;
 pub fn read_flips(alloc: Global, bytes: &[u8], first: u32) -> Result<List<List<Name>>, ReadError>
     requires { first + length (lines_in bytes.now) < 4294967295 }
     ensures reads { IfOk result (ReadsFlips bytes.now) }
+    ensures few { IfOk result (λ lists. length lists ≤ 64) }
     ensures refuses { IfErr result (IsFlipRefusal first bytes.now) }
 {
     let mut so_far = SoFar {

@@ -12,7 +12,10 @@ ghost use Rattle.sk_residual.specs.Tolerances.{AllHoldWithin};
 ghost use Rattle.sk_residual.specs.Turns.{signs, signs_wanted};
 ghost use Rattle.sk_tree.specs.declared.Plan.{Plan};
 ghost use Rattle.sk_tree.specs.declared.PlanStep.{PlanStep};
+ghost use Rattle.sk_tree.specs.declared.Tree.{Tree};
 ghost use Rattle.sk_tree.specs.LegalPlan.{IsLegalPlan};
+ghost use Rattle.sk_tree.specs.PlanTree.{IsPlanTree};
+ghost use Rattle.sk_flips.specs.declared.alternative.Alternative.{Alternative};
 ghost use Rattle.sk_flips.specs.declared.alternative.Alternative.TheVariants.{Found};
 ghost use Rattle.sk_flips.specs.declared.placing.Placement.{Placement};
 ghost use Rattle.sk_flips.specs.Alternatives.{alternative_of, placed_signs, IsAlternative};
@@ -54,4 +57,10 @@ pub fn alternatives_differ<G: Grid>()
 pub fn untouched_plan_is_placed<G: Grid>()
     ensures { (F limit : ℕ) (s : Sketch) (p : Plan) (placement : Placement) → IsSoundSketch s → IsLegalPlan (graph_of s) p → All (λ step. HasDrawnChoice s step) p.steps
         → IsPlacement Drawn G F limit s p placement → IsAlternative G F limit s p [] (alternative_of placement) }
+{}
+
+/// Of a legal plan that has a tree, if it has a constraint, one alternative comes of each list of steps.
+pub fn one_alternative<G: Grid>()
+    ensures { (F limit : ℕ) (s : Sketch) (p : Plan) (names : Items Name) (a b : Alternative) → IsLegalPlan (graph_of s) p → (¬ (p.leaves ≡ []) → (t : Tree) × IsPlanTree p t)
+        → IsAlternative G F limit s p names a → IsAlternative G F limit s p names b → a ≡ b }
 {}

@@ -2,6 +2,7 @@ use Rattle.std.proofs.Common.{◌≡◌, List, [], ℕ, subst, arith}
 use Rattle.std.proofs.lemmas.Bool.Decides.{nat_tests}
 use Rattle.std.proofs.lemmas.List.{nil_from_length}
 use Rattle.sk_lang.specs.Lines.{lines_in}
+use Rattle.sk_flips.proofs.FewFlips.{few_read}
 use Rattle.sk_flips.proofs.FlipsSoFar.{HasRead, read_next, read_refused, read_unended}
 use Rattle.sk_flips.proofs.flip_reading.read_flips.Goals as goal
 
@@ -21,3 +22,8 @@ returns-in-Among-clause-refuses c =
     let at : HasRead c.args.bytes.now [] c.loop-rest.so_far c.args.first c.loop-rest.number =
     subst (λ (rest : List ℕ). HasRead c.args.bytes.now rest c.loop-rest.so_far c.args.first c.loop-rest.number) none c.loop-rest.invariant in
     rw c.refused.ensures (read_unended c.args.bytes.now c.loop-rest.so_far c.args.first c.loop-rest.number at c.in-Among.is)
+
+pub returns-in-Past-clause-few : goal.returns-in-Past-clause-few
+returns-in-Past-clause-few c =
+    let none : c.loop-rest.rest.now ≡ [] = nil_from_length c.loop-rest.rest.now (grind (arith, nat_tests)) in
+    few_read c.args.bytes.now c.loop-rest.rest.now c.loop-rest.so_far c.args.first c.loop-rest.number c.loop-rest.invariant none
