@@ -8,7 +8,7 @@ use Rattle.sk_lang.specs.Renumbered.{renumbered}
 use Rattle.sk_cli.specs.declared.accounts.Account.{Account}
 use Rattle.sk_cli.specs.declared.accounts.Account.TheVariants.{Parts, Spares, Derived, Migrated}
 use Rattle.sk_cli.specs.declared.command.Command.{Command}
-use Rattle.sk_cli.specs.declared.command.Command.TheVariants.{Check, Plan, Solve, Dxf, Offers, Session, Grow, Migrate, Spare, Derive}
+use Rattle.sk_cli.specs.declared.command.Command.TheVariants.{Check, Plan, Solve, Dxf, Offers, Session, Grow, Migrate, Verify, Spare, Flips, Derive}
 use Rattle.sk_cli.specs.declared.request.Request.{Request}
 use Rattle.sk_cli.specs.declared.solving.Report.{Report}
 use Rattle.sk_cli.specs.declared.solving.Report.TheVariants.{Places, Drawing}
@@ -62,6 +62,8 @@ module _ (laws : LawsOfText) where
     answer_moved Offers request one status text answer = absurd one
     answer_moved Session request one status text answer = absurd one
     answer_moved Grow request one status text answer = absurd one
+    answer_moved Verify request one status text answer = absurd one
+    answer_moved Flips request one status text answer = absurd one
 
     pub outcome_moved : (words : List (List ℕ)) → AskOfOneSketch words → (status : Status) (text : List ℕ) → IsOutcome words a status text → IsOutcome words b status text
     outcome_moved words (request, asks, one) status text (inr usage) = absurd (usage.0 (request, asks))

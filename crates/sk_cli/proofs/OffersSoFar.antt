@@ -4,6 +4,7 @@ use Rattle.sk_lex.specs.Words.{words_in}
 use Rattle.sk_lang.specs.declared.Code.TheVariants.{E16}
 use Rattle.sk_lang.specs.declared.EntryError.{EntryError}
 use Rattle.sk_lang.specs.declared.EntryError.TheVariants.{Refused, NoMemory}
+use Rattle.sk_lang.specs.Codes.{byte_rows}
 use Rattle.sk_lang.specs.Lines.{lines_in}
 use Rattle.sk_lang.specs.Entry.{IsRefusal, error_at}
 use Rattle.sk_cli.specs.declared.offer_line.OfferLine.{OfferLine}
@@ -12,7 +13,7 @@ use Rattle.sk_cli.specs.declared.offer_line.Place.TheVariants.{Among, Past}
 use Rattle.sk_cli.specs.declared.offer_line.SoFar.{SoFar}
 use Rattle.sk_cli.specs.OfferLines.{code_of, word_rows, place_after, behind_offer, offered, AreOffersOf}
 use Rattle.sk_cli.specs.OfferReading.{place_along, HaveNoCode, HasFirstCode, ReadsOffers, RefusesOffers, AtLine, NoEnd, IsOfferRefusal, Adds}
-use Rattle.sk_cli.proofs.OfferBytes.{code_where_fine}
+use Rattle.sk_lang.proofs.FirstCodes.{code_behind}
 
 -- the lines before the rest have no code, and their offers were read
 pub record StandsAt (lines rest : List (List ℕ)) (so_far : SoFar) (first number : ℕ) : Type 0 where
@@ -49,7 +50,7 @@ offers_append (w ∷ ws) (o ∷ os) vs ps left right = (left.0, offers_append ws
 -- one line further
 pub stands_next : (lines rest : List (List ℕ)) (line : List ℕ) (more : List (List ℕ)) (so_far after : SoFar) (first number : ℕ) → StandsAt lines rest so_far first number → rest ≡ line ∷ more → Adds so_far line after → StandsAt lines more after first (number + 1)
 stands_next lines rest line more so_far after first number at is adds =
-    let code : code_of so_far.place line ≡ None = code_where_fine line (word_rows so_far.place (words_in line)) adds.fine ∙ adds.words.clean in
+    let code : code_of so_far.place line ≡ None = code_behind (byte_rows line) (word_rows so_far.place (words_in line)) adds.fine ∙ adds.words.clean in
     record {
       before = at.before ++ line ∷ [];
       parts = at.parts ∙ ap (λ (ls : List (List ℕ)). at.before ++ ls) is ∙ sym (append_assoc at.before (line ∷ []) more);

@@ -1,7 +1,8 @@
 -- Words ask for one thing at most, and with an input they have one outcome at most.
 use Rattle.std.proofs.Common.{◌≡◌, ◌⊎◌, inl, inr, ℕ, ◌<◌, ◌≤◌, List, [], ◌∷◌, ◌++◌, length, refl, sym, ap, ◌∙◌, subst, Option, arith}
-use Rattle.std.specs.Prelude.{All, map, drop}
+use Rattle.std.specs.Prelude.{All, map, take, drop}
 use Rattle.sk_base.specs.declared.ConId.{ConId}
+use Rattle.sk_base.specs.declared.Name.{Name}
 use Rattle.sk_base.specs.declared.Sketch.{Sketch}
 use Rattle.sk_base.specs.declared.Graph.{Graph}
 use Rattle.sk_family.specs.Body.{Body, SameBodies}
@@ -31,24 +32,38 @@ use Rattle.sk_spare.specs.Sparing.{AreSpares}
 use Rattle.sk_spare.specs.SpareReport.{spare_report}
 use Rattle.sk_derive.specs.WideReach.{IsWideNormal}
 use Rattle.sk_derive.specs.DerivedText.{derived_text}
+use Rattle.sk_flips.specs.declared.Alternative.{Alternative}
+use Rattle.sk_flips.specs.Alternatives.{AreAlternatives}
+use Rattle.sk_flips.specs.FlipReading.{ReadsFlips, RefusesFlips}
+use Rattle.sk_residual.specs.declared.Wanted.TheVariants.{Drawn}
 use Rattle.sk_lang.specs.declared.Front.{Front}
 use Rattle.sk_lang.specs.Front.{ReadsFront, RefusesFront}
 use Rattle.sk_offers.specs.Offering.{starting_table}
 use Rattle.sk_cli.specs.declared.offer_line.OfferLine.{OfferLine}
 use Rattle.sk_cli.specs.OfferReading.{ReadsOffers, RefusesOffers}
-use Rattle.sk_cli.specs.OffersReport.{IsReportOnOffers, IsOffersReport, IsRefusedAt, IsOffersRefusal, IsOffersAnswer}
+use Rattle.sk_cli.specs.FlipsReport.{alternatives_from, IsReportOnFlips, IsFlipped, ReadsSketchAndFlips, IsFlipsRefusal, IsFlipsAnswer}
+use Rattle.sk_cli.specs.Fronts.{IsRefusedAt}
+use Rattle.sk_cli.specs.OffersReport.{IsReportOnOffers, IsOffersReport, IsOffersRefusal, IsOffersAnswer}
 use Rattle.sk_cli.proofs.OfferAnswers.{one_list, one_refusal as one_refusal_behind, not_both as not_both_behind}
 use Rattle.sk_cli.proofs.OneOffering.{same_lines}
 use Rattle.sk_session.proofs.Consistency.{empty_sound}
+use Rattle.sk_verify.specs.declared.claim.Claim.{Claim}
+use Rattle.sk_verify.specs.declared.failure.Failure.{Failure}
+use Rattle.sk_verify.specs.ClaimReading.{ReadsClaim, RefusesClaim}
+use Rattle.sk_verify.specs.Failing.{IsAccepted, FailsFirst}
+use Rattle.sk_verify.specs.Texts.{failure_line, verified_line}
+use Rattle.sk_verify.proofs.Answering.{not_both as not_both_failing, one_failure}
+use Rattle.sk_verify.proofs.ClaimSoFar.{one_claim, one_refusal as one_claim_refusal, not_both as not_both_claims}
+use Rattle.sk_cli.specs.VerifyAnswer.{HasClaim, IsVerified, IsNotVerified, IsVerifyRefusal, IsVerifyAnswer}
 use Rattle.sk_worklist.specs.declared.Order.{Order}
 use Rattle.sk_worklist.specs.declared.Order.TheVariants.{First}
 use Rattle.sk_cli.specs.declared.accounts.Account.{Account}
 use Rattle.sk_cli.specs.declared.accounts.Account.TheVariants.{Parts, Spares, Derived, Migrated}
 use Rattle.sk_cli.specs.declared.command.Command.{Command}
-use Rattle.sk_cli.specs.declared.command.Command.TheVariants.{Check, Plan, Solve, Dxf, Offers, Session, Grow, Migrate, Spare, Derive}
+use Rattle.sk_cli.specs.declared.command.Command.TheVariants.{Check, Plan, Solve, Dxf, Offers, Session, Grow, Migrate, Verify, Spare, Flips, Derive}
 use Rattle.sk_cli.specs.declared.request.Request.{Request}
 use Rattle.sk_cli.specs.declared.status.Status.{Status}
-use Rattle.sk_cli.specs.declared.status.Status.TheVariants.{Done, Refused, NotWell}
+use Rattle.sk_cli.specs.declared.status.Status.TheVariants.{Done, Refused, NotWell, NotVerified}
 use Rattle.sk_cli.specs.declared.bits.Bits.{Bits}
 use Rattle.sk_cli.specs.declared.bits.Bits.TheVariants.{ThirtyEight}
 use Rattle.sk_cli.specs.declared.solving.Report.{Report}
@@ -62,7 +77,9 @@ use Rattle.sk_cli.specs.Solving.{IsPlacement, status_of, placement_words}
 use Rattle.sk_cli.proofs.CommandWords.{one_command}
 use Rattle.sk_cli.proofs.KeyValues.{one_said, one_set}
 use Rattle.sk_cli.proofs.Numbers.{one_order, one_bits, one_limit, one_size}
-use Rattle.sk_cli.proofs.OnePlacement.{same_placement}
+use Rattle.sk_flips.proofs.OnePlacement.{same_placement, same_alternatives}
+use Rattle.sk_flips.proofs.FlipsSoFar.{same_flips, same_refusal as one_flips_refusal, read_or_refused}
+use Rattle.sk_plan.proofs.PlanTrees.{some_plan_tree}
 use Rattle.sk_cli.specs.Outcome.{IsAccountOf, IsRefusalText, IsAccountAnswer, IsPlanBy, IsPlanReport, IsReportNotWell, IsPlanAnswer, IsPlanOrReport, IsSolved, IsSolveAnswer, IsGrowAnswer, IsAnswer, IsAnswerOf, IsOutcome, AreFirstReplies}
 use Rattle.sk_cli.proofs.OneSession.{OneReply, same_replies, front_replies}
 use Rattle.sk_cli.specs.SessionAnswer.{IsSessionAnswer, RepliesToFront, HasEnded, at_start}
@@ -204,7 +221,7 @@ same_solved : OneJudgement → LowerLaws → (report : Report) (request : Reques
     → IsSolved report request s status text → IsSolved report request s other another → (status ≡ other) × (text ≡ another)
 same_solved law laws report request s sound status other text another (inl (p, q, placed, is, text_is)) (inl (p', q', placed', is', text_is')) =
     let plan_is = same_plan laws request.order s sound p p' placed.plan placed'.plan in
-    let placement_is : q ≡ q' = same_placement (grid_of request.bits) (digits_of request.bits) request.within s p' sound placed'.plan.legal q q'
+    let placement_is : q ≡ q' = same_placement Drawn (grid_of request.bits) (digits_of request.bits) request.within s p' placed'.plan.legal (some_plan_tree (graph_of s) p' sound placed'.plan.legal) q q'
     (subst (λ (z : ThePlan). IsPlacement (grid_of request.bits) (digits_of request.bits) request.within s z q) plan_is placed.placed) placed'.placed in (
       is ∙ ap status_of placement_is ∙ sym is',
       text_is ∙ ap (λ z. placement_words report (digits_of request.bits) s z q) plan_is
@@ -263,21 +280,34 @@ same_offers_report laws law bytes text another (f, os, reads, reads_os, report) 
     same_report_on law g.sketch ps text another
     (subst (λ (zs : List OfferLine). IsReportOnOffers g.sketch zs text) offers_are (subst (λ (z : Front). IsReportOnOffers z.sketch os text) front_is report)) report'
 
-same_place : LowerLaws → (bytes : List ℕ) (r q : Refusal) → IsRefusedAt bytes r → IsRefusedAt bytes q → (r.line ≡ q.line) × (r.code ≡ q.code)
-same_place laws bytes r q (inl one) (inl other) = laws.front.one_refusal bytes r.line q.line r.code q.code one other
-same_place laws bytes r q (inl one) (inr (g, reads, refuses)) = absurd (laws.front.not_both bytes g r.line r.code reads one)
-same_place laws bytes r q (inr (f, reads, refuses)) (inl other) = absurd (laws.front.not_both bytes f q.line q.code reads other)
-same_place laws bytes r q (inr (f, reads, refuses)) (inr (g, reads', refuses')) =
-    let front_is : f ≡ g = laws.front.one_front bytes f g reads reads' in
-    one_refusal_behind g.lines (drop g.used bytes) r.line q.line r.code q.code
-    (subst (λ (z : Front). RefusesOffers z.lines (drop z.used bytes) r.line r.code) front_is refuses) refuses'
+-- a line is refused in one way, whatever refuses those behind a sketch in one way
+module _ (laws : LowerLaws) (RefusesBehind : Front → List ℕ → ℕ → Code → Type 0) (bytes : List ℕ) where
+  same_refused_at : ((front : Front) (rest : List ℕ) (n m : ℕ) (c d : Code) → RefusesBehind front rest n c → RefusesBehind front rest m d → (n ≡ m) × (c ≡ d))
+      → (r q : Refusal) → IsRefusedAt RefusesBehind bytes r → IsRefusedAt RefusesBehind bytes q → refusal_line r ≡ refusal_line q
+  same_refused_at one_behind r q at at' =
+      let same = places at at' in
+      let make : ℕ → Code → Refusal = λ n c. record { line = n; code = c } in
+      ap (λ n. refusal_line (make n r.code)) same.0 ∙ ap (λ c. refusal_line (make q.line c)) same.1
+    where
+      places : IsRefusedAt RefusesBehind bytes r → IsRefusedAt RefusesBehind bytes q → (r.line ≡ q.line) × (r.code ≡ q.code)
+      places (inl one) (inl other) = laws.front.one_refusal bytes r.line q.line r.code q.code one other
+      places (inl one) (inr (g, reads, refuses)) = absurd (laws.front.not_both bytes g r.line r.code reads one)
+      places (inr (f, reads, refuses)) (inl other) = absurd (laws.front.not_both bytes f q.line q.code reads other)
+      places (inr (f, reads, refuses)) (inr (g, reads', refuses')) =
+          let front_is : f ≡ g = laws.front.one_front bytes f g reads reads' in
+          one_behind g (drop g.used bytes) r.line q.line r.code q.code
+          (subst (λ (z : Front). RefusesBehind z (drop z.used bytes) r.line r.code) front_is refuses) refuses'
+
+  -- nor is one refused where the sketch is read, and what follows isn't refused
+  not_refused_at : (f : Front) (r : Refusal) → ReadsFront bytes f → ¬ RefusesBehind f (drop f.used bytes) r.line r.code → ¬ IsRefusedAt RefusesBehind bytes r
+  not_refused_at f r reads never (inl refuses) = laws.front.not_both bytes f r.line r.code reads refuses
+  not_refused_at f r reads never (inr (g, reads', refuses)) =
+      let front_is : g ≡ f = laws.front.one_front bytes g f reads' reads in
+      never (subst (λ (z : Front). RefusesBehind z (drop z.used bytes) r.line r.code) front_is refuses)
 
 pub not_read_and_refused : LowerLaws → (bytes text another : List ℕ) → IsOffersReport bytes text → IsOffersRefusal bytes another → ⊥
-not_read_and_refused laws bytes text another (f, os, reads, reads_os, report) (r, inl refuses, is) = laws.front.not_both bytes f r.line r.code reads refuses
-not_read_and_refused laws bytes text another (f, os, reads, reads_os, report) (r, inr (g, reads', refuses), is) =
-    let front_is : f ≡ g = laws.front.one_front bytes f g reads reads' in
-    not_both_behind g.lines (drop g.used bytes) os r.line r.code
-    (subst (λ (z : Front). ReadsOffers (drop z.used bytes) os) front_is reads_os) refuses
+not_read_and_refused laws bytes text another (f, os, reads, reads_os, report) (r, at, is) =
+    not_refused_at laws (λ front. RefusesOffers front.lines) bytes f r reads (λ refuses. not_both_behind f.lines (drop f.used bytes) os r.line r.code reads_os refuses) at
 
 pub told_offers : (bytes : List ℕ) (status : Status) (text : List ℕ) → IsOffersAnswer bytes status text → ((status ≡ Done) × IsOffersReport bytes text) ⊎ ((status ≡ Refused) × IsOffersRefusal bytes text)
 told_offers bytes Done text answer = inl (refl, answer)
@@ -294,12 +324,137 @@ same_offers laws law bytes status other text another first second =
       ]
       | inr (refused, (r, at, is)) ↦ elim (told_offers bytes other another second) [
         | inl (done, report) ↦ absurd (not_read_and_refused laws bytes another text report (r, at, is))
-        | inr (refused', (q, at', is')) ↦
-            let same = same_place laws bytes r q at at' in
-            let make : ℕ → Code → Refusal = λ n c. record { line = n; code = c } in
-            (refused ∙ sym refused', is ∙ ap (λ n. refusal_line (make n r.code)) same.0 ∙ ap (λ c. refusal_line (make q.line c)) same.1 ∙ sym is')
+        | inr (refused', (q, at', is')) ↦ (refused ∙ sym refused', is ∙ same_refused_at laws (λ front. RefusesOffers front.lines) bytes (λ front. one_refusal_behind front.lines) r q at at' ∙ sym is')
       ]
     ]
+
+-- the sketch and the flips are read, or a line is refused
+pub told_flips : (request : Request) (bytes : List ℕ) (status : Status) (text : List ℕ) → IsFlipsAnswer request bytes status text
+    → ((status ≡ Refused) × IsFlipsRefusal bytes text) ⊎ ((front : Front) × (lists : List (List Name)) × ReadsSketchAndFlips bytes front lists × IsFlipped request front.sketch lists status text)
+told_flips request bytes Refused text answer = inl (refl, answer)
+told_flips request bytes status text answer = inr answer
+
+pub not_flips_and_refused : LowerLaws → (bytes text : List ℕ) (front : Front) (lists : List (List Name)) → ReadsSketchAndFlips bytes front lists → ¬ IsFlipsRefusal bytes text
+not_flips_and_refused laws bytes text front lists reads (r, at, is) =
+    not_refused_at laws (λ front. RefusesFlips front.lines) bytes front r reads.0 (λ refuses. read_or_refused front.lines (drop front.used bytes) lists r.line r.code reads.1 refuses) at
+
+-- what comes of lists of steps, or a report where the verdict isn't well
+pub told_flipped : (request : Request) (s : Sketch) (lists : List (List Name)) (status : Status) (text : List ℕ) → IsFlipped request s lists status text
+    → ((status ≡ Done) × IsReportOnFlips request s lists text) ⊎ ((status ≡ NotWell) × IsReportNotWell s text)
+told_flipped request s lists Done text answer = inl (refl, answer)
+told_flipped request s lists NotWell text answer = inr (refl, answer)
+told_flipped request s lists status text answer = absurd answer
+
+same_report_on_flips : LowerLaws → (request : Request) (s : Sketch) → IsSoundGraph (graph_of s) → (lists : List (List Name)) (text another : List ℕ)
+    → IsReportOnFlips request s lists text → IsReportOnFlips request s lists another → text ≡ another
+same_report_on_flips laws request s sound lists text another one other =
+    let F = digits_of request.bits in
+    let plan_is : one.plan ≡ other.plan = same_plan laws request.order s sound one.plan other.plan one.by other.by in
+    let moved : AreAlternatives (grid_of request.bits) F request.within s other.plan lists one.found =
+    subst (λ (p : ThePlan). AreAlternatives (grid_of request.bits) F request.within s p lists one.found) plan_is one.are in
+    let tree = some_plan_tree (graph_of s) other.plan sound other.by.legal in
+    let found_is = same_alternatives (grid_of request.bits) F request.within s other.plan other.by.legal tree lists one.found other.found moved other.are in
+    one.is ∙ ap (λ (found : List Alternative). alternatives_from s F 1 found) found_is ∙ sym other.is
+
+same_flipped : OneJudgement → LowerLaws → (request : Request) (s : Sketch) → IsSoundGraph (graph_of s) → (lists : List (List Name)) (status other : Status) (text another : List ℕ)
+    → IsFlipped request s lists status text → IsFlipped request s lists other another → (status ≡ other) × (text ≡ another)
+same_flipped law laws request s sound lists status other text another first second =
+    elim (told_flipped request s lists status text first) [
+      | inl (done, report) ↦ elim (told_flipped request s lists other another second) [
+        | inl (done', report') ↦ (done ∙ sym done', same_report_on_flips laws request s sound lists text another report report')
+        | inr (short, told) ↦ absurd (still_well law s another report.well told)
+      ]
+      | inr (short, (j, judged, not_well, is)) ↦ elim (told_flipped request s lists other another second) [
+        | inl (done, report) ↦ absurd (still_well law s text report.well (j, judged, not_well, is))
+        | inr (short', (k, judged', not_well', is')) ↦ (short ∙ sym short', is ∙ ap (λ z. check_report s z) (same_judgement law (graph_of s) j k judged judged') ∙ sym is')
+      ]
+    ]
+
+same_flips_answer : OneJudgement → LowerLaws → (request : Request) (bytes : List ℕ) (status other : Status) (text another : List ℕ)
+    → IsFlipsAnswer request bytes status text → IsFlipsAnswer request bytes other another → (status ≡ other) × (text ≡ another)
+same_flips_answer law laws request bytes status other text another first second =
+    elim (told_flips request bytes status text first) [
+      | inl (refused, (r, at, is)) ↦ elim (told_flips request bytes other another second) [
+        | inl (refused', (q, at', is')) ↦ (refused ∙ sym refused', is ∙ same_refused_at laws (λ front. RefusesFlips front.lines) bytes (λ front. one_flips_refusal front.lines) r q at at' ∙ sym is')
+        | inr (g, lists, reads, told) ↦ absurd (not_flips_and_refused laws bytes text g lists reads (r, at, is))
+      ]
+      | inr (f, lists, reads, told) ↦ elim (told_flips request bytes other another second) [
+        | inl (refused, line) ↦ absurd (not_flips_and_refused laws bytes another f lists reads line)
+        | inr (g, others, reads', told') ↦
+            let front_is : f ≡ g = laws.front.one_front bytes f g reads.0 reads'.0 in
+            let lists_are : lists ≡ others = same_flips (drop g.used bytes) lists others (subst (λ (z : Front). ReadsFlips (drop z.used bytes) lists) front_is reads.1) reads'.1 in
+            same_flipped law laws request g.sketch (graph_is_sound g.sketch (laws.sound (take g.used bytes) g.sketch reads'.0.reads)) others status other text another
+            (subst (λ (zs : List (List Name)). IsFlipped request g.sketch zs status text) lists_are (subst (λ (z : Front). IsFlipped request z.sketch lists status text) front_is told)) told'
+      ]
+    ]
+
+-- ---- the claim behind a sketch
+
+-- a claim that is accepted, one that fails, or a refusal
+pub told_claim : (bytes : List ℕ) (status : Status) (text : List ℕ) → IsVerifyAnswer bytes status text
+    → ((status ≡ Done) × IsVerified bytes text) ⊎ (((status ≡ NotVerified) × IsNotVerified bytes text) ⊎ ((status ≡ Refused) × IsVerifyRefusal bytes text))
+told_claim bytes Done text answer = inl (refl, answer)
+told_claim bytes NotVerified text answer = inr (inl (refl, answer))
+told_claim bytes Refused text answer = inr (inr (refl, answer))
+told_claim bytes status text answer = absurd answer
+
+module _ (laws : LowerLaws) (bytes : List ℕ) where
+  -- one front and one claim
+  same_front : (f g : Front) (c d : Claim) → HasClaim bytes f c → HasClaim bytes g d → f ≡ g
+  same_front f g c d one other = laws.front.one_front bytes f g one.sketch other.sketch
+
+  same_claim : (f g : Front) (c d : Claim) → HasClaim bytes f c → HasClaim bytes g d → c ≡ d
+  same_claim f g c d one other =
+      one_claim g.sketch (drop g.used bytes) c d (subst (λ (z : Front). ReadsClaim z.sketch (drop z.used bytes) c) (same_front f g c d one other) one.claimed) other.claimed
+
+  -- the claim of the one is also that of the other
+  pub moved_claim : (P : Sketch → Claim → Type 0) (f g : Front) (c d : Claim) → HasClaim bytes f c → HasClaim bytes g d → P f.sketch c → P g.sketch d
+  moved_claim P f g c d one other h = subst (λ (z : Claim). P g.sketch z) (same_claim f g c d one other) (subst (λ (z : Front). P z.sketch c) (same_front f g c d one other) h)
+
+  same_verified : (text another : List ℕ) → IsVerified bytes text → IsVerified bytes another → text ≡ another
+  same_verified text another (f, c, one, accepted, is) (g, d, other, accepted', is') = is ∙ ap verified_line (same_claim f g c d one other) ∙ sym is'
+
+  same_failing : (text another : List ℕ) → IsNotVerified bytes text → IsNotVerified bytes another → text ≡ another
+  same_failing text another (f, c, h, one, fails, is) (g, d, k, other, fails', is') =
+      let moved = moved_claim (λ s claim. FailsFirst s (graph_of s) claim h) f g c d one other fails in
+      let failure : h ≡ k = one_failure g.sketch (graph_of g.sketch) d h k moved fails' in
+      is ∙ ap (λ (z : Front). failure_line z.sketch h) (same_front f g c d one other) ∙ ap (λ (z : Failure). failure_line g.sketch z) failure ∙ sym is'
+
+  pub not_accepted_and_failing : (text another : List ℕ) → IsVerified bytes text → IsNotVerified bytes another → ⊥
+  not_accepted_and_failing text another (f, c, one, accepted, is) (g, d, k, other, fails, is') =
+      not_both_failing g.sketch (graph_of g.sketch) d k (moved_claim (λ s claim. IsAccepted s (graph_of s) claim) f g c d one other accepted) fails
+
+  abbrev RefusesBehindClaim : Front → List ℕ → ℕ → Code → Type 0
+  RefusesBehindClaim front = RefusesClaim front.sketch front.lines
+
+  -- a claim that is read isn't refused
+  pub not_claimed_and_refused : (f : Front) (c : Claim) (r : Refusal) → HasClaim bytes f c → IsRefusedAt RefusesBehindClaim bytes r → ⊥
+  not_claimed_and_refused f c r has =
+      not_refused_at laws RefusesBehindClaim bytes f r has.sketch (not_both_claims f.sketch f.lines (drop f.used bytes) c r.line r.code has.claimed)
+
+  same_claim_refusal : (text another : List ℕ) → IsVerifyRefusal bytes text → IsVerifyRefusal bytes another → text ≡ another
+  same_claim_refusal text another (r, at, is) (q, at', is') =
+      is ∙ same_refused_at laws RefusesBehindClaim bytes (λ front. one_claim_refusal front.sketch front.lines) r q at at' ∙ sym is'
+
+  same_verify : (status other : Status) (text another : List ℕ) → IsVerifyAnswer bytes status text → IsVerifyAnswer bytes other another → (status ≡ other) × (text ≡ another)
+  same_verify status other text another first second =
+      elim (told_claim bytes status text first) [
+        | inl (done, verified) ↦ elim (told_claim bytes other another second) [
+          | inl (done', verified') ↦ (done ∙ sym done', same_verified text another verified verified')
+          | inr (inl (fails, failing)) ↦ absurd (not_accepted_and_failing text another verified failing)
+          | inr (inr (refused, (r, at, is))) ↦ absurd (not_claimed_and_refused verified.0 verified.1 r verified.2 at)
+        ]
+        | inr (inl (fails, failing)) ↦ elim (told_claim bytes other another second) [
+          | inl (done, verified) ↦ absurd (not_accepted_and_failing another text verified failing)
+          | inr (inl (fails', failing')) ↦ (fails ∙ sym fails', same_failing text another failing failing')
+          | inr (inr (refused, (r, at, is))) ↦ absurd (not_claimed_and_refused failing.0 failing.1 r failing.3 at)
+        ]
+        | inr (inr (refused, (r, at, is))) ↦ elim (told_claim bytes other another second) [
+          | inl (done, verified) ↦ absurd (not_claimed_and_refused verified.0 verified.1 r verified.2 at)
+          | inr (inl (fails, failing)) ↦ absurd (not_claimed_and_refused failing.0 failing.1 r failing.3 at)
+          | inr (inr (refused', (q, at', is'))) ↦ (refused ∙ sym refused', same_claim_refusal text another (r, at, is) (q, at', is'))
+        ]
+      ]
 
 -- a session's replies, or that the input is too long
 pub told_session : (request : Request) (bytes : List ℕ) (status : Status) (text : List ℕ) → IsSessionAnswer request bytes status text
@@ -387,6 +542,8 @@ same_answer one_sketch one_refusal not_both law laws Spare request fit bytes sta
 same_answer one_sketch one_refusal not_both law laws Derive request fit bytes status other text another first second =
     same_accounted one_sketch one_refusal not_both law laws Derived bytes status other text another first second
 same_answer one_sketch one_refusal not_both law laws Offers request fit bytes status other text another first second = same_offers laws law bytes status other text another first second
+same_answer one_sketch one_refusal not_both law laws Verify request fit bytes status other text another first second = same_verify laws bytes status other text another first second
+same_answer one_sketch one_refusal not_both law laws Flips request fit bytes status other text another first second = same_flips_answer law laws request bytes status other text another first second
 same_answer one_sketch one_refusal not_both law laws Session request fit bytes status other text another first second = same_session law laws request bytes status other text another first second
 same_answer one_sketch one_refusal not_both law laws Solve request fit bytes status other text another first second =
     same_solve_answer one_sketch one_refusal not_both law laws Places request bytes status other text another first second

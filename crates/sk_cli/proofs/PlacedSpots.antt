@@ -23,11 +23,11 @@ use Rattle.sk_place.specs.Placing.{IsPlaced}
 use Rattle.sk_place.specs.Rounding.{IsWithin, IsBoundedBox, AreBounded, midpoint, rounded, rounded_box}
 use Rattle.sk_place.proofs.Midpoints.{parts_within}
 use Rattle.sk_place.proofs.OnePlacing.{one_list, not_both}
-use Rattle.sk_residual.specs.Placing.{PlacesExactly}
+use Rattle.sk_residual.specs.Placing.{AreSpotsOf, PlacesExactly}
 use Rattle.sk_residual.proofs.InOrder.{exactly_in_order}
 use Rattle.sk_cli.specs.Solving.{midpoints}
-use Rattle.sk_cli.proofs.Placements.{spots_made}
-use Rattle.sk_cli.proofs.SomePlaces.{HasPlaces, some_places}
+use Rattle.sk_flips.proofs.SpotsPlaced.{spots_made}
+use Rattle.sk_place.proofs.SomePlaces.{HasPlaces, some_places}
 
 signed_within : (b : Bool) (m most : ℕ) → m ≤ most → IsAtMost most (if b then neg_ℤ (pos m) else pos m)
 signed_within true m most few = (omega (arith, ints), omega (arith, ints))
@@ -55,16 +55,20 @@ some_unit : (F : ℕ) → 0 < 2 * 2 ^ F
 some_unit F = (let unit = power_below 0 F (omega arith) in omega (arith, unit))
 
 module _ (G : Type 0) (F : ℕ) (g : Graph) (p : ThePlan) (sound : IsSoundGraph g) (legal : IsLegalPlan g p) where
-  pub exactly_so : (has : HasPlaces G F g p sound legal) → PlacesExactly g (midpoints F has.list)
-  exactly_so has =
-      exactly_in_order g (midpoints F has.list) sound.nodes_rise
-      (spots_made F has.list g.nodes (map (rounded F) has.list) has.nodes refl (all_within F has.list (some_unit F) has.bounded))
+  spots_so : (has : HasPlaces G F g p sound legal) → AreSpotsOf g.nodes (map (rounded F) has.list)
+  spots_so has = spots_made F has.list g.nodes (map (rounded F) has.list) has.nodes refl (all_within F has.list (some_unit F) has.bounded)
 
-  -- the boxes are the ones that the plan has
-  pub exactly_there : (boxes : List (BoxAt G)) → IsPlaced F g p (Ok boxes) → PlacesExactly g (midpoints F boxes)
-  exactly_there boxes placed =
+  pub exactly_so : (has : HasPlaces G F g p sound legal) → PlacesExactly g (midpoints F has.list)
+  exactly_so has = exactly_in_order g (midpoints F has.list) sound.nodes_rise (spots_so has)
+
+  -- the boxes are the ones that the plan has, and their midpoints are spots of the nodes, one by one
+  pub spots_there : (boxes : List (BoxAt G)) → IsPlaced F g p (Ok boxes) → AreSpotsOf g.nodes (map (rounded F) boxes)
+  spots_there boxes placed =
       let tree = some_plan_tree g p sound legal in
       elim (some_places G F g p sound legal) [
         | inr (f, failed) ↦ absurd (not_both G F g p legal tree boxes f placed failed)
-        | inl has ↦ subst (λ (bs : List (BoxAt G)). PlacesExactly g (midpoints F bs)) (one_list G F g p legal tree has.list boxes has.placed placed) (exactly_so has)
+        | inl has ↦ subst (λ (bs : List (BoxAt G)). AreSpotsOf g.nodes (map (rounded F) bs)) (one_list G F g p legal tree has.list boxes has.placed placed) (spots_so has)
       ]
+
+  pub exactly_there : (boxes : List (BoxAt G)) → IsPlaced F g p (Ok boxes) → PlacesExactly g (midpoints F boxes)
+  exactly_there boxes placed = exactly_in_order g (midpoints F boxes) sound.nodes_rise (spots_there boxes placed)

@@ -11,18 +11,22 @@ use Rattle.sk_lang.specs.declared.Code.{Code}
 use Rattle.sk_lang.specs.declared.Refusal.{Refusal}
 use Rattle.sk_lang.specs.Reading.{Refuses, TooLong, Empty, AtLine, NoEnd}
 use Rattle.sk_lang.specs.Front.{RefusesFront}
-use Rattle.sk_cli.specs.OffersReport.{IsRefusedAt}
+use Rattle.sk_flips.specs.FlipReading.{RefusesFlips}
+use Rattle.sk_lang.specs.declared.Front.{Front}
+use Rattle.sk_verify.specs.ClaimReading.{RefusesClaim}
+use Rattle.sk_cli.specs.Fronts.{IsRefusedAt}
+use Rattle.sk_cli.specs.OfferReading.{RefusesOffers}
 use Rattle.sk_cli.specs.declared.accounts.Account.{Account}
 use Rattle.sk_cli.specs.declared.accounts.Account.TheVariants.{Parts, Spares, Derived, Migrated}
 use Rattle.sk_cli.specs.declared.command.Command.{Command}
-use Rattle.sk_cli.specs.declared.command.Command.TheVariants.{Check, Plan, Solve, Dxf, Offers, Session, Grow, Migrate, Spare, Derive}
-use Rattle.sk_cli.specs.declared.placing.Placement.{Placement}
+use Rattle.sk_cli.specs.declared.command.Command.TheVariants.{Check, Plan, Solve, Dxf, Offers, Session, Grow, Migrate, Verify, Spare, Flips, Derive}
+use Rattle.sk_flips.specs.declared.Placement.{Placement}
 use Rattle.sk_cli.specs.declared.request.Request.{Request}
 use Rattle.sk_cli.specs.declared.solving.Report.{Report}
 use Rattle.sk_cli.specs.declared.solving.Report.TheVariants.{Places, Drawing, Sums}
 use Rattle.sk_gen.specs.DatumSketch.{datum_sketch}
 use Rattle.sk_cli.specs.declared.status.Status.{Status}
-use Rattle.sk_cli.specs.declared.status.Status.TheVariants.{Done, Refused, Usage, ReadFault, WriteFault, NoMemory, NotWell, StepFault, Tolerance}
+use Rattle.sk_cli.specs.declared.status.Status.TheVariants.{Done, Refused, Usage, ReadFault, WriteFault, NoMemory, NotWell, StepFault, Tolerance, NotVerified}
 use Rattle.sk_cli.specs.Asking.{Asks, AreOfForm, TakesInput, AskForInput}
 use Rattle.sk_cli.proofs.OneOutcome.{same_request}
 use Rattle.sk_cli.specs.Solving.{status_of}
@@ -63,9 +67,9 @@ still_front text bytes long longer line code (Empty fits blank) = absurd (omega 
 still_front text bytes long longer line code (AtLine fits some before at what first) = absurd (omega (arith, long, fits))
 still_front text bytes long longer line code (NoEnd fits some clean open_end) = absurd (omega (arith, long, fits))
 
-still_refused_at : (text bytes : List ℕ) → length text ≡ 1048577 → 1048577 ≤ length bytes → (r : Refusal) → IsRefusedAt text r → IsRefusedAt bytes r
-still_refused_at text bytes long longer r (inl refuses) = inl (still_front text bytes long longer r.line r.code refuses.refuses)
-still_refused_at text bytes long longer r (inr behind) = absurd (omega (arith, long, behind.1.fits))
+still_refused_at : (RefusesBehind : Front → List ℕ → ℕ → Code → Type 0) (text bytes : List ℕ) → length text ≡ 1048577 → 1048577 ≤ length bytes → (r : Refusal) → IsRefusedAt RefusesBehind text r → IsRefusedAt RefusesBehind bytes r
+still_refused_at RefusesBehind text bytes long longer r (inl refuses) = inl (still_front text bytes long longer r.line r.code refuses.refuses)
+still_refused_at RefusesBehind text bytes long longer r (inr behind) = absurd (omega (arith, long, behind.1.fits))
 
 still_accounted : (text bytes : List ℕ) → length text ≡ 1048577 → 1048577 ≤ length bytes → (account : Account) (status : Status) (out : List ℕ) → IsAccountAnswer account text status out → IsAccountAnswer account bytes status out
 still_accounted text bytes long longer account Done out answer = absurd (omega (arith, long, answer.1.fits))
@@ -85,8 +89,14 @@ still_answered text bytes long longer Dxf request Refused out answer = (answer.0
 still_answered text bytes long longer Dxf request status out answer = absurd (omega (arith, long, answer.1.fits))
 still_answered text bytes long longer Grow request status out answer = answer
 still_answered text bytes long longer Offers request Done out answer = absurd (omega (arith, long, answer.2.fits))
-still_answered text bytes long longer Offers request Refused out answer = (answer.0, still_refused_at text bytes long longer answer.0 answer.1, answer.2)
+still_answered text bytes long longer Offers request Refused out answer = (answer.0, still_refused_at (λ front. RefusesOffers front.lines) text bytes long longer answer.0 answer.1, answer.2)
 still_answered text bytes long longer Offers request status out answer = absurd answer
+still_answered text bytes long longer Verify request Done out answer = absurd (omega (arith, long, answer.2.sketch.fits))
+still_answered text bytes long longer Verify request NotVerified out answer = absurd (omega (arith, long, answer.3.sketch.fits))
+still_answered text bytes long longer Verify request Refused out answer = (answer.0, still_refused_at (λ front. RefusesClaim front.sketch front.lines) text bytes long longer answer.0 answer.1, answer.2)
+still_answered text bytes long longer Verify request status out answer = absurd answer
+still_answered text bytes long longer Flips request Refused out answer = (answer.0, still_refused_at (λ front. RefusesFlips front.lines) text bytes long longer answer.0 answer.1, answer.2)
+still_answered text bytes long longer Flips request status out answer = absurd (omega (arith, long, answer.2.0.fits))
 still_answered text bytes long longer Session request Done out answer = absurd (omega (arith, long, answer.0.fits))
 still_answered text bytes long longer Session request Refused out answer = (omega (arith, longer), answer.1)
 still_answered text bytes long longer Session request status out answer = absurd answer
@@ -141,8 +151,10 @@ no_read_fault Solve request bytes text answer = solved_told Places request answe
 no_read_fault Dxf request bytes text answer = solved_told Drawing request answer.0 ReadFault text answer.2
 no_read_fault Grow request bytes text answer = solved_told Sums request (datum_sketch answer.0) ReadFault text answer.2
 no_read_fault Offers request bytes text answer = answer
+no_read_fault Flips request bytes text answer = answer.3
 no_read_fault Session request bytes text answer = answer
 no_read_fault Migrate request bytes text answer = answer
+no_read_fault Verify request bytes text answer = answer
 no_read_fault Spare request bytes text answer = answer
 no_read_fault Derive request bytes text answer = answer
 
@@ -153,8 +165,10 @@ no_want Solve request bytes text answer = solved_told Places request answer.0 No
 no_want Dxf request bytes text answer = solved_told Drawing request answer.0 NoMemory text answer.2
 no_want Grow request bytes text answer = solved_told Sums request (datum_sketch answer.0) NoMemory text answer.2
 no_want Offers request bytes text answer = answer
+no_want Flips request bytes text answer = answer.3
 no_want Session request bytes text answer = answer
 no_want Migrate request bytes text answer = answer
+no_want Verify request bytes text answer = answer
 no_want Spare request bytes text answer = answer
 no_want Derive request bytes text answer = answer
 
@@ -165,8 +179,10 @@ no_write_fault Solve request bytes text answer = solved_told Places request answ
 no_write_fault Dxf request bytes text answer = solved_told Drawing request answer.0 WriteFault text answer.2
 no_write_fault Grow request bytes text answer = solved_told Sums request (datum_sketch answer.0) WriteFault text answer.2
 no_write_fault Offers request bytes text answer = answer
+no_write_fault Flips request bytes text answer = answer.3
 no_write_fault Session request bytes text answer = answer
 no_write_fault Migrate request bytes text answer = answer
+no_write_fault Verify request bytes text answer = answer
 no_write_fault Spare request bytes text answer = answer
 no_write_fault Derive request bytes text answer = answer
 
@@ -186,6 +202,7 @@ sent_ends words bytes old new given text Usage outcome sent = (text, sent.0, rw 
 sent_ends words bytes old new given text NotWell outcome sent = (text, sent.0, rw (← sent.1) at outcome)
 sent_ends words bytes old new given text StepFault outcome sent = (text, sent.0, rw (← sent.1) at outcome)
 sent_ends words bytes old new given text Tolerance outcome sent = (text, sent.0, rw (← sent.1) at outcome)
+sent_ends words bytes old new given text NotVerified outcome sent = (text, sent.0, rw (← sent.1) at outcome)
 sent_ends words bytes old new given text ReadFault outcome sent = absurd (outcome_no_read_fault words bytes text (rw (← sent.1) at outcome))
 sent_ends words bytes old new given text NoMemory outcome sent = absurd (outcome_no_want words bytes text (rw (← sent.1) at outcome))
 
@@ -253,6 +270,7 @@ as_session words bytes request ReadFault gained asks is ends = absurd ends
 as_session words bytes request NotWell gained asks is ends = absurd ends
 as_session words bytes request StepFault gained asks is ends = absurd ends
 as_session words bytes request Tolerance gained asks is ends = absurd ends
+as_session words bytes request NotVerified gained asks is ends = absurd ends
 
 pub session_ends : (words : List (List ℕ)) (left behind old new : Option (List ℕ)) (taken : List ℕ) (request : Request) (result : Status) (gained : List ℕ)
     → Asks words request → request.command ≡ Session → length taken ≤ 1048577 → TakesUpTo 1048577 left behind taken → length taken ≤ 1048576 → Appends old new gained → SessionEnds request taken result gained

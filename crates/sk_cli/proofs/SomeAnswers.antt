@@ -14,9 +14,9 @@ use Rattle.sk_offers.specs.Offering.{Table, IsFirstStale, IsAnswer, Follows}
 use Rattle.sk_report.specs.AnswerLine.{answer_line}
 use Rattle.sk_cli.specs.declared.offer_line.OfferLine.{OfferLine}
 use Rattle.sk_cli.specs.OffersReport.{FitsBoard, AreAnswered}
-use Rattle.sk_cli.proofs.Deciding.{Decided, moved}
-use Rattle.sk_cli.proofs.SomeChoices.{some_named, holds_decided}
-use Rattle.sk_cli.proofs.SomeShared.{some_shared}
+use Rattle.sk_base.proofs.Deciding.{Decided, moved}
+use Rattle.sk_rules.proofs.SettledRules.{some_named, holds_decided}
+use Rattle.sk_worklist.proofs.SomeShared.{some_shared}
 
 live_decided : (g : Graph) (f : Clusters) (n : Name) → Decided (IsLive f n)
 live_decided g f n = moved (λ (c, named, h). (c, named)) (λ (c, named). (c, named, tt)) (some_named g f n (λ c. Unit {0}) (λ c. inl tt))

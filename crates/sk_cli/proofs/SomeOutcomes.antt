@@ -1,10 +1,9 @@
 -- Words and an input have an outcome.
 use Rattle.std.proofs.Common.{◌≡◌, ◌≢◌, ◌⊎◌, inl, inr, refl, ℕ, ◌≤◌, ◌<◌, List, ◌++◌, Some, length, take, arith}
 use Rattle.std.specs.Prelude.{drop}
-use Rattle.sk_base.specs.declared.Placed.{Placed}
+use Rattle.sk_base.specs.declared.Name.{Name}
 use Rattle.sk_base.specs.declared.Sketch.{Sketch}
 use Rattle.sk_base.specs.SoundSketch.{IsSoundSketch}
-use Rattle.sk_base.specs.SoundGraph.{IsSoundGraph}
 use Rattle.sk_lang.specs.declared.Code.{Code}
 use Rattle.sk_lang.specs.declared.Front.{Front}
 use Rattle.sk_lang.specs.declared.Refusal.{Refusal}
@@ -19,88 +18,47 @@ use Rattle.sk_worklist.specs.declared.Order.TheVariants.{First}
 use Rattle.sk_worklist.specs.Orders.{place_of, next_call, place_below}
 use Rattle.sk_verdict.specs.declared.Judgement.{Judgement}
 use Rattle.sk_tree.specs.declared.Plan.{Plan as ThePlan}
-use Rattle.sk_tree.specs.LegalPlan.{IsLegalPlan}
 use Rattle.sk_plan.specs.Judged.{IsTheJudgement, IsWell}
 use Rattle.sk_offers.specs.Offering.{starting_table}
-use Rattle.sk_residual.specs.Placing.{PlacesExactly}
-use Rattle.sk_residual.specs.Telling.{constraint_of}
-use Rattle.sk_residual.specs.Tolerances.{lengthwise, anglewise, everything}
-use Rattle.sk_residual.specs.Turns.{signs}
-use Rattle.sk_residual.proofs.Worsts.{worst_lengthwise_named}
 use Rattle.sk_report.specs.CheckReport.{check_report}
 use Rattle.sk_report.specs.PlanReport.{plan_report}
 use Rattle.sk_report.specs.RefusalLine.{refusal_line}
 use Rattle.sk_spare.specs.SpareReport.{spare_report}
 use Rattle.sk_derive.specs.DerivedText.{derived_text}
+use Rattle.sk_verify.specs.Texts.{failure_line, verified_line}
+use Rattle.sk_verify.proofs.ClaimSoFar.{some_answer as claim_or_refused}
+use Rattle.sk_verify.proofs.FittingClaims.{read_claim_fits}
+use Rattle.sk_verify.proofs.SomeFailures.{accepted_or_failing}
 use Rattle.sk_cli.specs.declared.accounts.Account.{Account}
 use Rattle.sk_cli.specs.declared.accounts.Account.TheVariants.{Parts, Spares, Derived, Migrated}
 use Rattle.sk_cli.specs.declared.command.Command.{Command}
-use Rattle.sk_cli.specs.declared.command.Command.TheVariants.{Check, Plan, Solve, Dxf, Offers, Session, Grow, Migrate, Spare, Derive}
-use Rattle.sk_cli.specs.declared.placing.Placement.{Placement}
-use Rattle.sk_cli.specs.declared.placing.Placement.TheVariants.{Fault, Beyond, Turned, Holds}
+use Rattle.sk_cli.specs.declared.command.Command.TheVariants.{Check, Plan, Solve, Dxf, Offers, Session, Grow, Migrate, Verify, Spare, Flips, Derive}
+use Rattle.sk_residual.specs.declared.Wanted.TheVariants.{Drawn}
+use Rattle.sk_flips.specs.declared.Placement.{Placement}
+use Rattle.sk_flips.specs.declared.Placement.TheVariants.{Fault, Beyond, Turned, Holds}
 use Rattle.sk_cli.specs.declared.request.Request.{Request}
 use Rattle.sk_cli.specs.declared.solving.Report.{Report}
 use Rattle.sk_cli.specs.declared.solving.Report.TheVariants.{Places, Drawing, Sums}
 use Rattle.sk_cli.specs.declared.status.Status.{Status}
-use Rattle.sk_cli.specs.declared.status.Status.TheVariants.{Done, Refused, Usage, NotWell}
+use Rattle.sk_cli.specs.declared.status.Status.TheVariants.{Done, Refused, Usage, NotWell, NotVerified}
 use Rattle.sk_cli.specs.Accounts.{IsAccount}
+use Rattle.sk_cli.specs.FlipsReport.{alternatives_from, IsFlipped}
 use Rattle.sk_cli.specs.Grids.{grid_of, digits_of}
 use Rattle.sk_cli.specs.Outcome.{usage_line, IsPlanBy, IsReportNotWell, IsSolved, IsSolveAnswer, IsAnswerOf, IsAccountAnswer, IsOutcome}
-use Rattle.sk_cli.specs.Solving.{midpoints, IsMeasured, IsPlacement, status_of, placement_words}
+use Rattle.sk_cli.specs.Solving.{status_of, placement_words}
 use Rattle.sk_cli.proofs.FittingOffers.{read_fit}
+use Rattle.sk_cli.proofs.FlipsAnswered.{answers_flips}
+use Rattle.sk_flips.proofs.FlipsSoFar.{some_reading}
 use Rattle.sk_cli.proofs.OfferAnswers.{some_answer as read_or_refused}
-use Rattle.sk_cli.proofs.PlacedSpots.{exactly_so}
-use Rattle.sk_cli.proofs.Placements.{placement_of}
 use Rattle.sk_cli.proofs.Sizes.{grow_size}
 use Rattle.sk_cli.proofs.SomeAnswers.{some_answers}
-use Rattle.sk_cli.proofs.SomeMeasures.{own_everything, own_lengthwise, own_anglewise, some_told, searched, compared}
-use Rattle.sk_cli.proofs.SomePlaces.{some_places}
-use Rattle.sk_cli.proofs.SomePlans.{judgement_there, some_plan}
+use Rattle.sk_cli.proofs.SomePlacements.{some_placement, some_alternatives}
+use Rattle.sk_plan.proofs.SomePlans.{judgement_there, some_plan}
 use Rattle.sk_cli.proofs.SomeRequests.{form_decided}
 use Rattle.sk_cli.proofs.SomeSpares.{some_spares}
-use Rattle.sk_cli.proofs.SomeWide.{some_wide}
+use Rattle.sk_derive.proofs.SomeWide.{some_wide}
 use Rattle.sk_session.proofs.SomeReplies.{GivenByLanguage, well_or_not}
 use Rattle.sk_cli.proofs.SomeSessions.{SomeToSolve, some_session}
-
--- ---- what is measured
-
-some_measured : (limit : ℕ) (s : Sketch) (p : ThePlan) (at : Placed) → IsSoundGraph (graph_of s) → PlacesExactly (graph_of s) at → (q : Placement) × IsMeasured limit s p at q
-some_measured limit s p at sound exactly =
-    let g = graph_of s in
-    elim (searched at limit (everything g) (own_everything g at sound exactly)) [
-      | inr (b, first) ↦ (Beyond b, first)
-      | inl all ↦ elim (compared (signs s at p)) [
-        | inr (t, first) ↦ (Turned t, (all, first))
-        | inl drawn ↦ (
-            let lengths = some_told at (lengthwise g) (own_lengthwise g at sound exactly) in
-            let angles = some_told at (anglewise g) (own_anglewise g at sound exactly) in (
-              Holds at (record { t = lengths.0; w = angles.0; worst_t = constraint_of lengths.1; worst_w = angles.1 }),
-              (
-                refl,
-                all,
-                drawn,
-                record {
-                  lengths = lengths.2.least;
-                  angles = angles.2.least;
-                  worst_length = worst_lengthwise_named at g lengths.0 lengths.1 lengths.2.at;
-                  worst_angle = angles.2.at;
-                },
-              ),
-            ))
-      ]
-    ]
-
-some_placement : (G : Type 0) (F limit : ℕ) (s : Sketch) (p : ThePlan) → IsSoundGraph (graph_of s) → IsLegalPlan (graph_of s) p → (q : Placement) × IsPlacement G F limit s p q
-some_placement G F limit s p sound legal =
-    elim (some_places G F (graph_of s) p sound legal) [
-      | inr (f, failed) ↦ (Fault f, failed)
-      | inl has ↦ (
-          let at : Placed = midpoints F has.list in
-          let measured = some_measured limit s p at sound (exactly_so G F (graph_of s) p sound legal has) in
-          (measured.0, placement_of G F limit s p (graph_of s) has.list at measured.0 refl has.placed refl measured.1))
-    ]
-
--- ---- what the commands answer
 
 -- the laws of the layers below
 pub record LawsBelow : Type 0 where
@@ -160,7 +118,7 @@ solved report request s sketch some =
     elim (planned request.order s sketch some) [
       | inr (text, never) ↦ (NotWell, text, (λ e. cc), inr (refl, never))
       | inl (well, (p, by)) ↦ (
-          let q = some_placement (grid_of request.bits) (digits_of request.bits) request.within s p (graph_is_sound s sketch) by.legal in
+          let q = some_placement Drawn (grid_of request.bits) (digits_of request.bits) request.within s p (graph_is_sound s sketch) by.legal in
           (status_of q.0, placement_words report (digits_of request.bits) s p q.0, no_refusal q.0, inl (p, q.0, record { well = well; plan = by; placed = q.1 }, refl, refl)))
     ]
   where
@@ -213,15 +171,67 @@ offers_answer laws request bytes =
       ]
     ]
 
+-- the claim behind a sketch is accepted, or something of it fails first
+verify_answer : LawsBelow → (request : Request) (bytes : List ℕ) → Answered Verify request bytes
+verify_answer laws request bytes =
+    elim (laws.front bytes) [
+      | inr (n, (code, refuses)) ↦ (let r : Refusal = record { line = n; code = code } in (Refused, refusal_line r, (r, inl refuses, refl)))
+      | inl (f, front) ↦ elim (claim_or_refused f.sketch f.lines (drop f.used bytes)) [
+        | inr (n, (code, refuses)) ↦ (let r : Refusal = record { line = n; code = code } in (Refused, refusal_line r, (r, inr (f, front, refuses), refl)))
+        | inl (claim, reads) ↦ (
+            let s = f.sketch in
+            let sketch = laws.sound (take f.used bytes) s front.reads in
+            let fits = read_claim_fits s (drop f.used bytes) claim reads in
+            elim (accepted_or_failing s (graph_of s) refl (graph_is_sound s sketch) claim fits) [
+              | inl accepted ↦ (Done, verified_line claim, (f, claim, record { sketch = front; claimed = reads }, accepted, refl))
+              | inr (failure, fails) ↦ (NotVerified, failure_line s failure, (f, claim, failure, record { sketch = front; claimed = reads }, fails, refl))
+            ])
+      ]
+    ]
+
+flips_answer : LawsBelow → (request : Request) (bytes : List ℕ) → Answered Flips request bytes
+flips_answer laws request bytes =
+    elim (laws.front bytes) [
+      | inr (n, (code, refuses)) ↦ (let r : Refusal = record { line = n; code = code } in (Refused, refusal_line r, (r, inl refuses, refl)))
+      | inl (f, front) ↦ elim (some_reading f.lines (drop f.used bytes)) [
+        | inr (n, (code, refuses)) ↦ (let r : Refusal = record { line = n; code = code } in (Refused, refusal_line r, (r, inr (f, front, refuses), refl)))
+        | inl (lists, reads) ↦ (
+            let found = some_flipped request f.sketch (laws.sound (take f.used bytes) f.sketch front.reads) (laws.some (take f.used bytes) f.sketch front.reads) lists in
+            (found.0, found.1, answers_flips request bytes found.0 found.1 f lists (front, reads) found.2))
+      ]
+    ]
+  where
+    some_flipped : (request : Request) (s : Sketch) → IsSoundSketch s → 0 < length s.elements → (lists : List (List Name)) → (status : Status) × (text : List ℕ) × IsFlipped request s lists status text
+    some_flipped request s sketch some lists =
+        elim (planned request.order s sketch some) [
+          | inr (text, never) ↦ (NotWell, text, never)
+          | inl (well, (p, by)) ↦ (
+              let F = digits_of request.bits in
+              let found = some_alternatives (grid_of request.bits) F request.within s p (graph_is_sound s sketch) by.legal lists in (
+                Done,
+                alternatives_from s F 1 found.0,
+                record {
+                  well = well;
+                  plan = p;
+                  by = by;
+                  found = found.0;
+                  are = found.1;
+                  is = refl;
+                },
+              ))
+        ]
+
 answered : LawsBelow → (command : Command) (request : Request) → (command ≡ Grow → (n : ℕ) × (request.size ≡ Some n) × (3 ≤ n) × (n ≤ 1000)) → (bytes : List ℕ) → Answered command request bytes
 answered laws Check request size bytes = accounted laws Parts bytes
 answered laws Migrate request size bytes = accounted laws Migrated bytes
+answered laws Verify request size bytes = verify_answer laws request bytes
 answered laws Spare request size bytes = accounted laws Spares bytes
 answered laws Derive request size bytes = accounted laws Derived bytes
 answered laws Plan request size bytes = planned_answer laws request bytes
 answered laws Solve request size bytes = solve_answer laws Places request bytes
 answered laws Dxf request size bytes = solve_answer laws Drawing request bytes
 answered laws Offers request size bytes = offers_answer laws request bytes
+answered laws Flips request size bytes = flips_answer laws request bytes
 answered laws Session request size bytes =
     some_session laws.language laws.to_solve (λ asked s sound some. (let found = solved Places asked s sound some in (found.0, found.1, found.3))) request bytes
 answered laws Grow request size bytes =

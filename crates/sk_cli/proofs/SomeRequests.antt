@@ -9,11 +9,11 @@ use Rattle.sk_worklist.specs.declared.Order.TheVariants.{First, Last, Stride}
 use Rattle.sk_cli.specs.declared.bits.Bits.{Bits}
 use Rattle.sk_cli.specs.declared.bits.Bits.TheVariants.{Sixteen, TwentySeven, ThirtyEight}
 use Rattle.sk_cli.specs.declared.command.Command.{Command}
-use Rattle.sk_cli.specs.declared.command.Command.TheVariants.{Check, Plan, Solve, Dxf, Offers, Session, Grow, Migrate, Spare, Derive}
+use Rattle.sk_cli.specs.declared.command.Command.TheVariants.{Check, Plan, Solve, Dxf, Offers, Session, Grow, Migrate, Verify, Spare, Flips, Derive}
 use Rattle.sk_cli.specs.declared.request.Request.{Request}
 use Rattle.sk_cli.specs.Commands.{command_word}
 use Rattle.sk_cli.specs.Asking.{Key, OrderKey, BitsKey, WithinKey, SizeKey, key_name, takes, behind, values_of, IsKeyOf, IsNumber, IsOrder, IsBits, IsLimit, IsSize, Says, IsSet, HasSize, HasKeys, AreOfForm}
-use Rattle.sk_cli.proofs.Deciding.{Decided, all_decided, both, either, moved, some_in}
+use Rattle.sk_base.proofs.Deciding.{Decided, all_decided, both, either, moved, some_in}
 
 bool_decided : (b : Bool) → Decided (b ≡ true)
 bool_decided true = inl refl
@@ -110,7 +110,7 @@ key_decided command word =
     (some_in (λ key. IsTrue (takes command key) × IsSome (behind (key_name key) word)) (λ key. both (bool_decided (takes command key)) (bool_decided (is_some (behind (key_name key) word)))) all_keys)
 
 all_commands : List Command
-all_commands = Check ∷ Plan ∷ Solve ∷ Dxf ∷ Offers ∷ Session ∷ Grow ∷ Migrate ∷ Spare ∷ Derive ∷ []
+all_commands = Check ∷ Plan ∷ Solve ∷ Dxf ∷ Offers ∷ Session ∷ Grow ∷ Migrate ∷ Verify ∷ Spare ∷ Flips ∷ Derive ∷ []
 
 command_listed : (command : Command) → Contains all_commands command
 unfolding all_commands
@@ -122,8 +122,10 @@ command_listed Offers = (4, omega arith, refl)
 command_listed Session = (5, omega arith, refl)
 command_listed Grow = (6, omega arith, refl)
 command_listed Migrate = (7, omega arith, refl)
-command_listed Spare = (8, omega arith, refl)
-command_listed Derive = (9, omega arith, refl)
+command_listed Verify = (8, omega arith, refl)
+command_listed Spare = (9, omega arith, refl)
+command_listed Flips = (10, omega arith, refl)
+command_listed Derive = (11, omega arith, refl)
 
 unsized_decided : (command : Command) → Decided (HasSize command None)
 unsized_decided Check = inl tt
@@ -134,7 +136,9 @@ unsized_decided Offers = inl tt
 unsized_decided Session = inl tt
 unsized_decided Grow = inr (λ h. h)
 unsized_decided Migrate = inl tt
+unsized_decided Verify = inl tt
 unsized_decided Spare = inl tt
+unsized_decided Flips = inl tt
 unsized_decided Derive = inl tt
 
 sized_by : (command : Command) (n : ℕ) → HasSize command (Some n)
@@ -146,7 +150,9 @@ sized_by Offers n = tt
 sized_by Session n = tt
 sized_by Grow n = tt
 sized_by Migrate n = tt
+sized_by Verify n = tt
 sized_by Spare n = tt
+sized_by Flips n = tt
 sized_by Derive n = tt
 
 -- the keys ask for something of the command

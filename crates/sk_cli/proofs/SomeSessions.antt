@@ -25,8 +25,8 @@ use Rattle.sk_cli.specs.SessionAnswer.{solve_with, IsReplyText, at_start, IsSess
 use Rattle.sk_cli.specs.Solved.{IsSolved}
 use Rattle.sk_cli.specs.Told.{told}
 use Rattle.sk_cli.proofs.Sessions.{told_is_text, ends_or_not, Stands, stands_first, stands_next}
-use Rattle.sk_cli.proofs.SomePlans.{judgement_there, some_plan}
-use Rattle.sk_cli.proofs.SomeRuns.{some_run}
+use Rattle.sk_plan.proofs.SomePlans.{judgement_there, some_plan}
+use Rattle.sk_worklist.proofs.SomeRuns.{some_run}
 
 -- `solve` is answered only where there is something to solve
 abbrev pub SomeToSolve : Type 0

@@ -2,6 +2,7 @@
 use Rattle.std.proofs.Common.{◌≡◌, ◌≢◌, inl, inr, ℕ, ◌<◌, List, [], ◌++◌, length, refl, ap, sym, subst, ◌∙◌}
 use Rattle.std.specs.Prelude.{IsTrue, true, false}
 use Rattle.sk_base.specs.declared.Graph.{Graph}
+use Rattle.sk_base.specs.declared.Name.{Name}
 use Rattle.sk_base.specs.declared.Sketch.{Sketch}
 use Rattle.sk_base.specs.SoundGraph.{IsSoundGraph}
 use Rattle.sk_graph.specs.SketchGraph.{graph_of}
@@ -19,22 +20,22 @@ use Rattle.sk_report.specs.CheckReport.{check_report}
 use Rattle.sk_worklist.specs.declared.Order.{Order}
 use Rattle.sk_cli.specs.declared.accounts.Account.TheVariants.{Parts}
 use Rattle.sk_cli.specs.declared.command.Command.{Command}
-use Rattle.sk_cli.specs.declared.command.Command.TheVariants.{Check, Plan, Solve, Dxf, Offers, Session, Grow, Migrate, Spare, Derive}
+use Rattle.sk_cli.specs.declared.command.Command.TheVariants.{Check, Plan, Solve, Dxf, Offers, Session, Grow, Migrate, Verify, Spare, Flips, Derive}
 use Rattle.sk_cli.specs.declared.request.Request.{Request}
 use Rattle.sk_cli.specs.declared.solving.Report.{Report}
 use Rattle.sk_cli.specs.declared.status.Status.{Status}
 use Rattle.sk_cli.specs.declared.status.Status.TheVariants.{Done, NotWell}
 use Rattle.sk_cli.specs.Accounts.{IsAccount}
-use Rattle.sk_cli.specs.Asking.{places}
-use Rattle.sk_cli.specs.Causes.{plans, IsReportOf, IsSketchOf}
+use Rattle.sk_cli.specs.Causes.{plans, solves, IsReportOf, IsSketchOf}
+use Rattle.sk_cli.specs.FlipsReport.{IsFlipped}
 use Rattle.sk_cli.specs.Headline.{WritesCheckReport, MayStandBefore, UsesEachOnce, Tells}
 use Rattle.sk_cli.specs.OffersReport.{IsOffersReport, IsOffersAnswer}
 use Rattle.sk_cli.specs.Outcome.{IsAccountOf, IsRefusalText, IsPlanOrReport, IsReportNotWell, IsSolved, IsAnswerOf}
-use Rattle.sk_cli.proofs.OneOutcome.{OneSketch, NotBoth, OneJudgement, LowerLaws, told_account, told_plan, told_planned}
+use Rattle.sk_cli.proofs.OneOutcome.{OneSketch, NotBoth, OneJudgement, LowerLaws, told_account, told_plan, told_planned, told_flipped}
 use Rattle.sk_cli.proofs.Printed.{OneNormal, tells_clusters, part_of_sketch, planned_both, planned_text, unplaced, solved_text, failed_text}
-use Rattle.sk_cli.proofs.WhyEnds.{solved_about, not_well_both, planned_not_well}
+use Rattle.sk_cli.proofs.WhyEnds.{solved_about, not_well_both, planned_not_well, flips_about, flipped_not_well}
 
--- what is solved of a sketch for a command that places the elements
+-- what is solved of a sketch for a command
 abbrev pub IsSolvedFor : Command → Request → Sketch → Status → List ℕ → Type 0
 IsSolvedFor command request s status text = (report : Report) × IsReportOf command report × IsSolved report request s status text
 
@@ -43,8 +44,10 @@ abbrev pub IsSaid : Command → Request → Sketch → Status → List ℕ → T
 IsSaid Check request s status text = IsAccount Parts s text
 IsSaid Plan request s status text = (0 < length s.elements) × IsPlanOrReport request.order s status text
 IsSaid Offers request s status text = status ≡ Done → (j : Judgement) × (lines : List ℕ) × IsTheJudgement (graph_of s) j × (text ≡ lines ++ check_report s j)
+IsSaid Flips request s status text = (lists : List (List Name)) × IsFlipped request s lists status text
 IsSaid Session request s status text = ⊥
 IsSaid Migrate request s status text = Unit {0}
+IsSaid Verify request s status text = Unit {0}
 IsSaid Spare request s status text = Unit {0}
 IsSaid Derive request s status text = Unit {0}
 IsSaid Solve request s status text = IsSolvedFor Solve request s status text
@@ -87,8 +90,10 @@ said_about one_sketch not_both some_read laws Plan request bytes text status s a
     ]
 said_about one_sketch not_both some_read laws Offers request bytes text status s answer (g, reads, s_is) =
     λ done. offers_said one_sketch not_both laws bytes text s g reads s_is (done_report bytes text status answer done)
+said_about one_sketch not_both some_read laws Flips request bytes text status s answer about = flips_about laws request bytes text status s answer about
 said_about one_sketch not_both some_read laws Session request bytes text status s answer about = absurd about
 said_about one_sketch not_both some_read laws Migrate request bytes text status s answer about = tt
+said_about one_sketch not_both some_read laws Verify request bytes text status s answer about = tt
 said_about one_sketch not_both some_read laws Spare request bytes text status s answer about = tt
 said_about one_sketch not_both some_read laws Derive request bytes text status s answer about = tt
 said_about one_sketch not_both some_read laws Solve request bytes text status s answer about = solved_about one_sketch not_both Solve request bytes text status s answer refl about
@@ -111,34 +116,39 @@ nothing_before : (command : Command) → MayStandBefore command []
 nothing_before Offers = tt
 nothing_before command = refl
 
--- a command that places the elements writes the check report only where the verdict isn't well
-short_placed : (command : Command) (status : Status) → IsTrue (places command) → WritesCheckReport command status → status ≡ NotWell
+-- a command that solves a sketch writes the check report only where the verdict isn't well
+short_placed : (command : Command) (status : Status) → IsTrue (solves command) → WritesCheckReport command status → status ≡ NotWell
 short_placed Check Done placed writes = cc
 short_placed Offers Done placed writes = cc
 short_placed Plan NotWell placed writes = cc
 short_placed Solve NotWell placed writes = refl
 short_placed Dxf NotWell placed writes = refl
 short_placed Grow NotWell placed writes = refl
+short_placed Flips NotWell placed writes = cc
 short_placed command status placed writes = absurd writes
 
 short_planned : (status : Status) → WritesCheckReport Plan status → status ≡ NotWell
 short_planned NotWell writes = refl
 short_planned status writes = absurd writes
 
+short_flips : (status : Status) → WritesCheckReport Flips status → status ≡ NotWell
+short_flips NotWell writes = refl
+short_flips status writes = absurd writes
+
 done_offers : (status : Status) → WritesCheckReport Offers status → status ≡ Done
 done_offers Done writes = refl
 done_offers status writes = absurd writes
 
--- nothing is told of a sketch by a command that writes no check report, plans nothing and places nothing
-nothing_told : (command : Command) (request : Request) (s : Sketch) (status : Status) (text : List ℕ) → plans command ≡ false → places command ≡ false → ((any : Status) → ¬ WritesCheckReport command any) → command ≢ Plan
+-- nothing is told of a sketch by a command that writes no check report, plans nothing and solves nothing
+nothing_told : (command : Command) (request : Request) (s : Sketch) (status : Status) (text : List ℕ) → plans command ≡ false → solves command ≡ false → ((any : Status) → ¬ WritesCheckReport command any) → command ≢ Plan
     → Tells command request s status text
-nothing_told command request s status text no_plan no_places no_report other = record {
+nothing_told command request s status text no_plan no_solving no_report other = record {
   clusters = λ writes. absurd (no_report status writes);
   not_well = λ planned. absurd (let clash : false ≡ true = sym no_plan ∙ planned in cc);
   planned = λ same. absurd (other same);
   plan = λ same done. absurd (other same);
-  placed = λ placed done. absurd (let clash : false ≡ true = sym no_places ∙ placed in cc);
-  failure = λ placed other short. absurd (let clash : false ≡ true = sym no_places ∙ placed in cc);
+  placed = λ placed done. absurd (let clash : false ≡ true = sym no_solving ∙ placed in cc);
+  failure = λ placed other short. absurd (let clash : false ≡ true = sym no_solving ∙ placed in cc);
 }
 
 module _ (normal : OneNormal) (plans : LegalPlans) (law : OneJudgement) (laws : LowerLaws) (request : Request) (s : Sketch) (status : Status) (text : List ℕ) (sound : IsSoundGraph (graph_of s)) where
@@ -153,7 +163,7 @@ module _ (normal : OneNormal) (plans : LegalPlans) (law : OneJudgement) (laws : 
   judged_there answer =
       elim (told_planned request.order s status text answer) [ inl (done, (p, (j, judged, well), by, is)) ↦ (j, judged) | inr (short, (j, judged, not_well, is)) ↦ (j, judged) ]
 
-  placed_tells : (command : Command) → IsTrue (places command) → command ≢ Plan → IsSolvedFor command request s status text → Tells command request s status text
+  placed_tells : (command : Command) → IsTrue (solves command) → command ≢ Plan → IsSolvedFor command request s status text → Tells command request s status text
   placed_tells command placed other (report, of, solved) = record {
     clusters = λ writes. (let told = reported (unplaced report request s status text solved (short_placed command status placed writes)) in
         (told.0, [], nothing_before command, told.1, tells_clusters normal (graph_of s) sound told.0 told.2));
@@ -196,12 +206,29 @@ module _ (normal : OneNormal) (plans : LegalPlans) (law : OneJudgement) (laws : 
     failure = λ placed other short. cc;
   }
 
+  flips_not_planned : (lists : List (List Name)) → IsFlipped request s lists status text → status ≡ NotWell → IsReportNotWell s text
+  flips_not_planned lists answer short =
+      elim (told_flipped request s lists status text answer) [ inl (done, report) ↦ absurd (let clash : NotWell ≡ Done = sym short ∙ done in cc) | inr (is, report) ↦ report ]
+
+  flips_tells : (lists : List (List Name)) → IsFlipped request s lists status text → Tells Flips request s status text
+  flips_tells lists answer = record {
+    clusters = λ writes. (let told = reported (flips_not_planned lists answer (short_flips status writes)) in
+        (told.0, [], refl, told.1, tells_clusters normal (graph_of s) sound told.0 told.2));
+    not_well = λ planned. flipped_not_well law request s lists status text answer;
+    planned = λ same. cc;
+    plan = λ same done. cc;
+    placed = λ placed done. cc;
+    failure = λ placed other short. cc;
+  }
+
   pub tells : (command : Command) → IsSaid command request s status text → Tells command request s status text
   tells Check (j, judged, is) = checked_tells j judged is
   tells Plan (some, answer) = planned_tells some answer
   tells Offers said = offers_tells said
+  tells Flips (lists, answer) = flips_tells lists answer
   tells Session said = absurd said
   tells Migrate said = nothing_told Migrate request s status text refl refl (λ status writes. writes) (λ same. cc)
+  tells Verify said = nothing_told Verify request s status text refl refl (λ status writes. writes) (λ same. cc)
   tells Spare said = nothing_told Spare request s status text refl refl (λ status writes. writes) (λ same. cc)
   tells Derive said = nothing_told Derive request s status text refl refl (λ status writes. writes) (λ same. cc)
   tells Solve solved = placed_tells Solve refl (λ same. cc) solved

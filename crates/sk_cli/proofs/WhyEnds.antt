@@ -1,6 +1,7 @@
 -- Each status has its cause, and each cause has its status.
 use Rattle.std.proofs.Common.{◌≡◌, ◌≢◌, ◌⊎◌, inl, inr, ℕ, ◌<◌, List, length, refl, ap, sym, subst, ◌∙◌, arith}
 use Rattle.std.specs.Prelude.{◌↔◌, IsTrue, take}
+use Rattle.sk_base.specs.declared.Name.{Name}
 use Rattle.sk_base.specs.declared.Placed.{Placed}
 use Rattle.sk_base.specs.declared.Sketch.{Sketch}
 use Rattle.sk_base.specs.SoundGraph.{IsSoundGraph}
@@ -19,26 +20,35 @@ use Rattle.sk_residual.specs.Turns.{IsTurned}
 use Rattle.sk_cli.specs.declared.accounts.Account.{Account}
 use Rattle.sk_cli.specs.declared.accounts.Account.TheVariants.{Parts, Spares, Derived, Migrated}
 use Rattle.sk_cli.specs.declared.command.Command.{Command}
-use Rattle.sk_cli.specs.declared.command.Command.TheVariants.{Check, Plan, Solve, Dxf, Offers, Session, Grow, Migrate, Spare, Derive}
-use Rattle.sk_cli.specs.declared.placing.Placement.{Placement}
-use Rattle.sk_cli.specs.declared.placing.Placement.TheVariants.{Fault, Beyond, Turned, Holds}
+use Rattle.sk_cli.specs.declared.command.Command.TheVariants.{Check, Plan, Solve, Dxf, Offers, Session, Grow, Migrate, Verify, Spare, Flips, Derive}
+use Rattle.sk_lang.specs.declared.Front.{Front}
+use Rattle.sk_residual.specs.declared.Wanted.TheVariants.{Drawn}
+use Rattle.sk_flips.specs.declared.Placement.{Placement}
+use Rattle.sk_flips.specs.declared.Placement.TheVariants.{Fault, Beyond, Turned, Holds}
 use Rattle.sk_cli.specs.declared.request.Request.{Request}
+use Rattle.sk_cli.specs.FlipsReport.{IsFlipped, IsFlipsAnswer}
 use Rattle.sk_cli.specs.SessionAnswer.{IsSessionAnswer}
 use Rattle.sk_cli.specs.declared.solving.Report.{Report}
 use Rattle.sk_cli.specs.declared.solving.Report.TheVariants.{Places, Drawing, Sums}
 use Rattle.sk_cli.specs.declared.status.Status.{Status}
-use Rattle.sk_cli.specs.declared.status.Status.TheVariants.{Done, Refused, Usage, NotWell, StepFault, Tolerance}
-use Rattle.sk_cli.specs.Asking.{Asks, AreOfForm, places}
+use Rattle.sk_cli.specs.declared.status.Status.TheVariants.{Done, Refused, Usage, NotWell, StepFault, Tolerance, NotVerified}
+use Rattle.sk_cli.specs.Asking.{Asks, AreOfForm}
 use Rattle.sk_cli.specs.Grids.{grid_of, digits_of}
 use Rattle.sk_cli.specs.Solving.{midpoints, status_of, IsMeasured, IsPlacement}
 use Rattle.sk_cli.specs.Outcome.{IsPlanBy, IsPlanOrReport, IsSolved, IsAnswer, IsAnswerOf, IsAccountAnswer, IsOutcome}
-use Rattle.sk_cli.specs.Causes.{plans, IsReportOf, IsSketchOf, IsRefusedInput, IsItsPlan, HasFault, LieAt, NonePasses, SomePasses, SomeTurned}
-use Rattle.sk_cli.proofs.OnePlacement.{told_placed}
-use Rattle.sk_cli.proofs.OneOutcome.{OneSketch, NotBoth, OneJudgement, LowerLaws, still_well, same_plan, same_request, told_account, told_plan, told_planned, told_solve, told_offers, told_session, not_read_and_refused}
+use Rattle.sk_cli.specs.Causes.{plans, solves, IsReportOf, IsSketchOf, IsRefusedInput, IsItsPlan, HasFault, LieAt, NonePasses, SomePasses, SomeTurned}
+use Rattle.sk_flips.proofs.OnePlacement.{told_placed}
+use Rattle.sk_cli.proofs.OneOutcome.{OneSketch, NotBoth, OneJudgement, LowerLaws, still_well, same_plan, same_request, told_account, told_plan, told_planned, told_solve, told_offers, told_session, told_claim, told_flips, told_flipped, not_read_and_refused, not_accepted_and_failing, not_claimed_and_refused, not_flips_and_refused}
 use Rattle.sk_cli.proofs.Runs.{solved_told}
+use Rattle.sk_cli.specs.VerifyAnswer.{HasClaim}
+use Rattle.sk_lang.specs.declared.Front.{Front}
 use Rattle.sk_lang.specs.declared.Refusal.{Refusal}
 use Rattle.sk_lang.specs.Reading.{Refuses}
 use Rattle.sk_report.specs.RefusalLine.{refusal_line}
+use Rattle.sk_verify.specs.declared.claim.Claim.{Claim}
+use Rattle.sk_verify.specs.declared.failure.Failure.{Failure}
+use Rattle.sk_verify.specs.Failing.{IsAccepted, FailsFirst}
+use Rattle.sk_verify.specs.Texts.{failure_line, verified_line}
 use Rattle.sk_worklist.specs.declared.Order.{Order}
 use Rattle.sk_cli.proofs.Sizes.{HasFitSize, some_injective}
 
@@ -112,7 +122,7 @@ module _ (request : Request) (s : Sketch) (p : ThePlan) where
         let F = digits_of request.bits in
         let g = graph_of s in
         let tree = some_plan_tree g p sound by.legal in
-        elim (told_placed (grid_of request.bits) F request.within s p q placed) [
+        elim (told_placed Drawn (grid_of request.bits) F request.within s p q placed) [
           | inl (f, q_is, failed) ↦ absurd (not_both (grid_of request.bits) F g p by.legal tree boxes f lie failed)
           | inr (others, placed', measured) ↦
               subst (λ here. IsMeasured request.within s p here q) (sym is)
@@ -121,7 +131,7 @@ module _ (request : Request) (s : Sketch) (p : ThePlan) where
 
     pub fault_told : (q : Placement) → IsPlacedSo q → IsFault → status_of q ≡ StepFault
     fault_told q placed (inl (f, failed)) =
-        elim (told_placed (grid_of request.bits) (digits_of request.bits) request.within s p q placed) [
+        elim (told_placed Drawn (grid_of request.bits) (digits_of request.bits) request.within s p q placed) [
           | inl (e, q_is, failed') ↦ ap status_of q_is
           | inr (boxes, placed', measured) ↦
               absurd (not_both (grid_of request.bits) (digits_of request.bits) (graph_of s) p by.legal (some_plan_tree (graph_of s) p sound by.legal) boxes f placed' failed)
@@ -146,18 +156,23 @@ pub sound_about : LowerLaws → (command : Command) (request : Request) (bytes :
 sound_about laws Grow request bytes s fit (n, size, is) =
     let fits = fit n size in subst (λ z. IsSoundGraph (graph_of z)) (sym is) (graph_is_sound (datum_sketch n) (laws.made n fits.0 fits.1))
 sound_about laws Offers request bytes s fit (front, reads, is) = subst (λ z. IsSoundGraph (graph_of z)) (sym is) (graph_is_sound front.sketch (laws.sound (take front.used bytes) front.sketch reads.reads))
+sound_about laws Verify request bytes s fit (front, reads, is) = subst (λ z. IsSoundGraph (graph_of z)) (sym is) (graph_is_sound front.sketch (laws.sound (take front.used bytes) front.sketch reads.reads))
+sound_about laws Flips request bytes s fit (front, lists, reads, is) =
+    subst (λ z. IsSoundGraph (graph_of z)) (sym is) (graph_is_sound front.sketch (laws.sound (take front.used bytes) front.sketch reads.0.reads))
 sound_about laws Session request bytes s fit about = absurd about
 sound_about laws command request bytes s fit reads = graph_is_sound s (laws.sound bytes s reads)
 
--- a command that places elements tells of the sketch that it is about
+-- a command that solves a sketch tells of the one that it is about
 pub solved_about : OneSketch → NotBoth → (command : Command) (request : Request) (bytes text : List ℕ) (status : Status) (s : Sketch) → IsAnswerOf command request bytes status text
-    → IsTrue (places command) → IsSketchOf command request bytes s → (report : Report) × IsReportOf command report × IsSolved report request s status text
+    → IsTrue (solves command) → IsSketchOf command request bytes s → (report : Report) × IsReportOf command report × IsSolved report request s status text
 solved_about one_sketch not_both Check request bytes text status s answer placed reads = cc
 solved_about one_sketch not_both Plan request bytes text status s answer placed reads = cc
 solved_about one_sketch not_both Offers request bytes text status s answer placed reads = cc
 solved_about one_sketch not_both Migrate request bytes text status s answer placed reads = cc
+solved_about one_sketch not_both Verify request bytes text status s answer placed about = cc
 solved_about one_sketch not_both Spare request bytes text status s answer placed reads = cc
 solved_about one_sketch not_both Derive request bytes text status s answer placed reads = cc
+solved_about one_sketch not_both Flips request bytes text status s answer placed about = cc
 solved_about one_sketch not_both Session request bytes text status s answer placed about = absurd about
 solved_about one_sketch not_both Solve request bytes text status s answer placed reads =
     elim (told_solve Places request bytes status text answer) [
@@ -228,13 +243,35 @@ planned_not_well law order s status text answer =
       | inr (short, why_short) ↦ ((λ same well. still_well law s text well why_short), (λ not_well. short))
     ]
 
+-- what `flips` tells of the sketch that it is about
+pub flips_about : LowerLaws → (request : Request) (bytes text : List ℕ) (status : Status) (s : Sketch) → IsFlipsAnswer request bytes status text → IsSketchOf Flips request bytes s
+    → (lists : List (List Name)) × IsFlipped request s lists status text
+flips_about laws request bytes text status s answer (g, others, reads, s_is) =
+    elim (told_flips request bytes status text answer) [
+      | inl (refused, line) ↦ absurd (not_flips_and_refused laws bytes text g others reads line)
+      | inr (f, lists, reads', told) ↦
+          let same : f.sketch ≡ s = ap (λ (z : Front). z.sketch) (laws.front.one_front bytes f g reads'.0 reads.0) ∙ sym s_is in
+          (lists, subst (λ (z : Sketch). IsFlipped request z lists status text) same told)
+    ]
+
+-- the verdict of a sketch whose choices `flips` turns
+pub flipped_not_well : OneJudgement → (request : Request) (s : Sketch) (lists : List (List Name)) (status : Status) (text : List ℕ) → IsFlipped request s lists status text → (status ≡ NotWell) ↔ ¬ IsWell (graph_of s)
+flipped_not_well law request s lists status text answer =
+    elim (told_flipped request s lists status text answer) [
+      | inl (done, report) ↦ ((λ same. (let clash : Done ≡ NotWell = sym done ∙ same in cc)), (λ not_well. absurd (not_well report.well)))
+      | inr (short, why_short) ↦ ((λ same well. still_well law s text well why_short), (λ not_well. short))
+    ]
+
 pub not_well_about : OneSketch → NotBoth → OneJudgement → LowerLaws → (command : Command) (request : Request) (bytes text : List ℕ) (status : Status) (s : Sketch) → IsAnswerOf command request bytes status text
     → IsTrue (plans command) → IsSketchOf command request bytes s → (status ≡ NotWell) ↔ ¬ IsWell (graph_of s)
 not_well_about one_sketch not_both law laws Check request bytes text status s answer planned about = cc
 not_well_about one_sketch not_both law laws Offers request bytes text status s answer planned about = cc
 not_well_about one_sketch not_both law laws Migrate request bytes text status s answer planned about = cc
+not_well_about one_sketch not_both law laws Verify request bytes text status s answer planned about = cc
 not_well_about one_sketch not_both law laws Spare request bytes text status s answer planned about = cc
 not_well_about one_sketch not_both law laws Derive request bytes text status s answer planned about = cc
+not_well_about one_sketch not_both law laws Flips request bytes text status s answer planned about =
+    let told = flips_about laws request bytes text status s answer about in flipped_not_well law request s told.0 status text told.1
 not_well_about one_sketch not_both law laws Session request bytes text status s answer planned about = absurd about
 not_well_about one_sketch not_both law laws Plan request bytes text status s answer planned reads =
     elim (told_plan request.order bytes status text answer) [
@@ -253,35 +290,44 @@ no_other_account : (account : Account) (bytes text : List ℕ) (status : Status)
 no_other_account account bytes text status answer done refused =
     elim (told_account account bytes status text answer) [ inl told ↦ done told.0 | inr line ↦ refused line.0 ]
 
--- a status that tells neither that the command did its work nor that the input is refused comes only of a sketch that is planned
-planned_sketch : (command : Command) (request : Request) (bytes text : List ℕ) (status : Status) → IsAnswerOf command request bytes status text → status ≢ Done → status ≢ Refused
+-- a status that tells neither that the command did its work nor that the input is refused, nor that a claim fails, comes only of a sketch that is planned
+planned_sketch : (command : Command) (request : Request) (bytes text : List ℕ) (status : Status) → IsAnswerOf command request bytes status text → status ≢ Done → status ≢ Refused → (command ≡ Verify → status ≢ NotVerified)
     → IsTrue (plans command) × ((s : Sketch) × IsSketchOf command request bytes s)
-planned_sketch Check request bytes text status answer done refused = absurd (no_other_account Parts bytes text status answer done refused)
-planned_sketch Migrate request bytes text status answer done refused = absurd (no_other_account Migrated bytes text status answer done refused)
-planned_sketch Spare request bytes text status answer done refused = absurd (no_other_account Spares bytes text status answer done refused)
-planned_sketch Derive request bytes text status answer done refused = absurd (no_other_account Derived bytes text status answer done refused)
-planned_sketch Offers request bytes text status answer done refused =
+planned_sketch Check request bytes text status answer done refused unless = absurd (no_other_account Parts bytes text status answer done refused)
+planned_sketch Migrate request bytes text status answer done refused unless = absurd (no_other_account Migrated bytes text status answer done refused)
+planned_sketch Spare request bytes text status answer done refused unless = absurd (no_other_account Spares bytes text status answer done refused)
+planned_sketch Derive request bytes text status answer done refused unless = absurd (no_other_account Derived bytes text status answer done refused)
+planned_sketch Verify request bytes text status answer done refused unless =
+    elim (told_claim bytes status text answer) [
+      | inl verified ↦ absurd (done verified.0)
+      | inr (inl failing) ↦ absurd (unless refl failing.0)
+      | inr (inr line) ↦ absurd (refused line.0)
+    ]
+planned_sketch Offers request bytes text status answer done refused unless =
     elim (told_offers bytes status text answer) [ inl report ↦ absurd (done report.0) | inr line ↦ absurd (refused line.0) ]
-planned_sketch Session request bytes text status answer done refused =
+planned_sketch Flips request bytes text status answer done refused unless =
+    elim (told_flips request bytes status text answer) [ inl (is, line) ↦ absurd (refused is) | inr (front, lists, reads, told) ↦ (refl, (front.sketch, (front, lists, reads, refl))) ]
+planned_sketch Session request bytes text status answer done refused unless =
     elim (told_session request bytes status text answer) [ inl ended ↦ absurd (done ended.0) | inr long ↦ absurd (refused long.0) ]
-planned_sketch Plan request bytes text status answer done refused =
+planned_sketch Plan request bytes text status answer done refused unless =
     elim (told_plan request.order bytes status text answer) [ inl (is, line) ↦ absurd (refused is) | inr (s, reads, told) ↦ (refl, (s, reads)) ]
-planned_sketch Solve request bytes text status answer done refused =
+planned_sketch Solve request bytes text status answer done refused unless =
     elim (told_solve Places request bytes status text answer) [ inl (is, line) ↦ absurd (refused is) | inr (s, reads, solved) ↦ (refl, (s, reads)) ]
-planned_sketch Dxf request bytes text status answer done refused =
+planned_sketch Dxf request bytes text status answer done refused unless =
     elim (told_solve Drawing request bytes status text answer) [ inl (is, line) ↦ absurd (refused is) | inr (s, reads, solved) ↦ (refl, (s, reads)) ]
-planned_sketch Grow request bytes text status (n, size, solved) done refused = (refl, (datum_sketch n, (n, size, refl)))
+planned_sketch Grow request bytes text status (n, size, solved) done refused unless = (refl, (datum_sketch n, (n, size, refl)))
 
--- and where it tells not even that the verdict isn't well, the elements are placed
-placed_sketch : (command : Command) (request : Request) (bytes text : List ℕ) (status : Status) → IsAnswerOf command request bytes status text → status ≢ Done → status ≢ Refused → status ≢ NotWell
-    → IsTrue (places command) × ((s : Sketch) × IsSketchOf command request bytes s)
-placed_sketch command request bytes text status answer done refused short =
-    let there = planned_sketch command request bytes text status answer done refused in (placed command answer there.0, there.1)
+-- and where it tells not even that the verdict isn't well, the sketch is solved
+placed_sketch : (command : Command) (request : Request) (bytes text : List ℕ) (status : Status) → IsAnswerOf command request bytes status text → status ≢ Done → status ≢ Refused → status ≢ NotVerified → status ≢ NotWell
+    → IsTrue (solves command) × ((s : Sketch) × IsSketchOf command request bytes s)
+placed_sketch command request bytes text status answer done refused fails short =
+    let there = planned_sketch command request bytes text status answer done refused (λ same. fails) in (placed command answer there.0, there.1)
   where
-    placed : (command : Command) → IsAnswerOf command request bytes status text → IsTrue (plans command) → IsTrue (places command)
+    placed : (command : Command) → IsAnswerOf command request bytes status text → IsTrue (plans command) → IsTrue (solves command)
     placed Check answer planned = cc
     placed Offers answer planned = cc
     placed Migrate answer planned = cc
+    placed Verify answer planned = cc
     placed Spare answer planned = cc
     placed Derive answer planned = cc
     placed Session answer planned = cc
@@ -289,6 +335,11 @@ placed_sketch command request bytes text status answer done refused short =
         elim (told_plan request.order bytes status text answer) [
           | inl (is, line) ↦ absurd (refused is)
           | inr (s, reads, told) ↦ elim (told_planned request.order s status text told) [ inl (is, report) ↦ absurd (done is) | inr (is, report) ↦ absurd (short is) ]
+        ]
+    placed Flips answer planned =
+        elim (told_flips request bytes status text answer) [
+          | inl (is, line) ↦ absurd (refused is)
+          | inr (front, lists, reads, told) ↦ elim (told_flipped request front.sketch lists status text told) [ inl (is, report) ↦ absurd (done is) | inr (is, report) ↦ absurd (short is) ]
         ]
     placed Solve answer planned = refl
     placed Dxf answer planned = refl
@@ -298,33 +349,33 @@ module _ (one_sketch : OneSketch) (not_both_read : NotBoth) (law : OneJudgement)
   pub not_well_exactly : (status ≡ NotWell) ↔ (IsTrue (plans command) × ((s : Sketch) × IsSketchOf command request bytes s × ¬ IsWell (graph_of s)))
   not_well_exactly = (
     (λ is. (
-        let there = planned_sketch command request bytes text status answer (λ done. (let clash : NotWell ≡ Done = sym is ∙ done in cc)) (λ refused. (let clash : NotWell ≡ Refused = sym is ∙ refused in cc)) in
+        let there = planned_sketch command request bytes text status answer (λ done. (let clash : NotWell ≡ Done = sym is ∙ done in cc)) (λ refused. (let clash : NotWell ≡ Refused = sym is ∙ refused in cc)) (λ same fails. (let clash : NotWell ≡ NotVerified = sym is ∙ fails in cc)) in
         (there.0, (there.1.0, there.1.1, (not_well_about one_sketch not_both_read law laws command request bytes text status there.1.0 answer there.0 there.1.1).0 is))
         )),
     (λ (planned, (s, about, not_well)). ((not_well_about one_sketch not_both_read law laws command request bytes text status s answer planned about).1 not_well)),
   )
 
   -- a status of a sketch that is placed comes exactly where its cause stands of that sketch
-  placed_exactly : (want : Status) → want ≢ Done → want ≢ Refused → want ≢ NotWell → (Why : Sketch → Type 0)
-      → ((s : Sketch) → IsTrue (places command) → IsSketchOf command request bytes s → (status ≡ want) ↔ Why s)
-      → (status ≡ want) ↔ (IsTrue (places command) × ((s : Sketch) × IsSketchOf command request bytes s × Why s))
-  placed_exactly want done refused short Why both = (
+  placed_exactly : (want : Status) → want ≢ Done → want ≢ Refused → want ≢ NotVerified → want ≢ NotWell → (Why : Sketch → Type 0)
+      → ((s : Sketch) → IsTrue (solves command) → IsSketchOf command request bytes s → (status ≡ want) ↔ Why s)
+      → (status ≡ want) ↔ (IsTrue (solves command) × ((s : Sketch) × IsSketchOf command request bytes s × Why s))
+  placed_exactly want done refused fails short Why both = (
     (λ is. (
-        let there = placed_sketch command request bytes text status answer (λ e. done (sym is ∙ e)) (λ e. refused (sym is ∙ e)) (λ e. short (sym is ∙ e)) in
+        let there = placed_sketch command request bytes text status answer (λ e. done (sym is ∙ e)) (λ e. refused (sym is ∙ e)) (λ e. fails (sym is ∙ e)) (λ e. short (sym is ∙ e)) in
         (there.0, (there.1.0, there.1.1, (both there.1.0 there.0 there.1.1).0 is))
         )),
     (λ (placed, (s, about, why)). ((both s placed about).1 why)),
   )
 
   module _ (fit : HasFitSize request) where
-    pub fault_exactly : (status ≡ StepFault) ↔ (IsTrue (places command) × ((s : Sketch) × IsSketchOf command request bytes s × ((p : ThePlan) × IsItsPlan request s p × IsFault request s p)))
-    fault_exactly = placed_exactly StepFault (λ e. cc) (λ e. cc) (λ e. cc) (λ s. (p : ThePlan) × IsItsPlan request s p × IsFault request s p) (λ s placed about. (
+    pub fault_exactly : (status ≡ StepFault) ↔ (IsTrue (solves command) × ((s : Sketch) × IsSketchOf command request bytes s × ((p : ThePlan) × IsItsPlan request s p × IsFault request s p)))
+    fault_exactly = placed_exactly StepFault (λ e. cc) (λ e. cc) (λ e. cc) (λ e. cc) (λ s. (p : ThePlan) × IsItsPlan request s p × IsFault request s p) (λ s placed about. (
         let solved = solved_about one_sketch not_both_read command request bytes text status s answer placed about in
         fault_both law laws solved.0 request s status text solved.2 (sound_about laws command request bytes s fit about)
         ))
 
-    pub beyond_exactly : (status ≡ Tolerance) ↔ (IsTrue (places command) × ((s : Sketch) × IsSketchOf command request bytes s × ((p : ThePlan) × IsItsPlan request s p × IsBeyond request s p)))
-    beyond_exactly = placed_exactly Tolerance (λ e. cc) (λ e. cc) (λ e. cc) (λ s. (p : ThePlan) × IsItsPlan request s p × IsBeyond request s p) (λ s placed about. (
+    pub beyond_exactly : (status ≡ Tolerance) ↔ (IsTrue (solves command) × ((s : Sketch) × IsSketchOf command request bytes s × ((p : ThePlan) × IsItsPlan request s p × IsBeyond request s p)))
+    beyond_exactly = placed_exactly Tolerance (λ e. cc) (λ e. cc) (λ e. cc) (λ e. cc) (λ s. (p : ThePlan) × IsItsPlan request s p × IsBeyond request s p) (λ s placed about. (
         let solved = solved_about one_sketch not_both_read command request bytes text status s answer placed about in
         beyond_both law laws solved.0 request s status text solved.2 (sound_about laws command request bytes s fit about)
         ))
@@ -336,8 +387,10 @@ no_usage Plan request bytes text answer = answer.2
 no_usage Solve request bytes text answer = solved_told Places request answer.0 Usage text answer.2
 no_usage Dxf request bytes text answer = solved_told Drawing request answer.0 Usage text answer.2
 no_usage Offers request bytes text answer = answer
+no_usage Flips request bytes text answer = answer.3
 no_usage Session request bytes text answer = answer
 no_usage Migrate request bytes text answer = answer
+no_usage Verify request bytes text answer = answer
 no_usage Spare request bytes text answer = answer
 no_usage Derive request bytes text answer = answer
 no_usage Grow request bytes text answer = solved_told Sums request (datum_sketch answer.0) Usage text answer.2
@@ -350,12 +403,14 @@ usage_both words bytes text status (inr (not_form, is, text_is)) = ((λ same. no
 refused_so : (command : Command) (request : Request) (bytes text : List ℕ) → IsAnswerOf command request bytes Refused text → IsRefusedInput command bytes
 refused_so Check request bytes text (r, refuses, is) = (r, refuses)
 refused_so Migrate request bytes text (r, refuses, is) = (r, refuses)
+refused_so Verify request bytes text (r, at, is) = (r, at)
 refused_so Spare request bytes text (r, refuses, is) = (r, refuses)
 refused_so Derive request bytes text (r, refuses, is) = (r, refuses)
 refused_so Plan request bytes text (r, refuses, is) = (r, refuses)
 refused_so Solve request bytes text (r, refuses, is) = (r, refuses)
 refused_so Dxf request bytes text (r, refuses, is) = (r, refuses)
 refused_so Offers request bytes text (r, at, is) = (r, at)
+refused_so Flips request bytes text (r, at, is) = (r, at)
 refused_so Session request bytes text (long, is) = long
 refused_so Grow request bytes text answer = absurd (solved_told Sums request (datum_sketch answer.0) Refused text answer.2)
 
@@ -382,6 +437,14 @@ so_refused one_sketch not_both laws Dxf request bytes text status answer (r, ref
     elim (told_solve Drawing request bytes status text answer) [ inl refused ↦ refused.0 | inr (s, reads, told) ↦ absurd (not_both bytes s r.line r.code reads refuses) ]
 so_refused one_sketch not_both laws Offers request bytes text status answer (r, at) =
     elim (told_offers bytes status text answer) [ inl (done, report) ↦ absurd (not_read_and_refused laws bytes text (refusal_line r) report (r, at, refl)) | inr refused ↦ refused.0 ]
+so_refused one_sketch not_both laws Verify request bytes text status answer (r, at) =
+    elim (told_claim bytes status text answer) [
+      | inl (done, verified) ↦ absurd (not_claimed_and_refused laws bytes verified.0 verified.1 r verified.2 at)
+      | inr (inl (fails, failing)) ↦ absurd (not_claimed_and_refused laws bytes failing.0 failing.1 r failing.3 at)
+      | inr (inr refused) ↦ refused.0
+    ]
+so_refused one_sketch not_both laws Flips request bytes text status answer (r, at) =
+    elim (told_flips request bytes status text answer) [ inl refused ↦ refused.0 | inr (front, lists, reads, told) ↦ absurd (not_flips_and_refused laws bytes (refusal_line r) front lists reads (r, at, refl)) ]
 so_refused one_sketch not_both laws Session request bytes text status answer long = too_long request bytes text status answer long
 so_refused one_sketch not_both laws Grow request bytes text status answer refused = absurd refused
 
@@ -390,12 +453,12 @@ pub refused_both : OneSketch → NotBoth → LowerLaws → (command : Command) (
 refused_both one_sketch not_both laws command request bytes text status answer =
     ((λ same. refused_so command request bytes text (subst (λ z. IsAnswerOf command request bytes z text) same answer)), so_refused one_sketch not_both laws command request bytes text status answer)
 
--- a command that plans no sketch does its work exactly where its input isn't refused
+-- a command that plans no sketch and checks no claim does its work exactly where its input isn't refused
 pub done_unless_refused : OneSketch → NotBoth → LowerLaws → (command : Command) (request : Request) (bytes text : List ℕ) (status : Status) → IsAnswerOf command request bytes status text
-    → ¬ IsTrue (plans command) → (status ≡ Done) ↔ ¬ IsRefusedInput command bytes
-done_unless_refused one_sketch not_both laws command request bytes text status answer no_plan = (
+    → ¬ IsTrue (plans command) → command ≢ Verify → (status ≡ Done) ↔ ¬ IsRefusedInput command bytes
+done_unless_refused one_sketch not_both laws command request bytes text status answer no_plan other_command = (
   (λ done refused. (let clash : Done ≡ Refused = sym done ∙ both.1 refused in cc)),
-  (λ not_refused. done_at_last status (λ other. no_plan (planned_sketch command request bytes text status answer other (λ refused. not_refused (both.0 refused))).0)),
+  (λ not_refused. done_at_last status (λ other. no_plan (planned_sketch command request bytes text status answer other (λ refused. not_refused (both.0 refused)) (λ same. absurd (other_command same))).0)),
 )
   where
     both : (status ≡ Refused) ↔ IsRefusedInput command bytes
@@ -413,10 +476,18 @@ planned_well law order s status text answer =
       | inr told ↦ ((λ same. absurd (let clash : NotWell ≡ Done = sym told.0 ∙ same in cc)), (λ well. absurd (still_well law s text well told.1)))
     ]
 
+-- a sketch whose choices `flips` turns is planned exactly where its verdict is well
+flipped_well : OneJudgement → (request : Request) (s : Sketch) (lists : List (List Name)) (status : Status) (text : List ℕ) → IsFlipped request s lists status text → (status ≡ Done) ↔ IsWell (graph_of s)
+flipped_well law request s lists status text answer =
+    elim (told_flipped request s lists status text answer) [
+      | inl told ↦ ((λ same. told.1.well), (λ well. told.0))
+      | inr told ↦ ((λ same. absurd (let clash : NotWell ≡ Done = sym told.0 ∙ same in cc)), (λ well. absurd (still_well law s text well told.1)))
+    ]
+
 -- `plan` does its work exactly where its input is read as a sketch whose verdict is well
-pub done_where_well : OneSketch → NotBoth → OneJudgement → (request : Request) (bytes text : List ℕ) (status : Status) → IsAnswerOf Plan request bytes status text
+plan_where_well : OneSketch → NotBoth → OneJudgement → (request : Request) (bytes text : List ℕ) (status : Status) → IsAnswerOf Plan request bytes status text
     → (status ≡ Done) ↔ ((s : Sketch) × IsSketchOf Plan request bytes s × IsWell (graph_of s))
-done_where_well one_sketch not_both law request bytes text status answer =
+plan_where_well one_sketch not_both law request bytes text status answer =
     elim (told_plan request.order bytes status text answer) [
       | inl (is, line) ↦ (
         (λ done. absurd (let clash : Done ≡ Refused = sym done ∙ is in cc)),
@@ -426,4 +497,105 @@ done_where_well one_sketch not_both law request bytes text status answer =
         (λ done. (t, reads, (planned_well law request.order t status text told).0 done)),
         (λ found. (planned_well law request.order t status text told).1 (subst (λ z. IsWell (graph_of z)) (one_sketch bytes found.0 t found.1 reads) found.2)),
       )
+    ]
+
+-- `verify` does its work exactly where the claim is accepted, and names what fails exactly where something does
+module _ (laws : LowerLaws) (request : Request) (bytes text : List ℕ) (status : Status) where
+  pub verified_exactly : IsAnswerOf Verify request bytes status text
+      → (status ≡ Done) ↔ ((f : Front) × (c : Claim) × HasClaim bytes f c × IsAccepted f.sketch (graph_of f.sketch) c)
+  verified_exactly answer =
+      elim (told_claim bytes status text answer) [
+        | inl (done, (f, c, has, accepted, is)) ↦ ((λ same. (f, c, has, accepted)), (λ found. done))
+        | inr (inl (fails, failing)) ↦ (
+          (λ done. absurd (let clash : Done ≡ NotVerified = sym done ∙ fails in cc)),
+          (λ (f, c, has, accepted). absurd (not_accepted_and_failing laws bytes (verified_line c) text (f, c, has, accepted, refl) failing)),
+        )
+        | inr (inr (refused, (r, at, is))) ↦ (
+          (λ done. absurd (let clash : Done ≡ Refused = sym done ∙ refused in cc)),
+          (λ (f, c, has, accepted). absurd (not_claimed_and_refused laws bytes f c r has at)),
+        )
+      ]
+
+  failing_so : IsAnswerOf Verify request bytes status text
+      → (status ≡ NotVerified) ↔ ((f : Front) × (c : Claim) × (h : Failure) × HasClaim bytes f c × FailsFirst f.sketch (graph_of f.sketch) c h)
+  failing_so answer =
+      elim (told_claim bytes status text answer) [
+        | inl (done, verified) ↦ (
+          (λ fails. absurd (let clash : Done ≡ NotVerified = sym done ∙ fails in cc)),
+          (λ (f, c, h, has, first). absurd (not_accepted_and_failing laws bytes text (failure_line f.sketch h) verified (f, c, h, has, first, refl))),
+        )
+        | inr (inl (fails, (f, c, h, has, first, is))) ↦ ((λ same. (f, c, h, has, first)), (λ found. fails))
+        | inr (inr (refused, (r, at, is))) ↦ (
+          (λ fails. absurd (let clash : Refused ≡ NotVerified = sym refused ∙ fails in cc)),
+          (λ (f, c, h, has, first). absurd (not_claimed_and_refused laws bytes f c r has at)),
+        )
+      ]
+
+-- no other command answers that a claim fails
+only_verify : (command : Command) (request : Request) (bytes text : List ℕ) → IsAnswerOf command request bytes NotVerified text → command ≡ Verify
+only_verify Check request bytes text answer = absurd answer
+only_verify Plan request bytes text answer = absurd answer.2
+only_verify Solve request bytes text answer = absurd (solved_told Places request answer.0 NotVerified text answer.2)
+only_verify Dxf request bytes text answer = absurd (solved_told Drawing request answer.0 NotVerified text answer.2)
+only_verify Offers request bytes text answer = absurd answer
+only_verify Session request bytes text answer = absurd answer
+only_verify Migrate request bytes text answer = absurd answer
+only_verify Verify request bytes text answer = refl
+only_verify Spare request bytes text answer = absurd answer
+only_verify Flips request bytes text answer = absurd answer.3
+only_verify Derive request bytes text answer = absurd answer
+only_verify Grow request bytes text answer = absurd (solved_told Sums request (datum_sketch answer.0) NotVerified text answer.2)
+
+pub failing_exactly : LowerLaws → (command : Command) (request : Request) (bytes text : List ℕ) (status : Status) → IsAnswerOf command request bytes status text
+    → (status ≡ NotVerified) ↔ ((command ≡ Verify) × ((f : Front) × (c : Claim) × (h : Failure) × HasClaim bytes f c × FailsFirst f.sketch (graph_of f.sketch) c h))
+failing_exactly laws command request bytes text status answer = (
+  (λ fails.
+      let is : command ≡ Verify = only_verify command request bytes text (subst (λ z. IsAnswerOf command request bytes z text) fails answer) in
+      (is, (failing_so laws request bytes text status (subst (λ (c : Command). IsAnswerOf c request bytes status text) is answer)).0 fails)),
+  (λ (is, found). (failing_so laws request bytes text status (subst (λ (c : Command). IsAnswerOf c request bytes status text) is answer)).1 found),
+)
+
+-- and so does `flips` where the flips are read too
+flips_where_well : OneJudgement → LowerLaws → (request : Request) (bytes text : List ℕ) (status : Status) → IsAnswerOf Flips request bytes status text
+    → (status ≡ Done) ↔ ((s : Sketch) × IsSketchOf Flips request bytes s × IsWell (graph_of s))
+flips_where_well law laws request bytes text status answer =
+    elim (told_flips request bytes status text answer) [
+      | inl (is, line) ↦ (
+        (λ done. absurd (let clash : Done ≡ Refused = sym done ∙ is in cc)),
+        (λ (s, (g, others, reads, s_is), well). absurd (not_flips_and_refused laws bytes text g others reads line)),
+      )
+      | inr (f, lists, reads, told) ↦ (
+        (λ done. (f.sketch, (f, lists, reads, refl), (flipped_well law request f.sketch lists status text told).0 done)),
+        (λ (s, (g, others, reads', s_is), well). (
+            let same : s ≡ f.sketch = s_is ∙ ap (λ (z : Front). z.sketch) (laws.front.one_front bytes g f reads'.0 reads.0) in
+            (flipped_well law request f.sketch lists status text told).1 (subst (λ z. IsWell (graph_of z)) same well))),
+      )
+    ]
+
+-- a command that plans a sketch and doesn't solve it
+plans_alone : (command : Command) → IsTrue (plans command) → ¬ IsTrue (solves command) → (command ≡ Plan) ⊎ (command ≡ Flips)
+plans_alone Plan planned other = inl refl
+plans_alone Flips planned other = inr refl
+plans_alone Solve planned other = absurd (other refl)
+plans_alone Dxf planned other = absurd (other refl)
+plans_alone Grow planned other = absurd (other refl)
+plans_alone Check planned other = cc
+plans_alone Offers planned other = cc
+plans_alone Session planned other = cc
+plans_alone Migrate planned other = cc
+plans_alone Verify planned other = cc
+plans_alone Spare planned other = cc
+plans_alone Derive planned other = cc
+
+-- it does its work exactly where its input is read, and the sketch that it is about is well
+pub done_where_well : OneSketch → NotBoth → OneJudgement → LowerLaws → (command : Command) (request : Request) (bytes text : List ℕ) (status : Status) → IsAnswerOf command request bytes status text
+    → IsTrue (plans command) → ¬ IsTrue (solves command) → (status ≡ Done) ↔ ((s : Sketch) × IsSketchOf command request bytes s × IsWell (graph_of s))
+done_where_well one_sketch not_both_read law laws command request bytes text status answer planned other =
+    elim (plans_alone command planned other) [
+      | inl is ↦
+          subst (λ (c : Command). IsAnswerOf c request bytes status text → (status ≡ Done) ↔ ((s : Sketch) × IsSketchOf c request bytes s × IsWell (graph_of s))) (sym is)
+          (plan_where_well one_sketch not_both_read law request bytes text status) answer
+      | inr is ↦
+          subst (λ (c : Command). IsAnswerOf c request bytes status text → (status ≡ Done) ↔ ((s : Sketch) × IsSketchOf c request bytes s × IsWell (graph_of s))) (sym is)
+          (flips_where_well law laws request bytes text status) answer
     ]

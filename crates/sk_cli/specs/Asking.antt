@@ -7,7 +7,7 @@ use Rattle.sk_worklist.specs.declared.Order.TheVariants.{First, Last, Stride}
 use Rattle.sk_cli.specs.declared.bits.Bits.{Bits}
 use Rattle.sk_cli.specs.declared.bits.Bits.TheVariants.{Sixteen, TwentySeven, ThirtyEight}
 use Rattle.sk_cli.specs.declared.command.Command.{Command}
-use Rattle.sk_cli.specs.declared.command.Command.TheVariants.{Check, Plan, Solve, Dxf, Offers, Session, Grow, Migrate, Spare, Derive}
+use Rattle.sk_cli.specs.declared.command.Command.TheVariants.{Check, Plan, Solve, Dxf, Offers, Session, Grow, Migrate, Verify, Spare, Flips, Derive}
 use Rattle.sk_cli.specs.declared.request.Request.{Request}
 use Rattle.sk_cli.specs.Commands.{command_word}
 
@@ -59,7 +59,9 @@ orders Offers = true
 orders Session = true
 orders Grow = true
 orders Migrate = false
+orders Verify = false
 orders Spare = false
+orders Flips = true
 orders Derive = true
 
 -- it places the elements of a sketch
@@ -72,7 +74,9 @@ places Offers = false
 places Session = true
 places Grow = true
 places Migrate = false
+places Verify = false
 places Spare = false
+places Flips = true
 places Derive = false
 
 -- it makes its sketch
@@ -85,10 +89,12 @@ makes Offers = false
 makes Session = false
 makes Grow = true
 makes Migrate = false
+makes Verify = false
 makes Spare = false
+makes Flips = false
 makes Derive = false
 
--- the keys of a command: all but `migrate` and `spare` take an order, those that place elements a grid and a limit, one that makes a sketch its size
+-- the keys of a command: all but `migrate`, `verify` and `spare` take an order, those that place elements a grid and a limit, one that makes a sketch its size
 abbrev pub takes : Command → Key → Bool
 takes command OrderKey = orders command
 takes command BitsKey = places command

@@ -1,5 +1,6 @@
 -- Why a call ends as it does: the sketch that it is about, its plan, and where the plan places the elements.
 use Rattle.std.specs.Prelude.{◌≡◌, ◌<◌, ℕ, List, length, Contains, Bool, true, false, Some, Ok, Err}
+use Rattle.sk_base.specs.declared.Name.{Name}
 use Rattle.sk_base.specs.declared.Placed.{Placed}
 use Rattle.sk_base.specs.declared.Sketch.{Sketch}
 use Rattle.sk_lang.specs.declared.Refusal.{Refusal}
@@ -17,13 +18,17 @@ use Rattle.sk_place.specs.Placing.{IsPlaced}
 use Rattle.sk_residual.specs.declared.Turned.{Turned}
 use Rattle.sk_residual.specs.Tolerances.{Item, AllHold, IsAbove, everything}
 use Rattle.sk_residual.specs.Turns.{signs, IsTurned}
+use Rattle.sk_flips.specs.FlipReading.{RefusesFlips}
 use Rattle.sk_cli.specs.declared.command.Command.{Command}
-use Rattle.sk_cli.specs.declared.command.Command.TheVariants.{Check, Plan, Solve, Dxf, Offers, Session, Grow, Migrate, Spare, Derive}
+use Rattle.sk_cli.specs.declared.command.Command.TheVariants.{Check, Plan, Solve, Dxf, Offers, Session, Grow, Migrate, Verify, Spare, Flips, Derive}
 use Rattle.sk_cli.specs.declared.request.Request.{Request}
 use Rattle.sk_cli.specs.declared.solving.Report.{Report}
 use Rattle.sk_cli.specs.declared.solving.Report.TheVariants.{Places, Drawing, Sums}
 use Rattle.sk_cli.specs.Grids.{grid_of, digits_of}
-use Rattle.sk_cli.specs.OffersReport.{IsRefusedAt}
+use Rattle.sk_cli.specs.FlipsReport.{ReadsSketchAndFlips}
+use Rattle.sk_verify.specs.ClaimReading.{RefusesClaim}
+use Rattle.sk_cli.specs.Fronts.{IsRefusedAt}
+use Rattle.sk_cli.specs.OfferReading.{RefusesOffers}
 use Rattle.sk_cli.specs.Outcome.{IsPlanBy}
 use Rattle.sk_cli.specs.Solving.{midpoints}
 
@@ -37,8 +42,25 @@ plans Offers = false
 plans Session = false
 plans Grow = true
 plans Migrate = false
+plans Verify = false
 plans Spare = false
+plans Flips = true
 plans Derive = false
+
+-- it ends as the plan of a sketch is placed
+abbrev pub solves : Command → Bool
+solves Check = false
+solves Plan = false
+solves Solve = true
+solves Dxf = true
+solves Offers = false
+solves Session = false
+solves Grow = true
+solves Migrate = false
+solves Verify = false
+solves Spare = false
+solves Flips = false
+solves Derive = false
 
 -- the report that a command writes where it places all elements
 abbrev pub IsReportOf : Command → Report → Type 0
@@ -47,17 +69,21 @@ IsReportOf Dxf Drawing = Unit {0}
 IsReportOf Grow Sums = Unit {0}
 IsReportOf command report = ⊥
 
--- the sketch that a command is about: the one that it makes, or what its input, or the front of it, is read as. A session
--- is about no one sketch.
+-- the sketch that a command is about: the one that it makes, or what its input, or the front of it, is read as; of `flips`
+-- only where the flips behind it are read too. A session is about no one sketch.
 abbrev pub IsSketchOf : Command → Request → List ℕ → Sketch → Type 0
 IsSketchOf Grow request bytes s = (n : ℕ) × (request.size ≡ Some n) × (s ≡ datum_sketch n)
 IsSketchOf Offers request bytes s = (front : Front) × ReadsFront bytes front × (s ≡ front.sketch)
+IsSketchOf Verify request bytes s = (front : Front) × ReadsFront bytes front × (s ≡ front.sketch)
+IsSketchOf Flips request bytes s = (front : Front) × (lists : List (List Name)) × ReadsSketchAndFlips bytes front lists × (s ≡ front.sketch)
 IsSketchOf Session request bytes s = ⊥
 IsSketchOf command request bytes s = Reads bytes s
 
 -- the input of a command is refused; that of a session only where it is too long
 abbrev pub IsRefusedInput : Command → List ℕ → Type 0
-IsRefusedInput Offers bytes = (r : Refusal) × IsRefusedAt bytes r
+IsRefusedInput Offers bytes = (r : Refusal) × IsRefusedAt (λ front. RefusesOffers front.lines) bytes r
+IsRefusedInput Flips bytes = (r : Refusal) × IsRefusedAt (λ front. RefusesFlips front.lines) bytes r
+IsRefusedInput Verify bytes = (r : Refusal) × IsRefusedAt (λ front. RefusesClaim front.sketch front.lines) bytes r
 IsRefusedInput Session bytes = 1048576 < length bytes
 IsRefusedInput Grow bytes = ⊥
 IsRefusedInput command bytes = (r : Refusal) × Refuses bytes r.line r.code

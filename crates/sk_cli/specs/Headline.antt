@@ -35,13 +35,12 @@ use Rattle.sk_session.specs.declared.Reply.{Reply}
 use Rattle.sk_session.specs.declared.Reply.TheVariants as reply
 use Rattle.sk_session.specs.State.{State}
 use Rattle.sk_cli.specs.declared.command.Command.{Command}
-use Rattle.sk_cli.specs.declared.command.Command.TheVariants.{Check, Plan, Solve, Dxf, Offers, Grow}
+use Rattle.sk_cli.specs.declared.command.Command.TheVariants.{Check, Plan, Solve, Dxf, Offers, Grow, Flips}
 use Rattle.sk_cli.specs.declared.request.Request.{Request}
 use Rattle.sk_cli.specs.declared.solving.Report.{Report}
 use Rattle.sk_cli.specs.declared.status.Status.{Status}
 use Rattle.sk_cli.specs.declared.status.Status.TheVariants.{Done, NotWell}
-use Rattle.sk_cli.specs.Asking.{places}
-use Rattle.sk_cli.specs.Causes.{plans, IsReportOf, IsItsPlan, LieAt, NonePasses}
+use Rattle.sk_cli.specs.Causes.{plans, solves, IsReportOf, IsItsPlan, LieAt, NonePasses}
 use Rattle.sk_cli.specs.Grids.{grid_of, digits_of}
 use Rattle.sk_cli.specs.SessionAnswer.{RepliesToFront, IsReplied}
 use Rattle.sk_cli.specs.Solving.{IsTolerance, report_words}
@@ -70,6 +69,7 @@ WritesCheckReport Plan NotWell = Unit {0}
 WritesCheckReport Solve NotWell = Unit {0}
 WritesCheckReport Dxf NotWell = Unit {0}
 WritesCheckReport Grow NotWell = Unit {0}
+WritesCheckReport Flips NotWell = Unit {0}
 WritesCheckReport command status = ⊥
 
 -- what a command may write before the check report: only `offers` writes lines there
@@ -109,17 +109,17 @@ NamesTheFirst request s text =
 
 -- What a command tells of a sketch by its status and its text. Where it writes the check report, its clusters. A command that
 -- plans has the status NotWell exactly where the verdict isn't well; `plan` writes a plan exactly where just one part remains and
--- isn't over, and the plan uses each constraint once. A command that places the elements writes where they lie, and hold, or else
--- what fails first.
+-- isn't over, and the plan uses each constraint once. A command that solves the sketch writes where the elements lie, and hold, or
+-- else what fails first.
 pub record Tells (command : Command) (request : Request) (s : Sketch) (status : Status) (text : List ℕ) : Type 0 where
   pub clusters : WritesCheckReport command status → EndsWithClusters command s text
   pub not_well : IsTrue (plans command) → (status ≡ NotWell) ↔ ¬ IsWell (graph_of s)
   pub planned : command ≡ Plan → (j : Judgement) × IsTheJudgement (graph_of s) j × ((status ≡ Done) ↔ IsOneSoundPart j)
   pub plan : command ≡ Plan → status ≡ Done → (p : ThePlan) × IsItsPlan request s p × UsesEachOnce (graph_of s) p × (text ≡ plan_report s p)
-  pub placed : IsTrue (places command) → status ≡ Done
+  pub placed : IsTrue (solves command) → status ≡ Done
       → (report : Report) × (p : ThePlan) × (at : Placed) × (t : Tolerance) × IsReportOf command report × HoldsAt request s p at t
       × (text ≡ report_words report (digits_of request.bits) s p at t)
-  pub failure : IsTrue (places command) → status ≢ Done → status ≢ NotWell → NamesTheFirst request s text
+  pub failure : IsTrue (solves command) → status ≢ Done → status ≢ NotWell → NamesTheFirst request s text
 
 -- the sketch has an element, and the command tells this of it
 abbrev pub TellsOfSome : Command → Request → Sketch → Status → List ℕ → Type 0

@@ -3,6 +3,8 @@ pub mod Asking
 pub mod Causes
 pub mod Commands
 pub mod Ending
+pub mod FlipsReport
+pub mod Fronts
 pub mod Grids
 pub mod Headline
 pub mod Migration
@@ -10,6 +12,7 @@ pub mod OfferLines
 pub mod OfferReading
 pub mod OffersReport
 pub mod Outcome
+pub mod PrintedClaim
 pub mod SessionAnswer
 pub mod SessionEnding
 pub mod Settings
@@ -17,3 +20,4 @@ pub mod Solved
 pub mod Solving
 pub mod StatusCodes
 pub mod Told
+pub mod VerifyAnswer

@@ -1,7 +1,7 @@
 -- Commands that answer the same to a sketch in either version of the language.
 use Rattle.std.specs.Prelude.{◌≡◌, ℕ, List}
 use Rattle.sk_cli.specs.declared.command.Command.{Command}
-use Rattle.sk_cli.specs.declared.command.Command.TheVariants.{Offers, Session, Grow, Migrate}
+use Rattle.sk_cli.specs.declared.command.Command.TheVariants.{Offers, Session, Grow, Migrate, Verify, Flips}
 use Rattle.sk_cli.specs.declared.request.Request.{Request}
 use Rattle.sk_cli.specs.declared.status.Status.TheVariants.{Done}
 use Rattle.sk_cli.specs.Asking.{Asks}
@@ -12,6 +12,8 @@ abbrev pub ReadsOneSketch : Command → Type 0
 ReadsOneSketch Offers = ⊥
 ReadsOneSketch Session = ⊥
 ReadsOneSketch Grow = ⊥
+ReadsOneSketch Verify = ⊥
+ReadsOneSketch Flips = ⊥
 ReadsOneSketch command = Unit {0}
 
 -- the words ask for such a command

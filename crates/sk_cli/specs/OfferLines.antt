@@ -1,15 +1,14 @@
 -- What a line behind a sketch says, and its codes.
-use Rattle.std.specs.Prelude.{◌≡◌, ⊤, ℕ, Bool, true, false, ◌&&◌, ◌||◌, not, ◌==◌, List, [], ◌∷◌, ◌++◌, length, map, Option, Some, is_none, codes, bytes_eq, if◌then◌else◌}
+use Rattle.std.specs.Prelude.{◌≡◌, ⊤, ℕ, Bool, true, ◌&&◌, not, ◌==◌, List, [], ◌∷◌, ◌++◌, length, map, Option, Some, is_none, codes, bytes_eq, if◌then◌else◌}
 use Rattle.std.specs.List.{list_any}
-use Rattle.sk_base.specs.declared.Name.{Name}
-use Rattle.sk_base.specs.ClusterNames.{is_named}
 use Rattle.sk_base.specs.Millimetres.{at_most}
 use Rattle.sk_lex.specs.Words.{words_in}
 use Rattle.sk_rules.specs.Merges.{IsMergeOf}
 use Rattle.sk_lang.specs.declared.Code.{Code}
-use Rattle.sk_lang.specs.declared.Code.TheVariants.{E2, E3, E4, E8, E10, E17}
-pub use Rattle.sk_lang.specs.ClusterWords.{begins_with_zero, plain_number, name_of, named, is_bad_name}
-use Rattle.sk_lang.specs.Codes.{byte_rows, is_none_left}
+use Rattle.sk_lang.specs.declared.Code.TheVariants.{E3, E4, E8, E10, E17}
+pub use Rattle.sk_lang.specs.ClusterWords.{begins_with_zero, plain_number, name_of, named, is_bad_name, has_twins}
+pub use Rattle.sk_lang.specs.EndLine.{end_rows}
+use Rattle.sk_lang.specs.Codes.{byte_rows}
 use Rattle.sk_lang.specs.FirstCode.{first_code}
 use Rattle.sk_cli.specs.declared.offer_line.OfferLine.{OfferLine}
 use Rattle.sk_cli.specs.declared.offer_line.Place.{Place}
@@ -19,11 +18,6 @@ use Rattle.sk_cli.specs.declared.offer_line.Place.TheVariants.{Among, Past}
 abbrev pub worker_of : List ℕ → Option ℕ
 worker_of word = at_most 64 (plain_number 2 word)
 
--- E10: two of the names are one
-abbrev pub has_twins : List Name → Bool
-has_twins [] = false
-has_twins (n ∷ names) = is_named names n || has_twins names
-
 -- the codes of the words behind `offer`, in their order
 abbrev pub offer_rows : List (List ℕ) → List (Bool × Code)
 offer_rows [] = (true, E3) ∷ []
@@ -32,12 +26,6 @@ offer_rows (worker ∷ names) =
     (is_none (worker_of worker), E8) ∷
     (list_any is_bad_name names, E4) ∷
     (has_twins (map named names), E10) ∷ []
-
--- the codes of a line whose first word isn't `offer`
-abbrev pub end_rows : List ℕ → List (List ℕ) → List (Bool × Code)
-end_rows first rest =
-    (not (bytes_eq first (codes "end")), E2) ∷
-    (not (is_none_left rest), E3) ∷ []
 
 -- the codes of a line with words
 abbrev pub word_rows : Place → List (List ℕ) → List (Bool × Code)

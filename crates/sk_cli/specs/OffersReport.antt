@@ -1,9 +1,9 @@
 -- What a list of offers is answered, and the report on it.
-use Rattle.std.specs.Prelude.{◌≡◌, ◌⊎◌, ℕ, ◌≤◌, List, [], ◌∷◌, ◌++◌, drop}
+use Rattle.std.specs.Prelude.{◌≡◌, ℕ, ◌≤◌, List, [], ◌∷◌, ◌++◌, drop}
 use Rattle.sk_base.specs.declared.Sketch.{Sketch}
 use Rattle.sk_lang.specs.declared.Front.{Front}
 use Rattle.sk_lang.specs.declared.Refusal.{Refusal}
-use Rattle.sk_lang.specs.Front.{ReadsFront, RefusesFront}
+use Rattle.sk_lang.specs.Front.{ReadsFront}
 use Rattle.sk_graph.specs.SketchGraph.{graph_of}
 use Rattle.sk_rules.specs.Merges.{Falls}
 use Rattle.sk_offers.specs.declared.Answer.{Answer}
@@ -14,6 +14,7 @@ use Rattle.sk_report.specs.AnswerLine.{answer_line}
 use Rattle.sk_report.specs.CheckReport.{check_report}
 use Rattle.sk_report.specs.RefusalLine.{refusal_line}
 use Rattle.sk_cli.specs.declared.offer_line.OfferLine.{OfferLine}
+use Rattle.sk_cli.specs.Fronts.{IsRefusedAt}
 use Rattle.sk_cli.specs.OfferReading.{ReadsOffers, RefusesOffers}
 use Rattle.sk_cli.specs.declared.status.Status.{Status}
 use Rattle.sk_cli.specs.declared.status.Status.TheVariants.{Done, Refused}
@@ -44,12 +45,8 @@ IsOffersReport bytes text =
     (front : Front) × (offers : List OfferLine) × ReadsFront bytes front × ReadsOffers (drop front.used bytes) offers × IsReportOnOffers front.sketch offers text
 
 -- a line of the sketch or one behind it is refused
-abbrev pub IsRefusedAt : List ℕ → Refusal → Type 0
-IsRefusedAt bytes r =
-    RefusesFront bytes r.line r.code ⊎ ((front : Front) × ReadsFront bytes front × RefusesOffers front.lines (drop front.used bytes) r.line r.code)
-
 abbrev pub IsOffersRefusal : List ℕ → List ℕ → Type 0
-IsOffersRefusal bytes text = (r : Refusal) × IsRefusedAt bytes r × (text ≡ refusal_line r)
+IsOffersRefusal bytes text = (r : Refusal) × IsRefusedAt (λ front. RefusesOffers front.lines) bytes r × (text ≡ refusal_line r)
 
 -- what `offers` answers to an input
 abbrev pub IsOffersAnswer : List ℕ → Status → List ℕ → Type 0

@@ -13,7 +13,7 @@ use Rattle.sk_report.specs.RefusalLine.{refusal_line}
 use Rattle.sk_cli.specs.declared.accounts.Account.{Account}
 use Rattle.sk_cli.specs.declared.accounts.Account.TheVariants.{Parts, Spares, Derived, Migrated}
 use Rattle.sk_cli.specs.declared.command.Command.{Command}
-use Rattle.sk_cli.specs.declared.command.Command.TheVariants.{Check, Plan, Solve, Dxf, Offers, Session, Grow, Migrate, Spare, Derive}
+use Rattle.sk_cli.specs.declared.command.Command.TheVariants.{Check, Plan, Solve, Dxf, Offers, Session, Grow, Migrate, Verify, Spare, Flips, Derive}
 use Rattle.sk_cli.specs.declared.request.Request.{Request}
 use Rattle.sk_cli.specs.declared.solving.Report.{Report}
 use Rattle.sk_cli.specs.declared.solving.Report.TheVariants.{Places, Drawing, Sums}
@@ -21,12 +21,14 @@ use Rattle.sk_cli.specs.declared.status.Status.{Status}
 use Rattle.sk_cli.specs.declared.status.Status.TheVariants.{Done, Refused, Usage, NotWell}
 use Rattle.sk_cli.specs.Accounts.{IsAccount}
 use Rattle.sk_cli.specs.Asking.{Asks, AreOfForm}
+use Rattle.sk_cli.specs.FlipsReport.{IsFlipsAnswer}
 use Rattle.sk_cli.specs.OffersReport.{IsOffersAnswer}
 use Rattle.sk_cli.specs.SessionAnswer.{IsSessionAnswer, RepliesToFront}
+use Rattle.sk_cli.specs.VerifyAnswer.{IsVerifyAnswer}
 pub use Rattle.sk_cli.specs.Solved.{IsPlanBy, IsReportNotWell, IsPlacedPlan, IsSolved}
 
 abbrev pub usage_line : List ℕ
-usage_line = codes "usage: sketch check|plan|solve|dxf|offers|session|grow|migrate|spare|derive [order=first|last|0..65535] [bits=16|27|38] [within=1..1000000] [n=3..1000]\n"
+usage_line = codes "usage: sketch check|plan|solve|dxf|offers|session|grow|migrate|verify|spare|flips|derive [order=first|last|0..65535] [bits=16|27|38] [within=1..1000000] [n=3..1000]\n"
 
 -- what is told of the sketch that the text is read as
 abbrev pub IsAccountOf : Account → List ℕ → List ℕ → Type 0
@@ -77,7 +79,9 @@ IsAnswerOf Offers request bytes status text = IsOffersAnswer bytes status text
 IsAnswerOf Session request bytes status text = IsSessionAnswer request bytes status text
 IsAnswerOf Grow request bytes status text = IsGrowAnswer request status text
 IsAnswerOf Migrate request bytes status text = IsAccountAnswer Migrated bytes status text
+IsAnswerOf Verify request bytes status text = IsVerifyAnswer bytes status text
 IsAnswerOf Spare request bytes status text = IsAccountAnswer Spares bytes status text
+IsAnswerOf Flips request bytes status text = IsFlipsAnswer request bytes status text
 IsAnswerOf Derive request bytes status text = IsAccountAnswer Derived bytes status text
 
 abbrev pub IsAnswer : Request → List ℕ → Status → List ℕ → Type 0

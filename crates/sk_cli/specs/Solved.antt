@@ -13,7 +13,7 @@ use Rattle.sk_tree.specs.LegalPlan.{IsLegalPlan, merge_told}
 use Rattle.sk_choice.specs.DrawnChoice.{HasDrawnChoice}
 use Rattle.sk_plan.specs.Judged.{IsTheJudgement, IsWell}
 use Rattle.sk_report.specs.CheckReport.{check_report}
-use Rattle.sk_cli.specs.declared.placing.Placement.{Placement}
+use Rattle.sk_flips.specs.declared.Placement.{Placement}
 use Rattle.sk_cli.specs.declared.request.Request.{Request}
 use Rattle.sk_cli.specs.declared.solving.Report.{Report}
 use Rattle.sk_cli.specs.declared.status.Status.{Status}

@@ -23,8 +23,12 @@ pub enum Command {
     Grow,
     /// Writes a sketch in the second version of its language.
     Migrate,
+    /// Checks the claim behind a sketch: steps, places and tolerances.
+    Verify,
     /// Lists the constraints of a sketch that may go.
     Spare,
+    /// Turns choices of a sketch's plan over, and places its elements so.
+    Flips,
     /// Lists the clusters of a sketch that derived angles lead to.
     Derive,
 }
@@ -42,8 +46,9 @@ impl Command {
             | Command::Offers
             | Command::Session
             | Command::Grow
+            | Command::Flips
             | Command::Derive => true,
-            Command::Migrate | Command::Spare => false,
+            Command::Migrate | Command::Verify | Command::Spare => false,
         }
     }
 
@@ -52,11 +57,13 @@ impl Command {
         ensures { result ≡ places self }
     {
         match self {
-            Command::Solve | Command::Dxf | Command::Session | Command::Grow => true,
+            Command::Solve | Command::Dxf | Command::Session | Command::Grow | Command::Flips =>
+                true,
             Command::Check
             | Command::Plan
             | Command::Offers
             | Command::Migrate
+            | Command::Verify
             | Command::Spare
             | Command::Derive => false,
         }
@@ -75,7 +82,9 @@ impl Command {
             | Command::Offers
             | Command::Session
             | Command::Migrate
+            | Command::Verify
             | Command::Spare
+            | Command::Flips
             | Command::Derive => false,
         }
     }
@@ -102,8 +111,12 @@ pub fn command_of(word: &str) -> Option<Command>
         Some(Command::Grow)
     } else if word == "migrate" {
         Some(Command::Migrate)
+    } else if word == "verify" {
+        Some(Command::Verify)
     } else if word == "spare" {
         Some(Command::Spare)
+    } else if word == "flips" {
+        Some(Command::Flips)
     } else if word == "derive" {
         Some(Command::Derive)
     } else {

@@ -1,22 +1,45 @@
 // Laws on what words ask for and what is answered.
-ghost use Rattle.std.specs.Prelude.{◌≡◌, ◌↔◌, ◌⊎◌, ◌++◌, ℕ, List, IsTrue};
+ghost use Rattle.std.specs.Prelude.{◌≡◌, ◌↔◌, ◌⊎◌, [], ◌∷◌, ◌++◌, ℕ, List, All, IsTrue, codes, drop};
 ghost use Rattle.sk_base.specs.declared.Placed.{Placed};
 ghost use Rattle.sk_base.specs.declared.Sketch.{Sketch};
+ghost use Rattle.sk_base.specs.SoundSketch.{IsSoundSketch};
+ghost use Rattle.sk_flips.specs.declared.Alternative.TheVariants.{Found};
+ghost use Rattle.sk_flips.specs.Alternatives.{IsAlternative};
 ghost use Rattle.sk_graph.specs.SketchGraph.{graph_of};
 ghost use Rattle.sk_tree.specs.declared.Plan.{Plan};
 ghost use Rattle.sk_plan.specs.Judged.{IsWell};
 ghost use Rattle.sk_session.specs.State.{State, sketch_in};
 ghost use Rattle.sk_session.specs.declared.Reply.{Reply};
+ghost use Rattle.sk_report.specs.PlanReport.{plan_report};
+ghost use Rattle.sk_report.specs.SolveReport.{places_report, solve_report};
+ghost use Rattle.sk_choice.specs.DrawnChoice.{HasDrawnChoice};
+ghost use Rattle.sk_residual.specs.Placing.{PlacesExactly};
+ghost use Rattle.sk_residual.specs.Tolerances.{AllHoldWithin};
+ghost use Rattle.sk_tree.specs.LegalPlan.{IsLegalPlan};
+ghost use Rattle.sk_verify.specs.Claims.{plan_claimed};
+ghost use Rattle.sk_residual.specs.declared.Tolerance.{Tolerance};
 ghost use Rattle.sk_residual.specs.Turns.{signs, AllAsDrawn};
 ghost use Rattle.sk_cli.specs.declared.request.Request.{Request};
 ghost use Rattle.sk_cli.specs.declared.status.Status.{Status};
-ghost use Rattle.sk_cli.specs.Asking.{Asks, AreOfForm, places};
+ghost use Rattle.sk_cli.specs.Asking.{Asks, AreOfForm};
 ghost use Rattle.sk_cli.specs.declared.command.Command.{Command};
-ghost use Rattle.sk_cli.specs.Headline.{Tells, TellsAsAsked, RepliesNext};
-ghost use Rattle.sk_cli.specs.Causes.{plans, IsSketchOf, IsRefusedInput, IsItsPlan, HasFault, LieAt, NonePasses, SomePasses, SomeTurned};
-ghost use Rattle.sk_cli.specs.Outcome.{IsOutcome, AreFirstReplies};
+ghost use Rattle.sk_cli.specs.Headline.{Tells, TellsAsAsked, RepliesNext, HoldsAt};
+ghost use Rattle.sk_cli.specs.PrintedClaim.{printed_text, printed_claim};
+ghost use Rattle.sk_lang.specs.Front.{ReadsFront};
+ghost use Rattle.sk_verify.specs.ClaimReading.{ReadsClaim};
+ghost use Rattle.sk_verify.specs.Texts.{verified_line};
+ghost use Rattle.sk_cli.specs.Causes.{plans, solves, IsSketchOf, IsRefusedInput, IsItsPlan, HasFault, LieAt, NonePasses, SomePasses, SomeTurned};
+ghost use Rattle.sk_cli.specs.declared.solving.Report.TheVariants.{Places};
+ghost use Rattle.sk_cli.specs.FlipsReport.{IsReportOnFlips};
+ghost use Rattle.sk_cli.specs.Grids.{grid_of, digits_of};
+ghost use Rattle.sk_cli.specs.Outcome.{IsSolved, IsOutcome, AreFirstReplies};
 ghost use Rattle.sk_cli.specs.Migration.{AskOfOneSketch, IsMigrated};
 ghost use Rattle.sk_lang.specs.Reading.{Reads};
+ghost use Rattle.sk_lang.specs.declared.Front.{Front};
+ghost use Rattle.sk_verify.specs.declared.claim.Claim.{Claim};
+ghost use Rattle.sk_verify.specs.declared.failure.Failure.{Failure};
+ghost use Rattle.sk_verify.specs.Failing.{IsAccepted, FailsFirst};
+ghost use Rattle.sk_cli.specs.VerifyAnswer.{HasClaim};
 
 use sk_derive::one_derived_text;
 use sk_gen::datum_sketch_is_sound;
@@ -29,6 +52,7 @@ use sk_rules::one_normal_form;
 use sk_session::{one_reply, some_to_solve};
 use sk_spare::one_list_of_spares;
 use sk_verdict::one_judgement;
+use sk_verify::accepted;
 use sk_worklist::{Chosen, one_run};
 
 /// Words ask for one thing at most.
@@ -102,12 +126,15 @@ pub fn migrated_reads_the_same()
 
 /// Why each status comes. It is `Usage` exactly where the words aren't of the form, and `Refused` exactly
 /// where the input is. It is `NotWell` exactly where the command plans a sketch whose verdict isn't well,
-/// so never where it is `check`, `offers`, `session`, `migrate`, `spare` or `derive`, which don't plan. Where the
-/// command places the elements of a sketch, and nowhere else, it is `StepFault` exactly where a step has a
-/// fault, or none has, no least number is above the limit and a sign is turned, and `Tolerance` exactly
-/// where no step has a fault and some least number is above the limit. Of a sketch that is placed it is
-/// `Done` exactly where none of these is so; for a command that doesn't plan, exactly where the input isn't
-/// refused; and for `plan` exactly where the input is read as a sketch whose verdict is well.
+/// so never where it is `check`, `offers`, `session`, `migrate`, `verify`, `spare` or `derive`, which don't
+/// plan. Where the command is `solve`, `dxf` or `grow`, and nowhere else, it is `StepFault` exactly where a
+/// step has a fault, or none has, no least number is above the limit and a sign is turned, and `Tolerance`
+/// exactly where no step has a fault and some least number is above the limit. Of a sketch that is solved
+/// it is `Done` exactly where none of these is so; for `plan` and `flips`, which plan and don't solve,
+/// exactly where the input is read, of `flips` with the flips behind the sketch, and the sketch's verdict is
+/// well; for `verify` exactly where the claim is accepted; and for any other command that doesn't plan,
+/// exactly where the input isn't refused. It is `NotVerified` exactly where the command is `verify` and
+/// something of the claim fails.
 pub fn causes()
     ensures usage { (words : List (List ℕ)) (bytes text : List ℕ) (status : Status) → IsOutcome words bytes status text
         → (status ≡ Status.Usage) ↔ (AreOfForm words → ⊥) }
@@ -116,18 +143,23 @@ pub fn causes()
     ensures not_well { (words : List (List ℕ)) (bytes text : List ℕ) (status : Status) (request : Request) → IsOutcome words bytes status text → Asks words request
         → (status ≡ Status.NotWell) ↔ (IsTrue (plans request.command) × ((s : Sketch) × IsSketchOf request.command request bytes s × (IsWell (graph_of s) → ⊥))) }
     ensures step_fault { (words : List (List ℕ)) (bytes text : List ℕ) (status : Status) (request : Request) → IsOutcome words bytes status text → Asks words request
-        → (status ≡ Status.StepFault) ↔ (IsTrue (places request.command) × ((s : Sketch) × IsSketchOf request.command request bytes s × ((p : Plan) × IsItsPlan request s p
+        → (status ≡ Status.StepFault) ↔ (IsTrue (solves request.command) × ((s : Sketch) × IsSketchOf request.command request bytes s × ((p : Plan) × IsItsPlan request s p
         × (HasFault request s p ⊎ ((at : Placed) × LieAt request s p at × NonePasses request s at × SomeTurned request s p at))))) }
     ensures tolerance { (words : List (List ℕ)) (bytes text : List ℕ) (status : Status) (request : Request) → IsOutcome words bytes status text → Asks words request
-        → (status ≡ Status.Tolerance) ↔ (IsTrue (places request.command) × ((s : Sketch) × IsSketchOf request.command request bytes s × ((p : Plan) × IsItsPlan request s p
+        → (status ≡ Status.Tolerance) ↔ (IsTrue (solves request.command) × ((s : Sketch) × IsSketchOf request.command request bytes s × ((p : Plan) × IsItsPlan request s p
         × ((at : Placed) × LieAt request s p at × SomePasses request s at)))) }
     ensures done { (words : List (List ℕ)) (bytes text : List ℕ) (status : Status) (request : Request) (s : Sketch) → IsOutcome words bytes status text → Asks words request
-        → IsTrue (places request.command) → IsSketchOf request.command request bytes s
+        → IsTrue (solves request.command) → IsSketchOf request.command request bytes s
         → (status ≡ Status.Done) ↔ ((p : Plan) × IsItsPlan request s p × ((at : Placed) × LieAt request s p at × NonePasses request s at × AllAsDrawn (signs s at p))) }
     ensures done_unless_refused { (words : List (List ℕ)) (bytes text : List ℕ) (status : Status) (request : Request) → IsOutcome words bytes status text → Asks words request
-        → (IsTrue (plans request.command) → ⊥) → (status ≡ Status.Done) ↔ (IsRefusedInput request.command bytes → ⊥) }
+        → (IsTrue (plans request.command) → ⊥) → (request.command ≡ Command.Verify → ⊥) → (status ≡ Status.Done) ↔ (IsRefusedInput request.command bytes → ⊥) }
     ensures done_where_well { (words : List (List ℕ)) (bytes text : List ℕ) (status : Status) (request : Request) → IsOutcome words bytes status text → Asks words request
-        → request.command ≡ Command.Plan → (status ≡ Status.Done) ↔ ((s : Sketch) × IsSketchOf request.command request bytes s × IsWell (graph_of s)) }
+        → IsTrue (plans request.command) → (IsTrue (solves request.command) → ⊥) → (status ≡ Status.Done) ↔ ((s : Sketch) × IsSketchOf request.command request bytes s × IsWell (graph_of s)) }
+    ensures done_where_accepted { (words : List (List ℕ)) (bytes text : List ℕ) (status : Status) (request : Request) → IsOutcome words bytes status text → Asks words request
+        → request.command ≡ Command.Verify → (status ≡ Status.Done) ↔ ((f : Front) × (c : Claim) × HasClaim bytes f c × IsAccepted f.sketch (graph_of f.sketch) c) }
+    ensures not_verified { (words : List (List ℕ)) (bytes text : List ℕ) (status : Status) (request : Request) → IsOutcome words bytes status text → Asks words request
+        → (status ≡ Status.NotVerified) ↔ ((request.command ≡ Command.Verify)
+        × ((f : Front) × (c : Claim) × (h : Failure) × HasClaim bytes f c × FailsFirst f.sketch (graph_of f.sketch) c h)) }
 {
     one_answer();
     one_judgement();
@@ -140,6 +172,16 @@ pub fn causes()
     one_derived_text();
     datum_sketch_is_sound();
 }
+
+/// Where `solve` is done with a sketch, the same plan, with nothing turned, finds the very places and the
+/// tolerance that were told, so that `flips` with the same keys tells these where a line of flips names no
+/// step.
+pub fn solved_places_are_found()
+    ensures { (request : Request) (s : Sketch) (text : List ℕ) → IsSoundSketch s → IsSolved Places request s Status.Done text
+        → (p : Plan) × (at : Placed) × (tol : Tolerance) × (text ≡ solve_report s p (digits_of request.bits) at tol)
+        × IsAlternative (grid_of request.bits) (digits_of request.bits) request.within s p [] (Found at tol)
+        × IsReportOnFlips request s ([] ∷ []) (codes "flip 1 ok\n" ++ places_report s at tol) }
+{}
 
 /// The headline. Whatever sketch is readable and whatever order is asked for: the clusters that are
 /// printed are the only ones that merging reaches and no rule can merge, and just those are called over
@@ -172,5 +214,52 @@ pub fn headline()
     one_list_of_spares();
     one_derived_text();
     datum_sketch_is_sound();
+    legal_plan();
+}
+
+/// What `plan` and `solve` print of a sketch in the same order, the step lines and the element lines, with
+/// the printed tolerances on a line behind them, is a claim (`reads`) that is accepted (`accepted`), so that
+/// `verify` is done with it behind a text of the sketch (`verified`). Where `solve` is done, `plan` in the
+/// same order is, and they print of one plan, one placement and its tolerances (`printed`).
+pub fn printed_claims_are_accepted()
+    ensures printed { (planning solving : List (List ℕ)) (bytes planned solved : List ℕ) (status : Status) (planned_by solved_by : Request)
+        → Asks planning planned_by → planned_by.command ≡ Command.Plan → Asks solving solved_by → solved_by.command ≡ Command.Solve → planned_by.order ≡ solved_by.order
+        → IsOutcome planning bytes status planned → IsOutcome solving bytes Status.Done solved
+        → (s : Sketch) × (p : Plan) × (at : Placed) × (t : Tolerance) × Reads bytes s × (status ≡ Status.Done)
+        × (planned ≡ plan_report s p) × (solved ≡ solve_report s p (digits_of solved_by.bits) at t)
+        × ReadsClaim s (printed_text s p at t) (printed_claim s p at t) × IsAccepted s (graph_of s) (printed_claim s p at t) }
+    ensures reads { (words : List (List ℕ)) (bytes : List ℕ) (request : Request) (s : Sketch) (p : Plan) (at : Placed) (t : Tolerance) → Asks words request → Reads bytes s
+        → HoldsAt request s p at t → ReadsClaim s (printed_text s p at t) (printed_claim s p at t) }
+    ensures accepted { (words : List (List ℕ)) (bytes : List ℕ) (request : Request) (s : Sketch) (p : Plan) (at : Placed) (t : Tolerance) → Asks words request → Reads bytes s
+        → HoldsAt request s p at t → IsAccepted s (graph_of s) (printed_claim s p at t) }
+    ensures verified { (words asked : List (List ℕ)) (bytes input : List ℕ) (request checks : Request) (s : Sketch) (p : Plan) (at : Placed) (t : Tolerance) (f : Front)
+        → Asks words request → Reads bytes s → HoldsAt request s p at t → Asks asked checks → checks.command ≡ Command.Verify
+        → ReadsFront input f → f.sketch ≡ s → drop f.used input ≡ printed_text s p at t
+        → IsOutcome asked input Status.Done (verified_line (printed_claim s p at t)) }
+{
+    one_answer();
+    one_judgement();
+    readable_is_sound();
+    one_front();
+    one_plan();
+    one_run::<Chosen>();
+    one_reply();
+    one_list_of_spares();
+    one_derived_text();
+    datum_sketch_is_sound();
+    legal_plan();
+}
+
+/// Where `verify` is done, the verdict on the sketch is well, the steps of the claim are those of a legal
+/// plan with the choices of the drawing, just the elements are placed, each line's normal, each constraint
+/// and each block holds within the claimed tolerances, and no sign is turned over.
+pub fn verified_drawings_are_right()
+    ensures { (words : List (List ℕ)) (bytes text : List ℕ) (request : Request) → IsOutcome words bytes Status.Done text → Asks words request → request.command ≡ Command.Verify
+        → (f : Front) × (c : Claim) × HasClaim bytes f c × (text ≡ verified_line c) × IsWell (graph_of f.sketch)
+        × IsLegalPlan (graph_of f.sketch) (plan_claimed (graph_of f.sketch) c) × All (HasDrawnChoice f.sketch) c.steps × PlacesExactly (graph_of f.sketch) c.at
+        × AllHoldWithin c.at (graph_of f.sketch) c.t c.w × AllAsDrawn (signs f.sketch c.at (plan_claimed (graph_of f.sketch) c)) }
+{
+    readable_is_sound();
+    accepted();
     legal_plan();
 }

@@ -1,30 +1,19 @@
-// A plan on a grid.
-ghost use Rattle.std.specs.Prelude.{◌≡◌, IfOk, Ok};
+// A plan on the grid of so many binary digits.
+ghost use Rattle.std.specs.Prelude.{◌≡◌, IfOk};
 ghost use Rattle.sk_base.specs.SoundGraph.{IsSoundGraph};
 ghost use Rattle.sk_base.specs.SoundSketch.{IsSoundSketch};
 ghost use Rattle.sk_graph.specs.SketchGraph.{graph_of};
 ghost use Rattle.sk_tree.specs.LegalPlan.{IsLegalPlan};
-ghost use Rattle.sk_residual.specs.Placing.{PlacesExactly};
 ghost use Rattle.sk_cli.specs.Grids.{grid_of, digits_of};
-ghost use Rattle.sk_cli.specs.Solving.{IsMeasured, IsPlacement, LiesWithinBounds};
+ghost use Rattle.sk_cli.specs.Solving.{IsPlacement, LiesWithinBounds};
 
 use crate::bits::Bits;
-use sk_base::{Graph, NoMemory, Placed, Sketch};
-use sk_interval::{G16, G27, G38, Grid};
-use sk_place::{PlaceError, StepFault, place, round};
-use sk_residual::{Beyond, Tolerance, Turned, first_turned, least, passed, placed_in_order};
+use sk_base::{Graph, NoMemory, Sketch};
+use sk_flips::{Placement, placed_on};
+use sk_interval::{G16, G27, G38};
+use sk_residual::Wanted;
 use sk_tree::Plan;
 use std::alloc::Global;
-
-/// How a plan is placed: what fails first, or else where the elements lie and within which tolerance
-/// all holds.
-#[derive(Drop)]
-pub enum Placement {
-    Fault(StepFault),
-    Beyond(Beyond),
-    Turned(Turned),
-    Holds(Placed, Tolerance),
-}
 
 /// How the plan of the sketch is placed on the grid of so many binary digits, where no tolerance may
 /// be more than the limit.
@@ -44,53 +33,8 @@ pub(crate) fn placed(
     ensures bounded { IfOk result LiesWithinBounds }
 {
     match bits {
-        Bits::Sixteen => placed_on::<G16>(alloc, limit, s, g, p),
-        Bits::TwentySeven => placed_on::<G27>(alloc, limit, s, g, p),
-        Bits::ThirtyEight => placed_on::<G38>(alloc, limit, s, g, p),
+        Bits::Sixteen => placed_on::<G16>(alloc, Wanted::Drawn, limit, s, g, p),
+        Bits::TwentySeven => placed_on::<G27>(alloc, Wanted::Drawn, limit, s, g, p),
+        Bits::ThirtyEight => placed_on::<G38>(alloc, Wanted::Drawn, limit, s, g, p),
     }
-}
-
-/// The same on the grid `G`.
-fn placed_on<G: Grid>(
-    alloc: Global,
-    limit: u64,
-    s: &Sketch,
-    g: &Graph,
-    p: &Plan,
-) -> Result<Placement, NoMemory>
-    requires sketch { IsSoundSketch s.now }
-    requires graph { g.now ≡ graph_of s.now }
-    requires sound { IsSoundGraph g.now }
-    requires legal { IsLegalPlan g.now p.now }
-    ensures placement { IfOk result (IsPlacement G G.BITS limit s.now p.now) }
-    ensures bounded { IfOk result LiesWithinBounds }
-{
-    match place::<G>(alloc, p, g) {
-        Ok(boxes) => {
-            let at = round(alloc, &boxes)?;
-            placed_in_order();
-            Ok(measured(limit, s, g, p, at))
-        }
-        Err(PlaceError::Fault(fault)) => Ok(Placement::Fault(fault)),
-        Err(PlaceError::NoMemory) => Err(NoMemory),
-    }
-}
-
-/// What is measured where elements lie.
-fn measured(limit: u64, s: &Sketch, g: &Graph, p: &Plan, at: Placed) -> Placement
-    requires sketch { IsSoundSketch s.now }
-    requires graph { g.now ≡ graph_of s.now }
-    requires sound { IsSoundGraph g.now }
-    requires legal { IsLegalPlan g.now p.now }
-    requires placed { PlacesExactly g.now at }
-    ensures { IsMeasured limit s.now p.now at result }
-{
-    if let Some(beyond) = passed(&at, g, limit) {
-        return Placement::Beyond(beyond);
-    }
-    if let Some(turned) = first_turned(&at, s, p) {
-        return Placement::Turned(turned);
-    }
-    let tolerance = least(&at, g);
-    Placement::Holds(at, tolerance)
 }

@@ -56,7 +56,9 @@ fn has_size(command: Command, size: Option<u32>) -> bool
         | Command::Offers
         | Command::Session
         | Command::Migrate
+        | Command::Verify
         | Command::Spare
+        | Command::Flips
         | Command::Derive => true,
     }
 }

@@ -6,11 +6,12 @@ ghost use Rattle.sk_cli.specs.Solving.{status_of, report_words, placement_words,
 ghost use Rattle.sk_cli.specs.Outcome.{IsSolved};
 
 use crate::answer::Answer;
-use crate::placing::{Placement, placed};
+use crate::placing::placed;
 use crate::request::Request;
 use crate::status::Status;
 use sk_base::{NoMemory, Placed, Sketch, Text};
 use sk_dxf::dxf_text;
+use sk_flips::Placement;
 use sk_graph::reduce;
 use sk_plan::{PlanError, plan_of};
 use sk_report::{check_text, fault_text, grow_text, passed_text, solve_text, turned_text};

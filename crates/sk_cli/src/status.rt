@@ -23,6 +23,8 @@ pub enum Status {
     StepFault,
     /// A least number passes the limit.
     Tolerance,
+    /// The claim fails.
+    NotVerified,
 }
 
 impl Status {

@@ -9,7 +9,9 @@ ghost use Rattle.sk_cli.specs.Ending.{IsTold, Ends, HasInput, Sends};
 
 use crate::accounts::{Account, account_of};
 use crate::answer::{Answer, refused};
+use crate::claims::claimed;
 use crate::command::Command;
+use crate::flips::flips;
 use crate::grow::grow;
 use crate::offers::offers;
 use crate::plan::plan;
@@ -24,7 +26,7 @@ use sk_lang::{Code, Refusal};
 use std::alloc::Global;
 
 const USAGE: &str =
-    "usage: sketch check|plan|solve|dxf|offers|session|grow|migrate|spare|derive [order=first|last|0..65535] [bits=16|27|38] [within=1..1000000] [n=3..1000]\n";
+    "usage: sketch check|plan|solve|dxf|offers|session|grow|migrate|verify|spare|flips|derive [order=first|last|0..65535] [bits=16|27|38] [within=1..1000000] [n=3..1000]\n";
 
 /// The most bytes of an input.
 const MOST_BYTES: usize = 1_048_576;
@@ -129,7 +131,9 @@ fn answer(alloc: Global, request: Request, bytes: &[u8]) -> Result<Answer, NoMem
         Command::Session => refused(alloc, &TOO_LONG),
         Command::Grow => grow(alloc, request),
         Command::Migrate => account_of(alloc, Account::Migrated, request.order, bytes),
+        Command::Verify => claimed(alloc, bytes),
         Command::Spare => account_of(alloc, Account::Spares, request.order, bytes),
+        Command::Flips => flips(alloc, request, bytes),
         Command::Derive => account_of(alloc, Account::Derived, request.order, bytes),
     }
 }

@@ -1,15 +1,9 @@
-use Rattle.std.proofs.Common.{sym, subst}
-use Rattle.std.specs.Prelude.{◌≡◌, ◌↔◌}
-use Rattle.sk_base.specs.declared.Sketch.{Sketch}
-use Rattle.sk_graph.specs.SketchGraph.{graph_of}
-use Rattle.sk_plan.specs.Judged.{IsWell}
+use Rattle.std.proofs.Common.{subst}
 use Rattle.sk_cli.specs.declared.command.Command.{Command}
-use Rattle.sk_cli.specs.declared.status.Status.TheVariants.{Done}
-use Rattle.sk_cli.specs.Causes.{IsSketchOf}
 use Rattle.sk_cli.specs.Outcome.{IsAnswerOf}
 use Rattle.sk_cli.proofs.OneOutcome.{LowerLaws}
 use Rattle.sk_cli.proofs.Sizes.{size_fits}
-use Rattle.sk_cli.proofs.WhyEnds.{answer_about, sound_about, solved_about, usage_both, refused_both, not_well_exactly, fault_exactly, beyond_exactly, held_both, done_unless_refused, done_where_well}
+use Rattle.sk_cli.proofs.WhyEnds.{answer_about, sound_about, solved_about, usage_both, refused_both, not_well_exactly, fault_exactly, beyond_exactly, held_both, done_unless_refused, done_where_well, verified_exactly, failing_exactly}
 use Rattle.sk_cli.proofs.law.causes.Goals as goal
 
 pub returns : goal.returns
@@ -42,7 +36,11 @@ returns c =
           held_both law laws solved.0 request s status text solved.2 (sound_about laws request.command request bytes s (size_fits words request asks) about));
       done_unless_refused = λ words bytes text status request outcome asks.
           done_unless_refused one_sketch not_both laws request.command request bytes text status (answer_about words bytes text status request outcome asks);
-      done_where_well = λ words bytes text status request outcome asks is.
-          subst (λ (c : Command). IsAnswerOf c request bytes status text → (status ≡ Done) ↔ ((s : Sketch) × IsSketchOf c request bytes s × IsWell (graph_of s))) (sym is)
-          (done_where_well one_sketch not_both law request bytes text status) (answer_about words bytes text status request outcome asks);
+      done_where_well = λ words bytes text status request outcome asks.
+          done_where_well one_sketch not_both law laws request.command request bytes text status (answer_about words bytes text status request outcome asks);
+      done_where_accepted = λ words bytes text status request outcome asks is.
+          verified_exactly laws request bytes text status
+          (subst (λ (c : Command). IsAnswerOf c request bytes status text) is (answer_about words bytes text status request outcome asks));
+      not_verified = λ words bytes text status request outcome asks.
+          failing_exactly laws request.command request bytes text status (answer_about words bytes text status request outcome asks);
     }

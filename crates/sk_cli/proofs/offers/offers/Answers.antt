@@ -1,16 +1,13 @@
-use Rattle.std.proofs.Common.{◌≡◌, ◌-◌, ◌+◌, ◌<◌, ℕ, List, sym, subst, length, take, drop, arith, length-drop}
+use Rattle.std.proofs.Common.{◌-◌, ◌+◌, ◌<◌, ℕ, List, sym, subst, length, take, drop, arith}
 use Rattle.std.specs.Prelude.{All}
-use Rattle.std.proofs.lemmas.List.{take_all}
 use Rattle.sk_lang.specs.Lines.{lines_in}
 use Rattle.sk_cli.specs.declared.offer_line.OfferLine.{OfferLine}
 use Rattle.sk_cli.specs.OfferReading.{ReadsOffers}
 use Rattle.sk_cli.specs.OffersReport.{FitsBoard, IsReportOnOffers}
+use Rattle.sk_cli.proofs.Behind.{rest_of}
 use Rattle.sk_cli.proofs.FittingOffers.{read_fit}
+use Rattle.sk_cli.proofs.Behind.{rest_of}
 use Rattle.sk_cli.proofs.offers.offers.Goals as goal
-
--- what stands behind so many bytes
-rest_of : (used : ℕ) (bytes : List ℕ) → take (length bytes - used) (drop used bytes) ≡ drop used bytes
-rest_of used bytes = take_all (length bytes - used) (drop used bytes) (omega (arith, length-drop used bytes))
 
 pub read_offers-requires : goal.read_offers-requires
 read_offers-requires c =

@@ -1,0 +1,24 @@
+-- The claim that a user makes of what `plan` and `solve` print.
+use Rattle.std.specs.Prelude.{ℕ, List, ◌++◌, codes}
+use Rattle.std.specs.List.{flat_map}
+use Rattle.std.specs.Fmt.{decimal}
+use Rattle.sk_base.specs.declared.Placed.{Placed}
+use Rattle.sk_base.specs.declared.Sketch.{Sketch}
+use Rattle.sk_residual.specs.declared.Tolerance.{Tolerance}
+use Rattle.sk_report.specs.PlanReport.{step_line}
+use Rattle.sk_report.specs.SolveReport.{element_lines}
+use Rattle.sk_tree.specs.declared.Plan.{Plan as ThePlan}
+use Rattle.sk_verify.specs.declared.claim.Claim.{Claim}
+use Rattle.sk_verify.specs.ClaimText.{radii_drawn}
+
+-- the two tolerances that are printed, on a line
+abbrev pub tolerance_line : Tolerance → List ℕ
+tolerance_line t = codes "tolerance " ++ (decimal t.t ++ (codes " " ++ (decimal t.w ++ codes "\n")))
+
+-- the step lines of `plan`, the element lines of `solve`, and the tolerances
+abbrev pub printed_text : Sketch → ThePlan → Placed → Tolerance → List ℕ
+printed_text s p at t = flat_map (step_line s) p.steps ++ (element_lines at s.elements ++ tolerance_line t)
+
+-- what these say
+abbrev pub printed_claim : Sketch → ThePlan → Placed → Tolerance → Claim
+printed_claim s p at t = record { steps = p.steps; at = at; radii = radii_drawn s at.spots; t = t.t; w = t.w }
