@@ -1,18 +1,186 @@
-// What the acceptance of a claim says of the drawing, by the laws of the checker and of the planner.
-ghost use Rattle.sk_base.specs.declared.Graph.{Graph};
-ghost use Rattle.sk_base.specs.declared.Sketch.{Sketch};
-ghost use Rattle.sk_base.specs.SoundGraph.{IsSoundGraph};
-ghost use Rattle.sk_plan.specs.Judged.{IsWell};
-ghost use Rattle.sk_verify.specs.declared.claim.Claim.{Claim};
-ghost use Rattle.sk_verify.specs.Failing.{IsAccepted};
+// Claims by the calls below the command, and each code of their lines.
+ghost use Rattle.sk_base.specs.SoundSketch.{IsSoundSketch};
+ghost use Rattle.sk_graph.specs.SketchGraph.{graph_of};
+ghost use Rattle.sk_verify.specs.Claims.{IsFitting};
 
-use sk_plan::legal_plan;
-use sk_verify::accepted;
+use crate::calls::sketch_of;
+use crate::row::{few_bytes, lines_are_refused, put_each};
+use sk_base::{Sketch, Text};
+use sk_graph::reduce;
+use sk_lang::ReadError;
+use sk_report::refused_text;
+use sk_verify::{Claim, VerifyError, failure_text, read_claim, verified_text, verify};
+use std::alloc::Global;
+use std::test::Fail;
 
-/// Only where the verdict on the graph is well a claim is accepted.
-pub fn accepted_is_well()
-    ensures { (s : Sketch) (g : Graph) (c : Claim) → IsSoundGraph g → IsAccepted s g c → IsWell g }
-{
-    accepted();
-    legal_plan();
+const WHEEL: &str = "\
+sketch 1
+circle A 0 0 1
+point B 4 0
+point C 4 3
+distance A B 4
+distance A C 5
+distance B C 3
+end
+";
+
+const CLAIM: &str = "\
+step s1 joins c3 c2 c1 at C A B keeps c1 turn +
+circle A 0 0 1000000
+point C 4000000 -3000000
+point B 4000001 0
+tolerance 1 2
+";
+
+/// What the claim is read as: its steps, its places, its radii and its tolerances.
+const READ: &str = "\
+PlanStep { step: Step(1), one: Con(3), two: Con(2), three: Con(1), a: Elem(3), b: Elem(1), c: Elem(2), keeps: Con(1), choice: Turn(Plus) }
+Spot { elem: Elem(1), at: Point { x: 0, y: 0 } }
+Spot { elem: Elem(3), at: Point { x: 4000000, y: -3000000 } }
+Spot { elem: Elem(2), at: Point { x: 4000001, y: 0 } }
+Radius { elem: Elem(1), nm: 1000000 }
+1
+2
+";
+
+/// What the lines are read as, behind the eight of the wheel.
+#[tactic(auto, using(sk_lang::proofs::LineCounts::few_lines))]
+fn read_as(alloc: Global, lines: &str) -> Result<Text, Fail> {
+    let sketch = sketch_of(alloc, WHEEL)?;
+    let claim = read_claim(alloc, &sketch, few_bytes(lines)?, 8)?;
+    let mut told = Text::new(alloc);
+    put_each(alloc, &mut told, claim.steps.as_slice())?;
+    put_each(alloc, &mut told, claim.at.spots.as_slice())?;
+    put_each(alloc, &mut told, claim.radii.as_slice())?;
+    put_each(alloc, &mut told, &[claim.t, claim.w])?;
+    Ok(told)
 }
+
+/// What a check of the claim in the lines tells, or the refusal of a line.
+#[tactic(auto, using(sk_lang::proofs::LineCounts::few_lines))]
+fn told(alloc: Global, lines: &str) -> Result<Text, Fail> {
+    let sketch = sketch_of(alloc, WHEEL)?;
+    match read_claim(alloc, &sketch, few_bytes(lines)?, 8) {
+        Ok(claim) => judged(alloc, &sketch, &claim),
+        Err(ReadError::Refused(refusal)) => Ok(refused_text(alloc, &refusal)?),
+        Err(ReadError::NoMemory) => Err(Fail::from("memory ran out")),
+    }
+}
+
+fn judged(alloc: Global, sketch: &Sketch, claim: &Claim) -> Result<Text, Fail>
+    requires sound { IsSoundSketch sketch.now }
+    requires fits { IsFitting (graph_of sketch.now) claim.now }
+{
+    let graph = reduce(alloc, sketch)?;
+    match verify(alloc, sketch, &graph, claim) {
+        Ok(()) => Ok(verified_text(alloc, claim)?),
+        Err(VerifyError::Fails(failure)) => Ok(failure_text(alloc, sketch, &failure)?),
+        Err(VerifyError::NoMemory) => Err(Fail::from("memory ran out")),
+    }
+}
+
+/// Mirrored, C is on the other side of A and B than it is drawn. A step that turns the other way is found wrong before that.
+#[test]
+fn claims_are_read_and_checked(rt: HostRuntime) -> Result<(), Fail> {
+    let alloc = rt.alloc();
+    assert_eq!(rt; read_as(alloc, CLAIM)?.as_bytes(), READ.as_bytes());
+    let rows = [
+        (CLAIM, "verify fails sign s1\n"),
+        (
+            "step s1 joins c3 c2 c1 at C A B keeps c1 turn -\ntolerance 0 0\n",
+            "verify fails s1\n",
+        ),
+        (
+            "step s1 joins c3 c2 c1 at C A B keeps c1 turn +\npoint B 4000000 0\npoint C 4000000 3000000\ncircle A 0 0 1000000\ntolerance 0 7\n",
+            "verified steps 1 length 0 nm angle 7 ppb\n",
+        ),
+        ("point B 0 0\npoint A 0 0\n", "refused line 10 E7 kind\n"),
+        ("", "refused line 9 E16 no-end\n"),
+    ];
+    for (lines, wanted) in rows {
+        assert_eq!(rt; told(alloc, lines)?.as_bytes(), wanted.as_bytes());
+    }
+    lines_are_refused(&rt, alloc, "verify", THREE_SHAPES, REFUSED_LINES)
+}
+
+const THREE_SHAPES: &str = "\
+sketch 1
+point A 0 0
+circle H 9 0 5
+line L 0 0 1 0
+end
+";
+
+/// Lines of a claim with their codes, each alone or in front of a later one of the same line.
+const REFUSED_LINES: &str = "\
+E15 line-too-long: xxxxxxxxxxxxxxxxxxxxxxxxxxxxxxxxxxxxxxxxxxxxxxxxxxxxxxxxxxxxxxxxxxxxxxxxxxxxxxxxxxxxxxxxxxxxxxxxxxxxxxxxxxxxxxxxxxxxxxxxxxxxxxxxxxxxxxxxxxxxxxxxxxxxxxxxxxxxxxxxxxxxxxxxxxxxxxxxxxxxxxxxxxxxxxxxxxxxxxxxx
+E15 line-too-long: \x7fxxxxxxxxxxxxxxxxxxxxxxxxxxxxxxxxxxxxxxxxxxxxxxxxxxxxxxxxxxxxxxxxxxxxxxxxxxxxxxxxxxxxxxxxxxxxxxxxxxxxxxxxxxxxxxxxxxxxxxxxxxxxxxxxxxxxxxxxxxxxxxxxxxxxxxxxxxxxxxxxxxxxxxxxxxxxxxxxxxxxxxxxxxxxxxxxxxxxxxxx
+E19 not-ascii: \x7f
+E19 not-ascii: points A 0\r 0
+E2 word: end
+E2 word: Step s1
+E2 word: points A 0 0
+E2 word: distance A H 1
+E3 shape: point A 0
+E3 shape: point A 0 0 0
+E3 shape: circle 9 0 0
+E3 shape: line L 0 1
+E3 shape: line L 0 1 0 0
+E3 shape: tolerance
+E3 shape: tolerance 0
+E3 shape: tolerance 0 0 0
+E3 shape: step s1 joinz c3 c2 c1 at A H L keeps c1
+E3 shape: step s1 joinz c3 c2 c1 at A H L keeps c1 turn + +
+E2 word: step s1 join c03 c2 c1 at A H L keeps c1 none
+E2 word: step s1 joins c3 c2 c1 on A H L keeps c1 none
+E2 word: step s1 joins c3 c2 c1 at A H Z holds c1 none
+E2 word: step s1 joins c3 c2 c1 at A H L keeps c1 turn
+E2 word: step s1 joins c3 c2 c1 at A H L keeps c1 advance
+E2 word: step s1 joins c3 c2 c1 at A H L keeps c1 none +
+E2 word: step s1 joins c3 c2 c1 at A H L keeps c1 turn 1
+E2 word: step s1 joins c3 c2 c1 at A H L keeps c1 drawn +
+E4 name: step s0 joins c3 c2 c1 at A H Z keeps c1 none
+E4 name: step s01 joins c3 c2 c1 at A H Z keeps c1 none
+E4 name: step s1000000 joins c3 c2 c1 at A H Z keeps c1 none
+E4 name: step c joins c3 c2 c1 at A H Z keeps c1 none
+E4 name: step 1 joins c3 c2 c1 at A H Z keeps c1 none
+E4 name: step S1 joins c3 c2 c1 at A H Z keeps c1 none
+E4 name: step p1 joins c3 c2 c1 at A H Z keeps c1 none
+E4 name: step s1 joins c03 c2 c1 at A H Z keeps c1 none
+E4 name: step s1 joins c3 c02 c1 at A H L keeps c1 none
+E4 name: step s1 joins c3 c2 c01 at A H L keeps c1 none
+E4 name: step s1 joins c3 c2 c1 at Z 9 L keeps c1 none
+E4 name: step s1 joins c3 c2 c1 at Z H L keeps c01 turn +
+E4 name: point 9 x 0
+E4 name: circle _H x 0 0
+E4 name: line abcdefghijklmnopq 0 1 0
+E6 unknown: step s1 joins c3 c2 c1 at A H Z keeps c1 none
+E6 unknown: step s1 joins c3 c2 c1 at Z H L keeps c1 turn -
+E6 unknown: point Z x 0
+E6 unknown: circle a 0 0 x
+E6 unknown: line Z x 0 0
+E7 kind: point H x 0
+E7 kind: point L x 0
+E7 kind: circle A x 0 0
+E7 kind: circle L x 0 0
+E7 kind: line A x 1 0
+E7 kind: line H x 1 0
+E8 number: point A 1.5 0
+E8 number: point A 0 +1
+E8 number: point A - 0
+E8 number: point A --1 0
+E8 number: point A 1152921504606846977 0
+E8 number: point A 0 -1152921504606846977
+E8 number: point A 00000000000000000000 0
+E8 number: circle H x 0 5
+E8 number: circle H 0 x 5
+E8 number: circle H 0 0 1152921504606846977
+E8 number: line L 2000000001 0 0
+E8 number: line L 0 -2000000001 0
+E8 number: line L 0 0 1152921504606846977
+E8 number: tolerance -1 0
+E8 number: tolerance 0 -1
+E8 number: tolerance 4611686018427387905 0
+E8 number: tolerance 0 4611686018427387905
+E8 number: tolerance 1x 0
+E8 number: tolerance 00000000000000000000 0";

@@ -153,6 +153,28 @@ end
 sketch 2
 point A 7 7
 end
+$ verify
+sketch 1
+point A 7 7
+end
+point A 0 1
+tolerance 0 2
+> 0
+verified steps 0 length 0 nm angle 2 ppb
+$ verify
+sketch 1
+point A 7 7
+end
+tolerance 0 2
+> 9
+verify fails element A
+$ verify
+sketch 1
+point A 7 7
+end
+end
+> 1
+refused line 4 E2 word
 $ spare
 sketch 1
 point A 0 0
@@ -164,6 +186,42 @@ end
 spare 2
 c1 : distance A B 1
 c2 : distance A B 1
+$ flips
+sketch 1
+point A 0 0
+point B 7 0
+point C 3 1
+distance A B 7
+distance A C 3
+distance B C 4
+end
+flip s1
+flip s2
+end
+> 0
+flip 1 fault
+fault s1 build height C flat 0 0 bits 38
+flip 2 no-choice s2
+$ flips
+sketch 1
+point A 0 0
+point B 1 0
+end
+end
+> 6
+verdict open
+elements 2
+constraints 0
+parts 2
+part 1 sound elements 1 held 0 due 0 : A
+part 2 sound elements 1 held 0 due 0 : B
+$ flips
+sketch 1
+point A 7 7
+end
+flop
+> 1
+refused line 4 E2 word
 $ derive order=7
 sketch 1
 point A 0 0
@@ -191,7 +249,7 @@ length tolerance 0 nm at c2
 angle tolerance 0 ppb at line X
 $ check check
 > 2
-usage: sketch check|plan|solve|dxf|offers|session|grow|migrate|spare|derive [order=first|last|0..65535] [bits=16|27|38] [within=1..1000000] [n=3..1000]
+usage: sketch check|plan|solve|dxf|offers|session|grow|migrate|verify|spare|flips|derive [order=first|last|0..65535] [bits=16|27|38] [within=1..1000000] [n=3..1000]
 ";
 
 /// Calls with one byte a call of the source and of the sink, where one call of each fails, or none where its

@@ -8,6 +8,7 @@ mod blocks;
 mod calls;
 #[cfg(test)]
 mod checks;
+#[cfg(test)]
 mod claims;
 #[cfg(test)]
 mod damaged;
@@ -17,6 +18,8 @@ mod derived;
 mod drawn;
 #[cfg(test)]
 mod faults;
+#[cfg(test)]
+mod flips;
 #[cfg(test)]
 mod grown;
 #[cfg(test)]
@@ -35,6 +38,8 @@ mod placements;
 mod plans;
 #[cfg(test)]
 mod refusals;
+#[cfg(test)]
+mod refused_claims;
 #[cfg(test)]
 mod row;
 #[cfg(test)]
@@ -58,6 +63,6 @@ mod usage;
 #[cfg(test)]
 mod verified;
 #[cfg(test)]
+mod verified_signs;
+#[cfg(test)]
 mod versions;
-
-pub use claims::accepted_is_well;

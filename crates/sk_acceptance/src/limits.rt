@@ -139,7 +139,9 @@ fn a_byte_too_long_is_refused(rt: HostRuntime) -> Result<(), Fail> {
     answers(&rt, alloc, &["check"], lines.as_bytes(), 1, empty)?;
     answers(&rt, alloc, &["session"], lines.as_bytes(), 0, b"")?;
     lines.push_str("\n")?;
-    answers(&rt, alloc, &["check"], lines.as_bytes(), 1, TOO_LONG)?;
+    for command in ["check", "offers", "verify", "flips"] {
+        answers(&rt, alloc, &[command], lines.as_bytes(), 1, TOO_LONG)?;
+    }
     let mut spaces = String::from_str(alloc, "")?;
     put_often(&mut spaces, " ", 1_048_576)?;
     let long_line = b"refused E15 line-too-long\n";

@@ -2,9 +2,13 @@
 //
 // A table of such calls is a text. Each row begins with `$ ` and the words, and then has the input, `> ` with
 // the status, and the text that is to be written.
+ghost use Rattle.std.specs.Prelude.{◌≤◌, length, IfOk};
+
+use sk_base::Text;
 use sk_cli::run;
 use sk_io::{MemSink, MemSource};
 use std::alloc::Global;
+use std::fmt::Debug;
 use std::process::Abort;
 use std::test::Fail;
 
@@ -111,4 +115,48 @@ pub fn put_answer(
     let _status = run(alloc, words.as_slice(), &mut source, &mut sink);
     bytes.extend_from_slice(sink.written())?;
     Ok(())
+}
+
+/// Behind the sketch, each line of the table is refused: it stands behind `: `, and its code before that.
+pub fn lines_are_refused(
+    rt: &impl Abort,
+    alloc: Global,
+    command: &str,
+    sketch: &str,
+    table: &str,
+) -> Result<(), Fail> {
+    let number = sketch.lines().count().saturating_add(1);
+    for row in table.split("\n") {
+        let (code, line) = row.split_once(": ").ok_or("a row without a code")?;
+        let text = format!(in alloc; "{sketch}{line}\n")?;
+        let written = format!(in alloc; "refused line {number} {code}\n")?;
+        answers(
+            rt,
+            alloc,
+            &[command],
+            text.as_bytes(),
+            1,
+            written.as_bytes(),
+        )?;
+    }
+    Ok(())
+}
+
+/// Puts each of these on a line of its own.
+pub fn put_each<T: Debug>(alloc: Global, told: &mut Text, items: &[T]) -> Result<(), Fail> {
+    for item in items {
+        told.put(format!(in alloc; "{item:?}\n")?.as_bytes())?;
+    }
+    Ok(())
+}
+
+/// The bytes of a text of no more than 1,000.
+pub fn few_bytes(text: &str) -> Result<&[u8], Fail>
+    ensures { IfOk result (λ bytes. length bytes.now ≤ 1000) }
+{
+    let bytes = text.as_bytes();
+    if bytes.len() > 1000 {
+        return Err(Fail::from("a short text"));
+    }
+    Ok(bytes)
 }

@@ -1,8 +1,8 @@
 // The tables of calls, each of which stands in the module of its subject.
 use crate::row::rows_pass;
 use crate::{
-    blocks, checks, damaged, derived, drawn, grown, offers, plans, refusals, sessions, solves,
-    spares, versions,
+    blocks, checks, damaged, derived, drawn, flips, grown, offers, plans, refusals, refused_claims,
+    sessions, solves, spares, verified, verified_signs, versions,
 };
 use std::test::Fail;
 
@@ -16,7 +16,11 @@ fn texts_get_their_answers(rt: HostRuntime) -> Result<(), Fail> {
         refusals::REFUSALS,
         damaged::LONG_LINES,
         spares::SPARES,
+        flips::REFUSED,
         derived::DERIVED,
+        verified::VERIFIED,
+        verified_signs::SIGNS,
+        refused_claims::REFUSED_CLAIMS,
     ];
     for table in tables {
         rows_pass(&rt, rt.alloc(), table)?;
@@ -34,6 +38,7 @@ fn drawings_are_placed(rt: HostRuntime) -> Result<(), Fail> {
         solves::TILTED,
         solves::LATER_FAULTS,
         drawn::DRAWN,
+        flips::FLIPS,
         grown::GROWN,
         blocks::BLOCKS,
         versions::VERSIONS,

@@ -5,7 +5,7 @@ use std::process::Abort;
 use std::test::Fail;
 
 const USAGE: &str =
-    "usage: sketch check|plan|solve|dxf|offers|session|grow|migrate|spare|derive [order=first|last|0..65535] [bits=16|27|38] [within=1..1000000] [n=3..1000]\n";
+    "usage: sketch check|plan|solve|dxf|offers|session|grow|migrate|verify|spare|flips|derive [order=first|last|0..65535] [bits=16|27|38] [within=1..1000000] [n=3..1000]\n";
 
 /// The words of a call on each line, between single spaces; the first line has one empty word.
 const NO_FORMS: &str = "
@@ -41,11 +41,22 @@ migrate order=first
 migrate bits=16
 migrate within=1
 migrate n=3
+verify verify
+verify order=first
+verify bits=16
+verify within=1
+verify n=3
 spare spare
 spare order=first
 spare bits=16
 spare within=1
 spare n=3
+flips flips
+flips order=
+flips order=00
+flips bits=20
+flips within=0
+flips n=3
 derive order=
 derive order=00
 derive order=first order=last

@@ -1,0 +1,565 @@
+// Other drawings by turned choices, through the command and by the calls below it.
+use crate::calls::{planned, sketch_of};
+use crate::row::{answers, few_bytes, lines_are_refused, put_each};
+use crate::tolerances::{placed, places_of};
+use sk_base::{List, Name, Sign, Sketch, Text};
+use sk_cli::alternative_text;
+use sk_flips::{Alternative, alternatives, first_off, flip_plan, read_flips, turned_plan_is_legal};
+use sk_graph::reduce;
+use sk_interval::G38;
+use sk_lang::ReadError;
+use sk_report::{refused_text, turned_text};
+use sk_residual::Turned;
+use std::alloc::Global;
+use std::test::Fail;
+
+/// A triangle turns over and back, and has no second step. Three points on one line have no height on
+/// either side. The keys are those of `solve`. No line of flips need stand, and one may name no step. Of a
+/// list the first name without a choice is told, as it is written; where two lines cross nothing is open.
+/// A line runs back along two circles; of a rectangle a side lies on the other side of the other, and both
+/// are turned in either order; beside a block a corner is mirrored. Where the verdict isn't well, the check
+/// report stands in the place of all that.
+pub const FLIPS: &str = "
+$ flips
+sketch 1
+point A 0 0
+point B 4 0
+point C 4 3
+distance A B 4
+distance A C 5
+distance B C 3
+end
+flip s1
+flip
+flip s2
+end
+> 0
+flip 1 ok
+point A 0 0
+point B 4000000 0
+point C 4000000 -3000000
+length tolerance 0 nm at c1
+angle tolerance 0 ppb at none
+flip 2 ok
+point A 0 0
+point B 4000000 0
+point C 4000000 3000000
+length tolerance 0 nm at c1
+angle tolerance 0 ppb at none
+flip 3 no-choice s2
+$ flips
+sketch 1
+point A 0 0
+point B 7 0
+point C 3 1
+distance A B 7
+distance A C 3
+distance B C 4
+end
+flip s1
+end
+> 0
+flip 1 fault
+fault s1 build height C flat 0 0 bits 38
+$ flips bits=27 order=last
+sketch 1
+point A 0 0
+point B 7 0
+point C 3 1
+distance A B 7
+distance A C 3
+distance B C 4
+end
+
+  flip\ts1\r
+
+end
+
+> 0
+flip 1 fault
+fault s1 build height C flat 0 0 bits 27
+$ flips
+sketch 1
+point A 0 0
+point B 4 0
+point C 4 3
+distance A B 4
+distance A C 5
+distance B C 3
+end
+end
+> 0
+$ flips
+sketch 1
+point A 0 0
+point B 4 0
+point C 4 3
+distance A B 4
+distance A C 5
+distance B C 3
+end
+flip s3 s1 s2
+flip s1 s2 s3
+flip s999999
+end
+> 0
+flip 1 no-choice s3
+flip 2 no-choice s2
+flip 3 no-choice s999999
+$ flips bits=16 within=1
+sketch 1
+point A 0 0
+point B 1 0
+distance A B 0.003
+end
+flip s1
+flip
+end
+> 0
+flip 1 no-choice s1
+flip 2 fault
+fault c1 tolerance 2 nm limit 1
+$ flips
+sketch 1
+point A 7 7
+end
+flip
+flip s16 s15 s14 s13 s12 s11 s10 s9 s8 s7 s6 s5 s4 s3 s2 s1
+end
+> 0
+flip 1 ok
+point A 0 0
+length tolerance 0 nm at none
+angle tolerance 0 ppb at none
+flip 2 no-choice s16
+$ flips
+sketch 1
+line X 0 0 100 0
+line Y 0 0 0 80
+circle H 30 8 5
+angle X Y 1/0
+tangent X H
+distance H Y 30
+end
+flip s1
+flip s2 s1
+end
+> 0
+flip 1 no-choice s1
+flip 2 no-choice s2
+$ flips
+sketch 1
+circle H 0 0 5
+circle K 5 0 2
+line T 0 -6 10 1.5
+distance H K 5
+tangent T H
+tangent T K
+end
+flip s1
+end
+> 0
+flip 1 ok
+circle H 0 0 5000000
+circle K 5000000 0 2000000
+line T -600000000 -800000000 -5000000
+length tolerance 0 nm at c1
+angle tolerance 0 ppb at line T
+$ flips
+sketch 1
+point A 0 0
+point B 40 0
+point C 40 25
+point D 0 25
+line S 0 0 40 0
+line E 40 0 40 25
+line N 40 25 0 25
+line W 0 25 0 0
+on A S
+on A W
+on B S
+on B E
+on C E
+on C N
+on D N
+on D W
+angle S E 1/0
+angle E N 1/0
+angle N W 1/0
+distance A B 40
+distance B C 25
+end
+flip s4
+flip s5 s4
+flip s4 s1
+end
+> 0
+flip 1 ok
+point A 40000000 0
+point B 0 0
+point C 0 25000000
+point D 40000000 25000000
+line S 0 1000000000 0
+line E -1000000000 0 0
+line N 0 -1000000000 -25000000
+line W 1000000000 0 40000000
+length tolerance 0 nm at c1
+angle tolerance 0 ppb at line S
+flip 2 ok
+point A 40000000 0
+point B 0 0
+point C 0 -25000000
+point D 40000000 -25000000
+line S 0 1000000000 0
+line E -1000000000 0 0
+line N 0 -1000000000 25000000
+line W 1000000000 0 40000000
+length tolerance 0 nm at c1
+angle tolerance 0 ppb at line S
+flip 3 no-choice s1
+$ flips
+sketch 2
+point A 0 0
+point B 4 0
+point C 4 3
+point D 0 3 # the corner
+block A 0 0 B 4 0 C 4 3
+distance A D 3
+distance C D 4
+end # of it
+flip s1
+end
+> 0
+flip 1 ok
+point A 0 0
+point B 4000000 0
+point C 4000000 3000000
+point D 2880000 -840000
+length tolerance 0 nm at c1
+angle tolerance 0 ppb at none
+$ flips
+sketch 1
+point A 0 0
+point B 1 0
+end
+flip s1
+end
+> 6
+verdict open
+elements 2
+constraints 0
+parts 2
+part 1 sound elements 1 held 0 due 0 : A
+part 2 sound elements 1 held 0 due 0 : B
+$ flips
+sketch 1
+point A 0 0
+point B 1 0
+distance A B 1
+distance A B 1
+end
+end
+> 6
+verdict over
+elements 2
+constraints 2
+parts 1
+part 1 over elements 2 held 2 due 1 : A B
+";
+
+/// What is refused: a line of the sketch before one behind it, a line behind it by its first code, a line behind their
+/// end, and both before a verdict that isn't well.
+pub const REFUSED: &str = "
+$ flips
+sketch 1
+point A 0 0
+distance A B 3
+end
+flop
+end
+> 1
+refused line 3 E6 unknown
+$ flips
+sketch 1
+point A 0 0
+> 1
+refused line 3 E16 no-end
+$ flips
+sketch 1
+point A 0 0
+point B 1 0
+end
+flip s1
+> 1
+refused line 6 E16 no-end
+$ flips
+sketch 1
+point A 0 0
+point B 1 0
+end
+> 1
+refused line 5 E16 no-end
+$ flips
+sketch 1
+point A 0 0
+point B 1 0
+end
+flop s1
+> 1
+refused line 5 E2 word
+$ flips
+sketch 1
+point A 0 0
+end
+flip
+flips
+end
+> 1
+refused line 5 E2 word
+$ flips
+sketch 1
+point A 0 0
+end
+flip s1
+end
+flip s1
+> 1
+refused line 6 E17 after-end
+$ flips
+sketch 1
+point A 0 0
+end
+end
+
+end s1
+> 1
+refused line 6 E17 after-end
+$ flips
+sketch 1
+point A 0 0
+end
+end
+\x7f
+> 1
+refused line 5 E19 not-ascii
+$ flips
+sketch 1
+point A 0 0
+end
+end
+xxxxxxxxxxxxxxxxxxxxxxxxxxxxxxxxxxxxxxxxxxxxxxxxxxxxxxxxxxxxxxxxxxxxxxxxxxxxxxxxxxxxxxxxxxxxxxxxxxxxxxxxxxxxxxxxxxxxxxxxxxxxxxxxxxxxxxxxxxxxxxxxxxxxxxxxxxxxxxxxxxxxxxxxxxxxxxxxxxxxxxxxxxxxxxxxxxxxxxxxx
+> 1
+refused line 5 E15 line-too-long
+$ flips
+sketch 2
+point A 0 0 # here
+end # of it
+flip # s1
+end
+> 1
+refused line 4 E4 name
+$ flips
+> 1
+refused line 0 E18 empty
+";
+
+/// Lines of flips with their codes, each alone or in front of a later one of the same line.
+const REFUSED_LINES: &str = "\
+E15 line-too-long: xxxxxxxxxxxxxxxxxxxxxxxxxxxxxxxxxxxxxxxxxxxxxxxxxxxxxxxxxxxxxxxxxxxxxxxxxxxxxxxxxxxxxxxxxxxxxxxxxxxxxxxxxxxxxxxxxxxxxxxxxxxxxxxxxxxxxxxxxxxxxxxxxxxxxxxxxxxxxxxxxxxxxxxxxxxxxxxxxxxxxxxxxxxxxxxxxxxxxxxxx
+E15 line-too-long: \x7fxxxxxxxxxxxxxxxxxxxxxxxxxxxxxxxxxxxxxxxxxxxxxxxxxxxxxxxxxxxxxxxxxxxxxxxxxxxxxxxxxxxxxxxxxxxxxxxxxxxxxxxxxxxxxxxxxxxxxxxxxxxxxxxxxxxxxxxxxxxxxxxxxxxxxxxxxxxxxxxxxxxxxxxxxxxxxxxxxxxxxxxxxxxxxxxxxxxxxxxx
+E19 not-ascii: \x7f
+E19 not-ascii: flop\r s0
+E2 word: flop s0
+E2 word: flips
+E2 word: Flip s1
+E2 word: step s1
+E2 word: # flip s1
+E2 word: flips s1 s2 s3 s4 s5 s6 s7 s8 s9 s10 s11 s12 s13 s14 s15 s16 s17
+E3 shape: flip s1 s2 s3 s4 s5 s6 s7 s8 s9 s10 s11 s12 s13 s14 s15 s16 x
+E3 shape: end s1
+E3 shape: end end
+E4 name: flip s1 s1 c1
+E4 name: flip s0
+E4 name: flip s01
+E4 name: flip s1000000
+E4 name: flip s
+E4 name: flip S1
+E4 name: flip 1
+E4 name: flip s1,s2
+E4 name: flip s1x
+E10 same: flip s1 s1
+E10 same: flip s2 s1 s2";
+
+/// Lines behind 64 lines of flips.
+const ONE_TOO_MANY: &str = "\
+E15 line-too-long: xxxxxxxxxxxxxxxxxxxxxxxxxxxxxxxxxxxxxxxxxxxxxxxxxxxxxxxxxxxxxxxxxxxxxxxxxxxxxxxxxxxxxxxxxxxxxxxxxxxxxxxxxxxxxxxxxxxxxxxxxxxxxxxxxxxxxxxxxxxxxxxxxxxxxxxxxxxxxxxxxxxxxxxxxxxxxxxxxxxxxxxxxxxxxxxxxxxxxxxxx
+E19 not-ascii: flip\x7f
+E2 word: flop
+E3 shape: flip s1 s2 s3 s4 s5 s6 s7 s8 s9 s10 s11 s12 s13 s14 s15 s16 s17
+E4 name: flip c1
+E10 same: flip s1 s1
+E21 too-many-flips: flip s1
+E21 too-many-flips: flip";
+
+const TRIANGLE: &str = "\
+sketch 1
+point A 0 0
+point B 4 0
+point C 4 3
+distance A B 4
+distance A C 5
+distance B C 3
+end
+";
+
+/// Turned over, a step that the plan hasn't, and as it is drawn.
+const TURNED: &str = "\
+flip 9 ok
+point A 0 0
+point B 4000000 0
+point C 4000000 -3000000
+length tolerance 0 nm at c1
+angle tolerance 0 ppb at none
+flip 9 no-choice s2
+flip 9 ok
+point A 0 0
+point B 4000000 0
+point C 4000000 3000000
+length tolerance 0 nm at c1
+angle tolerance 0 ppb at none
+";
+
+const LONE_POINT: &str = "sketch 1\npoint A 7 7\nend\n";
+
+/// The lone point, with so many lines of flips that name no step, and then a line.
+fn with_flips(alloc: Global, count: usize, line: &str) -> Result<String, Fail> {
+    let mut text = String::from_str(alloc, LONE_POINT)?;
+    for _ in 0..count {
+        text.push_str("flip\n")?;
+    }
+    text.push_str(line)?;
+    Ok(text)
+}
+
+/// No more than 64 lines of flips may stand, and one more is refused for that only where nothing else is wrong with it.
+#[test]
+fn sixty_four_lines_of_flips_may_stand(rt: HostRuntime) -> Result<(), Fail> {
+    let alloc = rt.alloc();
+    lines_are_refused(&rt, alloc, "flips", LONE_POINT, REFUSED_LINES)?;
+    let many = with_flips(alloc, 64, "")?;
+    lines_are_refused(&rt, alloc, "flips", many.as_str(), ONE_TOO_MANY)?;
+    let no_end = b"refused line 68 E16 no-end\n".as_slice();
+    answers(&rt, alloc, &["flips"], many.as_bytes(), 1, no_end)?;
+    let text = with_flips(alloc, 63, "flip s1\nend\n")?;
+    let mut written = String::from_str(alloc, "")?;
+    for number in 1..64 {
+        let found = format!(in alloc;
+            "flip {number} ok\npoint A 0 0\nlength tolerance 0 nm at none\nangle tolerance 0 ppb at none\n"
+        )?;
+        written.push_str(found.as_str())?;
+    }
+    written.push_str("flip 64 no-choice s1\n")?;
+    answers(
+        &rt,
+        alloc,
+        &["flips"],
+        text.as_bytes(),
+        0,
+        written.as_bytes(),
+    )
+}
+
+/// The lists of steps that the lines are read as, behind three others, or the refusal of a line.
+#[tactic(auto, using(sk_lang::proofs::LineCounts::few_lines))]
+fn read_as(alloc: Global, lines: &str) -> Result<Text, Fail> {
+    match read_flips(alloc, few_bytes(lines)?, 3) {
+        Ok(lists) => lists_told(alloc, lists.as_slice()),
+        Err(ReadError::Refused(refusal)) => Ok(refused_text(alloc, &refusal)?),
+        Err(ReadError::NoMemory) => Err(Fail::from("memory ran out")),
+    }
+}
+
+fn lists_told(alloc: Global, lists: &[List<Name>]) -> Result<Text, Fail> {
+    let mut told = Text::new(alloc);
+    for names in lists {
+        told.put(b"flip\n")?;
+        put_each(alloc, &mut told, names.as_slice())?;
+    }
+    Ok(told)
+}
+
+/// What comes of the triangle with these flips, each told as if it were the ninth.
+#[tactic(auto, using(sk_lang::proofs::LineCounts::few_lines))]
+fn alternatives_told(alloc: Global, lines: &str) -> Result<Text, Fail> {
+    let sketch = sketch_of(alloc, TRIANGLE)?;
+    let graph = reduce(alloc, &sketch)?;
+    let plan = planned(alloc, &sketch)?;
+    let lists = read_flips(alloc, few_bytes(lines)?, 8)?;
+    let found = alternatives::<G38>(alloc, &sketch, &graph, &plan, &lists, 1000)?;
+    let mut told = Text::new(alloc);
+    for alternative in found.as_slice() {
+        told.put(alternative_text(alloc, &sketch, 9, 38, alternative)?.as_bytes())?;
+    }
+    Ok(told)
+}
+
+/// The first sign that isn't as the triangle's turned plan chooses it where the corners lie there, or no text.
+fn off_there(alloc: Global, places: &str) -> Result<Text, Fail> {
+    let sketch = sketch_of(alloc, TRIANGLE)?;
+    let graph = reduce(alloc, &sketch)?;
+    let at = placed(alloc, &graph, places_of(alloc, places)?.as_slice())?;
+    let mut names = List::new(alloc);
+    names.push(Name::Step(1))?;
+    let plan = flip_plan(alloc, &planned(alloc, &sketch)?, &names)?;
+    turned_plan_is_legal();
+    match first_off(&at, &sketch, &plan) {
+        Some(turned) => Ok(turned_text(alloc, &turned)?),
+        None => Ok(Text::new(alloc)),
+    }
+}
+
+/// A triangle's plan with its step turned over wants the third corner on the other side. The sign that it chooses is the
+/// one that is called drawn.
+#[test]
+fn a_triangle_turns_over(rt: HostRuntime) -> Result<(), Fail> {
+    let alloc = rt.alloc();
+    let lists = "flip\nStep(2)\nStep(1)\nflip\n";
+    let read = read_as(alloc, "flip s2 s1\n\nflip\nend\n")?;
+    assert_eq!(rt; read.as_bytes(), lists.as_bytes());
+    let refused = read_as(alloc, "flip\nflip c1\n")?;
+    assert_eq!(rt; refused.as_bytes(), b"refused line 5 E4 name\n".as_slice());
+    let told = alternatives_told(alloc, "flip s1\nflip s2\nflip\nend\n")?;
+    assert_eq!(rt; told.as_bytes(), TURNED.as_bytes());
+    let over = off_there(
+        alloc,
+        "point 0 0\npoint 4000000 0\npoint 4000000 -3000000\n",
+    )?;
+    assert!(rt; over.as_bytes().is_empty());
+    let back = off_there(alloc, "point 0 0\npoint 4000000 0\npoint 4000000 3000000\n")?;
+    assert_eq!(rt;
+        back.as_bytes(),
+        b"fault s1 turned drawn - placed 1\n".as_slice()
+    );
+    Ok(())
+}
+
+/// What comes of a turned sign that no drawing is known for.
+#[test]
+fn a_turned_sign_is_a_fault(rt: HostRuntime) -> Result<(), Fail> {
+    let alloc = rt.alloc();
+    let sketch = Sketch {
+        elements: List::new(alloc),
+        constraints: List::new(alloc),
+    };
+    let turned = Turned {
+        at: Name::Step(2),
+        drawn: Sign::Minus,
+        placed: 0,
+    };
+    let text = alternative_text(alloc, &sketch, 7, 38, &Alternative::Turned(turned))?;
+    assert_eq!(rt;
+        text.as_bytes(),
+        b"flip 7 fault\nfault s2 turned drawn - placed 0\n".as_slice()
+    );
+    Ok(())
+}
