@@ -20,6 +20,7 @@ use Rattle.sk_cli.specs.declared.request.Request.{Request}
 use Rattle.sk_cli.specs.declared.solving.Report.TheVariants.{Places}
 use Rattle.sk_cli.specs.declared.status.Status.{Status}
 use Rattle.sk_cli.specs.declared.status.Status.TheVariants.{Done, Refused, NotWell}
+use Rattle.sk_cli.specs.Causes.{IsItsPlan}
 use Rattle.sk_cli.specs.FlipsReport.{IsReportOnFlips, IsFlipped, ReadsSketchAndFlips, IsFlipsAnswer}
 use Rattle.sk_cli.specs.Grids.{grid_of, digits_of}
 use Rattle.sk_cli.specs.Solved.{IsPlacedPlan, IsSolved}
@@ -42,7 +43,7 @@ one_digit = refl
 module _ (request : Request) (s : Sketch) (text : List ℕ) (sound : IsSoundSketch s) where
   abbrev IsFoundAgain : Type 0
   IsFoundAgain =
-      (p : ThePlan) × (at : Placed) × (tol : Tolerance) × (text ≡ solve_report s p (digits_of request.bits) at tol)
+      (p : ThePlan) × (at : Placed) × (tol : Tolerance) × (text ≡ solve_report s p (digits_of request.bits) at tol) × IsItsPlan request s p
       × IsAlternative (grid_of request.bits) (digits_of request.bits) request.within s p [] (Found at tol)
       × IsReportOnFlips request s ([] ∷ []) (codes "flip 1 ok\n" ++ places_report s at tol)
 
@@ -57,6 +58,7 @@ module _ (request : Request) (s : Sketch) (text : List ℕ) (sound : IsSoundSket
         at,
         tol,
         is,
+        (placed.well, placed.plan),
         found,
         record {
           well = placed.well;

@@ -173,12 +173,13 @@ pub fn causes()
     datum_sketch_is_sound();
 }
 
-/// Where `solve` is done with a sketch, the same plan, with nothing turned, finds the very places and the
-/// tolerance that were told, so that `flips` with the same keys tells these where a line of flips names no
-/// step.
+/// Where `solve` is done with a sketch, the plan of the run by the order, with nothing turned, finds the very
+/// places and the tolerance that were told, so that `flips` with the same keys tells these where a line of
+/// flips names no step. With `one_alternative` of `sk_flips`, by which a plan and a list of steps have one
+/// alternative at most, every line of flips that names no step tells these, wherever it stands.
 pub fn solved_places_are_found()
     ensures { (request : Request) (s : Sketch) (text : List ℕ) → IsSoundSketch s → IsSolved Places request s Status.Done text
-        → (p : Plan) × (at : Placed) × (tol : Tolerance) × (text ≡ solve_report s p (digits_of request.bits) at tol)
+        → (p : Plan) × (at : Placed) × (tol : Tolerance) × (text ≡ solve_report s p (digits_of request.bits) at tol) × IsItsPlan request s p
         × IsAlternative (grid_of request.bits) (digits_of request.bits) request.within s p [] (Found at tol)
         × IsReportOnFlips request s ([] ∷ []) (codes "flip 1 ok\n" ++ places_report s at tol) }
 {}
