@@ -221,13 +221,14 @@ pub fn headline()
 /// What `plan` and `solve` print of a sketch in the same order, the step lines and the element lines, with
 /// the printed tolerances on a line behind them, is a claim (`reads`) that is accepted (`accepted`), so that
 /// `verify` is done with it behind a text of the sketch (`verified`). Where `solve` is done, `plan` in the
-/// same order is, and they print of one plan, one placement and its tolerances (`printed`).
+/// same order is, and they print of one plan, one placement and its tolerances, where all holds that the
+/// other three ask (`printed`).
 pub fn printed_claims_are_accepted()
     ensures printed { (planning solving : List (List ℕ)) (bytes planned solved : List ℕ) (status : Status) (planned_by solved_by : Request)
         → Asks planning planned_by → planned_by.command ≡ Command.Plan → Asks solving solved_by → solved_by.command ≡ Command.Solve → planned_by.order ≡ solved_by.order
         → IsOutcome planning bytes status planned → IsOutcome solving bytes Status.Done solved
         → (s : Sketch) × (p : Plan) × (at : Placed) × (t : Tolerance) × Reads bytes s × (status ≡ Status.Done)
-        × (planned ≡ plan_report s p) × (solved ≡ solve_report s p (digits_of solved_by.bits) at t)
+        × (planned ≡ plan_report s p) × (solved ≡ solve_report s p (digits_of solved_by.bits) at t) × HoldsAt solved_by s p at t
         × ReadsClaim s (printed_text s p at t) (printed_claim s p at t) × IsAccepted s (graph_of s) (printed_claim s p at t) }
     ensures reads { (words : List (List ℕ)) (bytes : List ℕ) (request : Request) (s : Sketch) (p : Plan) (at : Placed) (t : Tolerance) → Asks words request → Reads bytes s
         → HoldsAt request s p at t → ReadsClaim s (printed_text s p at t) (printed_claim s p at t) }

@@ -45,6 +45,7 @@ returns c =
             of.done,
             of.planned_is,
             of.solved_is,
+            of.holds,
             printed_reads s (sound bytes s of.reads) (numbered bytes s of.reads) solving solved_by asks' of.plan of.at of.tolerance of.holds (few (graph_of s) of.plan graph of.holds.plan.1.legal),
             printed_accepted s (sound bytes s of.reads) (numbered bytes s of.reads) solving solved_by asks' of.plan of.at of.tolerance of.holds,
           ));
