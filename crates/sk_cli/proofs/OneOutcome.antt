@@ -34,27 +34,27 @@ use Rattle.sk_derive.specs.WideReach.{IsWideNormal}
 use Rattle.sk_derive.specs.DerivedText.{derived_text}
 use Rattle.sk_flips.specs.declared.Alternative.{Alternative}
 use Rattle.sk_flips.specs.Alternatives.{AreAlternatives}
-use Rattle.sk_flips.specs.FlipReading.{ReadsFlips, RefusesFlips}
+use Rattle.sk_flips.specs.FlipReading.{ReadsFlips}
 use Rattle.sk_residual.specs.declared.Wanted.TheVariants.{Drawn}
 use Rattle.sk_lang.specs.declared.Front.{Front}
 use Rattle.sk_lang.specs.Front.{ReadsFront, RefusesFront}
 use Rattle.sk_offers.specs.Offering.{starting_table}
 use Rattle.sk_cli.specs.declared.offer_line.OfferLine.{OfferLine}
-use Rattle.sk_cli.specs.OfferReading.{ReadsOffers, RefusesOffers}
-use Rattle.sk_cli.specs.FlipsReport.{alternatives_from, IsReportOnFlips, IsFlipped, ReadsSketchAndFlips, IsFlipsRefusal, IsFlipsAnswer}
+use Rattle.sk_cli.specs.OfferReading.{ReadsOffers}
+use Rattle.sk_cli.specs.FlipsReport.{alternatives_from, IsReportOnFlips, IsFlipped, ReadsSketchAndFlips, RefusesFlipsBehind, IsFlipsRefusal, IsFlipsAnswer}
 use Rattle.sk_cli.specs.Fronts.{IsRefusedAt}
-use Rattle.sk_cli.specs.OffersReport.{IsReportOnOffers, IsOffersReport, IsOffersRefusal, IsOffersAnswer}
+use Rattle.sk_cli.specs.OffersReport.{IsReportOnOffers, IsOffersReport, RefusesOffersBehind, IsOffersRefusal, IsOffersAnswer}
 use Rattle.sk_cli.proofs.OfferAnswers.{one_list, one_refusal as one_refusal_behind, not_both as not_both_behind}
 use Rattle.sk_cli.proofs.OneOffering.{same_lines}
 use Rattle.sk_session.proofs.Consistency.{empty_sound}
 use Rattle.sk_verify.specs.declared.claim.Claim.{Claim}
 use Rattle.sk_verify.specs.declared.failure.Failure.{Failure}
-use Rattle.sk_verify.specs.ClaimReading.{ReadsClaim, RefusesClaim}
+use Rattle.sk_verify.specs.ClaimReading.{ReadsClaim}
 use Rattle.sk_verify.specs.Failing.{IsAccepted, FailsFirst}
 use Rattle.sk_verify.specs.Texts.{failure_line, verified_line}
 use Rattle.sk_verify.proofs.Answering.{not_both as not_both_failing, one_failure}
 use Rattle.sk_verify.proofs.ClaimSoFar.{one_claim, one_refusal as one_claim_refusal, not_both as not_both_claims}
-use Rattle.sk_cli.specs.VerifyAnswer.{HasClaim, IsVerified, IsNotVerified, IsVerifyRefusal, IsVerifyAnswer}
+use Rattle.sk_cli.specs.VerifyAnswer.{HasClaim, IsVerified, IsNotVerified, RefusesClaimBehind, IsVerifyRefusal, IsVerifyAnswer}
 use Rattle.sk_worklist.specs.declared.Order.{Order}
 use Rattle.sk_worklist.specs.declared.Order.TheVariants.{First}
 use Rattle.sk_cli.specs.declared.accounts.Account.{Account}
@@ -307,7 +307,7 @@ module _ (laws : LowerLaws) (RefusesBehind : Front → List ℕ → ℕ → Code
 
 pub not_read_and_refused : LowerLaws → (bytes text another : List ℕ) → IsOffersReport bytes text → IsOffersRefusal bytes another → ⊥
 not_read_and_refused laws bytes text another (f, os, reads, reads_os, report) (r, at, is) =
-    not_refused_at laws (λ front. RefusesOffers front.lines) bytes f r reads (λ refuses. not_both_behind f.lines (drop f.used bytes) os r.line r.code reads_os refuses) at
+    not_refused_at laws RefusesOffersBehind bytes f r reads (λ refuses. not_both_behind f.lines (drop f.used bytes) os r.line r.code reads_os refuses) at
 
 pub told_offers : (bytes : List ℕ) (status : Status) (text : List ℕ) → IsOffersAnswer bytes status text → ((status ≡ Done) × IsOffersReport bytes text) ⊎ ((status ≡ Refused) × IsOffersRefusal bytes text)
 told_offers bytes Done text answer = inl (refl, answer)
@@ -324,7 +324,7 @@ same_offers laws law bytes status other text another first second =
       ]
       | inr (refused, (r, at, is)) ↦ elim (told_offers bytes other another second) [
         | inl (done, report) ↦ absurd (not_read_and_refused laws bytes another text report (r, at, is))
-        | inr (refused', (q, at', is')) ↦ (refused ∙ sym refused', is ∙ same_refused_at laws (λ front. RefusesOffers front.lines) bytes (λ front. one_refusal_behind front.lines) r q at at' ∙ sym is')
+        | inr (refused', (q, at', is')) ↦ (refused ∙ sym refused', is ∙ same_refused_at laws RefusesOffersBehind bytes (λ front. one_refusal_behind front.lines) r q at at' ∙ sym is')
       ]
     ]
 
@@ -336,7 +336,7 @@ told_flips request bytes status text answer = inr answer
 
 pub not_flips_and_refused : LowerLaws → (bytes text : List ℕ) (front : Front) (lists : List (List Name)) → ReadsSketchAndFlips bytes front lists → ¬ IsFlipsRefusal bytes text
 not_flips_and_refused laws bytes text front lists reads (r, at, is) =
-    not_refused_at laws (λ front. RefusesFlips front.lines) bytes front r reads.0 (λ refuses. read_or_refused front.lines (drop front.used bytes) lists r.line r.code reads.1 refuses) at
+    not_refused_at laws RefusesFlipsBehind bytes front r reads.0 (λ refuses. read_or_refused front.lines (drop front.used bytes) lists r.line r.code reads.1 refuses) at
 
 -- what comes of lists of steps, or a report where the verdict isn't well
 pub told_flipped : (request : Request) (s : Sketch) (lists : List (List Name)) (status : Status) (text : List ℕ) → IsFlipped request s lists status text
@@ -375,7 +375,7 @@ same_flips_answer : OneJudgement → LowerLaws → (request : Request) (bytes : 
 same_flips_answer law laws request bytes status other text another first second =
     elim (told_flips request bytes status text first) [
       | inl (refused, (r, at, is)) ↦ elim (told_flips request bytes other another second) [
-        | inl (refused', (q, at', is')) ↦ (refused ∙ sym refused', is ∙ same_refused_at laws (λ front. RefusesFlips front.lines) bytes (λ front. one_flips_refusal front.lines) r q at at' ∙ sym is')
+        | inl (refused', (q, at', is')) ↦ (refused ∙ sym refused', is ∙ same_refused_at laws RefusesFlipsBehind bytes (λ front. one_flips_refusal front.lines) r q at at' ∙ sym is')
         | inr (g, lists, reads, told) ↦ absurd (not_flips_and_refused laws bytes text g lists reads (r, at, is))
       ]
       | inr (f, lists, reads, told) ↦ elim (told_flips request bytes other another second) [
@@ -424,17 +424,14 @@ module _ (laws : LowerLaws) (bytes : List ℕ) where
   not_accepted_and_failing text another (f, c, one, accepted, is) (g, d, k, other, fails, is') =
       not_both_failing g.sketch (graph_of g.sketch) d k (moved_claim (λ s claim. IsAccepted s (graph_of s) claim) f g c d one other accepted) fails
 
-  abbrev RefusesBehindClaim : Front → List ℕ → ℕ → Code → Type 0
-  RefusesBehindClaim front = RefusesClaim front.sketch front.lines
-
   -- a claim that is read isn't refused
-  pub not_claimed_and_refused : (f : Front) (c : Claim) (r : Refusal) → HasClaim bytes f c → IsRefusedAt RefusesBehindClaim bytes r → ⊥
+  pub not_claimed_and_refused : (f : Front) (c : Claim) (r : Refusal) → HasClaim bytes f c → IsRefusedAt RefusesClaimBehind bytes r → ⊥
   not_claimed_and_refused f c r has =
-      not_refused_at laws RefusesBehindClaim bytes f r has.sketch (not_both_claims f.sketch f.lines (drop f.used bytes) c r.line r.code has.claimed)
+      not_refused_at laws RefusesClaimBehind bytes f r has.sketch (not_both_claims f.sketch f.lines (drop f.used bytes) c r.line r.code has.claimed)
 
   same_claim_refusal : (text another : List ℕ) → IsVerifyRefusal bytes text → IsVerifyRefusal bytes another → text ≡ another
   same_claim_refusal text another (r, at, is) (q, at', is') =
-      is ∙ same_refused_at laws RefusesBehindClaim bytes (λ front. one_claim_refusal front.sketch front.lines) r q at at' ∙ sym is'
+      is ∙ same_refused_at laws RefusesClaimBehind bytes (λ front. one_claim_refusal front.sketch front.lines) r q at at' ∙ sym is'
 
   same_verify : (status other : Status) (text another : List ℕ) → IsVerifyAnswer bytes status text → IsVerifyAnswer bytes other another → (status ≡ other) × (text ≡ another)
   same_verify status other text another first second =

@@ -11,11 +11,11 @@ use Rattle.sk_lang.specs.declared.Code.{Code}
 use Rattle.sk_lang.specs.declared.Refusal.{Refusal}
 use Rattle.sk_lang.specs.Reading.{Refuses, TooLong, Empty, AtLine, NoEnd}
 use Rattle.sk_lang.specs.Front.{RefusesFront}
-use Rattle.sk_flips.specs.FlipReading.{RefusesFlips}
 use Rattle.sk_lang.specs.declared.Front.{Front}
-use Rattle.sk_verify.specs.ClaimReading.{RefusesClaim}
 use Rattle.sk_cli.specs.Fronts.{IsRefusedAt}
-use Rattle.sk_cli.specs.OfferReading.{RefusesOffers}
+use Rattle.sk_cli.specs.FlipsReport.{RefusesFlipsBehind}
+use Rattle.sk_cli.specs.OffersReport.{RefusesOffersBehind}
+use Rattle.sk_cli.specs.VerifyAnswer.{RefusesClaimBehind}
 use Rattle.sk_cli.specs.declared.accounts.Account.{Account}
 use Rattle.sk_cli.specs.declared.accounts.Account.TheVariants.{Parts, Spares, Derived, Migrated}
 use Rattle.sk_cli.specs.declared.command.Command.{Command}
@@ -89,13 +89,13 @@ still_answered text bytes long longer Dxf request Refused out answer = (answer.0
 still_answered text bytes long longer Dxf request status out answer = absurd (omega (arith, long, answer.1.fits))
 still_answered text bytes long longer Grow request status out answer = answer
 still_answered text bytes long longer Offers request Done out answer = absurd (omega (arith, long, answer.2.fits))
-still_answered text bytes long longer Offers request Refused out answer = (answer.0, still_refused_at (λ front. RefusesOffers front.lines) text bytes long longer answer.0 answer.1, answer.2)
+still_answered text bytes long longer Offers request Refused out answer = (answer.0, still_refused_at RefusesOffersBehind text bytes long longer answer.0 answer.1, answer.2)
 still_answered text bytes long longer Offers request status out answer = absurd answer
 still_answered text bytes long longer Verify request Done out answer = absurd (omega (arith, long, answer.2.sketch.fits))
 still_answered text bytes long longer Verify request NotVerified out answer = absurd (omega (arith, long, answer.3.sketch.fits))
-still_answered text bytes long longer Verify request Refused out answer = (answer.0, still_refused_at (λ front. RefusesClaim front.sketch front.lines) text bytes long longer answer.0 answer.1, answer.2)
+still_answered text bytes long longer Verify request Refused out answer = (answer.0, still_refused_at RefusesClaimBehind text bytes long longer answer.0 answer.1, answer.2)
 still_answered text bytes long longer Verify request status out answer = absurd answer
-still_answered text bytes long longer Flips request Refused out answer = (answer.0, still_refused_at (λ front. RefusesFlips front.lines) text bytes long longer answer.0 answer.1, answer.2)
+still_answered text bytes long longer Flips request Refused out answer = (answer.0, still_refused_at RefusesFlipsBehind text bytes long longer answer.0 answer.1, answer.2)
 still_answered text bytes long longer Flips request status out answer = absurd (omega (arith, long, answer.2.0.fits))
 still_answered text bytes long longer Session request Done out answer = absurd (omega (arith, long, answer.0.fits))
 still_answered text bytes long longer Session request Refused out answer = (omega (arith, longer), answer.1)

@@ -18,19 +18,18 @@ use Rattle.sk_place.specs.Placing.{IsPlaced}
 use Rattle.sk_residual.specs.declared.Turned.{Turned}
 use Rattle.sk_residual.specs.Tolerances.{Item, AllHold, IsAbove, everything}
 use Rattle.sk_residual.specs.Turns.{signs, IsTurned}
-use Rattle.sk_flips.specs.FlipReading.{RefusesFlips}
 use Rattle.sk_cli.specs.declared.command.Command.{Command}
 use Rattle.sk_cli.specs.declared.command.Command.TheVariants.{Check, Plan, Solve, Dxf, Offers, Session, Grow, Migrate, Verify, Spare, Flips, Derive}
 use Rattle.sk_cli.specs.declared.request.Request.{Request}
 use Rattle.sk_cli.specs.declared.solving.Report.{Report}
 use Rattle.sk_cli.specs.declared.solving.Report.TheVariants.{Places, Drawing, Sums}
 use Rattle.sk_cli.specs.Grids.{grid_of, digits_of}
-use Rattle.sk_cli.specs.FlipsReport.{ReadsSketchAndFlips}
-use Rattle.sk_verify.specs.ClaimReading.{RefusesClaim}
+use Rattle.sk_cli.specs.FlipsReport.{ReadsSketchAndFlips, RefusesFlipsBehind}
 use Rattle.sk_cli.specs.Fronts.{IsRefusedAt}
-use Rattle.sk_cli.specs.OfferReading.{RefusesOffers}
+use Rattle.sk_cli.specs.OffersReport.{RefusesOffersBehind}
 use Rattle.sk_cli.specs.Outcome.{IsPlanBy}
 use Rattle.sk_cli.specs.Solving.{midpoints}
+use Rattle.sk_cli.specs.VerifyAnswer.{RefusesClaimBehind}
 
 -- it plans a sketch
 abbrev pub plans : Command → Bool
@@ -81,9 +80,9 @@ IsSketchOf command request bytes s = Reads bytes s
 
 -- the input of a command is refused; that of a session only where it is too long
 abbrev pub IsRefusedInput : Command → List ℕ → Type 0
-IsRefusedInput Offers bytes = (r : Refusal) × IsRefusedAt (λ front. RefusesOffers front.lines) bytes r
-IsRefusedInput Flips bytes = (r : Refusal) × IsRefusedAt (λ front. RefusesFlips front.lines) bytes r
-IsRefusedInput Verify bytes = (r : Refusal) × IsRefusedAt (λ front. RefusesClaim front.sketch front.lines) bytes r
+IsRefusedInput Offers bytes = (r : Refusal) × IsRefusedAt RefusesOffersBehind bytes r
+IsRefusedInput Flips bytes = (r : Refusal) × IsRefusedAt RefusesFlipsBehind bytes r
+IsRefusedInput Verify bytes = (r : Refusal) × IsRefusedAt RefusesClaimBehind bytes r
 IsRefusedInput Session bytes = 1048576 < length bytes
 IsRefusedInput Grow bytes = ⊥
 IsRefusedInput command bytes = (r : Refusal) × Refuses bytes r.line r.code

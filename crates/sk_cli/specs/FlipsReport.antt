@@ -4,6 +4,7 @@ use Rattle.std.specs.Fmt.{decimal}
 use Rattle.sk_base.specs.declared.Name.{Name}
 use Rattle.sk_base.specs.declared.Sketch.{Sketch}
 use Rattle.sk_graph.specs.SketchGraph.{graph_of}
+use Rattle.sk_lang.specs.declared.Code.{Code}
 use Rattle.sk_lang.specs.declared.Front.{Front}
 use Rattle.sk_lang.specs.declared.Refusal.{Refusal}
 use Rattle.sk_lang.specs.Front.{ReadsFront}
@@ -72,9 +73,13 @@ IsFlipped request s lists status text = ⊥
 abbrev pub ReadsSketchAndFlips : List ℕ → Front → List (List Name) → Type 0
 ReadsSketchAndFlips bytes front lists = ReadsFront bytes front × ReadsFlips (drop front.used bytes) lists
 
+-- the text behind a sketch is refused as flips, on a line that is counted from the first of the whole text
+abbrev pub RefusesFlipsBehind : Front → List ℕ → ℕ → Code → Type 0
+RefusesFlipsBehind front = RefusesFlips front.lines
+
 -- a line of the sketch or one behind it is refused
 abbrev pub IsFlipsRefusal : List ℕ → List ℕ → Type 0
-IsFlipsRefusal bytes text = (r : Refusal) × IsRefusedAt (λ front. RefusesFlips front.lines) bytes r × (text ≡ refusal_line r)
+IsFlipsRefusal bytes text = (r : Refusal) × IsRefusedAt RefusesFlipsBehind bytes r × (text ≡ refusal_line r)
 
 -- what `flips` answers to an input
 abbrev pub IsFlipsAnswer : Request → List ℕ → Status → List ℕ → Type 0

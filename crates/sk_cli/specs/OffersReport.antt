@@ -1,6 +1,7 @@
 -- What a list of offers is answered, and the report on it.
 use Rattle.std.specs.Prelude.{◌≡◌, ℕ, ◌≤◌, List, [], ◌∷◌, ◌++◌, drop}
 use Rattle.sk_base.specs.declared.Sketch.{Sketch}
+use Rattle.sk_lang.specs.declared.Code.{Code}
 use Rattle.sk_lang.specs.declared.Front.{Front}
 use Rattle.sk_lang.specs.declared.Refusal.{Refusal}
 use Rattle.sk_lang.specs.Front.{ReadsFront}
@@ -44,9 +45,13 @@ abbrev pub IsOffersReport : List ℕ → List ℕ → Type 0
 IsOffersReport bytes text =
     (front : Front) × (offers : List OfferLine) × ReadsFront bytes front × ReadsOffers (drop front.used bytes) offers × IsReportOnOffers front.sketch offers text
 
+-- the text behind a sketch is refused as offers, on a line that is counted from the first of the whole text
+abbrev pub RefusesOffersBehind : Front → List ℕ → ℕ → Code → Type 0
+RefusesOffersBehind front = RefusesOffers front.lines
+
 -- a line of the sketch or one behind it is refused
 abbrev pub IsOffersRefusal : List ℕ → List ℕ → Type 0
-IsOffersRefusal bytes text = (r : Refusal) × IsRefusedAt (λ front. RefusesOffers front.lines) bytes r × (text ≡ refusal_line r)
+IsOffersRefusal bytes text = (r : Refusal) × IsRefusedAt RefusesOffersBehind bytes r × (text ≡ refusal_line r)
 
 -- what `offers` answers to an input
 abbrev pub IsOffersAnswer : List ℕ → Status → List ℕ → Type 0

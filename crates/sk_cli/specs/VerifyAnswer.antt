@@ -1,6 +1,7 @@
 -- What `verify` answers to a sketch and the claim behind it.
 use Rattle.std.specs.Prelude.{◌≡◌, ℕ, List, drop}
 use Rattle.sk_base.specs.declared.Sketch.{Sketch}
+use Rattle.sk_lang.specs.declared.Code.{Code}
 use Rattle.sk_lang.specs.declared.Front.{Front}
 use Rattle.sk_lang.specs.declared.Refusal.{Refusal}
 use Rattle.sk_lang.specs.Front.{ReadsFront}
@@ -37,9 +38,13 @@ IsJudged s claim Done text = IsAccepted s (graph_of s) claim × (text ≡ verifi
 IsJudged s claim NotVerified text = (f : Failure) × FailsFirst s (graph_of s) claim f × (text ≡ failure_line s f)
 IsJudged s claim status text = ⊥
 
+-- the text behind a sketch is refused as a claim, on a line that is counted from the first of the whole text
+abbrev pub RefusesClaimBehind : Front → List ℕ → ℕ → Code → Type 0
+RefusesClaimBehind front = RefusesClaim front.sketch front.lines
+
 -- a line of the sketch or one of the claim is refused
 abbrev pub IsVerifyRefusal : List ℕ → List ℕ → Type 0
-IsVerifyRefusal bytes text = (r : Refusal) × IsRefusedAt (λ front. RefusesClaim front.sketch front.lines) bytes r × (text ≡ refusal_line r)
+IsVerifyRefusal bytes text = (r : Refusal) × IsRefusedAt RefusesClaimBehind bytes r × (text ≡ refusal_line r)
 
 -- what `verify` answers to an input
 abbrev pub IsVerifyAnswer : List ℕ → Status → List ℕ → Type 0
