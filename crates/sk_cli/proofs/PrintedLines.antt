@@ -2,7 +2,6 @@
 use Rattle.std.proofs.Common.{◌≡◌, ℕ, ℤ, pos, ◌*ℤ◌, List, [], ◌∷◌, ◌++◌, map, Option, Some, None, codes, refl, sym, ap, subst, ◌∙◌, arith, append_assoc, append-nil}
 use Rattle.std.specs.Prelude.{Contains}
 use Rattle.std.specs.List.{flat_map}
-use Rattle.std.specs.Fmt.{decimal}
 use Rattle.std.proofs.lemmas.Int.{ints}
 use Rattle.sk_base.specs.declared.At.{At}
 use Rattle.sk_base.specs.declared.At.TheVariants as at
@@ -144,9 +143,6 @@ places_text s p (e ∷ es) (spot ∷ spots) are found placed =
 
 -- ---- the whole
 
-tolerance_parts : (t w : List ℕ) → codes "tolerance " ++ (t ++ (codes " " ++ (w ++ codes "\n"))) ≡ (codes "tolerance" ++ 32 ∷ (t ++ 32 ∷ w)) ++ 10 ∷ []
-tolerance_parts t w = simp append_assoc
-
 ended_parts : (xs ys : List (List (List ℕ))) → ended_lines (map spaced (xs ++ ys)) ≡ ended_lines (map spaced xs) ++ ended_lines (map spaced ys)
 ended_parts [] ys = refl
 ended_parts (x ∷ xs) ys =
@@ -158,9 +154,7 @@ text_of_claim s p at t are found placed =
     let steps = map (step_words s) p.steps in
     let places = map (spot_words s) at.spots in
     let last = tolerance_words t.t t.w ∷ [] in
-    let end : tolerance_line t ≡ ended_lines (map spaced last) = tolerance_parts (decimal t.t) (decimal t.w) ∙ sym (append-nil (line_of (tolerance_words t.t t.w))) in
     ap (λ (text : List ℕ). text ++ (element_lines at s.elements ++ tolerance_line t)) (steps_text s p.steps)
     ∙ ap (λ (text : List ℕ). ended_lines (map spaced steps) ++ (text ++ tolerance_line t)) (places_text s at s.elements at.spots are found placed)
-    ∙ ap (λ (text : List ℕ). ended_lines (map spaced steps) ++ (ended_lines (map spaced places) ++ text)) end
     ∙ ap (λ (text : List ℕ). ended_lines (map spaced steps) ++ text) (sym (ended_parts places last))
     ∙ sym (ended_parts steps (places ++ last))

@@ -1,19 +1,20 @@
 -- The claim that a user makes of what `plan` and `solve` print.
-use Rattle.std.specs.Prelude.{ℕ, List, ◌++◌, codes}
+use Rattle.std.specs.Prelude.{ℕ, List, [], ◌∷◌, ◌++◌}
 use Rattle.std.specs.List.{flat_map}
-use Rattle.std.specs.Fmt.{decimal}
 use Rattle.sk_base.specs.declared.Placed.{Placed}
 use Rattle.sk_base.specs.declared.Sketch.{Sketch}
+use Rattle.sk_base.specs.Spelling.{spaced}
+use Rattle.sk_lang.specs.Canonical.{ended_lines}
 use Rattle.sk_residual.specs.declared.Tolerance.{Tolerance}
 use Rattle.sk_report.specs.PlanReport.{step_line}
 use Rattle.sk_report.specs.SolveReport.{element_lines}
 use Rattle.sk_tree.specs.declared.Plan.{Plan as ThePlan}
 use Rattle.sk_verify.specs.declared.claim.Claim.{Claim}
-use Rattle.sk_verify.specs.ClaimText.{radii_drawn}
+use Rattle.sk_verify.specs.ClaimText.{tolerance_words, radii_drawn}
 
--- the two tolerances that are printed, on a line
+-- the two tolerances that are printed, on a line as a claim has it
 abbrev pub tolerance_line : Tolerance → List ℕ
-tolerance_line t = codes "tolerance " ++ (decimal t.t ++ (codes " " ++ (decimal t.w ++ codes "\n")))
+tolerance_line t = ended_lines (spaced (tolerance_words t.t t.w) ∷ [])
 
 -- the step lines of `plan`, the element lines of `solve`, and the tolerances
 abbrev pub printed_text : Sketch → ThePlan → Placed → Tolerance → List ℕ
