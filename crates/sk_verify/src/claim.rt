@@ -9,8 +9,8 @@ pub struct Radius {
     pub nm: i64,
 }
 
-/// The steps of a plan, where they place the elements, and the tolerances within which all holds: `t`
-/// in nanometres for lengths and heights, `w` in parts per 10^9 for angles and normals.
+/// The steps of a plan, where the elements lie, the radii of the circles, and the tolerances within which
+/// all holds: `t` in nanometres for lengths and heights, `w` in parts per 10^9 for angles and normals.
 #[derive(Drop)]
 pub struct Claim {
     pub steps: List<PlanStep>,

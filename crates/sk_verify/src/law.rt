@@ -1,4 +1,5 @@
-// What an accepted claim says of the sketch, and that each claim has one answer.
+// Laws: what an accepted claim says, that each claim has one answer, what makes a claim accepted, and that
+// written claims read back.
 ghost use Rattle.std.specs.Prelude.{◌≡◌, ◌⊎◌, ◌≤◌, ◌^◌, ℕ, ℤ, Some, All, Contains, length};
 ghost use Rattle.std.specs.Fmt.{decimal};
 ghost use Rattle.sk_base.specs.Bounds.{IsWithin};

@@ -1,9 +1,9 @@
 // Whether each element of a sketch is told in a claim, a circle with its radius.
-ghost use Rattle.std.specs.Prelude.{◌≡◌, ◌↔◌, pos, ◌*ℤ◌, IsTrue, IsSome, Contains, All};
+ghost use Rattle.std.specs.Prelude.{◌≡◌, ◌↔◌, IsTrue, IsSome, Contains, All};
 ghost use Rattle.sk_base.specs.declared.Element.{Element as AnyElement};
 ghost use Rattle.sk_base.specs.Places.{place_of};
 ghost use Rattle.sk_base.specs.SoundSketch.{IsSoundShape, IsLength};
-ghost use Rattle.sk_verify.specs.Claims.{HasItsRadius, IsTold};
+ghost use Rattle.sk_verify.specs.Claims.{radius_nm, HasItsRadius, IsTold};
 ghost use Rattle.sk_verify.specs.Stepping.{IsTelling};
 
 use crate::claim::{Claim, Radius};
@@ -48,7 +48,7 @@ fn has_its_radius(claim: &Claim, element: &Element) -> bool
 
 fn is_radius(claim: &Claim, elem: Elem, r: Um) -> bool
     requires { IsLength r }
-    ensures { IsTrue result ↔ Contains claim.now.radii (record { elem = elem; nm = pos 1000 *ℤ r.0 }) }
+    ensures { IsTrue result ↔ Contains claim.now.radii (record { elem = elem; nm = radius_nm r.0 }) }
 {
     let nm = 1000 * r.0;
     claim.radii.as_slice().contains(&Radius { elem, nm })
