@@ -37,7 +37,6 @@ pub use offer_line::OfferLine;
 pub use offer_reading::{one_reading_of_offers, read_offers};
 pub use reply::reply_text;
 pub use request::{Request, request_of};
-pub use sk_flips::Placement;
 pub use solving::Report;
 pub use status::Status;
 pub use top::run;

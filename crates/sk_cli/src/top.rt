@@ -57,7 +57,7 @@ pub fn run<S: Source, K: Sink>(
         × Ends (map string_bytes words.now) bytes result gained }
 
     // The input is read to its end, or to the byte that is one too many. Where the words aren't of the
-    // form, or their command makes its sketch, no call is made on the source.
+    // form, or their command makes its sketch, the source is as it was.
     ensures read { AskForInput (map string_bytes words.now) → HasInput result
         → IfSome (S.left source.old) (λ bytes. S.left source.new ≡ Some (drop 1048577 bytes)) }
     ensures untouched { (AskForInput (map string_bytes words.now) → ⊥) → source.new ≡ source.old }
