@@ -2,6 +2,7 @@
 -- body of an earlier family that is seen as a constraint between all its elements.
 use Rattle.std.proofs.Common.{◌≡◌, ◌⊎◌, inl, inr, refl, ℕ, ◌+◌, ◌*◌, ◌≤◌, Bool, true, false, List, [], ◌∷◌, length, sym, subst, ap, arith}
 use Rattle.std.specs.Prelude.{Contains, sum_by, ◌||◌}
+use Rattle.std.proofs.lemmas.Bool.{or_cases, or_left, or_right}
 use Rattle.std.proofs.lemmas.List.Sums.{sum_by-cons}
 use Rattle.sk_base.specs.declared.ConId.{ConId}
 use Rattle.sk_base.specs.declared.Graph.{Graph}
@@ -16,18 +17,6 @@ use Rattle.sk_rules.specs.Excess.{weight, weight_where, is_owned}
 use Rattle.sk_rules.proofs.SummedWeights.{same_tests, weighs_one, weighs_more, weights_add, owned_found, found_owned}
 use Rattle.sk_rules.proofs.Families.{IsFamily, step_family, kept_along}
 use Rattle.sk_rules.proofs.Counting.{owned_apart}
-
-either_true : (a b : Bool) → (a || b) ≡ true → (a ≡ true) ⊎ (b ≡ true)
-either_true true b h = inl refl
-either_true false b h = inr h
-
-left_true : (a b : Bool) → a ≡ true → (a || b) ≡ true
-left_true true b h = refl
-left_true false b h = absurd (cc)
-
-right_true : (a b : Bool) → b ≡ true → (a || b) ≡ true
-right_true true b h = refl
-right_true false b h = h
 
 -- those that pass and one that fails weigh no more than all
 pub left_over : (p : Start → Bool) (ss : List Start) (t : Start) → Contains ss t → p t ≡ false → weight_where p ss + weight t ≤ sum_by weight ss
@@ -73,10 +62,10 @@ module _ (ss : List Start) where
       weights_add (is_owned xs) (is_owned ys) (is_owned (union con_number xs ys)) ss
       (λ s s_in. same_tests (is_owned (union con_number xs ys) s) (is_owned xs s || is_owned ys s)
       (λ passes. elim (union_cases con_number xs ys s.number (owned_found (union con_number xs ys) s passes)) [
-        | inl left ↦ left_true (is_owned xs s) (is_owned ys s) (found_owned xs s left)
-        | inr right ↦ right_true (is_owned xs s) (is_owned ys s) (found_owned ys s right)
+        | inl left ↦ or_left (is_owned xs s) (is_owned ys s) (found_owned xs s left)
+        | inr right ↦ or_right (is_owned xs s) (is_owned ys s) (found_owned ys s right)
       ])
-      (λ passes. found_owned (union con_number xs ys) s (elim (either_true (is_owned xs s) (is_owned ys s) passes) [
+      (λ passes. found_owned (union con_number xs ys) s (elim (or_cases (is_owned xs s) (is_owned ys s) passes) [
         | inl left ↦ union_left con_number con_exact xs ys s.number (owned_found xs s left)
         | inr right ↦ union_right con_number xs ys s.number (owned_found ys s right)
       ])))

@@ -1,6 +1,7 @@
 -- What constraints weigh where one of them is left out.
 use Rattle.std.proofs.Common.{◌≡◌, ◌≢◌, refl, ◌+◌, ◌≤◌, Bool, true, false, cond, List, [], ◌∷◌, length, ap, sym, ◌∙◌, arith}
 use Rattle.std.specs.Prelude.{Contains, filter, not, ◌&&◌, ◌||◌}
+use Rattle.std.proofs.lemmas.Bool.{and_from, not_from_false, false_from_ne_true}
 use Rattle.sk_base.specs.declared.Elem.{Elem}
 use Rattle.sk_base.specs.declared.ConId.{ConId}
 use Rattle.sk_base.specs.declared.Graph.{Graph}
@@ -15,10 +16,6 @@ use Rattle.sk_rules.proofs.SummedWeights.{weighs_one, weighs_more, weights_add, 
 use Rattle.sk_spare.specs.Sparing.{differs_from, without}
 use Rattle.sk_spare.proofs.Graphs.{starts_of_part}
 
-pub not_true : (b : Bool) → (b ≡ true → ⊥) → b ≡ false
-not_true true h = absurd (h refl)
-not_true false h = refl
-
 -- where only constraints go that do not pass, those that pass weigh the same
 weighs_the_same : (p keep : Start → Bool) (ss : List Start) → ((s : Start) → Contains ss s → p s ≡ true → keep s ≡ true) → weight_where p (filter keep ss) ≡ weight_where p ss
 weighs_the_same p keep [] each = refl
@@ -27,7 +24,7 @@ weighs_the_same p keep (s ∷ ss) each = told (keep s) refl (weighs_the_same p k
     told : (b : Bool) → keep s ≡ b → weight_where p (filter keep ss) ≡ weight_where p ss → weight_where p (cond b (s ∷ filter keep ss) (filter keep ss)) ≡ weight_where p (s ∷ ss)
     told true is rest = weighs_more p s (filter keep ss) ∙ ap (weighs_one (p s) s) rest ∙ sym (weighs_more p s ss)
     told false is rest =
-        let fails : p s ≡ false = not_true (p s) (λ passes. (let never : true ≡ false = sym (each s (contains_head s ss) passes) ∙ is in absurd (cc))) in
+        let fails : p s ≡ false = false_from_ne_true (p s) (λ passes. (let never : true ≡ false = sym (each s (contains_head s ss) passes) ∙ is in absurd (cc))) in
         rest ∙ sym (weighs_more p s ss ∙ ap (λ b. weighs_one b s (weight_where p ss)) fails)
 
 -- what others own weighs the same without the constraint
@@ -46,8 +43,8 @@ weighs_one_more g s s_in few many within left_out there =
     (λ t t_in passes other. (
     let both = both_true (is_owned many t) (not (is_owned few t)) other in
     let never : true ≡ false = sym both.1 ∙ ap not passes in absurd (cc))) in
-    let least = weighs_at_least besides (starts g) s s_in (both_of (is_owned many s) (is_owned few s) (found_owned many s there)
-    (not_true (is_owned few s) (λ passes. left_out (owned_found few s passes)))) in
+    let least = weighs_at_least besides (starts g) s s_in (and_from (is_owned many s) (not (is_owned few s)) (found_owned many s there)
+    (not_from_false (is_owned few s) (false_from_ne_true (is_owned few s) (λ passes. left_out (owned_found few s passes))))) in
     omega arith
   where
     besides : Start → Bool
@@ -57,11 +54,6 @@ weighs_one_more g s s_in few many within left_out there =
     parted true b to = to refl
     parted false true to = refl
     parted false false to = refl
-
-    both_of : (a b : Bool) → a ≡ true → b ≡ false → (a && not b) ≡ true
-    both_of true false h i = refl
-    both_of true true h i = absurd (cc)
-    both_of false b h i = absurd (cc)
 
 pub two_long : (xs : List Elem) (a b : Elem) → a ≢ b → Contains xs a → Contains xs b → 2 ≤ length xs
 two_long [] a b differ a_in b_in = absurd (contains_none a a_in)

@@ -2,6 +2,7 @@
 use Rattle.std.proofs.Common.{◌≡◌, ◌⊎◌, inl, inr, ℕ, ◌+◌, ◌-◌, ◌<◌, ◌≤◌, Bool, true, false, List, [], ◌∷◌, ◌++◌, length, take, drop, get_or, refl, ap, sym, subst, ◌∙◌, arith}
 use Rattle.std.specs.Prelude.{Contains, ◌↔◌, ◌==◌, ◌||◌, filter, map}
 use Rattle.std.specs.List.{list_any}
+use Rattle.std.proofs.lemmas.Bool.{or_cases, or_left, or_right, false_from_ne_true}
 use Rattle.std.proofs.lemmas.List.{take_more, take_all, get_or_default, length-drop}
 use Rattle.std.proofs.lemmas.List.Elements.{filter_agree, Contains-get_or, Contains-push_cases, Contains-append_left, Contains-append_right}
 use Rattle.sk_base.specs.declared.Elem.{Elem}
@@ -28,7 +29,7 @@ use Rattle.sk_rules.specs.Reach.{Step, Reach, IsClosed, IsNormal, stays, goes}
 use Rattle.sk_rules.specs.Keeping.{HasOneMore}
 use Rattle.sk_rules.proofs.Keeping.{can_carry, contains_settles}
 use Rattle.sk_rules.proofs.KeptClusters.{adopted, owned_is_constraint}
-use Rattle.sk_rules.proofs.SummedWeights.{both_true}
+use Rattle.sk_rules.proofs.SummedWeights.{same_tests, both_true}
 use Rattle.sk_worklist.proofs.Runs.{reach_on}
 use Rattle.sk_spare.specs.Sparing.{with_just, differs_from}
 use Rattle.sk_spare.specs.Trying.{is_other, trial_graph}
@@ -58,11 +59,6 @@ pub made_on : (g : Graph) (p : ConId → Bool) (f m : List Body) → IsMadeOf g 
 made_on g p f m made reach =
     reach_on (with_just p g) (initial_bodies (with_just p g)) f m made (reach_carry g (with_just p g) (λ e line. line) f m reach)
 
-same_tests : (a b : Bool) → (a ≡ true → b ≡ true) → (b ≡ true → a ≡ true) → a ≡ b
-same_tests true b to from = sym (to refl)
-same_tests false true to from = from refl
-same_tests false false to from = refl
-
 just_same : (g : Graph) (p q : ConId → Bool) → ((k : ConId) → p k ≡ q k) → with_just p g ≡ with_just q g
 just_same g p q same =
     ap (λ (es : List Edge). record { nodes = g.nodes; edges = es; blocks = filter (λ (b : Block). p b.id) g.blocks })
@@ -89,34 +85,18 @@ module _ (g : Graph) (owned : List ConId) (k : ConId) (p : ConId → Bool) (f : 
       subst (λ (t : Graph). IsNormal t f) (just_same g p (is_other owned k) as_other)
       (record { reached = beside.made; closed = closed_carry (with_just p g) g (λ e line. line) f beside.closed })
 
-either_true : (a b : Bool) → (a || b) ≡ true → (a ≡ true) ⊎ (b ≡ true)
-either_true true b h = inl refl
-either_true false b h = inr h
-
-left_true : (a b : Bool) → a ≡ true → (a || b) ≡ true
-left_true true b h = refl
-left_true false b h = absurd (cc)
-
-right_true : (a b : Bool) → b ≡ true → (a || b) ≡ true
-right_true true b h = refl
-right_true false b h = h
-
 -- what passes together with some constraints
 pub passes_too : (p : ConId → Bool) (numbers : List ConId) (k : ConId) → (too p numbers k ≡ true) ↔ ((p k ≡ true) ⊎ Contains numbers k)
 passes_too p numbers k = (
-  (λ h. elim (either_true (list_any (λ (j : ConId). j.0 == k.0) numbers) (p k) h) [
+  (λ h. elim (or_cases (list_any (λ (j : ConId). j.0 == k.0) numbers) (p k) h) [
     | inl found ↦ inr (among_found con_number con_exact numbers k found)
     | inr passes ↦ inl passes
   ]),
   (λ h. elim h [
-    | inl passes ↦ right_true (list_any (λ (j : ConId). j.0 == k.0) numbers) (p k) passes
-    | inr there ↦ left_true (list_any (λ (j : ConId). j.0 == k.0) numbers) (p k) (found_among con_number numbers k there)
+    | inl passes ↦ or_right (list_any (λ (j : ConId). j.0 == k.0) numbers) (p k) passes
+    | inr there ↦ or_left (list_any (λ (j : ConId). j.0 == k.0) numbers) (p k) (found_among con_number numbers k there)
   ]),
 )
-
-fails_so : (b : Bool) → (b ≡ true → ⊥) → b ≡ false
-fails_so true h = absurd (h refl)
-fails_so false h = refl
 
 -- one constraint after another
 module _ (g : Graph) (p : ConId → Bool) (ks : List ConId) (further : AreFurther g p ks) (i : ℕ) (z : ConId) (i_in : i < length ks) where
@@ -130,7 +110,7 @@ module _ (g : Graph) (p : ConId → Bool) (ks : List ConId) (further : AreFurthe
   this_in = Contains-get_or ks i z i_in
 
   pub still_fresh : too p (take i ks) this ≡ false
-  still_fresh = fails_so (too p (take i ks) this) (λ passes. elim ((passes_too p (take i ks) this).0 passes) [
+  still_fresh = false_from_ne_true (too p (take i ks) this) (λ passes. elim ((passes_too p (take i ks) this).0 passes) [
     | inl was ↦ (let never : true ≡ false = sym was ∙ further.fresh this this_in in absurd (cc))
     | inr early ↦ (
         let (at, before, is) = taken_from ks i this (omega arith) early in
@@ -232,7 +212,7 @@ module _ (g : Graph) (owned aside : List ConId) (p : ConId → Bool) (f : List B
   further some among rises = record {
     rise = rises;
     there = λ k k_in. there k (within k (among k k_in));
-    fresh = λ k k_in. fails_so (p k) (λ passes. ((beside.exactly k).0 passes).1 (among k k_in));
+    fresh = λ k k_in. false_from_ne_true (p k) (λ passes. ((beside.exactly k).0 passes).1 (among k k_in));
   }
 
   pub early_further : (i : ℕ) → AreFurther g p (take i aside)

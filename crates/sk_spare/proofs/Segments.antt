@@ -2,6 +2,7 @@
 -- that merging leads to from the family of the others.
 use Rattle.std.proofs.Common.{◌≡◌, ◌⊎◌, inl, inr, refl, ℕ, ◌+◌, ◌-◌, ◌*◌, ◌≤◌, Bool, true, List, [], ◌∷◌, ◌++◌, length, sym, subst, ◌∙◌, ap, arith}
 use Rattle.std.specs.Prelude.{Contains, map, filter, sum_by, ◌↔◌}
+use Rattle.std.proofs.lemmas.Bool.{false_from_ne_true}
 use Rattle.std.proofs.lemmas.List.Elements.{Contains-append_left, Contains-append_right, Contains-append_cases}
 use Rattle.std.proofs.lemmas.List.Sums.{sum_by-append, sum_by-cons}
 use Rattle.sk_base.specs.declared.ConId.{ConId}
@@ -33,7 +34,7 @@ use Rattle.sk_spare.specs.Trying.{trial_graph, some_holds}
 use Rattle.sk_spare.specs.Halving.{IsBeside, IsIn, cluster_weight}
 use Rattle.sk_spare.proofs.Graphs.{in_part, in_trial, sound_part, sound_trial}
 use Rattle.sk_spare.proofs.LeavingOut.{distinct, trial_decides}
-use Rattle.sk_spare.proofs.Lighter.{weighs_something, not_true}
+use Rattle.sk_spare.proofs.Lighter.{weighs_something}
 use Rattle.sk_spare.proofs.Deciding.{owned_constraints, owner_in, found_nothing}
 use Rattle.sk_spare.proofs.Holding.{test_tells}
 use Rattle.sk_spare.proofs.SomeClosed.{some_closed}
@@ -228,7 +229,7 @@ module _ (g : Graph) (f : List Body) (x : Body) (sound : IsSoundGraph g) (is : I
         let (u, u_in, u_is, inside) = (reached_tight trial end trial_sound.edges_rise normal.reached).inside y y_in t.number owns in
         ((in_trial g k sound x.owned u).0 u_in).2 (u_is ∙ t_is)) in
         let most = left_over (is_owned y.owned) pieces t (piece_aside t t_in (subst (λ (j : ConId). Contains aside j) (sym t_is) k_in))
-        (not_true (is_owned y.owned t) (λ passes. out (owned_found y.owned t passes))) in
+        (false_from_ne_true (is_owned y.owned t) (λ passes. out (owned_found y.owned t passes))) in
         let some = weighs_something g sound t t_in in
         let all = pieces_weigh rise in
         let tight = reached_tight g f sound.edges_rise is.normal.reached in
