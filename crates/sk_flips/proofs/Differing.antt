@@ -1,6 +1,7 @@
 -- Where elements are found for two lists, steps of one of them alone are placed with other signs.
 use Rattle.std.proofs.Common.{◌≡◌, ◌≢◌, ℕ, Bool, true, false, cond, List, [], ◌∷◌, map, refl, sym, ap, subst, ◌∙◌}
 use Rattle.std.specs.Prelude.{Contains, not, ◌&&◌, ◌||◌}
+use Rattle.std.proofs.lemmas.Bool.{and_parts, not-true, not-false}
 use Rattle.std.proofs.lemmas.List.Elements.{Contains-append_right}
 use Rattle.sk_base.specs.declared.Name.{Name}
 use Rattle.sk_base.specs.declared.Placed.{Placed}
@@ -31,18 +32,6 @@ use Rattle.sk_flips.specs.declared.alternative.Alternative.TheVariants.{Found}
 use Rattle.sk_flips.specs.Alternatives.{placed_signs, IsAlternative}
 use Rattle.sk_flips.specs.Flipping.{is_open, is_open_step, has_choice, turned, flipped_step, flipped}
 use Rattle.sk_flips.proofs.OpenSteps.{open_sign}
-
-both_true : (a b : Bool) → (a && b) ≡ true → (a ≡ true) × (b ≡ true)
-both_true true b h = (refl, h)
-both_true false b h = cc
-
-not_false : (b : Bool) → not b ≡ false → b ≡ true
-not_false true h = refl
-not_false false h = cc
-
-not_true : (b : Bool) → not b ≡ true → b ≡ false
-not_true true h = cc
-not_true false h = refl
 
 -- a step of that name that leaves something open
 open_step : (steps : List PlanStep) (n : Name) → has_choice steps n ≡ true → (step : PlanStep) × Contains steps step × (is_open_step n step ≡ true)
@@ -93,15 +82,15 @@ module _ (s : Sketch) (p : Plan) where
       → (n : Name) → Contains names n → ¬ Contains others n
       → (step : PlanStep) × Contains p.steps step × (step.step ≡ n) × (placed_signs s at step ≢ placed_signs s there step)
   other_signs G F limit names others at there tol beside sound legal here_is there_is n n_in n_out =
-      let chosen = not_false (has_choice p.steps n) (none_found (λ (m : Name). not (has_choice p.steps m)) names here_is.0 n n_in) in
+      let chosen = not-false (has_choice p.steps n) (none_found (λ (m : Name). not (has_choice p.steps m)) names here_is.0 n n_in) in
       let found = open_step p.steps n chosen in
       let step = found.0 in
-      let tests = both_true (name_eq step.step n) (is_open step.choice) found.2 in
+      let tests = and_parts (name_eq step.step n) (is_open step.choice) found.2 in
       let named : step.step ≡ n = name_eq_true step.step n tests.0 in
       let one = one_sign sound legal at step found.1 tests.1 in
       let other = one_sign sound legal there step found.1 tests.1 in
       let flips : is_named names step.step ≡ true = subst (λ (m : Name). is_named names m ≡ true) (sym named) (named_among names n n_in) in
-      let stays : is_named others step.step ≡ false = subst (λ (m : Name). is_named others m ≡ false) (sym named) (not_true (is_named others n) (unnamed_true others n n_out)) in
+      let stays : is_named others step.step ≡ false = subst (λ (m : Name). is_named others m ≡ false) (sym named) (not-true (is_named others n) (unnamed_true others n n_out)) in
       let wanted = as_wanted_there at names step one.0 (found_as_chosen G F limit names at tol here_is) found.1 one.1 in
       let unwanted = as_wanted_there there others step other.0 (found_as_chosen G F limit others there beside there_is) found.1 other.1 in
       let turned_is : wanted.0 ≡ as_chosen (turned step.choice) one.0 = wanted.1 ∙ ap (λ (b : Bool). as_chosen (cond b (turned step.choice) step.choice) one.0) flips in
