@@ -1,6 +1,5 @@
 // Other drawings by the same plan.
 ghost use Rattle.std.specs.Prelude.{◌≡◌, None, IfOk};
-ghost use Rattle.sk_base.specs.SoundGraph.{IsSoundGraph};
 ghost use Rattle.sk_base.specs.SoundSketch.{IsSoundSketch};
 ghost use Rattle.sk_graph.specs.SketchGraph.{graph_of};
 ghost use Rattle.sk_tree.specs.LegalPlan.{IsLegalPlan};
@@ -40,7 +39,6 @@ pub fn alternatives<G: Grid>(
 ) -> Result<List<Alternative>, NoMemory>
     requires sketch { IsSoundSketch s.now }
     requires graph { g.now ≡ graph_of s.now }
-    requires sound { IsSoundGraph g.now }
     requires legal { IsLegalPlan g.now p.now }
     ensures { IfOk result (AreAlternatives G G.BITS limit s.now p.now lists.now) }
 {
@@ -58,7 +56,6 @@ fn each<G: Grid>(
 ) -> Result<List<Alternative>, NoMemory>
     requires sketch { IsSoundSketch s.now }
     requires graph { g.now ≡ graph_of s.now }
-    requires sound { IsSoundGraph g.now }
     requires legal { IsLegalPlan g.now p.now }
     ensures { IfOk result (AreAlternatives G G.BITS limit s.now p.now lists.now) }
 {
@@ -80,7 +77,6 @@ fn turning<G: Grid>(
 ) -> Result<Alternative, NoMemory>
     requires sketch { IsSoundSketch s.now }
     requires graph { g.now ≡ graph_of s.now }
-    requires sound { IsSoundGraph g.now }
     requires legal { IsLegalPlan g.now p.now }
     ensures { IfOk result (IsAlternative G G.BITS limit s.now p.now names.now) }
 {

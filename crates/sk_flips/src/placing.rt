@@ -8,6 +8,7 @@ ghost use Rattle.sk_residual.specs.Placing.{PlacesExactly};
 ghost use Rattle.sk_flips.specs.Placements.{IsMeasured, IsPlacement, LiesWithinBounds};
 
 use sk_base::{Graph, NoMemory, Placed, Sketch};
+use sk_graph::sound_graph;
 use sk_interval::Grid;
 use sk_place::{PlaceError, StepFault, place, round};
 use sk_residual::{
@@ -38,11 +39,11 @@ pub fn placed_on<G: Grid>(
 ) -> Result<Placement, NoMemory>
     requires sketch { IsSoundSketch s.now }
     requires graph { g.now ≡ graph_of s.now }
-    requires sound { IsSoundGraph g.now }
     requires legal { IsLegalPlan g.now p.now }
     ensures placement { IfOk result (IsPlacement wanted G G.BITS limit s.now p.now) }
     ensures bounded { IfOk result LiesWithinBounds }
 {
+    sound_graph();
     match place::<G>(alloc, p, g) {
         Ok(boxes) => {
             let at = round(alloc, &boxes)?;
