@@ -1,4 +1,4 @@
--- A plan is placed in one way at most on a grid, and one alternative comes of each list of steps.
+-- A plan is placed in one way at most on a grid, and at most one alternative comes of each list of steps.
 use Rattle.std.proofs.Common.{◌≡◌, ◌⊎◌, inl, inr, ℕ, List, [], ◌∷◌, ◌++◌, map, Option, None, Some, Ok, Err, refl, ap, sym, subst, ◌∙◌}
 use Rattle.std.specs.Option.{option_map}
 use Rattle.std.proofs.lemmas.List.{map-append}

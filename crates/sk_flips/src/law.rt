@@ -59,7 +59,8 @@ pub fn untouched_plan_is_placed<G: Grid>()
         → IsPlacement Drawn G F limit s p placement → IsAlternative G F limit s p [] (alternative_of placement) }
 {}
 
-/// Of a legal plan that has a tree, if it has a constraint, one alternative comes of each list of steps.
+/// Of a legal plan that has a tree, if it has a constraint, at most one alternative comes of each list
+/// of steps.
 pub fn one_alternative<G: Grid>()
     ensures { (F limit : ℕ) (s : Sketch) (p : Plan) (names : Items Name) (a b : Alternative) → IsLegalPlan (graph_of s) p → (¬ (p.leaves ≡ []) → (t : Tree) × IsPlanTree p t)
         → IsAlternative G F limit s p names a → IsAlternative G F limit s p names b → a ≡ b }

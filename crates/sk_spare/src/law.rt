@@ -27,7 +27,7 @@ pub fn trials()
         → IsSpare g k ↔ HoldsAll m x.elements }
 {}
 
-/// A graph has one list of spare constraints.
+/// A graph has at most one list of spare constraints.
 pub fn one_list_of_spares()
     ensures { (g : Graph) (one other : List ConId) → AreSpares g one → AreSpares g other → one ≡ other }
 {}
