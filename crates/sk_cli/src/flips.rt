@@ -11,17 +11,14 @@ ghost use Rattle.sk_cli.specs.Grids.{grid_of, digits_of};
 use crate::alternative::alternative_text;
 use crate::answer::{Answer, refused};
 use crate::bits::Bits;
+use crate::planning::{Planning, planned_by};
 use crate::request::Request;
 use crate::status::Status;
 use sk_base::{Graph, List, Name, NoMemory, Sketch, Text};
 use sk_flips::{Alternative, alternatives, read_flips};
-use sk_graph::reduce;
 use sk_interval::{G16, G27, G38};
 use sk_lang::{ReadError, read_sketch_front};
-use sk_plan::{PlanError, plan_of};
-use sk_report::check_text;
 use sk_tree::Plan;
-use sk_worklist::Chosen;
 use std::alloc::Global;
 
 /// The answer of `flips` to an input.
@@ -52,9 +49,8 @@ fn flipped(
     requires few { length lists.now ≤ 64 }
     ensures { IfOk result (λ answer. IsFlipped request s.now lists.now answer.status answer.text) }
 {
-    let graph = reduce(alloc, s)?;
-    match plan_of(alloc, s, &graph, &mut Chosen::new(request.order)) {
-        Ok(plan) => {
+    match planned_by(alloc, request.order, s)? {
+        Planning::Planned { graph, plan } => {
             let found = alternatives_on(
                 alloc,
                 request.bits,
@@ -69,11 +65,10 @@ fn flipped(
                 text: alternatives_text(alloc, s, request.bits.count(), found.as_slice())?,
             })
         }
-        Err(PlanError::NotWell(judgement)) => Ok(Answer {
+        Planning::NotWell(text) => Ok(Answer {
             status: Status::NotWell,
-            text: check_text(alloc, s, &judgement)?,
+            text,
         }),
-        Err(PlanError::NoMemory) => Err(NoMemory),
     }
 }
 

@@ -15,6 +15,7 @@ mod offer_reading;
 mod offers;
 mod placing;
 mod plan;
+mod planning;
 mod reply;
 mod request;
 mod session;

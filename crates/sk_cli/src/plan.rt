@@ -4,13 +4,12 @@ ghost use Rattle.sk_base.specs.SoundSketch.{IsSoundSketch};
 ghost use Rattle.sk_cli.specs.Outcome.{IsPlanAnswer, IsPlanOrReport};
 
 use crate::answer::{Answer, refused};
+use crate::planning::{Planning, planned_by};
 use crate::status::Status;
 use sk_base::{NoMemory, Sketch};
-use sk_graph::reduce;
 use sk_lang::{ReadError, read_sketch};
-use sk_plan::{PlanError, plan_of};
-use sk_report::{check_text, plan_text};
-use sk_worklist::{Chosen, Order};
+use sk_report::plan_text;
+use sk_worklist::Order;
 use std::alloc::Global;
 
 /// The answer of `plan` to an input.
@@ -30,16 +29,14 @@ fn planned(alloc: Global, order: Order, sketch: &Sketch) -> Result<Answer, NoMem
     requires some { 0 < length sketch.now.elements }
     ensures { IfOk result (λ answer. IsPlanOrReport order sketch.now answer.status answer.text) }
 {
-    let graph = reduce(alloc, sketch)?;
-    match plan_of(alloc, sketch, &graph, &mut Chosen::new(order)) {
-        Ok(plan) => Ok(Answer {
+    match planned_by(alloc, order, sketch)? {
+        Planning::Planned { plan, .. } => Ok(Answer {
             status: Status::Done,
             text: plan_text(alloc, sketch, &plan)?,
         }),
-        Err(PlanError::NotWell(judgement)) => Ok(Answer {
+        Planning::NotWell(text) => Ok(Answer {
             status: Status::NotWell,
-            text: check_text(alloc, sketch, &judgement)?,
+            text,
         }),
-        Err(PlanError::NoMemory) => Err(NoMemory),
     }
 }

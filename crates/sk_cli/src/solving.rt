@@ -7,17 +7,15 @@ ghost use Rattle.sk_cli.specs.Outcome.{IsSolved};
 
 use crate::answer::Answer;
 use crate::placing::placed;
+use crate::planning::{Planning, planned_by};
 use crate::request::Request;
 use crate::status::Status;
 use sk_base::{NoMemory, Placed, Sketch, Text};
 use sk_dxf::dxf_text;
 use sk_flips::Placement;
-use sk_graph::reduce;
-use sk_plan::{PlanError, plan_of};
-use sk_report::{check_text, fault_text, grow_text, passed_text, solve_text, turned_text};
+use sk_report::{fault_text, grow_text, passed_text, solve_text, turned_text};
 use sk_residual::Tolerance;
 use sk_tree::Plan;
-use sk_worklist::Chosen;
 use std::alloc::Global;
 
 /// What is written where all elements are placed and all holds.
@@ -42,20 +40,18 @@ pub(crate) fn solved(
     requires some { 0 < length s.now.elements }
     ensures { IfOk result (λ answer. IsSolved report request s.now answer.status answer.text) }
 {
-    let graph = reduce(alloc, s)?;
-    match plan_of(alloc, s, &graph, &mut Chosen::new(request.order)) {
-        Ok(plan) => {
+    match planned_by(alloc, request.order, s)? {
+        Planning::Planned { graph, plan } => {
             let placement = placed(alloc, request.bits, request.within, s, &graph, &plan)?;
             Ok(Answer {
                 status: status_of(&placement),
                 text: placement_text(alloc, report, request.bits.count(), s, &plan, &placement)?,
             })
         }
-        Err(PlanError::NotWell(judgement)) => Ok(Answer {
+        Planning::NotWell(text) => Ok(Answer {
             status: Status::NotWell,
-            text: check_text(alloc, s, &judgement)?,
+            text,
         }),
-        Err(PlanError::NoMemory) => Err(NoMemory),
     }
 }
 
