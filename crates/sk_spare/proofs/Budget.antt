@@ -1,6 +1,6 @@
 -- How many elements a body can have, by what the pieces weigh that it is made of. A piece is a constraint, or a
 -- body of an earlier family that is seen as a constraint between all its elements.
-use Rattle.std.proofs.Common.{◌≡◌, ◌⊎◌, inl, inr, refl, ℕ, ◌+◌, ◌*◌, ◌≤◌, Bool, true, false, List, [], ◌∷◌, length, sym, subst, ap, arith}
+use Rattle.std.proofs.Common.{◌≡◌, inl, inr, ℕ, ◌+◌, ◌*◌, ◌≤◌, Bool, true, false, List, [], ◌∷◌, length, sym, subst, ap, arith}
 use Rattle.std.specs.Prelude.{Contains, sum_by, ◌||◌}
 use Rattle.std.proofs.lemmas.Bool.{or_cases, or_left, or_right}
 use Rattle.std.proofs.lemmas.List.Sums.{sum_by-cons}

@@ -99,24 +99,6 @@ module _ (g : Graph) (x : Body) (sound : IsSoundGraph g) (owner : (f : List Body
   )
 
 module _ (P : ConId → Type 0) (old : List ConId) where
-  pub found_one : (number : ConId) → P number → (k : ConId) → Contains (old ++ number ∷ []) k ↔ (Contains old k ⊎ ((k ≡ number) × P k))
-  found_one number has k = (
-    (λ h. elim (Contains-push_cases old number k h) [
-      | inl before ↦ inl before
-      | inr here ↦ inr (sym here, subst (λ j. P j) here has)
-    ]),
-    (λ h. elim h [
-      | inl before ↦ Contains-append_left old (number ∷ []) k before
-      | inr here ↦ Contains-append_right old (number ∷ []) k (subst (λ j. Contains (number ∷ []) j) (sym here.0) (contains_head number []))
-    ]),
-  )
-
-  pub found_none : (number : ConId) → ¬ P number → (k : ConId) → Contains old k ↔ (Contains old k ⊎ ((k ≡ number) × P k))
-  found_none number lacks k = (
-    (λ h. inl h),
-    (λ h. elim h [ inl before ↦ before | inr here ↦ absurd (lacks (subst (λ j. P j) here.0 here.1)) ]),
-  )
-
   pub found_nothing : (owned : List ConId) → ((k : ConId) → Contains owned k → ¬ P k) → (k : ConId) → Contains old k ↔ (Contains old k ⊎ (Contains owned k × P k))
   found_nothing owned lacks k = (
     (λ h. inl h),

@@ -1,6 +1,6 @@
 -- How the families of the search by halves follow what is set aside, and what they decide.
 use Rattle.std.proofs.Common.{◌≡◌, ◌⊎◌, inl, inr, ℕ, ◌+◌, ◌-◌, ◌<◌, ◌≤◌, Bool, true, false, List, [], ◌∷◌, ◌++◌, length, take, drop, get_or, refl, ap, sym, subst, ◌∙◌, arith}
-use Rattle.std.specs.Prelude.{Contains, ◌↔◌, ◌==◌, ◌||◌, filter, map}
+use Rattle.std.specs.Prelude.{Contains, ◌↔◌, ◌==◌, filter, map}
 use Rattle.std.specs.List.{list_any}
 use Rattle.std.proofs.lemmas.Bool.{or_cases, or_left, or_right, false_from_ne_true}
 use Rattle.std.proofs.lemmas.List.{take_more, take_all, get_or_default, length-drop}
@@ -304,29 +304,3 @@ sound_none = record {
 
 pub starts_with_nothing : initial_bodies no_graph ≡ []
 starts_with_nothing = ap (λ ss. map starting ss) (no_starts no_graph refl refl)
-
--- a list of one
-pub one_long : (ks : List ConId) (z : ConId) → length ks ≡ 1 → ks ≡ get_or ks 0 z ∷ []
-one_long [] z h = absurd (omega arith)
-one_long (k ∷ []) z h = refl
-one_long (k ∷ j ∷ ks) z h = absurd (omega arith)
-
-pub found_in_one : (P : ConId → Type 0) (ks : List ConId) (n : ConId) → ks ≡ n ∷ [] → (old new : List ConId)
-    → ((k : ConId) → Contains new k ↔ (Contains old k ⊎ ((k ≡ n) × P k))) → (k : ConId) → Contains new k ↔ (Contains old k ⊎ (Contains ks k × P k))
-found_in_one P ks n is old new are k = (
-  (λ h. elim ((are k).0 h) [
-    | inl before ↦ inl before
-    | inr here ↦ inr (subst (λ js. Contains js k) (sym is) (subst (λ j. Contains (n ∷ []) j) (sym here.0) (contains_head n [])), here.1)
-  ]),
-  (λ h. (are k).1 (elim h [
-    | inl before ↦ inl before
-    | inr here ↦ inr (sym (contains_one n k (subst (λ js. Contains js k) is here.0)), here.1)
-  ])),
-)
-
--- of none nothing is found
-pub found_in_none : (P : ConId → Type 0) (ks old : List ConId) → ks ≡ [] → (k : ConId) → Contains old k ↔ (Contains old k ⊎ (Contains ks k × P k))
-found_in_none P ks old is k = (
-  (λ h. inl h),
-  (λ h. elim h [ inl before ↦ before | inr here ↦ absurd (contains_none k (subst (λ js. Contains js k) is here.0)) ]),
-)

@@ -1,6 +1,6 @@
 -- A segment of constraints that is set aside, settled at once. For each of them there is a normal family without it
 -- that merging leads to from the family of the others.
-use Rattle.std.proofs.Common.{◌≡◌, ◌⊎◌, inl, inr, refl, ℕ, ◌+◌, ◌-◌, ◌*◌, ◌≤◌, Bool, true, List, [], ◌∷◌, ◌++◌, length, sym, subst, ◌∙◌, ap, arith}
+use Rattle.std.proofs.Common.{◌≡◌, ◌⊎◌, inl, inr, refl, ℕ, ◌+◌, ◌-◌, ◌*◌, ◌≤◌, Bool, true, false, List, [], ◌∷◌, ◌++◌, length, sym, subst, ◌∙◌, ap, arith}
 use Rattle.std.specs.Prelude.{Contains, map, filter, sum_by, ◌↔◌}
 use Rattle.std.proofs.lemmas.Bool.{false_from_ne_true}
 use Rattle.std.proofs.lemmas.List.Elements.{Contains-append_left, Contains-append_right, Contains-append_cases}
@@ -12,7 +12,7 @@ use Rattle.sk_base.specs.Numbering.{elem_number, con_number}
 use Rattle.sk_base.specs.Rising.{IsRising}
 use Rattle.sk_base.proofs.Deciding.{con_settles}
 use Rattle.sk_base.proofs.Distinct.{no_longer}
-use Rattle.sk_base.proofs.Members.{contains_none, contains_head, contains_mapped, mapped_from, contains_filtered, filtered_from}
+use Rattle.sk_base.proofs.Members.{contains_none, contains_head, contains_one, contains_mapped, mapped_from, contains_filtered, filtered_from}
 use Rattle.sk_family.specs.declared.Cluster.{Cluster}
 use Rattle.sk_family.specs.Clusters.{Clusters, bodies, body_of}
 use Rattle.sk_family.specs.Body.{Body, Start, starts, starting, initial_bodies}
@@ -35,7 +35,7 @@ use Rattle.sk_spare.specs.Halving.{IsBeside, IsIn, cluster_weight}
 use Rattle.sk_spare.proofs.Graphs.{in_part, in_trial, sound_part, sound_trial}
 use Rattle.sk_spare.proofs.LeavingOut.{distinct, trial_decides}
 use Rattle.sk_spare.proofs.Lighter.{weighs_something}
-use Rattle.sk_spare.proofs.Deciding.{owned_constraints, owner_in, found_nothing}
+use Rattle.sk_spare.proofs.Deciding.{owned_constraints, owner_in, one_decides, not_told, found_nothing}
 use Rattle.sk_spare.proofs.Holding.{test_tells}
 use Rattle.sk_spare.proofs.SomeClosed.{some_closed}
 use Rattle.sk_spare.proofs.Budget.{left_over, HasEnough, HaveEnough, made_along}
@@ -236,6 +236,12 @@ module _ (g : Graph) (f : List Body) (x : Body) (sound : IsSoundGraph g) (is : I
         let longer = no_longer x.elements y.elements (distinct elem_number x.elements (tight.family.rising x is.in_family).elements) holds in
         absurd (omega (arith, enough, most, some, all, longer, few))
 
+-- one constraint at most
+lone : (ks : List ConId) (k : ConId) → length ks ≤ 1 → Contains ks k → ks ≡ k ∷ []
+lone [] k few h = absurd (contains_none k h)
+lone (j ∷ []) k few h = ap (λ i. i ∷ []) (contains_one j k h)
+lone (j ∷ i ∷ ks) k few h = absurd (omega arith)
+
 -- what is found of a segment that is settled at once
 module _ (g : Graph) (x : Body) (sound : IsSoundGraph g) (owner : (f : List Body) × IsIn g f x) (aside : List ConId) (rise : IsRising con_number aside)
     (owned : (k : ConId) → Contains aside k → Contains x.owned k) (family : Clusters) (beside : (p : ConId → Bool) × IsBeside g x.owned aside p (bodies family)) where
@@ -250,6 +256,15 @@ module _ (g : Graph) (x : Body) (sound : IsSoundGraph g) (owner : (f : List Body
     ]),
     (λ h. elim h [ inl before ↦ Contains-append_left old aside k before | inr here ↦ Contains-append_right old aside k here.0 ]),
   )
+
+  -- of one constraint at most, the family decides
+  pub found_unless : length aside ≤ 1 → some_holds family.live x.elements ≡ false → (old : List ConId) (k : ConId) → Contains old k ↔ (Contains old k ⊎ (Contains aside k × IsSpare g k))
+  found_unless few fails old = found_nothing (λ k. IsSpare g k) old aside not_spare
+    where
+      not_spare : (k : ConId) → Contains aside k → ¬ IsSpare g k
+      not_spare k k_in =
+          let alone = subst (λ (ks : List ConId). IsBeside g x.owned ks beside.0 (bodies family)) (lone aside k few k_in) beside.1 in
+          not_told (some_holds family.live x.elements) (one_decides g owner.0 x sound owner.1 k (owned k k_in) beside.0 family alone (some_holds family.live x.elements) refl) fails
 
   pub found_nowhere : sum_by cluster_weight family.live + weight_of g aside + 3 ≤ 2 * length x.elements → (old : List ConId) (k : ConId)
       → Contains old k ↔ (Contains old k ⊎ (Contains aside k × IsSpare g k))

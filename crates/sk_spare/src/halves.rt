@@ -1,9 +1,9 @@
 // The spare constraints of a cluster, by halves. Each family here is closed, of the owner's constraints
-// but for a segment of them. Where the segment is one constraint, the family decides it. A longer one is
-// settled at once where the family holds all that the owner holds, or where all that there is would be
-// too few for it; else each half is tried with the other one put back, so that each level of the search
-// puts a constraint in once.
-ghost use Rattle.std.specs.Prelude.{◌≡◌, ◌+◌, ◌*◌, ◌<◌, ◌≤◌, ◌↔◌, ◌⊎◌, Bool, OnOk, IsTrue, Contains, List as Items, [], ◌∷◌, length, sum_by};
+// but for a segment of them. Where the family holds all that the owner holds, all of the segment may go.
+// Where it does not, one constraint alone may not, nor any of a segment where all that there is would be
+// too few for the owner; else each half is tried with the other one put back, so that each level of the
+// search puts a constraint in once.
+ghost use Rattle.std.specs.Prelude.{◌≡◌, ◌+◌, ◌*◌, ◌<◌, ◌≤◌, ◌↔◌, ◌⊎◌, Bool, OnOk, IsTrue, Contains, List as Items, [], length, sum_by};
 ghost use Rattle.sk_base.specs.declared.ConId.{ConId as Number};
 ghost use Rattle.sk_base.specs.Numbering.{con_number};
 ghost use Rattle.sk_base.specs.Rising.{IsRising};
@@ -68,9 +68,8 @@ fn try_aside(
     ensures { OnOk result ((k : Number) → Contains found.new k ↔ (Contains found.old k ⊎ (Contains aside.now k × IsSpare graph.now k))) }
 {
     match aside {
-        [] => Ok(()),
-        [number] => try_one(graph, owner, *number, family, found),
         _ if some_holds(family.clusters(), owner.elements.as_slice()) => found.extend(aside),
+        [] | [_] => Ok(()),
         _ if are_too_few(graph, owner, aside, family.clusters()) => Ok(()),
         _ => {
             let middle = aside.len() / 2;
@@ -106,26 +105,6 @@ fn weight_together(clusters: &[Cluster]) -> u128
         weight += (2 * cluster.elements.len() as u128).saturating_sub(3);
     }
     weight
-}
-
-/// Adds the constraint if it is spare. The family is that of all others that the cluster owns.
-fn try_one(
-    graph: &Graph,
-    owner: &Cluster,
-    number: ConId,
-    family: &Family,
-    found: &mut List<ConId>,
-) -> Result<(), NoMemory>
-    requires sound { IsSoundGraph graph.now }
-    requires owner { (f : Items Body) × IsIn graph.now f (body_of owner.now) }
-    requires owned { Contains owner.now.owned number }
-    requires beside { (p : Number → Bool) × IsBeside graph.now owner.now.owned (number ∷ []) p (bodies family.now) }
-    ensures { OnOk result ((k : Number) → Contains found.new k ↔ (Contains found.old k ⊎ ((k ≡ number) × IsSpare graph.now k))) }
-{
-    if some_holds(family.clusters(), owner.elements.as_slice()) {
-        found.push(number)?;
-    }
-    Ok(())
 }
 
 /// Whether what the cluster owns weighs more than is due.

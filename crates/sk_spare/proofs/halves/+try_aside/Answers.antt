@@ -1,4 +1,4 @@
-use Rattle.std.proofs.Common.{◌≡◌, ◌⊎◌, ◌+◌, ◌*◌, ◌<◌, ◌≤◌, ◌/◌, Bool, List, length, ap, sym, subst, ◌∙◌, arith}
+use Rattle.std.proofs.Common.{◌≡◌, ◌⊎◌, ℕ, ◌+◌, ◌*◌, ◌<◌, ◌≤◌, ◌/◌, Bool, List, length, ap, sym, subst, ◌∙◌, arith}
 use Rattle.std.specs.Prelude.{Contains, sum_by, ◌↔◌}
 use Rattle.std.proofs.lemmas.List.{length-take-le, length-drop}
 use Rattle.sk_base.specs.declared.ConId.{ConId}
@@ -13,25 +13,35 @@ use Rattle.sk_base.proofs.Splits.{in_take, in_drop, pairs_take, pairs_drop}
 use Rattle.sk_spare.specs.Sparing.{IsSpare}
 use Rattle.sk_spare.specs.Halving.{AreFurther, IsMadeOf, IsBeside, cluster_weight}
 use Rattle.sk_spare.specs.Trying.{some_holds}
-use Rattle.sk_spare.proofs.PutBack.{CanJoin, rest_is, both_found, one_long, found_in_one}
+use Rattle.sk_spare.proofs.PutBack.{CanJoin, rest_is, both_found}
 use Rattle.sk_spare.proofs.Deciding.{late_can, early_can, with_late, with_early}
-use Rattle.sk_spare.proofs.Segments.{constraints_aside, found_all, found_nowhere}
+use Rattle.sk_spare.proofs.Segments.{constraints_aside, found_all, found_unless, found_nowhere}
 use Rattle.sk_spare.proofs.halves.+try_aside.Goals as goal
+use Rattle.sk_spare.proofs.halves.+try_aside.Goals.{After-some_holds}
 
 pub are_too_few-requires-clause-constraints : goal.are_too_few-requires-clause-constraints
 are_too_few-requires-clause-constraints t c =
     constraints_aside c.args.graph.now (body_of c.args.owner.now) c.requires.sound c.requires.owner c.args.aside.now c.requires.rise c.requires.owned c.args.family.now c.requires.beside
 
+-- whether one cluster holds all that the owner holds
+held : (t : ℕ) (c : After-some_holds t) → c.some_holds.result ≡ some_holds c.args.family.now.live c.args.owner.now.elements
+held t c =
+    c.some_holds.ensures ∙ ap (λ (cs : List Cluster). some_holds cs c.as_slice.result.now) c.clusters.ensures.live
+    ∙ ap (λ (es : List Elem). some_holds c.args.family.now.live es) c.as_slice.ensures
+
 -- all of a segment
-pub returns-in_default : goal.returns-in_default
-returns-in_default t c =
-    let told : c.some_holds.result ≡ some_holds c.args.family.now.live c.args.owner.now.elements = c.some_holds.ensures
-    ∙ ap (λ (cs : List Cluster). some_holds cs c.as_slice.result.now) c.clusters.ensures.live
-    ∙ ap (λ (es : List Elem). some_holds c.args.family.now.live es) c.as_slice.ensures in
+pub returns-then-some_holds : goal.returns-then-some_holds
+returns-then-some_holds t c =
     on_ok c.extend.result c.extend.ensures.ok
     (λ is. subst (λ (ks : List ConId). (k : ConId) → Contains ks k ↔ (Contains c.args.found.now k ⊎ (Contains c.args.aside.now k × IsSpare c.args.graph.now k))) (sym is)
     (found_all c.args.graph.now (body_of c.args.owner.now) c.requires.sound c.requires.owner c.args.aside.now c.requires.rise c.requires.owned c.args.family.now c.requires.beside
-    (sym told ∙ c.if-some_holds.true) c.args.found.now))
+    (sym (held t ((goal.at.returns-then-some_holds t c).After-some_holds)) ∙ c.if-some_holds.true) c.args.found.now))
+
+-- one constraint at most
+pub returns-in-empty : goal.returns-in-empty
+returns-in-empty t c =
+    found_unless c.args.graph.now (body_of c.args.owner.now) c.requires.sound c.requires.owner c.args.aside.now c.requires.rise c.requires.owned c.args.family.now c.requires.beside
+    (omega (arith, c.in-empty.len_below)) (sym (held t ((goal.at.returns-in-empty t c).After-some_holds)) ∙ c.if-some_holds.false) c.args.found.now
 
 -- none of it
 pub returns-in_default-2 : goal.returns-in_default-2
@@ -55,7 +65,7 @@ pub try_aside-requires : goal.try_aside-requires
 try_aside-requires t c =
     let ks = c.args.aside.now in
     let i = length ks / 2 in
-    let two = c.in_default.len_at_least in
+    let two = c.in_default-2.len_at_least in
     let i_in : i ≤ length ks = omega (arith, two) in
     let early = length-take-le i ks i_in in
     let late = ap length (rest_is ks i) ∙ length-drop i ks in
@@ -86,7 +96,7 @@ pub try_aside-requires-in_default-3 : goal.try_aside-requires-in_default-3
 try_aside-requires-in_default-3 t c =
     let ks = c.args.aside.now in
     let i = length ks / 2 in
-    let two = c.in_default.len_at_least in
+    let two = c.in_default-2.len_at_least in
     let i_in : i ≤ length ks = omega (arith, two) in
     let early = length-take-le i ks i_in in
     let late = ap length (rest_is ks i) ∙ length-drop i ks in
@@ -111,13 +121,6 @@ try_aside-requires-in_default-3 t c =
         ),
       ),
     )
-
-pub returns-in-len1 : goal.returns-in-len1
-returns-in-len1 t c =
-    let ks = c.args.aside.now in
-    let one : length ks ≡ 1 = omega (arith, c.in-len1.len_at_least, c.in-len1.len_below) in
-    on_ok c.try_one.result c.try_one.ensures
-    (λ are. found_in_one (λ k. IsSpare c.args.graph.now k) ks _ (one_long ks _ one) c.args.found.now c.try_one.new.found are)
 
 pub returns-in_ok-with_early-in_default-3 : goal.returns-in_ok-with_early-in_default-3
 returns-in_ok-with_early-in_default-3 t c =
