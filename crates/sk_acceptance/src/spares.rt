@@ -2,7 +2,9 @@
 
 /// In a braced square any constraint may go, in a triangle none. A pair that is told twice may lose either of the two,
 /// and nothing else may go, though all is one cluster; of three any may go. Of a braced square with triangles at its side
-/// and a pair apart that is told twice, the square's and the pair's may go. Of two blocks over the same points either may go.
+/// and a pair apart that is told twice, the square's and the pair's may go.
+/// Where a sound triangle hangs at a pair that is told twice, the pair's two may go and none of the triangle's.
+/// Of two blocks over the same points either may go.
 /// Where nothing holds together nothing may go, nor of three lines, which don't; and a text that isn't a sketch is refused.
 pub const SPARES: &str = "
 $ spare
@@ -100,6 +102,22 @@ c9 : distance B C 3
 c10 : distance B D 5
 c11 : distance C D 4
 c12 : distance G H 1
+$ spare
+sketch 1
+point A 0 0
+point B 4 0
+point C 4 3
+point D -2 0
+distance A B 4
+distance A D 2
+distance A C 5
+distance B C 3
+distance D A 2
+end
+> 0
+spare 2
+c2 : distance A D 2
+c5 : distance D A 2
 $ spare
 sketch 2
 point A 0 0
