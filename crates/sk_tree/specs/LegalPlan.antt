@@ -72,10 +72,14 @@ HasNodes g c = (n : Node) → Contains g.nodes n → Contains c.elements n.elem
 abbrev pub IsWhole : Graph → Clusters → Type 0
 IsWhole g f = ((c : Cluster) × (f.live ≡ c ∷ []) × HasNodes g c) ⊎ ((length g.nodes ≡ 1) × (g.edges ≡ []) × (g.blocks ≡ []))
 
+-- the family after the step
+abbrev pub next_after : Clusters → PlanStep → Clusters
+next_after f step = merged f (merge_told step)
+
 -- from the family on the steps may be taken one after another, and the whole is left
 abbrev pub AreLegalSteps : Graph → Clusters → List PlanStep → Type 0
 AreLegalSteps g f [] = IsWhole g f
-AreLegalSteps g f (s ∷ ss) = IsLegalStep g f s × AreLegalSteps g (merged f (merge_told s)) ss
+AreLegalSteps g f (s ∷ ss) = IsLegalStep g f s × AreLegalSteps g (next_after f s) ss
 
 -- the leaves are all constraints, rising; the steps s1, s2 and so on lead from the initial family to the whole
 pub record IsLegalPlan (g : Graph) (p : Plan) : Type 0 where

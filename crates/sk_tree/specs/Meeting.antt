@@ -7,12 +7,16 @@ use Rattle.sk_family.specs.declared.Cluster.{Cluster}
 use Rattle.sk_family.specs.Clusters.{Clusters, IsNamed}
 use Rattle.sk_rules.specs.Rules.{IsShared, IsTriangle}
 
+-- what the two lists share is that element
+abbrev pub SharesNoOther : List Elem → List Elem → Elem → Type 0
+SharesNoOther xs ys elem = (e : Elem) → IsShared xs ys e → e ≡ elem
+
 -- three elements meet the triangle rule, and no two of the three lists share any other
 pub record MeetsOnce (g : Graph) (xs ys zs : List Elem) (a b c : Elem) : Type 0 where
   pub triangle : IsTriangle g xs ys zs a b c
-  pub only_a : (e : Elem) → IsShared xs ys e → e ≡ a
-  pub only_b : (e : Elem) → IsShared ys zs e → e ≡ b
-  pub only_c : (e : Elem) → IsShared zs xs e → e ≡ c
+  pub only_a : SharesNoOther xs ys a
+  pub only_b : SharesNoOther ys zs b
+  pub only_c : SharesNoOther zs xs c
 
 -- live clusters of these three names meet so
 pub record JoinsOnce (g : Graph) (f : Clusters) (x y z : Name) (a b c : Elem) : Type 0 where

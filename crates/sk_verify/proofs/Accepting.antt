@@ -17,11 +17,11 @@ use Rattle.sk_family.specs.Clusters.{Clusters, initial_clusters}
 use Rattle.sk_residual.specs.Tolerances.{Item, normal, constraint, block, number_of, normals, normal_of_kind, between, rigid, constraints, everything, AllHoldWithin}
 use Rattle.sk_residual.specs.Turns.{signs, AllAsDrawn}
 use Rattle.sk_tree.specs.declared.PlanStep.{PlanStep}
-use Rattle.sk_tree.specs.LegalPlan.{IsWhole, AreLegalSteps, IsLegalPlan}
+use Rattle.sk_tree.specs.LegalPlan.{IsWhole, next_after, AreLegalSteps, IsLegalPlan}
 use Rattle.sk_verify.specs.declared.claim.Claim.{Claim}
 use Rattle.sk_verify.specs.Claims.{HoldsAsClaimed, plan_claimed}
 use Rattle.sk_verify.specs.Failing.{AllTold, AllHoldAsClaimed, IsAccepted}
-use Rattle.sk_verify.specs.RightSteps.{AreRight, after, next_after}
+use Rattle.sk_verify.specs.RightSteps.{AreRight, after}
 
 right_steps : (s : Sketch) (g : Graph) (f : Clusters) (steps : List PlanStep) → AreLegalSteps g f steps → All (HasDrawnChoice s) steps → AreRight s g f steps × IsWhole g (after f steps)
 right_steps s g f [] whole drawn = (tt, whole)

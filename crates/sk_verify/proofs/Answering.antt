@@ -21,7 +21,8 @@ use Rattle.sk_verify.specs.declared.failure.Failure.{Failure}
 use Rattle.sk_verify.specs.declared.failure.Failure.TheVariants.{Step, Parts, Element as OfElement, Line, Con, Sign}
 use Rattle.sk_verify.specs.Claims.{IsTold, HoldsAsClaimed, plan_claimed}
 use Rattle.sk_verify.specs.Failing.{AllTold, AllHoldAsClaimed, HasDrawnSigns, IsAccepted, IsFirstUntold, IsFirstOff, IsFirstTurned, FailsFirst}
-use Rattle.sk_verify.specs.RightSteps.{AreRight, IsFirstWrong, next_after}
+use Rattle.sk_tree.specs.LegalPlan.{next_after}
+use Rattle.sk_verify.specs.RightSteps.{AreRight, IsFirstWrong}
 
 module _ {X : Type 0} (P : X → Type 0) where
   -- the first item is one of the list

@@ -18,11 +18,11 @@ use Rattle.sk_residual.specs.Tolerances.{Item, normal, constraint, block, number
 use Rattle.sk_residual.proofs.Merging.{block_in}
 use Rattle.sk_residual.proofs.Worsts.{contains_flat}
 use Rattle.sk_tree.specs.declared.PlanStep.{PlanStep}
-use Rattle.sk_tree.specs.LegalPlan.{IsWhole, AreLegalSteps, IsLegalPlan}
+use Rattle.sk_tree.specs.LegalPlan.{IsWhole, next_after, AreLegalSteps, IsLegalPlan}
 use Rattle.sk_verify.specs.declared.claim.Claim.{Claim}
 use Rattle.sk_verify.specs.Claims.{IsFitting, HoldsAsClaimed, plan_claimed}
 use Rattle.sk_verify.specs.Failing.{IsJoined, IsAccepted}
-use Rattle.sk_verify.specs.RightSteps.{AreRight, after, next_after}
+use Rattle.sk_verify.specs.RightSteps.{AreRight, after}
 use Rattle.sk_verify.proofs.Complete.{told_exactly}
 
 legal_steps : (s : Sketch) (g : Graph) (f : Clusters) (steps : List PlanStep) → AreRight s g f steps → IsWhole g (after f steps) → AreLegalSteps g f steps

@@ -10,7 +10,8 @@ use Rattle.sk_family.specs.Body.{starts}
 use Rattle.sk_family.specs.Clusters.{Clusters, initial_clusters, start_of}
 use Rattle.sk_family.proofs.GraphStarts.{starts_few}
 use Rattle.sk_tree.specs.declared.PlanStep.{PlanStep}
-use Rattle.sk_verify.specs.RightSteps.{IsRightStep, AreRight, IsFirstWrong, after, next_after}
+use Rattle.sk_tree.specs.LegalPlan.{next_after}
+use Rattle.sk_verify.specs.RightSteps.{IsRightStep, AreRight, IsFirstWrong, after}
 use Rattle.sk_verify.specs.Stepping.{HasRoom, LeadsTo}
 
 -- what holds of the rest from here holds of all from the start

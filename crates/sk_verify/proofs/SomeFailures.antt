@@ -31,20 +31,19 @@ use Rattle.sk_residual.specs.Least.{IsFirst}
 use Rattle.sk_residual.specs.Tolerances.{Item, normal, constraint, block, name_of, Holds, IsOwnLeast, everything}
 use Rattle.sk_residual.specs.Turns.{signs}
 use Rattle.sk_residual.proofs.Worsts.{holds_more}
-use Rattle.sk_rules.specs.Rules.{IsShared}
 use Rattle.sk_tree.specs.declared.Choice.{Choice}
 use Rattle.sk_tree.specs.declared.Choice.TheVariants.{Turn, Advance, Nothing}
 use Rattle.sk_tree.specs.declared.PlanStep.{PlanStep}
 use Rattle.sk_tree.specs.ByNumber.{by_number}
-use Rattle.sk_tree.specs.LegalPlan.{IsPreferred, IsKept, IsLineWithPoints, IsPointWithLines, FitsKinds, IsLegalStep, HasNodes, IsWhole}
-use Rattle.sk_tree.specs.Meeting.{MeetsOnce, JoinsOnce}
+use Rattle.sk_tree.specs.LegalPlan.{IsPreferred, IsKept, IsLineWithPoints, IsPointWithLines, FitsKinds, IsLegalStep, HasNodes, IsWhole, next_after}
+use Rattle.sk_tree.specs.Meeting.{SharesNoOther, MeetsOnce, JoinsOnce}
 use Rattle.sk_verify.specs.declared.claim.Claim.{Claim}
 use Rattle.sk_verify.specs.declared.claim.Radius.{Radius}
 use Rattle.sk_verify.specs.declared.failure.Failure.{Failure}
 use Rattle.sk_verify.specs.declared.failure.Failure.TheVariants.{Step, Parts, Element as OfElement, Line as OfLine, Con as OfCon, Sign as OfSign}
 use Rattle.sk_verify.specs.Claims.{IsFitting, HasItsRadius, IsTold, HoldsAsClaimed, plan_claimed}
 use Rattle.sk_verify.specs.Failing.{IsComplete, IsAccepted, IsFirstOff, FailsFirst}
-use Rattle.sk_verify.specs.RightSteps.{IsRightStep, AreRight, IsFirstWrong, after, next_after}
+use Rattle.sk_verify.specs.RightSteps.{IsRightStep, AreRight, IsFirstWrong, after}
 use Rattle.sk_verify.proofs.Complete.{told_exactly}
 use Rattle.sk_base.proofs.Deciding.{Decided, both, either, three, moved, denied, implied, is_in, each_decided, node_settles, below_decided, name_below, name_settles}
 use Rattle.sk_residual.proofs.Firsts.{all_or_first}
@@ -70,7 +69,7 @@ choice_settles Nothing (Turn b) = inr (λ e. cc)
 choice_settles Nothing (Advance b) = inr (λ e. cc)
 choice_settles Nothing Nothing = inl refl
 
-only_decided : (xs ys : List Elem) (a : Elem) → Decided ((e : Elem) → IsShared xs ys e → e ≡ a)
+only_decided : (xs ys : List Elem) (a : Elem) → Decided (SharesNoOther xs ys a)
 only_decided xs ys a =
     moved (λ all e shared. all e shared.0 shared.1) (λ each e x_in y_in. each e (x_in, y_in))
     (each_decided (λ e. Contains ys e → e ≡ a) xs (λ e. implied (is_in elem_settles ys e) (elem_settles e a)))

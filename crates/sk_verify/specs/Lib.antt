@@ -1,4 +1,3 @@
-pub mod Shared
 pub mod RightSteps
 pub mod Claims
 pub mod Failing

@@ -5,19 +5,14 @@ use Rattle.sk_base.specs.declared.Name.TheVariants.{Step}
 use Rattle.sk_base.specs.declared.Graph.{Graph}
 use Rattle.sk_base.specs.declared.Sketch.{Sketch}
 use Rattle.sk_family.specs.Clusters.{Clusters}
-use Rattle.sk_rules.specs.Merges.{merged}
 use Rattle.sk_tree.specs.declared.PlanStep.{PlanStep}
-use Rattle.sk_tree.specs.LegalPlan.{IsLegalStep, merge_told}
+use Rattle.sk_tree.specs.LegalPlan.{IsLegalStep, next_after}
 use Rattle.sk_choice.specs.DrawnChoice.{HasDrawnChoice}
 
 -- the family may take the step, and its choice is that of the drawing
 pub record IsRightStep (s : Sketch) (g : Graph) (f : Clusters) (step : PlanStep) : Type 0 where
   pub legal : IsLegalStep g f step
   pub drawn : HasDrawnChoice s step
-
--- the family after the step
-abbrev pub next_after : Clusters → PlanStep → Clusters
-next_after f step = merged f (merge_told step)
 
 -- the family after the steps
 abbrev pub after : Clusters → List PlanStep → Clusters

@@ -1,8 +1,7 @@
 // Whether three clusters meet once, in three elements.
 ghost use Rattle.std.specs.Prelude.{◌≡◌, ◌≢◌, ◌↔◌, IsTrue, Contains};
 ghost use Rattle.sk_base.specs.SoundGraph.{HasNode};
-ghost use Rattle.sk_tree.specs.Meeting.{MeetsOnce, JoinsOnce};
-ghost use Rattle.sk_verify.specs.Shared.{SharesNoOther};
+ghost use Rattle.sk_tree.specs.Meeting.{SharesNoOther, MeetsOnce, JoinsOnce};
 
 use sk_base::{Elem, Graph, Kind, Node};
 use sk_family::Family;

@@ -3,9 +3,8 @@ ghost use Rattle.std.specs.Prelude.{◌≡◌, ◌≤◌, ◌+◌, IfOk, IfErr, 
 ghost use Rattle.sk_base.specs.SoundGraph.{IsSoundGraph};
 ghost use Rattle.sk_base.specs.SoundSketch.{IsSoundSketch};
 ghost use Rattle.sk_graph.specs.SketchGraph.{graph_of};
-ghost use Rattle.sk_tree.specs.LegalPlan.{IsLegalStep};
+ghost use Rattle.sk_tree.specs.LegalPlan.{IsLegalStep, next_after};
 ghost use Rattle.sk_verify.specs.declared.failure.VerifyError.TheVariants.{NoMemory};
-ghost use Rattle.sk_verify.specs.RightSteps.{next_after};
 ghost use Rattle.sk_verify.specs.Stepping.{HasRoom, LeadsTo, IsStepFailure};
 
 use crate::failure::{Failure, VerifyError};
