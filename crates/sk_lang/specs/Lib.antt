@@ -18,6 +18,7 @@ pub mod LineCodes
 pub mod Lines
 pub mod Meaning
 pub mod Named
+pub mod NumberedConstraint
 pub mod PinCodes
 pub mod PinLines
 pub mod Quantities

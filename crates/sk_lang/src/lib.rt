@@ -15,6 +15,7 @@ mod keyword;
 mod law;
 mod line;
 mod lines;
+mod numbered;
 mod progress;
 mod ratio;
 mod read;
@@ -34,6 +35,7 @@ pub use law::{
 };
 pub use line::read_entry;
 pub use lines::{is_word, split_line, split_words, word};
+pub use numbered::{constraint_of, put_constraint_words};
 pub use ratio::slope;
 pub use read::read_sketch;
 pub use version::Version;

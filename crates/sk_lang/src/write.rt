@@ -150,7 +150,11 @@ fn put_ratio(text: &mut Text, ratio: Ratio) -> Result<(), NoMemory>
 }
 
 /// Puts a constraint's line without its line feed.
-fn put_constraint(text: &mut Text, s: &Sketch, constraint: &Constraint) -> Result<(), NoMemory>
+pub(crate) fn put_constraint(
+    text: &mut Text,
+    s: &Sketch,
+    constraint: &Constraint,
+) -> Result<(), NoMemory>
     ensures { OnOk result (text.new ≡ text.old ++ constraint_line s.now constraint.now) }
 {
     match constraint.rule {

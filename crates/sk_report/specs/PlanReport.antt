@@ -1,28 +1,18 @@
 -- The plan report.
-use Rattle.std.specs.Prelude.{ℕ, ◌==◌, List, [], ◌∷◌, ◌++◌, Option, find, length, unwrap_or, codes}
+use Rattle.std.specs.Prelude.{ℕ, List, [], ◌∷◌, ◌++◌, length, codes}
 use Rattle.std.specs.List.{flat_map}
-use Rattle.std.specs.Option.{option_map}
 use Rattle.std.specs.Fmt.{decimal}
 use Rattle.sk_base.specs.declared.ConId.{ConId}
-use Rattle.sk_base.specs.declared.Constraint.{Constraint}
 use Rattle.sk_base.specs.declared.Sign.{Sign}
 use Rattle.sk_base.specs.declared.Sign.TheVariants.{Plus, Minus}
 use Rattle.sk_base.specs.declared.Sketch.{Sketch}
-use Rattle.sk_lang.specs.Canonical.{constraint_line}
+use Rattle.sk_lang.specs.NumberedConstraint.{constraint_words}
 use Rattle.sk_tree.specs.declared.Choice.{Choice}
 use Rattle.sk_tree.specs.declared.Choice.TheVariants.{Turn, Advance, Nothing}
 use Rattle.sk_tree.specs.declared.PlanStep.{PlanStep}
 use Rattle.sk_tree.specs.declared.Plan.{Plan}
 use Rattle.sk_base.specs.ElementNames.{names_of}
 use Rattle.sk_text.specs.ClusterName.{cluster_name}
-
--- the constraint of that number
-abbrev pub constraint_of : Sketch → ConId → Option Constraint
-constraint_of s k = find (λ (x : Constraint). x.number.0 == k.0) s.constraints
-
--- its canonical line
-abbrev pub constraint_words : Sketch → ConId → List ℕ
-constraint_words s k = unwrap_or (option_map (constraint_line s) (constraint_of s k)) []
 
 abbrev pub leaf_line : Sketch → ConId → List ℕ
 leaf_line s k = codes "leaf c" ++ (decimal k.0 ++ (codes " : " ++ (constraint_words s k ++ codes "\n")))

@@ -3,10 +3,10 @@ ghost use Rattle.std.specs.Prelude.{◌≡◌, ◌++◌, ◌∷◌, [], IfOk, On
 ghost use Rattle.sk_report.specs.FaultLines.{phase_word, cause_words, fault_head, bits_words, fault_line, rule_unit, constraint_unit, spotted_unit, passed_line, turned_line};
 ghost use Rattle.sk_report.specs.PlanReport.{sign_text};
 
-use crate::plan::constraint_of;
 use crate::solve::{put_number, put_spotted};
 use sk_base::{NoMemory, Rule, Sign, Sketch, Text};
 use sk_interval::Cause;
+use sk_lang::constraint_of;
 use sk_place::{Phase, StepFault};
 use sk_residual::{Beyond, Spotted, Turned};
 use sk_text::{cluster_name, put_name};

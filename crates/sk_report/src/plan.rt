@@ -1,10 +1,10 @@
 // The plan report.
-ghost use Rattle.std.specs.Prelude.{◌≡◌, ◌++◌, IfOk, OnOk, option_copied, string_bytes};
+ghost use Rattle.std.specs.Prelude.{◌≡◌, ◌++◌, IfOk, OnOk, string_bytes};
 ghost use Rattle.std.specs.List.{flat_map};
-ghost use Rattle.sk_report.specs.PlanReport.{constraint_of, constraint_words, leaf_line, sign_text, choice_words, joins_words, keeps_words, step_line, plan_counts, plan_report};
+ghost use Rattle.sk_report.specs.PlanReport.{leaf_line, sign_text, choice_words, joins_words, keeps_words, step_line, plan_counts, plan_report};
 
-use sk_base::{ConId, Constraint, NoMemory, Sign, Sketch, Text};
-use sk_lang::constraint_text;
+use sk_base::{ConId, NoMemory, Sign, Sketch, Text};
+use sk_lang::put_constraint_words;
 use sk_text::{cluster_name, put_names};
 use sk_tree::{Choice, Plan, PlanStep};
 use std::alloc::Global;
@@ -49,27 +49,8 @@ fn put_leaf(alloc: Global, text: &mut Text, s: &Sketch, leaf: ConId) -> Result<(
     let number = leaf.0;
     let head = format!(in alloc; "leaf c{number} : ")?;
     text.put(head.as_bytes())?;
-    put_constraint(alloc, text, s, leaf)?;
+    put_constraint_words(text, s, leaf)?;
     text.put(b"\n")
-}
-
-/// Puts the constraint's canonical line.
-fn put_constraint(alloc: Global, text: &mut Text, s: &Sketch, number: ConId) -> Result<(), NoMemory>
-    ensures { OnOk result (text.new ≡ text.old ++ constraint_words s.now number) }
-{
-    match constraint_of(s, number) {
-        Some(constraint) => text.put(constraint_text(alloc, s, constraint)?.as_bytes()),
-        None => Ok(()),
-    }
-}
-
-pub(crate) fn constraint_of(s: &Sketch, number: ConId) -> Option<&Constraint>
-    ensures { option_copied result ≡ constraint_of s.now number }
-{
-    s.constraints
-        .as_slice()
-        .iter()
-        .find(|constraint| constraint.number.0 == number.0)
 }
 
 fn put_steps(alloc: Global, text: &mut Text, s: &Sketch, steps: &[PlanStep]) -> Result<(), NoMemory>

@@ -1,11 +1,11 @@
 // The report of spare constraints.
-ghost use Rattle.std.specs.Prelude.{◌≡◌, ◌++◌, IfOk, OnOk, option_copied, codes};
+ghost use Rattle.std.specs.Prelude.{◌≡◌, ◌++◌, IfOk, OnOk, codes};
 ghost use Rattle.std.specs.List.{flat_map};
 ghost use Rattle.std.specs.Fmt.{decimal};
-ghost use Rattle.sk_spare.specs.SpareReport.{constraint_of, constraint_words, spare_line, spare_report};
+ghost use Rattle.sk_spare.specs.SpareReport.{spare_line, spare_report};
 
-use sk_base::{ConId, Constraint, List, NoMemory, Sketch, Text};
-use sk_lang::constraint_text;
+use sk_base::{ConId, List, NoMemory, Sketch, Text};
+use sk_lang::put_constraint_words;
 use std::alloc::Global;
 
 /// How many constraints may go, and a line for each.
@@ -40,25 +40,6 @@ fn put_spare(alloc: Global, text: &mut Text, s: &Sketch, number: ConId) -> Resul
     let digits = number.0;
     let head = format!(in alloc; "c{digits} : ")?;
     text.put(head.as_bytes())?;
-    put_constraint(alloc, text, s, number)?;
+    put_constraint_words(text, s, number)?;
     text.put(b"\n")
-}
-
-/// Puts the constraint's canonical line.
-fn put_constraint(alloc: Global, text: &mut Text, s: &Sketch, number: ConId) -> Result<(), NoMemory>
-    ensures { OnOk result (text.new ≡ text.old ++ constraint_words s.now number) }
-{
-    match constraint_of(s, number) {
-        Some(constraint) => text.put(constraint_text(alloc, s, constraint)?.as_bytes()),
-        None => Ok(()),
-    }
-}
-
-fn constraint_of(s: &Sketch, number: ConId) -> Option<&Constraint>
-    ensures { option_copied result ≡ constraint_of s.now number }
-{
-    s.constraints
-        .as_slice()
-        .iter()
-        .find(|constraint| constraint.number.0 == number.0)
 }
