@@ -25,12 +25,12 @@ pub fn normal_lies_in_wide()
     ensures { (g : Graph) (f wide : List Body) → IsNormal g f → IsWideNormal g wide → (x : Body) → Contains f x → (y : Body) × Contains wide y × LiesIn x y }
 {}
 
-/// A family has one list of wide choices.
+/// A family has at most one list of wide choices.
 pub fn one_list_of_wide_choices()
     ensures { (g : Graph) (f : Clusters) (one other : List Merge) → AreWideChoices g f one → AreWideChoices g f other → one ≡ other }
 {}
 
-/// A picker has one wide run from a family and a state.
+/// A picker has at most one wide run from a family and a state.
 pub fn one_wide_run<P: Picker>()
     ensures { (g : Graph) (f : Clusters) (p : P) (ms ns : List Merge) (one other : Clusters) (last end : P) → IsWideRun P.answer P.after g f p ms one last → IsWideRun P.answer P.after g f p ns other end
         → (ms ≡ ns) × (one ≡ other) × (last ≡ end) }

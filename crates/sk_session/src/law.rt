@@ -1,4 +1,4 @@
-// Laws of edits.
+// Laws of edits and of replies.
 ghost use Rattle.std.specs.Prelude.{◌≡◌, ◌<◌, ◌↔◌, ℕ, List, Some, length, map};
 ghost use Rattle.sk_lang.specs.declared.Code.{Code};
 ghost use Rattle.sk_session.specs.declared.reply.Reply.{Reply as AReply};
