@@ -6,12 +6,11 @@ ghost use Rattle.std.specs.Prelude.{◌<◌, ◌≤◌, ◌^◌, length, IsTrue,
 ghost use Rattle.sk_base.specs.Bounds.{IsWithin};
 ghost use Rattle.sk_base.specs.Places.{IsBounded};
 ghost use Rattle.sk_base.specs.SoundGraph.{IsSoundGraph};
-ghost use Rattle.sk_base.specs.SoundSketch.{IsSoundSketch};
 ghost use Rattle.sk_residual.specs.Placing.{HasKind, PlacesExactly, AreSpotsOf};
 
 use crate::calls::{planned, sketch_of};
 use crate::row::words_of;
-use sk_base::{At, Graph, Kind, List, Placed, Sketch, Spot, Text};
+use sk_base::{At, Graph, Kind, List, Placed, Spot, Text};
 use sk_graph::reduce;
 use sk_report::{passed_text, solve_text, turned_text};
 use sk_residual::{first_turned, least, meets, passed};

@@ -1,12 +1,10 @@
 // The constraint graph of a sketch.
-ghost use Rattle.std.specs.Prelude.{◌≡◌, option_copied, IfOk};
+ghost use Rattle.std.specs.Prelude.{◌≡◌, option_copied};
 
 use crate::list::List;
 use crate::measure::{Kind, Measure};
-use crate::memory::NoMemory;
 use crate::numbered::{ConId, Elem};
-use crate::sketch::{Pin, copy_pins};
-use std::alloc::Global;
+use crate::sketch::Pin;
 
 /// An element of the sketch.
 #[derive(Clone, Copy, Debug, PartialEq, Eq)]
@@ -29,16 +27,6 @@ pub struct Edge {
 pub struct Block {
     pub id: ConId,
     pub pins: List<Pin>,
-}
-
-/// The same block once more.
-pub fn copy_block(alloc: Global, block: &Block) -> Result<Block, NoMemory>
-    ensures { IfOk result (λ copy. copy ≡ block.now) }
-{
-    Ok(Block {
-        id: block.id,
-        pins: copy_pins(alloc, &block.pins)?,
-    })
 }
 
 /// The elements, the constraints between two of them and the rigid blocks, each in order of number.

@@ -18,7 +18,7 @@ mod sketch;
 mod text;
 
 pub use digits::digits_of;
-pub use graph::{Block, Edge, Graph, Node, copy_block};
+pub use graph::{Block, Edge, Graph, Node};
 pub use label::Label;
 pub use list::List;
 pub use measure::{Kind, Measure, Ratio, Sign, Um};

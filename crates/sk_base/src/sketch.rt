@@ -121,7 +121,7 @@ fn copy_rule(alloc: Global, rule: &Rule) -> Result<Rule, NoMemory>
 }
 
 /// The same pins once more.
-pub(crate) fn copy_pins(alloc: Global, pins: &List<Pin>) -> Result<List<Pin>, NoMemory>
+fn copy_pins(alloc: Global, pins: &List<Pin>) -> Result<List<Pin>, NoMemory>
     ensures { IfOk result (λ copy. copy ≡ pins.now) }
 {
     let mut copy = List::new(alloc);

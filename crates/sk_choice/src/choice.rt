@@ -1,6 +1,6 @@
 // What the drawing chooses where a step leaves something open.
-ghost use Rattle.std.specs.Prelude.{◌≡◌, ◌≢◌, ◌↔◌, [], ◌∷◌, not, IsTrue, IsSome};
-ghost use Rattle.sk_base.specs.Drawn.{shape_of, IsLine, HasCentre};
+ghost use Rattle.std.specs.Prelude.{◌≡◌, ◌≢◌, [], ◌∷◌, IsSome};
+ghost use Rattle.sk_base.specs.Drawn.{shape_of};
 ghost use Rattle.sk_base.specs.SoundSketch.{IsSoundSketch};
 ghost use Rattle.sk_orient.specs.DrawnSigns.{IsOnPaper};
 ghost use Rattle.sk_tree.specs.ByNumber.{by_number};

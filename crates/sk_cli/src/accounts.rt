@@ -1,5 +1,5 @@
 // What is told of a sketch that is read, whatever its verdict: by `check`, `migrate`, `spare` and `derive`.
-ghost use Rattle.std.specs.Prelude.{◌≡◌, ◌<◌, length, IfOk};
+ghost use Rattle.std.specs.Prelude.{◌<◌, length, IfOk};
 ghost use Rattle.sk_base.specs.SoundSketch.{IsSoundSketch};
 ghost use Rattle.sk_base.specs.SoundGraph.{IsSoundGraph};
 ghost use Rattle.sk_plan.specs.Judged.{IsTheJudgement};

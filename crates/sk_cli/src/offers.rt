@@ -1,5 +1,5 @@
 // The command `offers`.
-ghost use Rattle.std.specs.Prelude.{◌≡◌, ◌<◌, All, IfOk, length};
+ghost use Rattle.std.specs.Prelude.{◌<◌, All, IfOk, length};
 ghost use Rattle.sk_base.specs.SoundSketch.{IsSoundSketch};
 ghost use Rattle.sk_cli.specs.OffersReport.{FitsBoard, AreAnswered, IsReportOnOffers, IsOffersAnswer};
 

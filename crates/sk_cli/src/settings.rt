@@ -1,5 +1,5 @@
 // What the keys of the command line set.
-ghost use Rattle.std.specs.Prelude.{◌≡◌, ◌≤◌, ◌<◌, ◌^◌, ◌≢◌, ℕ, List, map, string_bytes, None, Some, IfSome, IfNone, IsTrue, ◌↔◌, codes};
+ghost use Rattle.std.specs.Prelude.{◌≡◌, ◌≤◌, ◌<◌, ◌^◌, ◌≢◌, ℕ, map, string_bytes, None, Some, IfSome, IfNone, IsTrue, ◌↔◌};
 ghost use Rattle.std.specs.Fmt.{decimal};
 ghost use Rattle.sk_worklist.specs.declared.Order.{Order as AnyOrder};
 ghost use Rattle.sk_cli.specs.declared.bits.Bits.{Bits as AnyBits};

@@ -1,10 +1,9 @@
 // Classes of tied lines.
-ghost use Rattle.std.specs.Prelude.{◌≡◌, ◌≢◌, ◌↔◌, ◌⊎◌, ◌+◌, ◌<◌, IfOk, OnOk, IsTrue, ℕ, List as Items, Contains, slice_index};
+ghost use Rattle.std.specs.Prelude.{◌≡◌, ◌≢◌, ◌+◌, ◌<◌, IfOk, OnOk, ℕ, List as Items, Contains, slice_index};
 ghost use Rattle.sk_base.specs.declared.Elem.{Elem as Element};
 ghost use Rattle.sk_base.specs.declared.Graph.{Graph as AnyGraph};
 ghost use Rattle.sk_family.specs.Body.{Body};
 ghost use Rattle.sk_family.specs.Clusters.{bodies};
-ghost use Rattle.sk_rules.specs.Rules.{IsLine};
 ghost use Rattle.sk_derive.specs.Ties.{AreTied};
 ghost use Rattle.sk_derive.specs.Classes.{class_of as class_in, IsRenamed, AreRenamed, IsClassOfOne, AreAlone, AddsNode, Coarsens, AreTogether, TellTies, AreClasses, IsClassAmong};
 

@@ -1,17 +1,17 @@
 // The merges by the tie rule.
-ghost use Rattle.std.specs.Prelude.{◌↔◌, ◌⊎◌, ◌≡◌, ◌<◌, IfOk, OnOk, IsTrue, List as Items, Contains, AllPairs};
+ghost use Rattle.std.specs.Prelude.{◌↔◌, ◌≡◌, ◌<◌, IfOk, OnOk, IsTrue, List as Items, Contains, AllPairs};
 ghost use Rattle.sk_base.specs.declared.Elem.{Elem as Element};
 ghost use Rattle.sk_base.specs.declared.Graph.{Graph as AnyGraph};
 ghost use Rattle.sk_base.specs.declared.Kind.TheVariants.{Point};
 ghost use Rattle.sk_base.specs.ClusterNames.{IsBelow};
 ghost use Rattle.sk_base.specs.SoundGraph.{HasNode, HasRisingNodes};
 ghost use Rattle.sk_family.specs.Body.{Body};
-ghost use Rattle.sk_family.specs.Clusters.{bodies, body_of, IsSound};
+ghost use Rattle.sk_family.specs.Clusters.{bodies, IsSound};
 ghost use Rattle.sk_worklist.specs.Choices.{ComesFirst};
 ghost use Rattle.sk_worklist.specs.Turns.{Follows};
 ghost use Rattle.sk_derive.specs.Ties.{HaveTiedLines};
 ghost use Rattle.sk_derive.specs.Classes.{AreClasses};
-ghost use Rattle.sk_derive.specs.TieMerges.{AreBelow, FindsOf, FindsAmong, AddsWhere, IsTiedTo};
+ghost use Rattle.sk_derive.specs.TieMerges.{AreBelow, FindsAmong, AddsWhere, IsTiedTo};
 ghost use Rattle.sk_derive.specs.WideChoices.{AreTieMerges};
 
 use crate::classes::{class_among, classes_of};

@@ -1,5 +1,5 @@
 // Products in parts of 10^9, rounded to whole numbers.
-ghost use Rattle.std.specs.Prelude.{◌≡◌, ◌≤◌, ◌*◌, ◌+ℤ◌, ◌-ℤ◌, ◌*ℤ◌, ℕ};
+ghost use Rattle.std.specs.Prelude.{◌≡◌, ◌*◌, ◌+ℤ◌, ◌-ℤ◌, ◌*ℤ◌, ℕ};
 ghost use Rattle.sk_base.specs.Bounds.{IsWithin};
 ghost use Rattle.sk_base.specs.Nearest.{nearest};
 

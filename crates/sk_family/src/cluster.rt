@@ -2,7 +2,6 @@
 ghost use Rattle.std.specs.Prelude.{◌≡◌, ◌<◌, ◌^◌, ◌∷◌, ◌++◌, [], IfOk, List as Items, length};
 ghost use Rattle.sk_base.specs.declared.Elem.{Elem as Element};
 ghost use Rattle.sk_family.specs.Sharing.{shared, overlap_of, counted};
-ghost use Rattle.sk_base.specs.Numbering.{is_elem};
 
 use sk_base::{ConId, Elem, List, Name, NoMemory};
 use std::alloc::Global;

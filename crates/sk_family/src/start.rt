@@ -1,5 +1,5 @@
 // The clusters in which constraints start, and clusters in order.
-ghost use Rattle.std.specs.Prelude.{◌≡◌, ◌≢◌, ◌++◌, ◌∷◌, [], OnOk, OnErr, AllPairs, IfOk, IfSome, IfNone, map, filter, not, find, ◌==◌, Contains, option_copied};
+ghost use Rattle.std.specs.Prelude.{◌≡◌, ◌≢◌, ◌++◌, ◌∷◌, [], OnOk, OnErr, AllPairs, IfOk, map, Contains};
 ghost use Rattle.std.specs.List.Sorted.{IsPermutation};
 ghost use Rattle.std.specs.Ordering.{is_lt};
 ghost use Rattle.sk_base.specs.declared.ConId.{ConId as Number};

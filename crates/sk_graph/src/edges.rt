@@ -1,7 +1,5 @@
 // The edge of a constraint between two elements.
-ghost use Rattle.std.specs.Prelude.{◌≡◌, ◌≢◌, IfSome};
-ghost use Rattle.sk_base.specs.Bounds.{IsFromTo};
-ghost use Rattle.sk_base.specs.Drawn.{HasCentre, IsLine};
+ghost use Rattle.std.specs.Prelude.{◌≡◌, IfSome};
 ghost use Rattle.sk_base.specs.SoundSketch.{IsSoundSketch, IsSoundShape, IsSoundRule, IsSoundRatio, MayBeApart, MayBeTangent, AreLines};
 ghost use Rattle.sk_graph.specs.SketchGraph.{apart, beside, distance_edge, on_edge, tangent_edge, outside_edge, inside_edge, angle_edge, edge_of};
 

@@ -1,5 +1,5 @@
 //! What holds on every grid, whatever its number of digits.
-ghost use Rattle.std.specs.Prelude.{ℕ, ℤ, pos, ◌≤ℤ◌, ◌<ℤ◌, IfOk, IsFalse};
+ghost use Rattle.std.specs.Prelude.{ℕ, ℤ, ◌≤ℤ◌, IfOk, IsFalse};
 ghost use Rattle.sk_interval.specs.Interval.{Interval};
 ghost use Rattle.sk_interval.specs.Around.{IsLeastAround, GivesLeast, BelowLength, AboveLength, BelowSums, AboveSums, BelowDifferences, AboveDifferences, BelowProducts, AboveProducts, BelowQuotients, AboveQuotients, BelowRoots, AboveRoots};
 ghost use Rattle.sk_interval.specs.Operations.{of_micrometres, sum, difference, product, quotient, root, holds_zero};

@@ -6,7 +6,7 @@ ghost use Rattle.sk_io.specs.Causes.{AnswersFault};
 ghost use Rattle.sk_io.specs.Transfer.{TakesUpTo, TakesAtMost};
 
 use crate::fault::{Failed, ReadEnd};
-use sk_base::{NoMemory, Text};
+use sk_base::Text;
 use std::alloc::Global;
 
 /// What bytes are read from.

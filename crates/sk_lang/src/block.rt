@@ -1,5 +1,5 @@
 // A block, by the words of its line.
-ghost use Rattle.std.specs.Prelude.{◌≡◌, ◌≤◌, ◌<◌, ◌∷◌, length, map, None, is_none, bytes_eq, true, false, MatchOption, MatchResult};
+ghost use Rattle.std.specs.Prelude.{◌≡◌, ◌≤◌, ◌<◌, ◌∷◌, length, map, None, is_none, true, false, MatchOption, MatchResult};
 ghost use Rattle.std.specs.List.{list_any};
 ghost use Rattle.sk_base.specs.Labels.{is_name};
 ghost use Rattle.sk_lex.specs.Words.{bytes_of, StandInOrder};

@@ -1,6 +1,6 @@
-ghost use Rattle.std.specs.Prelude.{◌≡◌, ◌≤◌, ◌↔◌, length, map, take, IfOk, IfErr, MatchResult, true, false};
+ghost use Rattle.std.specs.Prelude.{◌≡◌, ◌≤◌, length, map, take, IfOk, IfErr, false};
 ghost use Rattle.std.specs.List.{position, position_or_len};
-ghost use Rattle.sk_lex.specs.Words.{is_too_long, is_text_byte, has_wrong_byte, is_blank, words_in, bytes_of, StandInOrder, IsFaultOf};
+ghost use Rattle.sk_lex.specs.Words.{is_too_long, has_wrong_byte, is_blank, words_in, bytes_of, StandInOrder, IsFaultOf};
 
 use crate::words::{LexFault, Word, Words};
 use sk_base::{List, NoMemory};

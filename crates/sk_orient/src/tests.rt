@@ -1,4 +1,3 @@
-ghost use Rattle.std.specs.Prelude.{◌≡◌};
 ghost use Rattle.sk_base.specs.Drawn.{HasCentre, IsLine};
 ghost use Rattle.sk_base.specs.Places.{IsPoint, IsBounded, IsLine as IsPlacedLine};
 ghost use Rattle.sk_orient.specs.DrawnSigns.{IsOnPaper};

@@ -3,7 +3,7 @@ ghost use Rattle.std.specs.Prelude.{◌≡◌, IfOk};
 ghost use Rattle.sk_steps.specs.Boxes.{kind_of};
 ghost use Rattle.sk_steps.specs.ThirdElement.{third_element, IsConstructible};
 ghost use Rattle.sk_place.specs.declared.fault.Phase.TheVariants.{Build};
-ghost use Rattle.sk_place.specs.Clusters.{Rise, box_of, with_box};
+ghost use Rattle.sk_place.specs.Clusters.{box_of, with_box};
 ghost use Rattle.sk_place.specs.Carrying.{faulty, Answers};
 ghost use Rattle.sk_place.specs.Steps.{setting, ordered, given, with_children, joined, HasCorners, HasKinds};
 

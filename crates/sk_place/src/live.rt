@@ -1,6 +1,5 @@
 // The boxes of live clusters.
-ghost use Rattle.std.specs.Prelude.{◌≡◌, ◌≢◌, ℕ, ◌+◌, ◌∷◌, ◌++◌, [], length, map, All, IfOk, IfSome, OnOk, OnErr, None, Some, IsSome, Contains, slice_get, slice_set, slice_index_or};
-ghost use Rattle.sk_base.specs.declared.Edge.{Edge as OfEdge};
+ghost use Rattle.std.specs.Prelude.{◌≡◌, ◌≢◌, ◌+◌, ◌∷◌, ◌++◌, [], length, map, All, IfOk, OnOk, None, Some, IsSome, slice_set, slice_index_or};
 ghost use Rattle.sk_base.specs.declared.Name.{Name as OfName};
 ghost use Rattle.sk_base.specs.Pins.{IsOnSheet};
 ghost use Rattle.sk_base.specs.SoundGraph.{IsSoundGraph};

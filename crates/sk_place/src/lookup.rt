@@ -1,7 +1,7 @@
 // Boxes by their elements' numbers.
-ghost use Rattle.std.specs.Prelude.{◌≡◌, ◌<◌, ◌≤◌, OnOk, IfOk, length};
+ghost use Rattle.std.specs.Prelude.{◌≡◌, ◌<◌, OnOk, IfOk};
 ghost use Rattle.std.specs.Bool.{MatchBool};
-ghost use Rattle.sk_place.specs.Clusters.{Rise, Holds, box_of, with_box, with_boxes, besides, number_of, IsPlaceOf, IsAt};
+ghost use Rattle.sk_place.specs.Clusters.{Rise, Holds, box_of, with_box, with_boxes, besides, IsPlaceOf, IsAt};
 
 use crate::boxes::BoxAt;
 use sk_base::{Elem, List, NoMemory};

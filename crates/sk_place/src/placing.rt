@@ -1,5 +1,5 @@
 // The steps of a plan, one after another.
-ghost use Rattle.std.specs.Prelude.{ℕ, ◌≡◌, ◌≢◌, ◌⊎◌, ◌<◌, ◌∷◌, ◌++◌, [], map, length, IfOk, IfSome, IsNone, None, Some, List as Items};
+ghost use Rattle.std.specs.Prelude.{ℕ, ◌≡◌, ◌≢◌, ◌<◌, length, IfOk, None, Some};
 ghost use Rattle.sk_base.specs.SoundGraph.{IsSoundGraph};
 ghost use Rattle.sk_tree.specs.LegalPlan.{IsLegalPlan};
 ghost use Rattle.sk_place.specs.Clusters.{nodes_of};

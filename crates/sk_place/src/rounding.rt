@@ -1,5 +1,5 @@
 // Boxes rounded to their midpoints.
-ghost use Rattle.std.specs.Prelude.{◌≡◌, ◌≤◌, ◌+◌, ◌*◌, ◌^◌, ℕ, pos, ◌+ℤ◌, ◌*ℤ◌, unsigned_abs, IfOk, All, map};
+ghost use Rattle.std.specs.Prelude.{◌≡◌, ◌≤◌, ◌+◌, ◌*◌, ◌^◌, ℕ, ◌+ℤ◌, unsigned_abs, IfOk, All, map};
 ghost use Rattle.sk_base.specs.Bounds.{IsWithin as IsAtMost};
 ghost use Rattle.sk_base.specs.Places.{IsBounded};
 ghost use Rattle.sk_base.specs.Nearest.{nearest};

@@ -1,6 +1,6 @@
 // Who is who in a step.
 ghost use Rattle.std.specs.Prelude.{◌≡◌};
-ghost use Rattle.sk_place.specs.Steps.{setting, exchanged, ordered, chosen, is_opposite, root, given, HasCorners};
+ghost use Rattle.sk_place.specs.Steps.{setting, ordered, chosen, is_opposite, root, given, HasCorners};
 
 use crate::boxes::BoxAt;
 use crate::carry::comes_first;

@@ -1,5 +1,5 @@
 // The tree of a plan.
-ghost use Rattle.std.specs.Prelude.{◌≡◌, ◌↔◌, [], ◌∷◌, ◌++◌, map, length, IfOk, IfSome, IsNone, option_copied, slice_get};
+ghost use Rattle.std.specs.Prelude.{◌≡◌, ◌↔◌, [], map, length, IfOk, IfSome, IsNone, slice_get};
 ghost use Rattle.std.specs.Option.{option_map};
 ghost use Rattle.sk_base.specs.declared.Graph.{Graph as OfGraph};
 ghost use Rattle.sk_base.specs.SoundGraph.{IsSoundGraph};

@@ -1,6 +1,6 @@
 // The lines that name what failed.
-ghost use Rattle.std.specs.Prelude.{◌≡◌, ◌++◌, ◌∷◌, [], IfOk, OnOk, option_copied, string_bytes};
-ghost use Rattle.sk_report.specs.FaultLines.{phase_word, cause_words, fault_head, bits_words, fault_line, rule_unit, constraint_unit, spotted_unit, passed_line, turned_line};
+ghost use Rattle.std.specs.Prelude.{◌≡◌, ◌++◌, IfOk, OnOk, string_bytes};
+ghost use Rattle.sk_report.specs.FaultLines.{phase_word, cause_words, fault_head, fault_line, rule_unit, spotted_unit, passed_line, turned_line};
 ghost use Rattle.sk_report.specs.PlanReport.{sign_text};
 
 use crate::solve::{put_number, put_spotted};

@@ -1,7 +1,6 @@
 // The report on a sketch that was made.
-ghost use Rattle.std.specs.Prelude.{◌≡◌, ◌+◌, ◌+ℤ◌, ◌++◌, ◌∷◌, ℕ, IfOk, OnOk};
+ghost use Rattle.std.specs.Prelude.{◌≡◌, ◌+◌, ◌+ℤ◌, ◌++◌, ℕ, IfOk, OnOk};
 ghost use Rattle.sk_base.specs.Bounds.{IsWithin};
-ghost use Rattle.sk_base.specs.Spelling.{whole_text};
 ghost use Rattle.sk_report.specs.GrowReport.{x_of, y_of, x_sum, y_sum, grow_counts, sum_line, grow_report};
 
 use crate::solve::{put_named, put_number, put_tolerance};

@@ -1,7 +1,7 @@
 // The plan report.
 ghost use Rattle.std.specs.Prelude.{◌≡◌, ◌++◌, IfOk, OnOk, string_bytes};
 ghost use Rattle.std.specs.List.{flat_map};
-ghost use Rattle.sk_report.specs.PlanReport.{leaf_line, sign_text, choice_words, joins_words, keeps_words, step_line, plan_counts, plan_report};
+ghost use Rattle.sk_report.specs.PlanReport.{leaf_line, choice_words, joins_words, keeps_words, step_line, plan_counts, plan_report};
 
 use sk_base::{ConId, NoMemory, Sign, Sketch, Text};
 use sk_lang::put_constraint_words;

@@ -1,9 +1,7 @@
 // The report on placed elements.
 ghost use Rattle.std.specs.Prelude.{◌≡◌, ◌*ℤ◌, pos, ◌++◌, ◌∷◌, [], IfOk, OnOk};
 ghost use Rattle.sk_base.specs.Spelling.{whole_text};
-ghost use Rattle.sk_base.specs.Places.{place_of};
-ghost use Rattle.sk_base.specs.ElementNames.{name_of};
-ghost use Rattle.sk_report.specs.SolveReport.{numbers_text, point_line, circle_line, line_line, centre_line, lying_line, element_line, element_lines, spotted_words, constraint_or_none, spotted_or_none, length_line, angle_line, tolerance_lines, solve_counts, places_report, solve_report};
+ghost use Rattle.sk_report.specs.SolveReport.{numbers_text, point_line, circle_line, line_line, centre_line, element_line, element_lines, spotted_words, constraint_or_none, spotted_or_none, length_line, angle_line, tolerance_lines, solve_counts, places_report, solve_report};
 
 use sk_base::{At, ConId, Element, NoMemory, Placed, Shape, Sketch, Text, Um};
 use sk_residual::{Spotted, Tolerance};

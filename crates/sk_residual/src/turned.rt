@@ -1,5 +1,5 @@
 // Which sign is turned over where a sketch is placed.
-ghost use Rattle.std.specs.Prelude.{◌≡◌, ◌≢◌, ◌↔◌, not, List, [], ◌∷◌, All, Contains, IsTrue, IsSome, IsNone, IfSome, Some, option_to_list};
+ghost use Rattle.std.specs.Prelude.{◌≡◌, ◌↔◌, not, [], ◌∷◌, Contains, IsTrue, IsSome, IsNone, IfSome, Some, option_to_list};
 ghost use Rattle.sk_base.specs.declared.Constraint.{Constraint as OfConstraint};
 ghost use Rattle.sk_base.specs.Drawn.{shape_of, is_line, IsLine, HasCentre};
 ghost use Rattle.sk_base.specs.Pins.{IsOnSheet};
@@ -7,7 +7,6 @@ ghost use Rattle.sk_base.specs.SoundSketch.{IsSoundSketch, IsSoundRule, IsSoundR
 ghost use Rattle.sk_orient.specs.DrawnSigns.{drawn_sign};
 ghost use Rattle.sk_graph.specs.SketchGraph.{graph_of, drawn_as};
 ghost use Rattle.sk_tree.specs.declared.PlanStep.{PlanStep as OfStep};
-ghost use Rattle.sk_tree.specs.ByNumber.{by_number};
 ghost use Rattle.sk_tree.specs.LegalPlan.{IsLegalPlan};
 ghost use Rattle.sk_residual.specs.Least.{IsFirst};
 ghost use Rattle.sk_residual.specs.Placing.{IsPinPlaced, AreMeasurable, PlacesExactly};

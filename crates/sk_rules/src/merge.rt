@@ -1,5 +1,5 @@
 // Merges of named clusters.
-ghost use Rattle.std.specs.Prelude.{◌≡◌, ◌↔◌, ◌⊎◌, ◌<◌, [], ◌∷◌, IfOk, OnOk, OnErr, IfSome, IfNone, IsNone, IsTrue, length};
+ghost use Rattle.std.specs.Prelude.{◌≡◌, ◌↔◌, ◌⊎◌, ◌<◌, [], ◌∷◌, IfOk, OnOk, OnErr, IfSome, IfNone, IsNone, length};
 ghost use Rattle.sk_base.specs.ClusterNames.{IsBelow};
 ghost use Rattle.sk_family.specs.Clusters.{bodies};
 ghost use Rattle.sk_rules.specs.Merges.{Falls, Holds, IsMergeOf, IsLeastShared, merged};

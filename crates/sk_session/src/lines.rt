@@ -1,11 +1,10 @@
 // What a session answers to a line.
-ghost use Rattle.std.specs.Prelude.{◌≡◌, ◌⊎◌, ◌<◌, [], ◌∷◌, length, map, drop, not, if◌then◌else◌, true, false, None, Some, IfOk, OnErr, is_some};
+ghost use Rattle.std.specs.Prelude.{◌≡◌, ◌⊎◌, ◌<◌, [], ◌∷◌, length, map, drop, not, if◌then◌else◌, true, None, Some, IfOk, OnErr};
 ghost use Rattle.std.specs.List.{slice_index_or};
 ghost use Rattle.sk_base.specs.SoundSketch.{IsSoundSketch};
 ghost use Rattle.sk_lex.specs.Words.{bytes_of, StandInOrder};
 ghost use Rattle.sk_lang.specs.declared.Version.TheVariants.{Two};
 ghost use Rattle.sk_lang.specs.Comments.{words_under};
-ghost use Rattle.sk_lang.specs.Keywords.{keyword_of};
 ghost use Rattle.sk_lang.specs.Entry.{entry_code, IsEntryOf, StandsOn, IsNumbered};
 ghost use Rattle.sk_lang.specs.Meaning.{added};
 ghost use Rattle.sk_lang.specs.FirstCode.{first_code};
@@ -13,15 +12,15 @@ ghost use Rattle.sk_lang.specs.declared.EntryError.TheVariants as an_error;
 ghost use Rattle.sk_lang.specs.declared.Code.{Code as ACode};
 ghost use Rattle.sk_session.specs.declared.edit.Edit.TheVariants as an_edit;
 ghost use Rattle.sk_session.specs.declared.reply.Reply.TheVariants as a_reply;
-ghost use Rattle.sk_session.specs.Commands.{code_in, command_of, command_rows, is_spent};
+ghost use Rattle.sk_session.specs.Commands.{command_of, command_rows, is_spent};
 ghost use Rattle.sk_session.specs.Edits.{applied, next_element, next_constraint};
-ghost use Rattle.sk_session.specs.Making.{CanMake, IsReachedIn};
+ghost use Rattle.sk_session.specs.Making.{CanMake};
 ghost use Rattle.sk_session.specs.Standing.{Gives};
 ghost use Rattle.sk_session.specs.State.{sketch_in, TakesBack, IsHeldUp};
 ghost use Rattle.sk_session.specs.declared.command.Command.TheVariants as a_command;
 ghost use Rattle.sk_lang.specs.Codes.{is_none_left};
 ghost use Rattle.sk_lang.specs.declared.Code.TheVariants.{E2, E3, E18, S3, S5};
-ghost use Rattle.sk_session.specs.Replies.{Takes, Only, Checks, Plans, ByCode, Answers, Enters, Obeys, next_elem, next_con, IsHalted};
+ghost use Rattle.sk_session.specs.Replies.{Takes, Only, Checks, Plans, ByCode, Answers, Obeys, next_elem, next_con, IsHalted};
 
 use crate::command::{Change, Command, command_of};
 use crate::edit::Edit;

@@ -1,5 +1,5 @@
 // Lists in order of number, and changes of one item.
-ghost use Rattle.std.specs.Prelude.{◌≡◌, ◌≢◌, ◌↔◌, ◌⊎◌, ◌<◌, ◌≤◌, ◌==◌, ℕ, Contains, length, filter, find, map, not, slice_index_or, option_copied, OnOk, OnErr};
+ghost use Rattle.std.specs.Prelude.{◌≡◌, ◌≢◌, ◌<◌, ◌≤◌, ◌==◌, ℕ, Contains, length, find, slice_index_or, option_copied, OnOk, OnErr};
 ghost use Rattle.sk_base.specs.Rising.{IsRising};
 ghost use Rattle.sk_session.specs.Changes.{HasItem, without, with_item};
 

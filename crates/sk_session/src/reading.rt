@@ -1,6 +1,5 @@
 // Lines that drop, set or erase.
-ghost use Rattle.std.specs.Prelude.{◌≡◌, ◌==◌, ◌<◌, ◌≤◌, [], ◌∷◌, length, map, drop, find, true, false, Some, None, Ok, Err, is_none, MatchResult, IfOk, IfErr, option_copied};
-ghost use Rattle.sk_base.specs.declared.Constraint.{Constraint as AConstraint};
+ghost use Rattle.std.specs.Prelude.{◌≡◌, ◌==◌, ◌<◌, [], ◌∷◌, length, map, drop, Some, None, Ok, Err, is_none, MatchResult, IfOk, option_copied};
 ghost use Rattle.sk_base.specs.Rising.{IsRising};
 ghost use Rattle.sk_lex.specs.Words.{bytes_of, StandInOrder};
 ghost use Rattle.sk_lang.specs.FirstCode.{first_code};

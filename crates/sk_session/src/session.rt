@@ -5,7 +5,7 @@ ghost use Rattle.std.specs.Prelude.{◌≡◌, ◌+◌, ◌<◌, ◌≤◌, ◌+
 ghost use Rattle.std.specs.Vec.{vec_len, vec_capacity};
 ghost use Rattle.sk_family.specs.Clusters.{initial_clusters};
 ghost use Rattle.sk_graph.specs.SketchGraph.{graph_of};
-ghost use Rattle.sk_session.specs.Edits.{empty, sketch_of, next_element, next_constraint};
+ghost use Rattle.sk_session.specs.Edits.{empty, next_element, next_constraint};
 ghost use Rattle.sk_base.specs.SoundSketch.{IsSoundSketch};
 ghost use Rattle.sk_lang.specs.Codes.{is_none_left};
 ghost use Rattle.sk_session.specs.Making.{CanMake, IsReachedIn};

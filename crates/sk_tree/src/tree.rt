@@ -1,5 +1,5 @@
 // How clusters were made, as trees.
-ghost use Rattle.std.specs.Prelude.{◌≡◌, ◌<◌, ◌^◌, ◌++◌, [], ◌∷◌, IfOk, OnOk};
+ghost use Rattle.std.specs.Prelude.{◌≡◌, ◌<◌, ◌^◌, ◌++◌, IfOk, OnOk};
 ghost use Rattle.sk_tree.specs.Trees.{leaves_of, step_count, height_of};
 
 use sk_base::{ConId, List, Name, NoMemory};

@@ -1,8 +1,7 @@
 // Parts in order of their elements.
 ghost use Rattle.std.specs.Prelude.{◌≡◌, ◌≢◌, ◌↔◌, ◌⊎◌, ◌≤◌, length, OnOk, Contains, take, drop};
-ghost use Rattle.sk_base.specs.declared.Elem.{Elem as Element};
 ghost use Rattle.sk_verdict.specs.declared.part.Part.{Part as ThePart};
-ghost use Rattle.sk_verdict.specs.Ordering.{PartBefore, AreInOrder};
+ghost use Rattle.sk_verdict.specs.Ordering.{AreInOrder};
 ghost use Rattle.sk_base.specs.ElementOrder.{ElementsBefore};
 
 use crate::part::Part;

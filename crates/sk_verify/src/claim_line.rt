@@ -1,6 +1,6 @@
 // One line of a claim.
 ghost use Rattle.std.specs.Prelude.{◌≡◌, ◌<◌, [], ◌∷◌, length, map, drop, Some, None, IfOk, IfErr, MatchResult};
-ghost use Rattle.sk_lex.specs.Words.{bytes_of, words_in, StandInOrder};
+ghost use Rattle.sk_lex.specs.Words.{bytes_of, StandInOrder};
 ghost use Rattle.sk_lang.specs.Entry.{IsRefusal};
 ghost use Rattle.sk_lang.specs.FirstCode.{first_code, unless};
 ghost use Rattle.sk_verify.specs.declared.first_word.First.TheVariants as begins;

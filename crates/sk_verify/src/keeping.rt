@@ -1,5 +1,5 @@
 // Whether a step keeps the cluster that it should.
-ghost use Rattle.std.specs.Prelude.{◌≡◌, ◌↔◌, [], ◌∷◌, IsTrue, Contains};
+ghost use Rattle.std.specs.Prelude.{◌↔◌, [], ◌∷◌, IsTrue, Contains};
 ghost use Rattle.sk_base.specs.declared.Name.{Name as AnyName};
 ghost use Rattle.sk_family.specs.declared.Cluster.{Cluster as AnyCluster};
 ghost use Rattle.sk_family.specs.Clusters.{IsNamed};

@@ -1,5 +1,5 @@
 // Whether three clusters meet once, in three elements.
-ghost use Rattle.std.specs.Prelude.{◌≡◌, ◌≢◌, ◌↔◌, IsTrue, Contains};
+ghost use Rattle.std.specs.Prelude.{◌≢◌, ◌↔◌, IsTrue, Contains};
 ghost use Rattle.sk_base.specs.SoundGraph.{HasNode};
 ghost use Rattle.sk_tree.specs.Meeting.{SharesNoOther, MeetsOnce, JoinsOnce};
 

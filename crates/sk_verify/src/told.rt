@@ -1,5 +1,5 @@
 // Whether each element of a sketch is told in a claim, a circle with its radius.
-ghost use Rattle.std.specs.Prelude.{◌≡◌, ◌↔◌, IsTrue, IsSome, Contains, All};
+ghost use Rattle.std.specs.Prelude.{◌↔◌, IsTrue, IsSome, Contains};
 ghost use Rattle.sk_base.specs.declared.Element.{Element as AnyElement};
 ghost use Rattle.sk_base.specs.Places.{place_of};
 ghost use Rattle.sk_base.specs.SoundSketch.{IsSoundShape, IsLength};

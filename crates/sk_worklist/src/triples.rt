@@ -1,4 +1,4 @@
-ghost use Rattle.std.specs.Prelude.{◌≡◌, ◌↔◌, IsTrue, OnOk};
+ghost use Rattle.std.specs.Prelude.{◌↔◌, IsTrue, OnOk};
 ghost use Rattle.sk_base.specs.Numbering.{elem_number};
 ghost use Rattle.sk_base.specs.Rising.{IsRising};
 ghost use Rattle.sk_worklist.specs.Indexed.{AllRise, IsIndex};

@@ -1,13 +1,12 @@
 // The worklist of a family that is being closed. A new cluster has the greatest name, so what is known
 // of the merges below a name stays known, but for those of the merged clusters.
-ghost use Rattle.std.specs.Prelude.{◌≡◌, ◌↔◌, ◌++◌, IfOk, OnOk, IfSome, IfNone, AllPairs, Contains, MatchResult};
+ghost use Rattle.std.specs.Prelude.{◌≡◌, ◌↔◌, IfOk, OnOk, IfSome, IfNone, AllPairs, Contains};
 ghost use Rattle.sk_base.specs.declared.Graph.{Graph as AnyGraph};
 ghost use Rattle.sk_base.specs.declared.Name.{Name as ClusterName};
 ghost use Rattle.sk_base.specs.ClusterNames.{IsBelow};
 ghost use Rattle.sk_family.specs.Clusters.{Clusters, IsSound};
-ghost use Rattle.sk_rules.specs.declared.Merge.{Merge as AnyMerge};
 ghost use Rattle.sk_rules.specs.Merges.{merged, names_of};
-ghost use Rattle.sk_worklist.specs.Choices.{AreTriples, ComesFirst, IsFirstPair};
+ghost use Rattle.sk_worklist.specs.Choices.{AreTriples, IsFirstPair};
 ghost use Rattle.sk_worklist.specs.Gather.{AreUncovered, HoldsSome};
 ghost use Rattle.sk_worklist.specs.Indexed.{HasElements, IsIndex, Represents};
 ghost use Rattle.sk_worklist.specs.Turns.{Answers, Follows, HasLeft, HasNoPair};
