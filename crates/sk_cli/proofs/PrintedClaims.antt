@@ -1,6 +1,6 @@
 -- What `plan` and `solve` print of a sketch is a claim that is accepted.
-use Rattle.std.proofs.Common.{◌≡◌, ◌≢◌, inl, inr, ℕ, ◌+◌, ◌*◌, ◌-◌, ◌<◌, ◌≤◌, ◌^◌, pos, List, [], ◌∷◌, ◌++◌, length, get_or, map, Option, None, Some, refl, sym, ap, subst, ◌∙◌, arith}
-use Rattle.std.specs.Prelude.{All, AllPairs, Contains, IsSome, unwrap_or, Ok}
+use Rattle.std.proofs.Common.{◌≡◌, ◌≢◌, inl, inr, ℕ, ◌+◌, ◌*◌, ◌-◌, ◌<◌, ◌≤◌, pos, List, [], ◌∷◌, ◌++◌, length, get_or, map, Option, None, Some, refl, sym, ap, subst, ◌∙◌, arith}
+use Rattle.std.specs.Prelude.{AllPairs, Contains, IsSome, unwrap_or}
 use Rattle.std.specs.Option.{option_map}
 use Rattle.std.proofs.lemmas.List.Elements.{Contains-append_left, Contains-append_right, Contains-append_cases}
 use Rattle.sk_base.specs.declared.At.{At}
@@ -12,8 +12,6 @@ use Rattle.sk_base.specs.declared.Edge.{Edge}
 use Rattle.sk_base.specs.declared.Elem.{Elem}
 use Rattle.sk_base.specs.declared.Element.{Element}
 use Rattle.sk_base.specs.declared.Graph.{Graph}
-use Rattle.sk_base.specs.declared.Measure.{Measure}
-use Rattle.sk_base.specs.declared.Measure.TheVariants.{PointPoint, PointLine, LineLine}
 use Rattle.sk_base.specs.declared.Name.TheVariants.{Con}
 use Rattle.sk_base.specs.declared.Node.{Node}
 use Rattle.sk_base.specs.declared.Placed.{Placed}
@@ -33,11 +31,10 @@ use Rattle.sk_graph.specs.SketchGraph.{edge_of, block_of, graph_of, node_of, dra
 use Rattle.sk_graph.proofs.Given.{given_from}
 use Rattle.sk_graph.proofs.Soundness.{graph_is_sound, given_edge_id, given_block_id}
 use Rattle.sk_lang.specs.Renumbered.{constraints_from, renumbered}
-use Rattle.sk_place.specs.declared.BoxAt.{BoxAt}
 use Rattle.sk_place.specs.Rounding.{rounded}
 use Rattle.sk_residual.specs.declared.Tolerance.{Tolerance}
-use Rattle.sk_residual.specs.Placing.{lies, HasKind, IsPlacedAs, IsSpotOf, AreSpotsOf}
-use Rattle.sk_residual.specs.Tolerances.{Item, constraint, block, number_of, AllHold, angles, angle_of_measure, between, normals, rigid, distances, constraints, lengthwise, anglewise, everything}
+use Rattle.sk_residual.specs.Placing.{lies, HasKind, IsPlacedAs, AreSpotsOf}
+use Rattle.sk_residual.specs.Tolerances.{Item, constraint, block, number_of, angles, between, normals, rigid, distances, constraints, lengthwise, anglewise, everything}
 use Rattle.sk_residual.proofs.Merging.{block_in}
 use Rattle.sk_residual.proofs.InOrder.{spots_rise}
 use Rattle.sk_residual.proofs.Worsts.{contains_flat, on_distance, on_angle}
@@ -56,7 +53,6 @@ use Rattle.sk_verify.proofs.SaidSteps.{said_steps}
 use Rattle.sk_verify.proofs.WrittenClaims.{reads_written}
 use Rattle.sk_cli.specs.declared.request.Request.{Request}
 use Rattle.sk_cli.specs.Asking.{WithinKey, values_of, IsLimit, Says, Asks}
-use Rattle.sk_cli.specs.Causes.{LieAt}
 use Rattle.sk_cli.specs.Grids.{grid_of, digits_of}
 use Rattle.sk_cli.specs.Headline.{HoldsAt}
 use Rattle.sk_cli.specs.PrintedClaim.{printed_text, printed_claim}

@@ -1,5 +1,5 @@
 -- What `plan` and `solve` print, and the tolerances, are the lines of a claim.
-use Rattle.std.proofs.Common.{◌≡◌, ℕ, ℤ, pos, ◌*ℤ◌, List, [], ◌∷◌, ◌++◌, map, Option, Some, None, codes, refl, sym, ap, subst, ◌∙◌, arith, append_assoc, append-nil}
+use Rattle.std.proofs.Common.{◌≡◌, ℕ, ℤ, pos, ◌*ℤ◌, List, [], ◌∷◌, ◌++◌, map, Some, codes, refl, sym, ap, ◌∙◌, arith, append_assoc, append-nil}
 use Rattle.std.specs.Prelude.{Contains}
 use Rattle.std.specs.List.{flat_map}
 use Rattle.std.proofs.lemmas.Int.{ints}
@@ -29,7 +29,7 @@ use Rattle.sk_tree.specs.declared.Choice.TheVariants.{Turn, Advance, Nothing}
 use Rattle.sk_tree.specs.declared.PlanStep.{PlanStep}
 use Rattle.sk_tree.specs.declared.Plan.{Plan as ThePlan}
 use Rattle.sk_verify.specs.Claims.{radius_nm}
-use Rattle.sk_verify.specs.ClaimText.{choice_words, step_words, lying_words, spot_words, tolerance_words, claim_words, claim_text}
+use Rattle.sk_verify.specs.ClaimText.{choice_words, step_words, lying_words, spot_words, tolerance_words, claim_text}
 use Rattle.sk_cli.specs.PrintedClaim.{tolerance_line, printed_text, printed_claim}
 
 -- the line of the words

@@ -1,4 +1,4 @@
-use Rattle.std.proofs.Common.{◌≡◌, ◌+◌, ◌<◌, ℕ, List, sym, subst, length, arith}
+use Rattle.std.proofs.Common.{◌+◌, ◌<◌, ℕ, List, sym, subst, length, arith}
 use Rattle.sk_lang.specs.Lines.{lines_in}
 use Rattle.sk_cli.proofs.Behind.{rest_of}
 use Rattle.sk_cli.proofs.claims.claimed.Goals as goal
