@@ -1,7 +1,6 @@
 -- What comes of planning a sketch.
 use Rattle.std.specs.Prelude.{◌≡◌}
 use Rattle.sk_base.specs.declared.Sketch.{Sketch}
-use Rattle.sk_base.specs.SoundGraph.{IsSoundGraph}
 use Rattle.sk_graph.specs.SketchGraph.{graph_of}
 use Rattle.sk_plan.specs.Judged.{IsWell}
 use Rattle.sk_worklist.specs.declared.Order.{Order}
@@ -11,5 +10,5 @@ use Rattle.sk_cli.specs.Solved.{IsPlanBy, IsReportNotWell}
 
 -- the verdict is well, and these are the graph of the sketch and its plan by the order; else this is its check report
 abbrev pub IsPlanning : Order → Sketch → Planning → Type 0
-IsPlanning order s (Planned g p) = (g ≡ graph_of s) × IsSoundGraph g × IsWell (graph_of s) × IsPlanBy order s p
+IsPlanning order s (Planned g p) = (g ≡ graph_of s) × IsWell (graph_of s) × IsPlanBy order s p
 IsPlanning order s (NotWell text) = IsReportNotWell s text

@@ -1,6 +1,5 @@
 // The command `flips`.
 ghost use Rattle.std.specs.Prelude.{◌≡◌, ◌<◌, ◌≤◌, length, IfOk};
-ghost use Rattle.sk_base.specs.SoundGraph.{IsSoundGraph};
 ghost use Rattle.sk_base.specs.SoundSketch.{IsSoundSketch};
 ghost use Rattle.sk_flips.specs.Alternatives.{AreAlternatives};
 ghost use Rattle.sk_graph.specs.SketchGraph.{graph_of};
@@ -85,7 +84,6 @@ fn alternatives_on(
 ) -> Result<List<Alternative>, NoMemory>
     requires sketch { IsSoundSketch s.now }
     requires graph { g.now ≡ graph_of s.now }
-    requires sound { IsSoundGraph g.now }
     requires legal { IsLegalPlan g.now p.now }
     ensures { IfOk result (AreAlternatives (grid_of bits) (digits_of bits) limit s.now p.now lists.now) }
 {

@@ -175,8 +175,9 @@ pub fn causes()
 
 /// Where `solve` is done with a sketch, the plan of the run by the order, with nothing turned, finds the very
 /// places and the tolerance that were told, so that `flips` with the same keys tells these where a line of
-/// flips names no step. With `one_alternative` of `sk_flips`, by which a plan and a list of steps have one
-/// alternative at most, every line of flips that names no step tells these, wherever it stands.
+/// flips names no step. By `one_run` and `one_plan` the order gives one plan at most, and by `one_alternative`
+/// of `sk_flips` such a plan has one alternative at most for a list of steps; so every line of flips that
+/// names no step tells these, wherever it stands.
 pub fn solved_places_are_found()
     ensures { (request : Request) (s : Sketch) (text : List ℕ) → IsSoundSketch s → IsSolved Places request s Status.Done text
         → (p : Plan) × (at : Placed) × (tol : Tolerance) × (text ≡ solve_report s p (digits_of request.bits) at tol) × IsItsPlan request s p
@@ -221,8 +222,8 @@ pub fn headline()
 /// What `plan` and `solve` print of a sketch in the same order, the step lines and the element lines, with
 /// the printed tolerances on a line behind them, is a claim (`reads`) that is accepted (`accepted`), so that
 /// `verify` is done with it behind a text of the sketch (`verified`). Where `solve` is done, `plan` in the
-/// same order is, and they print of one plan, one placement and its tolerances, where all holds that the
-/// other three ask (`printed`).
+/// same order is, and they print of one plan, one placement and its tolerances, of which all holds that the
+/// other three ask of these (`printed`).
 pub fn printed_claims_are_accepted()
     ensures printed { (planning solving : List (List ℕ)) (bytes planned solved : List ℕ) (status : Status) (planned_by solved_by : Request)
         → Asks planning planned_by → planned_by.command ≡ Command.Plan → Asks solving solved_by → solved_by.command ≡ Command.Solve → planned_by.order ≡ solved_by.order

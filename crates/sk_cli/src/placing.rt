@@ -1,6 +1,5 @@
 // A plan on the grid of so many binary digits.
 ghost use Rattle.std.specs.Prelude.{◌≡◌, IfOk};
-ghost use Rattle.sk_base.specs.SoundGraph.{IsSoundGraph};
 ghost use Rattle.sk_base.specs.SoundSketch.{IsSoundSketch};
 ghost use Rattle.sk_graph.specs.SketchGraph.{graph_of};
 ghost use Rattle.sk_tree.specs.LegalPlan.{IsLegalPlan};
@@ -27,7 +26,6 @@ pub(crate) fn placed(
 ) -> Result<Placement, NoMemory>
     requires sketch { IsSoundSketch s.now }
     requires graph { g.now ≡ graph_of s.now }
-    requires sound { IsSoundGraph g.now }
     requires legal { IsLegalPlan g.now p.now }
     ensures placement { IfOk result (IsPlacement (grid_of bits) (digits_of bits) limit s.now p.now) }
     ensures bounded { IfOk result LiesWithinBounds }
