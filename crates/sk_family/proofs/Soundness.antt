@@ -16,6 +16,7 @@ use Rattle.sk_base.specs.Rising.{IsRising}
 use Rattle.sk_family.specs.declared.cluster.Cluster.{Cluster}
 use Rattle.sk_family.specs.Body.{Body, Start, IsRisingBody, starting, starts}
 use Rattle.sk_family.specs.Clusters.{Clusters, body_of, start_of, initial_clusters, named, unnamed, made_of, whole_from, replaced, CanBeReplaced, IsSound, IsLive}
+use Rattle.sk_family.specs.Joining.{CanBeJoined}
 use Rattle.sk_base.proofs.Members.{contains_none, contains_head, contains_later, contains_one, mapped_from, contains_mapped, contains_filtered, filtered_from}
 use Rattle.sk_base.proofs.Pairs.{pairs_push, pairs_filter, pairs_map}
 use Rattle.sk_base.proofs.Unions.{rising_none, rising_cons, rising_apart}
@@ -147,12 +148,12 @@ module _ (f : Clusters) (names : List Name) (sound : IsSound f) where
       (own.0, whole_owns_of first.0 first.1 own.0 own.1)
 
   -- two different clusters own two different constraints
-  whole_owns_two : CanBeReplaced f names → 1 < length (made_of names f.live).owned
-  whole_owns_two can = first_two names refl can.two_or_three can.all_live can.differ
+  whole_owns_two : CanBeJoined f names → 1 < length (made_of names f.live).owned
+  whole_owns_two can = first_two names refl can.some can.all_live can.differ
     where
-      first_two : (ns : List Name) → ns ≡ names → (length ns ≡ 2) ⊎ (length ns ≡ 3) → All (λ n. IsLive f n) ns → AllPairs (λ (m n : Name). m ≢ n) ns → 1 < length (made_of names f.live).owned
-      first_two [] is many live differ = absurd (elim many [ inl two ↦ omega arith | inr three ↦ omega arith ])
-      first_two (n ∷ []) is many live differ = absurd (elim many [ inl two ↦ omega arith | inr three ↦ omega arith ])
+      first_two : (ns : List Name) → ns ≡ names → 1 < length ns → All (λ n. IsLive f n) ns → AllPairs (λ (m n : Name). m ≢ n) ns → 1 < length (made_of names f.live).owned
+      first_two [] is many live differ = absurd (omega (arith, many))
+      first_two (n ∷ []) is many live differ = absurd (omega (arith, many))
       first_two (n ∷ m ∷ ns) is many live differ =
           let first = All-head (λ l. IsLive f l) n (m ∷ ns) live in
           let second = All-head (λ l. IsLive f l) m ns (All-tail (λ l. IsLive f l) n (m ∷ ns) live) in
@@ -166,6 +167,29 @@ module _ (f : Clusters) (names : List Name) (sound : IsSound f) where
           (whole_owns_of first.0 (is_named_one n (subst (λ ms. Contains ms n) is (contains_head n (m ∷ ns))) first) own.0 own.1)
           (whole_owns_of second.0 (is_named_one m (subst (λ ms. Contains ms m) is (contains_later n (m ∷ ns) m (contains_head m ns))) second) other.0 other.1)
 
+  -- two of the names have two clusters
+  two_named : CanBeJoined f names → 1 < length (named names f.live)
+  two_named can = first_two names refl can.some can.all_live can.differ
+    where
+      first_two : (ns : List Name) → ns ≡ names → 1 < length ns → All (λ n. IsLive f n) ns → AllPairs (λ (m n : Name). m ≢ n) ns → 1 < length (named names f.live)
+      first_two [] is many live differ = absurd (omega (arith, many))
+      first_two (n ∷ []) is many live differ = absurd (omega (arith, many))
+      first_two (n ∷ m ∷ ns) is many live differ =
+          let first = All-head (λ l. IsLive f l) n (m ∷ ns) live in
+          let second = All-head (λ l. IsLive f l) m ns (All-tail (λ l. IsLive f l) n (m ∷ ns) live) in
+          two_in (named names f.live) first.0 second.0
+          (λ same. differ 0 1 n (omega arith) (omega arith) (sym first.1.has_name ∙ ap (λ (c : Cluster). c.name) same ∙ second.1.has_name))
+          (is_named_one n (subst (λ ms. Contains ms n) is (contains_head n (m ∷ ns))) first)
+          (is_named_one m (subst (λ ms. Contains ms m) is (contains_later n (m ∷ ns) m (contains_head m ns))) second)
+
+  -- so the whole leaves fewer
+  pub joined_fewer : CanBeJoined f names → length (replaced f names).live < length f.live
+  joined_fewer can =
+      let both = length-filter_both (λ (d : Cluster). is_named names d.name) (λ (d : Cluster). not (is_named names d.name)) (λ d. refl) f.live in
+      let size = length-append (unnamed names f.live) (whole_from (Step f.next_step) names f.live ∷ []) in
+      let two = two_named can in
+      omega (arith, both, size, two)
+
   -- the whole takes the place of at least one
   no_more : 0 < length names → All (λ n. IsLive f n) names → length (replaced f names).live ≤ length f.live
   no_more some live =
@@ -175,9 +199,9 @@ module _ (f : Clusters) (names : List Name) (sound : IsSound f) where
       let some_one : 0 < length (named names f.live) = contains_some (named names f.live) first.0 first.1 in
       omega (arith, both, size, some_one)
 
-  pub sound_replaced : CanBeReplaced f names → IsSound (replaced f names)
+  pub sound_joined : CanBeJoined f names → IsSound (replaced f names)
   unfolding whole
-  sound_replaced can = (let some = some_of can in let live = can.all_live in record {
+  sound_joined can = (let some : 0 < length names = omega (arith, can.some) in let live = can.all_live in record {
     few = (let fewer = no_more some live in let few = sound.few in omega arith);
     names_rise = pairs_push (λ (a b : Cluster). IsBelow a.name b.name) (unnamed names f.live) whole
         (pairs_filter (λ (a b : Cluster). IsBelow a.name b.name) (λ (d : Cluster). not (is_named names d.name)) f.live sound.names_rise)
@@ -213,6 +237,16 @@ module _ (f : Clusters) (names : List Name) (sound : IsSound f) where
       | inr is ↦ subst (λ (d : Cluster). 1 < length d.owned) is (whole_owns_two can)
     ];
   })
+
+pub joined_of : {f : Clusters} {names : List Name} → CanBeReplaced f names → CanBeJoined f names
+joined_of can = record {
+  some = elim can.two_or_three [ inl two ↦ omega arith | inr three ↦ omega arith ];
+  all_live = can.all_live;
+  differ = can.differ;
+}
+
+pub sound_replaced : (f : Clusters) (names : List Name) → IsSound f → CanBeReplaced f names → IsSound (replaced f names)
+sound_replaced f names sound can = sound_joined f names sound (joined_of can)
 
 -- the starting clusters hold the starting bodies
 pub starting_bodies : (es : List Start) → map body_of (map start_of es) ≡ map starting es

@@ -3,3 +3,4 @@ pub mod Clusters
 pub mod Sharing
 pub mod Starting
 pub mod Starts
+pub mod Joining

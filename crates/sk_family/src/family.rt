@@ -7,6 +7,7 @@ ghost use Rattle.sk_base.specs.Numbering.{elem_number};
 ghost use Rattle.sk_base.specs.Rising.{IsRising};
 ghost use Rattle.sk_family.specs.Body.{Start, IsRisingBody, edge_start, block_start, initial_bodies, join, nothing};
 ghost use Rattle.sk_family.specs.Clusters.{AddsNamed, cluster_of, initial_clusters, start_of, replaced, whole_from, bodies, body_of, live_names, unnamed, ByName, CanBeReplaced, IsAt, IsSound, IsLive, IsNamed};
+ghost use Rattle.sk_family.specs.Joining.{CanBeJoined};
 ghost use Rattle.sk_family.specs.Starting.{starts_but};
 ghost use Rattle.sk_family.specs.Starts.{IsFree, HasStart, CanBeDissolved, IsDissolved};
 
@@ -130,8 +131,22 @@ impl Family {
         ensures err { OnErr result (self.new ≡ self.old) }
         ensures was_sound { IsSound self.old }
     {
+        self.replace_all(from)
+    }
+
+    /// The same for any number of clusters from two on.
+    pub fn replace_all(&mut self, from: &[Name]) -> Result<Name, NoMemory>
+        requires from { CanBeJoined self.old from.now }
+        requires room { self.old.next_step < 4294967295 }
+        ensures name { IfOk result (λ name. name ≡ Name.Step self.old.next_step) }
+        ensures ok { OnOk result (self.new ≡ replaced self.old from.now) }
+        ensures fewer { OnOk result (length self.new.live < length self.old.live) }
+        ensures err { OnErr result (self.new ≡ self.old) }
+        ensures was_sound { IsSound self.old }
+        ensures sound { IsSound self.new }
+    {
         let name = Name::Step(self.next);
-        let whole = whole_of(self.alloc, self.clusters.as_slice(), name, from)?;
+        let whole = whole_by_halves(self.alloc, self.clusters.as_slice(), name, from)?;
         put_in_place(self.alloc, &mut self.clusters, from, whole)?;
         self.next += 1;
         Ok(name)
@@ -244,6 +259,27 @@ fn whole_of(
     for part in from {
         add_named(alloc, &mut whole, clusters, *part)?;
     }
+    Ok(whole)
+}
+
+/// The same, made of the two that each half of the names makes, so that many small ones cost little.
+fn whole_by_halves(
+    alloc: Global,
+    clusters: &[Cluster],
+    name: Name,
+    from: &[Name],
+) -> Result<Cluster, NoMemory>
+    requires by_name { AllPairs ByName clusters.now }
+    requires rise { All (λ c. IsRisingBody (body_of c)) clusters.now }
+    ensures { IfOk result (λ whole. whole ≡ whole_from name from.now clusters.now) }
+{
+    if from.len() <= 3 {
+        return whole_of(alloc, clusters, name, from);
+    }
+    let half = from.len() / 2;
+    let front = whole_by_halves(alloc, clusters, name, &from[..half])?;
+    let mut whole = whole_by_halves(alloc, clusters, name, &from[half..])?;
+    add(alloc, &mut whole, &front)?;
     Ok(whole)
 }
 
