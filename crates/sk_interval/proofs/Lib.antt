@@ -5,6 +5,7 @@ pub mod FinerQuotients
 pub mod FinerRoots
 pub mod FinerSums
 pub mod LeastLemmas
+pub mod MiddleLemmas
 pub mod PowerLemmas
 pub mod ProductLemmas
 pub mod QuotientLemmas

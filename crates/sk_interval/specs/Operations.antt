@@ -61,6 +61,10 @@ root F x =
     if int_lt (pos 0) x.lo then Ok (record { lo = pos (floor_root (unsigned_abs x.lo * one F)); hi = pos (ceil_root (unsigned_abs x.hi * one F)) })
     else (if int_lt x.hi (pos 0) then Err (Gap x.lo x.hi) else Err (Flat x.lo x.hi))
 
+-- the midpoint, rounded down, as both ends
+abbrev pub middle : Interval → Interval
+middle x = record { lo = floor_of (x.lo +ℤ x.hi) (pos 2); hi = floor_of (x.lo +ℤ x.hi) (pos 2) }
+
 -- a length, which stays within 2 ^ 40
 abbrev pub length_of : ℕ → Interval → Result Interval Cause
 length_of F x = bounded 40 F x

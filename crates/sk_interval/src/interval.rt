@@ -3,7 +3,7 @@ ghost use Rattle.std.specs.Prelude.{◌≡◌, ◌≤◌, ◌^◌, ℕ, ◌≤�
 ghost use Rattle.sk_interval.specs.Interval.{Interval, one, IsInterval};
 ghost use Rattle.sk_interval.specs.Around.{IsLeastAround, GivesLeast, BelowLength, AboveLength, BelowSums, AboveSums, BelowDifferences, AboveDifferences, BelowProducts, AboveProducts, BelowQuotients, AboveQuotients, BelowRoots, AboveRoots};
 ghost use Rattle.sk_interval.specs.Nesting.{IsInside, IsRefinedInside, IsRefinedInsideOne, HoldsFiner};
-ghost use Rattle.sk_interval.specs.Operations.{of_micrometres, whole, negative, bounded, sum, difference, product, quotient, root, length_of, normal_of, holds_zero};
+ghost use Rattle.sk_interval.specs.Operations.{of_micrometres, whole, negative, bounded, sum, difference, product, quotient, root, middle, length_of, normal_of, holds_zero};
 
 use crate::grid::Grid;
 use crate::quotient::{
@@ -232,6 +232,16 @@ impl<G: Grid> Iv<G> {
         } else {
             Err(self.flat())
         }
+    }
+
+    /// The midpoint, rounded down to the grid, as both ends.
+    #[tactic(auto, using(crate::proofs::PowerLemmas::limits))]
+    pub fn middle(self) -> Iv<G>
+        ensures value { result ≡ middle self }
+        ensures inside { (self.lo ≤ℤ result.lo) × (result.hi ≤ℤ self.hi) }
+    {
+        let midpoint = floor(self.lo + self.hi, 2);
+        Iv::of_ends(midpoint, midpoint)
     }
 
     /// The interval itself, unless an end passes 2^40 in value.
