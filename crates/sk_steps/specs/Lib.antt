@@ -5,5 +5,6 @@ pub mod Leaves
 pub mod Nesting
 pub mod PointsAndLines
 pub mod Quantities
+pub mod Settling
 pub mod ThirdElement
 pub mod Words

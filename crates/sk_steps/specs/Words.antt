@@ -1,7 +1,7 @@
 -- The quantities' words, as they are printed.
 use Rattle.std.specs.Prelude.{ℕ, List, codes}
 use Rattle.sk_steps.specs.declared.what.What.{What}
-use Rattle.sk_steps.specs.declared.what.What.TheVariants.{Base2, Base, First2, Second2, Foot, Height, Ex, Ey, Gap1, Gap2, Tilt, Rise, Lift, Reach, Cos, Sin, Det, F, G, X, Y, A, B, C, Span2, Fx, Fy, Tx, Ty, Det1, Det2}
+use Rattle.sk_steps.specs.declared.what.What.TheVariants.{Base2, Base, First2, Second2, Foot, Height, Ex, Ey, Gap1, Gap2, Tilt, Rise, Lift, Reach, Cos, Sin, Det, F, G, X, Y, A, B, C, Span2, Fx, Fy, Tx, Ty, Det1, Det2, Size}
 
 abbrev pub word_of : What → List ℕ
 word_of Base2 = codes "base2"
@@ -35,3 +35,4 @@ word_of Tx = codes "tx"
 word_of Ty = codes "ty"
 word_of Det1 = codes "det1"
 word_of Det2 = codes "det2"
+word_of Size = codes "size"

@@ -34,6 +34,13 @@ pub fn cross<G: Grid>(p: Iv<G>, q: Iv<G>, r: Iv<G>, s: Iv<G>) -> Result<Iv<G>, C
     p.mul(q)?.sub(r.mul(s)?)
 }
 
+/// The length of a vector, by its two parts.
+pub fn size_of<G: Grid>(p: Iv<G>, q: Iv<G>) -> Result<Iv<G>, Cause>
+    ensures { result ≡ value G.BITS (p ∷ q ∷ []) [] (square_root (input 0 ⊗ input 0 ⊕ input 1 ⊗ input 1)) }
+{
+    dot(p, p, q, q)?.sqrt()
+}
+
 /// How far a point lies on the left of a line.
 pub fn gap<G: Grid>(p: &PointBox<G>, l: &LineBox<G>) -> Result<Iv<G>, Cause>
     ensures { result ≡ value G.BITS (point_numbers p.now ++ line_numbers l.now) [] (gap (point 0) (line 1)) }

@@ -1,7 +1,7 @@
 //! The names of quantities.
 ghost use Rattle.std.specs.Prelude.{◌≡◌};
 
-/// A quantity of a frame, a construction, a motion or a carried box.
+/// A quantity of a frame, a construction, a motion, a carried box or a settled one.
 #[derive(Clone, Copy, PartialEq, Eq, Debug)]
 pub enum What {
     Base2,
@@ -35,6 +35,7 @@ pub enum What {
     Ty,
     Det1,
     Det2,
+    Size,
 }
 
 impl What {
@@ -76,6 +77,7 @@ impl What {
             What::Ty => "ty",
             What::Det1 => "det1",
             What::Det2 => "det2",
+            What::Size => "size",
         }
     }
 }
