@@ -1,3 +1,4 @@
 pub mod Carried
 pub mod Motions
 pub mod Nesting
+pub mod Settling
