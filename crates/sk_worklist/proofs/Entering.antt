@@ -10,7 +10,7 @@ use Rattle.sk_base.specs.declared.Graph.{Graph}
 use Rattle.sk_base.specs.ClusterNames.{IsBelow, is_named}
 use Rattle.sk_base.proofs.Members.{contains_head, contains_one, contains_cases, contains_filtered, filtered_from}
 use Rattle.sk_family.specs.declared.Cluster.{Cluster}
-use Rattle.sk_family.specs.Clusters.{Clusters, IsNamed, IsSound, unnamed, whole_from}
+use Rattle.sk_family.specs.Clusters.{Clusters, IsNamed, IsSound, replaced, unnamed, whole_from}
 use Rattle.sk_family.proofs.Naming.{one_of_name, unnamed_true, not_named}
 use Rattle.sk_rules.specs.declared.Merge.{Merge}
 use Rattle.sk_rules.specs.declared.Merge.TheVariants.{Two, Three}
@@ -59,21 +59,21 @@ last_of xs x =
     let at : length (xs ++ x ∷ []) - 1 ≡ length xs = omega (arith, long) in
     ap (λ n. slice_get (xs ++ x ∷ []) n) at ∙ slice_get-get_or (xs ++ x ∷ []) (length xs) x (omega (arith, long)) ∙ ap Some (get_or-append_seam xs x [] x)
 
-module _ (ix : Index) (g : Graph) (f : Clusters) (sound : IsSound f) (m : Merge) (r : Represents ix g (unnamed (names_of m) f.live)) (after : Clusters) (after_is : after ≡ merged f m) where
+module _ (ix : Index) (g : Graph) (f : Clusters) (sound : IsSound f) (names : List Name) (r : Represents ix g (unnamed names f.live)) (after : Clusters) (after_is : after ≡ replaced f names) where
   abbrev whole : Cluster
-  whole = whole_from (Step f.next_step) (names_of m) f.live
+  whole = whole_from (Step f.next_step) names f.live
 
   last_whole : (c : Cluster) → IsLast after.live c → whole ≡ c
   last_whole c last =
-      some_inside (sym (last_of (unnamed (names_of m) f.live) whole) ∙ ap (λ (h : Clusters). slice_get h.live (length h.live - 1)) (sym after_is) ∙ last)
+      some_inside (sym (last_of (unnamed names f.live) whole) ∙ ap (λ (h : Clusters). slice_get h.live (length h.live - 1)) (sym after_is) ∙ last)
 
   whole_last : (c : Cluster) → whole ≡ c → IsLast after.live c
-  whole_last c is = ap (λ (h : Clusters). slice_get h.live (length h.live - 1)) after_is ∙ last_of (unnamed (names_of m) f.live) whole ∙ ap Some is
+  whole_last c is = ap (λ (h : Clusters). slice_get h.live (length h.live - 1)) after_is ∙ last_of (unnamed names f.live) whole ∙ ap Some is
 
   -- the cluster that the merge made is above all in the index
   pub whole_is_greatest : (c d : Cluster) → IsHeld ix c → IsLast after.live d → IsBelow c.name d.name
   whole_is_greatest c d held last =
-      let was = (filtered_from (λ (e : Cluster). not (is_named (names_of m) e.name)) f.live c ((r.held c).0 held)).0 in
+      let was = (filtered_from (λ (e : Cluster). not (is_named names e.name)) f.live c ((r.held c).0 held)).0 in
       subst (λ (e : Cluster). IsBelow c.name e.name) (last_whole d last) (live_below_next g f sound c was)
 
   module _ (new : Index) (index : IsIndex new) (held : (c : Cluster) → IsHeld new c ↔ (IsHeld ix c ⊎ IsLast after.live c)) (lines : new.lines ≡ ix.lines) where
@@ -82,10 +82,10 @@ module _ (ix : Index) (g : Graph) (f : Clusters) (sound : IsSound f) (m : Merge)
       index = index;
       held = λ c. (
         (λ h. elim ((held c).0 h) [
-          | inl was ↦ Contains-append_left (unnamed (names_of m) f.live) (whole ∷ []) c ((r.held c).0 was)
-          | inr last ↦ Contains-append_right (unnamed (names_of m) f.live) (whole ∷ []) c (subst (λ d. Contains (whole ∷ []) d) (last_whole c last) (contains_head whole []))
+          | inl was ↦ Contains-append_left (unnamed names f.live) (whole ∷ []) c ((r.held c).0 was)
+          | inr last ↦ Contains-append_right (unnamed names f.live) (whole ∷ []) c (subst (λ d. Contains (whole ∷ []) d) (last_whole c last) (contains_head whole []))
         ]),
-        (λ h. (held c).1 (elim (Contains-append_cases (unnamed (names_of m) f.live) (whole ∷ []) c h) [
+        (λ h. (held c).1 (elim (Contains-append_cases (unnamed names f.live) (whole ∷ []) c h) [
           | inl was ↦ inl ((r.held c).1 was)
           | inr here ↦ inr (whole_last c (contains_one whole c here))
         ])),

@@ -120,7 +120,7 @@ module _ (f : Clusters) (gone : List Name) where
     live_old : (c : Cluster) (n : Name) → Contains f.live c → c.name ≡ n → IsBelow n (Step f.next_step)
     live_old c n c_in is = below_next f.next_step n (λ k e. sound.steps_below c k c_in (is ∙ e))
 
-    not_next : (n : Name) → IsBelow n (Step f.next_step) → n ≢ Step f.next_step
+    pub not_next : (n : Name) → IsBelow n (Step f.next_step) → n ≢ Step f.next_step
     not_next n below e = below_asymmetric n (Step f.next_step) below (subst (λ l. IsBelow l n) e (subst (λ l. IsBelow n l) (sym e) below))
 
     right_three : (x y z : Name) → CanTake g f (Three x y z) → not (names_one_of gone (Three x y z)) ≡ true → CanTake g (replaced f gone) (Three x y z)
@@ -131,7 +131,7 @@ module _ (f : Clusters) (gone : List Name) where
         let lz : IsLeft f gone z = record { not_gone = none.2; not_new = not_next z (live_old c z c_is.lives c_is.has_name) } in
         (falls, holds_after g (Three x y z) (three_left x y z lx ly lz) (a, b, c, a_is, b_is, c_is, meets))
 
-    left_three : (x y z : Name) → IsBelow x (Step f.next_step) → CanTake g (replaced f gone) (Three x y z) → CanTake g f (Three x y z) × (not (names_one_of gone (Three x y z)) ≡ true)
+    pub left_three : (x y z : Name) → IsBelow x (Step f.next_step) → CanTake g (replaced f gone) (Three x y z) → CanTake g f (Three x y z) × (not (names_one_of gone (Three x y z)) ≡ true)
     left_three x y z x_below (falls, (a, b, c, a_is, b_is, c_is, meets)) =
         let y_below = below_chain y x (Step f.next_step) falls.0 x_below in
         let z_below = below_chain z y (Step f.next_step) falls.1 y_below in

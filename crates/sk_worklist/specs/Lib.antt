@@ -5,3 +5,5 @@ pub mod TrialGraphs
 pub mod Indexed
 pub mod Gather
 pub mod Turns
+pub mod Settling
+pub mod Grown

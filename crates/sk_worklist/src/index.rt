@@ -308,7 +308,7 @@ fn mark_if_line(lines: &mut Vec<bool>, node: Node) -> Result<(), NoMemory>
 }
 
 /// Marks one element.
-fn mark(lines: &mut Vec<bool>, elem: Elem) -> Result<(), NoMemory>
+pub(crate) fn mark(lines: &mut Vec<bool>, elem: Elem) -> Result<(), NoMemory>
     ensures { OnOk result ((e : Element) → (slice_get lines.new.items e.0 ≡ Some true) ↔ ((slice_get lines.old.items e.0 ≡ Some true) ⊎ (e ≡ elem))) }
 {
     let at = elem.0 as usize;

@@ -1,8 +1,10 @@
 //! Closing a family: merges are taken until none holds, in the order that a picker answers.
 #![tactic(auto)]
 
+mod any_order;
 mod chosen;
 mod close;
+mod growth;
 mod holders;
 mod index;
 mod kept;
@@ -15,6 +17,7 @@ mod tests;
 mod triples;
 mod worklist;
 
+pub use any_order::close_in_any_order;
 pub use chosen::{Chosen, Order};
 pub use close::{close_family, close_with};
 pub use law::{on_the_way, one_list_of_choices, one_run};

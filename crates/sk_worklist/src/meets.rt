@@ -87,7 +87,7 @@ fn is_third_among(index: &Index, a: Elem, b: Elem, c: Elem, many: &[Elem]) -> bo
     is_third(index, a, b, c) && is_in_rising(c, many)
 }
 
-fn is_third(index: &Index, a: Elem, b: Elem, c: Elem) -> bool
+pub(crate) fn is_third(index: &Index, a: Elem, b: Elem, c: Elem) -> bool
     ensures { IsTrue result ↔ IsThird index.now a b c }
 {
     c != a && c != b && !(index.is_line(a) && index.is_line(b) && index.is_line(c))

@@ -31,7 +31,7 @@ pub(crate) fn first_with_partner(index: &Index, clusters: &[Cluster]) -> Option<
 }
 
 /// The least of the clusters below x that share two elements with it.
-fn least_partner(index: &Index, x: &Cluster) -> Option<Name>
+pub(crate) fn least_partner(index: &Index, x: &Cluster) -> Option<Name>
     requires index { IsIndex index.now }
     requires rises { IsRising elem_number x.now.elements }
     ensures { IsLeast (Partner index.now x.now) result }

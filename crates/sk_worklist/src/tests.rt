@@ -3,6 +3,7 @@ ghost use Rattle.sk_base.specs.declared.Kind.TheVariants.{Point};
 ghost use Rattle.sk_base.specs.SoundGraph.{IsSoundGraph};
 ghost use Rattle.sk_worklist.specs.TrialGraphs.{AreInRow, AreNumbered, AreBetween, AreRows, IsFit, IsRow};
 
+use crate::any_order::close_in_any_order;
 use crate::chosen::{Chosen, Order};
 use crate::close::close_family;
 use crate::picker::Picker;
@@ -192,6 +193,15 @@ fn closes_to<P: Picker>(
     Ok(has_parts(&family, parts))
 }
 
+/// Whether closing in any order ends in just these parts.
+fn settles_to(alloc: Global, graph: &Graph, parts: Parts) -> Result<bool, NoMemory>
+    requires { IsSoundGraph graph.now }
+{
+    let mut family = initial(alloc, graph)?;
+    close_in_any_order(alloc, &mut family, graph)?;
+    Ok(has_parts(&family, parts))
+}
+
 fn has_parts(family: &Family, parts: Parts) -> bool {
     let clusters = family.clusters();
     clusters.len() == parts.len()
@@ -226,7 +236,8 @@ fn all_close_to(
         closes_to(alloc, &graph, &mut Chosen::new(Order::First), parts)?
             && closes_to(alloc, &graph, &mut Chosen::new(Order::Last), parts)?
             && closes_to(alloc, &graph, &mut Chosen::new(Order::Stride(7)), parts)?
-            && closes_to(alloc, &graph, &mut Listed { answers }, parts)?,
+            && closes_to(alloc, &graph, &mut Listed { answers }, parts)?
+            && settles_to(alloc, &graph, parts)?,
     )
 }
 

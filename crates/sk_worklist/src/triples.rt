@@ -27,7 +27,11 @@ pub(crate) fn add_triples_of_all(
 }
 
 /// Adds the triples with x as the greatest that may merge.
-fn add_triples_of(index: &Index, x: &Cluster, all: &mut List<Merge>) -> Result<(), NoMemory>
+pub(crate) fn add_triples_of(
+    index: &Index,
+    x: &Cluster,
+    all: &mut List<Merge>,
+) -> Result<(), NoMemory>
     requires index { IsIndex index.now }
     requires rises { IsRising elem_number x.now.elements }
     ensures { OnOk result (GrowsBy (TriplesOf index.now x.now) all.old all.new) }

@@ -11,7 +11,7 @@ use Rattle.sk_worklist.proofs.worklist.Worklist.enter.Goals as goal
 pub put_last-requires-clause-greatest : goal.put_last-requires-clause-greatest
 put_last-requires-clause-greatest c y x held last =
     let (g, f, (sound, left, after_is)) = c.requires in
-    whole_is_greatest c.args.self.now.index g f sound c.args.merge left.represents c.args.family.now after_is y x held (subst (λ (l : List Cluster). IsLast l x) c.clusters.ensures.live last)
+    whole_is_greatest c.args.self.now.index g f sound (names_of c.args.merge) left.represents c.args.family.now after_is y x held (subst (λ (l : List Cluster). IsLast l x) c.clusters.ensures.live last)
 
 pub put_last-requires-clause-rise : goal.put_last-requires-clause-rise
 put_last-requires-clause-rise c x x_in = (c.clusters.ensures.sound.bodies_rise x (subst (λ (l : List Cluster). Contains l x) c.clusters.ensures.live x_in)).elements
@@ -19,7 +19,7 @@ put_last-requires-clause-rise c x x_in = (c.clusters.ensures.sound.bodies_rise x
 pub returns-in-Two : goal.returns-in-Two
 returns-in-Two c =
     on_ok c.extend.result c.extend.ensures.ok (λ gone g f sound left after_is. record {
-      represents = represents_entered c.args.self.now.index g f sound c.args.merge left.represents c.args.family.now after_is c.put_last.new.self c.in_ok-put_last.ensures.index
+      represents = represents_entered c.args.self.now.index g f sound (names_of c.args.merge) left.represents c.args.family.now after_is c.put_last.new.self c.in_ok-put_last.ensures.index
           (λ x. (
             (λ h. elim ((c.in_ok-put_last.ensures.held x).0 h) [ inl was ↦ inl was | inr last ↦ inr (subst (λ (l : List Cluster). IsLast l x) c.clusters.ensures.live last) ]),
             (λ h. (c.in_ok-put_last.ensures.held x).1 (elim h [ inl was ↦ inl was | inr last ↦ inr (subst (λ (l : List Cluster). IsLast l x) (sym c.clusters.ensures.live) last) ])),
@@ -31,7 +31,7 @@ returns-in-Two c =
 pub returns-in-Three : goal.returns-in-Three
 returns-in-Three c =
     on_ok c.extend-in-Three.result c.extend-in-Three.ensures.ok (λ gone g f sound left after_is. record {
-      represents = represents_entered c.args.self.now.index g f sound c.args.merge left.represents c.args.family.now after_is c.put_last.new.self c.in_ok-put_last.ensures.index
+      represents = represents_entered c.args.self.now.index g f sound (names_of c.args.merge) left.represents c.args.family.now after_is c.put_last.new.self c.in_ok-put_last.ensures.index
           (λ x. (
             (λ h. elim ((c.in_ok-put_last.ensures.held x).0 h) [ inl was ↦ inl was | inr last ↦ inr (subst (λ (l : List Cluster). IsLast l x) c.clusters.ensures.live last) ]),
             (λ h. (c.in_ok-put_last.ensures.held x).1 (elim h [ inl was ↦ inl was | inr last ↦ inr (subst (λ (l : List Cluster). IsLast l x) (sym c.clusters.ensures.live) last) ])),
