@@ -34,6 +34,7 @@ use Rattle.sk_tree.specs.declared.Tree.TheVariants.{Leaf, Join'}
 use Rattle.sk_tree.specs.Meeting.{JoinsOnce}
 use Rattle.sk_tree.specs.LegalPlan.{merge_told, IsLegalStep, AreLegalSteps, IsLegalPlan}
 use Rattle.sk_place.specs.declared.boxes.BoxAt.{BoxAt}
+use Rattle.sk_place.specs.declared.settling.PlaceBy.{PlaceBy}
 use Rattle.sk_place.specs.declared.setting.Setting.{Setting}
 use Rattle.sk_place.specs.Clusters.{Holds, elements_of, comes_first}
 use Rattle.sk_place.specs.Steps.{setting, exchanged, ordered, joined, HasCorners}
@@ -46,8 +47,8 @@ use Rattle.sk_place.proofs.Frames.{start_there, start_placed}
 use Rattle.sk_place.proofs.PlanSteps.{the_join, step_found}
 use Rattle.sk_place.proofs.Joins.{settled_join}
 
-pub at_start : {G : Type 0} (F : ℕ) (g : Graph) (p : Plan) → IsSoundGraph g → IsLegalPlan g p → (live : List (Option (List (BoxAt G)))) → live ≡ None ∷ [] → IsAfter F g p 0 live
-at_start {G} F g p sound legal live is = record {
+pub at_start : {G : Type 0} (placing : PlaceBy) (F : ℕ) (g : Graph) (p : Plan) → IsSoundGraph g → IsLegalPlan g p → (live : List (Option (List (BoxAt G)))) → live ≡ None ∷ [] → IsAfter placing F g p 0 live
+at_start {G} placing F g p sound legal live is = record {
   family = initial_clusters g;
   sound = sound_initial g sound;
   legal = legal.steps;
@@ -58,8 +59,8 @@ at_start {G} F g p sound legal live is = record {
   there = λ c c_in. (let from = mapped_from start_of (starts g) c c_in in
       subst (λ (d : Cluster). IsThere g live d.name) from.2 (start_there g sound from.0 from.1));
   placed = λ c c_in bs held_is. (let from = mapped_from start_of (starts g) c c_in in
-      subst (λ (d : Cluster). ArePlaced F g p d bs) from.2
-      (start_placed F g p sound legal from.0 bs from.1 (subst (λ (d : Cluster). held F g live d.name ≡ Some bs) (sym from.2) held_is)));
+      subst (λ (d : Cluster). ArePlaced placing F g p d bs) from.2
+      (start_placed placing F g p sound legal from.0 bs from.1 (subst (λ (d : Cluster). held F g live d.name ≡ Some bs) (sym from.2) held_is)));
   settled = λ s none. absurd (contains_nothing s none);
 }
   where
@@ -141,8 +142,8 @@ kept_is_one {G} s x y z P first second third = in_order (setting s x y z) (eithe
 
 -- ---- one step
 
-module _ {G : Type 0} (F : ℕ) (g : Graph) (p : Plan) (sound : IsSoundGraph g) (legal : IsLegalPlan g p)
-    (i : ℕ) (live : List (Option (List (BoxAt G)))) (after : IsAfter F g p i live) (inside : i < length p.steps) (s : PlanStep) (s_is : get_or p.steps i s ≡ s) where
+module _ {G : Type 0} (placing : PlaceBy) (F : ℕ) (g : Graph) (p : Plan) (sound : IsSoundGraph g) (legal : IsLegalPlan g p)
+    (i : ℕ) (live : List (Option (List (BoxAt G)))) (after : IsAfter placing F g p i live) (inside : i < length p.steps) (s : PlanStep) (s_is : get_or p.steps i s ≡ s) where
   pub s_in : Contains p.steps s
   s_in = (i, inside, s_is)
 
@@ -152,7 +153,7 @@ module _ {G : Type 0} (F : ℕ) (g : Graph) (p : Plan) (sound : IsSoundGraph g) 
   pub joins : JoinsOnce g after.family s.one s.two s.three s.a s.b s.c
   joins = here.0.joins
 
-  child : (c : Cluster) (n : Name) → IsNamed after.family n c → (x : List (BoxAt G)) → held F g live n ≡ Some x → ArePlaced F g p c x
+  child : (c : Cluster) (n : Name) → IsNamed after.family n c → (x : List (BoxAt G)) → held F g live n ≡ Some x → ArePlaced placing F g p c x
   child c n is x held_is = after.placed c is.lives x (subst (λ (m : Name). held F g live m ≡ Some x) (sym is.has_name) held_is)
 
   child_there : (c : Cluster) (n : Name) → IsNamed after.family n c → IsThere g live n
@@ -162,13 +163,13 @@ module _ {G : Type 0} (F : ℕ) (g : Graph) (p : Plan) (sound : IsSoundGraph g) 
   rises c n is = (after.sound.bodies_rise c is.lives).elements
 
   module _ (x y z : List (BoxAt G)) (are : AreHeld F g live s x y z) where
-    pub first : ArePlaced F g p joins.one x
+    pub first : ArePlaced placing F g p joins.one x
     first = child joins.one s.one joins.one_named x are.first
 
-    pub second : ArePlaced F g p joins.two y
+    pub second : ArePlaced placing F g p joins.two y
     second = child joins.two s.two joins.two_named y are.second
 
-    pub third : ArePlaced F g p joins.three z
+    pub third : ArePlaced placing F g p joins.three z
     third = child joins.three s.three joins.three_named z are.third
 
     pub corners : HasCorners (setting s x y z)
@@ -184,9 +185,9 @@ module _ {G : Type 0} (F : ℕ) (g : Graph) (p : Plan) (sound : IsSoundGraph g) 
 
     -- ---- what the step makes
 
-    module _ (bs : List (BoxAt G)) (is : joined F s x y z ≡ Ok bs) where
+    module _ (bs : List (BoxAt G)) (is : joined placing F s x y z ≡ Ok bs) where
       result : IsResult F (ordered (setting s x y z)) bs
-      result = result_in F s (ordered (setting s x y z)) (corners_ordered (setting s x y z) corners) bs is
+      result = result_in placing F s (ordered (setting s x y z)) (corners_ordered (setting s x y z) corners) bs is
 
       from_three : (e : Elem) → Holds bs e → Holds x e ⊎ (Holds y e ⊎ Holds z e)
       from_three e h =
@@ -268,12 +269,12 @@ module _ {G : Type 0} (F : ℕ) (g : Graph) (p : Plan) (sound : IsSoundGraph g) 
           rising_same elem_number elem_exact (elements_of bs) (join_all three).elements bs_rises bodies_rise bs_in_whole whole_in_bs.elements
           ∙ ap (λ (b : Body). b.elements) (sym made_is)
 
-      pub new_trees : (t : Tree) → HasTree p s.step t → HasBoxes F g p.steps t bs
+      pub new_trees : (t : Tree) → HasTree p s.step t → HasBoxes placing F g p.steps t bs
       new_trees (Leaf c) h = (let never : Step after.family.next_step ≡ Con c.0 = sym here.0.next ∙ h in absurd (cc))
       new_trees (Join' at step shared a b c) (step_is, (x', y', z', told, ha, hb, hc)) =
           let join = the_join g p legal s s_in step shared a b c x' y' z' (sym step_is) told ha hb hc in
           let found : step_of p.steps step ≡ Some s = subst (λ (n : Name). step_of p.steps n ≡ Some s) join.step_is (step_found g p legal s s_in) in
-          settled_join F g p.steps s step found at a b c x y z
+          settled_join placing F g p.steps s step found at a b c x y z
           (first.trees a (subst (λ (n : Name). HasTree p n a) (sym joins.one_named.has_name) join.first))
           (second.trees b (subst (λ (n : Name). HasTree p n b) (sym joins.two_named.has_name) join.second))
           (third.trees c (subst (λ (n : Name). HasTree p n c) (sym joins.three_named.has_name) join.third))
@@ -285,7 +286,7 @@ module _ {G : Type 0} (F : ℕ) (g : Graph) (p : Plan) (sound : IsSoundGraph g) 
           of_all : (xs : List (BoxAt G)) → AreBounded F xs → (b : BoxAt G) → Contains xs b → IsBoundedBox F b.at
           of_all xs all b (k, below, is) = subst (λ (c : BoxAt G). IsBoundedBox F c.at) is (all k b below)
 
-      new_placed : ArePlaced F g p (whole_from (Step after.family.next_step) (s.one ∷ s.two ∷ s.three ∷ []) after.family.live) bs
+      new_placed : ArePlaced placing F g p (whole_from (Step after.family.next_step) (s.one ∷ s.two ∷ s.three ∷ []) after.family.live) bs
       new_placed = record {
         elements = new_elements;
         kinds = result.kinds g (graph_ordered g (setting s x y z) fits_graph);
@@ -344,7 +345,7 @@ module _ {G : Type 0} (F : ℕ) (g : Graph) (p : Plan) (sound : IsSoundGraph g) 
             unless true h = (let never : false ≡ true = h in absurd (cc))
             unless false h = refl
 
-        pub at_next : IsAfter F g p (i + 1) (left ++ Some bs ∷ [])
+        pub at_next : IsAfter placing F g p (i + 1) (left ++ Some bs ∷ [])
         at_next = (
             let ns : List Name = s.one ∷ s.two ∷ s.three ∷ [] in
             let f : Clusters = after.family in
@@ -367,7 +368,7 @@ module _ {G : Type 0} (F : ℕ) (g : Graph) (p : Plan) (sound : IsSoundGraph g) 
                 | inr new ↦
                     let same : Some bs ≡ Some bs' = sym whole_held ∙ subst (λ (d : Cluster). held F g (left ++ Some bs ∷ []) d.name ≡ Some bs') (sym new) held_is in
                     let bs_is : bs ≡ bs' = cc in
-                    subst (λ (d : Cluster). ArePlaced F g p d bs') new (subst (λ (xs : List (BoxAt G)). ArePlaced F g p whole xs) bs_is new_placed)
+                    subst (λ (d : Cluster). ArePlaced placing F g p d bs') new (subst (λ (xs : List (BoxAt G)). ArePlaced placing F g p whole xs) bs_is new_placed)
               ];
               settled = λ s' s'_in t h.
                   elim (Contains-push_cases (take i p.steps) (get_or p.steps i s) s' (subst (λ (ss : List PlanStep). Contains ss s') (take_more p.steps i s inside) s'_in)) [

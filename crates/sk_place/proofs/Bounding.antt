@@ -39,7 +39,7 @@ then_value (Err c) f y is = cc
 length_within : (F : ℕ) (is found : List Interval) (e : Expression) (x : Interval) → value F is found (length_box e) ≡ Ok x → IsWithin 40 F x
 length_within F is found e x h = (let inner = then_value (value F is found e) (length_of F) x h in bounded_ok 40 F inner.0 x inner.1)
 
-normal_within : (F : ℕ) (is found : List Interval) (e : Expression) (x : Interval) → value F is found (normal_box e) ≡ Ok x → IsWithin 1 F x
+pub normal_within : (F : ℕ) (is found : List Interval) (e : Expression) (x : Interval) → value F is found (normal_box e) ≡ Ok x → IsWithin 1 F x
 normal_within F is found e x h = (let inner = then_value (value F is found e) (normal_of F) x h in bounded_ok 1 F inner.0 x inner.1)
 
 -- ---- a list of quantities
@@ -53,7 +53,7 @@ list_ok (Ok x) f all is = (x, refl, is)
 list_ok (Err c) f all is = cc
 
 -- the first quantity, and the rest after it
-step_ok : {N : Type 0} (F : ℕ) (is found : List Interval) (q : N × Expression) (qs : List (N × Expression)) (all : List Interval) → evaluate_after found F is (q ∷ qs) ≡ Ok all
+pub step_ok : {N : Type 0} (F : ℕ) (is found : List Interval) (q : N × Expression) (qs : List (N × Expression)) (all : List Interval) → evaluate_after found F is (q ∷ qs) ≡ Ok all
     → (x : Interval) × (value F is found q.1 ≡ Ok x) × (evaluate_after (found ++ x ∷ []) F is qs ≡ Ok all)
 step_ok F is found q qs all h =
     let first = list_ok (named q.0 (value F is found q.1)) (λ x. evaluate_after (found ++ x ∷ []) F is qs) all h in
@@ -64,7 +64,7 @@ front_ok : {N : Type 0} (F : ℕ) (is found : List Interval) (front rest : List 
 front_ok F is found [] rest all h = (found, h)
 front_ok F is found (q ∷ front) rest all h = (let one = step_ok F is found q (front ++ rest) all h in front_ok F is (found ++ one.0 ∷ []) front rest all one.2)
 
-end_inside : {N : Type 0} (found all : List Interval) → (let done : Result (List Interval) (N × Cause) = Ok found in done ≡ Ok all) → found ≡ all
+pub end_inside : {N : Type 0} (found all : List Interval) → (let done : Result (List Interval) (N × Cause) = Ok found in done ≡ Ok all) → found ≡ all
 end_inside found all is = cc
 
 -- the last, the last but one and the last but two

@@ -23,6 +23,8 @@ use Rattle.sk_tree.specs.declared.PlanStep.{PlanStep}
 use Rattle.sk_tree.specs.declared.Tree.{Tree}
 use Rattle.sk_tree.specs.LegalPlan.{HasNodes, IsWhole, AreLegalSteps, IsLegalPlan}
 use Rattle.sk_place.specs.declared.boxes.BoxAt.{BoxAt}
+use Rattle.sk_place.specs.declared.settling.PlaceBy.TheVariants.{Boxes}
+use Rattle.sk_place.specs.declared.settling.PlaceBy.{PlaceBy}
 use Rattle.sk_place.specs.Clusters.{Rise, Holds, nodes_of}
 use Rattle.std.proofs.Common.{pos}
 use Rattle.sk_interval.proofs.FinerSums.{whole-IsInside}
@@ -96,7 +98,7 @@ pub record IsLeft (g : Graph) (f : Clusters) (n : Name) (c : Cluster) : Type 0 w
   pub named : c.name ≡ n
   pub nodes : HasNodes g c
 
-module _ {G : Type 0} (F : ℕ) (g : Graph) (p : Plan) (sound : IsSoundGraph g) (legal : IsLegalPlan g p) (live : List (Option (List (BoxAt G)))) (after : IsAfter F g p (length p.steps) live)
+module _ {G : Type 0} (placing : PlaceBy) (F : ℕ) (g : Graph) (p : Plan) (sound : IsSoundGraph g) (legal : IsLegalPlan g p) (live : List (Option (List (BoxAt G)))) (after : IsAfter placing F g p (length p.steps) live)
     (n : Name) (n_is : IsLastName p (Some n)) where
   whole : IsWhole g after.family
   whole = subst (λ (ss : List PlanStep). AreLegalSteps g after.family ss) (drop_all (length p.steps) p.steps (omega arith)) after.legal
@@ -128,10 +130,10 @@ module _ {G : Type 0} (F : ℕ) (g : Graph) (p : Plan) (sound : IsSoundGraph g) 
   left_there = subst (λ (m : Name). IsThere g live m) left.1.named (after.there left.0 left.1.lives)
 
   module _ (bs : List (BoxAt G)) (is : held F g live n ≡ Some bs) where
-    left_placed : ArePlaced F g p left.0 bs
+    left_placed : ArePlaced placing F g p left.0 bs
     left_placed = after.placed left.0 left.1.lives bs (subst (λ (m : Name). held F g live m ≡ Some bs) (sym left.1.named) is)
 
-    pub left_boxes : (t : Tree) → IsPlanTree p t → HasBoxes F g p.steps t bs
+    pub left_boxes : (t : Tree) → IsPlanTree p t → HasBoxes placing F g p.steps t bs
     left_boxes t h = left_placed.trees t (subst (λ (m : Name). HasTree p m t) (sym left.1.named) (tree_named g p legal n n_is t h))
 
     pub left_bounded : AreBounded F bs
@@ -182,10 +184,10 @@ lone_each_inside G H F k (n ∷ ns) = (refl, lone_inside G H F k n.kind, lone_ea
 pub lone_kept : {G : Type 0} (F k : ℕ) (g : Graph) (bs : List (BoxAt G)) → bs ≡ lone_boxes F g → AreInside {G = G} k (lone_boxes (F + k) g) bs
 lone_kept {G} F k g bs is = subst (λ (xs : List (BoxAt G)). AreInside {G = G} k (lone_boxes (F + k) g) xs) (sym is) (lone_each_inside G G F k g.nodes)
 
-pub kept_of : (G : Type 0) (F : ℕ) (g : Graph) (p : Plan) (e : PlaceError) → (let refused : Result (List (Option (List (BoxAt G)))) PlaceError = Err e in IsRun F g p refused)
-    → (k : ℕ) → (let refused : Result (List (BoxAt G)) PlaceError = Err e in IsKept F k g p refused)
-kept_of G F g p (Fault f) h k = h.1 k
-kept_of G F g p NoMemory h k = tt
+pub kept_of : (G : Type 0) (placing : PlaceBy) (F : ℕ) (g : Graph) (p : Plan) (e : PlaceError) → (let refused : Result (List (Option (List (BoxAt G)))) PlaceError = Err e in IsRun placing F g p refused)
+    → placing ≡ Boxes → (k : ℕ) → (let refused : Result (List (BoxAt G)) PlaceError = Err e in IsKept F k g p refused)
+kept_of G placing F g p (Fault f) h by k = h.1 by k
+kept_of G placing F g p NoMemory h by k = tt
 
 -- ---- an element alone is within its limits
 

@@ -26,6 +26,8 @@ use Rattle.sk_tree.specs.declared.Tree.{Tree}
 use Rattle.sk_tree.specs.declared.Tree.TheVariants.{Leaf, Join'}
 use Rattle.sk_tree.specs.LegalPlan.{merge_told, AreLegalSteps, IsLegalPlan}
 use Rattle.sk_place.specs.declared.boxes.BoxAt.{BoxAt}
+use Rattle.sk_place.specs.declared.settling.PlaceBy.TheVariants.{Boxes, Points}
+use Rattle.sk_place.specs.declared.settling.PlaceBy.{PlaceBy}
 use Rattle.sk_place.specs.declared.fault.StepFault.{StepFault}
 use Rattle.sk_interval.specs.declared.Cause.{Cause}
 use Rattle.sk_interval.specs.declared.Cause.TheVariants.{Flat, Gap, Range}
@@ -40,7 +42,7 @@ use Rattle.sk_place.proofs.PlanSteps.{named_at, join_of, the_join, step_found}
 use Rattle.sk_place.proofs.Joins.{here_named, fault_named, failing_here}
 use Rattle.sk_place.specs.declared.fault.PlaceError.{PlaceError}
 use Rattle.sk_place.specs.declared.fault.PlaceError.TheVariants.{Fault, NoMemory}
-use Rattle.sk_place.specs.Running.{IsAfter, IsRun, IsStepOf, AreHeld}
+use Rattle.sk_place.specs.Running.{IsAfter, IsRun, IsMadeOf, IsStepOf, AreHeld}
 use Rattle.sk_place.proofs.Afters.{here, joins, first, second, third, s_in}
 use Rattle.std.proofs.Common.{drop-cons}
 
@@ -59,7 +61,7 @@ ends_with_last g f (b ∷ bs) last (legal, rest) = ends_with_last g (merged f (m
 
 -- the fault of the one is one of the other
 pub record IsPart (G : Type 0) (g : Graph) (steps : List PlanStep) (part whole : Tree) : Type 0 where
-  pub up : (F : ℕ) (f : StepFault) → IsFault G F g steps part f → IsFault G F g steps whole f
+  pub up : (placing : PlaceBy) (F : ℕ) (f : StepFault) → IsFault G placing F g steps part f → IsFault G placing F g steps whole f
 
 module _ (G : Type 0) (g : Graph) (p : Plan) (legal : IsLegalPlan g p) (some_starts : ¬ (starts g ≡ [])) (top : Tree) (n : Name) (top_is : HasTree p n top) where
   pub parts : (rest : List PlanStep) (f : Clusters) → IsSound f → AreLegalSteps g f rest → ((s : PlanStep) → Contains rest s → Contains p.steps s) → EndsWith rest f n
@@ -69,7 +71,7 @@ module _ (G : Type 0) (g : Graph) (p : Plan) (legal : IsLegalPlan g p) (some_sta
         let c_is : only ≡ c = contains_one only c (subst (λ (cs : List Cluster). Contains cs c) alone c_in) in
         let e_is : only ≡ ends.0 = contains_one only ends.0 (subst (λ (cs : List Cluster). Contains cs ends.0) alone ends.1.lives) in
         let name_is : n ≡ c.name = sym ends.1.has_name ∙ ap (λ (d : Cluster). d.name) (sym e_is ∙ c_is) in
-        (top, subst (λ (m : Name). HasTree p m top) name_is top_is, record { up = λ F f h. h })
+        (top, subst (λ (m : Name). HasTree p m top) name_is top_is, record { up = λ placing F f h. h })
     | inr (one, no_edges, no_blocks) ↦ absurd (some_starts (no_starts g no_edges no_blocks))
   ]
   parts (s ∷ ss) f sound (step_legal, rest_legal) within ends c c_in =
@@ -94,21 +96,21 @@ module _ (G : Type 0) (g : Graph) (p : Plan) (legal : IsLegalPlan g p) (some_sta
       child d d_in (Join' at step shared one two three) (step_is, (x, y, z, told, a, b, e)) part =
           let join = the_join g p legal s (within s (contains_head s ss)) step shared one two three x y z (sym step_is) told a b e in
           elim (contains_cases s.one (s.two ∷ s.three ∷ []) d.name d_in) [
-            | inl is ↦ (one, subst (λ (m : Name). HasTree p m one) is join.first, record { up = λ F f h. part.up F f (inr (inl h)) })
+            | inl is ↦ (one, subst (λ (m : Name). HasTree p m one) is join.first, record { up = λ placing F f h. part.up placing F f (inr (inl h)) })
             | inr rest ↦ elim (contains_cases s.two (s.three ∷ []) d.name rest) [
-              | inl is ↦ (two, subst (λ (m : Name). HasTree p m two) is join.second, record { up = λ F f h. part.up F f (inr (inr (inl h))) })
-              | inr last ↦ (three, subst (λ (m : Name). HasTree p m three) (contains_one s.three d.name last) join.third, record { up = λ F f h. part.up F f (inr (inr (inr h))) })
+              | inl is ↦ (two, subst (λ (m : Name). HasTree p m two) is join.second, record { up = λ placing F f h. part.up placing F f (inr (inr (inl h))) })
+              | inr last ↦ (three, subst (λ (m : Name). HasTree p m three) (contains_one s.three d.name last) join.third, record { up = λ placing F f h. part.up placing F f (inr (inr (inr h))) })
             ]
           ]
 
 -- ---- no earlier step has a fault
 
 -- no tree of a step of the first i has a fault on this grid
-pub record AreFaultless (G : Type 0) (F : ℕ) (g : Graph) (p : Plan) (i : ℕ) : Type 0 where
-  pub none : (s : PlanStep) → Contains (take i p.steps) s → (t : Tree) → HasTree p s.step t → (f : StepFault) → ¬ IsFault G F g p.steps t f
+pub record AreFaultless (G : Type 0) (placing : PlaceBy) (F : ℕ) (g : Graph) (p : Plan) (i : ℕ) : Type 0 where
+  pub none : (s : PlanStep) → Contains (take i p.steps) s → (t : Tree) → HasTree p s.step t → (f : StepFault) → ¬ IsFault G placing F g p.steps t f
 
-module _ (G : Type 0) (F : ℕ) (g : Graph) (p : Plan) (legal : IsLegalPlan g p) (i : ℕ) (early : AreFaultless G F g p i) (s : PlanStep) (s_is : s.step ≡ Step (1 + i)) where
-  pub not_below : (t : Tree) (n : Name) → HasTree p n t → (other : StepFault) → IsFault G F g p.steps t other → ¬ IsBelow other.step s.step
+module _ (G : Type 0) (placing : PlaceBy) (F : ℕ) (g : Graph) (p : Plan) (legal : IsLegalPlan g p) (i : ℕ) (early : AreFaultless G placing F g p i) (s : PlanStep) (s_is : s.step ≡ Step (1 + i)) where
+  pub not_below : (t : Tree) (n : Name) → HasTree p n t → (other : StepFault) → IsFault G placing F g p.steps t other → ¬ IsBelow other.step s.step
   not_below (Leaf c) n h other fault below = fault
   not_below (Join' at step shared one two three) n (n_is, (x, y, z, told, a, b, d)) other fault below =
       elim fault [
@@ -117,7 +119,7 @@ module _ (G : Type 0) (F : ℕ) (g : Graph) (p : Plan) (legal : IsLegalPlan g p)
             let t : PlanStep = join.0 in
             let place : ℕ = join.1.0 in
             let found : step_of p.steps step ≡ Some t = subst (λ (m : Name). step_of p.steps m ≡ Some t) join.2.step_is (step_found g p legal t join.1) in
-            let other_is : other.step ≡ t.step = here_named F g p.steps t step found at one two three other own in
+            let other_is : other.step ≡ t.step = here_named placing F g p.steps t step found at one two three other own in
             let t_named : t.step ≡ Step (1 + place) = ap (λ (q : PlanStep). q.step) (sym join.1.2) ∙ named_at g p legal place t join.1.1 in
             let less : IsBelow (Step (1 + place)) (Step (1 + i)) = subst (λ (m : Name). IsBelow m (Step (1 + i))) (other_is ∙ t_named) (subst (λ (m : Name). IsBelow other.step m) s_is below) in
             let place_less : place < i = omega arith in
@@ -142,23 +144,23 @@ no_starts_no_steps g (s ∷ ss) (legal, rest) some none =
     let nobody : map start_of (starts g) ≡ [] = ap (map start_of) none in
     contains_none legal.joins.one (subst (λ (cs : List Cluster). Contains cs legal.joins.one) nobody legal.joins.one_named.lives)
 
-module _ {G : Type 0} (F : ℕ) (g : Graph) (p : Plan) (sound : IsSoundGraph g) (legal : IsLegalPlan g p)
-    (i : ℕ) (live : List (Option (List (BoxAt G)))) (after : IsAfter F g p i live) (inside : i < length p.steps) (s : PlanStep) (s_is : get_or p.steps i s ≡ s)
-    (x y z : List (BoxAt G)) (are : AreHeld F g live s x y z) (f : StepFault) (is : joined F s x y z ≡ Err f) where
+module _ {G : Type 0} (placing : PlaceBy) (F : ℕ) (g : Graph) (p : Plan) (sound : IsSoundGraph g) (legal : IsLegalPlan g p)
+    (i : ℕ) (live : List (Option (List (BoxAt G)))) (after : IsAfter placing F g p i live) (inside : i < length p.steps) (s : PlanStep) (s_is : get_or p.steps i s ≡ s)
+    (x y z : List (BoxAt G)) (are : AreHeld F g live s x y z) (f : StepFault) (is : joined placing F s x y z ≡ Err f) where
   names_it : s.step ≡ Step (1 + i)
   names_it = ap (λ (q : PlanStep). q.step) (sym s_is) ∙ named_at g p legal i s inside
 
-  at_join : (t : Tree) → HasTree p s.step t → IsFault G F g p.steps t f
+  at_join : (t : Tree) → HasTree p s.step t → IsFault G placing F g p.steps t f
   at_join (Leaf c) h = (let never : Step (1 + i) ≡ Con c.0 = sym names_it ∙ h in absurd (cc))
   at_join (Join' at step shared a b c) (step_is, (x', y', z', told, ha, hb, hc)) =
-      let there = s_in F g p sound legal i live after inside s s_is in
+      let there = s_in placing F g p sound legal i live after inside s s_is in
       let join = the_join g p legal s there step shared a b c x' y' z' (sym step_is) told ha hb hc in
       let found : step_of p.steps step ≡ Some s = subst (λ (n : Name). step_of p.steps n ≡ Some s) join.step_is (step_found g p legal s there) in
-      let j = joins F g p sound legal i live after inside s s_is in
-      inl (failing_here F g p.steps s step found at a b c x y z
-      ((first F g p sound legal i live after inside s s_is x y z are).trees a (subst (λ (n : Name). HasTree p n a) (sym j.one_named.has_name) join.first))
-      ((second F g p sound legal i live after inside s s_is x y z are).trees b (subst (λ (n : Name). HasTree p n b) (sym j.two_named.has_name) join.second))
-      ((third F g p sound legal i live after inside s s_is x y z are).trees c (subst (λ (n : Name). HasTree p n c) (sym j.three_named.has_name) join.third))
+      let j = joins placing F g p sound legal i live after inside s s_is in
+      inl (failing_here placing F g p.steps s step found at a b c x y z
+      ((first placing F g p sound legal i live after inside s s_is x y z are).trees a (subst (λ (n : Name). HasTree p n a) (sym j.one_named.has_name) join.first))
+      ((second placing F g p sound legal i live after inside s s_is x y z are).trees b (subst (λ (n : Name). HasTree p n b) (sym j.two_named.has_name) join.second))
+      ((third placing F g p sound legal i live after inside s s_is x y z are).trees c (subst (λ (n : Name). HasTree p n c) (sym j.three_named.has_name) join.third))
       f is)
 
   pub starts_there : ¬ (starts g ≡ [])
@@ -174,7 +176,7 @@ module _ {G : Type 0} (F : ℕ) (g : Graph) (p : Plan) (sound : IsSoundGraph g) 
   rest_is : drop i p.steps ≡ s ∷ drop (suc i) p.steps
   rest_is = drop-cons p.steps i s inside ∙ ap (λ (q : PlanStep). q ∷ drop (suc i) p.steps) s_is
 
-  faultless : AreFaultless G F g p i
+  faultless : AreFaultless G placing F g p i
   faultless = record { none = λ t t_in tree h. (after.settled t t_in tree h).1.faultless }
 
   -- a tree of the step is a part of each tree of the plan
@@ -188,8 +190,8 @@ module _ {G : Type 0} (F : ℕ) (g : Graph) (p : Plan) (sound : IsSoundGraph g) 
       let ends_later : EndsWith (s ∷ drop (suc i) p.steps) after.family last.step =
       subst (λ (ss : List PlanStep). EndsWith ss after.family last.step) (sym rest_ends ∙ rest_is) ends in
       let ns : List Name = s.one ∷ s.two ∷ s.three ∷ [] in
-      let now = here F g p sound legal i live after inside s s_is in
-      let j = joins F g p sound legal i live after inside s s_is in
+      let now = here placing F g p sound legal i live after inside s s_is in
+      let j = joins placing F g p sound legal i live after inside s s_is in
       let meets : MergeHolds g after.family (Three s.one s.two s.three) = (j.one, j.two, j.three, j.one_named, j.two_named, j.three_named, (s.a, s.b, s.c, j.meets.triangle)) in
       let can = can_be_replaced g after.family (Three s.one s.two s.three) now.0.falls meets in
       let whole : Cluster = whole_from (Step after.family.next_step) ns after.family.live in
@@ -199,63 +201,72 @@ module _ {G : Type 0} (F : ℕ) (g : Graph) (p : Plan) (sound : IsSoundGraph g) 
       (sound_replaced after.family ns after.sound can) now.1 within ends_later whole (Contains-push (unnamed ns after.family.live) whole) in
       (last.step, top_is, (part.0, subst (λ (n : Name). HasTree p n part.0) (sym now.0.next) part.1, part.2))
 
-  pub failed : (top : Tree) → IsPlanTree p top → IsFirstFault G F g p.steps top f
+  pub failed : (top : Tree) → IsPlanTree p top → IsFirstFault G placing F g p.steps top f
   failed top h =
       let part = part_of top h in
       record {
-        fails = part.2.2.up F f (at_join part.2.0 part.2.1);
-        first = λ other fault below. not_below G F g p legal i faultless s names_it top part.0 part.1 other fault
-            (subst (λ (n : Name). IsBelow other.step n) (fault_named F s x y z f is) below);
+        fails = part.2.2.up placing F f (at_join part.2.0 part.2.1);
+        first = λ other fault below. not_below G placing F g p legal i faultless s names_it top part.0 part.1 other fault
+            (subst (λ (n : Name). IsBelow other.step n) (fault_named placing F s x y z f is) below);
       }
 
-  -- ---- on a finer grid
+-- ---- on a finer grid
 
-  finer_faultless : (k : ℕ) → AreFaultless G (F + k) g p i
+module _ {G : Type 0} (F : ℕ) (g : Graph) (p : Plan) (sound : IsSoundGraph g) (legal : IsLegalPlan g p)
+    (i : ℕ) (live : List (Option (List (BoxAt G)))) (after : IsAfter Boxes F g p i live) (inside : i < length p.steps) (s : PlanStep) (s_is : get_or p.steps i s ≡ s)
+    (x y z : List (BoxAt G)) (are : AreHeld F g live s x y z) (f : StepFault) (is : joined Boxes F s x y z ≡ Err f) where
+  finer_faultless : (k : ℕ) → AreFaultless G Boxes (F + k) g p i
   finer_faultless k = record { none = λ t t_in tree h. (let settled = after.settled t t_in tree h in (nest F k g p.steps tree settled.0 settled.1).has.faultless) }
 
-  finer_join : (k : ℕ) (lo hi : ℤ) → f.cause ≡ Gap lo hi → (t : Tree) → HasTree p s.step t → (l : ℤ) × (h : ℤ) × IsFault G (F + k) g p.steps t (with_gap f l h)
-  finer_join k lo hi gap (Leaf c) h = (let never : Step (1 + i) ≡ Con c.0 = sym names_it ∙ h in absurd (cc))
+  finer_join : (k : ℕ) (lo hi : ℤ) → f.cause ≡ Gap lo hi → (t : Tree) → HasTree p s.step t → (l : ℤ) × (h : ℤ) × IsFault G Boxes (F + k) g p.steps t (with_gap f l h)
+  finer_join k lo hi gap (Leaf c) h = (let never : Step (1 + i) ≡ Con c.0 = sym (names_it Boxes F g p sound legal i live after inside s s_is x y z are f is) ∙ h in absurd (cc))
   finer_join k lo hi gap (Join' at step shared a b c) (step_is, (x', y', z', told, ha, hb, hc)) =
-      let there = s_in F g p sound legal i live after inside s s_is in
+      let there = s_in Boxes F g p sound legal i live after inside s s_is in
       let join = the_join g p legal s there step shared a b c x' y' z' (sym step_is) told ha hb hc in
       let found : step_of p.steps step ≡ Some s = subst (λ (n : Name). step_of p.steps n ≡ Some s) join.step_is (step_found g p legal s there) in
-      let j = joins F g p sound legal i live after inside s s_is in
-      let one = nest F k g p.steps a x ((first F g p sound legal i live after inside s s_is x y z are).trees a (subst (λ (n : Name). HasTree p n a) (sym j.one_named.has_name) join.first)) in
-      let two = nest F k g p.steps b y ((second F g p sound legal i live after inside s s_is x y z are).trees b (subst (λ (n : Name). HasTree p n b) (sym j.two_named.has_name) join.second)) in
-      let three = nest F k g p.steps c z ((third F g p sound legal i live after inside s s_is x y z are).trees c (subst (λ (n : Name). HasTree p n c) (sym j.three_named.has_name) join.third)) in
-      let kept : KeepsStep (AreInside {G = G} {H = G} k) (joined (F + k) s one.fine two.fine three.fine) (Err f) =
-      subst (λ (r : Result (List (BoxAt G)) StepFault). KeepsStep (AreInside {G = G} {H = G} k) (joined (F + k) s one.fine two.fine three.fine) r) is
+      let j = joins Boxes F g p sound legal i live after inside s s_is in
+      let one = nest F k g p.steps a x ((first Boxes F g p sound legal i live after inside s s_is x y z are).trees a (subst (λ (n : Name). HasTree p n a) (sym j.one_named.has_name) join.first)) in
+      let two = nest F k g p.steps b y ((second Boxes F g p sound legal i live after inside s s_is x y z are).trees b (subst (λ (n : Name). HasTree p n b) (sym j.two_named.has_name) join.second)) in
+      let three = nest F k g p.steps c z ((third Boxes F g p sound legal i live after inside s s_is x y z are).trees c (subst (λ (n : Name). HasTree p n c) (sym j.three_named.has_name) join.third)) in
+      let kept : KeepsStep (AreInside {G = G} {H = G} k) (joined Boxes (F + k) s one.fine two.fine three.fine) (Err f) =
+      subst (λ (r : Result (List (BoxAt G)) StepFault). KeepsStep (AreInside {G = G} {H = G} k) (joined Boxes (F + k) s one.fine two.fine three.fine) r) is
       (joined_step G G F k s one.fine two.fine three.fine x y z one.inside two.inside three.inside) in
-      let finer : KeepsCause (joined (F + k) s one.fine two.fine three.fine) f (Gap lo hi) = subst (λ (cause : Cause). KeepsCause (joined (F + k) s one.fine two.fine three.fine) f cause) gap kept in (
+      let finer : KeepsCause (joined Boxes (F + k) s one.fine two.fine three.fine) f (Gap lo hi) = subst (λ (cause : Cause). KeepsCause (joined Boxes (F + k) s one.fine two.fine three.fine) f cause) gap kept in (
         finer.0,
         finer.1,
-        inl (failing_here (F + k) g p.steps s step found at a b c one.fine two.fine three.fine one.has two.has three.has (with_gap f finer.0 finer.1) finer.2),
+        inl (failing_here Boxes (F + k) g p.steps s step found at a b c one.fine two.fine three.fine one.has two.has three.has (with_gap f finer.0 finer.1) finer.2),
       )
 
   pub kept_failed : (k : ℕ) (c : Cause) → f.cause ≡ c → KeepsGap G (F + k) g p f c
   kept_failed k (Gap lo hi) gap = λ top h.
-      let part = part_of top h in
+      let part = part_of Boxes F g p sound legal i live after inside s s_is x y z are f is top h in
       let finer = finer_join k lo hi gap part.2.0 part.2.1 in (
         finer.0,
         finer.1,
         record {
-          fails = part.2.2.up (F + k) (with_gap f finer.0 finer.1) finer.2;
-          first = λ other fault below. not_below G (F + k) g p legal i (finer_faultless k) s names_it top part.0 part.1 other fault
-              (subst (λ (n : Name). IsBelow other.step n) (fault_named F s x y z f is) below);
+          fails = part.2.2.up Boxes (F + k) (with_gap f finer.0 finer.1) finer.2;
+          first = λ other fault below. not_below G Boxes (F + k) g p legal i (finer_faultless k) s (names_it Boxes F g p sound legal i live after inside s s_is x y z are f is) top part.0 part.1 other fault
+              (subst (λ (n : Name). IsBelow other.step n) (fault_named Boxes F s x y z f is) below);
         },
       )
   kept_failed k (Flat lo hi) gap = tt
   kept_failed k Range gap = tt
 
-pub failed_run : {G : Type 0} (F : ℕ) (g : Graph) (p : Plan) (sound : IsSoundGraph g) (legal : IsLegalPlan g p)
-    (i : ℕ) (live : List (Option (List (BoxAt G)))) (after : IsAfter F g p i live) (inside : i < length p.steps) (s : PlanStep) (s_is : get_or p.steps i s ≡ s)
-    (e : PlaceError) → (let refused : Result (List (BoxAt G)) PlaceError = Err e in IsStepOf F g live s refused)
-    → (let refused : Result (List (Option (List (BoxAt G)))) PlaceError = Err e in IsRun F g p refused)
-failed_run F g p sound legal i live after inside s s_is (Fault f) of_step = (
+pub kept_run : {G : Type 0} (placing : PlaceBy) (F : ℕ) (g : Graph) (p : Plan) (sound : IsSoundGraph g) (legal : IsLegalPlan g p)
+    (i : ℕ) (live : List (Option (List (BoxAt G)))) (after : IsAfter placing F g p i live) (inside : i < length p.steps) (s : PlanStep) (s_is : get_or p.steps i s ≡ s)
+    (f : StepFault) → IsMadeOf placing F g live s (Err f) → placing ≡ Boxes → (k : ℕ) → KeepsGap G (F + k) g p f f.cause
+kept_run Boxes F g p sound legal i live after inside s s_is f made same k = kept_failed F g p sound legal i live after inside s s_is made.one made.two made.three made.are f made.is k f.cause refl
+kept_run Points F g p sound legal i live after inside s s_is f made same k = (let never : Points ≡ Boxes = same in absurd (cc))
+
+pub failed_run : {G : Type 0} (placing : PlaceBy) (F : ℕ) (g : Graph) (p : Plan) (sound : IsSoundGraph g) (legal : IsLegalPlan g p)
+    (i : ℕ) (live : List (Option (List (BoxAt G)))) (after : IsAfter placing F g p i live) (inside : i < length p.steps) (s : PlanStep) (s_is : get_or p.steps i s ≡ s)
+    (e : PlaceError) → (let refused : Result (List (BoxAt G)) PlaceError = Err e in IsStepOf placing F g live s refused)
+    → (let refused : Result (List (Option (List (BoxAt G)))) PlaceError = Err e in IsRun placing F g p refused)
+failed_run placing F g p sound legal i live after inside s s_is (Fault f) of_step = (
   (
-    λ top h. failed F g p sound legal i live after inside s s_is of_step.one of_step.two of_step.three of_step.are f of_step.is top h,
-    leaves_there F g p sound legal i live after inside s s_is of_step.one of_step.two of_step.three of_step.are f of_step.is,
+    λ top h. failed placing F g p sound legal i live after inside s s_is of_step.one of_step.two of_step.three of_step.are f of_step.is top h,
+    leaves_there placing F g p sound legal i live after inside s s_is of_step.one of_step.two of_step.three of_step.are f of_step.is,
   ),
-  λ k. kept_failed F g p sound legal i live after inside s s_is of_step.one of_step.two of_step.three of_step.are f of_step.is k f.cause refl,
+  kept_run placing F g p sound legal i live after inside s s_is f of_step,
 )
-failed_run F g p sound legal i live after inside s s_is NoMemory of_step = tt
+failed_run placing F g p sound legal i live after inside s s_is NoMemory of_step = tt

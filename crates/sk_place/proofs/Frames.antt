@@ -34,6 +34,7 @@ use Rattle.sk_tree.specs.declared.Tree.{Tree}
 use Rattle.sk_tree.specs.declared.Tree.TheVariants.{Leaf, Join'}
 use Rattle.sk_tree.specs.LegalPlan.{IsLegalPlan}
 use Rattle.sk_place.specs.declared.boxes.BoxAt.{BoxAt}
+use Rattle.sk_place.specs.declared.settling.PlaceBy.{PlaceBy}
 use Rattle.sk_place.specs.Clusters.{elements_of, number_of, with_box, with_boxes}
 use Rattle.sk_place.specs.Trees.{framed_of, frame_of, two_boxes, pin_at, pin_boxes, HasBoxes}
 use Rattle.sk_place.specs.Running.{HasTree, AreOfKinds, ArePlaced}
@@ -119,12 +120,12 @@ pins_framed {G} F g sound b b_in =
     }
 
 -- each tree of a constraint's name is its leaf
-pub leaf_boxes_are : {G : Type 0} (F : ℕ) (g : Graph) (p : Plan) (legal : IsLegalPlan g p) (k : ℕ) (bs : List (BoxAt G)) → frame_of F (framed_of g k) ≡ Some bs
-    → (t : Tree) → HasTree p (Con k) t → HasBoxes F g p.steps t bs
-leaf_boxes_are {G} F g p legal k bs is (Leaf c) name_is =
+pub leaf_boxes_are : {G : Type 0} (placing : PlaceBy) (F : ℕ) (g : Graph) (p : Plan) (legal : IsLegalPlan g p) (k : ℕ) (bs : List (BoxAt G)) → frame_of F (framed_of g k) ≡ Some bs
+    → (t : Tree) → HasTree p (Con k) t → HasBoxes placing F g p.steps t bs
+leaf_boxes_are {G} placing F g p legal k bs is (Leaf c) name_is =
     let number : k ≡ c.0 = (let same : Con k ≡ Con c.0 = name_is in cc) in
     record { are = subst (λ (j : ℕ). frame_of F (framed_of g j) ≡ Some bs) number is; faultless = λ f h. absurd h }
-leaf_boxes_are {G} F g p legal k bs is (Join' at step shared one two three) (name_is, (x, y, z, told, a, b, c)) =
+leaf_boxes_are {G} placing F g p legal k bs is (Join' at step shared one two three) (name_is, (x, y, z, told, a, b, c)) =
     let join = join_of g p legal step shared one two three x y z told a b c in
     let place = join.1 in
     let named : join.0.step ≡ Step (1 + place.0) = ap (λ (s : PlanStep). s.step) (sym place.2) ∙ named_at g p legal place.0 join.0 place.1 in
@@ -155,8 +156,8 @@ start_there g sound s s_in =
       | inr (e, e_in, e_is) ↦ subst (λ (t : Start). IsSome (framed_of g t.number.0)) e_is (rw (framed_edge g sound e e_in) refl)
     ]
 
-pub start_placed : {G : Type 0} (F : ℕ) (g : Graph) (p : Plan) → IsSoundGraph g → IsLegalPlan g p → (s : Start) (bs : List (BoxAt G)) → Contains (starts g) s
-    → frame_of F (framed_of g s.number.0) ≡ Some bs → ArePlaced F g p (start_of s) bs
-start_placed F g p sound legal s bs s_in is =
+pub start_placed : {G : Type 0} (placing : PlaceBy) (F : ℕ) (g : Graph) (p : Plan) → IsSoundGraph g → IsLegalPlan g p → (s : Start) (bs : List (BoxAt G)) → Contains (starts g) s
+    → frame_of F (framed_of g s.number.0) ≡ Some bs → ArePlaced placing F g p (start_of s) bs
+start_placed placing F g p sound legal s bs s_in is =
     let boxes = start_framed F g sound s bs s_in is in
-    record { elements = boxes.elements; kinds = boxes.kinds; bounded = λ k d below. boxes.bounded (get_or bs k d) (Contains-get_or bs k d below); trees = λ t h. leaf_boxes_are F g p legal s.number.0 bs is t h }
+    record { elements = boxes.elements; kinds = boxes.kinds; bounded = λ k d below. boxes.bounded (get_or bs k d) (Contains-get_or bs k d below); trees = λ t h. leaf_boxes_are placing F g p legal s.number.0 bs is t h }

@@ -18,6 +18,7 @@ use Rattle.sk_motion.specs.Nesting.{IsPairInside, IsMotionInside}
 use Rattle.sk_motion.proofs.NestingLemmas.{motion-Keeps, carried-Keeps}
 use Rattle.sk_tree.specs.declared.PlanStep.{PlanStep}
 use Rattle.sk_place.specs.declared.boxes.BoxAt.{BoxAt}
+use Rattle.sk_place.specs.declared.settling.PlaceBy.TheVariants.{Boxes}
 use Rattle.sk_place.specs.declared.fault.Phase.{Phase}
 use Rattle.sk_place.specs.declared.fault.Phase.TheVariants.{Build, First, Second}
 use Rattle.sk_place.specs.declared.fault.StepFault.{StepFault}
@@ -58,7 +59,7 @@ faulty_step P step phase elem fine (Err (what, Range)) h = tt
 
 module _ (G H : Type 0) (F k : ℕ) where
   each_step : (step : Name) (phase : Phase) (m : Motion G) (n : Motion H) → IsMotionInside k m n → (xs : List (BoxAt G)) (ys : List (BoxAt H)) → AreInside k xs ys
-      → KeepsStep (AreInside {G = G} {H = H} k) (carried_each (F + k) step phase m xs) (carried_each F step phase n ys)
+      → KeepsStep (AreInside {G = G} {H = H} k) (carried_each Boxes (F + k) step phase m xs) (carried_each Boxes F step phase n ys)
   each_step step phase m n by [] [] h = ([], refl, tt)
   each_step step phase m n by [] (y ∷ ys) h = absurd h
   each_step step phase m n by (x ∷ xs) [] h = absurd h
@@ -70,7 +71,7 @@ module _ (G H : Type 0) (F k : ℕ) where
 
   moved_step : (step : Name) (phase : Phase) (p : Elem) (old new : Pair G) (old' new' : Pair H) → IsPairInside k old old' → IsPairInside k new new'
       → (xs : List (BoxAt G)) (ys : List (BoxAt H)) → AreInside k xs ys
-      → KeepsStep (AreInside {G = G} {H = H} k) (moved (F + k) step phase p old new xs) (moved F step phase p old' new' ys)
+      → KeepsStep (AreInside {G = G} {H = H} k) (moved Boxes (F + k) step phase p old new xs) (moved Boxes F step phase p old' new' ys)
   moved_step step phase p old new old' new' a b [] [] h = ([], refl, tt)
   moved_step step phase p old new old' new' a b [] (y ∷ ys) h = absurd h
   moved_step step phase p old new old' new' a b (x ∷ xs) [] h = absurd h
@@ -83,7 +84,7 @@ module _ (G H : Type 0) (F k : ℕ) where
   pair_inside xs ys p q h = record { p = box_inside k xs ys p h; q = box_inside k xs ys q h }
 
   pub child_step : (step : Name) (phase : Phase) (p q : Elem) (child now : List (BoxAt G)) (child' now' : List (BoxAt H)) → AreInside k child child' → AreInside k now now'
-      → KeepsStep (AreInside {G = G} {H = H} k) (carried_child (F + k) step phase p q child now) (carried_child F step phase p q child' now')
+      → KeepsStep (AreInside {G = G} {H = H} k) (carried_child Boxes (F + k) step phase p q child now) (carried_child Boxes F step phase p q child' now')
   child_step step phase p q child now child' now' a b = elim (cases_Bool (comes_first child' p q)) [
     | inl is ↦ (let also : comes_first child p q ≡ true = first_inside k child child' p q a ∙ is in
         rw (is, also) (moved_step step phase p (pair_in child p q) (pair_in now p q) (pair_in child' p q) (pair_in now' p q) (pair_inside child child' p q a) (pair_inside now now' p q b)
@@ -110,8 +111,8 @@ module _ (G H : Type 0) (F k : ℕ) where
           ∙ ap (λ m. root s.choice (kind_of (box_of K' u)) (kind_of (box_of K' v)) m u v w) (kind_inside k X X' w b);
     }
 
-    pub joined_in_step : KeepsStep (AreInside {G = G} {H = H} k) (joined_in {G = G} (F + k) s (record { kept = K; first = X; second = Y; u = u; v = v; w = w }))
-        (joined_in {G = H} F s (record { kept = K'; first = X'; second = Y'; u = u; v = v; w = w }))
+    pub joined_in_step : KeepsStep (AreInside {G = G} {H = H} k) (joined_in {G = G} Boxes (F + k) s (record { kept = K; first = X; second = Y; u = u; v = v; w = w }))
+        (joined_in {G = H} Boxes F s (record { kept = K'; first = X'; second = Y'; u = u; v = v; w = w }))
     joined_in_step =
         then_step (IsBoxInside {G = G} {H = H} k) (AreInside {G = G} {H = H} k) _ _ _ _
         (faulty_step (IsBoxInside {G = G} {H = H} k) s.step Build w _ _ (third_element-Keeps G H F k _ _ given_inside))
@@ -129,14 +130,14 @@ module _ (G H : Type 0) (F k : ℕ) (s : PlanStep) where
   ordered_step : (K X Y : List (BoxAt G)) (K' X' Y' : List (BoxAt H)) (u v w : Elem) → AreInside k K K' → AreInside k X X' → AreInside k Y Y'
       → (let t : Setting G = record { kept = K; first = X; second = Y; u = u; v = v; w = w } in
       let t' : Setting H = record { kept = K'; first = X'; second = Y'; u = u; v = v; w = w } in
-      KeepsStep (AreInside {G = G} {H = H} k) (joined_in {G = G} (F + k) s (ordered t)) (joined_in {G = H} F s (ordered t')))
+      KeepsStep (AreInside {G = G} {H = H} k) (joined_in {G = G} Boxes (F + k) s (ordered t)) (joined_in {G = H} Boxes F s (ordered t')))
   ordered_step K X Y K' X' Y' u v w a b c = elim (cases_Bool (comes_first K' u v)) [
     | inl is ↦ (let also : comes_first K u v ≡ true = first_inside k K K' u v a ∙ is in rw (is, also) (joined_in_step G H F k s K X Y K' X' Y' a b c u v w))
     | inr isnt ↦ (let also : comes_first K u v ≡ false = first_inside k K K' u v a ∙ isnt in rw (isnt, also) (joined_in_step G H F k s K Y X K' Y' X' a c b v u w))
   ]
 
   pub joined_step : (x y z : List (BoxAt G)) (x' y' z' : List (BoxAt H)) → AreInside k x x' → AreInside k y y' → AreInside k z z'
-      → KeepsStep (AreInside {G = G} {H = H} k) (joined (F + k) s x y z) (joined F s x' y' z')
+      → KeepsStep (AreInside {G = G} {H = H} k) (joined Boxes (F + k) s x y z) (joined Boxes F s x' y' z')
   joined_step x y z x' y' z' a b c = elim (cases_Bool (name_eq s.keeps s.one)) [
     | inl one ↦ rw one (ordered_step x y z x' y' z' s.a s.c s.b a b c)
     | inr not_one ↦ elim (cases_Bool (name_eq s.keeps s.two)) [

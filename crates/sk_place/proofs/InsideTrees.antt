@@ -12,6 +12,7 @@ use Rattle.sk_tree.specs.declared.PlanStep.{PlanStep}
 use Rattle.sk_tree.specs.declared.Tree.{Tree}
 use Rattle.sk_tree.specs.declared.Tree.TheVariants.{Leaf, Join'}
 use Rattle.sk_place.specs.declared.boxes.BoxAt.{BoxAt}
+use Rattle.sk_place.specs.declared.settling.PlaceBy.TheVariants.{Boxes}
 use Rattle.sk_place.specs.declared.fault.StepFault.{StepFault}
 use Rattle.sk_place.specs.Clusters.{with_box}
 use Rattle.sk_place.specs.Steps.{joined}
@@ -33,7 +34,7 @@ module _ {G : Type 0} (F k : ℕ) (g : Graph) (steps : List PlanStep) where
   -- a tree's boxes on the finer grid
   pub record HasInside (t : Tree) (bs : List (BoxAt G)) : Type 0 where
     pub fine : List (BoxAt G)
-    pub has : HasBoxes (F + k) g steps t fine
+    pub has : HasBoxes Boxes (F + k) g steps t fine
     pub inside : AreInside k fine bs
 
   frame_inside : (e : Option Framed) (bs : List (BoxAt G)) → frame_of F e ≡ Some bs → (fine : List (BoxAt G)) × (frame_of (F + k) e ≡ Some fine) × AreInside k fine bs
@@ -66,9 +67,9 @@ module _ {G : Type 0} (F k : ℕ) (g : Graph) (steps : List PlanStep) where
     pub one_is : one ≡ Some x
     pub two_is : two ≡ Some y
     pub three_is : three ≡ Some z
-    pub is : joined F s x y z ≡ outcome
+    pub is : joined Boxes F s x y z ≡ outcome
 
-  pub made_by : (step : Option PlanStep) (one two three : Option (List (BoxAt G))) (outcome : Result (List (BoxAt G)) StepFault) → made F step one two three ≡ Some outcome → IsMade step one two three outcome
+  pub made_by : (step : Option PlanStep) (one two three : Option (List (BoxAt G))) (outcome : Result (List (BoxAt G)) StepFault) → made Boxes F step one two three ≡ Some outcome → IsMade step one two three outcome
   made_by (Some s) (Some x) (Some y) (Some z) outcome h = record { s = s; x = x; y = y; z = z; step_is = refl; one_is = refl; two_is = refl; three_is = refl; is = cc }
   made_by (Some s) (Some x) (Some y) None outcome h = cc
   made_by (Some s) (Some x) None three outcome h = cc
@@ -80,22 +81,22 @@ module _ {G : Type 0} (F k : ℕ) (g : Graph) (steps : List PlanStep) where
   boxes_made (Some (Err e)) bs h = cc
   boxes_made None bs h = cc
 
-  pub nest : (t : Tree) (bs : List (BoxAt G)) → HasBoxes F g steps t bs → HasInside t bs
+  pub nest : (t : Tree) (bs : List (BoxAt G)) → HasBoxes Boxes F g steps t bs → HasInside t bs
   nest (Leaf c) bs has =
       let finer = frame_inside (framed_of g c.0) bs has.are in
       record { fine = finer.0; has = record { are = finer.1; faultless = λ f h. absurd h }; inside = finer.2 }
   nest (Join' at step shared one two three) bs has =
       let by =
-      made_by (step_of steps step) (boxes F g steps one) (boxes F g steps two) (boxes F g steps three) (Ok bs)
-      (boxes_made (made F (step_of steps step) (boxes F g steps one) (boxes F g steps two) (boxes F g steps three)) bs has.are) in
+      made_by (step_of steps step) (boxes Boxes F g steps one) (boxes Boxes F g steps two) (boxes Boxes F g steps three) (Ok bs)
+      (boxes_made (made Boxes F (step_of steps step) (boxes Boxes F g steps one) (boxes Boxes F g steps two) (boxes Boxes F g steps three)) bs has.are) in
       let a = nest one by.x (record { are = by.one_is; faultless = λ f h. has.faultless f (inr (inl h)) }) in
       let b = nest two by.y (record { are = by.two_is; faultless = λ f h. has.faultless f (inr (inr (inl h))) }) in
       let c = nest three by.z (record { are = by.three_is; faultless = λ f h. has.faultless f (inr (inr (inr h))) }) in
-      let kept : KeepsStep (AreInside {G = G} {H = G} k) (joined (F + k) by.s a.fine b.fine c.fine) (Ok bs) =
-      subst (λ (r : Result (List (BoxAt G)) StepFault). KeepsStep (AreInside {G = G} {H = G} k) (joined (F + k) by.s a.fine b.fine c.fine) r) by.is
+      let kept : KeepsStep (AreInside {G = G} {H = G} k) (joined Boxes (F + k) by.s a.fine b.fine c.fine) (Ok bs) =
+      subst (λ (r : Result (List (BoxAt G)) StepFault). KeepsStep (AreInside {G = G} {H = G} k) (joined Boxes (F + k) by.s a.fine b.fine c.fine) r) by.is
       (joined_step G G F k by.s a.fine b.fine c.fine by.x by.y by.z a.inside b.inside c.inside) in
       record {
         fine = kept.0;
-        has = settled_join (F + k) g steps by.s step by.step_is at one two three a.fine b.fine c.fine a.has b.has c.has shared kept.0 kept.1;
+        has = settled_join Boxes (F + k) g steps by.s step by.step_is at one two three a.fine b.fine c.fine a.has b.has c.has shared kept.0 kept.1;
         inside = kept.2;
       }

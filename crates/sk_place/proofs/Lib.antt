@@ -17,6 +17,7 @@ pub mod InsideSteps
 pub mod InsideTrees
 pub mod Midpoints
 pub mod Bounding
+pub mod Settlings
 pub mod Keys
 pub mod OnePlacing
 pub mod SomeFrames

@@ -14,6 +14,8 @@ use Rattle.sk_steps.specs.Boxes.{kind_of}
 use Rattle.sk_steps.specs.ThirdElement.{third_element}
 use Rattle.sk_tree.specs.declared.PlanStep.{PlanStep}
 use Rattle.sk_place.specs.declared.boxes.BoxAt.{BoxAt}
+use Rattle.sk_place.specs.Settling.{settled_box}
+use Rattle.sk_place.specs.declared.settling.PlaceBy.{PlaceBy}
 use Rattle.sk_place.specs.declared.fault.Phase.TheVariants.{Build, First, Second}
 use Rattle.sk_place.specs.declared.fault.StepFault.{StepFault}
 use Rattle.sk_place.specs.declared.setting.Setting.{Setting}
@@ -24,9 +26,8 @@ use Rattle.sk_place.specs.Running.{AreOfKinds}
 use Rattle.sk_place.proofs.Lookups.{rises_with}
 use Rattle.sk_place.proofs.Corners.{has_box, holds_with, holds_new, put_holds, rises_with_all}
 use Rattle.sk_place.specs.Rounding.{IsBoundedBox}
-use Rattle.sk_place.proofs.Bounding.{third_bounded}
 use Rattle.sk_place.proofs.Fitting.{IsOfGraph, kind_at}
-use Rattle.sk_place.proofs.Results.{child_bounded, then_ok, faulty_ok, third_kind, child_nodes, IsLike, carried_from, carried_to, holds_more}
+use Rattle.sk_place.proofs.Results.{child_bounded, then_ok, faulty_ok, third_kind, third_within, child_nodes, IsLike, carried_from, carried_to, holds_more}
 
 -- an element of the boxes that are put has a box then: its own, or another that was there
 of_carried : {G : Type 0} (more rest : List (BoxAt G)) (e : Elem) → Holds more e → Holds (with_boxes more rest) e
@@ -66,10 +67,10 @@ one_of e p q = elim (same e p) [ inl is ↦ inl is | inr not_p ↦ elim (same e 
       | inr (inr more) ↦ inr (λ e. let level = ap elem_number e in absurd (omega arith))
     ]
 
-module _ {G : Type 0} (F : ℕ) (s : PlanStep) (t : Setting G) (corners : HasCorners t) (bs : List (BoxAt G)) (is : joined_in F s t ≡ Ok bs) where
-  built : (w : BoxOf G) × (faulty s.step Build t.w (third_element F (given s.choice t)) ≡ Ok w)
-      × (with_children F s.step t (with_box (record { elem = t.w; at = w }) t.kept) ≡ Ok bs)
-  built = then_ok (faulty s.step Build t.w (third_element F (given s.choice t))) _ bs is
+module _ {G : Type 0} (placing : PlaceBy) (F : ℕ) (s : PlanStep) (t : Setting G) (corners : HasCorners t) (bs : List (BoxAt G)) (is : joined_in placing F s t ≡ Ok bs) where
+  built : (w : BoxOf G) × (faulty s.step Build t.w (settled_box placing F (third_element F (given s.choice t))) ≡ Ok w)
+      × (with_children placing F s.step t (with_box (record { elem = t.w; at = w }) t.kept) ≡ Ok bs)
+  built = then_ok (faulty s.step Build t.w (settled_box placing F (third_element F (given s.choice t)))) _ bs is
 
   new : BoxAt G
   new = record { elem = t.w; at = built.0 }
@@ -77,13 +78,13 @@ module _ {G : Type 0} (F : ℕ) (s : PlanStep) (t : Setting G) (corners : HasCor
   now : List (BoxAt G)
   now = with_box (record { elem = t.w; at = built.0 }) t.kept
 
-  carried_first : (xs : List (BoxAt G)) × (carried_child F s.step First t.u t.w t.first (with_box (record { elem = t.w; at = built.0 }) t.kept) ≡ Ok xs)
-      × (and_then (carried_child F s.step Second t.v t.w t.second (with_box (record { elem = t.w; at = built.0 }) t.kept)) (λ ys. Ok (with_boxes ys (with_boxes xs (with_box (record { elem = t.w; at = built.0 }) t.kept)))) ≡ Ok bs)
-  carried_first = then_ok (carried_child F s.step First t.u t.w t.first (with_box (record { elem = t.w; at = built.0 }) t.kept)) _ bs built.2
+  carried_first : (xs : List (BoxAt G)) × (carried_child placing F s.step First t.u t.w t.first (with_box (record { elem = t.w; at = built.0 }) t.kept) ≡ Ok xs)
+      × (and_then (carried_child placing F s.step Second t.v t.w t.second (with_box (record { elem = t.w; at = built.0 }) t.kept)) (λ ys. Ok (with_boxes ys (with_boxes xs (with_box (record { elem = t.w; at = built.0 }) t.kept)))) ≡ Ok bs)
+  carried_first = then_ok (carried_child placing F s.step First t.u t.w t.first (with_box (record { elem = t.w; at = built.0 }) t.kept)) _ bs built.2
 
-  carried_second : (ys : List (BoxAt G)) × (carried_child F s.step Second t.v t.w t.second (with_box (record { elem = t.w; at = built.0 }) t.kept) ≡ Ok ys)
+  carried_second : (ys : List (BoxAt G)) × (carried_child placing F s.step Second t.v t.w t.second (with_box (record { elem = t.w; at = built.0 }) t.kept) ≡ Ok ys)
       × ((let all : Result (List (BoxAt G)) StepFault = Ok (with_boxes ys (with_boxes carried_first.0 (with_box (record { elem = t.w; at = built.0 }) t.kept))) in all) ≡ Ok bs)
-  carried_second = then_ok (carried_child F s.step Second t.v t.w t.second (with_box (record { elem = t.w; at = built.0 }) t.kept)) _ bs carried_first.2
+  carried_second = then_ok (carried_child placing F s.step Second t.v t.w t.second (with_box (record { elem = t.w; at = built.0 }) t.kept)) _ bs carried_first.2
 
   bs_are : with_boxes carried_second.0 (with_boxes carried_first.0 now) ≡ bs
   unfolding now
@@ -100,9 +101,9 @@ module _ {G : Type 0} (F : ℕ) (s : PlanStep) (t : Setting G) (corners : HasCor
   origin b h =
       let there : Contains (with_boxes carried_second.0 (with_boxes carried_first.0 now)) b = subst (λ (xs : List (BoxAt G)). Contains xs b) (sym bs_are) h in
       elim (union_cases number_of carried_second.0 (with_boxes carried_first.0 now) b there) [
-        | inl y ↦ of_second (carried_from t.v t.w t.second carried_second.0 (child_nodes F s.step Second t.v t.w t.second now carried_second.0 carried_second.1) b y) (child_bounded F s.step Second t.v t.w t.second now carried_second.0 carried_second.1 b y)
+        | inl y ↦ of_second (carried_from t.v t.w t.second carried_second.0 (child_nodes placing F s.step Second t.v t.w t.second now carried_second.0 carried_second.1) b y) (child_bounded placing F s.step Second t.v t.w t.second now carried_second.0 carried_second.1 b y)
         | inr rest ↦ elim (union_cases number_of carried_first.0 now b rest) [
-          | inl x ↦ of_first (carried_from t.u t.w t.first carried_first.0 (child_nodes F s.step First t.u t.w t.first now carried_first.0 carried_first.1) b x) (child_bounded F s.step First t.u t.w t.first now carried_first.0 carried_first.1 b x)
+          | inl x ↦ of_first (carried_from t.u t.w t.first carried_first.0 (child_nodes placing F s.step First t.u t.w t.first now carried_first.0 carried_first.1) b x) (child_bounded placing F s.step First t.u t.w t.first now carried_first.0 carried_first.1 b x)
           | inr left ↦ elim (contains_put_cases number_of new t.kept b left) [
             | inl w ↦ of_new w
             | inr k ↦ of_kept k
@@ -126,7 +127,7 @@ module _ {G : Type 0} (F : ℕ) (s : PlanStep) (t : Setting G) (corners : HasCor
     | of_first like within ↦ like_kind g t.first b of_graph.first like
     | of_new w ↦
         let kind : kind_of built.0 ≡ kind_of (box_of t.first t.w) =
-        third_kind F (given s.choice t) built.0 (faulty_ok s.step Build t.w (third_element F (given s.choice t)) built.0 built.1) in
+        third_kind placing F (given s.choice t) built.0 (faulty_ok s.step Build t.w (settled_box placing F (third_element F (given s.choice t))) built.0 built.1) in
         subst (λ (x : BoxAt G). HasNode g x.elem (kind_of x.at)) w
         (subst (λ (k : Kind). HasNode g t.w k) (sym kind) (kind_at g t.first t.w corners.first_rises of_graph.first corners.first_w))
     | of_kept k ↦ of_graph.kept b k
@@ -138,7 +139,7 @@ module _ {G : Type 0} (F : ℕ) (s : PlanStep) (t : Setting G) (corners : HasCor
     | of_second like within ↦ within
     | of_first like within ↦ within
     | of_new w ↦ subst (λ (x : BoxAt G). IsBoundedBox F x.at) w
-        (third_bounded F (given s.choice t) built.0 (faulty_ok s.step Build t.w (third_element F (given s.choice t)) built.0 built.1))
+        (third_within placing F (given s.choice t) built.0 (faulty_ok s.step Build t.w (settled_box placing F (third_element F (given s.choice t))) built.0 built.1))
     | of_kept k ↦ kept b k
   ]
 
@@ -152,14 +153,14 @@ module _ {G : Type 0} (F : ℕ) (s : PlanStep) (t : Setting G) (corners : HasCor
     | inl is_u ↦ of_now e (holds_with (record { elem = t.w; at = built.0 }) t.kept e (subst (λ (z : Elem). Holds t.kept z) (sym is_u) corners.kept_u))
     | inr (inl is_w) ↦ of_now e (subst (λ (z : Elem). Holds now z) (sym is_w) (holds_new (record { elem = t.w; at = built.0 }) t.kept corners.new))
     | inr (inr other) ↦
-        let there = carried_to t.u t.w t.first carried_first.0 (child_nodes F s.step First t.u t.w t.first now carried_first.0 carried_first.1) e x other.0 other.1 in
+        let there = carried_to t.u t.w t.first carried_first.0 (child_nodes placing F s.step First t.u t.w t.first now carried_first.0 carried_first.1) e x other.0 other.1 in
         subst (λ (xs : List (BoxAt G)). Holds xs e) bs_are (holds_more carried_second.0 (with_boxes carried_first.0 now) e (of_carried carried_first.0 now e there))
   ]
   to e (inr (inr y)) = elim (one_of e t.v t.w) [
     | inl is_v ↦ of_now e (holds_with (record { elem = t.w; at = built.0 }) t.kept e (subst (λ (z : Elem). Holds t.kept z) (sym is_v) corners.kept_v))
     | inr (inl is_w) ↦ of_now e (subst (λ (z : Elem). Holds now z) (sym is_w) (holds_new (record { elem = t.w; at = built.0 }) t.kept corners.new))
     | inr (inr other) ↦
-        let there = carried_to t.v t.w t.second carried_second.0 (child_nodes F s.step Second t.v t.w t.second now carried_second.0 carried_second.1) e y other.0 other.1 in
+        let there = carried_to t.v t.w t.second carried_second.0 (child_nodes placing F s.step Second t.v t.w t.second now carried_second.0 carried_second.1) e y other.0 other.1 in
         subst (λ (xs : List (BoxAt G)). Holds xs e) bs_are (of_carried carried_second.0 (with_boxes carried_first.0 now) e there)
   ]
 

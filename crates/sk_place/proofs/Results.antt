@@ -24,6 +24,8 @@ use Rattle.sk_motion.specs.declared.Pair.{Pair}
 use Rattle.sk_motion.specs.Motions.{motion}
 use Rattle.sk_motion.specs.Carried.{carried}
 use Rattle.sk_place.specs.declared.boxes.BoxAt.{BoxAt}
+use Rattle.sk_place.specs.Settling.{settled_box, settled_turn}
+use Rattle.sk_place.specs.declared.settling.PlaceBy.{PlaceBy}
 use Rattle.sk_place.specs.declared.fault.Phase.{Phase}
 use Rattle.sk_place.specs.Clusters.{Holds, number_of, nodes_of, with_boxes, besides, comes_first}
 use Rattle.sk_place.specs.Carrying.{faulty, and_then, carried_each, pair_in, moved, carried_child}
@@ -31,7 +33,8 @@ use Rattle.sk_place.proofs.Lookups.{held_box}
 use Rattle.sk_place.proofs.Corners.{has_box}
 use Rattle.sk_base.proofs.Members.{contains_none, contains_cases}
 use Rattle.sk_place.specs.Rounding.{IsBoundedBox}
-use Rattle.sk_place.proofs.Bounding.{carried_bounded}
+use Rattle.sk_place.proofs.Bounding.{third_bounded, carried_bounded}
+use Rattle.sk_place.proofs.Settlings.{settled_from}
 
 -- ---- results
 
@@ -59,62 +62,74 @@ is_other x p q from_p from_q =
 module _ {G : Type 0} where
   -- ---- kinds
 
-  pub third_kind : (F : ℕ) (t : Given G) (w : BoxOf G) → third_element F t ≡ Ok w → kind_of w ≡ kind_of t.wx
-  third_kind F t w is =
-      if_ok (λ (b : BoxOf G). kind_of b ≡ kind_of t.wx) (third_element F t) w
-      (box_of-kind G (What × Cause) (kind_of t.wx) (evaluate F (inputs t) (construction t.root (kind_of t.u) (kind_of t.v) (kind_of t.wx)))) is
+  pub third_kind : (placing : PlaceBy) (F : ℕ) (t : Given G) (w : BoxOf G) → settled_box placing F (third_element F t) ≡ Ok w → kind_of w ≡ kind_of t.wx
+  third_kind placing F t w is =
+      let made = settled_from placing F (third_element F t) w is in
+      made.kind
+      ∙ if_ok (λ (b : BoxOf G). kind_of b ≡ kind_of t.wx) (third_element F t) made.before
+      (box_of-kind G (What × Cause) (kind_of t.wx) (evaluate F (inputs t) (construction t.root (kind_of t.u) (kind_of t.v) (kind_of t.wx)))) made.is
 
-  carried_kind : (F : ℕ) (m : Motion G) (b c : BoxOf G) → carried F m b ≡ Ok c → kind_of c ≡ kind_of b
-  carried_kind F m b c is =
-      if_ok (λ (x : BoxOf G). kind_of x ≡ kind_of b) (carried F m b) c
-      (box_of-kind G (What × Cause) (kind_of b) _) is
+  carried_kind : (placing : PlaceBy) (F : ℕ) (m : Motion G) (b c : BoxOf G) → settled_box placing F (carried F m b) ≡ Ok c → kind_of c ≡ kind_of b
+  carried_kind placing F m b c is =
+      let made = settled_from placing F (carried F m b) c is in
+      made.kind
+      ∙ if_ok (λ (x : BoxOf G). kind_of x ≡ kind_of b) (carried F m b) made.before
+      (box_of-kind G (What × Cause) (kind_of b) _) made.is
+
+  -- ---- limits
+
+  pub third_within : (placing : PlaceBy) (F : ℕ) (t : Given G) (w : BoxOf G) → settled_box placing F (third_element F t) ≡ Ok w → IsBoundedBox F w
+  third_within placing F t w is = (let made = settled_from placing F (third_element F t) w is in made.bounded (third_bounded F t made.before made.is))
+
+  carried_within : (placing : PlaceBy) (F : ℕ) (m : Motion G) (b c : BoxOf G) → settled_box placing F (carried F m b) ≡ Ok c → IsBoundedBox F c
+  carried_within placing F m b c is = (let made = settled_from placing F (carried F m b) c is in made.bounded (carried_bounded F m b made.before made.is))
 
   -- ---- carried boxes
 
-  pub each_nodes : (F : ℕ) (step : Name) (phase : Phase) (m : Motion G) (bs ys : List (BoxAt G)) → carried_each F step phase m bs ≡ Ok ys → nodes_of ys ≡ nodes_of bs
-  each_nodes F step phase m [] ys is = ap nodes_of (sym (ok_inside [] ys is))
-  each_nodes F step phase m (b ∷ bs) ys is =
-      let one = then_ok (faulty step phase b.elem (carried F m b.at)) _ ys is in
-      let others = then_ok (carried_each F step phase m bs) _ ys one.2 in
+  pub each_nodes : (placing : PlaceBy) (F : ℕ) (step : Name) (phase : Phase) (m : Motion G) (bs ys : List (BoxAt G)) → carried_each placing F step phase m bs ≡ Ok ys → nodes_of ys ≡ nodes_of bs
+  each_nodes placing F step phase m [] ys is = ap nodes_of (sym (ok_inside [] ys is))
+  each_nodes placing F step phase m (b ∷ bs) ys is =
+      let one = then_ok (faulty step phase b.elem (settled_box placing F (carried F m b.at))) _ ys is in
+      let others = then_ok (carried_each placing F step phase m bs) _ ys one.2 in
       let ys_is : record { elem = b.elem; at = one.0 } ∷ others.0 ≡ ys = ok_inside (record { elem = b.elem; at = one.0 } ∷ others.0) ys others.2 in
-      let kind : kind_of one.0 ≡ kind_of b.at = carried_kind F m b.at one.0 (faulty_ok step phase b.elem (carried F m b.at) one.0 one.1) in
+      let kind : kind_of one.0 ≡ kind_of b.at = carried_kind placing F m b.at one.0 (faulty_ok step phase b.elem (settled_box placing F (carried F m b.at)) one.0 one.1) in
       ap nodes_of (sym ys_is)
       ∙ ap (λ (k : Kind). record { elem = b.elem; kind = k } ∷ nodes_of others.0) kind
-      ∙ ap (λ (ns : List Node). record { elem = b.elem; kind = kind_of b.at } ∷ ns) (each_nodes F step phase m bs others.0 others.1)
+      ∙ ap (λ (ns : List Node). record { elem = b.elem; kind = kind_of b.at } ∷ ns) (each_nodes placing F step phase m bs others.0 others.1)
 
-  moved_nodes : (F : ℕ) (step : Name) (phase : Phase) (p : Elem) (old new : Pair G) (bs ys : List (BoxAt G)) → moved F step phase p old new bs ≡ Ok ys → nodes_of ys ≡ nodes_of bs
-  moved_nodes F step phase p old new [] ys is = ap nodes_of (sym (ok_inside [] ys is))
-  moved_nodes F step phase p old new (b ∷ bs) ys is =
-      let by = then_ok (faulty step phase p (motion F old new)) _ ys is in
-      each_nodes F step phase by.0 (b ∷ bs) ys by.2
+  moved_nodes : (placing : PlaceBy) (F : ℕ) (step : Name) (phase : Phase) (p : Elem) (old new : Pair G) (bs ys : List (BoxAt G)) → moved placing F step phase p old new bs ≡ Ok ys → nodes_of ys ≡ nodes_of bs
+  moved_nodes placing F step phase p old new [] ys is = ap nodes_of (sym (ok_inside [] ys is))
+  moved_nodes placing F step phase p old new (b ∷ bs) ys is =
+      let by = then_ok (faulty step phase p (settled_turn placing F (motion F old new))) _ ys is in
+      each_nodes placing F step phase by.0 (b ∷ bs) ys by.2
 
-  pub child_nodes : (F : ℕ) (step : Name) (phase : Phase) (p q : Elem) (child now ys : List (BoxAt G)) → carried_child F step phase p q child now ≡ Ok ys → nodes_of ys ≡ nodes_of (besides p q child)
-  child_nodes F step phase p q child now ys is = elim (cases_Bool (comes_first child p q)) [
-    | inl first ↦ moved_nodes F step phase p (pair_in child p q) (pair_in now p q) (besides p q child) ys (rw first at is)
-    | inr other ↦ moved_nodes F step phase q (pair_in child q p) (pair_in now q p) (besides p q child) ys (rw other at is)
+  pub child_nodes : (placing : PlaceBy) (F : ℕ) (step : Name) (phase : Phase) (p q : Elem) (child now ys : List (BoxAt G)) → carried_child placing F step phase p q child now ≡ Ok ys → nodes_of ys ≡ nodes_of (besides p q child)
+  child_nodes placing F step phase p q child now ys is = elim (cases_Bool (comes_first child p q)) [
+    | inl first ↦ moved_nodes placing F step phase p (pair_in child p q) (pair_in now p q) (besides p q child) ys (rw first at is)
+    | inr other ↦ moved_nodes placing F step phase q (pair_in child q p) (pair_in now q p) (besides p q child) ys (rw other at is)
   ]
 
-  each_bounded : (F : ℕ) (step : Name) (phase : Phase) (m : Motion G) (bs ys : List (BoxAt G)) → carried_each F step phase m bs ≡ Ok ys → (b : BoxAt G) → Contains ys b → IsBoundedBox F b.at
-  each_bounded F step phase m [] ys is b h = absurd (contains_none b (subst (λ (xs : List (BoxAt G)). Contains xs b) (sym (ok_inside [] ys is)) h))
-  each_bounded F step phase m (c ∷ cs) ys is b h =
-      let one = then_ok (faulty step phase c.elem (carried F m c.at)) _ ys is in
-      let others = then_ok (carried_each F step phase m cs) _ ys one.2 in
+  each_bounded : (placing : PlaceBy) (F : ℕ) (step : Name) (phase : Phase) (m : Motion G) (bs ys : List (BoxAt G)) → carried_each placing F step phase m bs ≡ Ok ys → (b : BoxAt G) → Contains ys b → IsBoundedBox F b.at
+  each_bounded placing F step phase m [] ys is b h = absurd (contains_none b (subst (λ (xs : List (BoxAt G)). Contains xs b) (sym (ok_inside [] ys is)) h))
+  each_bounded placing F step phase m (c ∷ cs) ys is b h =
+      let one = then_ok (faulty step phase c.elem (settled_box placing F (carried F m c.at))) _ ys is in
+      let others = then_ok (carried_each placing F step phase m cs) _ ys one.2 in
       let ys_is : record { elem = c.elem; at = one.0 } ∷ others.0 ≡ ys = ok_inside (record { elem = c.elem; at = one.0 } ∷ others.0) ys others.2 in
       elim (contains_cases (record { elem = c.elem; at = one.0 }) others.0 b (subst (λ (xs : List (BoxAt G)). Contains xs b) (sym ys_is) h)) [
-        | inl here ↦ subst (λ (x : BoxAt G). IsBoundedBox F x.at) here (carried_bounded F m c.at one.0 (faulty_ok step phase c.elem (carried F m c.at) one.0 one.1))
-        | inr later ↦ each_bounded F step phase m cs others.0 others.1 b later
+        | inl here ↦ subst (λ (x : BoxAt G). IsBoundedBox F x.at) here (carried_within placing F m c.at one.0 (faulty_ok step phase c.elem (settled_box placing F (carried F m c.at)) one.0 one.1))
+        | inr later ↦ each_bounded placing F step phase m cs others.0 others.1 b later
       ]
 
-  moved_bounded : (F : ℕ) (step : Name) (phase : Phase) (p : Elem) (old new : Pair G) (bs ys : List (BoxAt G)) → moved F step phase p old new bs ≡ Ok ys → (b : BoxAt G) → Contains ys b → IsBoundedBox F b.at
-  moved_bounded F step phase p old new [] ys is b h = absurd (contains_none b (subst (λ (xs : List (BoxAt G)). Contains xs b) (sym (ok_inside [] ys is)) h))
-  moved_bounded F step phase p old new (c ∷ cs) ys is b h =
-      let by = then_ok (faulty step phase p (motion F old new)) _ ys is in
-      each_bounded F step phase by.0 (c ∷ cs) ys by.2 b h
+  moved_bounded : (placing : PlaceBy) (F : ℕ) (step : Name) (phase : Phase) (p : Elem) (old new : Pair G) (bs ys : List (BoxAt G)) → moved placing F step phase p old new bs ≡ Ok ys → (b : BoxAt G) → Contains ys b → IsBoundedBox F b.at
+  moved_bounded placing F step phase p old new [] ys is b h = absurd (contains_none b (subst (λ (xs : List (BoxAt G)). Contains xs b) (sym (ok_inside [] ys is)) h))
+  moved_bounded placing F step phase p old new (c ∷ cs) ys is b h =
+      let by = then_ok (faulty step phase p (settled_turn placing F (motion F old new))) _ ys is in
+      each_bounded placing F step phase by.0 (c ∷ cs) ys by.2 b h
 
-  pub child_bounded : (F : ℕ) (step : Name) (phase : Phase) (p q : Elem) (child now ys : List (BoxAt G)) → carried_child F step phase p q child now ≡ Ok ys → (b : BoxAt G) → Contains ys b → IsBoundedBox F b.at
-  child_bounded F step phase p q child now ys is b h = elim (cases_Bool (comes_first child p q)) [
-    | inl first ↦ moved_bounded F step phase p (pair_in child p q) (pair_in now p q) (besides p q child) ys (rw first at is) b h
-    | inr other ↦ moved_bounded F step phase q (pair_in child q p) (pair_in now q p) (besides p q child) ys (rw other at is) b h
+  pub child_bounded : (placing : PlaceBy) (F : ℕ) (step : Name) (phase : Phase) (p q : Elem) (child now ys : List (BoxAt G)) → carried_child placing F step phase p q child now ≡ Ok ys → (b : BoxAt G) → Contains ys b → IsBoundedBox F b.at
+  child_bounded placing F step phase p q child now ys is b h = elim (cases_Bool (comes_first child p q)) [
+    | inl first ↦ moved_bounded placing F step phase p (pair_in child p q) (pair_in now p q) (besides p q child) ys (rw first at is) b h
+    | inr other ↦ moved_bounded placing F step phase q (pair_in child q p) (pair_in now q p) (besides p q child) ys (rw other at is) b h
   ]
 
   -- a box with the same element and kind

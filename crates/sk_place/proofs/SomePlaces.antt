@@ -10,6 +10,7 @@ use Rattle.sk_tree.specs.declared.Plan.{Plan}
 use Rattle.sk_tree.specs.declared.PlanStep.{PlanStep}
 use Rattle.sk_tree.specs.LegalPlan.{IsLegalPlan}
 use Rattle.sk_place.specs.declared.boxes.BoxAt.{BoxAt}
+use Rattle.sk_place.specs.declared.settling.PlaceBy.{PlaceBy}
 use Rattle.sk_place.specs.declared.fault.StepFault.{StepFault}
 use Rattle.sk_place.specs.declared.fault.PlaceError.TheVariants.{Fault}
 use Rattle.sk_place.specs.Clusters.{nodes_of}
@@ -29,7 +30,7 @@ item_at [] i inside = absurd (omega arith)
 item_at (x ∷ xs) zero inside = (x, refl)
 item_at (x ∷ xs) (suc i) inside = (let rest = item_at xs i (omega arith) in (rest.0, rest.1))
 
-module _ (G : Type 0) (F : ℕ) (g : Graph) (p : Plan) (sound : IsSoundGraph g) (legal : IsLegalPlan g p) where
+module _ (G : Type 0) (placing : PlaceBy) (F : ℕ) (g : Graph) (p : Plan) (sound : IsSoundGraph g) (legal : IsLegalPlan g p) where
   held_there : (live : List (Option (List (BoxAt G)))) (n : Name) → IsThere g live n → (bs : List (BoxAt G)) × (held F g live n ≡ Some bs)
   held_there live (Con k) there = some_frame F {G = G} g sound k there
   held_there live (Step k) there = told (slice_index_or live k None) refl there
@@ -39,55 +40,55 @@ module _ (G : Type 0) (F : ℕ) (g : Graph) (p : Plan) (sound : IsSoundGraph g) 
       told None is some = (let never : false ≡ true = some in absurd (cc))
 
   abbrev RunOn : Type 0
-  RunOn = ((live : List (Option (List (BoxAt G)))) × IsAfter F g p (length p.steps) live) ⊎ ((f : StepFault) × IsPlaced {G = G} F g p (Err (Fault f)))
+  RunOn = ((live : List (Option (List (BoxAt G)))) × IsAfter placing F g p (length p.steps) live) ⊎ ((f : StepFault) × IsPlaced {G = G} placing F g p (Err (Fault f)))
 
-  module _ (i : ℕ) (live : List (Option (List (BoxAt G)))) (after : IsAfter F g p i live) (inside : i < length p.steps) (s : PlanStep) (s_is : get_or p.steps i s ≡ s)
+  module _ (i : ℕ) (live : List (Option (List (BoxAt G)))) (after : IsAfter placing F g p i live) (inside : i < length p.steps) (s : PlanStep) (s_is : get_or p.steps i s ≡ s)
       (x y z : List (BoxAt G)) (are : AreHeld F g live s x y z) where
-    by_result : ((bs : List (BoxAt G)) → joined F s x y z ≡ Ok bs → RunOn) → (r : Result (List (BoxAt G)) StepFault) → joined F s x y z ≡ r → RunOn
+    by_result : ((bs : List (BoxAt G)) → joined placing F s x y z ≡ Ok bs → RunOn) → (r : Result (List (BoxAt G)) StepFault) → joined placing F s x y z ≡ r → RunOn
     by_result go (Ok bs) is = go bs is
-    by_result go (Err f) is = inr (f, (failed_run F g p sound legal i live after inside s s_is (Fault f) (record { one = x; two = y; three = z; are = are; is = is })).0)
+    by_result go (Err f) is = inr (f, (failed_run placing F g p sound legal i live after inside s s_is (Fault f) (record { one = x; two = y; three = z; are = are; is = is })).0)
 
   -- so many steps are left
-  run_from : (left i : ℕ) (live : List (Option (List (BoxAt G)))) → IsAfter F g p i live → i + left ≡ length p.steps → RunOn
-  run_from zero i live after level = (let same : i ≡ length p.steps = omega arith in inl (live, subst (λ (k : ℕ). IsAfter F g p k live) same after))
+  run_from : (left i : ℕ) (live : List (Option (List (BoxAt G)))) → IsAfter placing F g p i live → i + left ≡ length p.steps → RunOn
+  run_from zero i live after level = (let same : i ≡ length p.steps = omega arith in inl (live, subst (λ (k : ℕ). IsAfter placing F g p k live) same after))
   run_from (suc left) i live after level =
       let inside : i < length p.steps = omega arith in
       let step = item_at p.steps i inside in
       let s = step.0 in
-      let can = can_join F g p sound legal i live after inside s step.1 in
+      let can = can_join placing F g p sound legal i live after inside s step.1 in
       let one = held_there live s.one can.one in
       let two = held_there live s.two can.two in
       let three = held_there live s.three can.three in
       let are : AreHeld F g live s one.0 two.0 three.0 = record { first = one.1; second = two.1; third = three.1 } in
       by_result i live after inside s step.1 one.0 two.0 three.0 are
       (λ bs is. run_from left (i + 1) (live ++ Some bs ∷ [])
-      (at_next F g p sound legal i live after inside s step.1 one.0 two.0 three.0 are bs is live refl (λ n a b c. refl)) (omega arith))
-      (joined F s one.0 two.0 three.0) (refl {a = joined F s one.0 two.0 three.0})
+      (at_next placing F g p sound legal i live after inside s step.1 one.0 two.0 three.0 are bs is live refl (λ n a b c. refl)) (omega arith))
+      (joined placing F s one.0 two.0 three.0) (refl {a = joined placing F s one.0 two.0 three.0})
 
   run_whole : RunOn
-  run_whole = run_from (length p.steps) 0 (None ∷ []) (at_start F g p sound legal (None ∷ []) refl) (omega arith)
+  run_whole = run_from (length p.steps) 0 (None ∷ []) (at_start placing F g p sound legal (None ∷ []) refl) (omega arith)
 
   -- the boxes are of the graph's nodes, and within their limits
   pub record HasPlaces : Type 0 where
     pub list : List (BoxAt G)
-    pub placed : IsPlaced F g p (Ok list)
+    pub placed : IsPlaced placing F g p (Ok list)
     pub nodes : nodes_of list ≡ g.nodes
     pub bounded : AreBounded F list
 
   abbrev pub SomePlaces : Type 0
-  SomePlaces = HasPlaces ⊎ ((f : StepFault) × IsPlaced {G = G} F g p (Err (Fault f)))
+  SomePlaces = HasPlaces ⊎ ((f : StepFault) × IsPlaced {G = G} placing F g p (Err (Fault f)))
 
   named_places : (n : Name) → IsLastName p (Some n) → SomePlaces
   named_places n n_is =
       elim run_whole [
         | inr failed ↦ inr failed
         | inl (live, after) ↦ (
-            let found = held_there live n (left_there F g p sound legal live after n n_is) in
+            let found = held_there live n (left_there placing F g p sound legal live after n n_is) in
             inl (record {
               list = found.0;
-              placed = ((λ t t_is. left_boxes F g p sound legal live after n n_is found.0 found.1 t t_is), (λ none. absurd (leaf_there g p legal n n_is none)));
-              nodes = left_nodes F g p sound legal live after n n_is found.0 found.1;
-              bounded = left_bounded F g p sound legal live after n n_is found.0 found.1;
+              placed = ((λ t t_is. left_boxes placing F g p sound legal live after n n_is found.0 found.1 t t_is), (λ none. absurd (leaf_there g p legal n n_is none)));
+              nodes = left_nodes placing F g p sound legal live after n n_is found.0 found.1;
+              bounded = left_bounded placing F g p sound legal live after n n_is found.0 found.1;
             }))
       ]
 

@@ -14,6 +14,8 @@ use Rattle.sk_place.specs.declared.fault.StepFault.{StepFault}
 use Rattle.sk_place.specs.declared.fault.PlaceError.{PlaceError}
 use Rattle.sk_place.specs.declared.fault.PlaceError.TheVariants.{Fault, NoMemory}
 use Rattle.sk_steps.specs.Boxes.{kind_of}
+use Rattle.sk_place.specs.declared.settling.PlaceBy.{PlaceBy}
+use Rattle.sk_place.specs.Settling.{settled_box, settled_turn}
 use Rattle.sk_place.specs.Clusters.{Rise, Holds, box_of, besides, comes_first}
 
 -- a quantity's cause, as a fault of the step
@@ -26,32 +28,32 @@ abbrev pub and_then : {X Y E : Type 0} → Result X E → (X → Result Y E) →
 and_then (Ok x) f = f x
 and_then (Err e) f = Err e
 
--- the boxes in their order, each moved
-abbrev pub carried_each : {G : Type 0} → ℕ → Name → Phase → Motion G → List (BoxAt G) → Result (List (BoxAt G)) StepFault
-carried_each F step phase m [] = Ok []
-carried_each F step phase m (b ∷ bs) =
-    and_then (faulty step phase b.elem (carried F m b.at)) (λ at.
-    and_then (carried_each F step phase m bs) (λ rest.
+-- the boxes in their order, each moved, and settled where places are points
+abbrev pub carried_each : {G : Type 0} → PlaceBy → ℕ → Name → Phase → Motion G → List (BoxAt G) → Result (List (BoxAt G)) StepFault
+carried_each placing F step phase m [] = Ok []
+carried_each placing F step phase m (b ∷ bs) =
+    and_then (faulty step phase b.elem (settled_box placing F (carried F m b.at))) (λ at.
+    and_then (carried_each placing F step phase m bs) (λ rest.
     Ok (record { elem = b.elem; at = at } ∷ rest)))
 
 -- the boxes of two elements
 abbrev pub pair_in : {G : Type 0} → List (BoxAt G) → Elem → Elem → Pair G
 pair_in bs p q = record { p = box_of bs p; q = box_of bs q }
 
--- some boxes, if there are any, moved as p and q are
-abbrev pub moved : {G : Type 0} → ℕ → Name → Phase → Elem → Pair G → Pair G → List (BoxAt G) → Result (List (BoxAt G)) StepFault
-moved F step phase p old new [] = Ok []
-moved F step phase p old new (b ∷ bs) =
-    and_then (faulty step phase p (motion F old new)) (λ m. carried_each F step phase m (b ∷ bs))
+-- some boxes, if there are any, moved as p and q are, by a turn that is settled where places are points
+abbrev pub moved : {G : Type 0} → PlaceBy → ℕ → Name → Phase → Elem → Pair G → Pair G → List (BoxAt G) → Result (List (BoxAt G)) StepFault
+moved placing F step phase p old new [] = Ok []
+moved placing F step phase p old new (b ∷ bs) =
+    and_then (faulty step phase p (settled_turn placing F (motion F old new))) (λ m. carried_each placing F step phase m (b ∷ bs))
 
-abbrev pub moved_by : {G : Type 0} → ℕ → Name → Phase → Elem → Elem → List (BoxAt G) → List (BoxAt G) → List (BoxAt G) → Result (List (BoxAt G)) StepFault
-moved_by F step phase p q child now bs = moved F step phase p (pair_in child p q) (pair_in now p q) bs
+abbrev pub moved_by : {G : Type 0} → PlaceBy → ℕ → Name → Phase → Elem → Elem → List (BoxAt G) → List (BoxAt G) → List (BoxAt G) → Result (List (BoxAt G)) StepFault
+moved_by placing F step phase p q child now bs = moved placing F step phase p (pair_in child p q) (pair_in now p q) bs
 
 -- the child's boxes besides those of p and q, moved as p and q are from the child to where they are now
-abbrev pub carried_child : {G : Type 0} → ℕ → Name → Phase → Elem → Elem → List (BoxAt G) → List (BoxAt G) → Result (List (BoxAt G)) StepFault
-carried_child F step phase p q child now =
-    if comes_first child p q then moved_by F step phase p q child now (besides p q child)
-    else moved_by F step phase q p child now (besides p q child)
+abbrev pub carried_child : {G : Type 0} → PlaceBy → ℕ → Name → Phase → Elem → Elem → List (BoxAt G) → List (BoxAt G) → Result (List (BoxAt G)) StepFault
+carried_child placing F step phase p q child now =
+    if comes_first child p q then moved_by placing F step phase p q child now (besides p q child)
+    else moved_by placing F step phase q p child now (besides p q child)
 
 -- both hold p and q, each of one kind in both
 pub record AreShared {G : Type 0} (p q : Elem) (child now : List (BoxAt G)) : Type 0 where

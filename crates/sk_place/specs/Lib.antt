@@ -6,4 +6,5 @@ pub mod Placing
 pub mod Running
 pub mod Nesting
 pub mod Rounding
+pub mod Settling
 pub mod Slots

@@ -1,4 +1,4 @@
--- Boxes on a finer grid, of k further digits, inside those on a coarser one.
+-- Boxes on a finer grid, of k further digits, inside those on a coarser one, where places are boxes on both.
 use Rattle.std.specs.Prelude.{◌≡◌, ◌+◌, ℕ, ℤ, List, [], ◌∷◌, Result, Ok, Err}
 use Rattle.sk_base.specs.declared.Graph.{Graph}
 use Rattle.sk_interval.specs.declared.Cause.{Cause}
@@ -7,6 +7,7 @@ use Rattle.sk_steps.specs.Nesting.{IsBoxInside}
 use Rattle.sk_tree.specs.declared.Plan.{Plan}
 use Rattle.sk_tree.specs.declared.Tree.{Tree}
 use Rattle.sk_place.specs.declared.boxes.BoxAt.{BoxAt}
+use Rattle.sk_place.specs.declared.settling.PlaceBy.TheVariants.{Boxes}
 use Rattle.sk_place.specs.declared.fault.StepFault.{StepFault}
 use Rattle.sk_place.specs.declared.fault.PlaceError.{PlaceError}
 use Rattle.sk_place.specs.declared.fault.PlaceError.TheVariants.{Fault, NoMemory}
@@ -27,14 +28,14 @@ with_gap f lo hi = record { step = f.step; phase = f.phase; what = f.what; elem 
 
 -- where the cause is a gap, the tree has a gap on this grid at the same place, and it is the first fault
 abbrev pub KeepsGap : Type 0 → ℕ → Graph → Plan → StepFault → Cause → Type 0
-KeepsGap G F g p f (Gap lo hi) = (t : Tree) → IsPlanTree p t → (l : ℤ) × (h : ℤ) × IsFirstFault G F g p.steps t (with_gap f l h)
+KeepsGap G F g p f (Gap lo hi) = (t : Tree) → IsPlanTree p t → (l : ℤ) × (h : ℤ) × IsFirstFault G Boxes F g p.steps t (with_gap f l h)
 KeepsGap G F g p f (Flat lo hi) = Unit {0}
 KeepsGap G F g p f Range = Unit {0}
 
 -- k further digits take back neither boxes nor a gap
 abbrev pub IsKept : {G : Type 0} → ℕ → ℕ → Graph → Plan → Result (List (BoxAt G)) PlaceError → Type 0
 IsKept {G} F k g p (Ok bs) =
-    ((t : Tree) → IsPlanTree p t → (fine : List (BoxAt G)) × HasBoxes (F + k) g p.steps t fine × AreInside k fine bs)
+    ((t : Tree) → IsPlanTree p t → (fine : List (BoxAt G)) × HasBoxes Boxes (F + k) g p.steps t fine × AreInside k fine bs)
     × (p.leaves ≡ [] → AreInside {G = G} k (lone_boxes (F + k) g) bs)
 IsKept {G} F k g p (Err (Fault f)) = KeepsGap G (F + k) g p f f.cause
 IsKept F k g p (Err NoMemory) = Unit {0}

@@ -10,6 +10,7 @@ use Rattle.sk_tree.specs.declared.Plan.{Plan}
 use Rattle.sk_tree.specs.declared.Tree.{Tree}
 use Rattle.sk_tree.specs.PlanTree.{IsPlanTree}
 use Rattle.sk_place.specs.declared.boxes.BoxAt.{BoxAt}
+use Rattle.sk_place.specs.declared.settling.PlaceBy.{PlaceBy}
 use Rattle.sk_place.specs.declared.fault.PlaceError.{PlaceError}
 use Rattle.sk_place.specs.declared.fault.PlaceError.TheVariants.{Fault, NoMemory}
 use Rattle.sk_place.specs.Trees.{HasBoxes, IsFirstFault}
@@ -24,7 +25,7 @@ lone_boxes F g = map (λ (n : Node). record { elem = n.elem; at = lone_box F n.k
 
 -- the answer is exactly what the plan's tree has: its boxes, or its first fault. Where there is no constraint, and so no
 -- tree, the only element lies alone
-abbrev pub IsPlaced : {G : Type 0} → ℕ → Graph → Plan → Result (List (BoxAt G)) PlaceError → Type 0
-IsPlaced F g p (Ok bs) = ((t : Tree) → IsPlanTree p t → HasBoxes F g p.steps t bs) × (p.leaves ≡ [] → bs ≡ lone_boxes F g)
-IsPlaced {G} F g p (Err (Fault f)) = ((t : Tree) → IsPlanTree p t → IsFirstFault G F g p.steps t f) × ¬ (p.leaves ≡ [])
-IsPlaced F g p (Err NoMemory) = Unit {0}
+abbrev pub IsPlaced : {G : Type 0} → PlaceBy → ℕ → Graph → Plan → Result (List (BoxAt G)) PlaceError → Type 0
+IsPlaced placing F g p (Ok bs) = ((t : Tree) → IsPlanTree p t → HasBoxes placing F g p.steps t bs) × (p.leaves ≡ [] → bs ≡ lone_boxes F g)
+IsPlaced {G} placing F g p (Err (Fault f)) = ((t : Tree) → IsPlanTree p t → IsFirstFault G placing F g p.steps t f) × ¬ (p.leaves ≡ [])
+IsPlaced placing F g p (Err NoMemory) = Unit {0}

@@ -14,6 +14,8 @@ use Rattle.sk_tree.specs.declared.Tree.{Tree}
 use Rattle.sk_tree.specs.LegalPlan.{taken_told, AreLegalSteps}
 use Rattle.sk_tree.specs.Trees.{IsTreeOf}
 use Rattle.sk_place.specs.declared.boxes.BoxAt.{BoxAt}
+use Rattle.sk_place.specs.declared.settling.PlaceBy.{PlaceBy}
+use Rattle.sk_place.specs.declared.settling.PlaceBy.TheVariants.{Boxes}
 use Rattle.sk_place.specs.declared.fault.PlaceError.{PlaceError}
 use Rattle.sk_place.specs.declared.fault.PlaceError.TheVariants.{Fault, NoMemory}
 use Rattle.sk_place.specs.declared.fault.StepFault.{StepFault}
@@ -43,14 +45,14 @@ abbrev pub AreOfKinds : {G : Type 0} → Graph → List (BoxAt G) → Type 0
 AreOfKinds {G} g bs = (b : BoxAt G) → Contains bs b → HasNode g b.elem (kind_of b.at)
 
 -- exactly the cluster's elements have boxes, within their limits, and these are those of each tree of its name
-pub record ArePlaced {G : Type 0} (F : ℕ) (g : Graph) (p : Plan) (c : Cluster) (bs : List (BoxAt G)) : Type 0 where
+pub record ArePlaced {G : Type 0} (placing : PlaceBy) (F : ℕ) (g : Graph) (p : Plan) (c : Cluster) (bs : List (BoxAt G)) : Type 0 where
   pub elements : elements_of bs ≡ c.elements
   pub kinds : AreOfKinds g bs
   pub bounded : AreBounded F bs
-  pub trees : (t : Tree) → HasTree p c.name t → HasBoxes F g p.steps t bs
+  pub trees : (t : Tree) → HasTree p c.name t → HasBoxes placing F g p.steps t bs
 
 -- so many steps are done: they lead to a family each of whose clusters has its boxes, and so has each tree of a step
-pub record IsAfter {G : Type 0} (F : ℕ) (g : Graph) (p : Plan) (i : ℕ) (live : List (Option (List (BoxAt G)))) : Type 0 where
+pub record IsAfter {G : Type 0} (placing : PlaceBy) (F : ℕ) (g : Graph) (p : Plan) (i : ℕ) (live : List (Option (List (BoxAt G)))) : Type 0 where
   pub family : Clusters
   pub sound : IsSound family
   pub legal : AreLegalSteps g family (drop i p.steps)
@@ -59,8 +61,8 @@ pub record IsAfter {G : Type 0} (F : ℕ) (g : Graph) (p : Plan) (i : ℕ) (live
   pub latest : 0 < i → IsLive family (Step i)
   pub slots : length live ≡ i + 1
   pub there : (c : Cluster) → Contains family.live c → IsThere g live c.name
-  pub placed : (c : Cluster) → Contains family.live c → (bs : List (BoxAt G)) → held F g live c.name ≡ Some bs → ArePlaced F g p c bs
-  pub settled : (s : PlanStep) → Contains (take i p.steps) s → (t : Tree) → HasTree p s.step t → (bs : List (BoxAt G)) × HasBoxes F g p.steps t bs
+  pub placed : (c : Cluster) → Contains family.live c → (bs : List (BoxAt G)) → held F g live c.name ≡ Some bs → ArePlaced placing F g p c bs
+  pub settled : (s : PlanStep) → Contains (take i p.steps) s → (t : Tree) → HasTree p s.step t → (bs : List (BoxAt G)) × HasBoxes placing F g p.steps t bs
 
 -- the boxes of the step's three children
 pub record AreHeld {G : Type 0} (F : ℕ) (g : Graph) (live : List (Option (List (BoxAt G)))) (s : PlanStep) (one two three : List (BoxAt G)) : Type 0 where
@@ -78,24 +80,24 @@ pub record CanJoin {G : Type 0} (F : ℕ) (g : Graph) (live : List (Option (List
   pub constructible : (x y z : List (BoxAt G)) → AreHeld F g live s x y z → IsConstructible (given s.choice (ordered (setting s x y z)))
 
 -- this is what the step makes of its three children
-pub record IsMadeOf {G : Type 0} (F : ℕ) (g : Graph) (live : List (Option (List (BoxAt G)))) (s : PlanStep) (outcome : Result (List (BoxAt G)) StepFault) : Type 0 where
+pub record IsMadeOf {G : Type 0} (placing : PlaceBy) (F : ℕ) (g : Graph) (live : List (Option (List (BoxAt G)))) (s : PlanStep) (outcome : Result (List (BoxAt G)) StepFault) : Type 0 where
   pub one : List (BoxAt G)
   pub two : List (BoxAt G)
   pub three : List (BoxAt G)
   pub are : AreHeld F g live s one two three
-  pub is : joined F s one two three ≡ outcome
+  pub is : joined placing F s one two three ≡ outcome
 
 -- the answer is what the step makes, or memory ran out
-abbrev pub IsStepOf : {G : Type 0} → ℕ → Graph → List (Option (List (BoxAt G))) → PlanStep → Result (List (BoxAt G)) PlaceError → Type 0
-IsStepOf F g live s (Ok bs) = IsMadeOf F g live s (Ok bs)
-IsStepOf F g live s (Err (Fault f)) = IsMadeOf F g live s (Err f)
-IsStepOf F g live s (Err NoMemory) = Unit {0}
+abbrev pub IsStepOf : {G : Type 0} → PlaceBy → ℕ → Graph → List (Option (List (BoxAt G))) → PlanStep → Result (List (BoxAt G)) PlaceError → Type 0
+IsStepOf placing F g live s (Ok bs) = IsMadeOf placing F g live s (Ok bs)
+IsStepOf placing F g live s (Err (Fault f)) = IsMadeOf placing F g live s (Err f)
+IsStepOf placing F g live s (Err NoMemory) = Unit {0}
 
 -- all steps are done; or the plan has this fault
-abbrev pub IsRun : {G : Type 0} → ℕ → Graph → Plan → Result (List (Option (List (BoxAt G)))) PlaceError → Type 0
-IsRun F g p (Ok live) = IsAfter F g p (length p.steps) live
-IsRun {G} F g p (Err (Fault f)) = (let refused : Result (List (BoxAt G)) PlaceError = Err (Fault f) in IsPlaced F g p refused × ((k : ℕ) → IsKept F k g p refused))
-IsRun F g p (Err NoMemory) = Unit {0}
+abbrev pub IsRun : {G : Type 0} → PlaceBy → ℕ → Graph → Plan → Result (List (Option (List (BoxAt G)))) PlaceError → Type 0
+IsRun placing F g p (Ok live) = IsAfter placing F g p (length p.steps) live
+IsRun {G} placing F g p (Err (Fault f)) = (let refused : Result (List (BoxAt G)) PlaceError = Err (Fault f) in IsPlaced placing F g p refused × (placing ≡ Boxes → (k : ℕ) → IsKept F k g p refused))
+IsRun placing F g p (Err NoMemory) = Unit {0}
 
 -- the last step's name; where there is none, that of the first constraint; and else nothing
 abbrev pub IsLastName : Plan → Option Name → Type 0

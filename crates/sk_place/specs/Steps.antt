@@ -19,6 +19,8 @@ use Rattle.sk_place.specs.declared.boxes.BoxAt.{BoxAt}
 use Rattle.sk_place.specs.declared.fault.Phase.TheVariants.{Build, First, Second}
 use Rattle.sk_place.specs.declared.fault.StepFault.{StepFault}
 use Rattle.sk_place.specs.declared.setting.Setting.{Setting}
+use Rattle.sk_place.specs.declared.settling.PlaceBy.{PlaceBy}
+use Rattle.sk_place.specs.Settling.{settled_box}
 use Rattle.sk_place.specs.Clusters.{Rise, Holds, box_of, with_box, with_boxes, comes_first}
 use Rattle.sk_place.specs.Carrying.{faulty, and_then, carried_child}
 
@@ -68,20 +70,20 @@ given choice t = record {
 }
 
 -- the boxes that are there, and those of the first and then the second child, carried
-abbrev pub with_children : {G : Type 0} → ℕ → Name → Setting G → List (BoxAt G) → Result (List (BoxAt G)) StepFault
-with_children F step t now =
-    and_then (carried_child F step First t.u t.w t.first now) (λ xs.
-    and_then (carried_child F step Second t.v t.w t.second now) (λ ys.
+abbrev pub with_children : {G : Type 0} → PlaceBy → ℕ → Name → Setting G → List (BoxAt G) → Result (List (BoxAt G)) StepFault
+with_children placing F step t now =
+    and_then (carried_child placing F step First t.u t.w t.first now) (λ xs.
+    and_then (carried_child placing F step Second t.v t.w t.second now) (λ ys.
     Ok (with_boxes ys (with_boxes xs now))))
 
--- w is constructed, and then the children are carried to the kept child's boxes and w's
-abbrev pub joined_in : {G : Type 0} → ℕ → PlanStep → Setting G → Result (List (BoxAt G)) StepFault
-joined_in F s t =
-    and_then (faulty s.step Build t.w (third_element F (given s.choice t))) (λ w.
-    with_children F s.step t (with_box (record { elem = t.w; at = w }) t.kept))
+-- w is constructed, and settled where places are points, and then the children are carried to the kept child's boxes and w's
+abbrev pub joined_in : {G : Type 0} → PlaceBy → ℕ → PlanStep → Setting G → Result (List (BoxAt G)) StepFault
+joined_in placing F s t =
+    and_then (faulty s.step Build t.w (settled_box placing F (third_element F (given s.choice t)))) (λ w.
+    with_children placing F s.step t (with_box (record { elem = t.w; at = w }) t.kept))
 
-abbrev pub joined : {G : Type 0} → ℕ → PlanStep → List (BoxAt G) → List (BoxAt G) → List (BoxAt G) → Result (List (BoxAt G)) StepFault
-joined F s one two three = joined_in F s (ordered (setting s one two three))
+abbrev pub joined : {G : Type 0} → PlaceBy → ℕ → PlanStep → List (BoxAt G) → List (BoxAt G) → List (BoxAt G) → Result (List (BoxAt G)) StepFault
+joined placing F s one two three = joined_in placing F s (ordered (setting s one two three))
 
 -- each child's numbers rise, and each holds its two of u, v and w, which differ; w is new to the kept one
 pub record HasCorners {G : Type 0} (t : Setting G) : Type 0 where

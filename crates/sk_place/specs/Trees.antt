@@ -14,6 +14,7 @@ use Rattle.sk_tree.specs.declared.PlanStep.{PlanStep}
 use Rattle.sk_tree.specs.declared.Tree.{Tree}
 use Rattle.sk_tree.specs.declared.Tree.TheVariants.{Leaf, Join'}
 use Rattle.sk_place.specs.declared.boxes.BoxAt.{BoxAt}
+use Rattle.sk_place.specs.declared.settling.PlaceBy.{PlaceBy}
 use Rattle.sk_place.specs.declared.fault.StepFault.{StepFault}
 use Rattle.sk_place.specs.Clusters.{with_box, with_boxes}
 use Rattle.sk_place.specs.Steps.{joined}
@@ -49,12 +50,12 @@ frame_of F (Some (block b)) = Some (pin_boxes F b.pins)
 frame_of F None = None
 
 -- what the step of this name makes of its three children's boxes: boxes, or a fault; nothing where a child has no boxes
-abbrev pub made : {G : Type 0} → ℕ → Option PlanStep → Option (List (BoxAt G)) → Option (List (BoxAt G)) → Option (List (BoxAt G)) → Option (Result (List (BoxAt G)) StepFault)
-made F (Some s) (Some one) (Some two) (Some three) = Some (joined F s one two three)
-made F (Some s) (Some one) (Some two) None = None
-made F (Some s) (Some one) None three = None
-made F (Some s) None two three = None
-made F None one two three = None
+abbrev pub made : {G : Type 0} → PlaceBy → ℕ → Option PlanStep → Option (List (BoxAt G)) → Option (List (BoxAt G)) → Option (List (BoxAt G)) → Option (Result (List (BoxAt G)) StepFault)
+made placing F (Some s) (Some one) (Some two) (Some three) = Some (joined placing F s one two three)
+made placing F (Some s) (Some one) (Some two) None = None
+made placing F (Some s) (Some one) None three = None
+made placing F (Some s) None two three = None
+made placing F None one two three = None
 
 abbrev pub boxes_in : {X E : Type 0} → Option (Result X E) → Option X
 boxes_in (Some (Ok x)) = Some x
@@ -62,24 +63,24 @@ boxes_in (Some (Err e)) = None
 boxes_in None = None
 
 -- the boxes of a tree: the frame of a constraint or a block, or what a step makes of the boxes of its three children
-abbrev pub boxes : {G : Type 0} → ℕ → Graph → List PlanStep → Tree → Option (List (BoxAt G))
-boxes F g steps (Leaf c) = frame_of F (framed_of g c.0)
-boxes F g steps (Join' p step shared one two three) =
-    boxes_in (made F (step_of steps step) (boxes F g steps one) (boxes F g steps two) (boxes F g steps three))
+abbrev pub boxes : {G : Type 0} → PlaceBy → ℕ → Graph → List PlanStep → Tree → Option (List (BoxAt G))
+boxes placing F g steps (Leaf c) = frame_of F (framed_of g c.0)
+boxes placing F g steps (Join' p step shared one two three) =
+    boxes_in (made placing F (step_of steps step) (boxes placing F g steps one) (boxes placing F g steps two) (boxes placing F g steps three))
 
 -- f is the fault of a join whose three children have boxes
-abbrev pub IsFault : Type 0 → ℕ → Graph → List PlanStep → Tree → StepFault → Type 0
-IsFault G F g steps (Leaf c) f = ⊥
-IsFault G F g steps (Join' p step shared one two three) f =
-    (made {G = G} F (step_of steps step) (boxes F g steps one) (boxes F g steps two) (boxes F g steps three) ≡ Some (Err f))
-    ⊎ (IsFault G F g steps one f ⊎ (IsFault G F g steps two f ⊎ IsFault G F g steps three f))
+abbrev pub IsFault : Type 0 → PlaceBy → ℕ → Graph → List PlanStep → Tree → StepFault → Type 0
+IsFault G placing F g steps (Leaf c) f = ⊥
+IsFault G placing F g steps (Join' p step shared one two three) f =
+    (made {G = G} placing F (step_of steps step) (boxes placing F g steps one) (boxes placing F g steps two) (boxes placing F g steps three) ≡ Some (Err f))
+    ⊎ (IsFault G placing F g steps one f ⊎ (IsFault G placing F g steps two f ⊎ IsFault G placing F g steps three f))
 
 -- no join of a lesser step has a fault
-pub record IsFirstFault (G : Type 0) (F : ℕ) (g : Graph) (steps : List PlanStep) (t : Tree) (f : StepFault) : Type 0 where
-  pub fails : IsFault G F g steps t f
-  pub first : (other : StepFault) → IsFault G F g steps t other → ¬ IsBelow other.step f.step
+pub record IsFirstFault (G : Type 0) (placing : PlaceBy) (F : ℕ) (g : Graph) (steps : List PlanStep) (t : Tree) (f : StepFault) : Type 0 where
+  pub fails : IsFault G placing F g steps t f
+  pub first : (other : StepFault) → IsFault G placing F g steps t other → ¬ IsBelow other.step f.step
 
 -- the tree has these boxes, and no join of it has a fault
-pub record HasBoxes {G : Type 0} (F : ℕ) (g : Graph) (steps : List PlanStep) (t : Tree) (bs : List (BoxAt G)) : Type 0 where
-  pub are : boxes F g steps t ≡ Some bs
-  pub faultless : (f : StepFault) → ¬ IsFault G F g steps t f
+pub record HasBoxes {G : Type 0} (placing : PlaceBy) (F : ℕ) (g : Graph) (steps : List PlanStep) (t : Tree) (bs : List (BoxAt G)) : Type 0 where
+  pub are : boxes placing F g steps t ≡ Some bs
+  pub faultless : (f : StepFault) → ¬ IsFault G placing F g steps t f

@@ -1,12 +1,14 @@
 // A child's further boxes, carried to where the kept child lies.
 ghost use Rattle.std.specs.Prelude.{◌≡◌};
-ghost use Rattle.sk_motion.specs.Motions.{AreAlike};
+ghost use Rattle.sk_motion.specs.Motions.{motion, AreAlike};
 ghost use Rattle.sk_place.specs.Clusters.{Rise, Holds, comes_first};
-ghost use Rattle.sk_place.specs.Carrying.{pair_in, carried_each, moved, carried_child, AreShared, Answers};
+ghost use Rattle.sk_place.specs.Settling.{settled_turn};
+ghost use Rattle.sk_place.specs.Carrying.{faulty, pair_in, carried_each, moved, carried_child, AreShared, Answers};
 
 use crate::boxes::BoxAt;
 use crate::fault::{PlaceError, Stage, faulty};
 use crate::lookup::{besides, box_of};
+use crate::settling::{PlaceBy, settled_box, settled_turn};
 use sk_base::{Elem, Kind, List};
 use sk_interval::Grid;
 use sk_motion::{Motion, Pair, carry, motion_by};
@@ -42,23 +44,40 @@ fn pair_in<G: Grid>(boxes: &[BoxAt<G>], p: Elem, q: Elem) -> Pair<G>
 /// The boxes in their order, each moved.
 fn carried_each<G: Grid>(
     alloc: Global,
+    placing: PlaceBy,
     stage: Stage,
     motion: &Motion<G>,
     boxes: &[BoxAt<G>],
 ) -> Result<List<BoxAt<G>>, PlaceError>
-    ensures { Answers result (carried_each G.BITS stage.step stage.phase motion.now boxes.now) }
+    ensures { Answers result (carried_each placing G.BITS stage.step stage.phase motion.now boxes.now) }
 {
     let mut carried = List::new(alloc);
     for b in boxes {
-        let at = faulty(stage, b.elem, carry(motion, &b.at))?;
+        let made = carry(motion, &b.at);
+        let at = faulty(stage, b.elem, settled_box(placing, made))?;
         carried.push(BoxAt { elem: b.elem, at })?;
     }
     Ok(carried)
 }
 
+/// The motion that takes p and q from where they were to where they are.
+fn motion_of<G: Grid>(
+    placing: PlaceBy,
+    stage: Stage,
+    p: Elem,
+    old: &Pair<G>,
+    new: &Pair<G>,
+) -> Result<Motion<G>, PlaceError>
+    requires { AreAlike old.now new.now }
+    ensures { Answers result (faulty stage.step stage.phase p (settled_turn placing G.BITS (motion G.BITS old.now new.now))) }
+{
+    faulty(stage, p, settled_turn(placing, motion_by(old, new)))
+}
+
 /// Some boxes, if there are any, moved as p and q are.
 fn moved<G: Grid>(
     alloc: Global,
+    placing: PlaceBy,
     stage: Stage,
     old: &Pair<G>,
     new: &Pair<G>,
@@ -66,19 +85,20 @@ fn moved<G: Grid>(
     boxes: &[BoxAt<G>],
 ) -> Result<List<BoxAt<G>>, PlaceError>
     requires { AreAlike old.now new.now }
-    ensures { Answers result (moved G.BITS stage.step stage.phase p old.now new.now boxes.now) }
+    ensures { Answers result (moved placing G.BITS stage.step stage.phase p old.now new.now boxes.now) }
 {
     if boxes.is_empty() {
         return Ok(List::new(alloc));
     }
-    let motion = faulty(stage, p, motion_by(old, new))?;
-    carried_each(alloc, stage, &motion, boxes)
+    let motion = motion_of(placing, stage, p, old, new)?;
+    carried_each(alloc, placing, stage, &motion, boxes)
 }
 
 /// The child's boxes besides those of p and q, moved as p and q are from the child to where they
 /// are now.
 pub(crate) fn carried_child<G: Grid>(
     alloc: Global,
+    placing: PlaceBy,
     stage: Stage,
     p: Elem,
     q: Elem,
@@ -86,7 +106,7 @@ pub(crate) fn carried_child<G: Grid>(
     now: &[BoxAt<G>],
 ) -> Result<List<BoxAt<G>>, PlaceError>
     requires { AreShared p q child.now now.now }
-    ensures { Answers result (carried_child G.BITS stage.step stage.phase p q child.now now.now) }
+    ensures { Answers result (carried_child placing G.BITS stage.step stage.phase p q child.now now.now) }
 {
     let further = besides(alloc, child, p, q)?;
     let (p, q) = if comes_first(child, p, q) {
@@ -95,5 +115,5 @@ pub(crate) fn carried_child<G: Grid>(
         (q, p)
     };
     let (old, new) = (pair_in(child, p, q), pair_in(now, p, q));
-    moved(alloc, stage, &old, &new, p, further.as_slice())
+    moved(alloc, placing, stage, &old, &new, p, further.as_slice())
 }

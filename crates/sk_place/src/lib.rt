@@ -11,9 +11,11 @@ mod lookup;
 mod placing;
 mod rounding;
 mod setting;
+mod settling;
 
 pub use boxes::{BoxAt, Boxes};
 pub use fault::{Phase, PlaceError, StepFault};
 pub use law::one_placing;
 pub use placing::place;
 pub use rounding::round;
+pub use settling::PlaceBy;

@@ -12,6 +12,7 @@ use crate::boxes::{BoxAt, Boxes};
 use crate::fault::PlaceError;
 use crate::joining::joined;
 use crate::live::{Live, taken};
+use crate::settling::PlaceBy;
 use sk_base::{Graph, Kind, List, Name, NoMemory};
 use sk_interval::{Grid, Iv};
 use sk_steps::BoxOf;
@@ -21,31 +22,37 @@ use std::alloc::Global;
 /// The boxes that the step makes of its three children, which are no longer live.
 fn stepped<G: Grid>(
     alloc: Global,
+    placing: PlaceBy,
     g: &Graph,
     live: &mut Live<G>,
     step: &PlanStep,
 ) -> Result<List<BoxAt<G>>, PlaceError>
     requires sound { IsSoundGraph g.now }
     requires possible { CanJoin G.BITS g.now live.old step.now }
-    ensures value { IsStepOf G.BITS g.now live.old step.now result }
+    ensures value { IsStepOf placing G.BITS g.now live.old step.now result }
     ensures slots { IfOk result (λ bs. length live.new ≡ length live.old) }
     ensures others { IfOk result (λ bs. (n : OfName) → n ≢ step.now.one → n ≢ step.now.two → n ≢ step.now.three → held G.BITS g.now live.new n ≡ held G.BITS g.now live.old n) }
 {
     let one = taken(alloc, g, live, step.one)?;
     let two = taken(alloc, g, live, step.two)?;
     let three = taken(alloc, g, live, step.three)?;
-    joined(alloc, step, one, two, three)
+    joined(alloc, placing, step, one, two, three)
 }
 
 /// The boxes of the clusters that are live after all steps.
-fn run<G: Grid>(alloc: Global, plan: &Plan, g: &Graph) -> Result<Live<G>, PlaceError>
+fn run<G: Grid>(
+    alloc: Global,
+    placing: PlaceBy,
+    plan: &Plan,
+    g: &Graph,
+) -> Result<Live<G>, PlaceError>
     requires sound { IsSoundGraph g.now }
     requires legal { IsLegalPlan g.now plan.now }
-    ensures { IsRun G.BITS g.now plan.now result }
+    ensures { IsRun placing G.BITS g.now plan.now result }
 {
     let mut live = Live::new(alloc)?;
     for step in plan.steps.as_slice() {
-        let boxes = stepped(alloc, g, &mut live, step)?;
+        let boxes = stepped(alloc, placing, g, &mut live, step)?;
         live.push(boxes)?;
     }
     Ok(live)
@@ -95,17 +102,22 @@ fn lone_boxes<G: Grid>(alloc: Global, g: &Graph) -> Result<List<BoxAt<G>>, NoMem
 }
 
 /// Where the plan places the elements of its graph: the boxes of its tree, or the tree's first fault.
-pub fn place<G: Grid>(alloc: Global, plan: &Plan, g: &Graph) -> Result<Boxes<G>, PlaceError>
+pub fn place<G: Grid>(
+    alloc: Global,
+    placing: PlaceBy,
+    plan: &Plan,
+    g: &Graph,
+) -> Result<Boxes<G>, PlaceError>
     requires sound { IsSoundGraph g.now }
     requires legal { IsLegalPlan g.now plan.now }
-    ensures placed { IsPlaced G.BITS g.now plan.now result }
+    ensures placed { IsPlaced placing G.BITS g.now plan.now result }
     ensures nodes { IfOk result (λ bs. nodes_of bs ≡ g.now.nodes) }
-    ensures nested { (k : ℕ) → IsKept G.BITS k g.now plan.now result }
+    ensures nested { placing ≡ PlaceBy.Boxes → (k : ℕ) → IsKept G.BITS k g.now plan.now result }
 {
     match last_name(plan) {
         None => Ok(Boxes::of(lone_boxes(alloc, g)?)),
         Some(name) => {
-            let mut live = run(alloc, plan, g)?;
+            let mut live = run(alloc, placing, plan, g)?;
             Ok(Boxes::of(taken(alloc, g, &mut live, name)?))
         }
     }

@@ -36,4 +36,4 @@ returns-clause-value g c =
       second = sym (c.in_ok-one.ensures.others s.two (λ e. differ.0 (sym e))) ∙ c.in_ok-two.ensures.boxes;
       third = sym (c.in_ok-two.ensures.others s.three (λ e. differ.1 (sym e)) ∙ c.in_ok-one.ensures.others s.three differ.2) ∙ c.in_ok-three.ensures.boxes;
     } in
-    answered g.G.Grid.BITS c.args.g.now c.args.live.now s c.in_ok-one.one c.in_ok-two.two c.in_ok-three.three are c.joined.result c.joined.ensures
+    answered c.args.placing g.G.Grid.BITS c.args.g.now c.args.live.now s c.in_ok-one.one c.in_ok-two.two c.in_ok-three.three are c.joined.result c.joined.ensures
