@@ -1,6 +1,6 @@
 -- Where elements are found for two lists, steps of one of them alone are placed with other signs.
 use Rattle.std.proofs.Common.{◌≡◌, ◌≢◌, ℕ, Bool, true, false, cond, List, [], ◌∷◌, map, refl, sym, ap, subst, ◌∙◌}
-use Rattle.std.specs.Prelude.{Contains, not, ◌&&◌, ◌||◌}
+use Rattle.std.specs.Prelude.{Contains, not, ◌||◌}
 use Rattle.std.proofs.lemmas.Bool.{and_parts, not-true, not-false}
 use Rattle.std.proofs.lemmas.List.Elements.{Contains-append_right}
 use Rattle.sk_base.specs.declared.Name.{Name}
@@ -22,6 +22,7 @@ use Rattle.sk_tree.specs.declared.Plan.{Plan}
 use Rattle.sk_tree.specs.declared.PlanStep.{PlanStep}
 use Rattle.sk_tree.specs.ByNumber.{by_number}
 use Rattle.sk_tree.specs.LegalPlan.{IsLegalPlan}
+use Rattle.sk_place.specs.declared.PlaceBy.{PlaceBy}
 use Rattle.sk_residual.specs.declared.Tolerance.{Tolerance}
 use Rattle.sk_residual.specs.declared.Turned.{Turned as SignThere}
 use Rattle.sk_residual.specs.declared.Wanted.TheVariants.{Chosen}
@@ -68,8 +69,8 @@ module _ (s : Sketch) (p : Plan) where
       (there, refl, all there (Contains-append_right (constraint_signs s at s.constraints) (signs_of_steps Chosen s at (flipped names p).steps) there among))
 
   -- where elements are found, all signs are as they are chosen
-  found_as_chosen : (G : Type 0) (F limit : ℕ) (names : List Name) (at : Placed) (tol : Tolerance) → IsAlternative G F limit s p names (Found at tol) → AllAsDrawn (signs_wanted Chosen s at (flipped names p))
-  found_as_chosen G F limit names at tol (chosen, (boxes, placed, (lies, all, drawn, tolerance))) = subst (λ (here : Placed). AllAsDrawn (signs_wanted Chosen s here (flipped names p))) (sym lies) drawn
+  found_as_chosen : (G : Type 0) (placing : PlaceBy) (F limit : ℕ) (names : List Name) (at : Placed) (tol : Tolerance) → IsAlternative G placing F limit s p names (Found at tol) → AllAsDrawn (signs_wanted Chosen s at (flipped names p))
+  found_as_chosen G placing F limit names at tol (chosen, (boxes, placed, (lies, all, drawn, tolerance))) = subst (λ (here : Placed). AllAsDrawn (signs_wanted Chosen s here (flipped names p))) (sym lies) drawn
 
   one_sign : IsSoundSketch s → IsLegalPlan (graph_of s) p → (at : Placed) (step : PlanStep) → Contains p.steps step → is_open step.choice ≡ true → (sign : SignThere) × (choices s at step.step (by_number step.a step.b step.c) ≡ sign ∷ [])
   one_sign sound legal at step h opens =
@@ -77,11 +78,11 @@ module _ (s : Sketch) (p : Plan) where
       let differ = taken.1.joins.meets.triangle.differ in
       open_sign s at step.step step.a step.b step.c differ.0 differ.1 differ.2 sound step.choice opens taken.1.choice
 
-  pub other_signs : (G : Type 0) (F limit : ℕ) (names others : List Name) (at there : Placed) (tol beside : Tolerance) → IsSoundSketch s → IsLegalPlan (graph_of s) p
-      → IsAlternative G F limit s p names (Found at tol) → IsAlternative G F limit s p others (Found there beside)
+  pub other_signs : (G : Type 0) (placing : PlaceBy) (F limit : ℕ) (names others : List Name) (at there : Placed) (tol beside : Tolerance) → IsSoundSketch s → IsLegalPlan (graph_of s) p
+      → IsAlternative G placing F limit s p names (Found at tol) → IsAlternative G placing F limit s p others (Found there beside)
       → (n : Name) → Contains names n → ¬ Contains others n
       → (step : PlanStep) × Contains p.steps step × (step.step ≡ n) × (placed_signs s at step ≢ placed_signs s there step)
-  other_signs G F limit names others at there tol beside sound legal here_is there_is n n_in n_out =
+  other_signs G placing F limit names others at there tol beside sound legal here_is there_is n n_in n_out =
       let chosen = not-false (has_choice p.steps n) (none_found (λ (m : Name). not (has_choice p.steps m)) names here_is.0 n n_in) in
       let found = open_step p.steps n chosen in
       let step = found.0 in
@@ -91,8 +92,8 @@ module _ (s : Sketch) (p : Plan) where
       let other = one_sign sound legal there step found.1 tests.1 in
       let flips : is_named names step.step ≡ true = subst (λ (m : Name). is_named names m ≡ true) (sym named) (named_among names n n_in) in
       let stays : is_named others step.step ≡ false = subst (λ (m : Name). is_named others m ≡ false) (sym named) (not-true (is_named others n) (unnamed_true others n n_out)) in
-      let wanted = as_wanted_there at names step one.0 (found_as_chosen G F limit names at tol here_is) found.1 one.1 in
-      let unwanted = as_wanted_there there others step other.0 (found_as_chosen G F limit others there beside there_is) found.1 other.1 in
+      let wanted = as_wanted_there at names step one.0 (found_as_chosen G placing F limit names at tol here_is) found.1 one.1 in
+      let unwanted = as_wanted_there there others step other.0 (found_as_chosen G placing F limit others there beside there_is) found.1 other.1 in
       let turned_is : wanted.0 ≡ as_chosen (turned step.choice) one.0 = wanted.1 ∙ ap (λ (b : Bool). as_chosen (cond b (turned step.choice) step.choice) one.0) flips in
       let kept_is : unwanted.0 ≡ as_chosen step.choice other.0 = unwanted.1 ∙ ap (λ (b : Bool). as_chosen (cond b (turned step.choice) step.choice) other.0) stays in
       let apart : one.0.placed ≢ other.0.placed = not_both_ways step.choice one.0 other.0 tests.1

@@ -1,5 +1,5 @@
 -- A plan is placed in one way at most on a grid, and at most one alternative comes of each list of steps.
-use Rattle.std.proofs.Common.{◌≡◌, ◌⊎◌, inl, inr, ℕ, List, [], ◌∷◌, ◌++◌, map, Option, None, Some, Ok, Err, refl, ap, sym, subst, ◌∙◌}
+use Rattle.std.proofs.Common.{◌≡◌, ◌⊎◌, inl, inr, ℕ, List, [], ◌∷◌, map, Option, None, Some, Ok, Err, refl, ap, sym, subst, ◌∙◌}
 use Rattle.std.specs.Option.{option_map}
 use Rattle.std.proofs.lemmas.List.{map-append}
 use Rattle.sk_base.specs.declared.Name.{Name}
@@ -15,6 +15,7 @@ use Rattle.sk_tree.specs.declared.Tree.{Tree}
 use Rattle.sk_tree.specs.LegalPlan.{IsLegalPlan, taken_told}
 use Rattle.sk_tree.specs.PlanTree.{IsPlanTree}
 use Rattle.sk_tree.specs.Trees.{IsTreeOf}
+use Rattle.sk_place.specs.declared.PlaceBy.{PlaceBy}
 use Rattle.sk_place.specs.declared.BoxAt.{BoxAt}
 use Rattle.sk_place.specs.declared.StepFault.{StepFault}
 use Rattle.sk_place.specs.declared.PlaceError.TheVariants as errors
@@ -73,26 +74,26 @@ same_measured wanted limit s p at (Holds y t) (Holds z u) first second =
     ap (λ x. Holds x t) (first.0 ∙ sym second.0) ∙ ap (λ x. Holds z x) (same_tolerance at (graph_of s) t u first.3 second.3)
 
 -- a fault, or what is measured
-pub told_placed : (wanted : Wanted) (G : Type 0) (F limit : ℕ) (s : Sketch) (p : Plan) (q : Placement) → IsPlacement wanted G F limit s p q
-    → ((f : StepFault) × (q ≡ Fault f) × IsPlaced {G = G} F (graph_of s) p (Err (errors.Fault f))) ⊎ ((bs : List (BoxAt G)) × IsPlaced F (graph_of s) p (Ok bs) × IsMeasured wanted limit s p (midpoints F bs) q)
-told_placed wanted G F limit s p (Fault f) is = inl (f, refl, is)
-told_placed wanted G F limit s p (Beyond b) is = inr is
-told_placed wanted G F limit s p (Turned t) is = inr is
-told_placed wanted G F limit s p (Holds at t) is = inr is
+pub told_placed : (wanted : Wanted) (G : Type 0) (placing : PlaceBy) (F limit : ℕ) (s : Sketch) (p : Plan) (q : Placement) → IsPlacement wanted G placing F limit s p q
+    → ((f : StepFault) × (q ≡ Fault f) × IsPlaced {G = G} placing F (graph_of s) p (Err (errors.Fault f))) ⊎ ((bs : List (BoxAt G)) × IsPlaced placing F (graph_of s) p (Ok bs) × IsMeasured wanted limit s p (midpoints F bs) q)
+told_placed wanted G placing F limit s p (Fault f) is = inl (f, refl, is)
+told_placed wanted G placing F limit s p (Beyond b) is = inr is
+told_placed wanted G placing F limit s p (Turned t) is = inr is
+told_placed wanted G placing F limit s p (Holds at t) is = inr is
 
-pub same_placement : (wanted : Wanted) (G : Type 0) (F limit : ℕ) (s : Sketch) (p : Plan) → IsLegalPlan (graph_of s) p → HasTree p → (q r : Placement) → IsPlacement wanted G F limit s p q → IsPlacement wanted G F limit s p r → q ≡ r
-same_placement wanted G F limit s p legal tree q r first second =
+pub same_placement : (wanted : Wanted) (G : Type 0) (placing : PlaceBy) (F limit : ℕ) (s : Sketch) (p : Plan) → IsLegalPlan (graph_of s) p → HasTree p → (q r : Placement) → IsPlacement wanted G placing F limit s p q → IsPlacement wanted G placing F limit s p r → q ≡ r
+same_placement wanted G placing F limit s p legal tree q r first second =
     let g = graph_of s in
-    elim (told_placed wanted G F limit s p q first) [
-      | inl (f, q_is, failed) ↦ elim (told_placed wanted G F limit s p r second) [
-        | inl (e, r_is, failed') ↦ q_is ∙ ap Fault (one_failure G F g p legal tree f e failed failed') ∙ sym r_is
-        | inr (cs, placed', measured') ↦ absurd (not_both G F g p legal tree cs f placed' failed)
+    elim (told_placed wanted G placing F limit s p q first) [
+      | inl (f, q_is, failed) ↦ elim (told_placed wanted G placing F limit s p r second) [
+        | inl (e, r_is, failed') ↦ q_is ∙ ap Fault (one_failure G placing F g p legal tree f e failed failed') ∙ sym r_is
+        | inr (cs, placed', measured') ↦ absurd (not_both G placing F g p legal tree cs f placed' failed)
       ]
-      | inr (bs, placed, measured) ↦ elim (told_placed wanted G F limit s p r second) [
-        | inl (e, r_is, failed') ↦ absurd (not_both G F g p legal tree bs e placed failed')
+      | inr (bs, placed, measured) ↦ elim (told_placed wanted G placing F limit s p r second) [
+        | inl (e, r_is, failed') ↦ absurd (not_both G placing F g p legal tree bs e placed failed')
         | inr (cs, placed', measured') ↦
             same_measured wanted limit s p (midpoints F cs) q r
-            (subst (λ xs. IsMeasured wanted limit s p (midpoints F xs) q) (one_list G F g p legal tree bs cs placed placed') measured) measured'
+            (subst (λ xs. IsMeasured wanted limit s p (midpoints F xs) q) (one_list G placing F g p legal tree bs cs placed placed') measured) measured'
       ]
     ]
 
@@ -110,9 +111,9 @@ flipped_tree names p t (inl (before, last, parts, tree)) = inl (
 )
 flipped_tree names p t (inr (k, none, leaf, is)) = inr (k, ap (map (flipped_step names)) none, leaf, is)
 
-module _ (G : Type 0) (F limit : ℕ) (s : Sketch) (p : Plan) (names : List Name) where
-  told_alternative : (a : Alternative) → IsAlternative G F limit s p names a
-      → ((n : Name) × (a ≡ found.NoChoice n) × (first_without_choice p names ≡ Some n)) ⊎ ((q : Placement) × (a ≡ alternative_of q) × IsTurnedPlacement G F limit s p names q)
+module _ (G : Type 0) (placing : PlaceBy) (F limit : ℕ) (s : Sketch) (p : Plan) (names : List Name) where
+  told_alternative : (a : Alternative) → IsAlternative G placing F limit s p names a
+      → ((n : Name) × (a ≡ found.NoChoice n) × (first_without_choice p names ≡ Some n)) ⊎ ((q : Placement) × (a ≡ alternative_of q) × IsTurnedPlacement G placing F limit s p names q)
   told_alternative (found.NoChoice n) is = inl (n, refl, is)
   told_alternative (found.Fault f) is = inr (Fault f, refl, is)
   told_alternative (found.Passed b) is = inr (Beyond b, refl, is)
@@ -125,7 +126,7 @@ module _ (G : Type 0) (F limit : ℕ) (s : Sketch) (p : Plan) (names : List Name
   not_some : (n : Name) (o : Option Name) → o ≡ Some n → o ≡ None → ⊥
   not_some n o one other = cc
 
-  pub same_alternative : IsLegalPlan (graph_of s) p → HasTree p → (a b : Alternative) → IsAlternative G F limit s p names a → IsAlternative G F limit s p names b → a ≡ b
+  pub same_alternative : IsLegalPlan (graph_of s) p → HasTree p → (a b : Alternative) → IsAlternative G placing F limit s p names a → IsAlternative G placing F limit s p names b → a ≡ b
   same_alternative legal tree a b first second =
       elim (told_alternative a first) [
         | inl (m, a_is, none) ↦ elim (told_alternative b second) [
@@ -136,19 +137,19 @@ module _ (G : Type 0) (F limit : ℕ) (s : Sketch) (p : Plan) (names : List Name
           | inl (n, b_is, none) ↦ absurd (not_some n (first_without_choice p names) none placed.0)
           | inr (r, b_is, placed') ↦
               a_is
-              ∙ ap alternative_of (same_placement Chosen G F limit s (flipped names p) (flipped_is_legal (graph_of s) names p legal) (λ some. (let whole = tree some in (whole.0, flipped_tree names p whole.0 whole.1))) q r placed.1 placed'.1)
+              ∙ ap alternative_of (same_placement Chosen G placing F limit s (flipped names p) (flipped_is_legal (graph_of s) names p legal) (λ some. (let whole = tree some in (whole.0, flipped_tree names p whole.0 whole.1))) q r placed.1 placed'.1)
               ∙ sym b_is
         ]
       ]
 
 -- one list of alternatives comes of lists of steps
-module _ (G : Type 0) (F limit : ℕ) (s : Sketch) (p : Plan) (legal : IsLegalPlan (graph_of s) p) (tree : HasTree p) where
-  pub same_alternatives : (lists : List (List Name)) (here there : List Alternative) → AreAlternatives G F limit s p lists here → AreAlternatives G F limit s p lists there → here ≡ there
+module _ (G : Type 0) (placing : PlaceBy) (F limit : ℕ) (s : Sketch) (p : Plan) (legal : IsLegalPlan (graph_of s) p) (tree : HasTree p) where
+  pub same_alternatives : (lists : List (List Name)) (here there : List Alternative) → AreAlternatives G placing F limit s p lists here → AreAlternatives G placing F limit s p lists there → here ≡ there
   same_alternatives [] [] [] first second = refl
   same_alternatives [] [] (b ∷ there) first second = absurd second
   same_alternatives [] (a ∷ here) there first second = absurd first
   same_alternatives (names ∷ lists) [] there first second = absurd first
   same_alternatives (names ∷ lists) (a ∷ here) [] first second = absurd second
   same_alternatives (names ∷ lists) (a ∷ here) (b ∷ there) first second =
-      ap (λ (x : Alternative). x ∷ here) (same_alternative G F limit s p names legal tree a b first.0 second.0)
+      ap (λ (x : Alternative). x ∷ here) (same_alternative G placing F limit s p names legal tree a b first.0 second.0)
       ∙ ap (λ (xs : List Alternative). b ∷ xs) (same_alternatives lists here there first.1 second.1)

@@ -13,6 +13,7 @@ use Rattle.sk_tree.specs.declared.Plan.{Plan}
 use Rattle.sk_steps.specs.declared.BoxOf.{BoxOf}
 use Rattle.sk_steps.specs.declared.BoxOf.TheVariants.{Point, Line}
 use Rattle.sk_steps.specs.Boxes.{kind_of}
+use Rattle.sk_place.specs.declared.PlaceBy.{PlaceBy}
 use Rattle.sk_place.specs.declared.BoxAt.{BoxAt}
 use Rattle.sk_place.specs.Clusters.{nodes_of}
 use Rattle.sk_place.specs.Placing.{IsPlaced}
@@ -44,18 +45,18 @@ spots_made F bs nodes spots nodes_are spots_are bounded =
     subst (λ ns. AreSpotsOf ns spots) nodes_are (subst (λ ss. AreSpotsOf (nodes_of bs) ss) (sym spots_are)
     (spots_of F bs (subst (λ ss. All (λ (spot : Spot). IsBounded spot.at) ss) spots_are bounded)))
 
-measured_there : (wanted : Wanted) (G : Type 0) (F limit : ℕ) (s : Sketch) (p : Plan) (boxes : List (BoxAt G)) (placement : Placement) → IsPlaced F (graph_of s) p (Ok boxes)
-    → IsMeasured wanted limit s p (midpoints F boxes) placement → IsPlacement wanted G F limit s p placement
-measured_there wanted G F limit s p boxes (Fault f) placed measured = absurd measured
-measured_there wanted G F limit s p boxes (Beyond b) placed measured = (boxes, placed, measured)
-measured_there wanted G F limit s p boxes (Turned t) placed measured = (boxes, placed, measured)
-measured_there wanted G F limit s p boxes (Holds at t) placed measured = (boxes, placed, measured)
+measured_there : (wanted : Wanted) (G : Type 0) (placing : PlaceBy) (F limit : ℕ) (s : Sketch) (p : Plan) (boxes : List (BoxAt G)) (placement : Placement) → IsPlaced placing F (graph_of s) p (Ok boxes)
+    → IsMeasured wanted limit s p (midpoints F boxes) placement → IsPlacement wanted G placing F limit s p placement
+measured_there wanted G placing F limit s p boxes (Fault f) placed measured = absurd measured
+measured_there wanted G placing F limit s p boxes (Beyond b) placed measured = (boxes, placed, measured)
+measured_there wanted G placing F limit s p boxes (Turned t) placed measured = (boxes, placed, measured)
+measured_there wanted G placing F limit s p boxes (Holds at t) placed measured = (boxes, placed, measured)
 
-pub placement_of : (wanted : Wanted) (G : Type 0) (F limit : ℕ) (s : Sketch) (p : Plan) (g : Graph) (boxes : List (BoxAt G)) (at : Placed) (placement : Placement) → g ≡ graph_of s → IsPlaced F g p (Ok boxes)
-    → at.spots ≡ map (rounded F) boxes → IsMeasured wanted limit s p at placement → IsPlacement wanted G F limit s p placement
-placement_of wanted G F limit s p g boxes at placement graph placed spots measured =
+pub placement_of : (wanted : Wanted) (G : Type 0) (placing : PlaceBy) (F limit : ℕ) (s : Sketch) (p : Plan) (g : Graph) (boxes : List (BoxAt G)) (at : Placed) (placement : Placement) → g ≡ graph_of s → IsPlaced placing F g p (Ok boxes)
+    → at.spots ≡ map (rounded F) boxes → IsMeasured wanted limit s p at placement → IsPlacement wanted G placing F limit s p placement
+placement_of wanted G placing F limit s p g boxes at placement graph placed spots measured =
     let make : List Spot → Placed = λ ss. record { spots = ss } in
-    measured_there wanted G F limit s p boxes placement (subst (λ h. IsPlaced F h p (Ok boxes)) graph placed)
+    measured_there wanted G placing F limit s p boxes placement (subst (λ h. IsPlaced placing F h p (Ok boxes)) graph placed)
     (subst (λ here. IsMeasured wanted limit s p here placement) (ap make spots) measured)
 
 -- what is measured lies where elements lie

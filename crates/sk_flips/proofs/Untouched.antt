@@ -13,6 +13,7 @@ use Rattle.sk_tree.specs.declared.Plan.{Plan}
 use Rattle.sk_tree.specs.declared.PlanStep.{PlanStep}
 use Rattle.sk_tree.specs.ByNumber.{by_number}
 use Rattle.sk_tree.specs.LegalPlan.{IsLegalPlan}
+use Rattle.sk_place.specs.declared.PlaceBy.{PlaceBy}
 use Rattle.sk_residual.specs.declared.Turned.{Turned as SignThere}
 use Rattle.sk_residual.specs.declared.Wanted.TheVariants.{Drawn, Chosen}
 use Rattle.sk_residual.specs.Telling.{HasCorners}
@@ -52,13 +53,13 @@ none_flipped (step ∷ steps) = ap (λ (more : List PlanStep). step ∷ more) (n
 pub flipped_by_none : (p : Plan) → flipped [] p ≡ p
 flipped_by_none p = ap (λ (steps : List PlanStep). let plan : Plan = record { leaves = p.leaves; steps = steps } in plan) (none_flipped p.steps)
 
-module _ (G : Type 0) (F limit : ℕ) (s : Sketch) (p : Plan) (same : (at : Placed) → signs_wanted Chosen s at p ≡ signs_wanted Drawn s at p) where
-  as_chosen_too : (placement : Placement) → IsPlacement Drawn G F limit s p placement → IsPlacement Chosen G F limit s p placement
+module _ (G : Type 0) (placing : PlaceBy) (F limit : ℕ) (s : Sketch) (p : Plan) (same : (at : Placed) → signs_wanted Chosen s at p ≡ signs_wanted Drawn s at p) where
+  as_chosen_too : (placement : Placement) → IsPlacement Drawn G placing F limit s p placement → IsPlacement Chosen G placing F limit s p placement
   as_chosen_too (Fault f) is = is
   as_chosen_too (Beyond b) is = is
   as_chosen_too (Turned t) (boxes, placed, (all, first)) = (boxes, placed, (all, rw (same (midpoints F boxes)) first))
   as_chosen_too (Holds at t) (boxes, placed, (lies, all, drawn, tolerance)) = (boxes, placed, (lies, all, rw (same (midpoints F boxes)) drawn, tolerance))
 
-  pub placed_untouched : (placement : Placement) → IsPlacement Drawn G F limit s p placement → IsAlternative G F limit s p [] (alternative_of placement)
+  pub placed_untouched : (placement : Placement) → IsPlacement Drawn G placing F limit s p placement → IsAlternative G placing F limit s p [] (alternative_of placement)
   placed_untouched placement is =
-      is_alternative G F limit s p [] placement (refl, subst (λ (plan : Plan). IsPlacement Chosen G F limit s plan placement) (sym (flipped_by_none p)) (as_chosen_too placement is))
+      is_alternative G placing F limit s p [] placement (refl, subst (λ (plan : Plan). IsPlacement Chosen G placing F limit s plan placement) (sym (flipped_by_none p)) (as_chosen_too placement is))

@@ -8,6 +8,7 @@ use Rattle.sk_base.specs.declared.Spot.{Spot}
 use Rattle.sk_base.specs.Places.{IsBounded}
 use Rattle.sk_graph.specs.SketchGraph.{graph_of}
 use Rattle.sk_tree.specs.declared.Plan.{Plan}
+use Rattle.sk_place.specs.declared.PlaceBy.{PlaceBy}
 use Rattle.sk_place.specs.declared.BoxAt.{BoxAt}
 use Rattle.sk_place.specs.declared.PlaceError.TheVariants as errors
 use Rattle.sk_place.specs.Placing.{IsPlaced}
@@ -41,10 +42,10 @@ IsMeasured wanted limit s p at (Holds placed t) =
     (placed ≡ at) × AllHold at (everything (graph_of s)) limit × AllAsDrawn (signs_wanted wanted s at p) × IsTolerance at (graph_of s) t
 
 -- the first faulty step of the plan; else what is measured where its boxes have their midpoints
-abbrev pub IsPlacement : Wanted → Type 0 → ℕ → ℕ → Sketch → Plan → Placement → Type 0
-IsPlacement wanted G F limit s p (Fault f) = IsPlaced {G = G} F (graph_of s) p (Err (errors.Fault f))
-IsPlacement wanted G F limit s p placement =
-    (boxes : List (BoxAt G)) × IsPlaced F (graph_of s) p (Ok boxes) × IsMeasured wanted limit s p (midpoints F boxes) placement
+abbrev pub IsPlacement : Wanted → Type 0 → PlaceBy → ℕ → ℕ → Sketch → Plan → Placement → Type 0
+IsPlacement wanted G placing F limit s p (Fault f) = IsPlaced {G = G} placing F (graph_of s) p (Err (errors.Fault f))
+IsPlacement wanted G placing F limit s p placement =
+    (boxes : List (BoxAt G)) × IsPlaced placing F (graph_of s) p (Ok boxes) × IsMeasured wanted limit s p (midpoints F boxes) placement
 
 -- the numbers of placed elements are within the bounds of placed numbers
 abbrev pub LiesWithinBounds : Placement → Type 0

@@ -9,7 +9,7 @@ use crate::flip::{FlipError, flip_plan};
 use crate::placing::{Placement, placed_on};
 use sk_base::{Graph, List, Name, NoMemory, Placed, Sketch};
 use sk_interval::Grid;
-use sk_place::StepFault;
+use sk_place::{PlaceBy, StepFault};
 use sk_residual::{Beyond, Tolerance, Turned, Wanted};
 use sk_tree::Plan;
 use std::alloc::Global;
@@ -31,6 +31,7 @@ pub enum Alternative {
 /// in parts per 10^9 for angles and normals.
 pub fn alternatives<G: Grid>(
     alloc: Global,
+    placing: PlaceBy,
     s: &Sketch,
     g: &Graph,
     p: &Plan,
@@ -40,14 +41,15 @@ pub fn alternatives<G: Grid>(
     requires sketch { IsSoundSketch s.now }
     requires graph { g.now ≡ graph_of s.now }
     requires legal { IsLegalPlan g.now p.now }
-    ensures { IfOk result (AreAlternatives G G.BITS limit s.now p.now lists.now) }
+    ensures { IfOk result (AreAlternatives G placing G.BITS limit s.now p.now lists.now) }
 {
-    each::<G>(alloc, s, g, p, lists.as_slice(), limit)
+    each::<G>(alloc, placing, s, g, p, lists.as_slice(), limit)
 }
 
 /// What comes of each list of steps, in order.
 fn each<G: Grid>(
     alloc: Global,
+    placing: PlaceBy,
     s: &Sketch,
     g: &Graph,
     p: &Plan,
@@ -57,11 +59,11 @@ fn each<G: Grid>(
     requires sketch { IsSoundSketch s.now }
     requires graph { g.now ≡ graph_of s.now }
     requires legal { IsLegalPlan g.now p.now }
-    ensures { IfOk result (AreAlternatives G G.BITS limit s.now p.now lists.now) }
+    ensures { IfOk result (AreAlternatives G placing G.BITS limit s.now p.now lists.now) }
 {
     let mut alternatives = List::new(alloc);
     for names in lists {
-        alternatives.push(turning::<G>(alloc, s, g, p, names, limit)?)?;
+        alternatives.push(turning::<G>(alloc, placing, s, g, p, names, limit)?)?;
     }
     Ok(alternatives)
 }
@@ -69,6 +71,7 @@ fn each<G: Grid>(
 /// What comes of turning the choices of these steps.
 fn turning<G: Grid>(
     alloc: Global,
+    placing: PlaceBy,
     s: &Sketch,
     g: &Graph,
     p: &Plan,
@@ -78,11 +81,12 @@ fn turning<G: Grid>(
     requires sketch { IsSoundSketch s.now }
     requires graph { g.now ≡ graph_of s.now }
     requires legal { IsLegalPlan g.now p.now }
-    ensures { IfOk result (IsAlternative G G.BITS limit s.now p.now names.now) }
+    ensures { IfOk result (IsAlternative G placing G.BITS limit s.now p.now names.now) }
 {
     match flip_plan(alloc, p, names) {
         Ok(turned) => Ok(alternative_of(placed_on::<G>(
             alloc,
+            placing,
             Wanted::Chosen,
             limit,
             s,

@@ -10,7 +10,7 @@ ghost use Rattle.sk_flips.specs.Placements.{IsMeasured, IsPlacement, LiesWithinB
 use sk_base::{Graph, NoMemory, Placed, Sketch};
 use sk_graph::sound_graph;
 use sk_interval::Grid;
-use sk_place::{PlaceError, StepFault, place, round};
+use sk_place::{PlaceBy, PlaceError, StepFault, place, round};
 use sk_residual::{
     Beyond, Tolerance, Turned, Wanted, first_unlike, least, passed, placed_in_order,
 };
@@ -31,6 +31,7 @@ pub enum Placement {
 /// and the signs of the steps are to be as they are drawn, or as the plan chooses them.
 pub fn placed_on<G: Grid>(
     alloc: Global,
+    placing: PlaceBy,
     wanted: Wanted,
     limit: u64,
     s: &Sketch,
@@ -40,11 +41,11 @@ pub fn placed_on<G: Grid>(
     requires sketch { IsSoundSketch s.now }
     requires graph { g.now ≡ graph_of s.now }
     requires legal { IsLegalPlan g.now p.now }
-    ensures placement { IfOk result (IsPlacement wanted G G.BITS limit s.now p.now) }
+    ensures placement { IfOk result (IsPlacement wanted G placing G.BITS limit s.now p.now) }
     ensures bounded { IfOk result LiesWithinBounds }
 {
     sound_graph();
-    match place::<G>(alloc, p, g) {
+    match place::<G>(alloc, placing, p, g) {
         Ok(boxes) => {
             let at = round(alloc, &boxes)?;
             placed_in_order();

@@ -13,6 +13,6 @@ loop-names-preserved g c =
     let names : List Name = c.names-item.result in
     let more : take (c.loop-names.names-index + 1) c.args.lists.now ≡ before ++ names ∷ [] =
     take_more c.args.lists.now c.loop-names.names-index names (omega arith) ∙ ap (λ (here : List Name). before ++ here ∷ []) (sym c.names-item.is) in
-    subst (λ (lists : List (List Name)). AreAlternatives (G-type g.row.G) g.G.Grid.BITS c.args.limit c.args.s.now c.args.p.now lists c.push.new.self) (sym more)
-    (subst (λ (found : List Alternative). AreAlternatives (G-type g.row.G) g.G.Grid.BITS c.args.limit c.args.s.now c.args.p.now (before ++ names ∷ []) found) (sym c.in_ok-push.ensures.ok)
-    (alternatives_more (G-type g.row.G) g.G.Grid.BITS c.args.limit c.args.s.now c.args.p.now before c.loop-names.alternatives names c.in_ok-turning.field-0 c.loop-names.invariant c.in_ok-turning.ensures))
+    subst (λ (lists : List (List Name)). AreAlternatives (G-type g.row.G) c.args.placing g.G.Grid.BITS c.args.limit c.args.s.now c.args.p.now lists c.push.new.self) (sym more)
+    (subst (λ (found : List Alternative). AreAlternatives (G-type g.row.G) c.args.placing g.G.Grid.BITS c.args.limit c.args.s.now c.args.p.now (before ++ names ∷ []) found) (sym c.in_ok-push.ensures.ok)
+    (alternatives_more (G-type g.row.G) c.args.placing g.G.Grid.BITS c.args.limit c.args.s.now c.args.p.now before c.loop-names.alternatives names c.in_ok-turning.field-0 c.loop-names.invariant c.in_ok-turning.ensures))

@@ -14,5 +14,5 @@ placed_on-requires-clause-legal g c =
 
 pub returns-in_ok-placed_on-in-Ok : goal.returns-in_ok-placed_on-in-Ok
 returns-in_ok-placed_on-in-Ok g c =
-    rw c.alternative_of.ensures (is_alternative _ g.G.Grid.BITS c.args.limit c.args.s.now c.args.p.now c.args.names.now c.in_ok-placed_on-in-Ok.field-0
-    (c.in-Ok.ensures.chosen, subst (λ (plan : Plan). IsPlacement Chosen (G-type g.row.G) g.G.Grid.BITS c.args.limit c.args.s.now plan c.in_ok-placed_on-in-Ok.field-0) c.in-Ok.ensures.flipped c.in_ok-placed_on-in-Ok.ensures.placement))
+    rw c.alternative_of.ensures (is_alternative _ c.args.placing g.G.Grid.BITS c.args.limit c.args.s.now c.args.p.now c.args.names.now c.in_ok-placed_on-in-Ok.field-0
+    (c.in-Ok.ensures.chosen, subst (λ (plan : Plan). IsPlacement Chosen (G-type g.row.G) c.args.placing g.G.Grid.BITS c.args.limit c.args.s.now plan c.in_ok-placed_on-in-Ok.field-0) c.in-Ok.ensures.flipped c.in_ok-placed_on-in-Ok.ensures.placement))

@@ -2,4 +2,4 @@ use Rattle.sk_flips.proofs.OnePlacement.{same_alternative}
 use Rattle.sk_flips.proofs.law.one_alternative.Goals as goal
 
 pub returns : goal.returns
-returns g c F limit s p names a b legal tree first second = same_alternative _ F limit s p names legal tree a b first second
+returns g c placing F limit s p names a b legal tree first second = same_alternative _ placing F limit s p names legal tree a b first second

@@ -17,7 +17,7 @@ measured-requires-clause-placed g c =
 
 pub returns-in_ok-at-in-Ok-clause-placement : goal.returns-in_ok-at-in-Ok-clause-placement
 returns-in_ok-at-in-Ok-clause-placement g c =
-    placement_of c.args.wanted _ g.G.Grid.BITS c.args.limit c.args.s.now c.args.p.now c.args.g.now c.in-Ok.boxes c.in_ok-at-in-Ok.at c.measured.result
+    placement_of c.args.wanted _ c.args.placing g.G.Grid.BITS c.args.limit c.args.s.now c.args.p.now c.args.g.now c.in-Ok.boxes c.in_ok-at-in-Ok.at c.measured.result
     c.requires.graph c.in-Ok.ensures.placed c.in_ok-at-in-Ok.ensures.value c.measured.ensures
 
 pub returns-in_ok-at-in-Ok-clause-bounded : goal.returns-in_ok-at-in-Ok-clause-bounded
