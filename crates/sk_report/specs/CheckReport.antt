@@ -30,6 +30,10 @@ abbrev pub part_lines : Sketch → ℕ → List Part → List ℕ
 part_lines s number [] = []
 part_lines s number (p ∷ parts) = part_line s number p ++ part_lines s (number + 1) parts
 
+-- the two lines before the parts where they are told one by one
+abbrev pub parts_head : Judgement → List ℕ
+parts_head j = codes "verdict " ++ (verdict_word j.verdict ++ (codes "\nparts " ++ (decimal (length j.parts) ++ codes "\n")))
+
 -- the four lines before those of the parts
 abbrev pub check_head : Sketch → Judgement → List ℕ
 check_head s j =

@@ -78,6 +78,10 @@ solve_counts p bits = codes "steps " ++ (decimal (length p.steps) ++ (codes "\nb
 abbrev pub places_report : Sketch → Placed → Tolerance → List ℕ
 places_report s at t = element_lines at s.elements ++ tolerance_lines s t
 
+-- the lines of the report behind its verdict: the number of steps, the grid, where each element lies, and the tolerance
+abbrev pub shape_report : Sketch → Plan → ℕ → Placed → Tolerance → List ℕ
+shape_report s p bits at t = solve_counts p bits ++ places_report s at t
+
 -- the report: the verdict, the number of steps, the grid, where each element lies, and the tolerance
 abbrev pub solve_report : Sketch → Plan → ℕ → Placed → Tolerance → List ℕ
 solve_report s p bits at t = (codes "verdict well\n" ++ solve_counts p bits) ++ places_report s at t

@@ -1,6 +1,6 @@
 // The check report.
 ghost use Rattle.std.specs.Prelude.{◌≡◌, ◌++◌, IfOk, OnOk};
-ghost use Rattle.sk_report.specs.CheckReport.{verdict_word, part_word, part_head, part_line, part_lines, check_head, check_report};
+ghost use Rattle.sk_report.specs.CheckReport.{verdict_word, part_word, part_head, part_line, part_lines, parts_head, check_head, check_report};
 
 use sk_base::{NoMemory, Sketch, Text};
 use sk_text::put_names;
@@ -14,6 +14,27 @@ pub fn check_text(alloc: Global, s: &Sketch, j: &Judgement) -> Result<Text, NoMe
     let mut text = Text::new(alloc);
     put_head(alloc, &mut text, s, j)?;
     put_parts(alloc, &mut text, s, j.parts.as_slice())?;
+    Ok(text)
+}
+
+/// The head of a report on parts: the verdict, and how many parts there are.
+pub fn parts_head_text(alloc: Global, j: &Judgement) -> Result<Text, NoMemory>
+    ensures { IfOk result (λ text. text ≡ parts_head j.now) }
+{
+    let verdict = verdict_word(j.verdict);
+    let parts = j.parts.len();
+    let head = format!(in alloc; "verdict {verdict}\nparts {parts}\n")?;
+    let mut text = Text::new(alloc);
+    text.put(head.as_bytes())?;
+    Ok(text)
+}
+
+/// The line of a part, as it stands in the check report with this number.
+pub fn part_text(alloc: Global, s: &Sketch, number: usize, part: &Part) -> Result<Text, NoMemory>
+    ensures { IfOk result (λ text. text ≡ part_line s.now number part.now) }
+{
+    let mut text = Text::new(alloc);
+    put_part(alloc, &mut text, s, number, part)?;
     Ok(text)
 }
 

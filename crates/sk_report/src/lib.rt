@@ -11,10 +11,10 @@ mod reply;
 mod solve;
 
 pub use answer::answer_text;
-pub use check::check_text;
+pub use check::{check_text, part_text, parts_head_text};
 pub use fault::{fault_text, passed_text, turned_text};
 pub use grow::grow_text;
 pub use plan::plan_text;
 pub use refusal::refused_text;
 pub use reply::{code_text, constrained_text, declared_text, done_text};
-pub use solve::{places_text, solve_text};
+pub use solve::{places_text, shape_text, solve_text};

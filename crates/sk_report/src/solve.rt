@@ -1,7 +1,7 @@
 // The report on placed elements.
 ghost use Rattle.std.specs.Prelude.{◌≡◌, ◌*ℤ◌, pos, ◌++◌, ◌∷◌, [], IfOk, OnOk};
 ghost use Rattle.sk_base.specs.Spelling.{whole_text};
-ghost use Rattle.sk_report.specs.SolveReport.{numbers_text, point_line, circle_line, line_line, centre_line, element_line, element_lines, spotted_words, constraint_or_none, spotted_or_none, length_line, angle_line, tolerance_lines, solve_counts, places_report, solve_report};
+ghost use Rattle.sk_report.specs.SolveReport.{numbers_text, point_line, circle_line, line_line, centre_line, element_line, element_lines, spotted_words, constraint_or_none, spotted_or_none, length_line, angle_line, tolerance_lines, solve_counts, places_report, shape_report, solve_report};
 
 use sk_base::{At, ConId, Element, NoMemory, Placed, Shape, Sketch, Text, Um};
 use sk_residual::{Spotted, Tolerance};
@@ -23,6 +23,23 @@ pub fn solve_text(
 {
     let mut text = Text::new(alloc);
     text.put(b"verdict well\n")?;
+    put_counts(alloc, &mut text, p, bits)?;
+    put_places(alloc, &mut text, s, at, t)?;
+    Ok(text)
+}
+
+/// The lines of the solve report behind its verdict.
+pub fn shape_text(
+    alloc: Global,
+    s: &Sketch,
+    p: &Plan,
+    bits: u32,
+    at: &Placed,
+    t: &Tolerance,
+) -> Result<Text, NoMemory>
+    ensures { IfOk result (λ text. text ≡ shape_report s.now p.now bits at.now t.now) }
+{
+    let mut text = Text::new(alloc);
     put_counts(alloc, &mut text, p, bits)?;
     put_places(alloc, &mut text, s, at, t)?;
     Ok(text)
