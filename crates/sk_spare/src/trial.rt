@@ -12,7 +12,7 @@ ghost use Rattle.sk_spare.specs.Trying.{holds_all, some_holds};
 
 use sk_base::{ConId, Elem, Graph, NoMemory};
 use sk_family::{Cluster, Family, initial};
-use sk_worklist::{Chosen, Order, close_family};
+use sk_worklist::close_in_any_order;
 use std::alloc::Global;
 
 /// A normal family of the graph.
@@ -21,7 +21,7 @@ pub(crate) fn normal_family(alloc: Global, graph: &Graph) -> Result<Family, NoMe
     ensures { IfOk result (λ family. IsNormal graph.now (bodies family)) }
 {
     let mut family = initial(alloc, graph)?;
-    close_family(alloc, &mut family, graph, &mut Chosen::new(Order::First))?;
+    close_in_any_order(alloc, &mut family, graph)?;
     Ok(family)
 }
 
@@ -41,7 +41,7 @@ pub(crate) fn with_these(
 {
     let mut more = family.copy()?;
     adopt_all(&mut more, graph, numbers)?;
-    close_family(alloc, &mut more, graph, &mut Chosen::new(Order::First))?;
+    close_in_any_order(alloc, &mut more, graph)?;
     Ok(more)
 }
 

@@ -1,9 +1,5 @@
 use Rattle.std.proofs.Common.{length, ap, sym, subst, arith}
-use Rattle.std.specs.Prelude.{map}
 use Rattle.sk_family.specs.Clusters.{Clusters, bodies, IsSound}
-use Rattle.sk_worklist.specs.Run.{merge_of}
-use Rattle.sk_worklist.specs.Orders.{place_of, next_call}
-use Rattle.sk_worklist.proofs.Runs.{picks_room}
 use Rattle.sk_spare.specs.Halving.{IsMadeOf, too}
 use Rattle.sk_spare.proofs.PutBack.{made_on}
 use Rattle.sk_spare.proofs.trial.with_these.Goals as goal
@@ -21,8 +17,8 @@ adopt_all-requires-clause-room c =
 pub adopt_all-requires-clause-named : goal.adopt_all-requires-clause-named
 adopt_all-requires-clause-named c = subst (λ (f : Clusters). IsSound f) (sym c.in_ok-more.ensures.same) c.in_ok-more.ensures.sound
 
-pub close_family-requires : goal.close_family-requires
-close_family-requires c =
+pub close_in_any_order-requires : goal.close_in_any_order-requires
+close_in_any_order-requires c =
     let many = ap (λ (f : Clusters). length f.live) c.in_ok-more.ensures.same in
     let next = ap (λ (f : Clusters). f.next_step) c.in_ok-more.ensures.same in
     let count = c.in_ok-adopt_all.ensures.count in
@@ -31,9 +27,9 @@ close_family-requires c =
 
 pub returns-clause-made : goal.returns-clause-made
 returns-clause-made c p further made =
-    made_on c.args.graph.now (too p c.args.numbers.now) (bodies c.adopt_all.new.family) (bodies c.close_family.new.family)
+    made_on c.args.graph.now (too p c.args.numbers.now) (bodies c.adopt_all.new.family) (bodies c.close_in_any_order.new.family)
     (c.in_ok-adopt_all.ensures.made p further (subst (λ (f : Clusters). IsMadeOf c.args.graph.now p (bodies f)) (sym c.in_ok-more.ensures.same) made))
-    c.close_family.ensures.reached
+    c.close_in_any_order.ensures.reached
 
 pub returns-clause-room : goal.returns-clause-room
 returns-clause-room c =
@@ -41,5 +37,5 @@ returns-clause-room c =
     let next = ap (λ (f : Clusters). f.next_step) c.in_ok-more.ensures.same in
     let count = c.in_ok-adopt_all.ensures.count in
     let stays = c.in_ok-adopt_all.ensures.next_step in
-    let room = picks_room place_of next_call c.args.graph.now c.adopt_all.new.family c.close_family.new.family c.new.result c.close_family.new.picker (map merge_of c.in_ok-close_family.field-0) c.in_ok-adopt_all.ensures.sound c.in_ok-close_family.ensures.run.leads in
+    let room = c.close_in_any_order.ensures.room in
     omega (arith, many, next, count, stays, room)
