@@ -15,6 +15,8 @@ pub mod OffersSoFar
 pub mod OneOffering
 pub mod OneOutcome
 pub mod OneSession
+pub mod OneShape
+pub mod PartsTold
 pub mod PlacedSpots
 pub mod Printed
 pub mod PrintedClaims

@@ -6,9 +6,9 @@ use Rattle.sk_lang.specs.Canonical.{canonical_2}
 use Rattle.sk_lang.specs.Reading.{Reads}
 use Rattle.sk_lang.specs.Renumbered.{renumbered}
 use Rattle.sk_cli.specs.declared.accounts.Account.{Account}
-use Rattle.sk_cli.specs.declared.accounts.Account.TheVariants.{Parts, Spares, Derived, Migrated}
+use Rattle.sk_cli.specs.declared.accounts.Account.TheVariants.{Judged, Spares, Derived, Migrated, Shapes}
 use Rattle.sk_cli.specs.declared.command.Command.{Command}
-use Rattle.sk_cli.specs.declared.command.Command.TheVariants.{Check, Plan, Solve, Dxf, Offers, Session, Grow, Migrate, Verify, Spare, Flips, Derive}
+use Rattle.sk_cli.specs.declared.command.Command.TheVariants.{Check, Plan, Solve, Dxf, Offers, Session, Grow, Migrate, Verify, Spare, Flips, Derive, Parts}
 use Rattle.sk_cli.specs.declared.request.Request.{Request}
 use Rattle.sk_cli.specs.declared.solving.Report.{Report}
 use Rattle.sk_cli.specs.declared.solving.Report.TheVariants.{Places, Drawing}
@@ -51,10 +51,11 @@ module _ (laws : LawsOfText) where
     solve_moved report request status text (t, reads, told) = (s, reads_b, subst (λ (z : Sketch). IsSolved report request z status text) (laws.one_sketch a t s reads reads_a) told)
 
     answer_moved : (command : Command) (request : Request) → ReadsOneSketch command → (status : Status) (text : List ℕ) → IsAnswerOf command request a status text → IsAnswerOf command request b status text
-    answer_moved Check request one status text answer = account_moved Parts status text answer
+    answer_moved Check request one status text answer = account_moved Judged status text answer
     answer_moved Migrate request one status text answer = account_moved Migrated status text answer
     answer_moved Spare request one status text answer = account_moved Spares status text answer
     answer_moved Derive request one status text answer = account_moved Derived status text answer
+    answer_moved Parts request one status text answer = account_moved (Shapes request) status text answer
     answer_moved Solve request one status text answer = solve_moved Places request status text answer
     answer_moved Dxf request one status text answer = solve_moved Drawing request status text answer
     answer_moved Plan request one Refused text (r, refuses, is) = absurd (laws.not_both a s r.line r.code reads_a refuses)

@@ -1,5 +1,5 @@
 -- Words ask for one thing at most, and with an input they have one outcome at most.
-use Rattle.std.proofs.Common.{◌≡◌, ◌⊎◌, inl, inr, ℕ, ◌<◌, ◌≤◌, List, [], ◌∷◌, ◌++◌, length, refl, sym, ap, ◌∙◌, subst, Option, arith}
+use Rattle.std.proofs.Common.{◌≡◌, ◌⊎◌, inl, inr, ℕ, ◌+◌, ◌<◌, ◌≤◌, List, [], ◌∷◌, ◌++◌, length, refl, sym, ap, ◌∙◌, subst, Option, arith}
 use Rattle.std.specs.Prelude.{All, map, take, drop}
 use Rattle.sk_base.specs.declared.ConId.{ConId}
 use Rattle.sk_base.specs.declared.Name.{Name}
@@ -10,7 +10,9 @@ use Rattle.sk_lang.specs.declared.Code.{Code}
 use Rattle.sk_lang.specs.declared.Code.TheVariants.{E20}
 use Rattle.sk_lang.specs.declared.Refusal.{Refusal}
 use Rattle.sk_lang.specs.Reading.{Reads, Refuses}
-use Rattle.sk_report.specs.CheckReport.{check_report}
+use Rattle.sk_place.specs.declared.PlaceBy.{PlaceBy}
+use Rattle.sk_place.specs.declared.PlaceBy.TheVariants.{Boxes}
+use Rattle.sk_report.specs.CheckReport.{part_line, parts_head, check_report}
 use Rattle.sk_report.specs.RefusalLine.{refusal_line}
 use Rattle.sk_graph.specs.SketchGraph.{graph_of}
 use Rattle.sk_verdict.specs.declared.Judgement.{Judgement}
@@ -58,25 +60,29 @@ use Rattle.sk_cli.specs.VerifyAnswer.{HasClaim, IsVerified, IsNotVerified, Refus
 use Rattle.sk_worklist.specs.declared.Order.{Order}
 use Rattle.sk_worklist.specs.declared.Order.TheVariants.{First}
 use Rattle.sk_cli.specs.declared.accounts.Account.{Account}
-use Rattle.sk_cli.specs.declared.accounts.Account.TheVariants.{Parts, Spares, Derived, Migrated}
+use Rattle.sk_cli.specs.declared.accounts.Account.TheVariants.{Judged, Spares, Derived, Migrated, Shapes}
 use Rattle.sk_cli.specs.declared.command.Command.{Command}
-use Rattle.sk_cli.specs.declared.command.Command.TheVariants.{Check, Plan, Solve, Dxf, Offers, Session, Grow, Migrate, Verify, Spare, Flips, Derive}
+use Rattle.sk_cli.specs.declared.command.Command.TheVariants.{Check, Plan, Solve, Dxf, Offers, Session, Grow, Migrate, Verify, Spare, Flips, Derive, Parts}
 use Rattle.sk_cli.specs.declared.request.Request.{Request}
 use Rattle.sk_cli.specs.declared.status.Status.{Status}
 use Rattle.sk_cli.specs.declared.status.Status.TheVariants.{Done, Refused, NotWell, NotVerified}
 use Rattle.sk_cli.specs.declared.bits.Bits.{Bits}
 use Rattle.sk_cli.specs.declared.bits.Bits.TheVariants.{ThirtyEight}
 use Rattle.sk_cli.specs.declared.solving.Report.{Report}
-use Rattle.sk_cli.specs.declared.solving.Report.TheVariants.{Places, Drawing, Sums}
+use Rattle.sk_cli.specs.declared.solving.Report.TheVariants.{Places, Drawing, Sums, Shape}
 use Rattle.sk_cli.proofs.Sizes.{HasFitSize, size_fits, some_injective}
 use Rattle.sk_gen.specs.DatumSketch.{datum_sketch}
-use Rattle.sk_cli.specs.Asking.{OrderKey, BitsKey, WithinKey, SizeKey, values_of, IsOrder, IsBits, IsLimit, IsSize, Asks}
+use Rattle.sk_cli.specs.Asking.{OrderKey, BitsKey, WithinKey, PlaceKey, SizeKey, values_of, IsOrder, IsBits, IsLimit, IsPlace, IsSize, Asks}
 use Rattle.sk_cli.specs.Accounts.{IsAccount}
+use Rattle.sk_cli.specs.PartsReport.{IsShape, IsBelowPart, ArePartsTold}
+use Rattle.sk_parts.specs.OwnSketch.{part_sketch}
+use Rattle.sk_parts.proofs.Drawing.{part_is_sound}
+use Rattle.sk_verdict.specs.declared.Part.{Part}
 use Rattle.sk_cli.specs.Grids.{grid_of, digits_of}
 use Rattle.sk_cli.specs.Solving.{IsPlacement, status_of, placement_words}
 use Rattle.sk_cli.proofs.CommandWords.{one_command}
 use Rattle.sk_cli.proofs.KeyValues.{one_said, one_set}
-use Rattle.sk_cli.proofs.Numbers.{one_order, one_bits, one_limit, one_size}
+use Rattle.sk_cli.proofs.Numbers.{one_order, one_bits, one_limit, one_place, one_size}
 use Rattle.sk_flips.proofs.OnePlacement.{same_placement, same_alternatives}
 use Rattle.sk_flips.proofs.FlipsSoFar.{same_flips, same_refusal as one_flips_refusal, read_or_refused}
 use Rattle.sk_plan.proofs.PlanTrees.{some_plan_tree}
@@ -91,11 +97,12 @@ same_request (command ∷ keys) one other first second =
     let order_is = one_said IsOrder one_order First (values_of OrderKey keys) one.order other.order first.1.order second.1.order in
     let bits_is = one_said IsBits one_bits ThirtyEight (values_of BitsKey keys) one.bits other.bits first.1.bits second.1.bits in
     let within_is = one_said IsLimit one_limit 1000 (values_of WithinKey keys) one.within other.within first.1.within second.1.within in
+    let place_is = one_said IsPlace one_place Boxes (values_of PlaceKey keys) one.place other.place first.1.place second.1.place in
     let size_is = one_set IsSize one_size (values_of SizeKey keys) one.size other.size first.1.size second.1.size in
-    let make : Command → Order → Bits → ℕ → Option ℕ → Request = λ c o b w n. record { command = c; order = o; bits = b; within = w; size = n } in
-    ap (λ c. make c one.order one.bits one.within one.size) command_is ∙ ap (λ o. make other.command o one.bits one.within one.size) order_is
-    ∙ ap (λ b. make other.command other.order b one.within one.size) bits_is ∙ ap (λ w. make other.command other.order other.bits w one.size) within_is
-    ∙ ap (λ n. make other.command other.order other.bits other.within n) size_is
+    let make : Command → Order → Bits → ℕ → PlaceBy → Option ℕ → Request = λ c o b w p n. record { command = c; order = o; bits = b; within = w; place = p; size = n } in
+    ap (λ c. make c one.order one.bits one.within one.place one.size) command_is ∙ ap (λ o. make other.command o one.bits one.within one.place one.size) order_is
+    ∙ ap (λ b. make other.command other.order b one.within one.place one.size) bits_is ∙ ap (λ w. make other.command other.order other.bits w one.place one.size) within_is
+    ∙ ap (λ p. make other.command other.order other.bits other.within p one.size) place_is ∙ ap (λ n. make other.command other.order other.bits other.within other.place n) size_is
 
 -- the laws of the layers below
 abbrev pub OneSketch : Type 0
@@ -221,8 +228,8 @@ same_solved : OneJudgement → LowerLaws → (report : Report) (request : Reques
     → IsSolved report request s status text → IsSolved report request s other another → (status ≡ other) × (text ≡ another)
 same_solved law laws report request s sound status other text another (inl (p, q, placed, is, text_is)) (inl (p', q', placed', is', text_is')) =
     let plan_is = same_plan laws request.order s sound p p' placed.plan placed'.plan in
-    let placement_is : q ≡ q' = same_placement Drawn (grid_of request.bits) (digits_of request.bits) request.within s p' placed'.plan.legal (some_plan_tree (graph_of s) p' sound placed'.plan.legal) q q'
-    (subst (λ (z : ThePlan). IsPlacement (grid_of request.bits) (digits_of request.bits) request.within s z q) plan_is placed.placed) placed'.placed in (
+    let placement_is : q ≡ q' = same_placement Drawn (grid_of request.bits) request.place (digits_of request.bits) request.within s p' placed'.plan.legal (some_plan_tree (graph_of s) p' sound placed'.plan.legal) q q'
+    (subst (λ (z : ThePlan). IsPlacement (grid_of request.bits) request.place (digits_of request.bits) request.within s z q) plan_is placed.placed) placed'.placed in (
       is ∙ ap status_of placement_is ∙ sym is',
       text_is ∙ ap (λ z. placement_words report (digits_of request.bits) s z q) plan_is
           ∙ ap (λ z. placement_words report (digits_of request.bits) s p' z) placement_is ∙ sym text_is',
@@ -350,10 +357,10 @@ same_report_on_flips : LowerLaws → (request : Request) (s : Sketch) → IsSoun
 same_report_on_flips laws request s sound lists text another one other =
     let F = digits_of request.bits in
     let plan_is : one.plan ≡ other.plan = same_plan laws request.order s sound one.plan other.plan one.by other.by in
-    let moved : AreAlternatives (grid_of request.bits) F request.within s other.plan lists one.found =
-    subst (λ (p : ThePlan). AreAlternatives (grid_of request.bits) F request.within s p lists one.found) plan_is one.are in
+    let moved : AreAlternatives (grid_of request.bits) request.place F request.within s other.plan lists one.found =
+    subst (λ (p : ThePlan). AreAlternatives (grid_of request.bits) request.place F request.within s p lists one.found) plan_is one.are in
     let tree = some_plan_tree (graph_of s) other.plan sound other.by.legal in
-    let found_is = same_alternatives (grid_of request.bits) F request.within s other.plan other.by.legal tree lists one.found other.found moved other.are in
+    let found_is = same_alternatives (grid_of request.bits) request.place F request.within s other.plan other.by.legal tree lists one.found other.found moved other.are in
     one.is ∙ ap (λ (found : List Alternative). alternatives_from s F 1 found) found_is ∙ sym other.is
 
 same_flipped : OneJudgement → LowerLaws → (request : Request) (s : Sketch) → IsSoundGraph (graph_of s) → (lists : List (List Name)) (status other : Status) (text another : List ℕ)
@@ -495,17 +502,40 @@ front_of_outcome law laws words bytes text whole status (request, asks, is, fron
       | inr (refused, long, why) ↦ absurd (omega (arith, long, front.fits))
     ]
 
+-- the shape of a sketch
+same_shape : OneJudgement → LowerLaws → (request : Request) (s : Sketch) → IsSoundSketch s → (text another : List ℕ) → IsShape request s text → IsShape request s another → text ≡ another
+same_shape law laws request s sound text another (p, q, placed, is) (p', q', placed', is') =
+    (same_solved law laws Shape request s (graph_is_sound s sound) (status_of q) (status_of q') text another (inl (p, q, placed, refl, is)) (inl (p', q', placed', refl, is'))).1
+
+same_below : OneJudgement → LowerLaws → (request : Request) (s : Sketch) → IsSoundSketch s → (p : Part) (text another : List ℕ) → IsBelowPart request s p text → IsBelowPart request s p another → text ≡ another
+same_below law laws request s sound p text another (inl (over, is)) (inl (over', is')) = is ∙ sym is'
+same_below law laws request s sound p text another (inl (over, is)) (inr (not, shape)) = absurd (not over)
+same_below law laws request s sound p text another (inr (not, shape)) (inl (over, is)) = absurd (not over)
+same_below law laws request s sound p text another (inr (not, shape)) (inr (not', shape')) =
+    same_shape law laws request (part_sketch s p.elements) (part_is_sound s p.elements sound) text another shape shape'
+
+same_parts : OneJudgement → LowerLaws → (request : Request) (s : Sketch) → IsSoundSketch s → (parts : List Part) (number : ℕ) (text another : List ℕ)
+    → ArePartsTold request s number parts text → ArePartsTold request s number parts another → text ≡ another
+same_parts law laws request s sound [] number text another is is' = is ∙ sym is'
+same_parts law laws request s sound (p ∷ parts) number text another (below, more, told, rest, is) (below', more', told', rest', is') =
+    is ∙ ap (λ t. (part_line s number p ++ t) ++ more) (same_below law laws request s sound p below below' told told')
+    ∙ ap (λ t. (part_line s number p ++ below') ++ t) (same_parts law laws request s sound parts (number + 1) more more' rest rest') ∙ sym is'
+
 -- an account of a sketch
-same_account : OneJudgement → LowerLaws → (account : Account) (s : Sketch) → IsSoundGraph (graph_of s) → (text another : List ℕ) → IsAccount account s text → IsAccount account s another → text ≡ another
-same_account law laws Parts s sound text another (j, judged, is) (k, judged', is') = is ∙ ap (λ z. check_report s z) (same_judgement law (graph_of s) j k judged judged') ∙ sym is'
+same_account : OneJudgement → LowerLaws → (account : Account) (s : Sketch) → IsSoundSketch s → (text another : List ℕ) → IsAccount account s text → IsAccount account s another → text ≡ another
+same_account law laws Judged s sound text another (j, judged, is) (k, judged', is') = is ∙ ap (λ z. check_report s z) (same_judgement law (graph_of s) j k judged judged') ∙ sym is'
 same_account law laws Spares s sound text another (ks, are, is) (ls, are', is') = is ∙ ap (λ z. spare_report s z) (laws.spares (graph_of s) ks ls are are') ∙ sym is'
 same_account law laws Migrated s sound text another is is' = is ∙ sym is'
 same_account law laws Derived s sound text another (f, f_sound, normal, is) (h, h_sound, normal', is') =
-    is ∙ laws.derived (graph_of s) s f h sound f_sound h_sound normal normal' ∙ sym is'
+    is ∙ laws.derived (graph_of s) s f h (graph_is_sound s sound) f_sound h_sound normal normal' ∙ sym is'
+same_account law laws (Shapes request) s sound text another (j, lines, judged, told, is) (k, lines', judged', told', is') =
+    let same = same_judgement law (graph_of s) j k judged judged' in
+    let moved : ArePartsTold request s 1 k.parts lines = subst (λ (z : Judgement). ArePartsTold request s 1 z.parts lines) same told in
+    is ∙ ap (λ z. parts_head z ++ lines) same ∙ ap (λ t. parts_head k ++ t) (same_parts law laws request s sound k.parts 1 lines lines' moved told') ∙ sym is'
 
 same_account_of : OneSketch → OneJudgement → LowerLaws → (account : Account) (bytes text another : List ℕ) → IsAccountOf account bytes text → IsAccountOf account bytes another → text ≡ another
 same_account_of one_sketch law laws account bytes text another (s, reads, told) (t, reads', told') =
-    same_account law laws account t (graph_is_sound t (laws.sound bytes t reads')) text another (subst (λ z. IsAccount account z text) (one_sketch bytes s t reads reads') told) told'
+    same_account law laws account t (laws.sound bytes t reads') text another (subst (λ z. IsAccount account z text) (one_sketch bytes s t reads reads') told) told'
 
 -- an account or a refusal
 pub told_account : (account : Account) (bytes : List ℕ) (status : Status) (text : List ℕ) → IsAccountAnswer account bytes status text
@@ -531,13 +561,15 @@ same_accounted one_sketch one_refusal not_both law laws account bytes status oth
 same_answer : OneSketch → OneRefusal → NotBoth → OneJudgement → LowerLaws → (command : Command) (request : Request) → HasFitSize request → (bytes : List ℕ) (status other : Status) (text another : List ℕ)
     → IsAnswerOf command request bytes status text → IsAnswerOf command request bytes other another → (status ≡ other) × (text ≡ another)
 same_answer one_sketch one_refusal not_both law laws Check request fit bytes status other text another first second =
-    same_accounted one_sketch one_refusal not_both law laws Parts bytes status other text another first second
+    same_accounted one_sketch one_refusal not_both law laws Judged bytes status other text another first second
 same_answer one_sketch one_refusal not_both law laws Migrate request fit bytes status other text another first second =
     same_accounted one_sketch one_refusal not_both law laws Migrated bytes status other text another first second
 same_answer one_sketch one_refusal not_both law laws Spare request fit bytes status other text another first second =
     same_accounted one_sketch one_refusal not_both law laws Spares bytes status other text another first second
 same_answer one_sketch one_refusal not_both law laws Derive request fit bytes status other text another first second =
     same_accounted one_sketch one_refusal not_both law laws Derived bytes status other text another first second
+same_answer one_sketch one_refusal not_both law laws Parts request fit bytes status other text another first second =
+    same_accounted one_sketch one_refusal not_both law laws (Shapes request) bytes status other text another first second
 same_answer one_sketch one_refusal not_both law laws Offers request fit bytes status other text another first second = same_offers laws law bytes status other text another first second
 same_answer one_sketch one_refusal not_both law laws Verify request fit bytes status other text another first second = same_verify laws bytes status other text another first second
 same_answer one_sketch one_refusal not_both law laws Flips request fit bytes status other text another first second = same_flips_answer law laws request bytes status other text another first second

@@ -17,6 +17,7 @@ use Rattle.sk_steps.specs.declared.BoxOf.{BoxOf}
 use Rattle.sk_steps.specs.declared.BoxOf.TheVariants.{Point, Line}
 use Rattle.sk_tree.specs.declared.Plan.{Plan as ThePlan}
 use Rattle.sk_tree.specs.LegalPlan.{IsLegalPlan}
+use Rattle.sk_place.specs.declared.PlaceBy.{PlaceBy}
 use Rattle.sk_plan.proofs.PlanTrees.{some_plan_tree}
 use Rattle.sk_place.specs.declared.BoxAt.{BoxAt}
 use Rattle.sk_place.specs.Placing.{IsPlaced}
@@ -54,21 +55,21 @@ all_within {G} F bs some bounded k d below =
 some_unit : (F : ℕ) → 0 < 2 * 2 ^ F
 some_unit F = (let unit = power_below 0 F (omega arith) in omega (arith, unit))
 
-module _ (G : Type 0) (F : ℕ) (g : Graph) (p : ThePlan) (sound : IsSoundGraph g) (legal : IsLegalPlan g p) where
-  spots_so : (has : HasPlaces G F g p sound legal) → AreSpotsOf g.nodes (map (rounded F) has.list)
+module _ (G : Type 0) (placing : PlaceBy) (F : ℕ) (g : Graph) (p : ThePlan) (sound : IsSoundGraph g) (legal : IsLegalPlan g p) where
+  spots_so : (has : HasPlaces G placing F g p sound legal) → AreSpotsOf g.nodes (map (rounded F) has.list)
   spots_so has = spots_made F has.list g.nodes (map (rounded F) has.list) has.nodes refl (all_within F has.list (some_unit F) has.bounded)
 
-  pub exactly_so : (has : HasPlaces G F g p sound legal) → PlacesExactly g (midpoints F has.list)
+  pub exactly_so : (has : HasPlaces G placing F g p sound legal) → PlacesExactly g (midpoints F has.list)
   exactly_so has = exactly_in_order g (midpoints F has.list) sound.nodes_rise (spots_so has)
 
   -- the boxes are the ones that the plan has, and their midpoints are spots of the nodes, one by one
-  pub spots_there : (boxes : List (BoxAt G)) → IsPlaced F g p (Ok boxes) → AreSpotsOf g.nodes (map (rounded F) boxes)
+  pub spots_there : (boxes : List (BoxAt G)) → IsPlaced placing F g p (Ok boxes) → AreSpotsOf g.nodes (map (rounded F) boxes)
   spots_there boxes placed =
       let tree = some_plan_tree g p sound legal in
-      elim (some_places G F g p sound legal) [
-        | inr (f, failed) ↦ absurd (not_both G F g p legal tree boxes f placed failed)
-        | inl has ↦ subst (λ (bs : List (BoxAt G)). AreSpotsOf g.nodes (map (rounded F) bs)) (one_list G F g p legal tree has.list boxes has.placed placed) (spots_so has)
+      elim (some_places G placing F g p sound legal) [
+        | inr (f, failed) ↦ absurd (not_both G placing F g p legal tree boxes f placed failed)
+        | inl has ↦ subst (λ (bs : List (BoxAt G)). AreSpotsOf g.nodes (map (rounded F) bs)) (one_list G placing F g p legal tree has.list boxes has.placed placed) (spots_so has)
       ]
 
-  pub exactly_there : (boxes : List (BoxAt G)) → IsPlaced F g p (Ok boxes) → PlacesExactly g (midpoints F boxes)
+  pub exactly_there : (boxes : List (BoxAt G)) → IsPlaced placing F g p (Ok boxes) → PlacesExactly g (midpoints F boxes)
   exactly_there boxes placed = exactly_in_order g (midpoints F boxes) sound.nodes_rise (spots_there boxes placed)

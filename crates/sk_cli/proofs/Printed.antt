@@ -218,7 +218,7 @@ module _ (report : Report) (request : Request) (s : Sketch) (status : Status) (t
       let fit : HoldsAt request s p here t = record {
         plan = its;
         lie = lie;
-        exactly = subst (λ (z : Placed). PlacesExactly (graph_of s) z) (sym lie.2) (exactly_there G F (graph_of s) p sound its.1.legal lie.0 lie.1);
+        exactly = subst (λ (z : Placed). PlacesExactly (graph_of s) z) (sym lie.2) (exactly_there G request.place F (graph_of s) p sound its.1.legal lie.0 lie.1);
         holds = all_hold_within here (graph_of s) t.t t.w (has_blocks (graph_of s) sound) least.lengths.holds least.angles.holds;
         least = least;
         within = none;

@@ -168,7 +168,7 @@ module _ (s : Sketch) (sound : IsSoundSketch s) (numbered : renumbered s ≡ s) 
       let lie = holds.lie in
       let spots : here.spots ≡ map (rounded (digits_of request.bits)) lie.0 = ap (λ (z : Placed). z.spots) lie.2 in
       subst (λ (xs : List Spot). AreSpotsOf (graph_of s).nodes xs) (sym spots)
-      (spots_there (grid_of request.bits) (digits_of request.bits) (graph_of s) p graph legal lie.0 lie.1)
+      (spots_there (grid_of request.bits) request.place (digits_of request.bits) (graph_of s) p graph legal lie.0 lie.1)
 
   apart : AllPairs (λ (x y : Spot). x.elem ≢ y.elem) here.spots
   apart i j d i_j j_len same =

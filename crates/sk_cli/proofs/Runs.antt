@@ -17,9 +17,9 @@ use Rattle.sk_cli.specs.FlipsReport.{RefusesFlipsBehind}
 use Rattle.sk_cli.specs.OffersReport.{RefusesOffersBehind}
 use Rattle.sk_cli.specs.VerifyAnswer.{RefusesClaimBehind}
 use Rattle.sk_cli.specs.declared.accounts.Account.{Account}
-use Rattle.sk_cli.specs.declared.accounts.Account.TheVariants.{Parts, Spares, Derived, Migrated}
+use Rattle.sk_cli.specs.declared.accounts.Account.TheVariants.{Judged, Spares, Derived, Migrated, Shapes}
 use Rattle.sk_cli.specs.declared.command.Command.{Command}
-use Rattle.sk_cli.specs.declared.command.Command.TheVariants.{Check, Plan, Solve, Dxf, Offers, Session, Grow, Migrate, Verify, Spare, Flips, Derive}
+use Rattle.sk_cli.specs.declared.command.Command.TheVariants.{Check, Plan, Solve, Dxf, Offers, Session, Grow, Migrate, Verify, Spare, Flips, Derive, Parts}
 use Rattle.sk_flips.specs.declared.Placement.{Placement}
 use Rattle.sk_cli.specs.declared.request.Request.{Request}
 use Rattle.sk_cli.specs.declared.solving.Report.{Report}
@@ -77,10 +77,11 @@ still_accounted text bytes long longer account Refused out answer = (answer.0, s
 still_accounted text bytes long longer account status out answer = absurd answer
 
 still_answered : (text bytes : List ℕ) → length text ≡ 1048577 → 1048577 ≤ length bytes → (command : Command) (request : Request) (status : Status) (out : List ℕ) → IsAnswerOf command request text status out → IsAnswerOf command request bytes status out
-still_answered text bytes long longer Check request status out answer = still_accounted text bytes long longer Parts status out answer
+still_answered text bytes long longer Check request status out answer = still_accounted text bytes long longer Judged status out answer
 still_answered text bytes long longer Migrate request status out answer = still_accounted text bytes long longer Migrated status out answer
 still_answered text bytes long longer Spare request status out answer = still_accounted text bytes long longer Spares status out answer
 still_answered text bytes long longer Derive request status out answer = still_accounted text bytes long longer Derived status out answer
+still_answered text bytes long longer Parts request status out answer = still_accounted text bytes long longer (Shapes request) status out answer
 still_answered text bytes long longer Plan request Refused out answer = (answer.0, still_refused text bytes long longer answer.0.line answer.0.code answer.1, answer.2)
 still_answered text bytes long longer Plan request status out answer = absurd (omega (arith, long, answer.1.fits))
 still_answered text bytes long longer Solve request Refused out answer = (answer.0, still_refused text bytes long longer answer.0.line answer.0.code answer.1, answer.2)
@@ -157,6 +158,7 @@ no_read_fault Migrate request bytes text answer = answer
 no_read_fault Verify request bytes text answer = answer
 no_read_fault Spare request bytes text answer = answer
 no_read_fault Derive request bytes text answer = answer
+no_read_fault Parts request bytes text answer = answer
 
 no_want : (command : Command) (request : Request) (bytes text : List ℕ) → ¬ IsAnswerOf command request bytes NoMemory text
 no_want Check request bytes text answer = answer
@@ -171,6 +173,7 @@ no_want Migrate request bytes text answer = answer
 no_want Verify request bytes text answer = answer
 no_want Spare request bytes text answer = answer
 no_want Derive request bytes text answer = answer
+no_want Parts request bytes text answer = answer
 
 no_write_fault : (command : Command) (request : Request) (bytes text : List ℕ) → ¬ IsAnswerOf command request bytes WriteFault text
 no_write_fault Check request bytes text answer = answer
@@ -185,6 +188,7 @@ no_write_fault Migrate request bytes text answer = answer
 no_write_fault Verify request bytes text answer = answer
 no_write_fault Spare request bytes text answer = answer
 no_write_fault Derive request bytes text answer = answer
+no_write_fault Parts request bytes text answer = answer
 
 outcome_no_read_fault : (words : List (List ℕ)) (bytes text : List ℕ) → ¬ IsOutcome words bytes ReadFault text
 outcome_no_read_fault words bytes text outcome = elim outcome [ inl asked ↦ no_read_fault asked.0.command asked.0 bytes text asked.2 | inr usage ↦ (let same = usage.1 in cc) ]

@@ -13,6 +13,7 @@ use Rattle.sk_session.specs.declared.Reply.TheVariants as reply
 use Rattle.sk_session.specs.State.{State, sketch_in}
 use Rattle.sk_session.specs.Replies.{Answers}
 use Rattle.sk_worklist.specs.declared.Order.{Order}
+use Rattle.sk_place.specs.declared.PlaceBy.{PlaceBy}
 use Rattle.sk_cli.specs.declared.bits.Bits.{Bits}
 use Rattle.sk_cli.specs.declared.request.Request.{Request}
 use Rattle.sk_cli.specs.declared.status.Status.{Status}
@@ -22,18 +23,18 @@ use Rattle.sk_cli.specs.SessionEnding.{SessionEnds, IsStopped}
 use Rattle.sk_cli.specs.Told.{told}
 
 -- the text of a reply that is told
-pub told_is_text : (order : Order) (bits : Bits) (within : ℕ) (s : Sketch) (r : Reply) (text : List ℕ) → r ≢ reply.Solve → text ≡ told s r → IsReplyText order bits within s r text
-told_is_text order bits within s reply.Blank text other is = is
-told_is_text order bits within s reply.Done text other is = is
-told_is_text order bits within s (reply.Declared e) text other is = is
-told_is_text order bits within s (reply.Constrained k) text other is = is
-told_is_text order bits within s (reply.Refused code) text other is = is
-told_is_text order bits within s (reply.Checked j) text other is = is
-told_is_text order bits within s (reply.Planned p) text other is = is
-told_is_text order bits within s (reply.NotWell j) text other is = is
-told_is_text order bits within s reply.Solve text other is = absurd (other refl)
-told_is_text order bits within s reply.Write text other is = is
-told_is_text order bits within s reply.End text other is = is
+pub told_is_text : (order : Order) (bits : Bits) (within : ℕ) (place : PlaceBy) (s : Sketch) (r : Reply) (text : List ℕ) → r ≢ reply.Solve → text ≡ told s r → IsReplyText order bits within place s r text
+told_is_text order bits within place s reply.Blank text other is = is
+told_is_text order bits within place s reply.Done text other is = is
+told_is_text order bits within place s (reply.Declared e) text other is = is
+told_is_text order bits within place s (reply.Constrained k) text other is = is
+told_is_text order bits within place s (reply.Refused code) text other is = is
+told_is_text order bits within place s (reply.Checked j) text other is = is
+told_is_text order bits within place s (reply.Planned p) text other is = is
+told_is_text order bits within place s (reply.NotWell j) text other is = is
+told_is_text order bits within place s reply.Solve text other is = absurd (other refl)
+told_is_text order bits within place s reply.Write text other is = is
+told_is_text order bits within place s reply.End text other is = is
 
 -- each reply ends the session or doesn't
 pub ends_or_not : (r : Reply) → (r ≡ reply.End) ⊎ (r ≢ reply.End)
@@ -59,7 +60,7 @@ not_counted answered before now fault none =
 
 -- the reply that ends the session has no text
 pub end_has_none : (request : Request) (old : State) (line : List ℕ) (new : State) (r : Reply) (text : List ℕ) → IsReplied request old line new r text → r ≡ reply.End → text ≡ []
-end_has_none request old line new r text replied is = subst (λ (z : Reply). IsReplyText request.order request.bits request.within (sketch_in new) z text) is replied.says
+end_has_none request old line new r text replied is = subst (λ (z : Reply). IsReplyText request.order request.bits request.within request.place (sketch_in new) z text) is replied.says
 
 -- one more line is answered
 pub replied_more : (request : Request) (old : State) (before : List (List ℕ)) (mid : State) (text : List ℕ) → AreReplied request old before mid text

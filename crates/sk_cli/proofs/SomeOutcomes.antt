@@ -1,6 +1,6 @@
 -- Words and an input have an outcome.
-use Rattle.std.proofs.Common.{◌≡◌, ◌≢◌, ◌⊎◌, inl, inr, refl, ℕ, ◌≤◌, ◌<◌, List, ◌++◌, Some, length, take, arith}
-use Rattle.std.specs.Prelude.{drop}
+use Rattle.std.proofs.Common.{◌≡◌, ◌≢◌, ◌⊎◌, inl, inr, refl, ℕ, ◌≤◌, ◌<◌, List, [], ◌++◌, Some, length, take, arith}
+use Rattle.std.specs.Prelude.{drop, Contains}
 use Rattle.sk_base.specs.declared.Name.{Name}
 use Rattle.sk_base.specs.declared.Sketch.{Sketch}
 use Rattle.sk_base.specs.SoundSketch.{IsSoundSketch}
@@ -20,7 +20,7 @@ use Rattle.sk_verdict.specs.declared.Judgement.{Judgement}
 use Rattle.sk_tree.specs.declared.Plan.{Plan as ThePlan}
 use Rattle.sk_plan.specs.Judged.{IsTheJudgement, IsWell}
 use Rattle.sk_offers.specs.Offering.{starting_table}
-use Rattle.sk_report.specs.CheckReport.{check_report}
+use Rattle.sk_report.specs.CheckReport.{parts_head, check_report}
 use Rattle.sk_report.specs.PlanReport.{plan_report}
 use Rattle.sk_report.specs.RefusalLine.{refusal_line}
 use Rattle.sk_spare.specs.SpareReport.{spare_report}
@@ -30,15 +30,15 @@ use Rattle.sk_verify.proofs.ClaimSoFar.{some_answer as claim_or_refused}
 use Rattle.sk_verify.proofs.FittingClaims.{read_claim_fits}
 use Rattle.sk_verify.proofs.SomeFailures.{accepted_or_failing}
 use Rattle.sk_cli.specs.declared.accounts.Account.{Account}
-use Rattle.sk_cli.specs.declared.accounts.Account.TheVariants.{Parts, Spares, Derived, Migrated}
+use Rattle.sk_cli.specs.declared.accounts.Account.TheVariants.{Judged, Spares, Derived, Migrated, Shapes}
 use Rattle.sk_cli.specs.declared.command.Command.{Command}
-use Rattle.sk_cli.specs.declared.command.Command.TheVariants.{Check, Plan, Solve, Dxf, Offers, Session, Grow, Migrate, Verify, Spare, Flips, Derive}
+use Rattle.sk_cli.specs.declared.command.Command.TheVariants.{Check, Plan, Solve, Dxf, Offers, Session, Grow, Migrate, Verify, Spare, Flips, Derive, Parts}
 use Rattle.sk_residual.specs.declared.Wanted.TheVariants.{Drawn}
 use Rattle.sk_flips.specs.declared.Placement.{Placement}
 use Rattle.sk_flips.specs.declared.Placement.TheVariants.{Fault, Beyond, Turned, Holds}
 use Rattle.sk_cli.specs.declared.request.Request.{Request}
 use Rattle.sk_cli.specs.declared.solving.Report.{Report}
-use Rattle.sk_cli.specs.declared.solving.Report.TheVariants.{Places, Drawing, Sums}
+use Rattle.sk_cli.specs.declared.solving.Report.TheVariants.{Places, Drawing, Sums, Shape}
 use Rattle.sk_cli.specs.declared.status.Status.{Status}
 use Rattle.sk_cli.specs.declared.status.Status.TheVariants.{Done, Refused, Usage, NotWell, NotVerified}
 use Rattle.sk_cli.specs.Accounts.{IsAccount}
@@ -58,6 +58,12 @@ use Rattle.sk_cli.proofs.SomeRequests.{form_decided}
 use Rattle.sk_cli.proofs.SomeSpares.{some_spares}
 use Rattle.sk_derive.proofs.SomeWide.{some_wide}
 use Rattle.sk_session.proofs.SomeReplies.{GivenByLanguage, well_or_not}
+use Rattle.sk_cli.specs.PartsReport.{IsBelowPart}
+use Rattle.sk_cli.proofs.PartsTold.{below_sound, over_or_not, some_told}
+use Rattle.sk_parts.specs.OwnSketch.{part_sketch}
+use Rattle.sk_parts.proofs.Drawing.{part_is_sound}
+use Rattle.sk_parts.proofs.Sharing.{some_judged}
+use Rattle.sk_verdict.specs.declared.Part.{Part}
 use Rattle.sk_cli.proofs.SomeSessions.{SomeToSolve, some_session}
 
 -- the laws of the layers below
@@ -88,12 +94,42 @@ planned order s sketch some =
 abbrev Answered : Command → Request → List ℕ → Type 0
 Answered command request bytes = (status : Status) × (text : List ℕ) × IsAnswerOf command request bytes status text
 
+-- what is placed of a sketch; its status isn't a refusal's
+solved : (report : Report) (request : Request) (s : Sketch) → IsSoundSketch s → 0 < length s.elements → (status : Status) × (text : List ℕ) × (status ≢ Refused) × IsSolved report request s status text
+solved report request s sketch some =
+    elim (planned request.order s sketch some) [
+      | inr (text, never) ↦ (NotWell, text, (λ e. cc), inr (refl, never))
+      | inl (well, (p, by)) ↦ (
+          let q = some_placement Drawn (grid_of request.bits) request.place (digits_of request.bits) request.within s p (graph_is_sound s sketch) by.legal in
+          (status_of q.0, placement_words report (digits_of request.bits) s p q.0, no_refusal q.0, inl (p, q.0, record { well = well; plan = by; placed = q.1 }, refl, refl)))
+    ]
+  where
+    no_refusal : (q : Placement) → status_of q ≢ Refused
+    no_refusal (Fault f) e = cc
+    no_refusal (Beyond b) e = cc
+    no_refusal (Turned t) e = cc
+    no_refusal (Holds at t) e = cc
+
+-- what is told below a part
+some_below : (request : Request) (s : Sketch) → IsSoundSketch s → (j : Judgement) → IsTheJudgement (graph_of s) j → (p : Part) → Contains j.parts p → (below : List ℕ) × IsBelowPart request s p below
+some_below request s sketch j judged p p_in =
+    elim (over_or_not p) [
+      | inl over ↦ ([], inl (over, refl))
+      | inr not_over ↦ (
+          let found = solved Shape request (part_sketch s p.elements) (part_is_sound s p.elements sketch) (some_judged s j sketch judged p p_in) in
+          (found.1, below_sound request s sketch j judged p p_in not_over found.0 found.1 found.3))
+    ]
+
 -- what is told of a sketch
 some_account : (account : Account) (s : Sketch) → IsSoundSketch s → (text : List ℕ) × IsAccount account s text
-some_account Parts s sketch = let j = the_judgement_of s sketch in (check_report s j.0, (j.0, j.1, refl))
+some_account Judged s sketch = let j = the_judgement_of s sketch in (check_report s j.0, (j.0, j.1, refl))
 some_account Spares s sketch = let found = some_spares (graph_of s) (graph_is_sound s sketch) in (spare_report s found.0, (found.0, found.1, refl))
 some_account Migrated s sketch = (canonical_2 s, refl)
 some_account Derived s sketch = let found = some_wide (graph_of s) (graph_is_sound s sketch) in (derived_text s found.family, (found.family, found.sound, found.normal, refl))
+some_account (Shapes request) s sketch =
+    let j = the_judgement_of s sketch in
+    let told = some_told request s j.0.parts (λ p p_in. some_below request s sketch j.0 j.1 p p_in) 1 in
+    (parts_head j.0 ++ told.0, (j.0, told.0, j.1, told.1, refl))
 
 accounted : LawsBelow → (account : Account) (bytes : List ℕ) → (status : Status) × (text : List ℕ) × IsAccountAnswer account bytes status text
 accounted laws account bytes =
@@ -111,22 +147,6 @@ planned_answer laws request bytes =
         | inr (text, never) ↦ (NotWell, text, (s, reads, never))
       ]
     ]
-
--- what is placed of a sketch; its status isn't a refusal's
-solved : (report : Report) (request : Request) (s : Sketch) → IsSoundSketch s → 0 < length s.elements → (status : Status) × (text : List ℕ) × (status ≢ Refused) × IsSolved report request s status text
-solved report request s sketch some =
-    elim (planned request.order s sketch some) [
-      | inr (text, never) ↦ (NotWell, text, (λ e. cc), inr (refl, never))
-      | inl (well, (p, by)) ↦ (
-          let q = some_placement Drawn (grid_of request.bits) (digits_of request.bits) request.within s p (graph_is_sound s sketch) by.legal in
-          (status_of q.0, placement_words report (digits_of request.bits) s p q.0, no_refusal q.0, inl (p, q.0, record { well = well; plan = by; placed = q.1 }, refl, refl)))
-    ]
-  where
-    no_refusal : (q : Placement) → status_of q ≢ Refused
-    no_refusal (Fault f) e = cc
-    no_refusal (Beyond b) e = cc
-    no_refusal (Turned t) e = cc
-    no_refusal (Holds at t) e = cc
 
 solve_answer : LawsBelow → (report : Report) (request : Request) (bytes : List ℕ) → (status : Status) × (text : List ℕ) × IsSolveAnswer report request bytes status text
 solve_answer laws report request bytes =
@@ -207,7 +227,7 @@ flips_answer laws request bytes =
           | inr (text, never) ↦ (NotWell, text, never)
           | inl (well, (p, by)) ↦ (
               let F = digits_of request.bits in
-              let found = some_alternatives (grid_of request.bits) F request.within s p (graph_is_sound s sketch) by.legal lists in (
+              let found = some_alternatives (grid_of request.bits) request.place F request.within s p (graph_is_sound s sketch) by.legal lists in (
                 Done,
                 alternatives_from s F 1 found.0,
                 record {
@@ -222,11 +242,12 @@ flips_answer laws request bytes =
         ]
 
 answered : LawsBelow → (command : Command) (request : Request) → (command ≡ Grow → (n : ℕ) × (request.size ≡ Some n) × (3 ≤ n) × (n ≤ 1000)) → (bytes : List ℕ) → Answered command request bytes
-answered laws Check request size bytes = accounted laws Parts bytes
+answered laws Check request size bytes = accounted laws Judged bytes
 answered laws Migrate request size bytes = accounted laws Migrated bytes
 answered laws Verify request size bytes = verify_answer laws request bytes
 answered laws Spare request size bytes = accounted laws Spares bytes
 answered laws Derive request size bytes = accounted laws Derived bytes
+answered laws Parts request size bytes = accounted laws (Shapes request) bytes
 answered laws Plan request size bytes = planned_answer laws request bytes
 answered laws Solve request size bytes = solve_answer laws Places request bytes
 answered laws Dxf request size bytes = solve_answer laws Drawing request bytes

@@ -7,6 +7,7 @@ use Rattle.sk_base.specs.SoundGraph.{IsSoundGraph}
 use Rattle.sk_graph.specs.SketchGraph.{graph_of}
 use Rattle.sk_tree.specs.declared.Plan.{Plan as ThePlan}
 use Rattle.sk_tree.specs.LegalPlan.{IsLegalPlan}
+use Rattle.sk_place.specs.declared.PlaceBy.{PlaceBy}
 use Rattle.sk_residual.specs.declared.Wanted.{Wanted}
 use Rattle.sk_residual.specs.declared.Wanted.TheVariants.{Chosen}
 use Rattle.sk_residual.specs.Placing.{PlacesExactly}
@@ -54,27 +55,27 @@ some_measured wanted limit s p at sound exactly =
       ]
     ]
 
-pub some_placement : (wanted : Wanted) (G : Type 0) (F limit : ℕ) (s : Sketch) (p : ThePlan) → IsSoundGraph (graph_of s) → IsLegalPlan (graph_of s) p → (q : Placement) × IsPlacement wanted G F limit s p q
-some_placement wanted G F limit s p sound legal =
-    elim (some_places G F (graph_of s) p sound legal) [
+pub some_placement : (wanted : Wanted) (G : Type 0) (placing : PlaceBy) (F limit : ℕ) (s : Sketch) (p : ThePlan) → IsSoundGraph (graph_of s) → IsLegalPlan (graph_of s) p → (q : Placement) × IsPlacement wanted G placing F limit s p q
+some_placement wanted G placing F limit s p sound legal =
+    elim (some_places G placing F (graph_of s) p sound legal) [
       | inr (f, failed) ↦ (Fault f, failed)
       | inl has ↦ (
           let at : Placed = midpoints F has.list in
-          let measured = some_measured wanted limit s p at sound (exactly_so G F (graph_of s) p sound legal has) in
-          (measured.0, placement_of wanted G F limit s p (graph_of s) has.list at measured.0 refl has.placed refl measured.1))
+          let measured = some_measured wanted limit s p at sound (exactly_so G placing F (graph_of s) p sound legal has) in
+          (measured.0, placement_of wanted G placing F limit s p (graph_of s) has.list at measured.0 refl has.placed refl measured.1))
     ]
 
-module _ (G : Type 0) (F limit : ℕ) (s : Sketch) (p : ThePlan) (sound : IsSoundGraph (graph_of s)) (legal : IsLegalPlan (graph_of s) p) where
-  some_alternative : (names : List Name) → (a : Alternative) × IsAlternative G F limit s p names a
+module _ (G : Type 0) (placing : PlaceBy) (F limit : ℕ) (s : Sketch) (p : ThePlan) (sound : IsSoundGraph (graph_of s)) (legal : IsLegalPlan (graph_of s) p) where
+  some_alternative : (names : List Name) → (a : Alternative) × IsAlternative G placing F limit s p names a
   some_alternative names = by (first_without_choice p names) refl
     where
-      by : (first : Option Name) → first_without_choice p names ≡ first → (a : Alternative) × IsAlternative G F limit s p names a
+      by : (first : Option Name) → first_without_choice p names ≡ first → (a : Alternative) × IsAlternative G placing F limit s p names a
       by (Some n) is = (NoChoice n, is)
       by None is = (
-          let q = some_placement Chosen G F limit s (flipped names p) sound (flipped_is_legal (graph_of s) names p legal) in
-          (alternative_of q.0, is_alternative G F limit s p names q.0 (is, q.1)))
+          let q = some_placement Chosen G placing F limit s (flipped names p) sound (flipped_is_legal (graph_of s) names p legal) in
+          (alternative_of q.0, is_alternative G placing F limit s p names q.0 (is, q.1)))
 
-  pub some_alternatives : (lists : List (List Name)) → (found : List Alternative) × AreAlternatives G F limit s p lists found
+  pub some_alternatives : (lists : List (List Name)) → (found : List Alternative) × AreAlternatives G placing F limit s p lists found
   some_alternatives [] = ([], tt)
   some_alternatives (names ∷ lists) = (
       let here = some_alternative names in

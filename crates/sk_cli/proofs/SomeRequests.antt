@@ -6,13 +6,15 @@ use Rattle.std.proofs.lemmas.Bool.{cases_lt}
 use Rattle.sk_base.proofs.Members.{nat_settles, list_settles}
 use Rattle.sk_worklist.specs.declared.Order.{Order}
 use Rattle.sk_worklist.specs.declared.Order.TheVariants.{First, Last, Stride}
+use Rattle.sk_place.specs.declared.PlaceBy.{PlaceBy}
+use Rattle.sk_place.specs.declared.PlaceBy.TheVariants.{Boxes, Points}
 use Rattle.sk_cli.specs.declared.bits.Bits.{Bits}
 use Rattle.sk_cli.specs.declared.bits.Bits.TheVariants.{Sixteen, TwentySeven, ThirtyEight}
 use Rattle.sk_cli.specs.declared.command.Command.{Command}
-use Rattle.sk_cli.specs.declared.command.Command.TheVariants.{Check, Plan, Solve, Dxf, Offers, Session, Grow, Migrate, Verify, Spare, Flips, Derive}
+use Rattle.sk_cli.specs.declared.command.Command.TheVariants.{Check, Plan, Solve, Dxf, Offers, Session, Grow, Migrate, Verify, Spare, Flips, Derive, Parts}
 use Rattle.sk_cli.specs.declared.request.Request.{Request}
 use Rattle.sk_cli.specs.Commands.{command_word}
-use Rattle.sk_cli.specs.Asking.{Key, OrderKey, BitsKey, WithinKey, SizeKey, key_name, takes, behind, values_of, IsKeyOf, IsNumber, IsOrder, IsBits, IsLimit, IsSize, Says, IsSet, HasSize, HasKeys, AreOfForm}
+use Rattle.sk_cli.specs.Asking.{Key, OrderKey, BitsKey, WithinKey, PlaceKey, SizeKey, key_name, takes, behind, values_of, IsKeyOf, IsNumber, IsOrder, IsBits, IsLimit, IsPlace, IsSize, Says, IsSet, HasSize, HasKeys, AreOfForm}
 use Rattle.sk_base.proofs.Deciding.{Decided, all_decided, both, either, moved, some_in}
 
 bool_decided : (b : Bool) → Decided (b ≡ true)
@@ -74,6 +76,17 @@ bits_decided value =
     from (TwentySeven, e) = inr (inl e)
     from (ThirtyEight, e) = inr (inr e)
 
+place_decided : (value : List ℕ) → Decided ((place : PlaceBy) × IsPlace value place)
+place_decided value = moved to from (either (bytes_decided value (codes "boxes")) (bytes_decided value (codes "points")))
+  where
+    to : (value ≡ codes "boxes") ⊎ (value ≡ codes "points") → (place : PlaceBy) × IsPlace value place
+    to (inl e) = (Boxes, e)
+    to (inr e) = (Points, e)
+
+    from : (place : PlaceBy) × IsPlace value place → (value ≡ codes "boxes") ⊎ (value ≡ codes "points")
+    from (Boxes, e) = inl e
+    from (Points, e) = inr e
+
 module _ {X : Type 0} (Is : List ℕ → X → Type 0) (decide : (value : List ℕ) → Decided ((x : X) × Is value x)) where
   said_decided : (default : X) (values : List (List ℕ)) → Decided ((x : X) × Says Is default values x)
   said_decided default [] = inl (default, refl)
@@ -95,14 +108,15 @@ module _ {X : Type 0} (Is : List ℕ → X → Type 0) (decide : (value : List �
   set_decided Fits none some (v ∷ w ∷ more) = inr (λ h. h.1)
 
 all_keys : List Key
-all_keys = OrderKey ∷ BitsKey ∷ WithinKey ∷ SizeKey ∷ []
+all_keys = OrderKey ∷ BitsKey ∷ WithinKey ∷ PlaceKey ∷ SizeKey ∷ []
 
 key_listed : (key : Key) → Contains all_keys key
 unfolding all_keys
 key_listed OrderKey = (0, omega arith, refl)
 key_listed BitsKey = (1, omega arith, refl)
 key_listed WithinKey = (2, omega arith, refl)
-key_listed SizeKey = (3, omega arith, refl)
+key_listed PlaceKey = (3, omega arith, refl)
+key_listed SizeKey = (4, omega arith, refl)
 
 key_decided : (command : Command) (word : List ℕ) → Decided (IsKeyOf command word)
 key_decided command word =
@@ -110,7 +124,7 @@ key_decided command word =
     (some_in (λ key. IsTrue (takes command key) × IsSome (behind (key_name key) word)) (λ key. both (bool_decided (takes command key)) (bool_decided (is_some (behind (key_name key) word)))) all_keys)
 
 all_commands : List Command
-all_commands = Check ∷ Plan ∷ Solve ∷ Dxf ∷ Offers ∷ Session ∷ Grow ∷ Migrate ∷ Verify ∷ Spare ∷ Flips ∷ Derive ∷ []
+all_commands = Check ∷ Plan ∷ Solve ∷ Dxf ∷ Offers ∷ Session ∷ Grow ∷ Migrate ∷ Verify ∷ Spare ∷ Flips ∷ Derive ∷ Parts ∷ []
 
 command_listed : (command : Command) → Contains all_commands command
 unfolding all_commands
@@ -126,6 +140,7 @@ command_listed Verify = (8, omega arith, refl)
 command_listed Spare = (9, omega arith, refl)
 command_listed Flips = (10, omega arith, refl)
 command_listed Derive = (11, omega arith, refl)
+command_listed Parts = (12, omega arith, refl)
 
 unsized_decided : (command : Command) → Decided (HasSize command None)
 unsized_decided Check = inl tt
@@ -140,6 +155,7 @@ unsized_decided Verify = inl tt
 unsized_decided Spare = inl tt
 unsized_decided Flips = inl tt
 unsized_decided Derive = inl tt
+unsized_decided Parts = inl tt
 
 sized_by : (command : Command) (n : ℕ) → HasSize command (Some n)
 sized_by Check n = tt
@@ -154,6 +170,7 @@ sized_by Verify n = tt
 sized_by Spare n = tt
 sized_by Flips n = tt
 sized_by Derive n = tt
+sized_by Parts n = tt
 
 -- the keys ask for something of the command
 abbrev AskOf : Command → List (List ℕ) → Type 0
@@ -164,30 +181,33 @@ record HasParts (command : Command) (keys : List (List ℕ)) : Type 0 where
   order : (x : Order) × Says IsOrder First (values_of OrderKey keys) x
   bits : (x : Bits) × Says IsBits ThirtyEight (values_of BitsKey keys) x
   within : (x : ℕ) × Says IsLimit 1000 (values_of WithinKey keys) x
+  place : (x : PlaceBy) × Says IsPlace Boxes (values_of PlaceKey keys) x
   size : (x : Option ℕ) × IsSet IsSize (values_of SizeKey keys) x × HasSize command x
 
 parts_decided : (command : Command) (keys : List (List ℕ)) → Decided (HasParts command keys)
 parts_decided command keys =
-    moved (λ h. record { known = h.0; order = h.1.0; bits = h.1.1.0; within = h.1.1.1.0; size = h.1.1.1.1 }) (λ (p : HasParts command keys). (p.known, (p.order, (p.bits, (p.within, p.size)))))
+    moved (λ h. record { known = h.0; order = h.1.0; bits = h.1.1.0; within = h.1.1.1.0; place = h.1.1.1.1.0; size = h.1.1.1.1.1 }) (λ (p : HasParts command keys). (p.known, (p.order, (p.bits, (p.within, (p.place, p.size))))))
     (both (all_decided (λ word. IsKeyOf command word) (λ word. key_decided command word) keys)
     (both (said_decided IsOrder order_decided First (values_of OrderKey keys))
     (both (said_decided IsBits bits_decided ThirtyEight (values_of BitsKey keys))
     (both (said_decided IsLimit (λ value. number_decided 1 1000000 value) 1000 (values_of WithinKey keys))
-    (set_decided IsSize (λ value. number_decided 3 1000 value) (λ size. HasSize command size) (unsized_decided command) (sized_by command) (values_of SizeKey keys))))))
+    (both (said_decided IsPlace place_decided Boxes (values_of PlaceKey keys))
+    (set_decided IsSize (λ value. number_decided 3 1000 value) (λ size. HasSize command size) (unsized_decided command) (sized_by command) (values_of SizeKey keys)))))))
 
 ask_decided : (command : Command) (keys : List (List ℕ)) → Decided (AskOf command keys)
 ask_decided command keys =
     moved
     (λ (p : HasParts command keys). (
-      record { command = command; order = p.order.0; bits = p.bits.0; within = p.within.0; size = p.size.0 },
+      record { command = command; order = p.order.0; bits = p.bits.0; within = p.within.0; place = p.place.0; size = p.size.0 },
       refl,
-      record { known = p.known; order = p.order.1; bits = p.bits.1; within = p.within.1; size = p.size.1; sized = p.size.2 },
+      record { known = p.known; order = p.order.1; bits = p.bits.1; within = p.within.1; place = p.place.1; size = p.size.1; sized = p.size.2 },
     ))
     (λ (request, is, h). record {
       known = subst (λ c. All (λ word. IsKeyOf c word) keys) is h.known;
       order = (request.order, h.order);
       bits = (request.bits, h.bits);
       within = (request.within, h.within);
+      place = (request.place, h.place);
       size = (request.size, h.size, subst (λ c. HasSize c request.size) is h.sized);
     })
     (parts_decided command keys)

@@ -18,9 +18,9 @@ use Rattle.sk_plan.specs.Judged.{IsTheJudgement}
 use Rattle.sk_plan.specs.Leaves.{HasLeaves}
 use Rattle.sk_report.specs.CheckReport.{check_report}
 use Rattle.sk_worklist.specs.declared.Order.{Order}
-use Rattle.sk_cli.specs.declared.accounts.Account.TheVariants.{Parts}
+use Rattle.sk_cli.specs.declared.accounts.Account.TheVariants.{Judged}
 use Rattle.sk_cli.specs.declared.command.Command.{Command}
-use Rattle.sk_cli.specs.declared.command.Command.TheVariants.{Check, Plan, Solve, Dxf, Offers, Session, Grow, Migrate, Verify, Spare, Flips, Derive}
+use Rattle.sk_cli.specs.declared.command.Command.TheVariants.{Check, Plan, Solve, Dxf, Offers, Session, Grow, Migrate, Verify, Spare, Flips, Derive, Parts}
 use Rattle.sk_cli.specs.declared.request.Request.{Request}
 use Rattle.sk_cli.specs.declared.solving.Report.{Report}
 use Rattle.sk_cli.specs.declared.status.Status.{Status}
@@ -41,7 +41,7 @@ IsSolvedFor command request s status text = (report : Report) × IsReportOf comm
 
 -- what a command says of a sketch, so far as the headline tells it
 abbrev pub IsSaid : Command → Request → Sketch → Status → List ℕ → Type 0
-IsSaid Check request s status text = IsAccount Parts s text
+IsSaid Check request s status text = IsAccount Judged s text
 IsSaid Plan request s status text = (0 < length s.elements) × IsPlanOrReport request.order s status text
 IsSaid Offers request s status text = status ≡ Done → (j : Judgement) × (lines : List ℕ) × IsTheJudgement (graph_of s) j × (text ≡ lines ++ check_report s j)
 IsSaid Flips request s status text = (lists : List (List Name)) × IsFlipped request s lists status text
@@ -50,6 +50,7 @@ IsSaid Migrate request s status text = Unit {0}
 IsSaid Verify request s status text = Unit {0}
 IsSaid Spare request s status text = Unit {0}
 IsSaid Derive request s status text = Unit {0}
+IsSaid Parts request s status text = Unit {0}
 IsSaid Solve request s status text = IsSolvedFor Solve request s status text
 IsSaid Dxf request s status text = IsSolvedFor Dxf request s status text
 IsSaid Grow request s status text = IsSolvedFor Grow request s status text
@@ -61,8 +62,8 @@ module _ (one_sketch : OneSketch) (not_both : NotBoth) (laws : LowerLaws) (bytes
   not_refused : Reads bytes s → ¬ IsRefusalText bytes text
   not_refused reads (r, refuses, is) = not_both bytes s r.line r.code reads refuses
 
-  check_said : Reads bytes s → IsAccountOf Parts bytes text → IsAccount Parts s text
-  check_said reads (t, reads', told) = subst (λ z. IsAccount Parts z text) (one_sketch bytes t s reads' reads) told
+  check_said : Reads bytes s → IsAccountOf Judged bytes text → IsAccount Judged s text
+  check_said reads (t, reads', told) = subst (λ z. IsAccount Judged z text) (one_sketch bytes t s reads' reads) told
 
   plan_said : (order : Order) (status : Status) → Reads bytes s → (t : Sketch) → Reads bytes t → IsPlanOrReport order t status text → IsPlanOrReport order s status text
   plan_said order status reads t reads' told = subst (λ z. IsPlanOrReport order z status text) (one_sketch bytes t s reads' reads) told
@@ -79,7 +80,7 @@ done_report bytes text status answer is = subst (λ z. IsOffersAnswer bytes z te
 pub said_about : OneSketch → NotBoth → SomeRead → LowerLaws → (command : Command) (request : Request) (bytes text : List ℕ) (status : Status) (s : Sketch) → IsAnswerOf command request bytes status text
     → IsSketchOf command request bytes s → IsSaid command request s status text
 said_about one_sketch not_both some_read laws Check request bytes text status s answer reads =
-    elim (told_account Parts bytes status text answer) [
+    elim (told_account Judged bytes status text answer) [
       | inl report ↦ check_said one_sketch not_both laws bytes text s reads report.1
       | inr line ↦ absurd (not_refused one_sketch not_both laws bytes text s reads line.1)
     ]
@@ -96,6 +97,7 @@ said_about one_sketch not_both some_read laws Migrate request bytes text status 
 said_about one_sketch not_both some_read laws Verify request bytes text status s answer about = tt
 said_about one_sketch not_both some_read laws Spare request bytes text status s answer about = tt
 said_about one_sketch not_both some_read laws Derive request bytes text status s answer about = tt
+said_about one_sketch not_both some_read laws Parts request bytes text status s answer about = tt
 said_about one_sketch not_both some_read laws Solve request bytes text status s answer about = solved_about one_sketch not_both Solve request bytes text status s answer refl about
 said_about one_sketch not_both some_read laws Dxf request bytes text status s answer about = solved_about one_sketch not_both Dxf request bytes text status s answer refl about
 said_about one_sketch not_both some_read laws Grow request bytes text status s answer about = solved_about one_sketch not_both Grow request bytes text status s answer refl about
@@ -231,6 +233,7 @@ module _ (normal : OneNormal) (plans : LegalPlans) (law : OneJudgement) (laws : 
   tells Verify said = nothing_told Verify request s status text refl refl (λ status writes. writes) (λ same. cc)
   tells Spare said = nothing_told Spare request s status text refl refl (λ status writes. writes) (λ same. cc)
   tells Derive said = nothing_told Derive request s status text refl refl (λ status writes. writes) (λ same. cc)
+  tells Parts said = nothing_told Parts request s status text refl refl (λ status writes. writes) (λ same. cc)
   tells Solve solved = placed_tells Solve refl (λ same. cc) solved
   tells Dxf solved = placed_tells Dxf refl (λ same. cc) solved
   tells Grow solved = placed_tells Grow refl (λ same. cc) solved

@@ -18,9 +18,9 @@ use Rattle.sk_residual.proofs.Firsts.{first_inside}
 use Rattle.sk_residual.proofs.OneMeasured.{not_beyond}
 use Rattle.sk_residual.specs.Turns.{IsTurned}
 use Rattle.sk_cli.specs.declared.accounts.Account.{Account}
-use Rattle.sk_cli.specs.declared.accounts.Account.TheVariants.{Parts, Spares, Derived, Migrated}
+use Rattle.sk_cli.specs.declared.accounts.Account.TheVariants.{Judged, Spares, Derived, Migrated, Shapes}
 use Rattle.sk_cli.specs.declared.command.Command.{Command}
-use Rattle.sk_cli.specs.declared.command.Command.TheVariants.{Check, Plan, Solve, Dxf, Offers, Session, Grow, Migrate, Verify, Spare, Flips, Derive}
+use Rattle.sk_cli.specs.declared.command.Command.TheVariants.{Check, Plan, Solve, Dxf, Offers, Session, Grow, Migrate, Verify, Spare, Flips, Derive, Parts}
 use Rattle.sk_lang.specs.declared.Front.{Front}
 use Rattle.sk_residual.specs.declared.Wanted.TheVariants.{Drawn}
 use Rattle.sk_flips.specs.declared.Placement.{Placement}
@@ -62,7 +62,7 @@ never_short (Holds at t) same = cc
 -- a plan and where it places the elements, by the status that tells of it
 module _ (request : Request) (s : Sketch) (p : ThePlan) where
   abbrev pub IsPlacedSo : Placement → Type 0
-  IsPlacedSo q = IsPlacement (grid_of request.bits) (digits_of request.bits) request.within s p q
+  IsPlacedSo q = IsPlacement (grid_of request.bits) request.place (digits_of request.bits) request.within s p q
 
   abbrev pub IsFault : Type 0
   IsFault = HasFault request s p ⊎ ((at : Placed) × LieAt request s p at × NonePasses request s at × SomeTurned request s p at)
@@ -122,19 +122,19 @@ module _ (request : Request) (s : Sketch) (p : ThePlan) where
         let F = digits_of request.bits in
         let g = graph_of s in
         let tree = some_plan_tree g p sound by.legal in
-        elim (told_placed Drawn (grid_of request.bits) F request.within s p q placed) [
-          | inl (f, q_is, failed) ↦ absurd (not_both (grid_of request.bits) F g p by.legal tree boxes f lie failed)
+        elim (told_placed Drawn (grid_of request.bits) request.place F request.within s p q placed) [
+          | inl (f, q_is, failed) ↦ absurd (not_both (grid_of request.bits) request.place F g p by.legal tree boxes f lie failed)
           | inr (others, placed', measured) ↦
               subst (λ here. IsMeasured request.within s p here q) (sym is)
-              (subst (λ bs. IsMeasured request.within s p (midpoints F bs) q) (one_list (grid_of request.bits) F g p by.legal tree others boxes placed' lie) measured)
+              (subst (λ bs. IsMeasured request.within s p (midpoints F bs) q) (one_list (grid_of request.bits) request.place F g p by.legal tree others boxes placed' lie) measured)
         ]
 
     pub fault_told : (q : Placement) → IsPlacedSo q → IsFault → status_of q ≡ StepFault
     fault_told q placed (inl (f, failed)) =
-        elim (told_placed Drawn (grid_of request.bits) (digits_of request.bits) request.within s p q placed) [
+        elim (told_placed Drawn (grid_of request.bits) request.place (digits_of request.bits) request.within s p q placed) [
           | inl (e, q_is, failed') ↦ ap status_of q_is
           | inr (boxes, placed', measured) ↦
-              absurd (not_both (grid_of request.bits) (digits_of request.bits) (graph_of s) p by.legal (some_plan_tree (graph_of s) p sound by.legal) boxes f placed' failed)
+              absurd (not_both (grid_of request.bits) request.place (digits_of request.bits) (graph_of s) p by.legal (some_plan_tree (graph_of s) p sound by.legal) boxes f placed' failed)
         ]
     fault_told q placed (inr (at, lie, none, turned)) = held_fault at q (measured_at q placed at lie) none turned
 
@@ -172,6 +172,7 @@ solved_about one_sketch not_both Migrate request bytes text status s answer plac
 solved_about one_sketch not_both Verify request bytes text status s answer placed about = cc
 solved_about one_sketch not_both Spare request bytes text status s answer placed reads = cc
 solved_about one_sketch not_both Derive request bytes text status s answer placed reads = cc
+solved_about one_sketch not_both Parts request bytes text status s answer placed reads = cc
 solved_about one_sketch not_both Flips request bytes text status s answer placed about = cc
 solved_about one_sketch not_both Session request bytes text status s answer placed about = absurd about
 solved_about one_sketch not_both Solve request bytes text status s answer placed reads =
@@ -270,6 +271,7 @@ not_well_about one_sketch not_both law laws Migrate request bytes text status s 
 not_well_about one_sketch not_both law laws Verify request bytes text status s answer planned about = cc
 not_well_about one_sketch not_both law laws Spare request bytes text status s answer planned about = cc
 not_well_about one_sketch not_both law laws Derive request bytes text status s answer planned about = cc
+not_well_about one_sketch not_both law laws Parts request bytes text status s answer planned about = cc
 not_well_about one_sketch not_both law laws Flips request bytes text status s answer planned about =
     let told = flips_about laws request bytes text status s answer about in flipped_not_well law request s told.0 status text told.1
 not_well_about one_sketch not_both law laws Session request bytes text status s answer planned about = absurd about
@@ -293,10 +295,11 @@ no_other_account account bytes text status answer done refused =
 -- a status that tells neither that the command did its work nor that the input is refused, nor that a claim fails, comes only of a sketch that is planned
 planned_sketch : (command : Command) (request : Request) (bytes text : List ℕ) (status : Status) → IsAnswerOf command request bytes status text → status ≢ Done → status ≢ Refused → (command ≡ Verify → status ≢ NotVerified)
     → IsTrue (plans command) × ((s : Sketch) × IsSketchOf command request bytes s)
-planned_sketch Check request bytes text status answer done refused unless = absurd (no_other_account Parts bytes text status answer done refused)
+planned_sketch Check request bytes text status answer done refused unless = absurd (no_other_account Judged bytes text status answer done refused)
 planned_sketch Migrate request bytes text status answer done refused unless = absurd (no_other_account Migrated bytes text status answer done refused)
 planned_sketch Spare request bytes text status answer done refused unless = absurd (no_other_account Spares bytes text status answer done refused)
 planned_sketch Derive request bytes text status answer done refused unless = absurd (no_other_account Derived bytes text status answer done refused)
+planned_sketch Parts request bytes text status answer done refused unless = absurd (no_other_account (Shapes request) bytes text status answer done refused)
 planned_sketch Verify request bytes text status answer done refused unless =
     elim (told_claim bytes status text answer) [
       | inl verified ↦ absurd (done verified.0)
@@ -330,6 +333,7 @@ placed_sketch command request bytes text status answer done refused fails short 
     placed Verify answer planned = cc
     placed Spare answer planned = cc
     placed Derive answer planned = cc
+    placed Parts answer planned = cc
     placed Session answer planned = cc
     placed Plan answer planned =
         elim (told_plan request.order bytes status text answer) [
@@ -393,6 +397,7 @@ no_usage Migrate request bytes text answer = answer
 no_usage Verify request bytes text answer = answer
 no_usage Spare request bytes text answer = answer
 no_usage Derive request bytes text answer = answer
+no_usage Parts request bytes text answer = answer
 no_usage Grow request bytes text answer = solved_told Sums request (datum_sketch answer.0) Usage text answer.2
 
 pub usage_both : (words : List (List ℕ)) (bytes text : List ℕ) (status : Status) → IsOutcome words bytes status text → (status ≡ Usage) ↔ ¬ AreOfForm words
@@ -406,6 +411,7 @@ refused_so Migrate request bytes text (r, refuses, is) = (r, refuses)
 refused_so Verify request bytes text (r, at, is) = (r, at)
 refused_so Spare request bytes text (r, refuses, is) = (r, refuses)
 refused_so Derive request bytes text (r, refuses, is) = (r, refuses)
+refused_so Parts request bytes text (r, refuses, is) = (r, refuses)
 refused_so Plan request bytes text (r, refuses, is) = (r, refuses)
 refused_so Solve request bytes text (r, refuses, is) = (r, refuses)
 refused_so Dxf request bytes text (r, refuses, is) = (r, refuses)
@@ -425,10 +431,11 @@ so_refused_account not_both account bytes text status answer r refuses =
     elim (told_account account bytes status text answer) [ inl (done, (s, reads, told)) ↦ absurd (not_both bytes s r.line r.code reads refuses) | inr refused ↦ refused.0 ]
 
 so_refused : OneSketch → NotBoth → LowerLaws → (command : Command) (request : Request) (bytes text : List ℕ) (status : Status) → IsAnswerOf command request bytes status text → IsRefusedInput command bytes → status ≡ Refused
-so_refused one_sketch not_both laws Check request bytes text status answer (r, refuses) = so_refused_account not_both Parts bytes text status answer r refuses
+so_refused one_sketch not_both laws Check request bytes text status answer (r, refuses) = so_refused_account not_both Judged bytes text status answer r refuses
 so_refused one_sketch not_both laws Migrate request bytes text status answer (r, refuses) = so_refused_account not_both Migrated bytes text status answer r refuses
 so_refused one_sketch not_both laws Spare request bytes text status answer (r, refuses) = so_refused_account not_both Spares bytes text status answer r refuses
 so_refused one_sketch not_both laws Derive request bytes text status answer (r, refuses) = so_refused_account not_both Derived bytes text status answer r refuses
+so_refused one_sketch not_both laws Parts request bytes text status answer (r, refuses) = so_refused_account not_both (Shapes request) bytes text status answer r refuses
 so_refused one_sketch not_both laws Plan request bytes text status answer (r, refuses) =
     elim (told_plan request.order bytes status text answer) [ inl refused ↦ refused.0 | inr (s, reads, told) ↦ absurd (not_both bytes s r.line r.code reads refuses) ]
 so_refused one_sketch not_both laws Solve request bytes text status answer (r, refuses) =
@@ -544,6 +551,7 @@ only_verify Verify request bytes text answer = refl
 only_verify Spare request bytes text answer = absurd answer
 only_verify Flips request bytes text answer = absurd answer.3
 only_verify Derive request bytes text answer = absurd answer
+only_verify Parts request bytes text answer = absurd answer
 only_verify Grow request bytes text answer = absurd (solved_told Sums request (datum_sketch answer.0) NotVerified text answer.2)
 
 pub failing_exactly : LowerLaws → (command : Command) (request : Request) (bytes text : List ℕ) (status : Status) → IsAnswerOf command request bytes status text
@@ -586,6 +594,7 @@ plans_alone Migrate planned other = cc
 plans_alone Verify planned other = cc
 plans_alone Spare planned other = cc
 plans_alone Derive planned other = cc
+plans_alone Parts planned other = cc
 
 -- it does its work exactly where its input is read, and the sketch that it is about is well
 pub done_where_well : OneSketch → NotBoth → OneJudgement → LowerLaws → (command : Command) (request : Request) (bytes text : List ℕ) (status : Status) → IsAnswerOf command request bytes status text

@@ -4,10 +4,12 @@ use Rattle.std.specs.List.{filter_map}
 use Rattle.std.specs.Fmt.{decimal}
 use Rattle.sk_worklist.specs.declared.Order.{Order}
 use Rattle.sk_worklist.specs.declared.Order.TheVariants.{First, Last, Stride}
+use Rattle.sk_place.specs.declared.PlaceBy.{PlaceBy}
+use Rattle.sk_place.specs.declared.PlaceBy.TheVariants.{Boxes, Points}
 use Rattle.sk_cli.specs.declared.bits.Bits.{Bits}
 use Rattle.sk_cli.specs.declared.bits.Bits.TheVariants.{Sixteen, TwentySeven, ThirtyEight}
 use Rattle.sk_cli.specs.declared.command.Command.{Command}
-use Rattle.sk_cli.specs.declared.command.Command.TheVariants.{Check, Plan, Solve, Dxf, Offers, Session, Grow, Migrate, Verify, Spare, Flips, Derive}
+use Rattle.sk_cli.specs.declared.command.Command.TheVariants.{Check, Plan, Solve, Dxf, Offers, Session, Grow, Migrate, Verify, Spare, Flips, Derive, Parts}
 use Rattle.sk_cli.specs.declared.request.Request.{Request}
 use Rattle.sk_cli.specs.Commands.{command_word}
 
@@ -29,6 +31,10 @@ IsBits value ThirtyEight = value ≡ codes "38"
 abbrev pub IsLimit : List ℕ → ℕ → Type 0
 IsLimit value n = IsNumber 1 1000000 value n
 
+abbrev pub IsPlace : List ℕ → PlaceBy → Type 0
+IsPlace value Boxes = value ≡ codes "boxes"
+IsPlace value Points = value ≡ codes "points"
+
 -- the number of elements of a sketch that is made
 abbrev pub IsSize : List ℕ → ℕ → Type 0
 IsSize value n = IsNumber 3 1000 value n
@@ -41,12 +47,14 @@ pub data Key : Type 0 where
   OrderKey : Key
   BitsKey : Key
   WithinKey : Key
+  PlaceKey : Key
   SizeKey : Key
 
 abbrev pub key_name : Key → List ℕ
 key_name OrderKey = codes "order="
 key_name BitsKey = codes "bits="
 key_name WithinKey = codes "within="
+key_name PlaceKey = codes "place="
 key_name SizeKey = codes "n="
 
 -- it is told in which order to merge
@@ -63,6 +71,7 @@ orders Verify = false
 orders Spare = false
 orders Flips = true
 orders Derive = true
+orders Parts = true
 
 -- it places the elements of a sketch
 abbrev pub places : Command → Bool
@@ -78,6 +87,7 @@ places Verify = false
 places Spare = false
 places Flips = true
 places Derive = false
+places Parts = true
 
 -- it makes its sketch
 abbrev pub makes : Command → Bool
@@ -93,12 +103,14 @@ makes Verify = false
 makes Spare = false
 makes Flips = false
 makes Derive = false
+makes Parts = false
 
--- the keys of a command: all but `migrate`, `verify` and `spare` take an order, those that place elements a grid and a limit, one that makes a sketch its size
+-- the keys of a command: all but `migrate`, `verify` and `spare` take an order, those that place elements a grid, a limit and what places are, one that makes a sketch its size
 abbrev pub takes : Command → Key → Bool
 takes command OrderKey = orders command
 takes command BitsKey = places command
 takes command WithinKey = places command
+takes command PlaceKey = places command
 takes command SizeKey = makes command
 
 -- what stands behind the name that a word begins with
@@ -133,12 +145,13 @@ HasSize Grow None = ⊥
 HasSize command size = Unit {0}
 
 -- the words are keys of the command, in any order, and this is what they say. Without them the order is `first`, the
--- grid has 38 binary digits, and the limit is 1000
+-- grid has 38 binary digits, the limit is 1000, and places are boxes
 pub record HasKeys (words : List (List ℕ)) (request : Request) : Type 0 where
   pub known : All (λ word. IsKeyOf request.command word) words
   pub order : Says IsOrder First (values_of OrderKey words) request.order
   pub bits : Says IsBits ThirtyEight (values_of BitsKey words) request.bits
   pub within : Says IsLimit 1000 (values_of WithinKey words) request.within
+  pub place : Says IsPlace Boxes (values_of PlaceKey words) request.place
   pub size : IsSet IsSize (values_of SizeKey words) request.size
   pub sized : HasSize request.command request.size
 

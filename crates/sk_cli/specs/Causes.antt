@@ -19,7 +19,7 @@ use Rattle.sk_residual.specs.declared.Turned.{Turned}
 use Rattle.sk_residual.specs.Tolerances.{Item, AllHold, IsAbove, everything}
 use Rattle.sk_residual.specs.Turns.{signs, IsTurned}
 use Rattle.sk_cli.specs.declared.command.Command.{Command}
-use Rattle.sk_cli.specs.declared.command.Command.TheVariants.{Check, Plan, Solve, Dxf, Offers, Session, Grow, Migrate, Verify, Spare, Flips, Derive}
+use Rattle.sk_cli.specs.declared.command.Command.TheVariants.{Check, Plan, Solve, Dxf, Offers, Session, Grow, Migrate, Verify, Spare, Flips, Derive, Parts}
 use Rattle.sk_cli.specs.declared.request.Request.{Request}
 use Rattle.sk_cli.specs.declared.solving.Report.{Report}
 use Rattle.sk_cli.specs.declared.solving.Report.TheVariants.{Places, Drawing, Sums}
@@ -45,6 +45,7 @@ plans Verify = false
 plans Spare = false
 plans Flips = true
 plans Derive = false
+plans Parts = false
 
 -- it ends as the plan of a sketch is placed
 abbrev pub solves : Command → Bool
@@ -60,6 +61,7 @@ solves Verify = false
 solves Spare = false
 solves Flips = false
 solves Derive = false
+solves Parts = false
 
 -- the report that a command writes where it places all elements
 abbrev pub IsReportOf : Command → Report → Type 0
@@ -94,11 +96,11 @@ module _ (request : Request) (s : Sketch) where
 
   -- some step of the plan has no boxes on the grid
   abbrev pub HasFault : ThePlan → Type 0
-  HasFault p = (f : StepFault) × IsPlaced {G = grid_of request.bits} (digits_of request.bits) (graph_of s) p (Err (errors.Fault f))
+  HasFault p = (f : StepFault) × IsPlaced {G = grid_of request.bits} request.place (digits_of request.bits) (graph_of s) p (Err (errors.Fault f))
 
   -- each step has boxes on the grid, and there the elements lie
   abbrev pub LieAt : ThePlan → Placed → Type 0
-  LieAt p at = (boxes : List (BoxAt (grid_of request.bits))) × IsPlaced (digits_of request.bits) (graph_of s) p (Ok boxes) × (at ≡ midpoints (digits_of request.bits) boxes)
+  LieAt p at = (boxes : List (BoxAt (grid_of request.bits))) × IsPlaced request.place (digits_of request.bits) (graph_of s) p (Ok boxes) × (at ≡ midpoints (digits_of request.bits) boxes)
 
   -- no line and no constraint has a least number above the limit
   abbrev pub NonePasses : Placed → Type 0

@@ -1,7 +1,7 @@
 -- The words of commands.
 use Rattle.std.specs.Prelude.{ℕ, List, codes}
 use Rattle.sk_cli.specs.declared.command.Command.{Command}
-use Rattle.sk_cli.specs.declared.command.Command.TheVariants.{Check, Plan, Solve, Dxf, Offers, Session, Grow, Migrate, Verify, Spare, Flips, Derive}
+use Rattle.sk_cli.specs.declared.command.Command.TheVariants.{Check, Plan, Solve, Dxf, Offers, Session, Grow, Migrate, Verify, Spare, Flips, Derive, Parts}
 
 abbrev pub command_word : Command → List ℕ
 command_word Check = codes "check"
@@ -16,3 +16,4 @@ command_word Verify = codes "verify"
 command_word Spare = codes "spare"
 command_word Flips = codes "flips"
 command_word Derive = codes "derive"
+command_word Parts = codes "parts"

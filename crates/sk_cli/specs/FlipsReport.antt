@@ -60,7 +60,7 @@ pub record IsReportOnFlips (request : Request) (s : Sketch) (lists : List (List 
   pub plan : ThePlan
   pub by : IsPlanBy request.order s plan
   pub found : List Alternative
-  pub are : AreAlternatives (grid_of request.bits) (digits_of request.bits) request.within s plan lists found
+  pub are : AreAlternatives (grid_of request.bits) request.place (digits_of request.bits) request.within s plan lists found
   pub is : text ≡ alternatives_from s (digits_of request.bits) 1 found
 
 -- what comes of each list of steps where the verdict is well, else the check report

@@ -103,7 +103,7 @@ pub record HoldsAt (request : Request) (s : Sketch) (p : ThePlan) (at : Placed) 
 abbrev pub NamesTheFirst : Request → Sketch → List ℕ → Type 0
 NamesTheFirst request s text =
     (p : ThePlan) × IsItsPlan request s p
-    × (((f : StepFault) × IsPlaced {G = grid_of request.bits} (digits_of request.bits) (graph_of s) p (Err (errors.Fault f)) × (text ≡ fault_line s f (digits_of request.bits)))
+    × (((f : StepFault) × IsPlaced {G = grid_of request.bits} request.place (digits_of request.bits) (graph_of s) p (Err (errors.Fault f)) × (text ≡ fault_line s f (digits_of request.bits)))
     ⊎ (((at : Placed) × (b : Beyond) × LieAt request s p at × IsFirstBeyond at (everything (graph_of s)) request.within b × (text ≡ passed_line s b))
     ⊎ ((at : Placed) × (sign : Turned) × LieAt request s p at × NonePasses request s at × IsFirst IsTurned (signs s at p) sign × (text ≡ turned_line sign))))
 

@@ -12,6 +12,7 @@ pub mod OfferLines
 pub mod OfferReading
 pub mod OffersReport
 pub mod Outcome
+pub mod PartsReport
 pub mod Planning
 pub mod PrintedClaim
 pub mod SessionAnswer

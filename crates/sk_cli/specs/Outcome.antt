@@ -11,9 +11,9 @@ use Rattle.sk_gen.specs.DatumSketch.{datum_sketch}
 use Rattle.sk_report.specs.PlanReport.{plan_report}
 use Rattle.sk_report.specs.RefusalLine.{refusal_line}
 use Rattle.sk_cli.specs.declared.accounts.Account.{Account}
-use Rattle.sk_cli.specs.declared.accounts.Account.TheVariants.{Parts, Spares, Derived, Migrated}
+use Rattle.sk_cli.specs.declared.accounts.Account.TheVariants.{Judged, Spares, Derived, Migrated, Shapes}
 use Rattle.sk_cli.specs.declared.command.Command.{Command}
-use Rattle.sk_cli.specs.declared.command.Command.TheVariants.{Check, Plan, Solve, Dxf, Offers, Session, Grow, Migrate, Verify, Spare, Flips, Derive}
+use Rattle.sk_cli.specs.declared.command.Command.TheVariants.{Check, Plan, Solve, Dxf, Offers, Session, Grow, Migrate, Verify, Spare, Flips, Derive, Parts}
 use Rattle.sk_cli.specs.declared.request.Request.{Request}
 use Rattle.sk_cli.specs.declared.solving.Report.{Report}
 use Rattle.sk_cli.specs.declared.solving.Report.TheVariants.{Places, Drawing, Sums}
@@ -28,7 +28,7 @@ use Rattle.sk_cli.specs.VerifyAnswer.{IsVerifyAnswer}
 pub use Rattle.sk_cli.specs.Solved.{IsPlanBy, IsReportNotWell, IsPlacedPlan, IsSolved}
 
 abbrev pub usage_line : List ℕ
-usage_line = codes "usage: sketch check|plan|solve|dxf|offers|session|grow|migrate|verify|spare|flips|derive [order=first|last|0..65535] [bits=16|27|38] [within=1..1000000] [n=3..1000]\n"
+usage_line = codes "usage: sketch check|plan|solve|dxf|offers|session|grow|migrate|verify|spare|flips|derive|parts [order=first|last|0..65535] [bits=16|27|38] [within=1..1000000] [place=boxes|points] [n=3..1000]\n"
 
 -- what is told of the sketch that the text is read as
 abbrev pub IsAccountOf : Account → List ℕ → List ℕ → Type 0
@@ -48,7 +48,7 @@ IsPlanOrReport order s Done text = IsPlanReport order s text
 IsPlanOrReport order s NotWell text = IsReportNotWell s text
 IsPlanOrReport order s status text = ⊥
 
--- what `check`, `migrate`, `spare` and `derive` answer to an input, each with its account
+-- what `check`, `migrate`, `spare`, `derive` and `parts` answer to an input, each with its account
 abbrev pub IsAccountAnswer : Account → List ℕ → Status → List ℕ → Type 0
 IsAccountAnswer account bytes Done text = IsAccountOf account bytes text
 IsAccountAnswer account bytes Refused text = IsRefusalText bytes text
@@ -71,7 +71,7 @@ IsGrowAnswer request status text = (n : ℕ) × (request.size ≡ Some n) × IsS
 -- what a command answers to an input. What `check`, `derive` and `offers` answer is the same for every order, and what
 -- `grow` answers is the same for every input.
 abbrev pub IsAnswerOf : Command → Request → List ℕ → Status → List ℕ → Type 0
-IsAnswerOf Check request bytes status text = IsAccountAnswer Parts bytes status text
+IsAnswerOf Check request bytes status text = IsAccountAnswer Judged bytes status text
 IsAnswerOf Plan request bytes status text = IsPlanAnswer request.order bytes status text
 IsAnswerOf Solve request bytes status text = IsSolveAnswer Places request bytes status text
 IsAnswerOf Dxf request bytes status text = IsSolveAnswer Drawing request bytes status text
@@ -83,6 +83,7 @@ IsAnswerOf Verify request bytes status text = IsVerifyAnswer bytes status text
 IsAnswerOf Spare request bytes status text = IsAccountAnswer Spares bytes status text
 IsAnswerOf Flips request bytes status text = IsFlipsAnswer request bytes status text
 IsAnswerOf Derive request bytes status text = IsAccountAnswer Derived bytes status text
+IsAnswerOf Parts request bytes status text = IsAccountAnswer (Shapes request) bytes status text
 
 abbrev pub IsAnswer : Request → List ℕ → Status → List ℕ → Type 0
 IsAnswer request bytes status text = IsAnswerOf request.command request bytes status text

@@ -6,6 +6,7 @@ use Rattle.sk_family.specs.Clusters.{initial_clusters}
 use Rattle.sk_graph.specs.SketchGraph.{graph_of}
 use Rattle.sk_lang.specs.Lines.{lines_in}
 use Rattle.sk_lang.specs.declared.Code.TheVariants.{E20}
+use Rattle.sk_place.specs.declared.PlaceBy.{PlaceBy}
 use Rattle.sk_report.specs.RefusalLine.{refusal_line}
 use Rattle.sk_session.specs.declared.Reply.{Reply}
 use Rattle.sk_session.specs.declared.Reply.TheVariants as reply
@@ -23,19 +24,19 @@ use Rattle.sk_cli.specs.Solved.{IsSolved}
 use Rattle.sk_cli.specs.Told.{told}
 
 -- `solve` with these settings
-abbrev pub solve_with : Order → Bits → ℕ → Request
-solve_with order bits within = record { command = Solve; order = order; bits = bits; within = within; size = None }
+abbrev pub solve_with : Order → Bits → ℕ → PlaceBy → Request
+solve_with order bits within place = record { command = Solve; order = order; bits = bits; within = within; place = place; size = None }
 
 -- the text of a reply: to `solve` what the command writes for the sketch, whatever its status, else what is told
-abbrev pub IsReplyText : Order → Bits → ℕ → Sketch → Reply → List ℕ → Type 0
-IsReplyText order bits within s reply.Solve text = (status : Status) × IsSolved Places (solve_with order bits within) s status text
-IsReplyText order bits within s r text = text ≡ told s r
+abbrev pub IsReplyText : Order → Bits → ℕ → PlaceBy → Sketch → Reply → List ℕ → Type 0
+IsReplyText order bits within place s reply.Solve text = (status : Status) × IsSolved Places (solve_with order bits within place) s status text
+IsReplyText order bits within place s r text = text ≡ told s r
 
 -- the line is answered with this reply, the sketch is a sound one, and this is the reply's text
 pub record IsReplied (request : Request) (old : State) (line : List ℕ) (new : State) (r : Reply) (text : List ℕ) : Type 0 where
   pub answers : Answers old line r new
   pub sound : IsSoundSketch (sketch_in new)
-  pub says : IsReplyText request.order request.bits request.within (sketch_in new) r text
+  pub says : IsReplyText request.order request.bits request.within request.place (sketch_in new) r text
 
 -- the lines are answered in turn, none of them by the end, and this is the text of the replies, one behind another
 abbrev pub AreReplied : Request → State → List (List ℕ) → State → List ℕ → Type 0

@@ -2,7 +2,7 @@
 use Rattle.std.specs.Prelude.{◌≡◌, ℕ, List, Option, None, Some, All}
 use Rattle.sk_cli.specs.declared.command.Command.{Command}
 use Rattle.sk_cli.specs.declared.settings.Settings.{Settings}
-use Rattle.sk_cli.specs.Asking.{OrderKey, BitsKey, WithinKey, SizeKey, key_name, behind, IsKeyOf, values_of, IsOrder, IsBits, IsLimit, IsSize, IsSet}
+use Rattle.sk_cli.specs.Asking.{OrderKey, BitsKey, WithinKey, PlaceKey, SizeKey, key_name, behind, IsKeyOf, values_of, IsOrder, IsBits, IsLimit, IsPlace, IsSize, IsSet}
 
 -- the words are keys of the command, and this is what they set
 pub record AreSet (command : Command) (words : List (List ℕ)) (settings : Settings) : Type 0 where
@@ -10,6 +10,7 @@ pub record AreSet (command : Command) (words : List (List ℕ)) (settings : Sett
   pub order : IsSet IsOrder (values_of OrderKey words) settings.order
   pub bits : IsSet IsBits (values_of BitsKey words) settings.bits
   pub within : IsSet IsLimit (values_of WithinKey words) settings.within
+  pub place : IsSet IsPlace (values_of PlaceKey words) settings.place
   pub size : IsSet IsSize (values_of SizeKey words) settings.size
 
 -- a value sets what wasn't set; without one it stays
@@ -23,4 +24,5 @@ pub record Adds (command : Command) (word : List ℕ) (before after : Settings) 
   pub order : Sets IsOrder (behind (key_name OrderKey) word) before.order after.order
   pub bits : Sets IsBits (behind (key_name BitsKey) word) before.bits after.bits
   pub within : Sets IsLimit (behind (key_name WithinKey) word) before.within after.within
+  pub place : Sets IsPlace (behind (key_name PlaceKey) word) before.place after.place
   pub size : Sets IsSize (behind (key_name SizeKey) word) before.size after.size

@@ -37,7 +37,7 @@ IsReportNotWell s text = (j : Judgement) × IsTheJudgement (graph_of s) j × (j.
 pub record IsPlacedPlan (request : Request) (s : Sketch) (p : ThePlan) (placement : Placement) : Type 0 where
   pub well : IsWell (graph_of s)
   pub plan : IsPlanBy request.order s p
-  pub placed : IsPlacement (grid_of request.bits) (digits_of request.bits) request.within s p placement
+  pub placed : IsPlacement (grid_of request.bits) request.place (digits_of request.bits) request.within s p placement
 
 -- what is written of the placed plan; or the verdict isn't well, and this is the check report
 abbrev pub IsSolved : Report → Request → Sketch → Status → List ℕ → Type 0

@@ -3,9 +3,10 @@ use Rattle.std.specs.Prelude.{ℕ, List}
 use Rattle.sk_base.specs.declared.Placed.{Placed}
 use Rattle.sk_base.specs.declared.Sketch.{Sketch}
 use Rattle.sk_tree.specs.declared.Plan.{Plan as ThePlan}
+use Rattle.sk_place.specs.declared.PlaceBy.{PlaceBy}
 use Rattle.sk_residual.specs.declared.Tolerance.{Tolerance}
 use Rattle.sk_residual.specs.declared.Wanted.TheVariants.{Drawn}
-use Rattle.sk_report.specs.SolveReport.{solve_report}
+use Rattle.sk_report.specs.SolveReport.{shape_report, solve_report}
 use Rattle.sk_report.specs.GrowReport.{grow_report}
 use Rattle.sk_dxf.specs.Entities.{dxf_of}
 use Rattle.sk_report.specs.FaultLines.{fault_line, passed_line, turned_line}
@@ -14,7 +15,7 @@ use Rattle.sk_flips.specs.Placements.{IsMeasured as IsMeasuredAs, IsPlacement as
 use Rattle.sk_flips.specs.declared.Placement.{Placement}
 use Rattle.sk_flips.specs.declared.Placement.TheVariants.{Fault, Beyond, Turned, Holds}
 use Rattle.sk_cli.specs.declared.solving.Report.{Report}
-use Rattle.sk_cli.specs.declared.solving.Report.TheVariants.{Places, Drawing, Sums}
+use Rattle.sk_cli.specs.declared.solving.Report.TheVariants.{Places, Drawing, Sums, Shape}
 use Rattle.sk_cli.specs.declared.status.Status.{Status}
 
 -- what is measured where elements lie, with the signs as they are drawn
@@ -22,8 +23,8 @@ abbrev pub IsMeasured : ℕ → Sketch → ThePlan → Placed → Placement → 
 IsMeasured limit s p at placement = IsMeasuredAs Drawn limit s p at placement
 
 -- the first faulty step of the plan; else what is measured where its boxes have their midpoints
-abbrev pub IsPlacement : Type 0 → ℕ → ℕ → Sketch → ThePlan → Placement → Type 0
-IsPlacement G F limit s p placement = IsPlacementAs Drawn G F limit s p placement
+abbrev pub IsPlacement : Type 0 → PlaceBy → ℕ → ℕ → Sketch → ThePlan → Placement → Type 0
+IsPlacement G placing F limit s p placement = IsPlacementAs Drawn G placing F limit s p placement
 
 abbrev pub status_of : Placement → Status
 status_of (Fault f) = Status.StepFault
@@ -31,11 +32,13 @@ status_of (Beyond b) = Status.Tolerance
 status_of (Turned t) = Status.StepFault
 status_of (Holds at t) = Status.Done
 
--- what is written where elements lie so: the report of `solve`, the drawing, or the sums
+-- what is written where elements lie so: the report of `solve`, the drawing, the sums, or the lines of the report behind its
+-- verdict
 abbrev pub report_words : Report → ℕ → Sketch → ThePlan → Placed → Tolerance → List ℕ
 report_words Places bits s p at t = solve_report s p bits at t
 report_words Drawing bits s p at t = dxf_of s at
 report_words Sums bits s p at t = grow_report s p at t
+report_words Shape bits s p at t = shape_report s p bits at t
 
 -- what is written of a placement: what failed, or else the report
 abbrev pub placement_words : Report → ℕ → Sketch → ThePlan → Placement → List ℕ

@@ -1,4 +1,5 @@
-// What is told of a sketch that is read, whatever its verdict: by `check`, `migrate`, `spare` and `derive`.
+// What is told of a sketch that is read, whatever its verdict: by `check`, `migrate`, `spare`, `derive`
+// and `parts`.
 ghost use Rattle.std.specs.Prelude.{◌<◌, length, IfOk};
 ghost use Rattle.sk_base.specs.SoundSketch.{IsSoundSketch};
 ghost use Rattle.sk_base.specs.SoundGraph.{IsSoundGraph};
@@ -8,6 +9,8 @@ ghost use Rattle.sk_cli.specs.Accounts.{IsAccount};
 ghost use Rattle.sk_cli.specs.Outcome.{IsAccountAnswer};
 
 use crate::answer::{Answer, refused};
+use crate::parts::shapes;
+use crate::request::Request;
 use crate::status::Status;
 use sk_base::{Graph, NoMemory, Sketch, Text};
 use sk_derive::{derive, derive_text};
@@ -17,24 +20,26 @@ use sk_lang::{ReadError, read_sketch, write_sketch_2};
 use sk_report::check_text;
 use sk_spare::{spare, spare_text};
 use sk_verdict::{Judgement, judge};
-use sk_worklist::{Chosen, Order, close_family};
+use sk_worklist::{Chosen, Order, close_in_any_order};
 use std::alloc::Global;
 
 /// What is told of a sketch that is read, whatever its verdict.
 #[derive(Clone, Copy, Debug, PartialEq, Eq)]
 pub enum Account {
     /// The verdict, and the parts.
-    Parts,
+    Judged,
     /// The constraints that may go.
     Spares,
     /// The clusters that merging by derived angles besides leads to.
     Derived,
     /// The sketch itself, in the second version of the language.
     Migrated,
+    /// The verdict, and the parts with their shapes, as the request says.
+    Shapes(Request),
 }
 
 /// The answer to an input whose sketch is given this account of. The order of merges changes nothing
-/// in it.
+/// in it but for shapes, whose request gives it.
 pub fn account_of(
     alloc: Global,
     account: Account,
@@ -64,32 +69,33 @@ fn account_text(
     ensures { IfOk result (IsAccount account sketch.now) }
 {
     match account {
-        Account::Parts => parts(alloc, order, sketch),
+        Account::Judged => parts(alloc, sketch),
         Account::Spares => spares(alloc, sketch),
         Account::Derived => derived(alloc, order, sketch),
         Account::Migrated => write_sketch_2(alloc, sketch),
+        Account::Shapes(request) => shapes(alloc, request, sketch),
     }
 }
 
 /// The check report of the sketch.
-fn parts(alloc: Global, order: Order, sketch: &Sketch) -> Result<Text, NoMemory>
+fn parts(alloc: Global, sketch: &Sketch) -> Result<Text, NoMemory>
     requires sound { IsSoundSketch sketch.now }
     requires some { 0 < length sketch.now.elements }
-    ensures { IfOk result (IsAccount accounts.Parts sketch.now) }
+    ensures { IfOk result (IsAccount accounts.Judged sketch.now) }
 {
     let graph = reduce(alloc, sketch)?;
-    let judgement = judgement_of(alloc, order, &graph)?;
+    let judgement = judgement_of(alloc, &graph)?;
     check_text(alloc, sketch, &judgement)
 }
 
-/// The judgement on the family that merges in this order lead to, and so on every normal one.
-fn judgement_of(alloc: Global, order: Order, graph: &Graph) -> Result<Judgement, NoMemory>
+/// The judgement on a normal family, and so on every one.
+pub(crate) fn judgement_of(alloc: Global, graph: &Graph) -> Result<Judgement, NoMemory>
     requires sound { IsSoundGraph graph.now }
     requires some { 0 < length graph.now.nodes }
     ensures { IfOk result (IsTheJudgement graph.now) }
 {
     let mut family = initial(alloc, graph)?;
-    close_family(alloc, &mut family, graph, &mut Chosen::new(order))?;
+    close_in_any_order(alloc, &mut family, graph)?;
     judge(alloc, &family, graph)
 }
 

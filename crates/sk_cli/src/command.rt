@@ -31,6 +31,8 @@ pub enum Command {
     Flips,
     /// Lists the clusters of a sketch that derived angles lead to.
     Derive,
+    /// Places the elements of each part of a sketch by itself.
+    Parts,
 }
 
 impl Command {
@@ -47,18 +49,23 @@ impl Command {
             | Command::Session
             | Command::Grow
             | Command::Flips
-            | Command::Derive => true,
+            | Command::Derive
+            | Command::Parts => true,
             Command::Migrate | Command::Verify | Command::Spare => false,
         }
     }
 
-    /// Whether it places elements, and so takes a grid and a limit.
+    /// Whether it places elements, and so takes a grid, a limit and what places are.
     pub(crate) fn places(self) -> bool
         ensures { result ≡ places self }
     {
         match self {
-            Command::Solve | Command::Dxf | Command::Session | Command::Grow | Command::Flips =>
-                true,
+            Command::Solve
+            | Command::Dxf
+            | Command::Session
+            | Command::Grow
+            | Command::Flips
+            | Command::Parts => true,
             Command::Check
             | Command::Plan
             | Command::Offers
@@ -85,7 +92,8 @@ impl Command {
             | Command::Verify
             | Command::Spare
             | Command::Flips
-            | Command::Derive => false,
+            | Command::Derive
+            | Command::Parts => false,
         }
     }
 }
@@ -119,6 +127,8 @@ pub fn command_of(word: &str) -> Option<Command>
         Some(Command::Flips)
     } else if word == "derive" {
         Some(Command::Derive)
+    } else if word == "parts" {
+        Some(Command::Parts)
     } else {
         None
     }

@@ -17,6 +17,7 @@ use sk_base::{Graph, List, Name, NoMemory, Sketch, Text};
 use sk_flips::{Alternative, alternatives, read_flips};
 use sk_interval::{G16, G27, G38};
 use sk_lang::{ReadError, read_sketch_front};
+use sk_place::PlaceBy;
 use sk_tree::Plan;
 use std::alloc::Global;
 
@@ -52,6 +53,7 @@ fn flipped(
         Planning::Planned { graph, plan } => {
             let found = alternatives_on(
                 alloc,
+                request.place,
                 request.bits,
                 request.within,
                 s,
@@ -75,6 +77,7 @@ fn flipped(
 /// more than the limit.
 fn alternatives_on(
     alloc: Global,
+    placing: PlaceBy,
     bits: Bits,
     limit: u64,
     s: &Sketch,
@@ -85,12 +88,12 @@ fn alternatives_on(
     requires sketch { IsSoundSketch s.now }
     requires graph { g.now ≡ graph_of s.now }
     requires legal { IsLegalPlan g.now p.now }
-    ensures { IfOk result (AreAlternatives (grid_of bits) (digits_of bits) limit s.now p.now lists.now) }
+    ensures { IfOk result (AreAlternatives (grid_of bits) placing (digits_of bits) limit s.now p.now lists.now) }
 {
     match bits {
-        Bits::Sixteen => alternatives::<G16>(alloc, s, g, p, lists, limit),
-        Bits::TwentySeven => alternatives::<G27>(alloc, s, g, p, lists, limit),
-        Bits::ThirtyEight => alternatives::<G38>(alloc, s, g, p, lists, limit),
+        Bits::Sixteen => alternatives::<G16>(alloc, placing, s, g, p, lists, limit),
+        Bits::TwentySeven => alternatives::<G27>(alloc, placing, s, g, p, lists, limit),
+        Bits::ThirtyEight => alternatives::<G38>(alloc, placing, s, g, p, lists, limit),
     }
 }
 

@@ -1,5 +1,5 @@
 // Laws on what words ask for and what is answered.
-ghost use Rattle.std.specs.Prelude.{◌≡◌, ◌↔◌, ◌⊎◌, [], ◌∷◌, ◌++◌, ℕ, List, All, IsTrue, codes, drop};
+ghost use Rattle.std.specs.Prelude.{◌≡◌, ◌↔◌, ◌⊎◌, ◌<◌, length, [], ◌∷◌, ◌++◌, ℕ, List, All, IsTrue, codes, drop};
 ghost use Rattle.sk_base.specs.declared.Placed.{Placed};
 ghost use Rattle.sk_base.specs.declared.Sketch.{Sketch};
 ghost use Rattle.sk_base.specs.SoundSketch.{IsSoundSketch};
@@ -31,6 +31,7 @@ ghost use Rattle.sk_verify.specs.Texts.{verified_line};
 ghost use Rattle.sk_cli.specs.Causes.{plans, solves, IsSketchOf, IsRefusedInput, IsItsPlan, HasFault, LieAt, NonePasses, SomePasses, SomeTurned};
 ghost use Rattle.sk_cli.specs.declared.solving.Report.TheVariants.{Places};
 ghost use Rattle.sk_cli.specs.FlipsReport.{IsReportOnFlips};
+ghost use Rattle.sk_cli.specs.PartsReport.{IsShape, IsPartsReport, IsSolvedAs, IsOneShape};
 ghost use Rattle.sk_cli.specs.Grids.{grid_of, digits_of};
 ghost use Rattle.sk_cli.specs.Outcome.{IsSolved, IsOutcome, AreFirstReplies};
 ghost use Rattle.sk_cli.specs.Migration.{AskOfOneSketch, IsMigrated};
@@ -112,7 +113,7 @@ pub fn some_outcome()
 }
 
 /// Where `migrate` is done, what it writes reads as the very sketch that was read, so that the commands
-/// whose whole input is one sketch (`check`, `plan`, `solve`, `dxf`, `migrate`, `spare` and `derive`) answer
+/// whose whole input is one sketch (`check`, `plan`, `solve`, `dxf`, `migrate`, `spare`, `derive` and `parts`) answer
 /// both texts alike, whatever their keys.
 pub fn migrated_reads_the_same()
     ensures reads { (bytes text : List ℕ) → IsMigrated bytes text → (s : Sketch) × Reads bytes s × Reads text s }
@@ -126,8 +127,8 @@ pub fn migrated_reads_the_same()
 
 /// Why each status comes. It is `Usage` exactly where the words aren't of the form, and `Refused` exactly
 /// where the input is. It is `NotWell` exactly where the command plans a sketch whose verdict isn't well,
-/// so never where it is `check`, `offers`, `session`, `migrate`, `verify`, `spare` or `derive`, which don't
-/// plan. Where the command is `solve`, `dxf` or `grow`, and nowhere else, it is `StepFault` exactly where a
+/// so never where it is `check`, `offers`, `session`, `migrate`, `verify`, `spare`, `derive` or `parts`,
+/// which don't plan the whole sketch. Where the command is `solve`, `dxf` or `grow`, and nowhere else, it is `StepFault` exactly where a
 /// step has a fault, or none has, no least number is above the limit and a sign is turned, and `Tolerance`
 /// exactly where no step has a fault and some least number is above the limit. Of a sketch that is solved
 /// it is `Done` exactly where none of these is so; for `plan` and `flips`, which plan and don't solve,
@@ -181,8 +182,17 @@ pub fn causes()
 pub fn solved_places_are_found()
     ensures { (request : Request) (s : Sketch) (text : List ℕ) → IsSoundSketch s → IsSolved Places request s Status.Done text
         → (p : Plan) × (at : Placed) × (tol : Tolerance) × (text ≡ solve_report s p (digits_of request.bits) at tol) × IsItsPlan request s p
-        × IsAlternative (grid_of request.bits) (digits_of request.bits) request.within s p [] (Found at tol)
+        × IsAlternative (grid_of request.bits) request.place (digits_of request.bits) request.within s p [] (Found at tol)
         × IsReportOnFlips request s ([] ∷ []) (codes "flip 1 ok\n" ++ places_report s at tol) }
+{}
+
+/// Below the line of a part that isn't over, `parts` writes what `solve` with the same keys writes of the part's
+/// own sketch: the lines behind the verdict where it is done, and else its one line (`shape`). Where the verdict on
+/// a sketch is well, there is one part, and its own sketch is the sketch itself (`well`).
+pub fn shapes_are_as_solved()
+    ensures shape { (request : Request) (s : Sketch) (shape : List ℕ) → IsShape request s shape → IsSolvedAs request s shape }
+    ensures well { (request : Request) (s : Sketch) (text : List ℕ) → IsSoundSketch s → 0 < length s.elements → IsWell (graph_of s)
+        → IsPartsReport request s text → IsOneShape request s text }
 {}
 
 /// The headline. Whatever sketch is readable and whatever order is asked for: the clusters that are

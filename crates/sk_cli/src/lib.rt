@@ -13,6 +13,7 @@ mod law;
 mod offer_line;
 mod offer_reading;
 mod offers;
+mod parts;
 mod placing;
 mod plan;
 mod planning;
@@ -31,7 +32,7 @@ pub use bits::Bits;
 pub use command::Command;
 pub use law::{
     causes, first_replies_are_a_front, headline, migrated_reads_the_same, one_outcome, one_request,
-    printed_claims_are_accepted, solved_places_are_found, some_outcome,
+    printed_claims_are_accepted, shapes_are_as_solved, solved_places_are_found, some_outcome,
     verified_drawings_are_right,
 };
 pub use offer_line::OfferLine;

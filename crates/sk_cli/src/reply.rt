@@ -11,13 +11,14 @@ use crate::request::Request;
 use crate::solving::{Report, solved};
 use sk_base::{NoMemory, Sketch, Text};
 use sk_lang::write_sketch;
+use sk_place::PlaceBy;
 use sk_report::{check_text, code_text, constrained_text, declared_text, done_text, plan_text};
 use sk_session::Reply;
 use sk_worklist::Order;
 use std::alloc::Global;
 
-/// The text of a reply. The sketch is the session's after the line, and the order, the grid and the
-/// limit, in nanometres and in parts per 10^9, are those of its words.
+/// The text of a reply. The sketch is the session's after the line, and the order, the grid, the
+/// limit, in nanometres and in parts per 10^9, and what places are, are those of its words.
 pub fn reply_text(
     alloc: Global,
     s: &Sketch,
@@ -25,13 +26,14 @@ pub fn reply_text(
     order: Order,
     bits: Bits,
     within: u64,
+    place: PlaceBy,
 ) -> Result<Text, NoMemory>
     requires sound { IsSoundSketch s.now }
     requires some { r.now ≡ a_reply.Solve → 0 < length s.now.elements }
-    ensures { IfOk result (IsReplyText order bits within s.now r.now) }
+    ensures { IfOk result (IsReplyText order bits within place s.now r.now) }
 {
     match r {
-        Reply::Solve => solve_text(alloc, s, order, bits, within),
+        Reply::Solve => solve_text(alloc, s, order, bits, within, place),
         _ => told_text(alloc, s, r),
     }
 }
@@ -43,16 +45,18 @@ fn solve_text(
     order: Order,
     bits: Bits,
     within: u64,
+    place: PlaceBy,
 ) -> Result<Text, NoMemory>
     requires sound { IsSoundSketch s.now }
     requires some { 0 < length s.now.elements }
-    ensures { IfOk result (IsReplyText order bits within s.now a_reply.Solve) }
+    ensures { IfOk result (IsReplyText order bits within place s.now a_reply.Solve) }
 {
     let request = Request {
         command: Command::Solve,
         order,
         bits,
         within,
+        place,
         size: None,
     };
     let answer = solved(alloc, request, Report::Places, s)?;

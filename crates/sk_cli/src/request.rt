@@ -6,20 +6,22 @@ ghost use Rattle.sk_cli.specs.Asking.{Asks, HasSize};
 use crate::bits::Bits;
 use crate::command::{Command, command_of};
 use crate::settings::settings_of;
+use sk_place::PlaceBy;
 use sk_worklist::Order;
 
 /// The limit of tolerance where no key gives it.
 const LIMIT: u64 = 1_000;
 
 /// A command, the order of merges, the grid, the most that a tolerance may be, in nanometres for
-/// lengths and heights and in parts per 10^9 for angles, and for a sketch that is made how many elements
-/// it has.
+/// lengths and heights and in parts per 10^9 for angles, what places are while the plan is placed, and for a
+/// sketch that is made how many elements it has.
 #[derive(Clone, Copy, Debug, PartialEq, Eq)]
 pub struct Request {
     pub command: Command,
     pub order: Order,
     pub bits: Bits,
     pub within: u64,
+    pub place: PlaceBy,
     pub size: Option<u32>,
 }
 
@@ -39,6 +41,7 @@ pub fn request_of(words: &[String]) -> Option<Request>
         order: settings.order.unwrap_or(Order::First),
         bits: settings.bits.unwrap_or(Bits::ThirtyEight),
         within: settings.within.unwrap_or(LIMIT),
+        place: settings.place.unwrap_or(PlaceBy::Boxes),
         size: settings.size,
     })
 }
@@ -59,6 +62,7 @@ fn has_size(command: Command, size: Option<u32>) -> bool
         | Command::Verify
         | Command::Spare
         | Command::Flips
-        | Command::Derive => true,
+        | Command::Derive
+        | Command::Parts => true,
     }
 }

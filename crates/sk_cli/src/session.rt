@@ -77,6 +77,7 @@ fn reply_to<K: Sink>(
         request.order,
         request.bits,
         request.within,
+        request.place,
     )?;
     match write_all(sink, text.as_bytes()) {
         Ok(()) => Ok(goes_on(&reply)),

@@ -2,15 +2,17 @@
 ghost use Rattle.std.specs.Prelude.{◌≡◌, ◌≤◌, ◌<◌, ◌^◌, ◌≢◌, ℕ, map, string_bytes, None, Some, IfSome, IfNone, IsTrue, ◌↔◌};
 ghost use Rattle.std.specs.Fmt.{decimal};
 ghost use Rattle.sk_worklist.specs.declared.Order.{Order as AnyOrder};
+ghost use Rattle.sk_place.specs.declared.PlaceBy.{PlaceBy as AnyPlace};
 ghost use Rattle.sk_cli.specs.declared.bits.Bits.{Bits as AnyBits};
 ghost use Rattle.sk_cli.specs.declared.request.Request.{Request as AnyRequest};
 ghost use Rattle.sk_cli.specs.declared.settings.Settings.{Settings as OtherSettings};
-ghost use Rattle.sk_cli.specs.Asking.{orders, makes, behind, HasKeys, IsNumber, IsOrder, IsBits, IsLimit, IsSize, LeadsWithZero};
+ghost use Rattle.sk_cli.specs.Asking.{orders, makes, behind, HasKeys, IsNumber, IsOrder, IsBits, IsLimit, IsPlace, IsSize, LeadsWithZero};
 ghost use Rattle.sk_cli.specs.Settings.{AreSet, Adds};
 
 use crate::bits::Bits;
 use crate::command::Command;
 use sk_base::digits_of;
+use sk_place::PlaceBy;
 use sk_worklist::Order;
 
 const MOST_STRIDE: u64 = 65_535;
@@ -27,6 +29,7 @@ pub(crate) struct Settings {
     pub(crate) order: Option<Order>,
     pub(crate) bits: Option<Bits>,
     pub(crate) within: Option<u64>,
+    pub(crate) place: Option<PlaceBy>,
     pub(crate) size: Option<u32>,
 }
 
@@ -39,6 +42,7 @@ pub(crate) fn settings_of(command: Command, words: &[String]) -> Option<Settings
         order: None,
         bits: None,
         within: None,
+        place: None,
         size: None,
     };
     for word in words {
@@ -65,7 +69,10 @@ impl Settings {
         if let Some(value) = behind(word, "bits=") {
             return self.with_bits(value);
         }
-        self.with_within(behind(word, "within=")?)
+        if let Some(value) = behind(word, "within=") {
+            return self.with_within(value);
+        }
+        self.with_place(behind(word, "place=")?)
     }
 
     fn with_order(self, command: Command, value: &[u8]) -> Option<Settings>
@@ -106,6 +113,20 @@ impl Settings {
         let within = limit_of(value)?;
         Some(Settings {
             within: Some(within),
+            ..self
+        })
+    }
+
+    fn with_place(self, value: &[u8]) -> Option<Settings>
+        ensures some { IfSome result (λ after. (place : AnyPlace) × IsPlace value.now place × (self.place ≡ None) × (after ≡ record self { place = Some place })) }
+        ensures none { IfNone result ((place : AnyPlace) → IsPlace value.now place → self.place ≡ None → ⊥) }
+    {
+        if self.place.is_some() {
+            return None;
+        }
+        let place = place_named(value)?;
+        Some(Settings {
+            place: Some(place),
             ..self
         })
     }
@@ -156,6 +177,19 @@ fn bits_named(value: &[u8]) -> Option<Bits>
         Some(Bits::TwentySeven)
     } else if value == b"38".as_slice() {
         Some(Bits::ThirtyEight)
+    } else {
+        None
+    }
+}
+
+fn place_named(value: &[u8]) -> Option<PlaceBy>
+    ensures some { IfSome result (IsPlace value.now) }
+    ensures none { IfNone result ((place : AnyPlace) → IsPlace value.now place → ⊥) }
+{
+    if value == b"boxes".as_slice() {
+        Some(PlaceBy::Boxes)
+    } else if value == b"points".as_slice() {
+        Some(PlaceBy::Points)
     } else {
         None
     }

@@ -13,7 +13,7 @@ use crate::status::Status;
 use sk_base::{NoMemory, Placed, Sketch, Text};
 use sk_dxf::dxf_text;
 use sk_flips::Placement;
-use sk_report::{fault_text, grow_text, passed_text, solve_text, turned_text};
+use sk_report::{fault_text, grow_text, passed_text, shape_text, solve_text, turned_text};
 use sk_residual::Tolerance;
 use sk_tree::Plan;
 use std::alloc::Global;
@@ -27,6 +27,8 @@ pub enum Report {
     Drawing,
     /// The sums of all coordinates, and the tolerance.
     Sums,
+    /// The lines of where each element lies and the tolerance, behind the verdict.
+    Shape,
 }
 
 /// What is written of the placed plan of the sketch, or the check report where the verdict isn't well.
@@ -42,7 +44,15 @@ pub(crate) fn solved(
 {
     match planned_by(alloc, request.order, s)? {
         Planning::Planned { graph, plan } => {
-            let placement = placed(alloc, request.bits, request.within, s, &graph, &plan)?;
+            let placement = placed(
+                alloc,
+                request.place,
+                request.bits,
+                request.within,
+                s,
+                &graph,
+                &plan,
+            )?;
             Ok(Answer {
                 status: status_of(&placement),
                 text: placement_text(alloc, report, request.bits.count(), s, &plan, &placement)?,
@@ -102,5 +112,6 @@ fn report_text(
         Report::Places => solve_text(alloc, s, p, bits, at, t),
         Report::Drawing => dxf_text(alloc, at, s),
         Report::Sums => grow_text(alloc, s, p, at, t),
+        Report::Shape => shape_text(alloc, s, p, bits, at, t),
     }
 }

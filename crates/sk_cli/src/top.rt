@@ -26,7 +26,7 @@ use sk_lang::{Code, Refusal};
 use std::alloc::Global;
 
 const USAGE: &str =
-    "usage: sketch check|plan|solve|dxf|offers|session|grow|migrate|verify|spare|flips|derive [order=first|last|0..65535] [bits=16|27|38] [within=1..1000000] [n=3..1000]\n";
+    "usage: sketch check|plan|solve|dxf|offers|session|grow|migrate|verify|spare|flips|derive|parts [order=first|last|0..65535] [bits=16|27|38] [within=1..1000000] [place=boxes|points] [n=3..1000]\n";
 
 /// The most bytes of an input.
 const MOST_BYTES: usize = 1_048_576;
@@ -123,7 +123,7 @@ fn answer(alloc: Global, request: Request, bytes: &[u8]) -> Result<Answer, NoMem
     ensures { IfOk result (λ answer. IsAnswer request bytes.now answer.status answer.text) }
 {
     match request.command {
-        Command::Check => account_of(alloc, Account::Parts, request.order, bytes),
+        Command::Check => account_of(alloc, Account::Judged, request.order, bytes),
         Command::Plan => plan(alloc, request.order, bytes),
         Command::Solve => solve(alloc, request, Report::Places, bytes),
         Command::Dxf => solve(alloc, request, Report::Drawing, bytes),
@@ -135,6 +135,7 @@ fn answer(alloc: Global, request: Request, bytes: &[u8]) -> Result<Answer, NoMem
         Command::Spare => account_of(alloc, Account::Spares, request.order, bytes),
         Command::Flips => flips(alloc, request, bytes),
         Command::Derive => account_of(alloc, Account::Derived, request.order, bytes),
+        Command::Parts => account_of(alloc, Account::Shapes(request), request.order, bytes),
     }
 }
 

@@ -1,0 +1,56 @@
+-- What is told of the parts of a sketch: the line of each, and below that of one that isn't over how its own sketch is placed.
+use Rattle.std.specs.Prelude.{◌≡◌, ◌≢◌, ◌⊎◌, ◌+◌, ℕ, List, [], ◌∷◌, ◌++◌, codes}
+use Rattle.sk_base.specs.declared.Sketch.{Sketch}
+use Rattle.sk_graph.specs.SketchGraph.{graph_of}
+use Rattle.sk_verdict.specs.declared.Judgement.{Judgement}
+use Rattle.sk_verdict.specs.declared.Part.{Part}
+use Rattle.sk_verdict.specs.Judging.{IsOver}
+use Rattle.sk_tree.specs.declared.Plan.{Plan as ThePlan}
+use Rattle.sk_plan.specs.Judged.{IsTheJudgement}
+use Rattle.sk_flips.specs.declared.Placement.{Placement}
+use Rattle.sk_parts.specs.OwnSketch.{part_sketch}
+use Rattle.sk_report.specs.CheckReport.{part_line, parts_head}
+use Rattle.sk_cli.specs.declared.request.Request.{Request}
+use Rattle.sk_cli.specs.declared.solving.Report.TheVariants.{Places, Shape}
+use Rattle.sk_cli.specs.declared.status.Status.{Status}
+use Rattle.sk_cli.specs.declared.status.Status.TheVariants.{Done}
+use Rattle.sk_cli.specs.Grids.{digits_of}
+use Rattle.sk_cli.specs.Solved.{IsPlacedPlan, IsSolved}
+use Rattle.sk_cli.specs.Solving.{placement_words}
+
+-- the verdict on the sketch is well, and this is written of its placed plan: what `solve` writes behind the verdict, or what
+-- fails first
+abbrev pub IsShape : Request → Sketch → List ℕ → Type 0
+IsShape request s text =
+    (p : ThePlan) × (placement : Placement) × IsPlacedPlan request s p placement × (text ≡ placement_words Shape (digits_of request.bits) s p placement)
+
+-- below the line of a part that is over stands nothing, and below that of another part the shape of its own sketch
+abbrev pub IsBelowPart : Request → Sketch → Part → List ℕ → Type 0
+IsBelowPart request s p text = (IsOver p × (text ≡ [])) ⊎ ((¬ IsOver p) × IsShape request (part_sketch s p.elements) text)
+
+-- the parts from this number on, one behind another
+abbrev pub ArePartsTold : Request → Sketch → ℕ → List Part → List ℕ → Type 0
+ArePartsTold request s number [] text = text ≡ []
+ArePartsTold request s number (p ∷ parts) text =
+    (below : List ℕ) × (more : List ℕ) × IsBelowPart request s p below × ArePartsTold request s (number + 1) parts more × (text ≡ (part_line s number p ++ below) ++ more)
+
+-- the verdict on the sketch and how many parts it has, and then its parts
+abbrev pub IsPartsReport : Request → Sketch → List ℕ → Type 0
+IsPartsReport request s text =
+    (j : Judgement) × (lines : List ℕ) × IsTheJudgement (graph_of s) j × ArePartsTold request s 1 j.parts lines × (text ≡ parts_head j ++ lines)
+
+-- what `solve` writes of the sketch: the verdict before its shape where it is done, and else the line of what fails alone
+abbrev pub IsSolvedAs : Request → Sketch → List ℕ → Type 0
+IsSolvedAs request s shape =
+    (status : Status) × (text : List ℕ) × IsSolved Places request s status text
+    × (((status ≡ Done) × (text ≡ codes "verdict well\n" ++ shape)) ⊎ ((status ≢ Done) × (text ≡ shape)))
+
+-- one part, and below it the shape of the sketch itself
+pub record IsOneShape (request : Request) (s : Sketch) (text : List ℕ) : Type 0 where
+  pub judgement : Judgement
+  pub judged : IsTheJudgement (graph_of s) judgement
+  pub part : Part
+  pub alone : judgement.parts ≡ part ∷ []
+  pub shape : List ℕ
+  pub is_shape : IsShape request s shape
+  pub is : text ≡ parts_head judgement ++ (part_line s 1 part ++ shape)
