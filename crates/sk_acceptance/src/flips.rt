@@ -8,6 +8,7 @@ use sk_flips::{Alternative, alternatives, first_off, flip_plan, read_flips, turn
 use sk_graph::reduce;
 use sk_interval::G38;
 use sk_lang::ReadError;
+use sk_place::PlaceBy;
 use sk_report::{refused_text, turned_text};
 use sk_residual::Turned;
 use std::alloc::Global;
@@ -495,7 +496,7 @@ fn alternatives_told(alloc: Global, lines: &str) -> Result<Text, Fail> {
     let graph = reduce(alloc, &sketch)?;
     let plan = planned(alloc, &sketch)?;
     let lists = read_flips(alloc, few_bytes(lines)?, 8)?;
-    let found = alternatives::<G38>(alloc, &sketch, &graph, &plan, &lists, 1000)?;
+    let found = alternatives::<G38>(alloc, PlaceBy::Boxes, &sketch, &graph, &plan, &lists, 1000)?;
     let mut told = Text::new(alloc);
     for alternative in found.as_slice() {
         told.put(alternative_text(alloc, &sketch, 9, 38, alternative)?.as_bytes())?;

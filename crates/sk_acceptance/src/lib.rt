@@ -33,6 +33,8 @@ mod offers;
 #[cfg(test)]
 mod one_byte;
 #[cfg(test)]
+mod parts;
+#[cfg(test)]
 mod placements;
 #[cfg(test)]
 mod plans;
@@ -46,6 +48,8 @@ mod row;
 mod scripts;
 #[cfg(test)]
 mod sessions;
+#[cfg(test)]
+mod settled;
 #[cfg(test)]
 mod solves;
 #[cfg(test)]

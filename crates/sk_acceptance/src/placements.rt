@@ -8,7 +8,7 @@ use sk_base::Placed;
 use sk_dxf::dxf_text;
 use sk_graph::reduce;
 use sk_interval::{G16, G38, Grid};
-use sk_place::{Boxes, PlaceError, place, round};
+use sk_place::{Boxes, PlaceBy, PlaceError, place, round};
 use sk_report::fault_text;
 use std::alloc::Global;
 use std::test::Fail;
@@ -18,7 +18,7 @@ fn placed<G: Grid>(alloc: Global, text: &str) -> Result<Result<Boxes<G>, PlaceEr
     let sketch = sketch_of(alloc, text)?;
     let graph = reduce(alloc, &sketch)?;
     let plan = planned(alloc, &sketch)?;
-    Ok(place(alloc, &plan, &graph))
+    Ok(place(alloc, PlaceBy::Boxes, &plan, &graph))
 }
 
 const PLATE: &str = "\

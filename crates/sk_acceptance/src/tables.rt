@@ -1,8 +1,8 @@
 // The tables of calls, each of which stands in the module of its subject.
 use crate::row::rows_pass;
 use crate::{
-    blocks, checks, damaged, derived, drawn, flips, grown, offers, plans, refusals, refused_claims,
-    sessions, solves, spares, verified, verified_signs, versions,
+    blocks, checks, damaged, derived, drawn, flips, grown, offers, parts, plans, refusals,
+    refused_claims, sessions, settled, solves, spares, verified, verified_signs, versions,
 };
 use std::test::Fail;
 
@@ -37,9 +37,11 @@ fn drawings_are_placed(rt: HostRuntime) -> Result<(), Fail> {
         solves::PLACELESS,
         solves::TILTED,
         solves::LATER_FAULTS,
+        settled::SETTLED,
         drawn::DRAWN,
         flips::FLIPS,
         grown::GROWN,
+        parts::PARTS,
         blocks::BLOCKS,
         versions::VERSIONS,
         versions::COMMENTS,

@@ -5,7 +5,7 @@ use std::process::Abort;
 use std::test::Fail;
 
 const USAGE: &str =
-    "usage: sketch check|plan|solve|dxf|offers|session|grow|migrate|verify|spare|flips|derive [order=first|last|0..65535] [bits=16|27|38] [within=1..1000000] [n=3..1000]\n";
+    "usage: sketch check|plan|solve|dxf|offers|session|grow|migrate|verify|spare|flips|derive|parts [order=first|last|0..65535] [bits=16|27|38] [within=1..1000000] [place=boxes|points] [n=3..1000]\n";
 
 /// The words of a call on each line, between single spaces; the first line has one empty word.
 const NO_FORMS: &str = "
@@ -28,6 +28,11 @@ solve within=0
 solve within=1000001
 solve within=
 solve n=5
+solve place=
+solve place=point
+solve place=points place=points
+check place=boxes
+verify place=boxes
 solve bits=38 within=5 bits=38
 solve order=first within=1000001
 grow
@@ -62,7 +67,12 @@ derive order=00
 derive order=first order=last
 derive bits=16
 derive within=1
-derive n=3";
+derive n=3
+parts parts
+parts order=00
+parts bits=20
+parts within=0
+parts n=3";
 
 /// The first read would fail, so a call that reads would end with another status.
 #[test]
