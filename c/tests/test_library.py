@@ -1,0 +1,113 @@
+"""The library beside the program: the same answers, from many threads, with memory refused, and nothing else shown."""
+import os
+import pathlib
+import subprocess
+
+import pytest
+
+TOP = pathlib.Path(__file__).resolve().parents[2]
+HERE = TOP / "c"
+PROGRAM = os.environ.get("PERTXOGAI_SKETCH", str(TOP / "crates/sketch/out/sketch"))
+STRICT = ["-Wall", "-Wextra", "-Wpedantic", "-Werror", "-O2", f"-I{HERE}"]
+SKETCHES = sorted([*(TOP / "examples").glob("*.sketch"), *(TOP / "examples/faults").glob("*.sketch")])
+ROWS = sorted((TOP / "python/tests/rows").glob("*.words"))
+COMMANDS = ["check", "plan", "plan order=last", "solve", "solve bits=16", "solve place=points", "dxf", "parts", "offers",
+            "session", "migrate", "verify", "spare", "flips", "derive", "grow n=9", "nonsense", "", "check  ", "check order="]
+
+
+def run(*words, **how):
+    return subprocess.run([str(word) for word in words], capture_output=True, **how)
+
+
+def compiled(*words):
+    done = run(*words)
+    assert done.returncode == 0, done.stderr.decode()
+
+
+@pytest.fixture(scope="session")
+def room(tmp_path_factory):
+    """The folder with the library, made anew of what is proved."""
+    folder = tmp_path_factory.mktemp("library")
+    compiled(HERE / "build", folder)
+    return folder
+
+
+@pytest.fixture(scope="session")
+def judge(room):
+    compiled("cc", "-std=c99", *STRICT, HERE / "examples/judge.c", room / "libsketch.a", "-o", room / "judge")
+    return room / "judge"
+
+
+@pytest.mark.parametrize("sketch", SKETCHES, ids=lambda path: path.stem)
+def test_the_answers_are_the_programs(judge, sketch):
+    for command in COMMANDS:
+        wanted = run(PROGRAM, *command.split(), stdin=sketch.open("rb"))
+        found = run(judge, sketch, command)
+        assert (found.returncode, found.stdout) == (wanted.returncode, wanted.stdout), command
+
+
+@pytest.mark.parametrize("row", ROWS, ids=lambda path: path.stem)
+def test_a_worked_row(judge, row):
+    wanted = run(PROGRAM, *row.read_text().split(), stdin=row.with_suffix(".in").open("rb"))
+    found = run(judge, row.with_suffix(".in"), row.read_text().strip())
+    assert (found.returncode, found.stdout) == (wanted.returncode, wanted.stdout)
+
+
+def test_eight_threads_answer_as_one(room):
+    compiled("cc", "-std=gnu11", *STRICT, HERE / "tests/threads.c", room / "libsketch.a", "-lpthread", "-o", room / "threads")
+    done = run(room / "threads", 8, 2, *SKETCHES)
+    assert done.returncode == 0, done.stdout
+
+
+@pytest.mark.parametrize("command", ["check", "plan", "solve place=points", "parts", "flips", "derive", "spare", "session"])
+def test_each_request_for_memory_is_refused_in_turn(room, command):
+    compiled("cc", "-std=gnu11", *STRICT, HERE / "tests/faults.c", room / "libsketch.a",
+             "-Wl,--wrap=malloc,--wrap=realloc,--wrap=free", "-o", room / "faults")
+    done = run(room / "faults", TOP / "examples/bracket.sketch", command)
+    assert done.returncode == 0, done.stdout
+
+
+def test_no_byte_beyond_and_none_lost(room):
+    """Under AddressSanitizer, whose leaks and overruns end with another status."""
+    for example in ("places", "session"):
+        compiled("cc", "-std=c99", "-g", "-fsanitize=address", *STRICT, HERE / f"examples/{example}.c",
+                 room / "libsketch.a", "-o", room / f"{example}_checked")
+        done = run(room / f"{example}_checked")
+        assert (done.returncode, done.stderr) == (0, b"")
+    compiled("cc", "-std=gnu11", "-g", "-fsanitize=address", *STRICT, HERE / "tests/threads.c", room / "libsketch.a",
+             "-lpthread", "-o", room / "threads_checked")
+    done = run(room / "threads_checked", 2, 1, *SKETCHES[:8])
+    assert (done.returncode, done.stderr) == (0, b"")
+
+
+def test_one_symbol_is_shown_and_the_c_library_alone_is_asked(room):
+    shown = run("nm", "-D", "--defined-only", room / "libsketch.so").stdout.decode().split()
+    assert shown[2::3] == ["sketch_answer"]
+    asked = run("nm", "-D", "--undefined-only", room / "libsketch.so").stdout.decode().split()
+    names = {name.partition("@")[0] for name in asked if len(name) > 1}
+    assert names <= {"malloc", "realloc", "free", "memcpy", "memmove", "memset", "memcmp", "bcmp", "calloc",
+                     "__cxa_finalize", "_ITM_deregisterTMCloneTable", "_ITM_registerTMCloneTable", "__gmon_start__"}
+    hidden = run("nm", "-g", "--defined-only", room / "libsketch.a").stdout.decode().split()
+    assert [name for name in hidden if name.startswith("sk")] == ["sketch.o:", "sketch_answer"]
+
+
+def test_the_examples_say_what_the_guide_shows(room):
+    compiled("cc", "-std=c99", *STRICT, HERE / "examples/places.c", room / "libsketch.a", "-o", room / "places")
+    assert run(room / "places").stdout.decode().splitlines() == [
+        "A lies at 0.000000, 0.000000 mm", "B lies at 40.000000, 0.000000 mm", "C lies at 40.000000, 30.000000 mm"]
+    compiled("cc", "-std=c99", *STRICT, HERE / "examples/session.c", room / "libsketch.a", "-o", room / "session")
+    replies = run(room / "session").stdout.decode().splitlines()
+    assert replies[:6] == ["ok A", "ok B", "ok C", "ok c1", "ok c2", "verdict open"]
+    # the height of C over A and B, with sides of 4, 3 and 9: its square is 81 - 11 * 11 = -40, in parts of 2^-38
+    assert "fault s1 build height C gap -10995116277760 -10995116277760 bits 38" in replies
+    assert replies[-3:] == ["point C 4000000 3000000", "length tolerance 0 nm at c1", "angle tolerance 0 ppb at none"]
+    compiled("c++", "-std=c++17", *STRICT, HERE / "examples/judge.cpp", room / "libsketch.a", "-o", room / "judge_cpp")
+    assert run(room / "judge_cpp").stdout.decode() == "verdict open\nverdict well\n1 refused line 10 E16 no-end\n"
+
+
+def test_linking_as_the_guide_says(room, tmp_path):
+    found = run("pkg-config", "--cflags", "--libs", "sketch", env={**os.environ, "PKG_CONFIG_PATH": str(room)})
+    flags = found.stdout.decode().split() if found.returncode == 0 else [f"-I{room}", f"-L{room}", "-lsketch"]
+    compiled("cc", HERE / "examples/places.c", *flags, "-o", tmp_path / "places")
+    done = run(tmp_path / "places", env={"LD_LIBRARY_PATH": str(room)})
+    assert done.stdout.startswith(b"A lies at 0.000000, 0.000000 mm\n")
