@@ -1,9 +1,7 @@
-use Rattle.std.proofs.Common.{◌≡◌, ◌≤ℤ◌, ◌+ℤ◌, FitsSigned, arith, to_z-of_z, sym, subst}
+use Rattle.std.proofs.Common.{◌≤ℤ◌, ◌+ℤ◌, FitsSigned, arith, to_z-of_z, sym, subst}
 use Rattle.std.proofs.lemmas.Int.{ints}
 use Rattle.std.specs.Int.{w128}
-use Rattle.sk_interval.specs.Interval.{Interval, IsInterval}
-use Rattle.sk_interval.specs.Rounding.{floor_of}
-use Rattle.sk_interval.specs.Operations.{middle}
+use Rattle.sk_interval.specs.Interval.{Interval}
 use Rattle.sk_interval.proofs.PowerLemmas.{end_limit}
 use Rattle.sk_interval.proofs.MiddleLemmas.{middle-inside, middle_is_interval}
 use Rattle.sk_interval.proofs.interval.Iv.middle.Goals as goal
