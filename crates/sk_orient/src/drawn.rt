@@ -48,8 +48,8 @@ pub fn advance_drawn(line: &Shape, p: &Shape, q: &Shape) -> Sign
     drawn_sign(dot(direction(line), way(place(p), place(q))))
 }
 
-/// Where a point is drawn, a circle its centre, and a line its first place.
-fn place(shape: &Shape) -> Vector
+/// Where a point is drawn, a circle its centre, and a line its first place, in micrometres.
+pub fn place(shape: &Shape) -> Vector
     requires { IsOnPaper shape.now }
     ensures place { result ≡ place_of shape.now }
     ensures short { IsShort 1000000000 result }
@@ -60,16 +60,15 @@ fn place(shape: &Shape) -> Vector
     }
 }
 
-/// From the line's first place to its second.
-fn direction(line: &Shape) -> Vector
-    requires line { IsLine line.now }
-    requires bounded { IsOnPaper line.now }
-    ensures direction { result ≡ direction_of line.now }
+/// From a line's first place to its second, in micrometres. A point and a circle have no direction: 0.
+pub fn direction(shape: &Shape) -> Vector
+    requires { IsOnPaper shape.now }
+    ensures direction { result ≡ direction_of shape.now }
     ensures short { IsShort 2000000000 result }
 {
-    match line {
+    match shape {
         Shape::Line { x1, y1, x2, y2 } => way(vector(*x1, *y1), vector(*x2, *y2)),
-        Shape::Point { .. } | Shape::Circle { .. } => unreachable!(),
+        Shape::Point { .. } | Shape::Circle { .. } => Vector { x: 0, y: 0 },
     }
 }
 

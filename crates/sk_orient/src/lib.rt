@@ -8,5 +8,6 @@ mod placed;
 mod tests;
 mod vector;
 
-pub use drawn::{advance_drawn, sense_drawn, side_drawn, turn_drawn};
+pub use drawn::{advance_drawn, direction, place, sense_drawn, side_drawn, turn_drawn};
 pub use placed::{advance_placed, sense_placed, side_placed, turn_placed};
+pub use vector::{Vector, cross, dot, way};
