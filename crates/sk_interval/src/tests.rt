@@ -23,6 +23,8 @@ fn lengths_and_roots_on_each_grid(rt: HostRuntime) -> Result<(), Fail> {
             (388736063996, 388736063997),
         ),
         (Iv::<G16>::whole(4).sqrt()?.ends(), (131072, 131072)),
+        (Iv::<G16>::of_um(Um(1)).middle().ends(), (65, 65)),
+        (Iv::<G16>::of_um(Um(-1)).middle().ends(), (-66, -66)),
     ];
     for (ends, expected) in table {
         assert_eq!(rt; ends, expected);

@@ -3,7 +3,8 @@ ghost use Rattle.std.specs.Prelude.{◌≡◌};
 ghost use Rattle.sk_base.specs.declared.Kind.{Kind};
 ghost use Rattle.sk_steps.specs.Boxes.{kind_of};
 
-use crate::{Motion, Pair, carry, motion_by};
+use crate::{Motion, Pair, carry, motion_by, settle_motion};
+use sk_base::Um;
 use sk_interval::{Cause, G16, G27, G38, Grid, Iv};
 use sk_steps::{BoxOf, What};
 use std::process::Abort;
@@ -109,4 +110,26 @@ fn pairs_that_give_no_turn(rt: HostRuntime) {
         motion_by(&parallel, &parallel).err(),
         Some((What::Fx, flat))
     );
+}
+
+/// The ends of the cosine, the sine and the shift of a turn that has these parts, once it is settled.
+fn settled(cos: i32, sin: i32) -> Result<[Ends; 3], (What, Cause)> {
+    let there = Iv::<G16>::of_um(Um(1));
+    let m = settle_motion(&Motion {
+        cos: Iv::whole(i64::from(cos)),
+        sin: Iv::whole(i64::from(sin)),
+        fx: there,
+        fy: there,
+        tx: there,
+        ty: there,
+    })?;
+    Ok([m.cos.ends(), m.sin.ends(), m.tx.ends()])
+}
+
+#[test]
+fn turns_are_settled_at_length_one(rt: HostRuntime) {
+    let turn = [(39321, 39322), (52428, 52429), (65, 66)];
+    let flat = Cause::Flat { lo: 0, hi: 0 };
+    assert_eq!(rt; settled(3, 4), Ok(turn));
+    assert_eq!(rt; settled(0, 0), Err((What::Size, flat)));
 }

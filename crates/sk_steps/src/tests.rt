@@ -4,7 +4,7 @@ ghost use Rattle.sk_base.specs.declared.Kind.{Kind};
 ghost use Rattle.sk_steps.specs.Boxes.{kind_of};
 ghost use Rattle.sk_steps.specs.Leaves.{AreMeasured, IsSoundMeasure};
 
-use crate::{BoxOf, Given, What, leaf_boxes, third_element};
+use crate::{BoxOf, Given, What, leaf_boxes, settle, third_element};
 use sk_base::{ConId, Edge, Elem, Measure, Ratio, Sign, Um};
 use sk_interval::{Cause, G16, G27, G38, Grid, Iv};
 use std::process::Abort;
@@ -213,6 +213,30 @@ fn a_rectangle_on_each_grid(rt: HostRuntime) {
     rectangle::<G16>(&rt, 65536);
     rectangle::<G27>(&rt, 134217728);
     rectangle::<G38>(&rt, 274877906944);
+}
+
+/// A line with these parts of its normal, by 0.001 mm off the origin.
+fn sloping(a: i32, b: i32) -> BoxOf<G16> {
+    BoxOf::Line {
+        a: Iv::whole(i64::from(a)),
+        b: Iv::whole(i64::from(b)),
+        c: Iv::of_um(Um(1)),
+    }
+}
+
+#[test]
+fn boxes_are_settled_at_midpoints(rt: HostRuntime) {
+    let point = [(-66, -66), (0, 0), (0, 0)];
+    let line = [(39321, 39321), (52428, 52428), (65, 65)];
+    let flat = Cause::Flat { lo: 0, hi: 0 };
+    let table = [
+        (along(&rt, -1), Ok(point)),
+        (sloping(3, 4), Ok(line)),
+        (sloping(0, 0), Err((What::Size, flat))),
+    ];
+    for (made, expected) in table {
+        assert_eq!(rt; ends_of(&settle(&made)), expected);
+    }
 }
 
 #[test]
