@@ -2,3 +2,4 @@ pub mod Fittings
 pub mod Given
 pub mod Naming
 pub mod Soundness
+pub mod Drawing

@@ -1,52 +1,25 @@
 -- The own sketch of a part draws its elements as the whole sketch does, so it is sound.
-use Rattle.std.proofs.Common.{◌≡◌, ◌≢◌, inl, inr, ℕ, ◌<◌, ◌≤◌, ◌==◌, Bool, true, false, cond, List, [], ◌∷◌, length, get_or, refl, ap, sym, subst, ◌∙◌, arith}
-use Rattle.std.specs.Prelude.{Contains, IsSome, IsTrue, Option, None, Some, All, find, filter, not}
+use Rattle.std.proofs.Common.{◌≡◌, ◌≢◌, inl, inr, ℕ, ◌<◌, ◌==◌, Bool, true, false, cond, List, [], ◌∷◌, get_or, refl, ap, sym, subst, ◌∙◌, arith}
+use Rattle.std.specs.Prelude.{Contains, IsTrue, Some, All, find, filter, not}
 use Rattle.std.specs.List.{list_all}
-use Rattle.std.specs.Option.{option_map}
 use Rattle.std.proofs.lemmas.Bool.Decides.{nat_tests}
 use Rattle.std.proofs.lemmas.List.Filters.{length-filter_both}
 use Rattle.std.proofs.lemmas.List.Elements.{All-contains, All-filter, Contains-get_or}
 use Rattle.sk_base.specs.declared.Elem.{Elem}
 use Rattle.sk_base.specs.declared.Element.{Element}
 use Rattle.sk_base.specs.declared.Constraint.{Constraint}
-use Rattle.sk_base.specs.declared.Pin.{Pin}
-use Rattle.sk_base.specs.declared.Shape.{Shape}
-use Rattle.sk_base.specs.declared.Rule.{Rule}
-use Rattle.sk_base.specs.declared.Rule.TheVariants as rule
 use Rattle.sk_base.specs.declared.Sketch.{Sketch}
 use Rattle.sk_base.specs.Labels.{is_name}
-use Rattle.sk_base.specs.Drawn.{element_of, shape_of}
+use Rattle.sk_base.specs.Drawn.{element_of}
 use Rattle.sk_base.specs.Numbering.{is_elem, elem_exact}
-use Rattle.sk_base.specs.SoundSketch.{IsSoundSketch, IsSoundRule, IsSoundShape, IsCentred, BothFit, MayJoin, MayBeApart, MayLieOn, MayBeTangent, AreCircles, MayNest, AreLines}
-use Rattle.sk_base.proofs.Blocks.{block_kept}
+use Rattle.sk_base.specs.SoundSketch.{IsSoundSketch, IsSoundRule, IsSoundShape}
 use Rattle.sk_base.proofs.Numbers.{elem_found, found_elem}
 use Rattle.sk_base.proofs.Pairs.{pairs_filter}
-use Rattle.sk_base.proofs.Members.{contains_none, contains_head, contains_later, contains_cases, contains_one, contains_mapped, mapped_from, filtered_from}
+use Rattle.sk_base.proofs.Members.{contains_none, contains_head, contains_later, contains_cases, filtered_from}
 use Rattle.sk_graph.specs.Naming.{named_by}
-use Rattle.sk_graph.proofs.Fittings.{both_drawn}
-use Rattle.sk_graph.proofs.Soundness.{drawn_in}
+use Rattle.sk_graph.proofs.Drawing.{rule_alike}
 use Rattle.sk_rules.proofs.SummedWeights.{both_true}
 use Rattle.sk_parts.specs.OwnSketch.{has_element, lies_among, part_sketch}
-
--- each element that the rule names is the same in the two sketches
-abbrev pub DrawnAlike : Sketch → Sketch → Rule → Type 0
-DrawnAlike s t r = (u : Elem) → Contains (named_by r) u → element_of t u ≡ element_of s u
-
-joins_alike : (s t : Sketch) (fits : Shape → Shape → Type 0) (u v : Elem) → ((z : Elem) → Contains (u ∷ v ∷ []) z → element_of t z ≡ element_of s z) → MayJoin s fits u v → MayJoin t fits u v
-joins_alike s t fits u v alike joins =
-    let u_is : shape_of t u ≡ shape_of s u = ap (λ o. option_map (λ (x : Element). x.shape) o) (alike u (contains_head u (v ∷ []))) in
-    let v_is : shape_of t v ≡ shape_of s v = ap (λ o. option_map (λ (x : Element). x.shape) o) (alike v (contains_later u (v ∷ []) v (contains_head v []))) in
-    (joins.0, subst (λ (b : Option Shape). BothFit fits (shape_of t u) b) (sym v_is) (subst (λ (a : Option Shape). BothFit fits a (shape_of s v)) (sym u_is) joins.1))
-
-rule_alike : (s t : Sketch) (r : Rule) → DrawnAlike s t r → IsSoundRule s r → IsSoundRule t r
-rule_alike s t (rule.Distance u v len) alike sound = (joins_alike s t MayBeApart u v alike sound.0, sound.1)
-rule_alike s t (rule.On u v) alike sound = joins_alike s t MayLieOn u v alike sound
-rule_alike s t (rule.Tangent u v) alike sound = joins_alike s t MayBeTangent u v alike sound
-rule_alike s t (rule.Outside u v) alike sound = joins_alike s t AreCircles u v alike sound
-rule_alike s t (rule.Inside u v) alike sound = joins_alike s t MayNest u v alike sound
-rule_alike s t (rule.Angle l m ratio) alike sound = (joins_alike s t AreLines l m alike sound.0, sound.1)
-rule_alike s t (rule.Block pins) alike sound =
-    block_kept s t pins (λ k d below. alike (get_or pins k d).elem (contains_mapped (λ (pin : Pin). pin.elem) pins (get_or pins k d) (Contains-get_or pins k d below))) sound
 
 -- what a test that lets an item pass keeps, is found as before
 find_filtered : {X : Type 0} (p q : X → Bool) → ((x : X) → p x ≡ true → q x ≡ true) → (xs : List X) → find p (filter q xs) ≡ find p xs
@@ -91,9 +64,6 @@ module _ (s : Sketch) (xs : List Elem) where
   pub rule_stays : (c : Constraint) → lies_among xs c ≡ true → IsSoundRule s c.rule → IsSoundRule (part_sketch s xs) c.rule
   rule_stays c among sound = rule_alike s (part_sketch s xs) c.rule (λ u named. element_stays u (all_among xs (named_by c.rule) among u named)) sound
 
-no_longer_filtered : {X : Type 0} (p : X → Bool) (xs : List X) → length (filter p xs) ≤ length xs
-no_longer_filtered p xs = (let size = length-filter_both p (λ x. not (p x)) (λ x. refl) xs in omega arith)
-
 each_rule : (s t : Sketch) (p : Constraint → Bool) → ((c : Constraint) → p c ≡ true → IsSoundRule s c.rule → IsSoundRule t c.rule) → (cs : List Constraint) → All (λ (c : Constraint). IsSoundRule s c.rule) cs → All (λ (c : Constraint). IsSoundRule t c.rule) (filter p cs)
 each_rule s t p stays cs all k d below =
     let kept = filtered_from p cs (get_or (filter p cs) k d) (Contains-get_or (filter p cs) k d below) in
@@ -106,39 +76,8 @@ part_is_sound s xs sound = record {
   constraints_rise = pairs_filter (λ (x y : Constraint). x.number.0 < y.number.0) (lies_among xs) s.constraints sound.constraints_rise;
   labels_are_names = All-filter (has_element xs) (λ (x : Element). IsTrue (is_name x.label)) s.elements sound.labels_are_names;
   labels_differ = pairs_filter (λ (x y : Element). x.label ≢ y.label) (has_element xs) s.elements sound.labels_differ;
-  few_elements = (let fewer = no_longer_filtered (has_element xs) s.elements in let few = sound.few_elements in omega arith);
-  few_constraints = (let fewer = no_longer_filtered (lies_among xs) s.constraints in let few = sound.few_constraints in omega arith);
+  few_elements = (let both = length-filter_both (has_element xs) (λ (x : Element). not (has_element xs x)) (λ x. refl) s.elements in let few = sound.few_elements in omega arith);
+  few_constraints = (let both = length-filter_both (lies_among xs) (λ (c : Constraint). not (lies_among xs c)) (λ c. refl) s.constraints in let few = sound.few_constraints in omega arith);
   shapes_sound = All-filter (has_element xs) (λ (x : Element). IsSoundShape x.shape) s.elements sound.shapes_sound;
   rules_sound = each_rule s (part_sketch s xs) (lies_among xs) (λ c among fine. rule_stays s xs c among fine) s.constraints sound.rules_sound;
 }
-
--- a sound rule names elements of the sketch
-both_named : (s : Sketch) (fits : Shape → Shape → Type 0) (u v z : Elem) → MayJoin s fits u v → Contains (u ∷ v ∷ []) z → IsSome (shape_of s z)
-both_named s fits u v z joins named =
-    let drawn = both_drawn s fits u v joins in
-    elim (contains_cases u (v ∷ []) z named) [
-      | inl here ↦ subst (λ w. IsSome (shape_of s w)) here drawn.first
-      | inr later ↦ subst (λ w. IsSome (shape_of s w)) (contains_one v z later) drawn.second
-    ]
-
-centred_drawn : (o : Option Shape) → IsCentred o → IsSome o
-centred_drawn None centred = absurd centred
-centred_drawn (Some shape) centred = refl
-
-named_drawn : (s : Sketch) (r : Rule) → IsSoundRule s r → (u : Elem) → Contains (named_by r) u → IsSome (shape_of s u)
-named_drawn s (rule.Distance u v len) sound z named = both_named s MayBeApart u v z sound.0 named
-named_drawn s (rule.On u v) sound z named = both_named s MayLieOn u v z sound named
-named_drawn s (rule.Tangent u v) sound z named = both_named s MayBeTangent u v z sound named
-named_drawn s (rule.Outside u v) sound z named = both_named s AreCircles u v z sound named
-named_drawn s (rule.Inside u v) sound z named = both_named s MayNest u v z sound named
-named_drawn s (rule.Angle l m ratio) sound z named = both_named s AreLines l m z sound.0 named
-named_drawn s (rule.Block pins) sound z named =
-    let found = mapped_from (λ (pin : Pin). pin.elem) pins z named in
-    subst (λ w. IsSome (shape_of s w)) found.2 (centred_drawn (shape_of s found.0.elem) (All-contains (λ (pin : Pin). IsCentred (shape_of s pin.elem)) pins found.0 sound.centred found.1))
-
-pub named_in : (s : Sketch) (r : Rule) → IsSoundRule s r → (u : Elem) → Contains (named_by r) u → (x : Element) × Contains s.elements x × (x.number ≡ u)
-named_in s r sound u named = told (shape_of s u) refl (named_drawn s r sound u named)
-  where
-    told : (o : Option Shape) → shape_of s u ≡ o → IsSome o → (x : Element) × Contains s.elements x × (x.number ≡ u)
-    told None is some = absurd (let never = some in cc)
-    told (Some shape) is some = (let found = drawn_in s u shape is in (found.0, found.1, found.2))

@@ -17,7 +17,8 @@ use Rattle.sk_rules.specs.Excess.{weight, held, is_inside}
 use Rattle.sk_rules.proofs.SummedWeights.{same_tests, found_inside, inside_found}
 use Rattle.sk_verdict.specs.Parts.{part_with}
 use Rattle.sk_parts.specs.OwnSketch.{has_element, lies_among, part_sketch}
-use Rattle.sk_parts.proofs.Starts.{constraint_start, starts_are}
+use Rattle.sk_plan.specs.ConstraintStarts.{constraint_start}
+use Rattle.sk_plan.proofs.Starts.{starts_are}
 use Rattle.sk_parts.proofs.Drawing.{all_among, among_all, part_is_sound}
 
 module _ (s : Sketch) (xs : List Elem) where

@@ -1,7 +1,6 @@
 -- How the parts share a sketch: each constraint is in the own sketch of one part, and a sole part has all.
-use Rattle.std.proofs.Common.{◌≡◌, inl, inr, refl, ℕ, ◌≤◌, ◌<◌, Bool, true, false, List, [], ◌∷◌, length, ap, sym, subst, ◌∙◌, arith}
-use Rattle.std.specs.Prelude.{Contains, filter, nat_lt, if◌then◌else◌, ◌||◌, ◌↔◌}
-use Rattle.std.specs.List.{list_any}
+use Rattle.std.proofs.Common.{◌≡◌, inl, inr, refl, ℕ, ◌≤◌, ◌<◌, true, false, List, [], ◌∷◌, length, ap, sym, subst, ◌∙◌, arith}
+use Rattle.std.specs.Prelude.{Contains, filter, nat_lt, ◌↔◌}
 use Rattle.std.proofs.lemmas.Bool.Decides.{nat_tests}
 use Rattle.std.proofs.lemmas.List.Elements.{All-contains}
 use Rattle.sk_base.specs.declared.Elem.{Elem}
@@ -15,7 +14,7 @@ use Rattle.sk_base.specs.SoundGraph.{IsSoundGraph}
 use Rattle.sk_base.specs.SoundSketch.{IsSoundSketch, IsSoundRule}
 use Rattle.sk_base.proofs.Deciding.{elem_settles, some_in, is_in}
 use Rattle.sk_base.proofs.Filters.{filter_keeps}
-use Rattle.sk_base.proofs.Members.{contains_none, contains_head, contains_one, contains_cases, contains_mapped, mapped_from, contains_filtered, filtered_from}
+use Rattle.sk_base.proofs.Members.{contains_none, contains_head, contains_one, contains_mapped, mapped_from, contains_filtered, filtered_from}
 use Rattle.sk_base.proofs.Numbers.{elem_found, found_elem}
 use Rattle.sk_base.proofs.Pairs.{pairs_map, pairs_filter}
 use Rattle.sk_base.proofs.Unions.{rising_none, rising_cons, rising_same}
@@ -24,6 +23,7 @@ use Rattle.sk_family.proofs.Bodies.{Within}
 use Rattle.sk_family.proofs.GraphStarts.{among_start, from_start}
 use Rattle.sk_graph.specs.Naming.{named_by}
 use Rattle.sk_graph.specs.SketchGraph.{node_of, graph_of}
+use Rattle.sk_graph.proofs.Drawing.{named_in}
 use Rattle.sk_graph.proofs.Soundness.{graph_is_sound}
 use Rattle.sk_rules.specs.Reach.{IsNormal}
 use Rattle.sk_rules.proofs.Counting.{IsTight, reached_tight, inside_owned}
@@ -33,41 +33,20 @@ use Rattle.sk_rules.proofs.NormalForm.{reach_covers}
 use Rattle.sk_rules.proofs.WeighedGraphs.{sound_two_each}
 use Rattle.sk_verdict.specs.declared.Judgement.{Judgement}
 use Rattle.sk_verdict.specs.declared.Part.{Part}
-use Rattle.sk_verdict.specs.declared.Verdict.TheVariants.{Well, Over, Several}
+use Rattle.sk_verdict.specs.declared.Verdict.TheVariants.{Well}
 use Rattle.sk_verdict.specs.Parts.{IsLone, IsPart, AreOfOnePart, elem_of, part_with}
 use Rattle.sk_verdict.specs.Judging.{IsJudgement, IsOver, some_over, verdict_on}
 use Rattle.sk_verdict.proofs.Normals.{has_two}
 use Rattle.sk_plan.specs.Judged.{IsTheJudgement, IsWell}
 use Rattle.sk_parts.specs.OwnSketch.{has_element, lies_among, part_sketch, HasInOwn, IsInJustOne, numbers_in}
-use Rattle.sk_parts.proofs.Starts.{constraint_start, start_there, start_of_some}
-use Rattle.sk_parts.proofs.Drawing.{all_among, among_all, named_in}
+use Rattle.sk_plan.specs.ConstraintStarts.{constraint_start}
+use Rattle.sk_plan.proofs.Starts.{start_there, start_of_some}
+use Rattle.sk_plan.proofs.Wells.{by_none_named, no_items, well_told, none_any, few_same}
+use Rattle.sk_parts.proofs.Drawing.{all_among, among_all}
 use Rattle.sk_parts.proofs.OwnGraph.{own_part}
-use Rattle.sk_parts.proofs.WellParts.{by_none_named, no_items, part_is_well, own_one_part}
+use Rattle.sk_parts.proofs.WellParts.{part_is_well, own_one_part}
 
 -- where the verdict is well there is at most one part, and it isn't over
-well_told : (over several : Bool) → (if over then Over else (if several then Several else Well)) ≡ Well → (over ≡ false) × (several ≡ false)
-well_told true several is = absurd (cc)
-well_told false true is = absurd (cc)
-well_told false false is = (refl, refl)
-
-none_any : {X : Type 0} (p : X → Bool) (xs : List X) → list_any p xs ≡ false → (x : X) → Contains xs x → p x ≡ false
-none_any p [] none x x_in = absurd (contains_none x x_in)
-none_any p (y ∷ xs) none x x_in =
-    let both = neither (p y) (list_any p xs) none in
-    elim (contains_cases y xs x x_in) [
-      | inl here ↦ subst (λ z. p z ≡ false) here both.0
-      | inr later ↦ none_any p xs both.1 x later
-    ]
-  where
-    neither : (a b : Bool) → (a || b) ≡ false → (a ≡ false) × (b ≡ false)
-    neither false b is = (refl, is)
-    neither true b is = absurd (cc)
-
-few_same : {X : Type 0} (xs : List X) (x y : X) → length xs ≤ 1 → Contains xs x → Contains xs y → x ≡ y
-few_same [] x y few x_in y_in = absurd (contains_none x x_in)
-few_same (z ∷ []) x y few x_in y_in = sym (contains_one z x x_in) ∙ contains_one z y y_in
-few_same (z ∷ w ∷ xs) x y few x_in y_in = absurd (omega arith)
-
 not_over_of_well : (parts : List Part) → verdict_on parts ≡ Well → (p : Part) → Contains parts p → ¬ IsOver p
 not_over_of_well parts is p p_in over =
     let none = (well_told (some_over parts) (nat_lt 1 (length parts)) is).0 in

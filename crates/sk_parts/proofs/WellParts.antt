@@ -1,58 +1,34 @@
 -- The own sketch of a part that isn't over has the verdict well.
-use Rattle.std.proofs.Common.{◌≡◌, inl, inr, refl, ℕ, ◌-◌, ◌*◌, ◌≤◌, ◌<◌, false, List, [], ◌∷◌, length, get_or, ap, sym, subst, ◌∙◌, arith}
-use Rattle.std.specs.Prelude.{Contains, map, nat_lt}
-use Rattle.std.proofs.lemmas.Bool.Decides.{nat_tests}
-use Rattle.std.proofs.lemmas.List.Elements.{Contains-get_or}
+use Rattle.std.proofs.Common.{◌≡◌, inl, inr, refl, ℕ, ◌-◌, ◌*◌, ◌≤◌, ◌<◌, true, List, [], ◌∷◌, length, ap, sym, subst, ◌∙◌, arith}
+use Rattle.std.specs.Prelude.{Contains, map}
 use Rattle.sk_base.specs.declared.Elem.{Elem}
-use Rattle.sk_base.specs.declared.Pin.{Pin}
 use Rattle.sk_base.specs.declared.Sketch.{Sketch}
 use Rattle.sk_base.specs.declared.Graph.{Graph}
-use Rattle.sk_base.specs.Pins.{elements_of}
 use Rattle.sk_base.specs.SoundGraph.{IsSoundGraph}
 use Rattle.sk_base.specs.SoundSketch.{IsSoundSketch}
-use Rattle.sk_base.proofs.Members.{contains_none, contains_head, contains_later, contains_one, contains_mapped, mapped_from}
-use Rattle.sk_base.proofs.Pairs.{pairs_none, pairs_cons}
-use Rattle.sk_family.specs.Body.{Body, Start, edge_start, block_start, starts, starting, initial_bodies, SameBodies}
-use Rattle.sk_family.proofs.GraphStarts.{start_at, among_start, edge_starts, block_starts}
+use Rattle.sk_base.proofs.Members.{contains_none, contains_head, contains_one, contains_mapped, mapped_from}
+use Rattle.sk_family.specs.Body.{Body, Start, starts, starting, initial_bodies, SameBodies}
+use Rattle.sk_family.proofs.GraphStarts.{start_at}
 use Rattle.sk_graph.specs.SketchGraph.{graph_of}
 use Rattle.sk_graph.proofs.Soundness.{graph_is_sound}
 use Rattle.sk_rules.specs.Excess.{weight_where, is_inside, held}
 use Rattle.sk_rules.specs.Reach.{Reach, IsNormal, stays}
+use Rattle.sk_rules.proofs.Beside.{alone_graph, in_alone, makes_itself}
+use Rattle.sk_rules.proofs.Closing.{no_merge_of_one}
 use Rattle.sk_rules.proofs.Counting.{reached_tight, inside_owned}
-use Rattle.sk_rules.proofs.KeptFamily.{holds_ends, unchanged_is_reached}
-use Rattle.sk_rules.proofs.KeptClusters.{reached_as_it_is}
+use Rattle.sk_rules.proofs.KeptFamily.{unchanged_is_reached}
 use Rattle.sk_rules.proofs.NormalForm.{normal_same}
+use Rattle.sk_rules.proofs.SomeClosed.{some_closed}
 use Rattle.sk_rules.proofs.WeighedGraphs.{sound_two_each}
-use Rattle.sk_verdict.specs.declared.Part.{Part}
-use Rattle.sk_verdict.specs.declared.Verdict.TheVariants.{Well}
-use Rattle.sk_verdict.specs.Ordering.{PartBefore}
-use Rattle.sk_verdict.specs.Parts.{IsNamedByNone, IsLone, IsPart, AreOfOnePart, elem_of, part_with}
-use Rattle.sk_verdict.specs.Judging.{IsJudgement, IsOver, verdict_on}
-use Rattle.sk_verdict.proofs.Gathering.{named_apart}
+use Rattle.sk_verdict.specs.Parts.{IsLone, AreOfOnePart, elem_of, part_with}
+use Rattle.sk_verdict.specs.Judging.{IsOver}
 use Rattle.sk_verdict.proofs.Judgements.{judgement_moves}
 use Rattle.sk_plan.specs.Judged.{IsWell}
-use Rattle.sk_plan.proofs.WellPlans.{judged_as_one}
-use Rattle.sk_spare.proofs.Closing.{no_merge_of_one}
-use Rattle.sk_spare.proofs.SomeClosed.{some_closed}
+use Rattle.sk_plan.proofs.WellPlans.{judged_as_one, is_judged, named_in}
+use Rattle.sk_plan.proofs.Wells.{by_none_named, no_items}
 use Rattle.sk_parts.specs.OwnSketch.{part_sketch}
-use Rattle.sk_parts.proofs.Alone.{owned_graph, in_owned, alone}
 use Rattle.sk_parts.proofs.Drawing.{part_is_sound}
 use Rattle.sk_parts.proofs.OwnGraph.{own_node, to_own_node, own_held, own_start}
-
-well_with : (g : Graph) (xs : List Elem) → held g xs ≤ 2 * length xs - 3 → Well ≡ verdict_on (part_with g xs ∷ [])
-well_with g xs most =
-    let under : nat_lt (2 * length xs - 3) (held g xs) ≡ false = grind (arith, nat_tests) in
-    rw under refl
-
-is_judged : (g : Graph) (f : List Body) (xs : List Elem) → held g xs ≤ 2 * length xs - 3 → AreOfOnePart g f xs → ((ys : List Elem) → AreOfOnePart g f ys → ys ≡ xs) → IsJudgement g f (judged_as_one g xs)
-is_judged g f xs most of_one only = record {
-  parts = λ p. (
-    (λ h. (let is : part_with g xs ≡ p = contains_one (part_with g xs) p h in subst (λ (q : Part). IsPart g f q) is (of_one, refl))),
-    (λ (of, is). subst (λ q. Contains (part_with g xs ∷ []) q) (ap (λ (ys : List Elem). part_with g ys) (sym (only p.elements of)) ∙ sym is) (contains_head (part_with g xs) [])),
-  );
-  in_order = pairs_cons PartBefore (part_with g xs) [] (pairs_none PartBefore) (λ q h. absurd (contains_none q h));
-  verdict = well_with g xs most;
-}
 
 -- one part that isn't over is well
 well_of_one : (g : Graph) (f : List Body) (xs : List Elem) → IsSoundGraph g → IsNormal g f → held g xs ≤ 2 * length xs - 3 → AreOfOnePart g f xs → ((ys : List Elem) → AreOfOnePart g f ys → ys ≡ xs) → IsWell g
@@ -65,33 +41,6 @@ well_of_one g f xs sound normal most of_one only = (
   },
   refl,
 )
-
--- what lies in a cluster is named by a constraint
-named_in : (g : Graph) (f : List Body) → Reach g (initial_bodies g) f → (x : Body) → Contains f x → (e : Elem) → Contains x.elements e → ¬ IsNamedByNone g e
-named_in g f reached x x_in e e_in by_none =
-    let end = holds_ends g f (reached_as_it_is g f reached) x x_in e e_in in
-    named_apart g e by_none end.0 end.1 end.2
-
--- what no start has is named by none
-pub by_none_named : (g : Graph) → IsSoundGraph g → (e : Elem) → ((s : Start) → Contains (starts g) s → ¬ Contains s.elements e) → IsNamedByNone g e
-by_none_named g sound e none = (
-  λ k d k_in. (
-      let edge = get_or g.edges k d in
-      let apart = none (edge_start edge) (edge_starts g edge (Contains-get_or g.edges k d k_in)) in (
-        λ is. apart (subst (λ z. Contains (edge_start edge).elements z) is (among_start (edge.u ∷ edge.v ∷ []) edge.u (contains_head edge.u (edge.v ∷ [])))),
-        λ is. apart (subst (λ z. Contains (edge_start edge).elements z) is (among_start (edge.u ∷ edge.v ∷ []) edge.v (contains_later edge.u (edge.v ∷ []) edge.v (contains_head edge.v [])))),
-      )),
-  λ k d k_in i q i_in is. (
-      let block = get_or g.blocks k d in
-      let pin = get_or block.pins i q in
-      none (block_start block) (block_starts g sound.blocks_rise sound.blocks_apart block (Contains-get_or g.blocks k d k_in))
-      (subst (λ z. Contains (block_start block).elements z) is
-      (among_start (elements_of block.pins) pin.elem (contains_mapped (λ (p : Pin). p.elem) block.pins pin (Contains-get_or block.pins i q i_in))))),
-)
-
-pub no_items : {X : Type 0} (xs : List X) → ((x : X) → Contains xs x → ⊥) → xs ≡ []
-no_items [] none = refl
-no_items (x ∷ xs) none = absurd (none x (contains_head x xs))
 
 at_most_due : (g : Graph) (xs : List Elem) → ¬ IsOver (part_with g xs) → held g xs ≤ 2 * length xs - 3
 at_most_due g xs not_over = under (held g xs) (2 * length xs - 3) not_over
@@ -113,34 +62,35 @@ module _ (s : Sketch) (f : List Body) (sound : IsSoundSketch s) (normal : IsNorm
     own_sound : IsSoundGraph own
     own_sound = graph_is_sound (part_sketch s x.elements) (part_is_sound s x.elements sound)
 
-    abbrev alone_graph : Graph
-    alone_graph = owned_graph x.owned whole
+    -- all that it owns passes
+    abbrev alone : Graph
+    alone = alone_graph x.owned (λ k. true) whole
 
     -- what it owns is what its own sketch has
-    owned_start : (d : Start) → Contains (starts alone_graph) d → Contains (starts own) d
+    owned_start : (d : Start) → Contains (starts alone) d → Contains (starts own) d
     owned_start d d_in =
-        let was = (in_owned whole whole_sound x.owned d).0 d_in in
+        let was = (in_alone whole whole_sound x.owned (λ k. true) d).0 d_in in
         let (start, start_in, is, within) = (reached_tight whole f whole_sound.edges_rise normal.reached).inside x x_in d.number was.1 in
         let same : start ≡ d = start_at whole whole_sound.edges_rise start d start_in was.0 is in
         (own_start s x.elements sound d).1 (was.0, subst (λ (t : Start). (e : Elem) → Contains t.elements e → Contains x.elements e) same within)
 
-    start_owned : (d : Start) → Contains (starts own) d → Contains (starts alone_graph) d
+    start_owned : (d : Start) → Contains (starts own) d → Contains (starts alone) d
     start_owned d d_in =
         let was = (own_start s x.elements sound d).0 d_in in
-        (in_owned whole whole_sound x.owned d).1 (was.0, inside_owned whole f (sound_two_each whole whole_sound) normal x x_in d was.0 was.1)
+        (in_alone whole whole_sound x.owned (λ k. true) d).1 (was.0, inside_owned whole f (sound_two_each whole whole_sound) normal x x_in d was.0 was.1, refl)
 
-    same_start : SameBodies (initial_bodies alone_graph) (initial_bodies own)
+    same_start : SameBodies (initial_bodies alone) (initial_bodies own)
     same_start y = (
-      (λ h. (let d = mapped_from starting (starts alone_graph) y h in subst (λ z. Contains (initial_bodies own) z) d.2 (contains_mapped starting (starts own) d.0 (owned_start d.0 d.1)))),
-      (λ h. (let d = mapped_from starting (starts own) y h in subst (λ z. Contains (initial_bodies alone_graph) z) d.2 (contains_mapped starting (starts alone_graph) d.0 (start_owned d.0 d.1)))),
+      (λ h. (let d = mapped_from starting (starts alone) y h in subst (λ z. Contains (initial_bodies own) z) d.2 (contains_mapped starting (starts own) d.0 (owned_start d.0 d.1)))),
+      (λ h. (let d = mapped_from starting (starts own) y h in subst (λ z. Contains (initial_bodies alone) z) d.2 (contains_mapped starting (starts alone) d.0 (start_owned d.0 d.1)))),
     )
 
     -- merging its own sketch leads to it alone
     pub alone_in_own : (n : List Body) × IsNormal own n × SameBodies n (x ∷ [])
     alone_in_own =
-        let (m, reach, closed) = some_closed alone_graph (initial_bodies alone_graph) in
-        let just_it = alone whole f x whole_sound normal x_in m (record { reached = reach; closed = closed }) in
-        let there = unchanged_is_reached alone_graph own m own_sound.edges_rise
+        let (m, reach, closed) = some_closed alone (initial_bodies alone) in
+        let just_it = makes_itself whole f x whole_sound normal x_in m (record { reached = reach; closed = closed }) in
+        let there = unchanged_is_reached alone own m own_sound.edges_rise
         (λ d d_in e e_in line. (own_node s x.elements _ line).0)
         (record { reached_as = m; reach = reach; same = λ y. ((λ h. h), (λ h. h)) }) same_start in (
           there.reached_as,

@@ -18,7 +18,6 @@ use Rattle.sk_base.specs.SoundGraph.{IsSoundGraph, HasNode, Measures}
 use Rattle.sk_base.proofs.Members.{contains_none, contains_cases, contains_head, contains_later, contains_one, contains_mapped, mapped_from}
 use Rattle.sk_base.proofs.Distinct.{no_longer}
 use Rattle.sk_base.proofs.Pairs.{pairs_none, pairs_cons, pairs_map}
-use Rattle.sk_base.proofs.Unions.{union_cases}
 use Rattle.sk_family.specs.declared.Cluster.{Cluster}
 use Rattle.sk_family.specs.Body.{Body, Start, starts, IsRisingBody, starting, initial_bodies}
 use Rattle.sk_family.specs.Clusters.{Clusters, body_of, bodies, start_of, initial_clusters, unnamed, whole_from}

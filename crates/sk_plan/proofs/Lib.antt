@@ -10,6 +10,7 @@ pub mod Planned
 pub mod PlanTrees
 pub mod Keeping
 pub mod Stepping
+pub mod Starts
 pub mod Wells
 pub mod WellRuns
 pub mod WellPlans

@@ -1,34 +1,28 @@
 -- Bodies that meet once make a sparse one where each is sparse, and have few angles where each has few.
 use Rattle.std.proofs.Common.{◌≡◌, ◌≢◌, ◌⊎◌, inl, inr, ℕ, zero, suc, ◌+◌, ◌-◌, ◌*◌, ◌≤◌, true, cond, List, [], ◌∷◌, length, refl, ap, sym, subst, arith}
-use Rattle.std.specs.Prelude.{Contains, AllPairs, count_by, sum_by, filter, map, ◌&&◌}
+use Rattle.std.specs.Prelude.{Contains, AllPairs, count_by, sum_by, filter, ◌&&◌}
 use Rattle.std.proofs.lemmas.List.Sums.{count_by-le-length, length-filter}
-use Rattle.std.proofs.lemmas.List.Elements.{All-contains}
 use Rattle.sk_base.specs.declared.Elem.{Elem}
-use Rattle.sk_base.specs.declared.Kind.TheVariants.{Point, Line}
-use Rattle.sk_base.specs.declared.Node.{Node}
-use Rattle.sk_base.specs.declared.Pin.{Pin}
 use Rattle.sk_base.specs.declared.Graph.{Graph}
-use Rattle.sk_base.specs.SoundGraph.{HasRisingEdges, IsSoundGraph, HasNode}
-use Rattle.sk_base.specs.Numbering.{is_elem, elem_number, elem_exact}
+use Rattle.sk_base.specs.SoundGraph.{HasRisingEdges}
+use Rattle.sk_base.specs.Numbering.{is_elem, elem_number}
 use Rattle.sk_base.specs.Rising.{IsRising}
-use Rattle.sk_family.specs.Body.{Body, Start, start_number, edge_start, block_start, starts, join_all, starting, initial_bodies}
+use Rattle.sk_family.specs.Body.{Body, Start, start_number, starts, join_all, starting, initial_bodies}
 use Rattle.sk_base.proofs.Distinct.{no_longer}
-use Rattle.sk_base.proofs.Members.{contains_none, contains_head, contains_later, contains_one, contains_cases, contains_mapped, mapped_from, contains_filtered, filtered_from}
+use Rattle.sk_base.proofs.Members.{contains_head, contains_later, contains_one, contains_cases, contains_mapped, mapped_from, contains_filtered, filtered_from}
 use Rattle.sk_base.proofs.Pairs.{pairs_filter}
-use Rattle.sk_base.proofs.Sizes.{union_at_most}
-use Rattle.sk_base.proofs.Unions.{which, union_cases, rising_apart}
+use Rattle.sk_base.proofs.Unions.{which}
 use Rattle.sk_family.proofs.Bodies.{each_within, owner_of}
-use Rattle.sk_family.proofs.GraphStarts.{start_comes, starts_rise, start_at, elements_rise, from_start}
+use Rattle.sk_family.proofs.GraphStarts.{starts_rise, start_at, elements_rise}
 use Rattle.sk_rules.specs.Reach.{Reach, stays, goes, IsNormal}
 use Rattle.sk_rules.specs.Excess.{is_owned, HasTwoEach}
 use Rattle.sk_rules.proofs.NormalForm.{reach_covers, one_of_two}
 use Rattle.sk_rules.proofs.WeighedGraphs.{two_of}
 use Rattle.sk_rules.proofs.SummedWeights.{both_true, owned_found, found_owned}
 use Rattle.sk_base.proofs.Numbers.{elem_found, found_elem}
-use Rattle.sk_base.specs.Pins.{elements_of}
 use Rattle.sk_tree.specs.Meeting.{MeetsOnce}
 use Rattle.sk_plan.specs.Sparse.{weight_within, weight_among, angles_among, AreDistinct, AreIn, AreLines, AreThreeMeetingOnce, EachMeetsOnce, HoldsNoneTooMany, IsSparse, HasFewAngles, IsSparseAmong, HasFewAnglesAmong}
-use Rattle.sk_plan.proofs.Counts.{count_within, count_two, count_three, count_single, count_none, sum_spread, sum_within, sum_single, one_of_three, if_owned}
+use Rattle.sk_plan.proofs.Counts.{count_within, count_two, count_three, count_single, sum_spread, sum_within, sum_single, one_of_three, if_owned}
 use Rattle.sk_plan.proofs.Weighed.{one_at_most, some_joined, joins, angles_join}
 use Rattle.sk_plan.proofs.JustEnough.{way_meets_once, none_too_many}
 

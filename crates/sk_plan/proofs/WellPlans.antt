@@ -39,12 +39,12 @@ use Rattle.sk_plan.proofs.Finished.{clusters_left, one_normal, one_not_over}
 abbrev pub judged_as_one : Graph → List Elem → Judgement
 judged_as_one g xs = record { verdict = Well; parts = part_with g xs ∷ [] }
 
-well_with : (g : Graph) (xs : List Elem) → held g xs ≤ 2 * length xs - 3 → Well ≡ verdict_on (part_with g xs ∷ [])
+pub well_with : (g : Graph) (xs : List Elem) → held g xs ≤ 2 * length xs - 3 → Well ≡ verdict_on (part_with g xs ∷ [])
 well_with g xs most =
     let under : nat_lt (2 * length xs - 3) (held g xs) ≡ false = grind (arith, nat_tests) in
     rw under refl
 
-is_judged : (g : Graph) (f : List Body) (xs : List Elem) → held g xs ≤ 2 * length xs - 3 → AreOfOnePart g f xs → ((ys : List Elem) → AreOfOnePart g f ys → ys ≡ xs) → IsJudgement g f (judged_as_one g xs)
+pub is_judged : (g : Graph) (f : List Body) (xs : List Elem) → held g xs ≤ 2 * length xs - 3 → AreOfOnePart g f xs → ((ys : List Elem) → AreOfOnePart g f ys → ys ≡ xs) → IsJudgement g f (judged_as_one g xs)
 is_judged g f xs most of_one only = record {
   parts = λ p. (
     (λ h. (let is : part_with g xs ≡ p = contains_one (part_with g xs) p h in subst (λ (q : Part). IsPart g f q) is (of_one, refl))),
@@ -55,7 +55,7 @@ is_judged g f xs most of_one only = record {
 }
 
 -- what lies in a cluster is named by a constraint
-named_in : (g : Graph) (f : List Body) → Reach g (initial_bodies g) f → (x : Body) → Contains f x → (e : Elem) → Contains x.elements e → ¬ IsNamedByNone g e
+pub named_in : (g : Graph) (f : List Body) → Reach g (initial_bodies g) f → (x : Body) → Contains f x → (e : Elem) → Contains x.elements e → ¬ IsNamedByNone g e
 named_in g f reached x x_in e e_in by_none =
     let end = holds_ends g f (reached_as_it_is g f reached) x x_in e e_in in
     named_apart g e by_none end.0 end.1 end.2

@@ -11,8 +11,6 @@ use Rattle.sk_base.specs.declared.Node.{Node}
 use Rattle.sk_base.specs.declared.Graph.{Graph}
 use Rattle.sk_base.specs.ClusterNames.{IsBelow}
 use Rattle.sk_base.specs.SoundGraph.{IsSoundGraph, HasRisingNodes}
-use Rattle.sk_base.specs.Numbering.{elem_number, elem_exact}
-use Rattle.sk_base.proofs.Unions.{union_left, union_right}
 use Rattle.sk_base.proofs.Pairs.{pairs_head}
 use Rattle.sk_base.proofs.Members.{contains_none, contains_head, contains_later, contains_one, contains_cases, contains_mapped}
 use Rattle.sk_base.specs.Pins.{elements_of}
@@ -36,17 +34,17 @@ use Rattle.sk_verdict.proofs.Normals.{more_than_one, has_two, same_elements}
 use Rattle.sk_plan.specs.Sparse.{HoldsNoneTooMany}
 
 -- a list with at most one item
-few_same : {X : Type 0} (xs : List X) (x y : X) → length xs ≤ 1 → Contains xs x → Contains xs y → x ≡ y
+pub few_same : {X : Type 0} (xs : List X) (x y : X) → length xs ≤ 1 → Contains xs x → Contains xs y → x ≡ y
 few_same [] x y few x_in y_in = absurd (contains_none x x_in)
 few_same (z ∷ []) x y few x_in y_in = sym (contains_one z x x_in) ∙ contains_one z y y_in
 few_same (z ∷ w ∷ xs) x y few x_in y_in = absurd (omega arith)
 
-well_told : (over several : Bool) → (if over then Over else (if several then Several else Well)) ≡ Well → (over ≡ false) × (several ≡ false)
+pub well_told : (over several : Bool) → (if over then Over else (if several then Several else Well)) ≡ Well → (over ≡ false) × (several ≡ false)
 well_told true several is = absurd (cc)
 well_told false true is = absurd (cc)
 well_told false false is = (refl, refl)
 
-none_any : {X : Type 0} (p : X → Bool) (xs : List X) → list_any p xs ≡ false → (x : X) → Contains xs x → p x ≡ false
+pub none_any : {X : Type 0} (p : X → Bool) (xs : List X) → list_any p xs ≡ false → (x : X) → Contains xs x → p x ≡ false
 none_any p [] none x x_in = absurd (contains_none x x_in)
 none_any p (y ∷ xs) none x x_in =
     let both = neither (p y) (list_any p xs) none in
@@ -75,7 +73,7 @@ named_by (s ∷ ss) e =
     ]
 
 -- what no start has is named by none
-by_none_named : (g : Graph) → IsSoundGraph g → (e : Elem) → ((s : Start) → Contains (starts g) s → ¬ Contains s.elements e) → IsNamedByNone g e
+pub by_none_named : (g : Graph) → IsSoundGraph g → (e : Elem) → ((s : Start) → Contains (starts g) s → ¬ Contains s.elements e) → IsNamedByNone g e
 by_none_named g sound e none = (
   λ k d k_in. (
       let edge = get_or g.edges k d in
@@ -92,7 +90,7 @@ by_none_named g sound e none = (
 )
 
 -- a list with no item
-no_items : {X : Type 0} (xs : List X) → ((x : X) → Contains xs x → ⊥) → xs ≡ []
+pub no_items : {X : Type 0} (xs : List X) → ((x : X) → Contains xs x → ⊥) → xs ≡ []
 no_items [] none = refl
 no_items (x ∷ xs) none = absurd (none x (contains_head x xs))
 

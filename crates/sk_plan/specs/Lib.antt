@@ -2,3 +2,4 @@ pub mod Sparse
 pub mod Runs
 pub mod Leaves
 pub mod Judged
+pub mod ConstraintStarts

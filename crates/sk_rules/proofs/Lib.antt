@@ -12,3 +12,7 @@ pub mod KeptFamily
 pub mod KeptClusters
 pub mod LeastPairs
 pub mod SettledRules
+pub mod JustSome
+pub mod Closing
+pub mod SomeClosed
+pub mod Beside

@@ -47,3 +47,7 @@ Adopts old x new = (y : Body) → Contains new y ↔ ((y ≡ x) ⊎ Contains old
 abbrev pub Dissolves : Graph → List Body → Body → ConId → List Body → Type 0
 Dissolves g old x k new =
     (y : Body) → Contains new y ↔ ((Contains old y × (y ≢ x)) ⊎ ((d : Start) × Contains (starts g) d × Contains x.owned d.number × (d.number ≢ k) × (y ≡ starting d)))
+
+-- the family with the bodies of some others in the place of one of its own
+abbrev pub TakesPlace : List Body → Body → List Body → List Body → Type 0
+TakesPlace old x some new = (y : Body) → Contains new y ↔ ((Contains old y × (y ≢ x)) ⊎ Contains some y)

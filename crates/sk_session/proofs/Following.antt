@@ -13,9 +13,10 @@ use Rattle.sk_graph.specs.SketchGraph.{graph_of}
 use Rattle.sk_session.specs.declared.edit.Edit.{Edit}
 use Rattle.sk_session.specs.declared.edit.Edit.TheVariants as edit
 use Rattle.sk_session.specs.Edits.{applied}
-use Rattle.sk_session.specs.Making.{CanMake, Follows, FollowsBack, IsReachedIn, constraint_start}
+use Rattle.sk_plan.specs.ConstraintStarts.{constraint_start}
+use Rattle.sk_session.specs.Making.{CanMake, Follows, FollowsBack, IsReachedIn}
 use Rattle.sk_session.proofs.Graphs.{kinds_on, kinds_back, one_more, all_but, all_but_new, one_more_dropped, starts_same_element, starts_same_length, starts_same_ratio, starts_same_erased}
-use Rattle.sk_session.proofs.Starts.{rises}
+use Rattle.sk_plan.proofs.Starts.{rises}
 
 -- without the constraint the graph has the others too
 abbrev pub dissolved_in : (g h : Graph) (n : Name) (k : ConId) (old new : Clusters) → HasAllBut k g h → IsDissolved g n k old new → IsDissolved h n k old new

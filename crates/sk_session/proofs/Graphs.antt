@@ -28,9 +28,10 @@ use Rattle.sk_graph.specs.SketchGraph.{node_of, graph_of}
 use Rattle.sk_session.specs.declared.edit.Edit.{Edit}
 use Rattle.sk_session.specs.declared.edit.Edit.TheVariants as edit
 use Rattle.sk_session.specs.Edits.{applied, changed, with_length, with_ratio}
-use Rattle.sk_session.specs.Making.{CanMake, constraint_start}
-use Rattle.sk_session.proofs.Drawing.{named_in}
-use Rattle.sk_session.proofs.Starts.{rises, starts_are, start_there, start_of_some}
+use Rattle.sk_plan.specs.ConstraintStarts.{constraint_start}
+use Rattle.sk_session.specs.Making.{CanMake}
+use Rattle.sk_graph.proofs.Drawing.{named_in}
+use Rattle.sk_plan.proofs.Starts.{rises, starts_are, start_there, start_of_some}
 
 -- constraints that name the same start the same
 changed_names : (k : ConId) (change : Rule → Rule) → ((r : Rule) → named_by (change r) ≡ named_by r) → (cs : List Constraint) → map constraint_start (map (changed k change) cs) ≡ map constraint_start cs

@@ -1,5 +1,4 @@
 pub mod Places
-pub mod Starts
 pub mod Drawing
 pub mod Graphs
 pub mod Following

@@ -15,8 +15,9 @@ use Rattle.sk_family.specs.Body.{Start}
 use Rattle.sk_rules.proofs.KeptClusters.{owner_lives, owned_is_constraint, owned_are_few}
 use Rattle.sk_graph.specs.SketchGraph.{graph_of}
 use Rattle.sk_graph.proofs.Soundness.{graph_is_sound}
-use Rattle.sk_session.specs.Making.{HasConstraint, IsReachedIn, constraint_start}
-use Rattle.sk_session.proofs.Starts.{rises, start_there, start_of_some}
+use Rattle.sk_plan.specs.ConstraintStarts.{constraint_start}
+use Rattle.sk_session.specs.Making.{HasConstraint, IsReachedIn}
+use Rattle.sk_plan.proofs.Starts.{rises, start_there, start_of_some}
 
 module _ (s : Sketch) (sound : IsSoundSketch s) (f : Clusters) (f_sound : IsSound f) (reach : IsReachedIn s f) where
   owned_in : (c : Cluster) (k : ConId) → Contains f.live c → Contains c.owned k → HasConstraint s k

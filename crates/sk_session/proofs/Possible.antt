@@ -33,7 +33,8 @@ use Rattle.sk_session.specs.declared.edit.Edit.TheVariants as edit
 use Rattle.sk_session.specs.Commands.{number_of, id_of, constraint_with, rule_with, is_used, value_rows, setting, change_rows, edit_made, from_made}
 use Rattle.sk_session.specs.Edits.{applied, sketch_of, next_element, next_constraint}
 use Rattle.sk_session.specs.Making.{CanMake, HasConstraint, HasElement, HasSoundValue}
-use Rattle.sk_session.proofs.Drawing.{rule_alike, drop_sound, length_set_sound, ratio_set_sound, erase_sound}
+use Rattle.sk_graph.proofs.Drawing.{rule_alike}
+use Rattle.sk_session.proofs.Drawing.{drop_sound, length_set_sound, ratio_set_sound, erase_sound}
 use Rattle.sk_session.proofs.Numbers.{elements_below, constraints_below}
 
 pub can_declare : (edits : List Edit) (e : Element) → e.number.0 ≡ next_element edits → IsSoundSketch (sketch_of edits) → IsSoundSketch (applied (edit.Element e) (sketch_of edits)) → CanMake (edit.Element e) (sketch_of edits)

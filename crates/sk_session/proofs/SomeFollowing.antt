@@ -36,8 +36,9 @@ use Rattle.sk_session.specs.declared.edit.Edit.TheVariants as edit
 use Rattle.sk_session.specs.declared.edit.Former.{Former}
 use Rattle.sk_session.specs.declared.edit.Former.TheVariants as former
 use Rattle.sk_session.specs.Former.{IsFormer, LeadsTo}
-use Rattle.sk_session.specs.Making.{CanMake, HasConstraint, DissolvesOwner, Follows, FollowsBack, IsReachedIn, constraint_start}
-use Rattle.sk_session.proofs.Starts.{rises}
+use Rattle.sk_plan.specs.ConstraintStarts.{constraint_start}
+use Rattle.sk_session.specs.Making.{CanMake, HasConstraint, DissolvesOwner, Follows, FollowsBack, IsReachedIn}
+use Rattle.sk_plan.proofs.Starts.{rises}
 use Rattle.sk_session.proofs.Owners.{free_number, owner_of, few_owned}
 use Rattle.sk_session.proofs.Undoing.{owner_back, none_dropped, start_back}
 

@@ -8,12 +8,13 @@ use Rattle.sk_base.specs.declared.Graph.{Graph}
 use Rattle.sk_base.specs.declared.Name.{Name}
 use Rattle.sk_base.specs.declared.Sketch.{Sketch}
 use Rattle.sk_base.specs.SoundSketch.{IsSoundSketch, IsSoundRule, IsSoundRatio, IsLength}
-use Rattle.sk_family.specs.Body.{Start, start_between, initial_bodies}
+use Rattle.sk_family.specs.Body.{initial_bodies}
 use Rattle.sk_family.specs.Clusters.{Clusters, bodies}
 use Rattle.sk_family.specs.Starts.{HasStart, IsDissolved}
 use Rattle.sk_rules.specs.Reach.{Reach}
 use Rattle.sk_graph.specs.Naming.{named_by}
 use Rattle.sk_graph.specs.SketchGraph.{graph_of}
+use Rattle.sk_plan.specs.ConstraintStarts.{constraint_start}
 use Rattle.sk_session.specs.declared.edit.Edit.{Edit}
 use Rattle.sk_session.specs.declared.edit.Edit.TheVariants as edit
 use Rattle.sk_session.specs.Edits.{applied}
@@ -57,10 +58,6 @@ DissolvesOwner g k old new = (n : Name) × ((d : IsDissolved g n k old new) × C
 -- merging leads from the start of the sketch's graph to the family
 abbrev pub IsReachedIn : Sketch → Clusters → Type 0
 IsReachedIn s f = Reach (graph_of s) (initial_bodies (graph_of s)) (bodies f)
-
--- what a constraint starts with: its number, and the elements that it names
-abbrev pub constraint_start : Constraint → Start
-constraint_start c = start_between c.number (named_by c.rule)
 
 -- what an edit that is made in the sketch does to the kept family
 abbrev pub Follows : Edit → Sketch → Clusters → Clusters → Type 0

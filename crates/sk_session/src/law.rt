@@ -19,7 +19,8 @@ ghost use Rattle.sk_graph.specs.SketchGraph.{graph_of};
 ghost use Rattle.sk_session.specs.declared.edit.Edit.{Edit as AnEdit};
 ghost use Rattle.sk_session.specs.declared.edit.Edit.TheVariants as an_edit;
 ghost use Rattle.sk_session.specs.Edits.{applied};
-ghost use Rattle.sk_session.specs.Making.{CanMake, IsUnused, Follows, FollowsBack, constraint_start};
+ghost use Rattle.sk_plan.specs.ConstraintStarts.{constraint_start};
+ghost use Rattle.sk_session.specs.Making.{CanMake, IsUnused, Follows, FollowsBack};
 
 use sk_lang::{one_entry, what_a_line_says};
 use sk_plan::one_plan;

@@ -4,7 +4,7 @@ ghost use Rattle.sk_base.specs.SoundSketch.{IsSoundSketch, IsSoundRule};
 ghost use Rattle.sk_family.specs.Clusters.{IsSound};
 ghost use Rattle.sk_family.specs.Starts.{HasStart, IsFree};
 ghost use Rattle.sk_graph.specs.SketchGraph.{block_of};
-ghost use Rattle.sk_session.specs.Making.{constraint_start};
+ghost use Rattle.sk_plan.specs.ConstraintStarts.{constraint_start};
 ghost use Rattle.sk_session.specs.Origins.{origin_start};
 
 use sk_base::{Block, Constraint, Edge, NoMemory, Sketch};

@@ -1,10 +1,8 @@
 pub mod Graphs
 pub mod Lighter
-pub mod Closing
 pub mod LeavingOut
 pub mod Holding
 pub mod PutBack
 pub mod Deciding
-pub mod SomeClosed
 pub mod Budget
 pub mod Segments

@@ -14,7 +14,7 @@ use Rattle.sk_rules.specs.Excess.{weight, weight_where, weight_of, is_owned}
 use Rattle.sk_rules.proofs.WeighedGraphs.{sound_two_each}
 use Rattle.sk_rules.proofs.SummedWeights.{weighs_one, weighs_more, weights_add, weighs_at_least, both_true, owned_found, found_owned}
 use Rattle.sk_spare.specs.Sparing.{differs_from, without}
-use Rattle.sk_spare.proofs.Graphs.{starts_of_part}
+use Rattle.sk_rules.proofs.JustSome.{starts_of_part}
 
 -- where only constraints go that do not pass, those that pass weigh the same
 weighs_the_same : (p keep : Start → Bool) (ss : List Start) → ((s : Start) → Contains ss s → p s ≡ true → keep s ≡ true) → weight_where p (filter keep ss) ≡ weight_where p ss

@@ -31,11 +31,12 @@ use Rattle.sk_rules.proofs.Keeping.{can_carry, contains_settles}
 use Rattle.sk_rules.proofs.KeptClusters.{adopted, owned_is_constraint}
 use Rattle.sk_rules.proofs.SummedWeights.{same_tests, both_true}
 use Rattle.sk_worklist.proofs.Runs.{reach_on}
-use Rattle.sk_spare.specs.Sparing.{with_just, differs_from}
+use Rattle.sk_rules.specs.JustSome.{with_just}
+use Rattle.sk_spare.specs.Sparing.{differs_from}
 use Rattle.sk_spare.specs.Trying.{is_other, trial_graph}
 use Rattle.sk_spare.specs.Halving.{IsMadeOf, too, AreFurther, IsBeside}
-use Rattle.sk_spare.proofs.Graphs.{in_part, sound_part}
-use Rattle.sk_spare.proofs.Closing.{no_merge_of_one}
+use Rattle.sk_rules.proofs.JustSome.{in_part, sound_part}
+use Rattle.sk_rules.proofs.Closing.{no_merge_of_one}
 
 -- the rules look at the elements alone, so merges of one graph are those of another with these elements
 module _ (old new : Graph) (lines : (e : Elem) → IsLine new e → IsLine old e) where

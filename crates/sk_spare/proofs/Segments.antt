@@ -29,15 +29,17 @@ use Rattle.sk_rules.proofs.NormalForm.{reached_family, reach_covers}
 use Rattle.sk_rules.proofs.SummedWeights.{weighs_at_least, owned_found, found_owned}
 use Rattle.sk_rules.proofs.WeighedGraphs.{weighs_each}
 use Rattle.sk_worklist.proofs.Runs.{reach_on}
-use Rattle.sk_spare.specs.Sparing.{with_just, HoldsAll, IsSpare}
+use Rattle.sk_rules.specs.JustSome.{with_just}
+use Rattle.sk_spare.specs.Sparing.{HoldsAll, IsSpare}
 use Rattle.sk_spare.specs.Trying.{trial_graph, some_holds}
 use Rattle.sk_spare.specs.Halving.{IsBeside, IsIn, cluster_weight}
-use Rattle.sk_spare.proofs.Graphs.{in_part, in_trial, sound_part, sound_trial}
+use Rattle.sk_rules.proofs.JustSome.{in_part, sound_part}
+use Rattle.sk_spare.proofs.Graphs.{in_trial, sound_trial}
 use Rattle.sk_spare.proofs.LeavingOut.{distinct, trial_decides}
 use Rattle.sk_spare.proofs.Lighter.{weighs_something}
 use Rattle.sk_spare.proofs.Deciding.{owned_constraints, owner_in, one_decides, not_told, found_nothing}
 use Rattle.sk_spare.proofs.Holding.{test_tells}
-use Rattle.sk_spare.proofs.SomeClosed.{some_closed}
+use Rattle.sk_rules.proofs.SomeClosed.{some_closed}
 use Rattle.sk_spare.proofs.Budget.{left_over, HasEnough, HaveEnough, made_along}
 
 -- what a body weighs as a constraint between all its elements

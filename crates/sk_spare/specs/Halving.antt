@@ -8,7 +8,7 @@ use Rattle.sk_base.specs.Rising.{IsRising}
 use Rattle.sk_family.specs.declared.Cluster.{Cluster}
 use Rattle.sk_family.specs.Body.{Body, Start, starts, initial_bodies}
 use Rattle.sk_rules.specs.Reach.{Reach, IsClosed, IsNormal}
-use Rattle.sk_spare.specs.Sparing.{with_just}
+use Rattle.sk_rules.specs.JustSome.{with_just}
 
 -- merging leads to the family from the starts of the constraints that pass
 abbrev pub IsMadeOf : Graph → (ConId → Bool) → List Body → Type 0

@@ -1,22 +1,13 @@
 -- Which constraints of a graph may go.
-use Rattle.std.specs.Prelude.{◌≢◌, ◌↔◌, ◌⊎◌, ◌==◌, not, Bool, List, filter, Contains}
+use Rattle.std.specs.Prelude.{◌↔◌, ◌==◌, not, Bool, List, Contains}
 use Rattle.sk_base.specs.declared.Elem.{Elem}
 use Rattle.sk_base.specs.declared.ConId.{ConId}
-use Rattle.sk_base.specs.declared.Edge.{Edge}
-use Rattle.sk_base.specs.declared.Block.{Block}
 use Rattle.sk_base.specs.declared.Graph.{Graph}
 use Rattle.sk_base.specs.Numbering.{con_number}
 use Rattle.sk_base.specs.Rising.{IsRising}
 use Rattle.sk_family.specs.Body.{Body}
+use Rattle.sk_rules.specs.JustSome.{with_just}
 use Rattle.sk_rules.specs.Reach.{IsNormal}
-
--- the graph with just the constraints whose numbers pass, blocks among them
-abbrev pub with_just : (ConId → Bool) → Graph → Graph
-with_just passes g = record {
-  nodes = g.nodes;
-  edges = filter (λ (e : Edge). passes e.id) g.edges;
-  blocks = filter (λ (b : Block). passes b.id) g.blocks;
-}
 
 -- whether it is not the constraint of that number
 abbrev pub differs_from : ConId → ConId → Bool
@@ -29,10 +20,6 @@ without k g = with_just (differs_from k) g
 -- one of the family's bodies holds all of these elements
 abbrev pub HoldsAll : List Body → List Elem → Type 0
 HoldsAll f xs = (y : Body) × Contains f y × ((e : Elem) → Contains xs e → Contains y.elements e)
-
--- m is f with the bodies of n in the place of x
-abbrev pub TakesPlace : List Body → Body → List Body → List Body → Type 0
-TakesPlace f x n m = (y : Body) → Contains m y ↔ ((Contains f y × (y ≢ x)) ⊎ Contains n y)
 
 -- the body that owns the constraint in a normal family of the graph
 pub record IsOwner (g : Graph) (f : List Body) (k : ConId) (x : Body) : Type 0 where

@@ -6,7 +6,8 @@ use Rattle.sk_base.specs.declared.ConId.{ConId}
 use Rattle.sk_base.specs.declared.Graph.{Graph}
 use Rattle.sk_family.specs.declared.Cluster.{Cluster}
 use Rattle.sk_base.specs.Numbering.{is_elem}
-use Rattle.sk_spare.specs.Sparing.{differs_from, with_just}
+use Rattle.sk_rules.specs.JustSome.{with_just}
+use Rattle.sk_spare.specs.Sparing.{differs_from}
 
 -- whether the constraint is one of these, and not the one of that number
 abbrev pub is_other : List ConId → ConId → ConId → Bool

@@ -7,7 +7,8 @@ ghost use Rattle.sk_family.specs.Body.{Body};
 ghost use Rattle.sk_rules.specs.Reach.{IsNormal};
 ghost use Rattle.sk_verdict.specs.Judging.{IsOver};
 ghost use Rattle.sk_verdict.specs.Parts.{part_with};
-ghost use Rattle.sk_spare.specs.Sparing.{AreSpares, HoldsAll, IsOwner, IsSpare, TakesPlace, without};
+ghost use Rattle.sk_spare.specs.Sparing.{AreSpares, HoldsAll, IsOwner, IsSpare, without};
+ghost use Rattle.sk_rules.specs.Keeping.{TakesPlace};
 ghost use Rattle.sk_spare.specs.Trying.{trial_graph};
 
 /// Where a constraint is left out, the clusters that don't own it stay as they are, and what the

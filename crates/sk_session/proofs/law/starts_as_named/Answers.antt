@@ -1,4 +1,4 @@
-use Rattle.sk_session.proofs.Starts.{starts_are}
+use Rattle.sk_plan.proofs.Starts.{starts_are}
 use Rattle.sk_session.proofs.law.starts_as_named.Goals as goal
 
 pub returns : goal.returns

@@ -1,5 +1,5 @@
 use Rattle.std.proofs.Common.{sym}
-use Rattle.sk_session.proofs.Starts.{edge_starts_so}
+use Rattle.sk_plan.proofs.Starts.{edge_starts_so}
 use Rattle.sk_session.proofs.origin.origin_of.Goals as goal
 
 pub returns-in-Some : goal.returns-in-Some

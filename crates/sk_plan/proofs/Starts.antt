@@ -15,17 +15,14 @@ use Rattle.sk_base.specs.SoundSketch.{IsSoundSketch}
 use Rattle.sk_base.proofs.Members.{contains_head, contains_later, contains_cases, contains_one, contains_mapped, mapped_from}
 use Rattle.sk_base.proofs.Pairs.{pairs_map, pairs_same}
 use Rattle.sk_base.proofs.Unions.{rising_none, rising_union, rising_same}
-use Rattle.sk_family.specs.Body.{Start, start_number, start_between, edge_start, block_start, starts}
+use Rattle.sk_family.specs.Body.{Start, start_number, edge_start, block_start, starts}
 use Rattle.sk_family.proofs.GraphStarts.{among_start, from_start, start_comes, edge_starts, block_starts, starts_rise}
 use Rattle.sk_graph.specs.Naming.{named_by, IsBetween}
 use Rattle.sk_graph.specs.SketchGraph.{edge_of, block_of, graph_of}
 use Rattle.sk_graph.proofs.Given.{given_from, contains_given}
 use Rattle.sk_graph.proofs.Naming.{edge_between, block_at}
 use Rattle.sk_graph.proofs.Soundness.{graph_is_sound, given_edge_id, given_block_id, edge_unless_block}
-
--- what a constraint starts with: its number, and the elements that it names
-abbrev pub constraint_start : Constraint → Start
-constraint_start c = start_between c.number (named_by c.rule)
+use Rattle.sk_plan.specs.ConstraintStarts.{constraint_start}
 
 pub rises : (s : Sketch) → IsSoundSketch s → HasRisingEdges (graph_of s)
 rises s sound = (graph_is_sound s sound).edges_rise
