@@ -1,9 +1,9 @@
 // Parts, each with its shape.
 
 /// The two halves of a hinge; a triangle beside a lone point, in two orders and on two grids; a part that is over
-/// beside a sound one; a triangle that doesn't meet beside a rod; a sketch that is well, where the lines behind its
-/// part are those of `solve`; a block beside a line; a triangle at points of a coarse grid; and texts that aren't
-/// sketches.
+/// beside a sound one; a triangle that doesn't meet beside a rod; a rod above its limit beside another; a sketch that
+/// is well, where the lines behind its part are those of `solve`; a block beside a line; a triangle at points of a
+/// coarse grid; and texts that aren't sketches.
 pub const PARTS: &str = "
 $ parts
 sketch 1
@@ -144,6 +144,27 @@ bits 38
 point D 0 0
 point E 2000000 0
 length tolerance 0 nm at c1
+angle tolerance 0 ppb at none
+$ parts bits=16 within=1
+sketch 1
+point A 0 0
+point B 1 0
+point C 5 5
+point D 5 8
+distance A B 0.003
+distance C D 3
+end
+> 0
+verdict open
+parts 2
+part 1 sound elements 2 held 1 due 1 : A B
+fault c1 tolerance 2 nm limit 1
+part 2 sound elements 2 held 1 due 1 : C D
+steps 0
+bits 16
+point C 0 0
+point D 3000000 0
+length tolerance 0 nm at c2
 angle tolerance 0 ppb at none
 $ parts
 sketch 1
