@@ -2,7 +2,7 @@
 use crate::row::put_answer;
 use sk_base::Text;
 use sk_lang::write_sketch;
-use sk_session::Session;
+use sk_session::{Closing, Session};
 use sk_worklist::Order;
 use std::alloc::Global;
 use std::process::Abort;
@@ -98,7 +98,7 @@ fn script(alloc: Global, steps: &str, number: u32) -> Result<String, Fail> {
 
 /// The sketch that the script ends in, written.
 fn sketch_text(alloc: Global, script: &str) -> Result<Text, Fail> {
-    let mut session = Session::new(alloc, Order::First)?;
+    let mut session = Session::new(alloc, Order::First, Closing::InAnyOrder)?;
     for line in script.lines() {
         let _reply = session.command(line.as_bytes())?;
     }

@@ -1,8 +1,9 @@
 // Sessions, and the family that is kept across their lines.
 use sk_base::{Elem, Name};
 use sk_lang::Code;
-use sk_session::{Reply, Session};
+use sk_session::{Closing, Reply, Session};
 use sk_worklist::Order;
+use std::alloc::Global;
 use std::test::Fail;
 
 pub const SESSIONS: &str = "
@@ -369,18 +370,38 @@ fn holds(session: &Session, name: Name, elements: &[Elem]) -> bool {
     }
 }
 
-/// A check goes on from the kept clusters, and an undone drop starts its constraint again.
-#[test]
-fn a_check_goes_on_from_the_kept_clusters(rt: HostRuntime) -> Result<(), Fail> {
-    let mut session = Session::new(rt.alloc(), Order::First)?;
+/// Whether some kept cluster holds these elements.
+fn some_holds(session: &Session, elements: &[Elem]) -> bool {
+    let clusters = session.family().clusters();
+    clusters
+        .iter()
+        .any(|cluster| cluster.elements.as_slice() == elements)
+}
+
+/// The session behind these lines.
+fn hinged(alloc: Global, closing: Closing) -> Result<Session, Fail> {
+    let mut session = Session::new(alloc, Order::First, closing)?;
     for line in HINGED.split("\n") {
         let _reply = session.command(line.as_bytes())?;
     }
+    Ok(session)
+}
+
+/// A check goes on from the kept clusters, and an undone drop starts its constraint again.
+#[test]
+fn a_check_goes_on_from_the_kept_clusters(rt: HostRuntime) -> Result<(), Fail> {
+    let session = hinged(rt.alloc(), Closing::ByRun)?;
     assert_eq!(rt; session.family().next_step(), 3);
     let apart = [Elem(1), Elem(4), Elem(5)];
     let mended = [Elem(1), Elem(2), Elem(3)];
     assert!(rt; holds(&session, Name::Step(1), apart.as_slice()));
     assert!(rt; holds(&session, Name::Step(2), mended.as_slice()));
+
+    // In any order the clusters are the same; which names they have isn't promised.
+    let other = hinged(rt.alloc(), Closing::InAnyOrder)?;
+    assert_eq!(rt; other.family().count(), 2);
+    assert!(rt; some_holds(&other, apart.as_slice()));
+    assert!(rt; some_holds(&other, mended.as_slice()));
     Ok(())
 }
 
@@ -395,7 +416,7 @@ fn gets(session: &mut Session, line: &[u8], code: Option<Code>) -> Result<bool, 
 /// A million edits and undos are taken. Then nothing stands to be undone, and no edit is taken any more.
 #[test]
 fn edits_are_spent_at_a_million(rt: HostRuntime) -> Result<(), Fail> {
-    let mut session = Session::new(rt.alloc(), Order::First)?;
+    let mut session = Session::new(rt.alloc(), Order::First, Closing::InAnyOrder)?;
     for _ in 0..500_000u32 {
         assert!(rt; gets(&mut session, b"point A 0 0", None)?);
         assert!(rt; gets(&mut session, b"undo", None)?);

@@ -8,6 +8,7 @@ use Rattle.sk_lang.specs.Lines.{lines_in}
 use Rattle.sk_lang.specs.declared.Code.TheVariants.{E20}
 use Rattle.sk_place.specs.declared.PlaceBy.{PlaceBy}
 use Rattle.sk_report.specs.RefusalLine.{refusal_line}
+use Rattle.sk_session.specs.declared.Closing.TheVariants.{InAnyOrder}
 use Rattle.sk_session.specs.declared.Reply.{Reply}
 use Rattle.sk_session.specs.declared.Reply.TheVariants as reply
 use Rattle.sk_session.specs.Edits.{empty}
@@ -45,9 +46,9 @@ AreReplied request old (line ∷ lines) new text =
     (r : Reply) × (next : State) × (first : List ℕ) × (rest : List ℕ)
     × IsReplied request old line next r first × (r ≢ reply.End) × AreReplied request next lines new rest × (text ≡ first ++ rest)
 
--- a session before its first line
+-- a session before its first line, whose checks close in any order
 abbrev pub at_start : Order → State
-at_start order = record { order = order; edits = []; count = 0; family = initial_clusters (graph_of empty) }
+at_start order = record { order = order; closing = InAnyOrder; edits = []; count = 0; family = initial_clusters (graph_of empty) }
 
 -- some lines at the front of the input are answered, and this is the text of their replies
 pub record RepliesToFront (request : Request) (bytes text : List ℕ) : Type 0 where

@@ -13,7 +13,7 @@ use crate::request::Request;
 use crate::status::Status;
 use sk_io::{Sink, write_all};
 use sk_lang::split_line;
-use sk_session::{Reply, Session, some_to_solve};
+use sk_session::{Closing, Reply, Session, some_to_solve};
 use std::alloc::Global;
 
 /// Answers the lines of an input that isn't too long, up to the end of the session, and writes the
@@ -31,7 +31,7 @@ pub(crate) fn session<K: Sink>(
     ensures sure { ((text : List ℕ) → RepliesToFront request bytes.now text → length text ≤ K.sure_room sink.old)
         → (K.faults sink.new ≡ K.faults sink.old) × (result ≡ Status.WriteFault → ⊥) }
 {
-    let Ok(mut session) = Session::new(alloc, request.order) else {
+    let Ok(mut session) = Session::new(alloc, request.order, Closing::InAnyOrder) else {
         return Status::NoMemory;
     };
     let mut rest = bytes;

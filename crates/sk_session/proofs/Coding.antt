@@ -1,6 +1,5 @@
 -- First codes of tables one behind the other, and answers by them.
-use Rattle.std.proofs.Common.{◌≡◌, ℕ, Bool, true, false, cond, List, [], ◌∷◌, ◌++◌, Option, Some, None, Result, Ok, Err, refl, ap, sym, subst, ◌∙◌}
-use Rattle.std.specs.Prelude.{IfOk}
+use Rattle.std.proofs.Common.{◌≡◌, ℕ, Bool, true, false, List, [], ◌∷◌, ◌++◌, Option, Some, None, refl, ap, sym, subst, ◌∙◌}
 use Rattle.sk_lang.specs.declared.Version.TheVariants.{Two}
 use Rattle.sk_lang.specs.Comments.{words_under}
 use Rattle.sk_lang.specs.declared.Code.{Code}

@@ -5,6 +5,7 @@ pub mod Following
 pub mod Owners
 pub mod Setting
 pub mod Undoing
+pub mod Closings
 pub mod Consistency
 pub mod Numbers
 pub mod Coding

@@ -1,4 +1,5 @@
--- A line has one reply, and after it one list of standing edits: the kept family has no part in that.
+-- A line has one reply, and after it one list of standing edits: the kept family, and how it is closed, have no part in
+-- that.
 use Rattle.std.proofs.Common.{◌≡◌, ◌≢◌, ◌⊎◌, inl, inr, ℕ, Bool, true, false, List, [], ◌∷◌, ◌++◌, Option, Some, None, is_some, map, refl, ap, sym, subst, ◌∙◌}
 use Rattle.std.specs.Prelude.{All}
 use Rattle.std.proofs.lemmas.List.{same_from_push}
@@ -32,6 +33,7 @@ use Rattle.sk_tree.specs.declared.Plan.{Plan}
 use Rattle.sk_tree.specs.LegalPlan.{IsLegalPlan, merge_told}
 use Rattle.sk_choice.specs.DrawnChoice.{HasDrawnChoice}
 use Rattle.sk_plan.specs.Judged.{IsTheJudgement}
+use Rattle.sk_session.specs.declared.closing.Closing.{Closing}
 use Rattle.sk_session.specs.declared.command.Command.{Command}
 use Rattle.sk_session.specs.declared.command.Command.TheVariants as command
 use Rattle.sk_session.specs.declared.edit.Edit.{Edit}
@@ -81,10 +83,10 @@ same_plans laws state sound one other first second =
       ]
     ]
 
-module _ (laws : Laws) (old : State) (kept : Clusters) (sound : IsSoundSketch (sketch_in old)) where
-  -- the state with another kept family
+module _ (laws : Laws) (old : State) (closing : Closing) (kept : Clusters) (sound : IsSoundSketch (sketch_in old)) where
+  -- the state with another kept family, closed so
   abbrev like : State
-  like = record { order = old.order; edits = old.edits; count = old.count; family = kept }
+  like = record { order = old.order; closing = closing; edits = old.edits; count = old.count; family = kept }
 
   abbrev AreSame : Reply → Reply → State → State → Type 0
   AreSame one other new last = (one ≡ other) × IsSameElse new last
@@ -189,7 +191,7 @@ module _ (laws : Laws) (old : State) (kept : Clusters) (sound : IsSoundSketch (s
 pub one_reply : Laws → (old other new last : State) (line : List ℕ) (one said : Reply) → IsSoundSketch (sketch_in old) → IsSameElse old other → Answers old line one new → Answers other line said last
     → (one ≡ said) × IsSameElse new last
 one_reply laws old other new last line one said sound same first second =
-    let make : Order → List Edit → ℕ → State = λ order edits count. record { order = order; edits = edits; count = count; family = other.family } in
+    let make : Order → List Edit → ℕ → State = λ order edits count. record { order = order; closing = other.closing; edits = edits; count = count; family = other.family } in
     let is : other ≡ make old.order old.edits old.count =
     ap (λ order. make order other.edits other.count) same.order ∙ ap (λ edits. make old.order edits other.count) same.edits ∙ ap (λ count. make old.order old.edits count) same.count in
-    answers_same laws old other.family sound line one said new last first (subst (λ z. Answers z line said last) is second)
+    answers_same laws old other.closing other.family sound line one said new last first (subst (λ z. Answers z line said last) is second)

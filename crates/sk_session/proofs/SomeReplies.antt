@@ -14,6 +14,7 @@ use Rattle.sk_base.specs.SoundGraph.{IsSoundGraph}
 use Rattle.sk_base.specs.SoundSketch.{IsSoundSketch}
 use Rattle.sk_base.proofs.Splits.{last_or_none}
 use Rattle.sk_base.proofs.Tables.{passed}
+use Rattle.sk_family.specs.Body.{initial_bodies}
 use Rattle.sk_family.specs.Clusters.{Clusters, bodies, IsSound}
 use Rattle.sk_family.proofs.Soundness.{sound_replaced}
 use Rattle.sk_graph.specs.SketchGraph.{graph_of}
@@ -30,18 +31,21 @@ use Rattle.sk_lang.specs.FirstCode.{first_code}
 use Rattle.sk_lang.specs.Meaning.{added}
 use Rattle.sk_rules.specs.declared.Merge.{Merge}
 use Rattle.sk_rules.specs.Merges.{names_of, merged}
-use Rattle.sk_rules.specs.Reach.{Reach, stays, goes}
+use Rattle.sk_rules.specs.Reach.{Reach, IsNormal, stays, goes}
 use Rattle.sk_rules.proofs.Merging.{can_be_replaced, merge_steps}
+use Rattle.sk_rules.proofs.NormalForm.{normal_same}
 use Rattle.sk_worklist.specs.declared.Order.{Order}
 use Rattle.sk_worklist.specs.Orders.{Choosing, place_of, next_call}
 use Rattle.sk_worklist.specs.Run.{PicksLead, IsRun}
 use Rattle.sk_worklist.proofs.Holding.{in_list}
-use Rattle.sk_worklist.proofs.Runs.{choice_can, picks_sound, picks_room}
+use Rattle.sk_worklist.proofs.Runs.{choice_can, none_closes, picks_sound, picks_room, reach_on}
 use Rattle.sk_tree.specs.declared.Plan.{Plan}
 use Rattle.sk_verdict.specs.declared.Judgement.{Judgement}
 use Rattle.sk_verdict.specs.declared.Verdict.{Verdict}
 use Rattle.sk_verdict.specs.declared.Verdict.TheVariants.{Well, Over, Several}
 use Rattle.sk_plan.specs.Judged.{IsTheJudgement}
+use Rattle.sk_session.specs.declared.closing.Closing.{Closing}
+use Rattle.sk_session.specs.declared.closing.Closing.TheVariants.{ByRun, InAnyOrder}
 use Rattle.sk_session.specs.declared.command.Command.{Command}
 use Rattle.sk_session.specs.declared.command.Command.TheVariants as command
 use Rattle.sk_session.specs.declared.command.Change.{Change as Changing}
@@ -59,7 +63,7 @@ use Rattle.sk_session.specs.Commands.{id_of, rule_with, setting, command_of, edi
 use Rattle.sk_session.specs.Edits.{empty, applied, sketch_of, next_element, next_constraint}
 use Rattle.sk_session.specs.Making.{CanMake}
 use Rattle.sk_session.specs.Standing.{edits_of, Gives, IsConsistent, element_after, element_before}
-use Rattle.sk_session.specs.State.{State, sketch_in, graph_in, fresh, Accepts, TakesBack, Closes}
+use Rattle.sk_session.specs.State.{State, sketch_in, graph_in, fresh, Accepts, TakesBack, EndsBy, Closes}
 use Rattle.sk_session.specs.Replies.{IsThePlan, Stands, Takes, Obeys, Enters, ByCode, Answers, next_elem, next_con}
 use Rattle.sk_lang.proofs.FirstCodes.{code_front, code_behind}
 use Rattle.sk_session.proofs.Coding.{answers_entry, answers_command, answers_refused}
@@ -104,7 +108,7 @@ accepted old (done, same, k) room e can given =
     let next = followed e (sketch_in old) can old.family k.family_sound k.reached (omega arith) in
     let was = some_former e (sketch_in old) can in
     let d : Done = record { edit = e; former = was.0 } in
-    let new : State = record { order = old.order; edits = old.edits ++ e ∷ []; count = old.count + 1; family = next.new } in
+    let new : State = record { order = old.order; closing = old.closing; edits = old.edits ++ e ∷ []; count = old.count + 1; family = next.new } in
     let pushed : sketch_in new ≡ applied e (sketch_in old) = fold-append (λ s x. applied x s) empty old.edits (e ∷ []) in
     let edits : edits_of (done ++ d ∷ []) ≡ new.edits = edits_push done d ∙ ap (λ es. es ++ e ∷ []) same in
     let made = consistent_made done (sketch_in old) (sketch_in new) (next_element old.edits) (next_constraint old.edits) old.count old.family next.new k room next.sound next.few d
@@ -113,7 +117,7 @@ accepted old (done, same, k) room e can given =
     let con = made.con_is ∙ ap next_constraint edits in
     record {
       new = new;
-      accepts = record { order = refl; edits = refl; count = refl; family = next.follows };
+      accepts = record { order = refl; closing = refl; edits = refl; count = refl; family = next.follows };
       kept = (
         done ++ d ∷ [],
         edits,
@@ -137,11 +141,11 @@ taken_back old (done, same, k) room some =
           let nc = next_constraint old.edits in
           let led = last_led done (sketch_in old) (sketch_of (edits_of rest)) ne nc old.count old.family old.family k room k.family_sound (omega arith) rest d done_is in
           let next = followed_back (sketch_of (edits_of rest)) (sketch_in old) k.sound old.family k.family_sound k.reached (omega arith) d.edit d.former led in
-          let new : State = record { order = old.order; edits = edits_of rest; count = old.count + 1; family = next.new } in
+          let new : State = record { order = old.order; closing = old.closing; edits = edits_of rest; count = old.count + 1; family = next.new } in
           let undone = consistent_undone done (sketch_in old) (sketch_in new) ne nc old.count old.family next.new k room next.sound next.few rest d done_is refl next.follows in
           record {
             new = new;
-            takes = record { last = d.edit; order = refl; edits = sym same ∙ ap edits_of done_is ∙ edits_push rest d; count = refl; family = next.follows };
+            takes = record { last = d.edit; order = refl; closing = refl; edits = sym same ∙ ap edits_of done_is ∙ edits_push rest d; count = refl; family = next.follows };
             kept = (
               rest,
               refl,
@@ -161,6 +165,18 @@ module _ {P : Type 0} (answer : P → ℕ → ℕ) (after : P → ℕ → P) (g 
       goes (merge_steps g f sound m can.0 can.1)
       (picks_reach (merged f m) end (after p (length choices)) last ms (sound_replaced f (names_of m) sound (can_be_replaced g f m can.0 can.1)) rest)
 
+-- the end of the run is that of either way of closing
+ends_both : (order : Order) (g : Graph) → IsSoundGraph g → (f end : Clusters) → IsSound f → Reach g (initial_bodies g) (bodies f)
+    → (ms : List Merge) (last : Choosing) → IsRun place_of next_call g f (fresh order) ms end last → (closing : Closing) → EndsBy closing order g f end
+ends_both order g g_sound f end sound reached ms last run ByRun = (ms, (last, run))
+ends_both order g g_sound f end sound reached ms last run InAnyOrder =
+    let way = picks_reach place_of next_call g f end (fresh order) last ms sound run.leads in
+    let normal : IsNormal g (bodies end) = record {
+      reached = reach_on g (initial_bodies g) (bodies f) (bodies end) reached way;
+      closed = none_closes g end (picks_sound place_of next_call g f end (fresh order) last ms sound run.leads) run.ends;
+    } in
+    record { reached = way; normal = normal; only = λ other is. normal_same g other (bodies end) g_sound.edges_rise is normal }
+
 record HasClosed (old : State) : Type 0 where
   new : State
   closes : Closes old new
@@ -170,8 +186,12 @@ closed : GivenBelow → (old : State) → IsKept old → HasClosed old
 closed below old (done, same, k) =
     let (ms, end, last, run) = below.run old.order (graph_in old) old.family k.family_sound in
     record {
-      new = record { order = old.order; edits = old.edits; count = old.count; family = end };
-      closes = record { else_same = record { order = refl; edits = refl; count = refl }; run = (ms, (last, run)) };
+      new = record { order = old.order; closing = old.closing; edits = old.edits; count = old.count; family = end };
+      closes = record {
+        else_same = record { order = refl; edits = refl; count = refl };
+        closing = refl;
+        ends = ends_both old.order (graph_in old) (graph_is_sound (sketch_in old) k.sound) old.family end k.family_sound k.reached ms last run old.closing;
+      };
       kept = (
         done,
         same,

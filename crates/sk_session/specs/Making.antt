@@ -1,5 +1,5 @@
 -- Which edits can be made in a sketch, and how the kept family follows them.
-use Rattle.std.specs.Prelude.{◌≡◌, ◌<◌, ⊤, [], Contains}
+use Rattle.std.specs.Prelude.{◌≡◌, ◌<◌, ⊤, Contains}
 use Rattle.sk_base.specs.declared.Elem.{Elem}
 use Rattle.sk_base.specs.declared.ConId.{ConId}
 use Rattle.sk_base.specs.declared.Element.{Element}

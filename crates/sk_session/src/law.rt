@@ -55,7 +55,7 @@ pub fn refused_exactly()
 {}
 
 /// A line has at most one reply, and after it the order, the standing edits and the number of edits and undos
-/// are told by those before it. The kept family has no part in that.
+/// are told by those before it. The kept family, and how it is closed, have no part in that.
 pub fn one_reply()
     ensures { (old other new last : State) (line : List ℕ) (one said : AReply) → IsSoundSketch (sketch_in old) → IsSameElse old other → Answers old line one new → Answers other line said last
         → (one ≡ said) × IsSameElse new last }

@@ -2,6 +2,7 @@
 #![tactic(auto)]
 
 mod change;
+mod closing;
 mod command;
 mod edit;
 mod law;
@@ -12,6 +13,7 @@ mod reading;
 mod reply;
 mod session;
 
+pub use closing::Closing;
 pub use edit::Edit;
 pub use law::{
     kept_along, one_reply, refused_exactly, some_to_solve, starts_as_named, stays_sound,

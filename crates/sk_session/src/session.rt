@@ -14,6 +14,7 @@ ghost use Rattle.sk_session.specs.State.{sketch_in, Accepts, TakesBack, IsHeldUp
 ghost use Rattle.sk_session.specs.Replies.{Checks, Plans};
 
 use crate::change::{change, change_back};
+use crate::closing::{Closing, close};
 use crate::edit::{Done, Edit, Former};
 use crate::reply::Reply;
 use sk_base::{List, NoMemory, Sketch};
@@ -21,16 +22,17 @@ use sk_family::{Family, initial};
 use sk_graph::reduce;
 use sk_plan::{PlanError, plan_of};
 use sk_verdict::judge;
-use sk_worklist::{Chosen, Order, close_family};
+use sk_worklist::{Chosen, Order};
 use std::alloc::Global;
 use std::marker::Model;
 
-/// A session. It is seen as its order of merges, the edits that stand, how many edits and undos were
+/// A session. It is seen as its order of merges, how its checks close the kept family, the edits that stand, how many edits and undos were
 /// accepted, and the kept family.
 #[derive(Drop)]
 pub struct Session {
     alloc: Global,
     order: Order,
+    closing: Closing,
     done: Vec<Done>,
     sketch: Sketch,
     next_elem: u32,
@@ -45,15 +47,16 @@ impl Model for Session {
 
     ghost Value = { State };
 
-    ghost view = { λ s. record { order = s.order; edits = edits_of s.done.items; count = s.count; family = s.family } };
+    ghost view = { λ s. record { order = s.order; closing = s.closing; edits = edits_of s.done.items; count = s.count; family = s.family } };
 
     ghost invariant = { λ s. IsConsistent s.done.items s.sketch s.next_elem s.next_con s.count s.family };
 }
 
 impl Session {
-    /// A session with the sketch without elements. Its checks and plans merge in this order.
-    pub fn new(alloc: Global, order: Order) -> Result<Session, NoMemory>
-        ensures { IfOk result (λ s. s ≡ record { order = order; edits = []; count = 0; family = initial_clusters (graph_of empty) }) }
+    /// A session with the sketch without elements. Its plans merge in this order, and so do its checks
+    /// unless they close in any order.
+    pub fn new(alloc: Global, order: Order, closing: Closing) -> Result<Session, NoMemory>
+        ensures { IfOk result (λ s. s ≡ record { order = order; closing = closing; edits = []; count = 0; family = initial_clusters (graph_of empty) }) }
     {
         let sketch = Sketch {
             elements: List::new(alloc),
@@ -63,6 +66,7 @@ impl Session {
         Ok(Session {
             alloc,
             order,
+            closing,
             done: Vec::new(alloc),
             sketch,
             next_elem: 1,
@@ -161,8 +165,13 @@ impl Session {
         ensures err { OnErr result (IsHeldUp self.old self.new) }
     {
         let graph = reduce(self.alloc, &self.sketch)?;
-        let mut picker = Chosen::new(self.order);
-        close_family(self.alloc, &mut self.family, &graph, &mut picker)?;
+        close(
+            self.alloc,
+            &mut self.family,
+            &graph,
+            self.order,
+            self.closing,
+        )?;
         let judgement = judge(self.alloc, &self.family, &graph)?;
         Ok(Reply::Checked(judgement))
     }

@@ -50,10 +50,11 @@ returns-clause-ok c =
     let led = last_led items c.self.inside.sketch c.self.inside.sketch c.self.inside.next_elem c.self.inside.next_con c.self.inside.count c.self.inside.family c.self.inside.family c.self.invariant
     room c.self.invariant.family_sound (omega arith) (take n items) d split in
     let back = c.in_ok-change_back.ensures.ok (sketch_of (edits_of (take n items))) led in
-    let made : TakesBack (record { order = c.self.inside.order; edits = edits_of items; count = c.self.inside.count; family = c.self.inside.family })
-    (record { order = c.self.inside.order; edits = edits_of (take n items); count = c.self.inside.count + 1; family = c.change_back.new.family }) = record {
+    let made : TakesBack (record { order = c.self.inside.order; closing = c.self.inside.closing; edits = edits_of items; count = c.self.inside.count; family = c.self.inside.family })
+    (record { order = c.self.inside.order; closing = c.self.inside.closing; edits = edits_of (take n items); count = c.self.inside.count + 1; family = c.change_back.new.family }) = record {
       last = d.edit;
       order = refl;
+      closing = refl;
       edits = ap edits_of split ∙ edits_push (take n items) d;
       count = refl;
       family = back.1;
