@@ -1,0 +1,11 @@
+use Rattle.std.proofs.Common.{sym}
+use Rattle.std.proofs.lemmas.List.Elements.{All-contains}
+use Rattle.sk_base.specs.declared.Element.{Element}
+use Rattle.sk_base.specs.SoundSketch.{IsSoundShape}
+use Rattle.sk_base.proofs.Finding.{found_in}
+use Rattle.sk_orient.proofs.Papers.{on_paper}
+use Rattle.sk_frame.proofs.frames.drawn.Goals as goal
+
+pub returns-in-Some-clause-on_paper : goal.returns-in-Some-clause-on_paper
+returns-in-Some-clause-on_paper c =
+    on_paper _ (All-contains (λ (x : Element). IsSoundShape x.shape) _ _ c.requires.shapes_sound (found_in _ _ _ (sym c.in-Some.ensures)).0)

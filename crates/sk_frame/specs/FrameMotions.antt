@@ -1,0 +1,29 @@
+-- The motion that takes a frame to where it is drawn.
+use Rattle.std.specs.Prelude.{ℕ, ℤ, pos, ◌*ℤ◌, Result}
+use Rattle.sk_interval.specs.declared.Cause.{Cause}
+use Rattle.sk_interval.specs.Interval.{Interval, one}
+use Rattle.sk_interval.specs.Rounding.{floor_of, ceil_of}
+use Rattle.sk_interval.specs.Operations.{of_micrometres}
+use Rattle.sk_steps.specs.declared.What.{What}
+use Rattle.sk_motion.specs.declared.Motion.{Motion}
+use Rattle.sk_motion.specs.Settling.{settled_motion}
+use Rattle.sk_frame.specs.declared.frames.Frame.{Frame}
+
+-- around n / d
+abbrev pub ratio : ℕ → ℕ → ℤ → Interval
+ratio F d n = record { lo = floor_of (n *ℤ pos (one F)) (pos d); hi = ceil_of (n *ℤ pos (one F)) (pos d) }
+
+-- the motion by the parts of the turn, which are by 256 and so stand on the grid, and by the two places, in millimetres
+abbrev pub parts_motion : {G : Type 0} → ℕ → Frame → Motion G
+parts_motion F f = record {
+  cos = ratio F 256 f.turn.x;
+  sin = ratio F 256 f.turn.y;
+  fx = of_micrometres F f.from.x;
+  fy = of_micrometres F f.from.y;
+  tx = ratio F 1000000 f.to.x;
+  ty = ratio F 1000000 f.to.y;
+}
+
+-- the motion with its turn at length 1, or the first quantity that has a cause, with that; a sound frame has none
+abbrev pub frame_motion : {G : Type 0} → ℕ → Frame → Result (Motion G) (What × Cause)
+frame_motion F f = settled_motion F (parts_motion F f)

@@ -1,0 +1,6 @@
+pub mod Bases
+pub mod Turns
+pub mod TurnBounds
+pub mod Crossings
+pub mod Frames
+pub mod FrameMotions
