@@ -22,12 +22,39 @@ use Rattle.sk_place.specs.declared.settling.PlaceBy.TheVariants.{Boxes}
 use Rattle.sk_place.specs.declared.fault.Phase.{Phase}
 use Rattle.sk_place.specs.declared.fault.Phase.TheVariants.{Build, First, Second}
 use Rattle.sk_place.specs.declared.fault.StepFault.{StepFault}
+use Rattle.sk_place.specs.declared.fault.BoxFault.{BoxFault}
 use Rattle.sk_place.specs.declared.setting.Setting.{Setting}
 use Rattle.sk_place.specs.Clusters.{box_of, with_box, with_boxes, besides, comes_first}
-use Rattle.sk_place.specs.Carrying.{faulty, and_then, carried_each, pair_in, moved, carried_child}
+use Rattle.sk_place.specs.Carrying.{faulty, box_faulty, in_step, and_then, carried_each, pair_in, moved, carried_child}
 use Rattle.sk_place.specs.Steps.{ordered, root, given, joined_in, joined}
-use Rattle.sk_place.specs.Nesting.{AreInside, with_gap}
+use Rattle.sk_place.specs.Nesting.{AreInside, with_gap, KeepsBoxGap}
 use Rattle.sk_place.proofs.InsideLists.{box_inside, put_inside, union_inside, besides_inside, kind_inside, first_inside}
+
+-- ---- boxes that are carried
+
+-- a result holds one inside it, in the sense of P, and a gap stays one
+abbrev pub KeepsBox : {X Y : Type 0} → (X → Y → Type 0) → Result X BoxFault → Result Y BoxFault → Type 0
+KeepsBox {X} P fine (Ok coarse) = (x : X) × (fine ≡ Ok x) × P x coarse
+KeepsBox P fine (Err f) = KeepsBoxGap fine f f.cause
+
+gap_then : {X Y : Type 0} (r : Result X BoxFault) (g : X → Result Y BoxFault) (f : BoxFault) (c : Cause) → KeepsBoxGap r f c → KeepsBoxGap (and_then r g) f c
+gap_then r g f (Gap lo hi) h = (h.0, h.1, ap (λ s. and_then s g) h.2)
+gap_then r g f (Flat lo hi) h = tt
+gap_then r g f Range h = tt
+
+then_box : {X Y Z W : Type 0} (P : X → Y → Type 0) (Q : Z → W → Type 0) (fine : Result X BoxFault) (coarse : Result Y BoxFault) (f : X → Result Z BoxFault) (g : Y → Result W BoxFault)
+    → KeepsBox P fine coarse → ((x : X) (y : Y) → P x y → KeepsBox Q (f x) (g y)) → KeepsBox Q (and_then fine f) (and_then coarse g)
+then_box P Q fine (Ok y) f g h step = rw h.1 (step h.0 y h.2)
+then_box P Q fine (Err e) f g h step = gap_then fine f e e.cause h
+
+faulty_box : {X Y : Type 0} (P : X → Y → Type 0) (elem : Elem) (fine : Result X (What × Cause)) (coarse : Result Y (What × Cause))
+    → Keeps P fine coarse → KeepsBox P (box_faulty elem fine) (box_faulty elem coarse)
+faulty_box P elem fine (Ok y) h = (h.0, ap (box_faulty elem) h.1, h.2)
+faulty_box P elem fine (Err (what, Gap lo hi)) h = (h.0, h.1, ap (box_faulty elem) h.2)
+faulty_box P elem fine (Err (what, Flat lo hi)) h = tt
+faulty_box P elem fine (Err (what, Range)) h = tt
+
+-- ---- steps
 
 -- a gap stays a gap of the same fault
 abbrev pub KeepsCause : {X : Type 0} → Result X StepFault → StepFault → Cause → Type 0
@@ -57,16 +84,27 @@ faulty_step P step phase elem fine (Err (what, Gap lo hi)) h = (h.0, h.1, ap (fa
 faulty_step P step phase elem fine (Err (what, Flat lo hi)) h = tt
 faulty_step P step phase elem fine (Err (what, Range)) h = tt
 
+-- the fault of a box, as that of a step
+told_step : {X Y : Type 0} (P : X → Y → Type 0) (step : Name) (phase : Phase) (fine : Result X BoxFault) (coarse : Result Y BoxFault)
+    → KeepsBox P fine coarse → KeepsStep P (in_step step phase fine) (in_step step phase coarse)
+told_step P step phase fine (Ok y) h = (h.0, ap (in_step step phase) h.1, h.2)
+told_step P step phase fine (Err f) h = told_gap f.cause h
+  where
+    told_gap : (c : Cause) → KeepsBoxGap fine f c → KeepsCause (in_step step phase fine) (record { step = step; phase = phase; what = f.what; elem = f.elem; cause = f.cause }) c
+    told_gap (Gap lo hi) h = (h.0, h.1, ap (in_step step phase) h.2)
+    told_gap (Flat lo hi) h = tt
+    told_gap Range h = tt
+
 module _ (G H : Type 0) (F k : ℕ) where
-  each_step : (step : Name) (phase : Phase) (m : Motion G) (n : Motion H) → IsMotionInside k m n → (xs : List (BoxAt G)) (ys : List (BoxAt H)) → AreInside k xs ys
-      → KeepsStep (AreInside {G = G} {H = H} k) (carried_each Boxes (F + k) step phase m xs) (carried_each Boxes F step phase n ys)
-  each_step step phase m n by [] [] h = ([], refl, tt)
-  each_step step phase m n by [] (y ∷ ys) h = absurd h
-  each_step step phase m n by (x ∷ xs) [] h = absurd h
-  each_step step phase m n by (x ∷ xs) (y ∷ ys) h =
-      then_step (IsBoxInside {G = G} {H = H} k) (AreInside {G = G} {H = H} k) _ _ _ _
-      (subst (λ (e : Elem). KeepsStep (IsBoxInside {G = G} {H = H} k) (faulty step phase e (carried (F + k) m x.at)) (faulty step phase y.elem (carried F n y.at))) (sym h.0) (faulty_step (IsBoxInside {G = G} {H = H} k) step phase y.elem (carried (F + k) m x.at) (carried F n y.at) (carried-Keeps G H F k m n x.at y.at by h.1)))
-      (λ a b at. then_step (AreInside {G = G} {H = H} k) (AreInside {G = G} {H = H} k) _ _ _ _ (each_step step phase m n by xs ys h.2)
+  pub each_box : (m : Motion G) (n : Motion H) → IsMotionInside k m n → (xs : List (BoxAt G)) (ys : List (BoxAt H)) → AreInside k xs ys
+      → KeepsBox (AreInside {G = G} {H = H} k) (carried_each Boxes (F + k) m xs) (carried_each Boxes F n ys)
+  each_box m n by [] [] h = ([], refl, tt)
+  each_box m n by [] (y ∷ ys) h = absurd h
+  each_box m n by (x ∷ xs) [] h = absurd h
+  each_box m n by (x ∷ xs) (y ∷ ys) h =
+      then_box (IsBoxInside {G = G} {H = H} k) (AreInside {G = G} {H = H} k) _ _ _ _
+      (subst (λ (e : Elem). KeepsBox (IsBoxInside {G = G} {H = H} k) (box_faulty e (carried (F + k) m x.at)) (box_faulty y.elem (carried F n y.at))) (sym h.0) (faulty_box (IsBoxInside {G = G} {H = H} k) y.elem (carried (F + k) m x.at) (carried F n y.at) (carried-Keeps G H F k m n x.at y.at by h.1)))
+      (λ a b at. then_box (AreInside {G = G} {H = H} k) (AreInside {G = G} {H = H} k) _ _ _ _ (each_box m n by xs ys h.2)
       (λ rs ss rest. (record { elem = x.elem; at = a } ∷ rs, refl, (h.0, at, rest))))
 
   moved_step : (step : Name) (phase : Phase) (p : Elem) (old new : Pair G) (old' new' : Pair H) → IsPairInside k old old' → IsPairInside k new new'
@@ -78,7 +116,7 @@ module _ (G H : Type 0) (F k : ℕ) where
   moved_step step phase p old new old' new' a b (x ∷ xs) (y ∷ ys) h =
       then_step (IsMotionInside {G = G} {H = H} k) (AreInside {G = G} {H = H} k) _ _ _ _
       (faulty_step (IsMotionInside {G = G} {H = H} k) step phase p (motion (F + k) old new) (motion F old' new') (motion-Keeps G H F k old new old' new' a b))
-      (λ m n by. each_step step phase m n by (x ∷ xs) (y ∷ ys) h)
+      (λ m n by. told_step (AreInside {G = G} {H = H} k) step phase _ _ (each_box m n by (x ∷ xs) (y ∷ ys) h))
 
   pair_inside : (xs : List (BoxAt G)) (ys : List (BoxAt H)) (p q : Elem) → AreInside k xs ys → IsPairInside k (pair_in xs p q) (pair_in ys p q)
   pair_inside xs ys p q h = record { p = box_inside k xs ys p h; q = box_inside k xs ys q h }

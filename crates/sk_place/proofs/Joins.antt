@@ -21,9 +21,10 @@ use Rattle.sk_place.specs.declared.settling.PlaceBy.{PlaceBy}
 use Rattle.sk_place.specs.declared.fault.Phase.{Phase}
 use Rattle.sk_place.specs.declared.fault.Phase.TheVariants.{Build, First, Second}
 use Rattle.sk_place.specs.declared.fault.StepFault.{StepFault}
+use Rattle.sk_place.specs.declared.fault.BoxFault.{BoxFault}
 use Rattle.sk_place.specs.declared.setting.Setting.{Setting}
 use Rattle.sk_place.specs.Clusters.{with_box, besides, comes_first}
-use Rattle.sk_place.specs.Carrying.{faulty, and_then, carried_each, pair_in, moved, carried_child}
+use Rattle.sk_place.specs.Carrying.{faulty, in_step, and_then, carried_each, pair_in, moved, carried_child}
 use Rattle.sk_place.specs.Steps.{setting, ordered, given, joined}
 use Rattle.sk_place.specs.Trees.{made, boxes_in, boxes, step_of, HasBoxes}
 
@@ -46,16 +47,14 @@ then_named : {X Y : Type 0} (step : Name) (r : Result X StepFault) (g : X → Re
 then_named step (Ok x) g h k = k x
 then_named step (Err e) g h k = record { named = λ f is. (let same : e ≡ f = cc in sym (ap (λ (g : StepFault). g.step) same) ∙ h.named e refl) }
 
-each_named : {G : Type 0} (placing : PlaceBy) (F : ℕ) (step : Name) (phase : Phase) (m : Motion G) (bs : List (BoxAt G)) → IsNamed step (carried_each placing F step phase m bs)
-each_named placing F step phase m [] = ok_named step []
-each_named placing F step phase m (b ∷ bs) =
-    then_named step _ _ (faulty_named step phase b.elem (settled_box placing F (carried F m b.at))) (λ at.
-    then_named step _ _ (each_named placing F step phase m bs) (λ rest. ok_named step _))
+told_named : {X : Type 0} (step : Name) (phase : Phase) (r : Result X BoxFault) → IsNamed step (in_step step phase r)
+told_named step phase (Ok x) = record { named = λ f e. cc }
+told_named step phase (Err b) = record { named = λ f e. (let same : record { step = step; phase = phase; what = b.what; elem = b.elem; cause = b.cause } ≡ f = cc in sym (ap (λ (g : StepFault). g.step) same)) }
 
 moved_named : {G : Type 0} (placing : PlaceBy) (F : ℕ) (step : Name) (phase : Phase) (p : Elem) (old new : Pair G) (bs : List (BoxAt G)) → IsNamed step (moved placing F step phase p old new bs)
 moved_named placing F step phase p old new [] = ok_named step []
 moved_named placing F step phase p old new (b ∷ bs) =
-    then_named step _ _ (faulty_named step phase p (settled_turn placing F (motion F old new))) (λ m. each_named placing F step phase m (b ∷ bs))
+    then_named step _ _ (faulty_named step phase p (settled_turn placing F (motion F old new))) (λ m. told_named step phase (carried_each placing F m (b ∷ bs)))
 
 child_named : {G : Type 0} (placing : PlaceBy) (F : ℕ) (step : Name) (phase : Phase) (p q : Elem) (child now : List (BoxAt G)) → IsNamed step (carried_child placing F step phase p q child now)
 child_named placing F step phase p q child now =

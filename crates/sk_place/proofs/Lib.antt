@@ -22,3 +22,4 @@ pub mod Keys
 pub mod OnePlacing
 pub mod SomeFrames
 pub mod SomePlaces
+pub mod AllMoved

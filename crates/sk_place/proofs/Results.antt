@@ -27,8 +27,9 @@ use Rattle.sk_place.specs.declared.boxes.BoxAt.{BoxAt}
 use Rattle.sk_place.specs.Settling.{settled_box, settled_turn}
 use Rattle.sk_place.specs.declared.settling.PlaceBy.{PlaceBy}
 use Rattle.sk_place.specs.declared.fault.Phase.{Phase}
+use Rattle.sk_place.specs.declared.fault.BoxFault.{BoxFault}
 use Rattle.sk_place.specs.Clusters.{Holds, number_of, nodes_of, with_boxes, besides, comes_first}
-use Rattle.sk_place.specs.Carrying.{faulty, and_then, carried_each, pair_in, moved, carried_child}
+use Rattle.sk_place.specs.Carrying.{faulty, box_faulty, in_step, and_then, carried_each, pair_in, moved, carried_child}
 use Rattle.sk_place.proofs.Lookups.{held_box}
 use Rattle.sk_place.proofs.Corners.{has_box}
 use Rattle.sk_base.proofs.Members.{contains_none, contains_cases}
@@ -45,6 +46,14 @@ then_ok (Err e) f y is = cc
 pub faulty_ok : {X : Type 0} (step : Name) (phase : Phase) (elem : Elem) (r : Result X (What × Cause)) (x : X) → faulty step phase elem r ≡ Ok x → r ≡ Ok x
 faulty_ok step phase elem (Ok y) x is = cc
 faulty_ok step phase elem (Err c) x is = cc
+
+box_ok : {X : Type 0} (elem : Elem) (r : Result X (What × Cause)) (x : X) → box_faulty elem r ≡ Ok x → r ≡ Ok x
+box_ok elem (Ok y) x is = cc
+box_ok elem (Err c) x is = cc
+
+told_ok : {X : Type 0} (step : Name) (phase : Phase) (r : Result X BoxFault) (x : X) → in_step step phase r ≡ Ok x → r ≡ Ok x
+told_ok step phase (Ok y) x is = cc
+told_ok step phase (Err f) x is = cc
 
 ok_inside : {X E : Type 0} (x y : X) → (let one : Result X E = Ok x in one ≡ Ok y) → x ≡ y
 ok_inside x y e = cc
@@ -86,22 +95,22 @@ module _ {G : Type 0} where
 
   -- ---- carried boxes
 
-  pub each_nodes : (placing : PlaceBy) (F : ℕ) (step : Name) (phase : Phase) (m : Motion G) (bs ys : List (BoxAt G)) → carried_each placing F step phase m bs ≡ Ok ys → nodes_of ys ≡ nodes_of bs
-  each_nodes placing F step phase m [] ys is = ap nodes_of (sym (ok_inside [] ys is))
-  each_nodes placing F step phase m (b ∷ bs) ys is =
-      let one = then_ok (faulty step phase b.elem (settled_box placing F (carried F m b.at))) _ ys is in
-      let others = then_ok (carried_each placing F step phase m bs) _ ys one.2 in
+  pub each_nodes : (placing : PlaceBy) (F : ℕ) (m : Motion G) (bs ys : List (BoxAt G)) → carried_each placing F m bs ≡ Ok ys → nodes_of ys ≡ nodes_of bs
+  each_nodes placing F m [] ys is = ap nodes_of (sym (ok_inside [] ys is))
+  each_nodes placing F m (b ∷ bs) ys is =
+      let one = then_ok (box_faulty b.elem (settled_box placing F (carried F m b.at))) _ ys is in
+      let others = then_ok (carried_each placing F m bs) _ ys one.2 in
       let ys_is : record { elem = b.elem; at = one.0 } ∷ others.0 ≡ ys = ok_inside (record { elem = b.elem; at = one.0 } ∷ others.0) ys others.2 in
-      let kind : kind_of one.0 ≡ kind_of b.at = carried_kind placing F m b.at one.0 (faulty_ok step phase b.elem (settled_box placing F (carried F m b.at)) one.0 one.1) in
+      let kind : kind_of one.0 ≡ kind_of b.at = carried_kind placing F m b.at one.0 (box_ok b.elem (settled_box placing F (carried F m b.at)) one.0 one.1) in
       ap nodes_of (sym ys_is)
       ∙ ap (λ (k : Kind). record { elem = b.elem; kind = k } ∷ nodes_of others.0) kind
-      ∙ ap (λ (ns : List Node). record { elem = b.elem; kind = kind_of b.at } ∷ ns) (each_nodes placing F step phase m bs others.0 others.1)
+      ∙ ap (λ (ns : List Node). record { elem = b.elem; kind = kind_of b.at } ∷ ns) (each_nodes placing F m bs others.0 others.1)
 
   moved_nodes : (placing : PlaceBy) (F : ℕ) (step : Name) (phase : Phase) (p : Elem) (old new : Pair G) (bs ys : List (BoxAt G)) → moved placing F step phase p old new bs ≡ Ok ys → nodes_of ys ≡ nodes_of bs
   moved_nodes placing F step phase p old new [] ys is = ap nodes_of (sym (ok_inside [] ys is))
   moved_nodes placing F step phase p old new (b ∷ bs) ys is =
       let by = then_ok (faulty step phase p (settled_turn placing F (motion F old new))) _ ys is in
-      each_nodes placing F step phase by.0 (b ∷ bs) ys by.2
+      each_nodes placing F by.0 (b ∷ bs) ys (told_ok step phase _ ys by.2)
 
   pub child_nodes : (placing : PlaceBy) (F : ℕ) (step : Name) (phase : Phase) (p q : Elem) (child now ys : List (BoxAt G)) → carried_child placing F step phase p q child now ≡ Ok ys → nodes_of ys ≡ nodes_of (besides p q child)
   child_nodes placing F step phase p q child now ys is = elim (cases_Bool (comes_first child p q)) [
@@ -109,22 +118,22 @@ module _ {G : Type 0} where
     | inr other ↦ moved_nodes placing F step phase q (pair_in child q p) (pair_in now q p) (besides p q child) ys (rw other at is)
   ]
 
-  each_bounded : (placing : PlaceBy) (F : ℕ) (step : Name) (phase : Phase) (m : Motion G) (bs ys : List (BoxAt G)) → carried_each placing F step phase m bs ≡ Ok ys → (b : BoxAt G) → Contains ys b → IsBoundedBox F b.at
-  each_bounded placing F step phase m [] ys is b h = absurd (contains_none b (subst (λ (xs : List (BoxAt G)). Contains xs b) (sym (ok_inside [] ys is)) h))
-  each_bounded placing F step phase m (c ∷ cs) ys is b h =
-      let one = then_ok (faulty step phase c.elem (settled_box placing F (carried F m c.at))) _ ys is in
-      let others = then_ok (carried_each placing F step phase m cs) _ ys one.2 in
+  pub each_bounded : (placing : PlaceBy) (F : ℕ) (m : Motion G) (bs ys : List (BoxAt G)) → carried_each placing F m bs ≡ Ok ys → (b : BoxAt G) → Contains ys b → IsBoundedBox F b.at
+  each_bounded placing F m [] ys is b h = absurd (contains_none b (subst (λ (xs : List (BoxAt G)). Contains xs b) (sym (ok_inside [] ys is)) h))
+  each_bounded placing F m (c ∷ cs) ys is b h =
+      let one = then_ok (box_faulty c.elem (settled_box placing F (carried F m c.at))) _ ys is in
+      let others = then_ok (carried_each placing F m cs) _ ys one.2 in
       let ys_is : record { elem = c.elem; at = one.0 } ∷ others.0 ≡ ys = ok_inside (record { elem = c.elem; at = one.0 } ∷ others.0) ys others.2 in
       elim (contains_cases (record { elem = c.elem; at = one.0 }) others.0 b (subst (λ (xs : List (BoxAt G)). Contains xs b) (sym ys_is) h)) [
-        | inl here ↦ subst (λ (x : BoxAt G). IsBoundedBox F x.at) here (carried_within placing F m c.at one.0 (faulty_ok step phase c.elem (settled_box placing F (carried F m c.at)) one.0 one.1))
-        | inr later ↦ each_bounded placing F step phase m cs others.0 others.1 b later
+        | inl here ↦ subst (λ (x : BoxAt G). IsBoundedBox F x.at) here (carried_within placing F m c.at one.0 (box_ok c.elem (settled_box placing F (carried F m c.at)) one.0 one.1))
+        | inr later ↦ each_bounded placing F m cs others.0 others.1 b later
       ]
 
   moved_bounded : (placing : PlaceBy) (F : ℕ) (step : Name) (phase : Phase) (p : Elem) (old new : Pair G) (bs ys : List (BoxAt G)) → moved placing F step phase p old new bs ≡ Ok ys → (b : BoxAt G) → Contains ys b → IsBoundedBox F b.at
   moved_bounded placing F step phase p old new [] ys is b h = absurd (contains_none b (subst (λ (xs : List (BoxAt G)). Contains xs b) (sym (ok_inside [] ys is)) h))
   moved_bounded placing F step phase p old new (c ∷ cs) ys is b h =
       let by = then_ok (faulty step phase p (settled_turn placing F (motion F old new))) _ ys is in
-      each_bounded placing F step phase by.0 (c ∷ cs) ys by.2 b h
+      each_bounded placing F by.0 (c ∷ cs) ys (told_ok step phase _ ys by.2) b h
 
   pub child_bounded : (placing : PlaceBy) (F : ℕ) (step : Name) (phase : Phase) (p q : Elem) (child now ys : List (BoxAt G)) → carried_child placing F step phase p q child now ≡ Ok ys → (b : BoxAt G) → Contains ys b → IsBoundedBox F b.at
   child_bounded placing F step phase p q child now ys is b h = elim (cases_Bool (comes_first child p q)) [

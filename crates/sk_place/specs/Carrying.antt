@@ -12,6 +12,9 @@ use Rattle.sk_place.specs.declared.boxes.BoxAt.{BoxAt}
 use Rattle.sk_place.specs.declared.fault.Phase.{Phase}
 use Rattle.sk_place.specs.declared.fault.StepFault.{StepFault}
 use Rattle.sk_place.specs.declared.fault.PlaceError.{PlaceError}
+use Rattle.sk_place.specs.declared.fault.BoxFault.{BoxFault}
+use Rattle.sk_place.specs.declared.fault.MoveError.{MoveError}
+use Rattle.sk_place.specs.declared.fault.MoveError.TheVariants as moving
 use Rattle.sk_place.specs.declared.fault.PlaceError.TheVariants.{Fault, NoMemory}
 use Rattle.sk_steps.specs.Boxes.{kind_of}
 use Rattle.sk_place.specs.declared.settling.PlaceBy.{PlaceBy}
@@ -28,12 +31,22 @@ abbrev pub and_then : {X Y E : Type 0} → Result X E → (X → Result Y E) →
 and_then (Ok x) f = f x
 and_then (Err e) f = Err e
 
+-- a quantity's cause, as a fault of an element's box
+abbrev pub box_faulty : {X : Type 0} → Elem → Result X (What × Cause) → Result X BoxFault
+box_faulty elem (Ok x) = Ok x
+box_faulty elem (Err c) = Err (record { what = c.0; elem = elem; cause = c.1 })
+
+-- a box's fault, as a fault of the step
+abbrev pub in_step : {X : Type 0} → Name → Phase → Result X BoxFault → Result X StepFault
+in_step step phase (Ok x) = Ok x
+in_step step phase (Err f) = Err (record { step = step; phase = phase; what = f.what; elem = f.elem; cause = f.cause })
+
 -- the boxes in their order, each moved, and settled where places are points
-abbrev pub carried_each : {G : Type 0} → PlaceBy → ℕ → Name → Phase → Motion G → List (BoxAt G) → Result (List (BoxAt G)) StepFault
-carried_each placing F step phase m [] = Ok []
-carried_each placing F step phase m (b ∷ bs) =
-    and_then (faulty step phase b.elem (settled_box placing F (carried F m b.at))) (λ at.
-    and_then (carried_each placing F step phase m bs) (λ rest.
+abbrev pub carried_each : {G : Type 0} → PlaceBy → ℕ → Motion G → List (BoxAt G) → Result (List (BoxAt G)) BoxFault
+carried_each placing F m [] = Ok []
+carried_each placing F m (b ∷ bs) =
+    and_then (box_faulty b.elem (settled_box placing F (carried F m b.at))) (λ at.
+    and_then (carried_each placing F m bs) (λ rest.
     Ok (record { elem = b.elem; at = at } ∷ rest)))
 
 -- the boxes of two elements
@@ -44,7 +57,7 @@ pair_in bs p q = record { p = box_of bs p; q = box_of bs q }
 abbrev pub moved : {G : Type 0} → PlaceBy → ℕ → Name → Phase → Elem → Pair G → Pair G → List (BoxAt G) → Result (List (BoxAt G)) StepFault
 moved placing F step phase p old new [] = Ok []
 moved placing F step phase p old new (b ∷ bs) =
-    and_then (faulty step phase p (settled_turn placing F (motion F old new))) (λ m. carried_each placing F step phase m (b ∷ bs))
+    and_then (faulty step phase p (settled_turn placing F (motion F old new))) (λ m. in_step step phase (carried_each placing F m (b ∷ bs)))
 
 abbrev pub moved_by : {G : Type 0} → PlaceBy → ℕ → Name → Phase → Elem → Elem → List (BoxAt G) → List (BoxAt G) → List (BoxAt G) → Result (List (BoxAt G)) StepFault
 moved_by placing F step phase p q child now bs = moved placing F step phase p (pair_in child p q) (pair_in now p q) bs
@@ -71,3 +84,8 @@ abbrev pub Answers : {X : Type 0} → Result X PlaceError → Result X StepFault
 Answers (Ok x) defined = defined ≡ Ok x
 Answers (Err (Fault f)) defined = defined ≡ Err f
 Answers (Err NoMemory) defined = Unit {0}
+
+abbrev pub AnswersMove : {X : Type 0} → Result X MoveError → Result X BoxFault → Type 0
+AnswersMove (Ok x) defined = defined ≡ Ok x
+AnswersMove (Err (moving.Fault f)) defined = defined ≡ Err f
+AnswersMove (Err moving.NoMemory) defined = Unit {0}

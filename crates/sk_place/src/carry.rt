@@ -3,10 +3,10 @@ ghost use Rattle.std.specs.Prelude.{◌≡◌};
 ghost use Rattle.sk_motion.specs.Motions.{motion, AreAlike};
 ghost use Rattle.sk_place.specs.Clusters.{Rise, Holds, comes_first};
 ghost use Rattle.sk_place.specs.Settling.{settled_turn};
-ghost use Rattle.sk_place.specs.Carrying.{faulty, pair_in, carried_each, moved, carried_child, AreShared, Answers};
+ghost use Rattle.sk_place.specs.Carrying.{faulty, pair_in, carried_each, moved, carried_child, AreShared, Answers, AnswersMove};
 
 use crate::boxes::BoxAt;
-use crate::fault::{PlaceError, Stage, faulty};
+use crate::fault::{MoveError, PlaceError, Stage, box_faulty, faulty, in_step};
 use crate::lookup::{besides, box_of};
 use crate::settling::{PlaceBy, settled_box, settled_turn};
 use sk_base::{Elem, Kind, List};
@@ -42,19 +42,18 @@ fn pair_in<G: Grid>(boxes: &[BoxAt<G>], p: Elem, q: Elem) -> Pair<G>
 }
 
 /// The boxes in their order, each moved.
-fn carried_each<G: Grid>(
+pub(crate) fn carried_each<G: Grid>(
     alloc: Global,
     placing: PlaceBy,
-    stage: Stage,
     motion: &Motion<G>,
     boxes: &[BoxAt<G>],
-) -> Result<List<BoxAt<G>>, PlaceError>
-    ensures { Answers result (carried_each placing G.BITS stage.step stage.phase motion.now boxes.now) }
+) -> Result<List<BoxAt<G>>, MoveError>
+    ensures { AnswersMove result (carried_each placing G.BITS motion.now boxes.now) }
 {
     let mut carried = List::new(alloc);
     for b in boxes {
         let made = carry(motion, &b.at);
-        let at = faulty(stage, b.elem, settled_box(placing, made))?;
+        let at = box_faulty(b.elem, settled_box(placing, made))?;
         carried.push(BoxAt { elem: b.elem, at })?;
     }
     Ok(carried)
@@ -91,7 +90,7 @@ fn moved<G: Grid>(
         return Ok(List::new(alloc));
     }
     let motion = motion_of(placing, stage, p, old, new)?;
-    carried_each(alloc, placing, stage, &motion, boxes)
+    in_step(stage, carried_each(alloc, placing, &motion, boxes))
 }
 
 /// The child's boxes besides those of p and q, moved as p and q are from the child to where they

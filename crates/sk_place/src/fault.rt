@@ -1,6 +1,7 @@
 // Why a plan has no boxes.
-ghost use Rattle.std.specs.Prelude.{◌≡◌, IfOk, Ok};
-ghost use Rattle.sk_place.specs.Carrying.{faulty, Answers};
+ghost use Rattle.std.specs.Prelude.{◌≡◌, IfOk, Ok, Result as Answer};
+ghost use Rattle.sk_place.specs.declared.fault.BoxFault.{BoxFault as FaultOfBox};
+ghost use Rattle.sk_place.specs.Carrying.{faulty, box_faulty, in_step, Answers, AnswersMove};
 
 use sk_base::{Elem, Name, NoMemory};
 use sk_interval::Cause;
@@ -32,6 +33,34 @@ pub enum PlaceError {
     Fault(StepFault),
     #[error("memory ran out")]
     NoMemory,
+}
+
+/// A quantity of a carried box that has no interval, and the element that it was for.
+#[derive(Clone, Copy, PartialEq, Eq, Debug)]
+pub struct BoxFault {
+    pub what: What,
+    pub elem: Elem,
+    pub cause: Cause,
+}
+
+/// Why boxes aren't carried: one has a fault, or memory ran out.
+#[derive(Clone, Copy, PartialEq, Eq, Debug, Error)]
+pub enum MoveError {
+    #[error("a carried box doesn't lie on this grid")]
+    Fault(BoxFault),
+    #[error("memory ran out")]
+    NoMemory,
+}
+
+impl From<NoMemory> for MoveError {
+    ghost use Rattle.std.specs.Prelude.{◌≡◌};
+    ghost use Rattle.sk_place.specs.declared.fault.MoveError.TheVariants.{NoMemory as MemoryRanOut};
+
+    ghost from_gives = { λ e r. r ≡ MemoryRanOut };
+
+    fn from(_error: NoMemory) -> Self {
+        MoveError::NoMemory
+    }
 }
 
 impl From<NoMemory> for PlaceError {
@@ -79,5 +108,33 @@ pub(crate) fn faulty<T>(
             elem,
             cause,
         })),
+    }
+}
+
+/// The answer, with its cause as a fault of the element's box.
+pub(crate) fn box_faulty<T>(elem: Elem, answer: Result<T, (What, Cause)>) -> Result<T, MoveError>
+    ensures value { AnswersMove result (box_faulty elem answer) }
+    ensures found { IfOk result (λ x. answer ≡ Ok x) }
+{
+    match answer {
+        Ok(found) => Ok(found),
+        Err((what, cause)) => Err(MoveError::Fault(BoxFault { what, elem, cause })),
+    }
+}
+
+/// The answer, with a box's fault as a fault of the step.
+pub(crate) fn in_step<T>(stage: Stage, answer: Result<T, MoveError>) -> Result<T, PlaceError>
+    ensures { (defined : Answer T FaultOfBox) → AnswersMove answer defined → Answers result (in_step stage.step stage.phase defined) }
+{
+    match answer {
+        Ok(found) => Ok(found),
+        Err(MoveError::Fault(fault)) => Err(PlaceError::Fault(StepFault {
+            step: stage.step,
+            phase: stage.phase,
+            what: fault.what,
+            elem: fault.elem,
+            cause: fault.cause,
+        })),
+        Err(MoveError::NoMemory) => Err(PlaceError::NoMemory),
     }
 }

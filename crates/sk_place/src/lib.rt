@@ -8,14 +8,16 @@ mod joining;
 mod law;
 mod live;
 mod lookup;
+mod moving;
 mod placing;
 mod rounding;
 mod setting;
 mod settling;
 
 pub use boxes::{BoxAt, Boxes};
-pub use fault::{Phase, PlaceError, StepFault};
+pub use fault::{BoxFault, MoveError, Phase, PlaceError, StepFault};
 pub use law::one_placing;
+pub use moving::moved;
 pub use placing::place;
 pub use rounding::round;
 pub use settling::PlaceBy;
