@@ -1,15 +1,22 @@
 -- What a command says of a sketch tells the headline of it.
-use Rattle.std.proofs.Common.{◌≡◌, ◌≢◌, inl, inr, ℕ, ◌<◌, List, [], ◌++◌, length, refl, ap, sym, subst, ◌∙◌}
+use Rattle.std.proofs.Common.{◌≡◌, ◌≢◌, inl, inr, ℕ, ◌+◌, ◌<◌, List, [], ◌∷◌, ◌++◌, length, refl, ap, sym, subst, ◌∙◌}
 use Rattle.std.specs.Prelude.{IsTrue, true, false}
 use Rattle.sk_base.specs.declared.Graph.{Graph}
 use Rattle.sk_base.specs.declared.Name.{Name}
 use Rattle.sk_base.specs.declared.Sketch.{Sketch}
 use Rattle.sk_base.specs.SoundGraph.{IsSoundGraph}
+use Rattle.sk_base.specs.SoundSketch.{IsSoundSketch}
+use Rattle.sk_flips.specs.declared.Placement.{Placement}
+use Rattle.sk_flips.specs.declared.Placement.TheVariants.{Fault, Beyond, Turned, Holds}
 use Rattle.sk_graph.specs.SketchGraph.{graph_of}
+use Rattle.sk_graph.proofs.Soundness.{graph_is_sound}
 use Rattle.sk_lang.specs.declared.Front.{Front}
 use Rattle.sk_lang.specs.Front.{ReadsFront}
 use Rattle.sk_lang.specs.Reading.{Reads}
+use Rattle.sk_parts.specs.OwnSketch.{part_sketch}
+use Rattle.sk_parts.proofs.Drawing.{part_is_sound}
 use Rattle.sk_verdict.specs.declared.Judgement.{Judgement}
+use Rattle.sk_verdict.specs.declared.Part.{Part}
 use Rattle.sk_tree.specs.declared.Plan.{Plan as ThePlan}
 use Rattle.sk_tree.specs.declared.Tree.{Tree}
 use Rattle.sk_tree.specs.LegalPlan.{IsLegalPlan}
@@ -18,19 +25,24 @@ use Rattle.sk_plan.specs.Judged.{IsTheJudgement}
 use Rattle.sk_plan.specs.Leaves.{HasLeaves}
 use Rattle.sk_report.specs.CheckReport.{check_report}
 use Rattle.sk_worklist.specs.declared.Order.{Order}
-use Rattle.sk_cli.specs.declared.accounts.Account.TheVariants.{Judged}
+use Rattle.sk_cli.specs.declared.accounts.Account.TheVariants.{Judged, Shapes}
 use Rattle.sk_cli.specs.declared.command.Command.{Command}
 use Rattle.sk_cli.specs.declared.command.Command.TheVariants.{Check, Plan, Solve, Dxf, Offers, Session, Grow, Migrate, Verify, Spare, Flips, Derive, Parts}
 use Rattle.sk_cli.specs.declared.request.Request.{Request}
 use Rattle.sk_cli.specs.declared.solving.Report.{Report}
+use Rattle.sk_cli.specs.declared.solving.Report.TheVariants.{Shape}
 use Rattle.sk_cli.specs.declared.status.Status.{Status}
 use Rattle.sk_cli.specs.declared.status.Status.TheVariants.{Done, NotWell}
 use Rattle.sk_cli.specs.Accounts.{IsAccount}
 use Rattle.sk_cli.specs.Causes.{plans, solves, IsReportOf, IsSketchOf}
 use Rattle.sk_cli.specs.FlipsReport.{IsFlipped}
-use Rattle.sk_cli.specs.Headline.{WritesCheckReport, MayStandBefore, UsesEachOnce, Tells}
+use Rattle.sk_cli.specs.Grids.{digits_of}
+use Rattle.sk_cli.specs.Headline.{WritesCheckReport, MayStandBefore, UsesEachOnce, TellsPlaces, TellsParts, Tells}
 use Rattle.sk_cli.specs.OffersReport.{IsOffersReport, IsOffersAnswer}
 use Rattle.sk_cli.specs.Outcome.{IsAccountOf, IsRefusalText, IsPlanOrReport, IsReportNotWell, IsSolved, IsAnswerOf}
+use Rattle.sk_cli.specs.PartsReport.{IsShape, StandsBelow, EachStands, IsBelowPart, ArePartsTold, IsPartsReport}
+use Rattle.sk_cli.specs.Solved.{IsPlacedPlan}
+use Rattle.sk_cli.specs.Solving.{status_of, placement_words}
 use Rattle.sk_cli.proofs.OneOutcome.{OneSketch, NotBoth, OneJudgement, LowerLaws, told_account, told_plan, told_planned, told_flipped}
 use Rattle.sk_cli.proofs.Printed.{OneNormal, tells_clusters, part_of_sketch, planned_both, planned_text, unplaced, solved_text, failed_text}
 use Rattle.sk_cli.proofs.WhyEnds.{solved_about, not_well_both, planned_not_well, flips_about, flipped_not_well}
@@ -50,7 +62,7 @@ IsSaid Migrate request s status text = Unit {0}
 IsSaid Verify request s status text = Unit {0}
 IsSaid Spare request s status text = Unit {0}
 IsSaid Derive request s status text = Unit {0}
-IsSaid Parts request s status text = Unit {0}
+IsSaid Parts request s status text = IsSoundSketch s × IsPartsReport request s text
 IsSaid Solve request s status text = IsSolvedFor Solve request s status text
 IsSaid Dxf request s status text = IsSolvedFor Dxf request s status text
 IsSaid Grow request s status text = IsSolvedFor Grow request s status text
@@ -64,6 +76,9 @@ module _ (one_sketch : OneSketch) (not_both : NotBoth) (laws : LowerLaws) (bytes
 
   check_said : Reads bytes s → IsAccountOf Judged bytes text → IsAccount Judged s text
   check_said reads (t, reads', told) = subst (λ z. IsAccount Judged z text) (one_sketch bytes t s reads' reads) told
+
+  parts_said : (request : Request) → Reads bytes s → IsAccountOf (Shapes request) bytes text → IsPartsReport request s text
+  parts_said request reads (t, reads', told) = subst (λ z. IsPartsReport request z text) (one_sketch bytes t s reads' reads) told
 
   plan_said : (order : Order) (status : Status) → Reads bytes s → (t : Sketch) → Reads bytes t → IsPlanOrReport order t status text → IsPlanOrReport order s status text
   plan_said order status reads t reads' told = subst (λ z. IsPlanOrReport order z status text) (one_sketch bytes t s reads' reads) told
@@ -97,7 +112,11 @@ said_about one_sketch not_both some_read laws Migrate request bytes text status 
 said_about one_sketch not_both some_read laws Verify request bytes text status s answer about = tt
 said_about one_sketch not_both some_read laws Spare request bytes text status s answer about = tt
 said_about one_sketch not_both some_read laws Derive request bytes text status s answer about = tt
-said_about one_sketch not_both some_read laws Parts request bytes text status s answer about = tt
+said_about one_sketch not_both some_read laws Parts request bytes text status s answer reads =
+    elim (told_account (Shapes request) bytes status text answer) [
+      | inl report ↦ (laws.sound bytes s reads, parts_said one_sketch not_both laws bytes text s request reads report.1)
+      | inr line ↦ absurd (not_refused one_sketch not_both laws bytes text s reads line.1)
+    ]
 said_about one_sketch not_both some_read laws Solve request bytes text status s answer about = solved_about one_sketch not_both Solve request bytes text status s answer refl about
 said_about one_sketch not_both some_read laws Dxf request bytes text status s answer about = solved_about one_sketch not_both Dxf request bytes text status s answer refl about
 said_about one_sketch not_both some_read laws Grow request bytes text status s answer about = solved_about one_sketch not_both Grow request bytes text status s answer refl about
@@ -141,17 +160,55 @@ done_offers : (status : Status) → WritesCheckReport Offers status → status �
 done_offers Done writes = refl
 done_offers status writes = absurd writes
 
--- nothing is told of a sketch by a command that writes no check report, plans nothing and solves nothing
-nothing_told : (command : Command) (request : Request) (s : Sketch) (status : Status) (text : List ℕ) → plans command ≡ false → solves command ≡ false → ((any : Status) → ¬ WritesCheckReport command any) → command ≢ Plan
-    → Tells command request s status text
-nothing_told command request s status text no_plan no_solving no_report other = record {
+-- a command that writes no check report, plans nothing and solves nothing tells of parts at most
+parts_at_most : (command : Command) (request : Request) (s : Sketch) (status : Status) (text : List ℕ) → plans command ≡ false → solves command ≡ false → ((any : Status) → ¬ WritesCheckReport command any) → command ≢ Plan
+    → (command ≡ Parts → TellsParts request s text) → Tells command request s status text
+parts_at_most command request s status text no_plan no_solving no_report other told = record {
   clusters = λ writes. absurd (no_report status writes);
   not_well = λ planned. absurd (let clash : false ≡ true = sym no_plan ∙ planned in cc);
   planned = λ same. absurd (other same);
   plan = λ same done. absurd (other same);
   placed = λ placed done. absurd (let clash : false ≡ true = sym no_solving ∙ placed in cc);
   failure = λ placed other short. absurd (let clash : false ≡ true = sym no_solving ∙ placed in cc);
+  parts = told;
 }
+
+nothing_told : (command : Command) (request : Request) (s : Sketch) (status : Status) (text : List ℕ) → plans command ≡ false → solves command ≡ false → ((any : Status) → ¬ WritesCheckReport command any) → command ≢ Plan → command ≢ Parts
+    → Tells command request s status text
+nothing_told command request s status text no_plan no_solving no_report other no_parts =
+    parts_at_most command request s status text no_plan no_solving no_report other (λ same. absurd (no_parts same))
+
+-- the shape of a sketch tells where it lies, and holds, or what fails first in it
+shape_tells : (request : Request) (s : Sketch) (text : List ℕ) → IsSoundGraph (graph_of s) → IsShape request s text → TellsPlaces request s text
+shape_tells request s text sound (p, placement, placed, is) = by_placement placement placed is
+  where
+    fails : (q : Placement) → IsPlacedPlan request s p q → text ≡ placement_words Shape (digits_of request.bits) s p q → status_of q ≢ Done → status_of q ≢ NotWell → TellsPlaces request s text
+    fails q placed is not_done not_short = inr (failed_text Shape request s (status_of q) text (inl (p, q, placed, refl, is)) not_done not_short)
+
+    by_placement : (q : Placement) → IsPlacedPlan request s p q → text ≡ placement_words Shape (digits_of request.bits) s p q → TellsPlaces request s text
+    by_placement (Fault f) placed is = fails (Fault f) placed is (λ same. cc) (λ same. cc)
+    by_placement (Beyond b) placed is = fails (Beyond b) placed is (λ same. cc) (λ same. cc)
+    by_placement (Turned t) placed is = fails (Turned t) placed is (λ same. cc) (λ same. cc)
+    by_placement (Holds at t) placed is = inl (solved_text Shape request s Done text sound (inl (p, Holds at t, placed, refl, is)) refl)
+
+-- so of each part that isn't over
+parts_tell_each : (request : Request) (s : Sketch) → IsSoundSketch s → (parts : List Part) (number : ℕ) (text : List ℕ) → ArePartsTold request s number parts text → EachStands (TellsPlaces request) s number parts text
+parts_tell_each request s sound [] number text none = none
+parts_tell_each request s sound (p ∷ parts) number text (below, more, here, rest, is) = (below, more, told here, parts_tell_each request s sound parts (number + 1) more rest, is)
+  where
+    told : IsBelowPart request s p below → StandsBelow (TellsPlaces request) s p below
+    told (inl over) = inl over
+    told (inr (not_over, shape)) = inr (not_over, shape_tells request (part_sketch s p.elements) below (graph_is_sound (part_sketch s p.elements) (part_is_sound s p.elements sound)) shape)
+
+parts_told : OneNormal → (request : Request) (s : Sketch) (text : List ℕ) → IsSoundSketch s → IsPartsReport request s text → TellsParts request s text
+parts_told normal request s text sound report = (
+  report.0,
+  report.1,
+  report.2,
+  tells_clusters normal (graph_of s) (graph_is_sound s sound) report.0 report.2,
+  parts_tell_each request s sound report.0.parts 1 report.1 report.3,
+  report.4,
+)
 
 module _ (normal : OneNormal) (plans : LegalPlans) (law : OneJudgement) (laws : LowerLaws) (request : Request) (s : Sketch) (status : Status) (text : List ℕ) (sound : IsSoundGraph (graph_of s)) where
   reported : IsReportNotWell s text → (j : Judgement) × (text ≡ check_report s j) × IsTheJudgement (graph_of s) j
@@ -165,8 +222,8 @@ module _ (normal : OneNormal) (plans : LegalPlans) (law : OneJudgement) (laws : 
   judged_there answer =
       elim (told_planned request.order s status text answer) [ inl (done, (p, (j, judged, well), by, is)) ↦ (j, judged) | inr (short, (j, judged, not_well, is)) ↦ (j, judged) ]
 
-  placed_tells : (command : Command) → IsTrue (solves command) → command ≢ Plan → IsSolvedFor command request s status text → Tells command request s status text
-  placed_tells command placed other (report, of, solved) = record {
+  placed_tells : (command : Command) → IsTrue (solves command) → command ≢ Plan → command ≢ Parts → IsSolvedFor command request s status text → Tells command request s status text
+  placed_tells command placed other no_parts (report, of, solved) = record {
     clusters = λ writes. (let told = reported (unplaced report request s status text solved (short_placed command status placed writes)) in
         (told.0, [], nothing_before command, told.1, tells_clusters normal (graph_of s) sound told.0 told.2));
     not_well = λ planned. not_well_both law laws report request s status text solved;
@@ -174,6 +231,7 @@ module _ (normal : OneNormal) (plans : LegalPlans) (law : OneJudgement) (laws : 
     plan = λ is. absurd (other is);
     placed = λ is done. (let found = solved_text report request s status text sound solved done in (report, found.0, found.1, found.2, of, found.3, found.4));
     failure = λ is other short. failed_text report request s status text solved other short;
+    parts = λ is. absurd (no_parts is);
   }
 
   planned_tells : 0 < length s.elements → IsPlanOrReport request.order s status text → Tells Plan request s status text
@@ -186,6 +244,7 @@ module _ (normal : OneNormal) (plans : LegalPlans) (law : OneJudgement) (laws : 
     plan = λ is done. (let told = planned_text request.order s status text answer done in (told.0, (told.1, told.2), uses_each_once plans (graph_of s) told.0 sound told.2.legal, told.3));
     placed = λ is done. cc;
     failure = λ is other short. cc;
+    parts = λ is. cc;
   }
 
   checked_tells : (j : Judgement) → IsTheJudgement (graph_of s) j → text ≡ check_report s j → Tells Check request s status text
@@ -196,6 +255,7 @@ module _ (normal : OneNormal) (plans : LegalPlans) (law : OneJudgement) (laws : 
     plan = λ same done. cc;
     placed = λ placed done. cc;
     failure = λ placed other short. cc;
+    parts = λ same. cc;
   }
 
   offers_tells : (status ≡ Done → (j : Judgement) × (lines : List ℕ) × IsTheJudgement (graph_of s) j × (text ≡ lines ++ check_report s j)) → Tells Offers request s status text
@@ -206,6 +266,7 @@ module _ (normal : OneNormal) (plans : LegalPlans) (law : OneJudgement) (laws : 
     plan = λ same done. cc;
     placed = λ placed done. cc;
     failure = λ placed other short. cc;
+    parts = λ same. cc;
   }
 
   flips_not_planned : (lists : List (List Name)) → IsFlipped request s lists status text → status ≡ NotWell → IsReportNotWell s text
@@ -221,6 +282,7 @@ module _ (normal : OneNormal) (plans : LegalPlans) (law : OneJudgement) (laws : 
     plan = λ same done. cc;
     placed = λ placed done. cc;
     failure = λ placed other short. cc;
+    parts = λ same. cc;
   }
 
   pub tells : (command : Command) → IsSaid command request s status text → Tells command request s status text
@@ -229,11 +291,11 @@ module _ (normal : OneNormal) (plans : LegalPlans) (law : OneJudgement) (laws : 
   tells Offers said = offers_tells said
   tells Flips (lists, answer) = flips_tells lists answer
   tells Session said = absurd said
-  tells Migrate said = nothing_told Migrate request s status text refl refl (λ status writes. writes) (λ same. cc)
-  tells Verify said = nothing_told Verify request s status text refl refl (λ status writes. writes) (λ same. cc)
-  tells Spare said = nothing_told Spare request s status text refl refl (λ status writes. writes) (λ same. cc)
-  tells Derive said = nothing_told Derive request s status text refl refl (λ status writes. writes) (λ same. cc)
-  tells Parts said = nothing_told Parts request s status text refl refl (λ status writes. writes) (λ same. cc)
-  tells Solve solved = placed_tells Solve refl (λ same. cc) solved
-  tells Dxf solved = placed_tells Dxf refl (λ same. cc) solved
-  tells Grow solved = placed_tells Grow refl (λ same. cc) solved
+  tells Migrate said = nothing_told Migrate request s status text refl refl (λ status writes. writes) (λ same. cc) (λ same. cc)
+  tells Verify said = nothing_told Verify request s status text refl refl (λ status writes. writes) (λ same. cc) (λ same. cc)
+  tells Spare said = nothing_told Spare request s status text refl refl (λ status writes. writes) (λ same. cc) (λ same. cc)
+  tells Derive said = nothing_told Derive request s status text refl refl (λ status writes. writes) (λ same. cc) (λ same. cc)
+  tells Parts said = parts_at_most Parts request s status text refl refl (λ status writes. writes) (λ same. cc) (λ same. parts_told normal request s text said.0 said.1)
+  tells Solve solved = placed_tells Solve refl (λ same. cc) (λ same. cc) solved
+  tells Dxf solved = placed_tells Dxf refl (λ same. cc) (λ same. cc) solved
+  tells Grow solved = placed_tells Grow refl (λ same. cc) (λ same. cc) solved

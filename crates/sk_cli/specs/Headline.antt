@@ -28,20 +28,22 @@ use Rattle.sk_residual.specs.Least.{IsFirst}
 use Rattle.sk_residual.specs.Placing.{PlacesExactly}
 use Rattle.sk_residual.specs.Tolerances.{AllHoldWithin, IsFirstBeyond, everything}
 use Rattle.sk_residual.specs.Turns.{signs, IsTurned, AllAsDrawn}
-use Rattle.sk_report.specs.CheckReport.{check_report}
+use Rattle.sk_report.specs.CheckReport.{check_report, parts_head}
 use Rattle.sk_report.specs.FaultLines.{fault_line, passed_line, turned_line}
 use Rattle.sk_report.specs.PlanReport.{plan_report}
+use Rattle.sk_report.specs.SolveReport.{shape_report}
 use Rattle.sk_session.specs.declared.Reply.{Reply}
 use Rattle.sk_session.specs.declared.Reply.TheVariants as reply
 use Rattle.sk_session.specs.State.{State}
 use Rattle.sk_cli.specs.declared.command.Command.{Command}
-use Rattle.sk_cli.specs.declared.command.Command.TheVariants.{Check, Plan, Solve, Dxf, Offers, Grow, Flips}
+use Rattle.sk_cli.specs.declared.command.Command.TheVariants.{Check, Plan, Solve, Dxf, Offers, Grow, Flips, Parts}
 use Rattle.sk_cli.specs.declared.request.Request.{Request}
 use Rattle.sk_cli.specs.declared.solving.Report.{Report}
 use Rattle.sk_cli.specs.declared.status.Status.{Status}
 use Rattle.sk_cli.specs.declared.status.Status.TheVariants.{Done, NotWell}
 use Rattle.sk_cli.specs.Causes.{plans, solves, IsReportOf, IsItsPlan, LieAt, NonePasses}
 use Rattle.sk_cli.specs.Grids.{grid_of, digits_of}
+use Rattle.sk_cli.specs.PartsReport.{EachStands}
 use Rattle.sk_cli.specs.SessionAnswer.{RepliesToFront, IsReplied}
 use Rattle.sk_cli.specs.Solving.{IsTolerance, report_words}
 
@@ -107,10 +109,23 @@ NamesTheFirst request s text =
     ⊎ (((at : Placed) × (b : Beyond) × LieAt request s p at × IsFirstBeyond at (everything (graph_of s)) request.within b × (text ≡ passed_line s b))
     ⊎ ((at : Placed) × (sign : Turned) × LieAt request s p at × NonePasses request s at × IsFirst IsTurned (signs s at p) sign × (text ≡ turned_line sign))))
 
+-- where the plan of the sketch places its elements, and they hold, they are written; else what fails first is named
+abbrev pub TellsPlaces : Request → Sketch → List ℕ → Type 0
+TellsPlaces request s text =
+    ((p : ThePlan) × (at : Placed) × (t : Tolerance) × HoldsAt request s p at t × (text ≡ shape_report s p (digits_of request.bits) at t))
+    ⊎ NamesTheFirst request s text
+
+-- the verdict, and the line of each part; below that of a part that isn't over it is told where its own sketch lies, and holds, or
+-- else what fails first in it
+abbrev pub TellsParts : Request → Sketch → List ℕ → Type 0
+TellsParts request s text =
+    (j : Judgement) × (lines : List ℕ) × IsTheJudgement (graph_of s) j × TellsClusters (graph_of s) j
+    × EachStands (TellsPlaces request) s 1 j.parts lines × (text ≡ parts_head j ++ lines)
+
 -- What a command tells of a sketch by its status and its text. Where it writes the check report, its clusters. A command that
 -- plans has the status NotWell exactly where the verdict isn't well; `plan` writes a plan exactly where just one part remains and
 -- isn't over, and the plan uses each constraint once. A command that solves the sketch writes where the elements lie, and hold, or
--- else what fails first.
+-- else what fails first; `parts` tells the same of the own sketch of each part that isn't over.
 pub record Tells (command : Command) (request : Request) (s : Sketch) (status : Status) (text : List ℕ) : Type 0 where
   pub clusters : WritesCheckReport command status → EndsWithClusters command s text
   pub not_well : IsTrue (plans command) → (status ≡ NotWell) ↔ ¬ IsWell (graph_of s)
@@ -120,6 +135,7 @@ pub record Tells (command : Command) (request : Request) (s : Sketch) (status : 
       → (report : Report) × (p : ThePlan) × (at : Placed) × (t : Tolerance) × IsReportOf command report × HoldsAt request s p at t
       × (text ≡ report_words report (digits_of request.bits) s p at t)
   pub failure : IsTrue (solves command) → status ≢ Done → status ≢ NotWell → NamesTheFirst request s text
+  pub parts : command ≡ Parts → TellsParts request s text
 
 -- the sketch has an element, and the command tells this of it
 abbrev pub TellsOfSome : Command → Request → Sketch → Status → List ℕ → Type 0

@@ -24,15 +24,21 @@ abbrev pub IsShape : Request → Sketch → List ℕ → Type 0
 IsShape request s text =
     (p : ThePlan) × (placement : Placement) × IsPlacedPlan request s p placement × (text ≡ placement_words Shape (digits_of request.bits) s p placement)
 
--- below the line of a part that is over stands nothing, and below that of another part the shape of its own sketch
-abbrev pub IsBelowPart : Request → Sketch → Part → List ℕ → Type 0
-IsBelowPart request s p text = (IsOver p × (text ≡ [])) ⊎ ((¬ IsOver p) × IsShape request (part_sketch s p.elements) text)
+-- below the line of a part that is over stands nothing, and below that of another part what is written of its own sketch
+abbrev pub StandsBelow : (Sketch → List ℕ → Type 0) → Sketch → Part → List ℕ → Type 0
+StandsBelow IsWritten s p text = (IsOver p × (text ≡ [])) ⊎ ((¬ IsOver p) × IsWritten (part_sketch s p.elements) text)
 
--- the parts from this number on, one behind another
+-- the lines of the parts from this number on, one behind another, and below each what stands there
+abbrev pub EachStands : (Sketch → List ℕ → Type 0) → Sketch → ℕ → List Part → List ℕ → Type 0
+EachStands IsWritten s number [] text = text ≡ []
+EachStands IsWritten s number (p ∷ parts) text =
+    (below : List ℕ) × (more : List ℕ) × StandsBelow IsWritten s p below × EachStands IsWritten s (number + 1) parts more × (text ≡ (part_line s number p ++ below) ++ more)
+
+abbrev pub IsBelowPart : Request → Sketch → Part → List ℕ → Type 0
+IsBelowPart request s p text = StandsBelow (IsShape request) s p text
+
 abbrev pub ArePartsTold : Request → Sketch → ℕ → List Part → List ℕ → Type 0
-ArePartsTold request s number [] text = text ≡ []
-ArePartsTold request s number (p ∷ parts) text =
-    (below : List ℕ) × (more : List ℕ) × IsBelowPart request s p below × ArePartsTold request s (number + 1) parts more × (text ≡ (part_line s number p ++ below) ++ more)
+ArePartsTold request s number parts text = EachStands (IsShape request) s number parts text
 
 -- the verdict on the sketch and how many parts it has, and then its parts
 abbrev pub IsPartsReport : Request → Sketch → List ℕ → Type 0

@@ -69,7 +69,7 @@ fn account_text(
     ensures { IfOk result (IsAccount account sketch.now) }
 {
     match account {
-        Account::Judged => parts(alloc, sketch),
+        Account::Judged => judged(alloc, sketch),
         Account::Spares => spares(alloc, sketch),
         Account::Derived => derived(alloc, order, sketch),
         Account::Migrated => write_sketch_2(alloc, sketch),
@@ -78,7 +78,7 @@ fn account_text(
 }
 
 /// The check report of the sketch.
-fn parts(alloc: Global, sketch: &Sketch) -> Result<Text, NoMemory>
+fn judged(alloc: Global, sketch: &Sketch) -> Result<Text, NoMemory>
     requires sound { IsSoundSketch sketch.now }
     requires some { 0 < length sketch.now.elements }
     ensures { IfOk result (IsAccount accounts.Judged sketch.now) }

@@ -202,7 +202,8 @@ pub fn shapes_are_as_solved()
 /// places are those of all elements and no others, and meet each constraint within the printed tolerance,
 /// which is the least, with all signs as drawn; else the first faulty step, line or constraint is named,
 /// or the first turned sign. A block of k points counts as 2k - 3 of the constraints that a cluster holds,
-/// and as one of those that a plan uses; it is drawn as its places are given.
+/// and as one of those that a plan uses; it is drawn as its places are given. Of the own sketch of each part
+/// that isn't over, `parts` tells what `solve` tells of a sketch.
 ///
 /// It is told of the sketch that a command is about (`sketch`), and of the sketch in a session now, by the
 /// replies to `check`, `plan` and `solve`, each of which stands in what is written behind the replies to
