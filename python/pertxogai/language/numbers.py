@@ -1,0 +1,104 @@
+"""The numbers of the language: whole micrometres, and tangents as two whole numbers.
+
+A number that the language can't hold raises `NotHeld`, which names the nearest that it can.
+"""
+from __future__ import annotations
+
+import re
+from decimal import Decimal
+from fractions import Fraction
+
+MOST_UM = 1_000_000_000
+MOST_RATIO = 10_000
+Exact = int | Fraction | Decimal | str
+_NUMBER = re.compile(r"(-?)([0-9]{1,7})(?:\.([0-9]{1,3}))?")
+_RATIO = re.compile(r"(-?[0-9]{1,5})/([0-9]{1,5})")
+
+
+class NotHeld(ValueError):
+    """A number that the language can't hold. `nearest` is the text of the nearest that it can, or None."""
+
+    def __init__(self, what: str, nearest: str | None) -> None:
+        super().__init__(what + (f"; the nearest is {nearest}" if nearest else ""))
+        self.nearest = nearest
+
+
+def micrometres(millimetres: Exact) -> int:
+    """The whole micrometres of a number of millimetres: 2, "2.5", Fraction(5, 2), Decimal("2.5").
+
+    Raises NotHeld where it is no whole number of micrometres, or passes 1,000,000 mm."""
+    exact = 1000 * Fraction(millimetres)
+    um = nearest_whole(exact)
+    return checked_um(exact if um != exact else um)
+
+
+def checked_um(value: int | Fraction, least: int = -MOST_UM) -> int:
+    """The value, where the language holds so many micrometres. Raises NotHeld."""
+    nearest = min(max(nearest_whole(value), least), MOST_UM)
+    if nearest != value:
+        shown = f"{float(Fraction(value) / 1000):.10g} mm"
+        raise NotHeld(f"{shown} isn't held, which takes whole micrometres from {mm_text(least)} to"
+                      f" {mm_text(MOST_UM)} mm", f"{mm_text(nearest)} mm")
+    return nearest
+
+
+def checked_length_um(value: int | Fraction) -> int:
+    """The value, where a length or radius may be so many micrometres: above 0. Raises NotHeld."""
+    return checked_um(value, 1)
+
+
+def checked_ratio(p: int, q: int) -> None:
+    """Raises NotHeld where the language holds no angle of the tangent p/q."""
+    if p == 0:
+        raise NotHeld("an angle of 0 is no constraint: see 'Parallel lines' in docs/LANGUAGE.md", None)
+    if q < 0 or abs(p) > MOST_RATIO or q > MOST_RATIO:
+        raise NotHeld(f"the ratio {p}/{q} isn't held, whose numbers go to {MOST_RATIO}, q from 0",
+                      "{}/{}".format(*nearest_ratio(p, q)))
+
+
+def nearest_ratio(p: int | Fraction, q: int | Fraction) -> tuple[int, int]:
+    """The ratio that the language holds whose tangent (up to 45 degrees) or cotangent is nearest that of p/q."""
+    if q == 0:
+        return (1, 0) if p > 0 else (-1, 0)
+    tangent = Fraction(p) / Fraction(q)
+    if abs(tangent) <= 1:
+        near = tangent.limit_denominator(MOST_RATIO)
+        return (near.numerator, near.denominator) if near else (1 if tangent >= 0 else -1, MOST_RATIO)
+    near = (1 / tangent).limit_denominator(MOST_RATIO)
+    sign = -1 if tangent < 0 else 1
+    return sign * near.denominator, abs(near.numerator)
+
+
+def nearest_whole(value: int | Fraction) -> int:
+    """The nearest whole number, halves away from zero."""
+    exact = Fraction(value)
+    whole = (2 * abs(exact.numerator) + exact.denominator) // (2 * exact.denominator)
+    return whole if exact >= 0 else -whole
+
+
+def mm_text(um: int) -> str:
+    """Micrometres as the canonical number of millimetres: 2500 is `2.5`."""
+    whole, rest = divmod(abs(um), 1000)
+    digits = f"{whole}.{rest:03}".rstrip("0").rstrip(".")
+    return "-" + digits if um < 0 else digits
+
+
+def read_um(word: str) -> int | None:
+    """The micrometres of a number of the language, or None where the word is none or passes its limit."""
+    found = _NUMBER.fullmatch(word)
+    if found is None:
+        return None
+    sign, whole, rest = found.groups()
+    um = int(whole) * 1000 + int((rest or "").ljust(3, "0"))
+    if um > MOST_UM:
+        return None
+    return -um if sign else um
+
+
+def read_ratio(word: str) -> tuple[int, int] | None:
+    """The two numbers of a ratio of the language, or None where the word is none or passes its limit."""
+    found = _RATIO.fullmatch(word)
+    if found is None:
+        return None
+    p, q = int(found[1]), int(found[2])
+    return (p, q) if abs(p) <= MOST_RATIO and q <= MOST_RATIO else None
