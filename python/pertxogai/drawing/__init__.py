@@ -1,0 +1,26 @@
+"""A designer's words: shapes, constraints, and the text `part.drawing` that keeps them."""
+
+from pertxogai.drawing.constraints import (
+    AngleBetween, AngleValue, Coincident, Collinear, Concentric, Constraint, Degrees, Diameter,
+    Distance, Equal, Fixed, Horizontal, Length, Midpoint, Parallel, ParallelDistance,
+    Perpendicular, PointLineDistance, PointOn, Radius, Ratio, Sense, Symmetric, Tangent, Vertical,
+    XDistance, YDistance)
+from pertxogai.drawing.geometry import (
+    Arc, Axis, Circle, Datum, Origin, Point, Segment, Shape, Spot)
+from pertxogai.drawing.meetings import Meetings
+from pertxogai.drawing.places import Place, place_mm, um_of_mm
+from pertxogai.drawing.references import (
+    DATUM_NAMES, ORIGIN, X_AXIS, Y_AXIS, Pair, PointRef, ShapeRef, Which)
+from pertxogai.drawing.senses import Slope, Touch, Turn, run_um, touch, turn, way
+from pertxogai.drawing.sketching import Drawing, Note, points_of, spot_of
+
+__all__ = [
+    "AngleBetween", "AngleValue", "Arc", "Axis", "Circle", "Coincident", "Collinear",
+    "Concentric", "Constraint", "DATUM_NAMES", "Datum", "Degrees", "Diameter", "Distance",
+    "Drawing", "Equal", "Fixed", "Horizontal", "Length", "Meetings", "Midpoint", "Note", "ORIGIN",
+    "Origin", "Pair", "Parallel", "ParallelDistance", "Perpendicular", "Place", "Point",
+    "PointLineDistance", "PointOn", "PointRef", "Radius", "Ratio", "Segment", "Sense", "Shape",
+    "ShapeRef", "Slope", "Spot", "Symmetric", "Tangent", "Touch", "Turn", "Vertical", "Which",
+    "XDistance", "X_AXIS", "YDistance", "Y_AXIS", "place_mm", "points_of", "run_um", "spot_of",
+    "touch", "turn", "um_of_mm", "way",
+]

@@ -1,0 +1,60 @@
+"""Which points of a drawing are one, as far as its words say so one by one."""
+
+from __future__ import annotations
+
+from collections.abc import Iterator
+
+from pertxogai.drawing.constraints import Coincident, Perpendicular, Tangent
+from pertxogai.drawing.geometry import Segment
+from pertxogai.drawing.references import Pair, PointRef, ShapeRef, Which
+from pertxogai.drawing.sketching import Drawing
+
+
+class Meetings:
+    """The classes of points that are one, by sharing, by `coincident`, and by a `tangent` or
+    `perpendicular` at an end. What follows from other constraints isn't looked at."""
+
+    def __init__(self, drawing: Drawing) -> None:
+        self._leader: dict[PointRef, PointRef] = {}
+        for pair in joined(drawing):
+            self._join(pair)
+
+    def leader(self, point: PointRef) -> PointRef:
+        """The point that stands for all that are one with this one."""
+        while point in self._leader:
+            point = self._leader[point]
+        return point
+
+    def _join(self, pair: Pair) -> None:
+        first, second = self.leader(pair.first), self.leader(pair.second)
+        if first != second:
+            self._leader[first] = second
+
+    def same(self, first: PointRef, second: PointRef) -> bool:
+        """Whether the two points are one."""
+        return self.leader(first) == self.leader(second)
+
+    def corner(self, first: ShapeRef, second: ShapeRef) -> Pair | None:
+        """The ends of two segments or arcs that are one point: the first such, else None."""
+        ends = (Which.END, Which.START)
+        for one in (PointRef(first.name, which) for which in ends):
+            for other in (PointRef(second.name, which) for which in ends):
+                if self.same(one, other):
+                    return Pair(one, other)
+        return None
+
+
+def joined(drawing: Drawing) -> Iterator[Pair]:
+    """Each two points of which a word of the drawing says that they are one."""
+    yield from drawing.shared()
+    for constraint in drawing.constraints:
+        match constraint:
+            case Coincident(first, second):
+                yield Pair(first, second)
+            case Tangent(at=Pair() as pair) | Perpendicular(at=Pair() as pair):
+                yield pair
+
+
+def is_segment(drawing: Drawing, line: ShapeRef) -> bool:
+    """Whether a line is a segment, and not an axis."""
+    return isinstance(drawing.shape(line.name), Segment)

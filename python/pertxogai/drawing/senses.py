@@ -1,0 +1,120 @@
+"""What the drawn places decide where a constraint leaves it to them.
+
+Where a number that decides is 0, it counts as plus, as in the language.
+"""
+
+from __future__ import annotations
+
+from dataclasses import dataclass
+from enum import Enum
+from fractions import Fraction
+
+from pertxogai.drawing.constraints import (AngleBetween, Degrees, Ratio, Sense, Tangent, XDistance,
+                                           YDistance)
+from pertxogai.drawing.geometry import Axis
+from pertxogai.drawing.meetings import Meetings, is_segment
+from pertxogai.drawing.places import Place
+from pertxogai.drawing.references import PointRef, ShapeRef, Which
+from pertxogai.drawing.sketching import Drawing
+
+Way = tuple[Fraction, Fraction]
+"""A direction by its two components, of any length."""
+
+
+@dataclass(frozen=True)
+class Slope:
+    """A turn by its tangent: of at most a right angle with the tangent p/q, to the left where p
+    is above 0, and half round from there where `backward` is set. q isn't negative."""
+
+    p: int
+    q: int
+    backward: bool
+
+
+Turn = Degrees | Slope
+"""A turn from one direction to another: in degrees counter-clockwise, above -180 and at most 180,
+or by its tangent."""
+
+
+class Touch(Enum):
+    """How two rims touch."""
+
+    OUTSIDE = "outside"
+    INSIDE = "inside"
+
+
+def way(drawing: Drawing, line: ShapeRef) -> Way:
+    """The drawn direction of a segment, from start to end, or of an axis."""
+    shape = drawing.shape(line.name)
+    if isinstance(shape, Axis):
+        return (Fraction(0), Fraction(1)) if shape.upwards else (Fraction(1), Fraction(0))
+    return _between(drawing.drawn(PointRef(line.name, Which.START)),
+                    drawing.drawn(PointRef(line.name, Which.END)))
+
+
+def turn(drawing: Drawing, angle: AngleBetween) -> Turn:
+    """The turn that an angle asks for, from the first line's direction to the second's."""
+    first, second = way(drawing, angle.first), way(drawing, angle.second)
+    left, ahead = _cross(first, second) >= 0, _dot(first, second) >= 0
+    match angle.value, angle.sense:
+        case Degrees(value), Sense.SIGNED:
+            return Degrees(_within_half_turn(value))
+        case Degrees(value), _:
+            return _drawn_degrees(drawing, angle, value, left, ahead)
+        case Ratio(p, q), Sense.SIGNED:
+            return Slope(p, q, not ahead)
+        case Ratio(p, q), _:
+            return Slope(abs(p) if left == ahead else -abs(p), q, not ahead)
+    raise AssertionError(angle)
+
+
+def _drawn_degrees(drawing: Drawing, angle: AngleBetween, value: Fraction, left: bool,
+                   ahead: bool) -> Degrees:
+    """The turn for an angle without a sign: of the corner, else of the crossing lines."""
+    if is_segment(drawing, angle.first) and is_segment(drawing, angle.second):
+        corner = Meetings(drawing).corner(angle.first, angle.second)
+        if corner is not None:
+            # Both rays leave the corner, or both come to it: else one direction is turned round.
+            size = value if corner.first.which is corner.second.which else 180 - value
+            return Degrees(size if left else -size)
+    size = value if (value <= 90) == ahead else 180 - value
+    return Degrees(size if left else -size)
+
+
+def run_um(drawing: Drawing, distance: XDistance | YDistance) -> Fraction:
+    """The signed x or y distance, second less first, in micrometres."""
+    if distance.sense is Sense.SIGNED:
+        return distance.value_um
+    first, second = drawing.drawn(distance.first), drawing.drawn(distance.second)
+    if isinstance(distance, XDistance):
+        drawn = second.x_um - first.x_um
+    else:
+        drawn = second.y_um - first.y_um
+    return distance.value_um if drawn >= 0 else -distance.value_um
+
+
+def touch(drawing: Drawing, tangent: Tangent) -> Touch:
+    """How the two rims of a tangent touch: inside where the drawn centres are nearer to the
+    difference of the drawn radii than to their sum, that is nearer than the greater radius."""
+    first = drawing.drawn(PointRef(tangent.first.name, Which.CENTRE))
+    second = drawing.drawn(PointRef(tangent.second.name, Which.CENTRE))
+    apart = _between(first, second)
+    greater = max(drawing.drawn_radius_um(each.name) for each in (tangent.first, tangent.second))
+    return Touch.INSIDE if _dot(apart, apart) < greater * greater else Touch.OUTSIDE
+
+
+def _within_half_turn(degrees: Fraction) -> Fraction:
+    rest = degrees % 360
+    return rest if rest <= 180 else rest - 360
+
+
+def _between(first: Place, second: Place) -> Way:
+    return second.x_um - first.x_um, second.y_um - first.y_um
+
+
+def _cross(first: Way, second: Way) -> Fraction:
+    return first[0] * second[1] - first[1] * second[0]
+
+
+def _dot(first: Way, second: Way) -> Fraction:
+    return first[0] * second[0] + first[1] * second[1]
