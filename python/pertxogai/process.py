@@ -53,7 +53,7 @@ def run_process(words: Sequence[str], given: bytes, limits: Limits) -> Ended:
     with process:
         try:
             _limit_memory(process, limits)
-            return _Talk(process, given, limits).to_the_end()
+            return _Talk(words, process, given, limits).to_the_end()
         except BaseException:
             process.kill()
             raise
@@ -69,9 +69,10 @@ def _limit_memory(process: subprocess.Popen[bytes], limits: Limits) -> None:
 class _Talk:
     """The pipes of a running file: what is still to be given, and what it wrote so far."""
 
-    def __init__(self, process: subprocess.Popen[bytes], given: bytes, limits: Limits) -> None:
+    def __init__(self, words: Sequence[str], process: subprocess.Popen[bytes], given: bytes, limits: Limits) -> None:
         assert process.stdin and process.stdout and process.stderr
-        self.process, self.left, self.limits = process, memoryview(given), limits
+        self.words, self.process, self.limits = words, process, limits
+        self.left = memoryview(given)
         self.given: IO[bytes] = process.stdin
         self.written = {process.stdout: bytearray(), process.stderr: bytearray()}
         self.ends = time.monotonic() + limits.seconds
@@ -111,8 +112,8 @@ class _Talk:
         found = os.read(pipe.fileno(), CHUNK)
         self.written[pipe] += found
         if len(self.written[pipe]) > MOST_BYTES:
-            raise ProgramSpoke(f"{self.process.args[0]} wrote over {MOST_BYTES // MEBIBYTE} MiB and was stopped: is"  # type: ignore[index]
-                               " it the program `sketch`?")
+            raise ProgramSpoke(f"{self.words[0]} wrote over {MOST_BYTES // MEBIBYTE} MiB and was stopped: is it the"
+                               " program `sketch`?")
         return not found
 
     def _seconds_left(self) -> float:
@@ -122,6 +123,5 @@ class _Talk:
         return left
 
     def _late(self) -> ProgramTimedOut:
-        words = " ".join(self.process.args)  # type: ignore[arg-type]
-        return ProgramTimedOut(f"{words} took over {self.limits.seconds:g} s and was stopped: give it more seconds,"
+        return ProgramTimedOut(f"{' '.join(self.words)} took over {self.limits.seconds:g} s and was stopped: give it more seconds,"
                                " or a smaller sketch")

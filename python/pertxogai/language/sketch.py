@@ -1,10 +1,15 @@
 """A whole sketch: a text of the language as a value."""
 from __future__ import annotations
 
+from collections.abc import Iterable, Sequence
 from dataclasses import dataclass
 
 from .constraints import Constraint
+from .declared import Declared, Faulty
 from .elements import Element
+from .entries import check_shape, is_element, read_constraint, read_element
+from .refusal import Code, Refusal, Refused
+from .rows import Row, has_word, rows_of, sound_rows
 
 
 @dataclass(frozen=True)
@@ -18,6 +23,20 @@ class Sketch:
     elements: tuple[Element, ...]
     constraints: tuple[Constraint, ...]
 
+    def __post_init__(self) -> None:
+        if self.version not in (1, 2):
+            raise Refusal(Refused(1, Code.E1))
+        declared, line = Declared(self.version), 1
+        try:
+            for line, element in enumerate(self.elements, 2):
+                declared.add_element(element)
+            for line, constraint in enumerate(self.constraints, 2 + len(self.elements)):
+                declared.add_constraint(constraint)
+        except Faulty as fault:
+            raise Refusal(Refused(line, fault.code)) from None
+        if not self.elements:
+            raise Refusal(Refused(2, Code.E18))
+
     def text(self) -> str:
         """The text in canonical spelling: header, elements, constraints, `end`. Comments aren't kept."""
         lines = [f"sketch {self.version}"]
@@ -28,4 +47,75 @@ class Sketch:
     @staticmethod
     def parse(text: str) -> Sketch:
         """The sketch that a text is. Raises Refusal, with the line and code that the program answers."""
-        raise NotImplementedError("follows within the hour")
+        sketch, rest = read_sketch(rows_of(text))
+        for row in sound_rows(rest):
+            if row.words(sketch.version == 2):
+                raise row.refusal(Code.E17)
+        return sketch
+
+
+def read_sketch(rows: list[Row]) -> tuple[Sketch, list[Row]]:
+    """The sketch that lines begin with, up to its `end`, and the lines behind that. Raises Refusal."""
+    if not has_word(rows):
+        raise Refusal(Refused(0, Code.E18))
+    reader = _Reader()
+    for row in sound_rows(rows):
+        try:
+            reader.take(row)
+        except Faulty as fault:
+            raise row.refusal(fault.code) from None
+        if reader.is_ended:
+            return reader.sketch(), rows[row.number:]
+    raise Refusal(Refused(len(rows) + 1, Code.E16))
+
+
+class _Reader:
+    """The sketch so far."""
+
+    def __init__(self) -> None:
+        self.declared: Declared | None = None
+        self.constraints: list[Constraint] = []
+        self.is_ended = False
+
+    def take(self, row: Row) -> None:
+        """Takes a line. Raises Faulty."""
+        words = row.words(self.declared is not None and self.declared.version == 2)
+        if not words:
+            return
+        if self.declared is None:
+            self.declared = Declared(_version(words))
+        elif words[0] == "end":
+            self._end(words)
+        else:
+            add_entry(words, self.declared, self.constraints)
+
+    def _end(self, words: Sequence[str]) -> None:
+        if len(words) > 1:
+            raise Faulty(Code.E3)
+        if not self.declared or not self.declared.elements:
+            raise Faulty(Code.E18)
+        self.is_ended = True
+
+    def sketch(self) -> Sketch:
+        """The sketch of the lines that were taken."""
+        assert self.declared is not None
+        return Sketch(self.declared.version, tuple(self.declared.elements.values()), tuple(self.constraints))
+
+
+def add_entry(words: Sequence[str], declared: Declared, constraints: list[Constraint]) -> None:
+    """Adds the element or constraint of a line to what is declared. Raises Faulty."""
+    check_shape(words, declared.version)
+    if is_element(words):
+        declared.add_element(read_element(words, declared))
+    else:
+        constraint = read_constraint(words, declared)
+        declared.add_constraint(constraint)
+        constraints.append(constraint)
+
+
+def _version(words: Iterable[str]) -> int:
+    """The version that a header names. Raises Faulty."""
+    for version in (1, 2):
+        if list(words) == ["sketch", str(version)]:
+            return version
+    raise Faulty(Code.E1)
