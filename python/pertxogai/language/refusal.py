@@ -49,13 +49,13 @@ class Refused:
     code: Code
 
     def text(self) -> str:
-        """The line that the program writes."""
-        return f"refused line {self.line} {self.code.name} {self.code.word}"
+        """The report that the program writes."""
+        return f"refused line {self.line} {self.code.name} {self.code.word}\n"
 
 
 class Refusal(ValueError):
     """A text, or a sketch that was made of values, isn't one of the language."""
 
     def __init__(self, refused: Refused) -> None:
-        super().__init__(refused.text())
+        super().__init__(refused.text().rstrip())
         self.refused = refused
