@@ -1,0 +1,111 @@
+"""The XML of a FreeCAD document: the properties that say its sketches, and where they stand.
+
+It is read by expat, and a document type, which FreeCAD never writes and which alone can declare
+entities, is refused.
+"""
+
+from __future__ import annotations
+
+from dataclasses import dataclass, field
+from xml.parsers import expat
+
+MOST_NODES = 300_000
+"""The most elements that are kept of a document."""
+
+_KEPT = frozenset({"Geometry", "Constraints", "ExternalGeometry", "ExternalGeo", "Label", "Shape",
+                   "Placement"})
+_HELD = ("Document", "ObjectData", "Object", "Properties", "Property")
+_LISTED = ("Document", "Objects", "Object")
+_OWNED = _HELD[:3]
+
+
+class BadMarkup(Exception):
+    """The text is no XML of a FreeCAD document; the message tells why."""
+
+
+@dataclass
+class Node:
+    """An element: its tag, its attributes, its children, and the byte where it begins."""
+
+    tag: str
+    attributes: dict[str, str]
+    begin: int
+    children: list[Node] = field(default_factory=list)
+
+    def child(self, tag: str) -> Node | None:
+        """The first child of that tag."""
+        return next((node for node in self.children if node.tag == tag), None)
+
+    def get(self, name: str, default: str) -> str:
+        """An attribute, or the default where it isn't there."""
+        return self.attributes.get(name, default)
+
+
+@dataclass
+class Kept:
+    """An object of a document: its name, its type, and those of its properties that matter."""
+
+    name: str
+    kind: str
+    properties: dict[str, Node] = field(default_factory=dict)
+
+    def list_of(self, name: str) -> list[Node]:
+        """The entries of a property that is a list; none where it isn't there."""
+        held = self.properties.get(name)
+        return held.children[0].children if held is not None and held.children else []
+
+
+def read_markup(data: bytes) -> list[Kept]:
+    """The objects of a document, in its order. Raises BadMarkup."""
+    gathering = _Gathering()
+    try:
+        gathering.parser.Parse(data, True)
+    except expat.ExpatError as error:
+        raise BadMarkup(f"its {error}") from None
+    except (UnicodeError, LookupError):
+        raise BadMarkup("its text has a wrong encoding") from None
+    return list(gathering.objects.values())
+
+
+class _Gathering:
+    """Gathers the objects while expat reads."""
+
+    def __init__(self) -> None:
+        self.objects: dict[str, Kept] = {}
+        self.parser = expat.ParserCreate()
+        self.parser.StartDoctypeDeclHandler = self._refuse_type
+        self.parser.StartElementHandler = self._start
+        self.parser.EndElementHandler = self._end
+        self._path: list[str] = []
+        self._open: list[Node] = []
+        self._owner: Kept | None = None
+        self._count = 0
+
+    def _refuse_type(self, *_: object) -> None:
+        raise BadMarkup("it declares a document type, which FreeCAD never does")
+
+    def _start(self, tag: str, attributes: dict[str, str]) -> None:
+        self._path.append(tag)
+        if self._open:
+            self._open[-1].children.append(self._node(tag, attributes))
+            self._open.append(self._open[-1].children[-1])
+            return
+        path, name = tuple(self._path), attributes.get("name", "")
+        if path == _LISTED:
+            self.objects[name] = Kept(name, attributes.get("type", ""))
+        elif path == _OWNED:
+            self._owner = self.objects.get(name)
+        elif path == _HELD and name in _KEPT and self._owner is not None:
+            self._owner.properties[name] = self._node(tag, attributes)
+            self._open.append(self._owner.properties[name])
+
+    def _end(self, _: str) -> None:
+        self._path.pop()
+        if self._open:
+            self._open.pop()
+
+    def _node(self, tag: str, attributes: dict[str, str]) -> Node:
+        self._count += 1
+        if self._count > MOST_NODES:
+            raise BadMarkup(f"its sketches have more than {MOST_NODES} entries")
+        return Node(tag, attributes, self.parser.CurrentByteIndex)

@@ -1,0 +1,89 @@
+"""The sketches of a FreeCAD file, as drawings."""
+
+from __future__ import annotations
+
+from dataclasses import replace
+from pathlib import Path
+
+from pertxogai.drawing import Constraint
+from pertxogai.found import Apart, Aside, FileRefusal, FoundSketch, Unsaid
+from pertxogai.freecad.archive import DOCUMENT, open_archive, read_member
+from pertxogai.freecad.markup import BadMarkup, Kept, Node, read_markup
+from pertxogai.freecad.shapes import Numbered, read_outer, read_shapes
+from pertxogai.freecad.ties import Shapes, name_of, read_entry, say
+from pertxogai.gathering import Gathering
+
+SKETCH = "Sketcher::SketchObject"
+"""FreeCAD's word for the kind of object that a sketch is."""
+
+
+def read_freecad(path: Path) -> tuple[FoundSketch, ...]:
+    """Every sketch of a `.FCStd` file, in the file's order, with what was left out told.
+
+    Raises FileRefusal where the file can't be read, is no FreeCAD file, or has no sketch.
+    """
+    with open_archive(path) as archive:
+        objects = objects_of(path, read_member(path, archive, DOCUMENT))
+        found = tuple(_sketch(kept) for kept in objects if kept.kind == SKETCH)
+    if not found:
+        raise FileRefusal(f"{path}: no sketch in it: draw one by FreeCAD's Sketcher, and save")
+    return found
+
+
+def objects_of(path: Path, data: bytes) -> list[Kept]:
+    """The objects of a document's XML; raises FileRefusal where it isn't sound."""
+    try:
+        return read_markup(data)
+    except BadMarkup as bad:
+        raise FileRefusal(f"{path}: its {DOCUMENT} can't be read: {bad}") from None
+
+
+def _sketch(kept: Kept) -> FoundSketch:
+    """One sketch."""
+    gathering = Gathering()
+    shapes = Shapes(_shapes(kept, gathering))
+    aside = []
+    for count, node in enumerate(kept.list_of("Constraints"), 1):
+        why, name = _apart(node), name_of(node, count)
+        if why is not None:
+            aside.append(Aside(count, name, why, _said_aside(node, count, shapes)))
+            continue
+        try:
+            gathering.add_constraints(say(read_entry(node, count), shapes), name, count)
+        except Unsaid as unsaid:
+            gathering.leave_out(name, str(unsaid))
+    return gathering.found(kept.name, _label(kept), aside)
+
+
+def _shapes(kept: Kept, gathering: Gathering) -> list[Numbered]:
+    """The shapes of a sketch, outer ones last; those that can't be drawn have none."""
+    shapes, left_out = read_shapes(kept.list_of("Geometry"))
+    outer, outer_left_out = read_outer(kept.list_of("ExternalGeo"))
+    for one in left_out + outer_left_out:
+        gathering.leave_out(one.what, one.why)
+    return [one if one.shape is not None and gathering.add_shape(one.shape)
+            else replace(one, shape=None) for one in shapes + outer]
+
+
+def _said_aside(node: Node, count: int, shapes: Shapes) -> tuple[Constraint, ...]:
+    """What an entry that doesn't drive would ask for; nothing where it can't be said."""
+    try:
+        return tuple(say(read_entry(node, count), shapes))
+    except Unsaid:
+        return ()
+
+
+def _label(kept: Kept) -> str:
+    """What its designer calls a sketch."""
+    held = kept.properties.get("Label")
+    text = held.child("String") if held is not None else None
+    return (text.get("value", "") if text is not None else "") or kept.name
+
+
+def _apart(node: Node) -> Apart | None:
+    """Why an entry doesn't drive its sketch; nothing where it does."""
+    if node.get("IsActive", "1") == "0":
+        return Apart.OFF
+    if node.get("IsDriving", "1") == "0":
+        return Apart.REFERENCE
+    return None
