@@ -8,10 +8,11 @@ from __future__ import annotations
 from collections.abc import Sequence
 from dataclasses import replace
 
-from pertxogai.drawing import Constraint, Drawing, Scene, Shape
+from pertxogai.drawing import Constraint, Drawing, Shape
 from pertxogai.drawing.constraint_checks import check_constraint
 from pertxogai.drawing.names import MOST_CALLED
 from pertxogai.drawing.refusal import WordFault
+from pertxogai.drawing.scene import Scene
 from pertxogai.drawing.soundness import check_shape
 from pertxogai.found import Aside, FoundSketch, LeftOut
 
