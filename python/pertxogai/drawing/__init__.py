@@ -7,20 +7,28 @@ from pertxogai.drawing.constraints import (
     XDistance, YDistance)
 from pertxogai.drawing.geometry import (
     Arc, Axis, Circle, Datum, Origin, Point, Segment, Shape, Spot)
+from pertxogai.drawing.conveniences import Said, polyline, rectangle
 from pertxogai.drawing.meetings import Meetings
+from pertxogai.drawing.reading import read_drawing
+from pertxogai.drawing.refusal import DrawingRefusal, DrawingUnsound, WordFault
 from pertxogai.drawing.places import Place, place_mm, um_of_mm
 from pertxogai.drawing.references import (
     DATUM_NAMES, ORIGIN, X_AXIS, Y_AXIS, Pair, PointRef, ShapeRef, Which)
 from pertxogai.drawing.senses import Slope, Touch, Turn, run_um, touch, turn, way
-from pertxogai.drawing.sketching import Drawing, Note, points_of, spot_of
+from pertxogai.drawing.scene import Scene, points_of, spot_of
+from pertxogai.drawing.sketching import Drawing, Note
+from pertxogai.drawing.soundness import checked, faults
+from pertxogai.drawing.writing import line_of, words_of, write_drawing
 
 __all__ = [
     "AngleBetween", "AngleValue", "Arc", "Axis", "Circle", "Coincident", "Collinear",
     "Concentric", "Constraint", "DATUM_NAMES", "Datum", "Degrees", "Diameter", "Distance",
-    "Drawing", "Equal", "Fixed", "Horizontal", "Length", "Meetings", "Midpoint", "Note", "ORIGIN",
-    "Origin", "Pair", "Parallel", "ParallelDistance", "Perpendicular", "Place", "Point",
-    "PointLineDistance", "PointOn", "PointRef", "Radius", "Ratio", "Segment", "Sense", "Shape",
-    "ShapeRef", "Slope", "Spot", "Symmetric", "Tangent", "Touch", "Turn", "Vertical", "Which",
-    "XDistance", "X_AXIS", "YDistance", "Y_AXIS", "place_mm", "points_of", "run_um", "spot_of",
-    "touch", "turn", "um_of_mm", "way",
+    "Drawing", "DrawingRefusal", "DrawingUnsound", "Equal", "Fixed", "Horizontal", "Length",
+    "Meetings", "Midpoint", "Note", "ORIGIN", "Origin", "Pair", "Parallel", "ParallelDistance",
+    "Perpendicular", "Place", "Point", "PointLineDistance", "PointOn", "PointRef", "Radius",
+    "Ratio", "Said", "Scene", "Segment", "Sense", "Shape", "ShapeRef", "Slope", "Spot",
+    "Symmetric", "Tangent", "Touch", "Turn", "Vertical", "Which", "WordFault", "XDistance",
+    "X_AXIS", "YDistance", "Y_AXIS", "checked", "faults", "line_of", "place_mm", "points_of",
+    "polyline", "read_drawing", "rectangle", "run_um", "spot_of", "touch", "turn", "um_of_mm",
+    "way", "words_of", "write_drawing",
 ]

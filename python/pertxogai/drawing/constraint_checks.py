@@ -1,0 +1,212 @@
+"""Whether a constraint says what can be, of shapes that stand."""
+
+from __future__ import annotations
+
+from typing import assert_never
+
+from pertxogai.drawing.constraints import (
+    AngleBetween, AngleValue, Coincident, Collinear, Concentric, Constraint, Degrees, Diameter,
+    Distance, Equal, Fixed, Horizontal, Length, Midpoint, Parallel, ParallelDistance,
+    Perpendicular, PointLineDistance, PointOn, Radius, Sense, Symmetric, Tangent, Vertical,
+    XDistance, YDistance)
+from pertxogai.drawing.geometry import Point
+from pertxogai.drawing.kinds import (
+    MOST_UM, check_line, check_point, check_rim, check_size, is_rim, standing)
+from pertxogai.drawing.numbers import MOST_MM, MOST_RATIO, angle_text, mm_text
+from pertxogai.drawing.references import DATUM_NAMES, Pair, PointRef, ShapeRef, Which
+from pertxogai.drawing.refusal import WordFault
+from pertxogai.drawing.scene import Scene
+
+Measured = (AngleBetween | Length | Distance | XDistance | YDistance | PointLineDistance
+            | ParallelDistance | Radius | Diameter)
+"""The constraints that carry a value."""
+
+
+def check_constraint(scene: Scene, constraint: Constraint) -> None:
+    """Raises WordFault unless the constraint's shapes, points and values are what it takes."""
+    match constraint:
+        case Coincident(first, second):
+            _check_points(scene, first, second)
+        case PointOn(point, curve):
+            _check_point_on(scene, point, curve)
+        case Horizontal(Pair(first, second)) | Vertical(Pair(first, second)):
+            _check_points(scene, first, second)
+        case Horizontal(ShapeRef() as line) | Vertical(ShapeRef() as line):
+            check_line(scene, line, datum=False)
+        case Midpoint(point, segment):
+            check_point(scene, point)
+            check_line(scene, segment, datum=False)
+            _check_not_own(point, segment)
+        case Symmetric(first, second, about):
+            _check_symmetric(scene, first, second, about)
+        case Fixed(what):
+            _check_fixed(scene, what)
+        case (AngleBetween() | Length() | Distance() | XDistance() | YDistance() | Radius()
+              | PointLineDistance() | ParallelDistance() | Diameter()):
+            _check_measured(scene, constraint)
+        case _:
+            _check_shapes(scene, constraint)
+
+
+def _check_shapes(scene: Scene, constraint: Parallel | Collinear | Perpendicular | Tangent
+                  | Equal | Concentric | Horizontal | Vertical) -> None:
+    """Constraints of two shapes."""
+    match constraint:
+        case Parallel(first, second) | Collinear(first, second):
+            _check_lines(scene, first, second)
+        case Perpendicular(first, second, at):
+            _check_lines(scene, first, second)
+            _check_ends(scene, first, second, at)
+        case Tangent(first, second, at):
+            _check_touching(scene, first, second)
+            _check_ends(scene, first, second, at)
+        case Equal(first, second):
+            _check_equal(scene, first, second)
+        case Concentric(first, second):
+            _check_rims(scene, first, second)
+        case Horizontal() | Vertical():
+            raise AssertionError(constraint)
+        case _:
+            assert_never(constraint)
+
+
+def _check_measured(scene: Scene, constraint: Measured) -> None:
+    match constraint:
+        case AngleBetween(line, other, value, sense):
+            _check_lines(scene, line, other)
+            _check_angle(value, sense)
+        case Length(segment, value_um):
+            check_line(scene, segment, datum=False)
+            check_size(value_um, "length")
+        case Distance(first, second, value_um):
+            _check_points(scene, first, second)
+            check_size(value_um, "distance")
+        case XDistance(first, second) | YDistance(first, second):
+            _check_points(scene, first, second)
+            _check_run(constraint)
+        case PointLineDistance(point, line, value_um):
+            check_point(scene, point)
+            check_line(scene, line)
+            _check_not_own(point, line)
+            check_size(value_um, "distance")
+        case ParallelDistance(line, other, value_um):
+            _check_lines(scene, line, other)
+            check_size(value_um, "distance")
+        case Radius(rim, value_um) | Diameter(rim, value_um):
+            check_rim(scene, rim)
+            check_size(value_um, type(constraint).__name__.lower())
+        case _:
+            assert_never(constraint)
+
+
+def _check_points(scene: Scene, first: PointRef, second: PointRef) -> None:
+    check_point(scene, first)
+    check_point(scene, second)
+    if first == second:
+        raise WordFault(str(second), "stands twice: write two different points")
+
+
+def _check_different(first: ShapeRef, second: ShapeRef) -> None:
+    if first == second:
+        raise WordFault(second.name, "stands twice: write two different shapes")
+
+
+def _check_lines(scene: Scene, first: ShapeRef, second: ShapeRef) -> None:
+    check_line(scene, first)
+    check_line(scene, second)
+    _check_different(first, second)
+    if {first.name, second.name} <= DATUM_NAMES:
+        raise WordFault(second.name, "is an axis as the other is: write a segment for one of them")
+
+
+def _check_rims(scene: Scene, first: ShapeRef, second: ShapeRef) -> None:
+    check_rim(scene, first)
+    check_rim(scene, second)
+    _check_different(first, second)
+
+
+def _check_point_on(scene: Scene, point: PointRef, curve: ShapeRef) -> None:
+    check_point(scene, point)
+    if not is_rim(scene, curve):
+        check_line(scene, curve)
+    _check_not_own(point, curve)
+
+
+def _check_not_own(point: PointRef, shape: ShapeRef) -> None:
+    if point.shape == shape.name:
+        raise WordFault(str(point), f"is a point of {shape.name} itself: write another point")
+
+
+def _check_touching(scene: Scene, first: ShapeRef, second: ShapeRef) -> None:
+    for each in (first, second):
+        if not is_rim(scene, each):
+            check_line(scene, each)
+    _check_different(first, second)
+    if not is_rim(scene, first) and not is_rim(scene, second):
+        raise WordFault(second.name, "is no circle or arc: two segments that touch are `collinear`")
+
+
+def _check_ends(scene: Scene, first: ShapeRef, second: ShapeRef, at: Pair | None) -> None:
+    if at is None:
+        return
+    for point, shape in ((at.first, first), (at.second, second)):
+        check_point(scene, point)
+        if point.shape != shape.name or point.which not in (Which.START, Which.END):
+            raise WordFault(str(point), f"is no end of {shape.name}: write {shape.name}.start or "
+                                        f"{shape.name}.end")
+
+
+def _check_equal(scene: Scene, first: ShapeRef, second: ShapeRef) -> None:
+    if is_rim(scene, first) or is_rim(scene, second):
+        _check_rims(scene, first, second)
+        return
+    check_line(scene, first, datum=False)
+    check_line(scene, second, datum=False)
+    _check_different(first, second)
+
+
+def _check_symmetric(scene: Scene, first: PointRef, second: PointRef,
+                     about: ShapeRef | PointRef) -> None:
+    _check_points(scene, first, second)
+    if isinstance(about, ShapeRef):
+        check_line(scene, about)
+        return
+    check_point(scene, about)
+    if about in (first, second):
+        raise WordFault(str(about), "stands twice: write a third point, or a segment")
+
+
+def _check_fixed(scene: Scene, what: PointRef | ShapeRef) -> None:
+    if isinstance(what, PointRef):
+        check_point(scene, what)
+    else:
+        standing(scene, what.name, what.name)
+    name = what.shape if isinstance(what, PointRef) else what.name
+    if name in DATUM_NAMES:
+        raise WordFault(name, "is the datum, which is fixed from the start: leave the line out")
+    if isinstance(what, ShapeRef) and isinstance(scene.shape(name), Point):
+        raise WordFault(name, "is a point: fix it by a PointRef")
+
+
+def _check_angle(value: AngleValue, sense: Sense) -> None:
+    word = angle_text(value, sense is Sense.SIGNED)
+    match value:
+        case Degrees(degrees) if degrees % 180 == 0:
+            raise WordFault(word, "is no angle of two lines that cross: write `parallel` instead")
+        case Degrees(degrees) if sense is Sense.DRAWN and not 0 < degrees < 180:
+            raise WordFault(word, "is no angle: write one above 0 and below 180 degrees")
+        case Degrees(degrees) if abs(degrees) > 360:
+            raise WordFault(word, "is more than a whole turn: write at most 360 degrees")
+    if not isinstance(value, Degrees) and (
+            value.p == 0 or value.q < 0 or max(abs(value.p), value.q) > MOST_RATIO
+            or (sense is Sense.DRAWN and value.p < 0)):
+        raise WordFault(word, f"is no ratio of this text: its numbers are at most {MOST_RATIO}, "
+                              "and the first isn't 0")
+
+
+def _check_run(constraint: XDistance | YDistance) -> None:
+    value_um = constraint.value_um
+    if abs(value_um) > MOST_UM:
+        raise WordFault(mm_text(value_um), f"is beyond {MOST_MM} mm: write less")
+    if constraint.sense is Sense.DRAWN and value_um < 0:
+        raise WordFault(mm_text(value_um), "has a minus where the drawing is to decide")

@@ -1,0 +1,97 @@
+"""Numbers of the text: millimetres, inches, degrees, ratios; read exactly, written exactly."""
+
+from __future__ import annotations
+
+import re
+from fractions import Fraction
+
+from pertxogai.drawing.constraints import AngleValue, Degrees, Ratio
+from pertxogai.drawing.places import UM_PER_MM
+from pertxogai.drawing.refusal import WordFault
+
+MOST_MM = 1_000_000
+"""No coordinate, length or radius is greater, in millimetres, as in the language."""
+
+MOST_RATIO = 10_000
+"""No number of a ratio is greater, as in the language."""
+
+_DIGITS = 20
+_NUMBER = re.compile(r"([+-]?)([0-9]{1,7}(?:\.[0-9]{1,20})?)(mm|in)?\Z")
+_DEGREES = re.compile(r"([+-]?)([0-9]{1,3}(?:\.[0-9]{1,20})?)(?:deg|°)\Z")
+_RATIO = re.compile(r"([+-]?)([0-9]{1,5})/([0-9]{1,5})\Z")
+_UM_OF_UNIT = {None: Fraction(UM_PER_MM), "mm": Fraction(UM_PER_MM), "in": Fraction(25_400)}
+
+
+def is_number(word: str) -> bool:
+    """Whether a word stands where a number is meant: it begins as one."""
+    return word[:1].isdigit() or (word[:1] in "+-." and len(word) > 1)
+
+
+def has_sign(word: str) -> bool:
+    """Whether a number is written with its sign."""
+    return word[:1] in "+-"
+
+
+def read_um(word: str) -> Fraction:
+    """The micrometres of a number of millimetres, as `120`, `-2.5`, `40mm` or `1.5in`."""
+    found = _NUMBER.match(word)
+    if found is None:
+        raise WordFault(word, _why_no_number(word))
+    value = Fraction(found[2]) * _UM_OF_UNIT[found[3]]
+    if value > MOST_MM * UM_PER_MM:
+        raise WordFault(word, "is beyond 1000000 mm: give lengths in millimetres, or as 1.5in")
+    return -value if found[1] == "-" else value
+
+
+def _why_no_number(word: str) -> str:
+    if "," in word:
+        return f"is no number: write a point for the comma, as {word.replace(',', '.')}"
+    if re.match(r"[+-]?[0-9.]+(cm|m|um|µm|\"|')\Z", word):
+        return "has a unit that isn't read: write millimetres, as 12.5, or inches, as 0.5in"
+    return "is no number: write one in millimetres, as 12.5, or in inches, as 0.5in"
+
+
+def read_angle(word: str) -> AngleValue:
+    """An angle, as `60deg`, `-22.5deg` or `1/2`, with the sign that stands there."""
+    degrees, ratio = _DEGREES.match(word), _RATIO.match(word)
+    if degrees is not None:
+        value = Fraction(degrees[2])
+        return Degrees(-value if degrees[1] == "-" else value)
+    if ratio is not None:
+        return _ratio(word, -1 if ratio[1] == "-" else 1, int(ratio[2]), int(ratio[3]))
+    if _NUMBER.match(word):
+        raise WordFault(word, f"is no angle: write {word}deg, or a ratio as 1/2")
+    raise WordFault(word, "is no angle: write degrees, as 60deg, or a ratio, as 1/2")
+
+
+def _ratio(word: str, sign: int, p: int, q: int) -> Ratio:
+    if p == 0:
+        raise WordFault(word, "is no angle of two lines that cross: write `parallel` instead")
+    if max(p, q) > MOST_RATIO:
+        raise WordFault(word, f"has a number over {MOST_RATIO}: write a nearer ratio, or degrees")
+    return Ratio(sign * p, q)
+
+
+def mm_text(value_um: Fraction) -> str:
+    """A number of micrometres in millimetres, exact where it is a decimal of at most twenty
+    digits behind the point, else rounded there."""
+    return decimal_text(value_um / UM_PER_MM)
+
+
+def decimal_text(value: Fraction) -> str:
+    """A number as a decimal, without needless zeros."""
+    scaled = round(abs(value) * 10 ** _DIGITS)
+    whole, rest = divmod(scaled, 10 ** _DIGITS)
+    digits = f"{rest:0{_DIGITS}}".rstrip("0")
+    sign = "-" if value < 0 and scaled else ""
+    return f"{sign}{whole}.{digits}" if digits else f"{sign}{whole}"
+
+
+def angle_text(value: AngleValue, signed: bool) -> str:
+    """An angle as it is written, with its sign also where it is plus if `signed`."""
+    match value:
+        case Degrees(degrees):
+            text, minus = f"{decimal_text(abs(degrees))}deg", degrees < 0
+        case Ratio(p, q):
+            text, minus = f"{abs(p)}/{q}", p < 0
+    return ("-" if minus else "+" if signed else "") + text

@@ -1,0 +1,184 @@
+"""The text of a drawing, read.
+
+A line draws a shape or asks for a constraint; `#` begins a note; blank lines are passed over. A
+name is drawn in a line above the one that uses it. A constraint may have a name in front, as
+`Left width: length Bottom 120`. The first line may be `drawing 1`.
+"""
+
+from __future__ import annotations
+
+from dataclasses import dataclass
+
+from pertxogai.drawing.constraint_checks import check_constraint
+from pertxogai.drawing.constraint_lines import ConstraintWord, read_constraints
+from pertxogai.drawing.constraints import Constraint
+from pertxogai.drawing.conveniences import Said
+from pertxogai.drawing.cursor import Cursor
+from pertxogai.drawing.geometry import Shape
+from pertxogai.drawing.names import nearest
+from pertxogai.drawing.refusal import DrawingRefusal, WordFault
+from pertxogai.drawing.scene import Scene
+from pertxogai.drawing.shape_lines import Flag, ShapeWord, read_shape
+from pertxogai.drawing.sketching import Drawing, Note
+from pertxogai.drawing.soundness import check_name
+from pertxogai.drawing.writing import HEADER
+
+MOST_BYTES = 1_048_576
+"""No text is longer, as in the language."""
+
+MOST_SHAPES = 2_000
+"""No text has more shapes: the program takes no more elements."""
+
+MOST_CONSTRAINTS = 4_000
+"""No text has more constraints, as in the language."""
+
+MOST_LETTERS = 1_000
+"""No line is longer."""
+
+
+def read_drawing(text: str) -> Drawing:
+    """The drawing that a text says; raises DrawingRefusal at its first faulty line."""
+    if len(text.encode("utf-8", "surrogatepass")) > MOST_BYTES:
+        raise DrawingRefusal(0, "", f"has more than {MOST_BYTES} bytes: split the drawing")
+    reader = _Reader()
+    for number, line in enumerate(text.split("\n"), start=1):
+        try:
+            reader.take(line.removesuffix("\r"))
+        except WordFault as fault:
+            raise DrawingRefusal(number, fault.word, fault.what) from None
+    if not reader.shapes:
+        raise DrawingRefusal(0, "", "draws nothing: write a line as `segment Bottom 0 0 40 0`")
+    return reader.drawing()
+
+
+@dataclass(frozen=True)
+class _Mark:
+    """What a note stands at: the shape or the constraint of this place among its own."""
+
+    text: str
+    asks: bool
+    place: int
+    beside: bool
+
+
+class _Reader:
+    """What stands above the line that is read."""
+
+    def __init__(self) -> None:
+        self.shapes: list[Shape] = []
+        self._constraints: list[Constraint] = []
+        self._marks: list[_Mark] = []
+        self._loose: list[str] = []
+        self._names: set[str] = set()
+        self._scene = Scene()
+        self._began = False
+
+    def take(self, line: str) -> None:
+        """One line; raises WordFault where it is refused."""
+        _check_text(line)
+        said, mark, note = line.partition("#")
+        if not said.strip():
+            self._loose.extend([note.strip()] if mark else [])
+            return
+        first = not self._began
+        self._began = True
+        if first and said.split() == HEADER.split():
+            return
+        shapes, constraints = len(self.shapes), len(self._constraints)
+        asks = self._say(said)
+        place = constraints if asks else shapes
+        self._marks.extend(_Mark(text, asks, place, False) for text in self._loose)
+        self._marks.extend([_Mark(note.strip(), asks, place, True)] if mark else [])
+        self._loose.clear()
+
+    def _say(self, said: str) -> bool:
+        """Takes what a line says; whether it asks for a constraint."""
+        name, colon, rest = said.rpartition(":")
+        words = rest.split()
+        if not words:
+            raise WordFault(said.strip(), "names nothing: write a constraint behind the colon")
+        flags, words = _flags(words)
+        word = _word(words[0])
+        if isinstance(word, ShapeWord):
+            if colon:
+                raise WordFault(name.strip(), "is a name in front of a shape, whose name stands "
+                                f"behind its word: write {word.value} NAME ..")
+            self._draw(read_shape(word, flags, Cursor(self._scene, words)))
+            return False
+        if flags:
+            raise WordFault(words[0], "is no shape, and only shapes are construction or outer")
+        self._ask(word, words, name.strip() if colon else None)
+        return True
+
+    def _draw(self, said: Said) -> None:
+        self.shapes.extend(said.shapes)
+        self._constraints.extend(said.constraints)
+        if len(self.shapes) > MOST_SHAPES:
+            raise WordFault(self.shapes[-1].name, f"is one more than {MOST_SHAPES} shapes: split "
+                                                  "the drawing")
+
+    def _ask(self, word: ConstraintWord, words: list[str], name: str | None) -> None:
+        if name is not None:
+            check_name(name, self._names)
+        for constraint in read_constraints(word, Cursor(self._scene, words), name):
+            check_constraint(self._scene, constraint)
+            self._constraints.append(constraint)
+        if len(self._constraints) > MOST_CONSTRAINTS:
+            raise WordFault(words[0], f"is one more than {MOST_CONSTRAINTS} constraints: split "
+                                      "the drawing")
+
+    def drawing(self) -> Drawing:
+        """The drawing of all lines."""
+        shapes, constraints = tuple(self.shapes), tuple(self._constraints)
+        notes = [Note(mark.text, mark.place + len(shapes) * mark.asks, mark.beside)
+                 for mark in self._marks]
+        notes.extend(Note(text, len(shapes) + len(constraints)) for text in self._loose)
+        return Drawing(shapes, constraints, tuple(sorted(notes, key=lambda note: note.before)))
+
+
+def _check_text(line: str) -> None:
+    for letter in line:
+        if not (letter.isprintable() or letter == "\t"):
+            raise WordFault(f"U+{ord(letter):04X}", "is no letter of a text: is the file a drawing?")
+    if len(line) > MOST_LETTERS:
+        raise WordFault(line[:20] + "..", f"begins a line of more than {MOST_LETTERS} letters: "
+                                          "write shorter ones")
+
+
+def _flags(words: list[str]) -> tuple[frozenset[Flag], list[str]]:
+    """The flags in front of a line's word, and the words behind them."""
+    flags: set[Flag] = set()
+    values = {flag.value for flag in Flag}
+    for place, word in enumerate(words):
+        if word not in values:
+            return frozenset(flags), words[place:]
+        flags.add(Flag(word))
+    raise WordFault(words[-1], "is the last word, and a shape's word is missing behind it")
+
+
+def _word(word: str) -> ShapeWord | ConstraintWord:
+    """The word that says what a line is."""
+    if word in {each.value for each in ShapeWord}:
+        return ShapeWord(word)
+    if word in {each.value for each in ConstraintWord}:
+        return ConstraintWord(word)
+    raise WordFault(word, _advice(word))
+
+
+def _advice(word: str) -> str:
+    """What to write for a word that begins no line."""
+    match word.lower():
+        case "line" | "edge":
+            return "is no word of a drawing: write `segment NAME START END`"
+        case "sketch":
+            return "begins a sketch of the language, and no drawing: ./pertxogai check reads it"
+        case "drawing":
+            return "begins the text, and only its first line, as `drawing 1`"
+        case "end":
+            return "is no word of a drawing, which just ends: leave it out"
+        case "block" | "outside" | "inside":
+            return "is a word of the sketch language: see python/DRAWING.md for a drawing's words"
+        case "width" | "height" | "dimension" | "dim":
+            return "is no word of a drawing: write `length SEGMENT 40` or `distance A B 40`"
+    known = [each.value for kind in (ShapeWord, ConstraintWord, Flag) for each in kind]
+    return "is no word that begins a line: see python/DRAWING.md" + nearest(word, known)

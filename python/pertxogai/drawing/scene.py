@@ -1,0 +1,94 @@
+"""The shapes that stand, looked up by name: the datum from the start, and those added since."""
+
+from __future__ import annotations
+
+from collections.abc import Iterable
+from fractions import Fraction
+
+from pertxogai.drawing.exact import root_near
+from pertxogai.drawing.geometry import Arc, Axis, Circle, Datum, Origin, Point, Segment, Shape, Spot
+from pertxogai.drawing.places import Place
+from pertxogai.drawing.references import ORIGIN, X_AXIS, Y_AXIS, PointRef, Which
+
+
+class Scene:
+    """Shapes by their names. All lookups raise KeyError at a name that isn't there."""
+
+    def __init__(self, shapes: Iterable[Shape] = ()) -> None:
+        self._shapes: dict[str, Shape | Datum] = {
+            ORIGIN.shape: Origin(), X_AXIS.name: Axis(False), Y_AXIS.name: Axis(True)}
+        for shape in shapes:
+            self.add(shape)
+
+    def add(self, shape: Shape) -> None:
+        """Takes one more shape, whose name is free."""
+        self._shapes[shape.name] = shape
+
+    def names(self) -> tuple[str, ...]:
+        """All names, the datum's first."""
+        return tuple(self._shapes)
+
+    def has(self, name: str) -> bool:
+        """Whether a shape, or a part of the datum, has that name."""
+        return name in self._shapes
+
+    def shape(self, name: str) -> Shape | Datum:
+        """The shape of that name, or that part of the datum."""
+        return self._shapes[name]
+
+    def points(self, name: str) -> tuple[PointRef, ...]:
+        """The points of a shape, or the datum's origin; an axis has none."""
+        shape = self.shape(name)
+        match shape:
+            case Origin():
+                return (ORIGIN,)
+            case Axis():
+                return ()
+            case _:
+                return points_of(shape)
+
+    def drawn(self, ref: PointRef) -> Place:
+        """Where a point is drawn."""
+        spot = spot_of(self.shape(ref.shape), ref.which)
+        return self.drawn(spot) if isinstance(spot, PointRef) else spot
+
+    def drawn_radius_um(self, name: str) -> Fraction:
+        """The drawn radius of a circle or an arc, in micrometres; an arc's is the distance of
+        its drawn centre and start, to the nearest micrometre and at least 1."""
+        shape = self.shape(name)
+        if isinstance(shape, Circle):
+            return shape.radius_um
+        centre = self.drawn(PointRef(name, Which.CENTRE))
+        start = self.drawn(PointRef(name, Which.START))
+        square = (start.x_um - centre.x_um) ** 2 + (start.y_um - centre.y_um) ** 2
+        return Fraction(max(1, root_near(square)))
+
+
+def points_of(shape: Shape) -> tuple[PointRef, ...]:
+    """The points that a shape has, in the order in which its line of text tells them."""
+    match shape:
+        case Point():
+            which: tuple[Which, ...] = (Which.AT,)
+        case Segment():
+            which = (Which.START, Which.END)
+        case Circle():
+            which = (Which.CENTRE,)
+        case Arc():
+            which = (Which.CENTRE, Which.START, Which.END)
+    return tuple(PointRef(shape.name, each) for each in which)
+
+
+def spot_of(shape: Shape | Datum, which: Which) -> Spot:
+    """The spot of one point of a shape; KeyError where the shape has no such point."""
+    match shape:
+        case Origin() if which is Which.AT:
+            return Place(Fraction(0), Fraction(0))
+        case Point() if which is Which.AT:
+            return shape.at
+        case Segment() | Arc() if which is Which.START:
+            return shape.start
+        case Segment() | Arc() if which is Which.END:
+            return shape.end
+        case Circle() | Arc() if which is Which.CENTRE:
+            return shape.centre
+    raise KeyError(which)

@@ -1,0 +1,75 @@
+"""Lines that draw: point, segment, circle, arc, polyline, rectangle."""
+
+from __future__ import annotations
+
+from dataclasses import replace
+from enum import Enum
+
+from pertxogai.drawing.conveniences import Said, polyline, rectangle
+from pertxogai.drawing.cursor import Cursor
+from pertxogai.drawing.geometry import Arc, Circle, Point, Segment, Shape, Spot
+from pertxogai.drawing.names import check_shape_name
+from pertxogai.drawing.soundness import check_shape
+
+
+class ShapeWord(Enum):
+    """The words that draw."""
+
+    POINT = "point"
+    SEGMENT = "segment"
+    CIRCLE = "circle"
+    ARC = "arc"
+    POLYLINE = "polyline"
+    RECTANGLE = "rectangle"
+
+
+class Flag(Enum):
+    """The words that may stand in front of those."""
+
+    CONSTRUCTION = "construction"
+    OUTER = "outer"
+
+
+def read_shape(word: ShapeWord, flags: frozenset[Flag], words: Cursor) -> Said:
+    """What a line that draws says; the cursor stands behind its first word. The shapes are put
+    to the cursor's scene."""
+    name = words.word("a name")
+    check_shape_name(name)
+    said = _drawn(word, name, words)
+    words.end()
+    shapes = tuple(_flagged(shape, flags) for shape in said.shapes)
+    for shape in shapes:
+        check_shape(words.scene, shape)
+        words.scene.add(shape)
+    return replace(said, shapes=shapes)
+
+
+def _flagged(shape: Shape, flags: frozenset[Flag]) -> Shape:
+    return replace(shape, construction=Flag.CONSTRUCTION in flags, outer=Flag.OUTER in flags)
+
+
+def _drawn(word: ShapeWord, name: str, words: Cursor) -> Said:
+    match word:
+        case ShapeWord.POINT:
+            return Said((Point(name, words.place()),))
+        case ShapeWord.SEGMENT:
+            return Said((Segment(name, words.spot("its start"), words.spot("its end")),))
+        case ShapeWord.CIRCLE:
+            return Said((Circle(name, words.spot("its centre"), words.um("its drawn radius")),))
+        case ShapeWord.ARC:
+            return Said((Arc(name, words.spot("its centre"), words.spot("its start"),
+                             words.spot("its end")),))
+        case ShapeWord.POLYLINE:
+            corners = _corners(words)
+            closed = words.took("closed")
+            return polyline(name, corners, closed)
+        case ShapeWord.RECTANGLE:
+            return rectangle(words.scene, name, words.spot("a corner"),
+                             words.spot("the opposite corner"))
+
+
+def _corners(words: Cursor) -> tuple[Spot, ...]:
+    corners: list[Spot] = []
+    while words.left() and words.peek() != "closed":
+        corners.append(words.spot("a corner"))
+    return tuple(corners)

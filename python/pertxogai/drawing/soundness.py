@@ -1,0 +1,87 @@
+"""Whether a drawing says what can be: each shape and each constraint of it."""
+
+from __future__ import annotations
+
+from collections.abc import Iterator
+from fractions import Fraction
+
+from pertxogai.drawing.constraint_checks import check_constraint
+from pertxogai.drawing.geometry import Arc, Circle, Segment, Shape, Spot
+from pertxogai.drawing.kinds import MOST_UM, check_point, check_size
+from pertxogai.drawing.names import check_constraint_name, check_shape_name
+from pertxogai.drawing.numbers import MOST_MM, mm_text
+from pertxogai.drawing.references import PointRef
+from pertxogai.drawing.refusal import DrawingUnsound, WordFault
+from pertxogai.drawing.scene import Scene, points_of, spot_of
+from pertxogai.drawing.sketching import Drawing
+
+
+def faults(drawing: Drawing) -> tuple[DrawingUnsound, ...]:
+    """What is unsound about a drawing, one fault for each shape or constraint at most.
+
+    Constraints are looked at only where all shapes are sound."""
+    return tuple(_shape_faults(drawing)) or tuple(_constraint_faults(drawing))
+
+
+def checked(drawing: Drawing) -> Drawing:
+    """The drawing itself; raises its first DrawingUnsound."""
+    for fault in faults(drawing):
+        raise fault
+    return drawing
+
+
+def _shape_faults(drawing: Drawing) -> Iterator[DrawingUnsound]:
+    scene = Scene()
+    for shape in drawing.geometry:
+        try:
+            check_shape(scene, shape)
+            scene.add(shape)
+        except WordFault as fault:
+            yield DrawingUnsound(shape.name, fault.word, fault.what)
+
+
+def _constraint_faults(drawing: Drawing) -> Iterator[DrawingUnsound]:
+    names: set[str] = set()
+    for number, constraint in enumerate(drawing.constraints, start=1):
+        try:
+            if constraint.name is not None:
+                check_name(constraint.name, names)
+            check_constraint(drawing.scene, constraint)
+        except WordFault as fault:
+            yield DrawingUnsound(drawing.called(number), fault.word, fault.what)
+
+
+def check_name(name: str, taken: set[str]) -> None:
+    """Takes a constraint's name; raises WordFault where it is none, or taken."""
+    check_constraint_name(name)
+    if name in taken:
+        raise WordFault(name, "is a constraint already: take another name")
+    taken.add(name)
+
+
+def check_shape(scene: Scene, shape: Shape) -> None:
+    """Raises WordFault unless the shape may be added to those that stand."""
+    check_shape_name(shape.name)
+    if scene.has(shape.name):
+        raise WordFault(shape.name, "is drawn already: take another name")
+    spots = tuple(spot_of(shape, ref.which) for ref in points_of(shape))
+    places = tuple(_place(scene, spot) for spot in spots)
+    match shape:
+        case Circle():
+            check_size(shape.radius_um, "radius")
+        case Segment() if places[0] == places[1]:
+            raise WordFault(shape.name, "is drawn from a place to itself: draw its ends apart")
+        case Arc() if places[0] in places[1:]:
+            raise WordFault(shape.name, "has an end drawn at its centre: draw them apart")
+        case Arc() if places[1] == places[2]:
+            raise WordFault(shape.name, "ends where it starts: draw a circle, or its ends apart")
+
+
+def _place(scene: Scene, spot: Spot) -> tuple[Fraction, Fraction]:
+    if isinstance(spot, PointRef):
+        check_point(scene, spot)
+        spot = scene.drawn(spot)
+    for value in (spot.x_um, spot.y_um):
+        if abs(value) > MOST_UM:
+            raise WordFault(mm_text(value), f"is beyond {MOST_MM} mm: draw it nearer")
+    return spot.x_um, spot.y_um
