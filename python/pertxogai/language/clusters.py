@@ -1,8 +1,11 @@
 """Clusters by their names, and the steps that join them."""
 from __future__ import annotations
 
+import re
 from dataclasses import dataclass
 from enum import Enum
+
+_CLUSTER = re.compile("([cs])([1-9][0-9]{0,5})")
 
 
 @dataclass(frozen=True)
@@ -15,6 +18,12 @@ class ClusterName:
     def text(self) -> str:
         """As reports have it: `c3` or `s1`."""
         return f"{'s' if self.is_step else 'c'}{self.number}"
+
+
+def read_cluster(word: str) -> ClusterName | None:
+    """The cluster of a word, or None where it is no cluster's name: a number goes from 1 to 999999."""
+    found = _CLUSTER.fullmatch(word)
+    return ClusterName(found[1] == "s", int(found[2])) if found else None
 
 
 class Choice(Enum):

@@ -3,18 +3,10 @@ from __future__ import annotations
 
 from .constraints import Angle, Block, Constraint, Distance, Inside, On, Outside, Tangent
 from .elements import Circle, Element, Line, Point
-from .refusal import Code
+from .refusal import Code, Faulty
 
 MOST_ELEMENTS = 2_000
 MOST_CONSTRAINTS = 4_000
-
-
-class Faulty(Exception):
-    """A line is refused by a code."""
-
-    def __init__(self, code: Code) -> None:
-        super().__init__(code.name)
-        self.code = code
 
 
 class Declared:

@@ -4,11 +4,11 @@ from __future__ import annotations
 from collections.abc import Callable, Sequence
 
 from .constraints import (MOST_PLACES, Angle, Block, BlockPlace, Constraint, Distance, Inside, On, Outside, Tangent)
-from .declared import Declared, Faulty
+from .declared import Declared
 from .elements import Circle, Element, Line, Point
 from .names import is_name
 from .numbers import read_ratio, read_um
-from .refusal import Code
+from .refusal import Code, Faulty
 
 _COUNTS = {"point": 4, "line": 6, "circle": 5, "distance": 4, "on": 3, "tangent": 3, "outside": 3, "inside": 3,
            "angle": 4}

@@ -59,3 +59,11 @@ class Refusal(ValueError):
     def __init__(self, refused: Refused) -> None:
         super().__init__(refused.text().rstrip())
         self.refused = refused
+
+
+class Faulty(Exception):
+    """A line is refused by a code, whatever its number."""
+
+    def __init__(self, code: Code) -> None:
+        super().__init__(code.name)
+        self.code = code

@@ -1,10 +1,10 @@
 """A text as its lines, and a line as its words."""
 from __future__ import annotations
 
-from collections.abc import Iterator
+from collections.abc import Callable, Iterator, Sequence
 from dataclasses import dataclass
 
-from .refusal import Code, Refusal, Refused
+from .refusal import Code, Faulty, Refusal, Refused
 
 MOST_TEXT = 1_048_576
 MOST_LINE = 200
@@ -60,3 +60,21 @@ def sound_rows(rows: list[Row]) -> Iterator[Row]:
         if code:
             raise row.refusal(code)
         yield row
+
+
+def read_lines_behind(rows: list[Row], take: Callable[[Sequence[str]], bool], lines: int) -> None:
+    """Hands the words of each line to `take`, until it says that it has all, and sees that only blank lines follow.
+    There are no comments. lines: how many the whole text has. Raises Refusal (E15, E17, E19, E16, and as `take`)."""
+    is_ended = False
+    for row in sound_rows(rows):
+        words = row.words(False)
+        if not words:
+            continue
+        if is_ended:
+            raise row.refusal(Code.E17)
+        try:
+            is_ended = take(words)
+        except Faulty as fault:
+            raise row.refusal(fault.code) from None
+    if not is_ended:
+        raise Refusal(Refused(lines + 1, Code.E16))

@@ -5,10 +5,10 @@ from collections.abc import Iterable, Sequence
 from dataclasses import dataclass
 
 from .constraints import Constraint
-from .declared import Declared, Faulty
+from .declared import Declared
 from .elements import Element
 from .entries import check_shape, is_element, read_constraint, read_element
-from .refusal import Code, Refusal, Refused
+from .refusal import Code, Faulty, Refusal, Refused
 from .rows import Row, has_word, rows_of, sound_rows
 
 

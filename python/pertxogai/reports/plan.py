@@ -7,7 +7,7 @@ from dataclasses import dataclass
 from ..language.clusters import Choice, ClusterName, Step
 from ..language.constraints import Constraint
 from ..language.entries import check_shape, read_constraint
-from ..language.declared import Faulty
+from ..language.refusal import Faulty
 from .check import Verdict, take_counts, take_verdict
 from .rows import CLUSTER, COUNT, NAME, Rows, cluster, whole
 

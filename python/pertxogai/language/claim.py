@@ -1,0 +1,129 @@
+"""What `verify` reads: a sketch, and behind it the steps, places and tolerances that someone says of it."""
+from __future__ import annotations
+
+import re
+from collections.abc import Sequence
+from dataclasses import dataclass
+
+from .clusters import Choice, ClusterName, Step, read_cluster
+from .elements import Circle, Line, Point
+from .names import is_name
+from .places import Placed, PlacedCircle, PlacedLine, PlacedPoint
+from .refusal import Code, Faulty
+from .rows import read_lines_behind, rows_of
+from .sketch import Sketch, read_sketch
+
+MOST_PLACE_NM = 1 << 60
+MOST_NORMAL_PPB = 2_000_000_000
+MOST_TOLERANCE = 1 << 62
+_WHOLE = re.compile("-?[0-9]{1,19}")
+_COUNTS = {"step": (13, 14), "point": (4,), "circle": (5,), "line": (5,), "tolerance": (3,)}
+
+
+@dataclass(frozen=True)
+class Claim:
+    """A sketch, and what is said of it: the steps in their order, where elements lie, and within how many nm each
+    length and how many parts per 10^9 each angle and normal holds."""
+
+    sketch: Sketch
+    steps: tuple[Step, ...]
+    places: tuple[Placed, ...]
+    length_tolerance_nm: int
+    angle_tolerance_ppb: int
+
+    def text(self) -> str:
+        """The text that `verify` reads."""
+        lines = [*(step.text() for step in self.steps), *(placed.text() for placed in self.places),
+                 f"tolerance {self.length_tolerance_nm} {self.angle_tolerance_ppb}", ""]
+        return self.sketch.text() + "\n".join(lines)
+
+    @staticmethod
+    def parse(text: str) -> Claim:
+        """The sketch and claim that a text is. Raises Refusal."""
+        rows = rows_of(text)
+        sketch, rest = read_sketch(rows)
+        reader = _Reader(sketch)
+        read_lines_behind(rest, reader.take, len(rows))
+        return reader.claim()
+
+
+class _Reader:
+    """The claim so far."""
+
+    def __init__(self, sketch: Sketch) -> None:
+        self.sketch = sketch
+        self.kinds = {element.name: type(element) for element in sketch.elements}
+        self.steps: list[Step] = []
+        self.places: dict[str, Placed] = {}
+        self.tolerances = (0, 0)
+
+    def claim(self) -> Claim:
+        """The claim of the lines that were taken."""
+        return Claim(self.sketch, tuple(self.steps), tuple(self.places.values()), *self.tolerances)
+
+    def take(self, words: Sequence[str]) -> bool:
+        """Adds a line, and returns whether it is that of the tolerances. Raises Faulty."""
+        if words[0] not in _COUNTS:
+            raise Faulty(Code.E2)
+        if len(words) not in _COUNTS[words[0]]:
+            raise Faulty(Code.E3)
+        if words[0] == "tolerance":
+            self.tolerances = _whole(words[1], 0, MOST_TOLERANCE), _whole(words[2], 0, MOST_TOLERANCE)
+            return True
+        if words[0] == "step":
+            self.steps.append(self._step(words))
+        else:
+            self._place(words)
+        return False
+
+    def _step(self, words: Sequence[str]) -> Step:
+        """The step of a line. Raises Faulty: E2, E4, E6."""
+        choices = [choice for choice in Choice if choice.value == " ".join(words[12:])]
+        if (words[2], words[6], words[10]) != ("joins", "at", "keeps") or not choices:
+            raise Faulty(Code.E2)
+        number, one, two, three, keeps = (_cluster(word) for word in (words[1], *words[3:6], words[11]))
+        if not number.is_step or not all(map(is_name, words[7:10])):
+            raise Faulty(Code.E4)
+        if any(name not in self.kinds for name in words[7:10]):
+            raise Faulty(Code.E6)
+        return Step(number.number, (one, two, three), (words[7], words[8], words[9]), keeps, choices[0])
+
+    def _place(self, words: Sequence[str]) -> None:
+        """Adds a place. Raises Faulty: E4, E6, E7, E8, E5."""
+        name = words[1]
+        if not is_name(name):
+            raise Faulty(Code.E4)
+        if name not in self.kinds:
+            raise Faulty(Code.E6)
+        if self.kinds[name] is not {"point": Point, "line": Line, "circle": Circle}[words[0]]:
+            raise Faulty(Code.E7)
+        placed = _placed(words)
+        if name in self.places:
+            raise Faulty(Code.E5)
+        self.places[name] = placed
+
+
+def _placed(words: Sequence[str]) -> Placed:
+    if words[0] == "line":
+        a, b = (_whole(word, -MOST_NORMAL_PPB, MOST_NORMAL_PPB) for word in words[2:4])
+        return PlacedLine(words[1], a, b, _nm(words[4]))
+    if words[0] == "point":
+        return PlacedPoint(words[1], _nm(words[2]), _nm(words[3]))
+    return PlacedCircle(words[1], _nm(words[2]), _nm(words[3]), _nm(words[4]))
+
+
+def _nm(word: str) -> int:
+    return _whole(word, -MOST_PLACE_NM, MOST_PLACE_NM)
+
+
+def _whole(word: str, least: int, most: int) -> int:
+    if not _WHOLE.fullmatch(word) or not least <= int(word) <= most:
+        raise Faulty(Code.E8)
+    return int(word)
+
+
+def _cluster(word: str) -> ClusterName:
+    name = read_cluster(word)
+    if name is None:
+        raise Faulty(Code.E4)
+    return name
