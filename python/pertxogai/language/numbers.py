@@ -4,13 +4,15 @@ A number that the language can't hold raises `NotHeld`, which names the nearest 
 """
 from __future__ import annotations
 
+import math
 import re
 from decimal import Decimal
 from fractions import Fraction
 
 MOST_UM = 1_000_000_000
 MOST_RATIO = 10_000
-Exact = int | Fraction | Decimal | str
+Exact = int | float | Fraction | Decimal | str
+_DECIMAL = re.compile(r"-?[0-9]{1,15}(\.[0-9]{0,15})?")
 _NUMBER = re.compile(r"(-?)([0-9]{1,7})(?:\.([0-9]{1,3}))?")
 _RATIO = re.compile(r"(-?[0-9]{1,5})/([0-9]{1,5})")
 
@@ -24,12 +26,25 @@ class NotHeld(ValueError):
 
 
 def micrometres(millimetres: Exact) -> int:
-    """The whole micrometres of a number of millimetres: 2, "2.5", Fraction(5, 2), Decimal("2.5").
+    """The whole micrometres of a number of millimetres: 2, "2.5", 2.5, Fraction(5, 2), Decimal("2.5"). A float stands
+    for the shortest decimal that reads back as it, so 0.1 is a tenth.
 
     Raises NotHeld where it is no whole number of micrometres, or passes 1,000,000 mm."""
-    exact = 1000 * Fraction(millimetres)
+    exact = 1000 * _exact(millimetres)
     um = nearest_whole(exact)
-    return checked_um(exact if um != exact else um)
+    return checked_um(um if um == exact else exact)
+
+
+def _exact(number: Exact) -> Fraction:
+    """The number itself. Raises NotHeld where a word or float is none."""
+    is_number = math.isfinite(number) if isinstance(number, float) else True
+    if isinstance(number, str):
+        is_number = _DECIMAL.fullmatch(number) is not None
+    if isinstance(number, Decimal):
+        is_number = number.is_finite() and abs(number.adjusted()) < 30
+    if not is_number:
+        raise NotHeld(f"{number!r} is no number of millimetres as 2.5", None)
+    return Fraction(repr(number)) if isinstance(number, float) else Fraction(number)
 
 
 def checked_um(value: int | Fraction, least: int = -MOST_UM) -> int:
