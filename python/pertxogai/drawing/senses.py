@@ -62,7 +62,7 @@ def turn(drawing: Drawing, angle: AngleBetween) -> Turn:
         case Degrees(value), _:
             return _drawn_degrees(drawing, angle, value, left, ahead)
         case Ratio(p, q), Sense.SIGNED:
-            return Slope(p, q, not ahead)
+            return Slope(p, q, q * _dot(first, second) + p * _cross(first, second) < 0)
         case Ratio(p, q), _:
             return Slope(abs(p) if left == ahead else -abs(p), q, not ahead)
     raise AssertionError(angle)

@@ -1,0 +1,63 @@
+"""How far the printed numbers are off what was asked for."""
+
+from __future__ import annotations
+
+from collections.abc import Iterable
+from dataclasses import dataclass
+from enum import Enum
+
+from pertxogai.drawing import Constraint, Drawing, PointRef, ShapeRef
+
+
+class Unit(Enum):
+    """What an amount counts."""
+
+    NM = "nm"
+    """Nanometres."""
+    PPB = "ppb"
+    """Parts per 10^9 of a radian, by the sine."""
+
+
+class Because(Enum):
+    """Why something has to hold that no constraint asks for; the values are for a report."""
+
+    SHARED = "shares a point with"
+    """A point that a shape shares with another is one point."""
+    RIM = "is an end of the arc"
+    """An arc's ends lie on its circle."""
+    OUTER = "is given from outside as"
+    """Outer geometry lies where it was given."""
+
+
+@dataclass(frozen=True)
+class Implied:
+    """What holds by the shapes themselves: a point, why, and the point or shape it is held to."""
+
+    point: PointRef
+    because: Because
+    to: PointRef | ShapeRef
+
+    def __str__(self) -> str:
+        return f"{self.point} {self.because.value} {self.to}"
+
+
+@dataclass(frozen=True)
+class Deviation:
+    """How far a constraint is off: `amount` is the least whole number of units within which it
+    holds with the printed numbers; for an angle in degrees, whose cosine is no fraction, it may
+    be one more. `number` is the constraint's place, from 1, and None of what is implied."""
+
+    number: int | None
+    of: Constraint | Implied
+    amount: int
+    unit: Unit
+
+    def called(self, drawing: Drawing) -> str:
+        """What it is called in a report."""
+        return str(self.of) if self.number is None else drawing.called(self.number)
+
+
+def greatest(deviations: Iterable[Deviation], unit: Unit) -> Deviation | None:
+    """The first of the greatest deviations in this unit; None where there is none at all."""
+    of_unit = [each for each in deviations if each.unit is unit]
+    return max(of_unit, key=lambda each: each.amount) if of_unit else None

@@ -1,0 +1,89 @@
+"""How far two directions are off a turn between them."""
+
+from __future__ import annotations
+
+from dataclasses import dataclass
+from fractions import Fraction
+
+from pertxogai.drawing import Degrees, Slope, Turn
+from pertxogai.measure.circular import Enclosed, cos_sin, exactly
+from pertxogai.measure.exact import Root, Way, cross, dot, least, square
+
+PPB = 10 ** 9
+"""Parts of a radian."""
+
+
+@dataclass(frozen=True)
+class Line:
+    """A placed line: a place on it, its way, and whether it ends where the way ends; an axis is
+    endless."""
+
+    start: Way
+    way: Way
+    ends: bool
+
+
+@dataclass(frozen=True)
+class Bend:
+    """How far two lines are off a turn: by the sine of the angle that is too much, squared, and
+    whether the second runs the other way than it should."""
+
+    sine_square: Fraction
+    backward: bool
+
+    def nm(self, first: Line, second: Line) -> int:
+        """How far the end of the shorter line lies off the direction, in nanometres; up to
+        twice its length where it runs backward."""
+        squares = [square(line.way) for line in (first, second) if line.ends]
+        return self._amount(min(squares))
+
+    def ppb(self) -> int:
+        """The sine in parts per 10^9; from 10^9 to 2 * 10^9 where it runs backward."""
+        return self._amount(Fraction(PPB * PPB))
+
+    def _amount(self, length_square: Fraction) -> int:
+        sine = Root(1, self.sine_square * length_square)
+        if not self.backward:
+            return least(lambda t: sine.at_most(Fraction(t)))
+        twice = Root(1, 4 * length_square)
+        whole = least(lambda t: twice.at_most(Fraction(t)))
+        return whole - least(lambda t: sine.at_most(Fraction(t)))
+
+
+LOST = Bend(Fraction(1), False)
+"""Of a line whose two ends are one place: it has no direction at all."""
+
+
+def bend(first: Line, second: Line, turn: Turn) -> Bend:
+    """How far the second is off the first, turned by this; as one direction to another."""
+    cosine, sine = _turned(turn)
+    along, aside = dot(first.way, second.way), cross(first.way, second.way)
+    squares = square(first.way) * square(second.way) * _scale(turn)
+    if squares == 0:
+        return LOST
+    over = cosine.times(aside).plus(sine.times(-along)).size()
+    ahead = cosine.times(along).plus(sine.times(aside)).high >= 0
+    return Bend(over * over / squares, not ahead)
+
+
+def _turned(turn: Turn) -> tuple[Enclosed, Enclosed]:
+    """Cosine and sine of a turn, up to the factor whose square is `_scale`."""
+    match turn:
+        case Degrees(value):
+            return cos_sin(value)
+        case Slope(p, q, backward):
+            # q isn't negative: the turn is to within a right angle, then half round if backward.
+            return (exactly(-q), exactly(-p)) if backward else (exactly(q), exactly(p))
+
+
+def _scale(turn: Turn) -> int:
+    return turn.p ** 2 + turn.q ** 2 if isinstance(turn, Slope) else 1
+
+
+def bend_of_lines(first: Line, second: Line, right_angle: bool) -> Bend:
+    """How far two lines are off being parallel, or at a right angle, either way round."""
+    squares = square(first.way) * square(second.way)
+    if squares == 0:
+        return LOST
+    over = dot(first.way, second.way) if right_angle else cross(first.way, second.way)
+    return Bend(over * over / squares, False)

@@ -1,0 +1,50 @@
+"""What is measured: the printed whole numbers behind each point that a designer drew."""
+
+from __future__ import annotations
+
+from collections.abc import Mapping
+from dataclasses import dataclass, field
+from fractions import Fraction
+
+from pertxogai.drawing import ORIGIN, PointRef
+
+Number = int | Fraction
+"""A whole number or a fraction; never a float."""
+
+Spot = tuple[Number, Number]
+"""x and y in nanometres, in the frame of the printed numbers."""
+
+
+class MissingPlace(Exception):
+    """The solution has no place, or no radius, of something that a constraint speaks of."""
+
+
+@dataclass(frozen=True)
+class Frame:
+    """Where the datum lies among the printed numbers: the origin's place, and the direction of
+    the x axis by two components of any length (of a printed line `a b c` they are b and -a)."""
+
+    origin: Spot = (0, 0)
+    right: tuple[Number, Number] = (1, 0)
+
+
+@dataclass(frozen=True)
+class Solution:
+    """The printed places of a drawing's points, the origin aside, and its rims' radii, in nm."""
+
+    points: Mapping[PointRef, Spot]
+    radii: Mapping[str, Number] = field(default_factory=dict)
+    frame: Frame = Frame()
+
+    def spot(self, ref: PointRef) -> tuple[Fraction, Fraction]:
+        """The place of a point; raises MissingPlace."""
+        spot = self.frame.origin if ref == ORIGIN else self.points.get(ref)
+        if spot is None:
+            raise MissingPlace(f"no place of {ref} was printed")
+        return Fraction(spot[0]), Fraction(spot[1])
+
+    def radius(self, name: str) -> Fraction:
+        """The radius of a circle or an arc; raises MissingPlace."""
+        if name not in self.radii:
+            raise MissingPlace(f"no radius of {name} was printed")
+        return Fraction(self.radii[name])
