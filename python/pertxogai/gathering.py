@@ -7,8 +7,9 @@ from __future__ import annotations
 
 from collections.abc import Sequence
 from dataclasses import replace
+from fractions import Fraction
 
-from pertxogai.drawing import Constraint, Drawing, Shape
+from pertxogai.drawing import Constraint, Drawing, PointRef, Shape, ShapeRef, Which
 from pertxogai.drawing.constraint_checks import check_constraint
 from pertxogai.drawing.names import MOST_CALLED
 from pertxogai.drawing.refusal import WordFault
@@ -55,6 +56,12 @@ class Gathering:
             self._constraints.append(replace(constraint, name=self._fitted(name)))
             self._numbers.append(number)
 
+    def is_left(self, first: ShapeRef, second: ShapeRef) -> bool:
+        """Whether the second of two segments that were added is drawn to the left of the first,
+        seen along it, or runs along it."""
+        along, across = self._way(first), self._way(second)
+        return along[0] * across[1] - along[1] * across[0] >= 0
+
     def leave_out(self, what: str, why: str) -> None:
         """Notes what is left out, and why."""
         self._left_out.append(LeftOut(what, why))
@@ -64,6 +71,12 @@ class Gathering:
         drawing = Drawing(tuple(self._geometry), tuple(self._constraints))
         return FoundSketch(name, label, drawing, tuple(self._numbers), tuple(self._left_out),
                            tuple(aside))
+
+    def _way(self, line: ShapeRef) -> tuple[Fraction, Fraction]:
+        """The drawn way of a segment."""
+        start, end = (self._scene.drawn(PointRef(line.name, which))
+                      for which in (Which.START, Which.END))
+        return end.x_um - start.x_um, end.y_um - start.y_um
 
     def _fitted(self, name: str) -> str:
         """A name of a constraint that a drawing takes and that is free, near to the given one."""
