@@ -1,0 +1,118 @@
+"""Values that follow from what the program has placed: a length equal to one of a part that stands, a half mirrored
+from the other. The program places the parts; what is read off them is told as the length that it is.
+"""
+from __future__ import annotations
+
+from collections.abc import Iterator
+from dataclasses import dataclass
+from fractions import Fraction
+from math import isqrt
+
+from pertxogai.answers.placing import Plate, along
+from pertxogai.reports import PartsReport, Solved
+from pertxogai.spelling.axes import Axes, Coordinate, Equation
+from pertxogai.spelling.facts import Knot
+from pertxogai.spelling.rails import Rail, Rails, Size, Span
+from pertxogai.spelling.writing import Spelled
+from pertxogai.values import Form, LinearSystem
+
+
+@dataclass(frozen=True)
+class Grown:
+    """Axes in which one more thing is a value, and the value, in micrometres."""
+
+    axes: Axes
+    equation: Equation
+
+
+def grown(axes: Axes, rails: Rails, spelled: Spelled, report: PartsReport) -> Grown | None:
+    """The first thing that becomes a value by the placed parts; None where nothing does."""
+    known = LinearSystem()
+    for number, form in enumerate(_measured(rails, spelled, report)):
+        known.add(form, number)
+    for pending in rails.pending():
+        rest = known.reduced(pending.form)
+        if rest.terms != pending.form.terms and _told(rest):
+            equation = Equation(rails.unfold(rest), axes.equations[pending.number].owners)
+            return Grown(axes.replaced(pending.number, equation), equation)
+    for fact in axes.loose:
+        if rails.number(fact.value) is None:
+            rest = known.reduced(rails.symbols(fact.value) - Form.of(Span(*fact.ends())))
+            if len(rest.terms) == 1 and isinstance(next(iter(rest.terms)), Size):
+                equation = Equation(rails.unfold(rest), frozenset({fact.owner}))
+                return Grown(axes.replaced(None, equation, fact), equation)
+    return None
+
+
+def _told(form: Form) -> bool:
+    """Whether an equation fixes one size, one rail from the datum, or one rail from another."""
+    keys = list(form.terms)
+    if len(keys) == 1:
+        return isinstance(keys[0], Size) or keys[0].frame == 0
+    if len(keys) != 2 or not all(isinstance(key, Rail) for key in keys):
+        return False
+    first, second = keys
+    return (first.frame, first.upwards) == (second.frame, second.upwards) and not sum(form.terms.values())
+
+
+def _measured(rails: Rails, spelled: Spelled, report: PartsReport) -> Iterator[Form]:
+    for part in report.parts:
+        if isinstance(part.shape, Solved) and len(part.part.elements) > 1:
+            plate = Plate.of(part.shape.places, spelled.scale)
+            for frame in rails.axes.frames:
+                yield from _coordinates(rails, spelled, plate, frame.number)
+            yield from _spans(rails, spelled, plate)
+
+
+def _coordinates(rails: Rails, spelled: Spelled, plate: Plate, frame: int) -> Iterator[Form]:
+    """How far the rails of a frame are apart in a part."""
+    axis = plate.axis(spelled.headings, frame)
+    if axis is None:
+        return
+    for upwards in (False, True):
+        found = list(_along(rails, spelled, plate, axis, frame, upwards))
+        for form, place in found[1:]:
+            yield form - found[0][0] - Form(number=place - found[0][1])
+
+
+def _along(rails: Rails, spelled: Spelled, plate: Plate, axis: tuple[Fraction, Fraction], frame: int,
+           upwards: bool) -> Iterator[tuple[Form, Fraction]]:
+    """Each rail and coordinate of a part, in rails, and its place along an axis."""
+    for heading in spelled.headings:
+        rail = heading.rail
+        if rail is not None and heading.name in plate.lines and (rail.frame, rail.upwards) == (frame, upwards):
+            form = Form(number=heading.at_um) + (Form() if rail.datum() else Form.of(rail))
+            yield form, along(axis, upwards, plate.foot(heading.name))
+    for rail, members in rails.members.items():
+        if (rail.frame, rail.upwards) != (frame, upwards):
+            continue
+        for coordinate in members:
+            name = spelled.points.get(coordinate.knot)
+            if name in plate.points:
+                yield rails.symbols(Form.of(coordinate)), along(axis, upwards, plate.points[name])
+
+
+def _spans(rails: Rails, spelled: Spelled, plate: Plate) -> Iterator[Form]:
+    """How far the two ends of an untold distance are apart in a part."""
+    for fact in rails.axes.loose:
+        if rails.number(fact.value) is not None:
+            continue
+        first, second = fact.ends()
+        name = spelled.points[first]
+        if isinstance(second, Knot):
+            other = spelled.points[second]
+            if name in plate.points and other in plate.points:
+                yield Form({Span(first, second): Fraction(1)}, -_distance(plate.points[name], plate.points[other]))
+        else:
+            track = next((key for key, track in spelled.tracks.items()
+                          if track == rails.axes.lines.leader(second)), None)
+            if name in plate.points and track in plate.lines:
+                yield Form({Span(first, second): Fraction(1)}, -plate.height(track, name))
+
+
+def _distance(first: tuple[Fraction, Fraction], second: tuple[Fraction, Fraction]) -> Fraction:
+    square = (first[0] - second[0]) ** 2 + (first[1] - second[1]) ** 2
+    return Fraction(isqrt(int(square * 10 ** 24)), 10 ** 12)
+
+
+__all__ = ["Coordinate", "Grown", "grown"]

@@ -1,0 +1,100 @@
+"""Printed places in the frame of the drawing's datum, exactly, and then rounded to whole nanometres."""
+from __future__ import annotations
+
+from collections.abc import Sequence
+from dataclasses import dataclass
+from fractions import Fraction
+from math import cos, isqrt, sin
+
+from pertxogai.language import Placed, PlacedLine, PlacedPoint
+from pertxogai.spelling.axes import DATUM
+from pertxogai.spelling.writing import Heading, Spelled
+
+Spot = tuple[Fraction, Fraction]
+DIGITS = 10 ** 24
+
+
+@dataclass(frozen=True)
+class Plate:
+    """Printed points and lines by their names, in micrometres of the drawing."""
+
+    points: dict[str, Spot]
+    lines: dict[str, tuple[Fraction, Fraction, Fraction]]
+
+    @staticmethod
+    def of(places: Sequence[Placed], scale: int) -> Plate:
+        """The places of a sketch that is so many times as large as the drawing."""
+        per = 1000 * scale
+        points = {each.name: (Fraction(each.x_nm, per), Fraction(each.y_nm, per))
+                  for each in places if isinstance(each, PlacedPoint)}
+        lines = {each.name: _line(each, per) for each in places if isinstance(each, PlacedLine)}
+        return Plate(points, lines)
+
+    def axis(self, headings: Sequence[Heading], frame: int) -> Spot | None:
+        """The direction of a frame's first axis; None where none of its lines is here."""
+        mine = [each for each in headings if each.frame == frame and each.name in self.lines]
+        mine.sort(key=lambda each: each.quarters is None)
+        if not mine:
+            return None
+        a, b, _ = self.lines[mine[0].name]
+        ahead, left = b, -a
+        if mine[0].quarters is None:
+            c, s = Fraction(cos(mine[0].radians)), Fraction(sin(mine[0].radians))
+            return _of_length_one(ahead * c + left * s, left * c - ahead * s)
+        return (ahead, left) if mine[0].quarters == 0 else (left, -ahead)
+
+    def height(self, line: str, point: str) -> Fraction:
+        """How far a point is from a line, in micrometres."""
+        a, b, c = self.lines[line]
+        x, y = self.points[point]
+        return abs(a * x + b * y - c)
+
+    def foot(self, line: str) -> Spot:
+        """The line's place nearest to 0 0."""
+        a, b, c = self.lines[line]
+        return a * c, b * c
+
+
+def _line(line: PlacedLine, per: int) -> tuple[Fraction, Fraction, Fraction]:
+    a, b = _of_length_one(Fraction(line.a_ppb), Fraction(line.b_ppb))
+    return a, b, Fraction(line.c_nm, per)
+
+
+def _of_length_one(a: Fraction, b: Fraction) -> Spot:
+    if not a or not b:
+        return Fraction((a > 0) - (a < 0)), Fraction((b > 0) - (b < 0))
+    square = a * a + b * b
+    size = Fraction(isqrt(int(square * DIGITS)), 10 ** 12)
+    return a / size, b / size
+
+
+def along(axis: Spot, upwards: bool, spot: Spot) -> Fraction:
+    """A place along an axis, or `upwards` along its left."""
+    (a, b), (x, y) = axis, spot
+    return a * y - b * x if upwards else a * x + b * y
+
+
+def in_datum(spelled: Spelled, plate: Plate, drawn: dict[str, Spot]) -> dict[str, tuple[int, int]]:
+    """Each point in the datum's frame, in whole nanometres. Where the drawing isn't tied to an axis, the first
+    point has its drawn coordinate there; where it has no direction, the printed one stays."""
+    axis = plate.axis(spelled.headings, DATUM)
+    if axis is None:
+        axis = (Fraction(1), Fraction(0))
+    shift = [_shift(spelled, plate, axis, upwards, drawn) for upwards in (False, True)]
+    found = {}
+    for name, spot in plate.points.items():
+        x, y = (along(axis, upwards, spot) + shift[upwards] for upwards in (False, True))
+        found[name] = (_whole(x * 1000), _whole(y * 1000))
+    return found
+
+
+def _shift(spelled: Spelled, plate: Plate, axis: Spot, upwards: bool, drawn: dict[str, Spot]) -> Fraction:
+    for each in spelled.headings:
+        if each.rail is not None and each.rail.datum() and each.rail.upwards == upwards and each.name in plate.lines:
+            return -along(axis, upwards, plate.foot(each.name))
+    name = next(iter(plate.points))
+    return drawn[name][upwards] - along(axis, upwards, plate.points[name])
+
+
+def _whole(value: Fraction) -> int:
+    return (2 * value.numerator + value.denominator) // (2 * value.denominator)

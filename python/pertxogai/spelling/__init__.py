@@ -1,0 +1,25 @@
+"""How a designer's words are spelled in the language: once for each style, with the owner of each line."""
+from __future__ import annotations
+
+from pertxogai.drawing import Drawing
+from pertxogai.spelling.axes import Axes
+from pertxogai.spelling.lines import Lines
+from pertxogai.spelling.lowering import lowered
+from pertxogai.spelling.rails import Rails
+from pertxogai.spelling.style import Style
+from pertxogai.spelling.writing import Spelled, written
+
+
+def spell(drawing: Drawing, style: Style) -> Spelled:
+    """The drawing in the language, in one style, without what only placed parts tell."""
+    axes = axes_of(drawing)
+    return written(axes, Rails(axes, style), style)
+
+
+def axes_of(drawing: Drawing) -> Axes:
+    """What a drawing says of x and y."""
+    facts = lowered(drawing)
+    return Axes(facts, Lines(facts))
+
+
+__all__ = ["Axes", "Rails", "Spelled", "Style", "axes_of", "spell", "written"]

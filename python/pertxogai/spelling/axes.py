@@ -1,0 +1,254 @@
+"""What a drawing says of x and y: each class of lines of known directions has two axes, and along them its parallels,
+right angles, shifts, middles and mirrors are equations.
+"""
+from __future__ import annotations
+
+from collections import Counter
+from copy import copy
+from dataclasses import dataclass, replace
+from fractions import Fraction
+from typing import Protocol
+
+from pertxogai.drawing import X_AXIS
+from pertxogai.spelling.directions import Directions
+from pertxogai.spelling.facts import (
+    ORIGIN_KNOT, Apart, Fact, Facts, Knot, Line, Middle, Mirror, Off, Owner, Shift, Sized, Stays)
+from pertxogai.spelling.lean import Lean
+from pertxogai.spelling.lines import Lines
+from pertxogai.values import Form, LinearSystem, Told
+
+DATUM = 0
+"""The number of the datum's frame."""
+
+
+@dataclass(frozen=True)
+class Coordinate:
+    """A point's coordinate in a frame, in micrometres: along its first line, or `upwards`, to that line's left."""
+
+    frame: int
+    upwards: bool
+    knot: Knot
+
+
+@dataclass(frozen=True)
+class Frame:
+    """A class of lines of known directions; its first axis runs as `line` is drawn."""
+
+    number: int
+    line: Line
+    way: tuple[Fraction, Fraction]
+
+    def along(self, upwards: bool, place: tuple[Fraction, Fraction]) -> Fraction:
+        """A drawn place along an axis, times the length of `way`."""
+        a, b = self.way
+        x, y = place
+        return a * y - b * x if upwards else a * x + b * y
+
+
+@dataclass(frozen=True)
+class Equation:
+    """A form that is 0, and who says so."""
+
+    form: Form
+    owners: frozenset[Owner]
+
+
+class Says(Protocol):
+    """A fact that has one owner."""
+
+    @property
+    def owner(self) -> Owner: ...
+
+
+class Axes:
+    """The frames of a drawing, its equations, and the facts that aren't equations."""
+
+    def __init__(self, facts: Facts, lines: Lines) -> None:
+        self.facts = facts
+        self.lines = lines
+        self.directions = Directions()
+        for leans in lines.leans:
+            self.directions.tell(replace(
+                leans, first=lines.leader(leans.first), second=lines.leader(leans.second)))
+        self.frames: list[Frame] = []
+        self._of_root: dict[Line, Frame] = {}
+        self._make_frames()
+        self.system = LinearSystem()
+        self.equations: list[Equation] = []
+        self.told: list[tuple[Equation, Told]] = []
+        self.loose: list[Apart | Off] = []
+        self._lines_say()
+        for fact in facts.facts:
+            self._say(fact)
+        while self._settle():
+            pass
+
+    def replaced(self, number: int | None, equation: Equation, without: Apart | Off | None = None) -> Axes:
+        """The same with another equation in the place of one, or a new one, and without a distance."""
+        other = copy(self)
+        equations = list(self.equations)
+        if number is None:
+            equations.append(equation)
+        else:
+            equations[number] = equation
+        other.system, other.equations, other.told = LinearSystem(), [], []
+        other.loose = [fact for fact in self.loose if fact is not without]
+        for each in equations:
+            other.tell(each.form, each.owners)
+        while other._settle():
+            pass
+        return other
+
+    # -- frames
+
+    def _make_frames(self) -> None:
+        classes: dict[Line, list[Line]] = {}
+        for line in [X_AXIS, *self.lines.all()]:
+            classes.setdefault(self.directions.bearing(line).root, []).append(line)
+        for root, members in classes.items():
+            line = X_AXIS if X_AXIS in members else self._chief(members)
+            frame = Frame(len(self.frames), line, self.facts.direction(line))
+            self.frames.append(frame)
+            self._of_root[root] = frame
+
+    def _chief(self, members: list[Line]) -> Line:
+        """The line with the most that are parallel or square to it, the first of several."""
+        leans = [self.directions.bearing(line).lean for line in members]
+        counted = Counter((lean.degrees % 90, lean.ahead, lean.left) for lean in leans)
+        return max(members, key=lambda line: counted[_cross(self.directions.bearing(line).lean)])
+
+    def frame(self, line: Line) -> Frame:
+        """The frame of a line's class."""
+        return self._of_root[self.directions.bearing(line).root]
+
+    def lean(self, line: Line) -> Lean:
+        """How a line leans against the first axis of its frame."""
+        found = self.directions.between(self.frame(line).line, line)
+        assert found is not None
+        return found
+
+    def fixed_axis(self, line: Line) -> bool | None:
+        """Which coordinate all points of a line share: True for upwards; None where it leans."""
+        lean = self.lean(line)
+        return True if lean.level() else False if lean.upright() else None
+
+    # -- equations
+
+    def tell(self, form: Form, owners: frozenset[Owner]) -> None:
+        """Takes an equation form = 0."""
+        equation = Equation(form, owners)
+        told = self.system.add(form, len(self.equations))
+        self.equations.append(equation)
+        if told is not None:
+            self.told.append((equation, told))
+
+    def at(self, frame: int, upwards: bool, knot: Knot) -> Form:
+        """A coordinate as a form."""
+        return Form.of(Coordinate(frame, upwards, knot))
+
+    def _lines_say(self) -> None:
+        for upwards in (False, True):
+            self.tell(self.at(DATUM, upwards, ORIGIN_KNOT), frozenset())
+        for line in self.lines.all():
+            upwards_or_none = self.fixed_axis(line)
+            members = self.lines.members(line)
+            if upwards_or_none is None or len(members) < 2:
+                continue
+            frame = self.frame(line)
+            first = self.at(frame.number, upwards_or_none, members[0].knot)
+            for member in members[1:]:
+                owners = frozenset({member.owner} if member.owner else set())
+                if member is members[1] or not owners:
+                    owners |= self.directions.owners(frame.line, line)
+                self.tell(self.at(frame.number, upwards_or_none, member.knot) - first, owners)
+
+    def _say(self, fact: Fact) -> None:
+        match fact:
+            case Sized(form, owner):
+                self.tell(form, frozenset({owner}))
+            case Shift(first, second, upwards, value, owner):
+                form = self.at(DATUM, upwards, second) - self.at(DATUM, upwards, first) - value
+                self.tell(form, frozenset({owner}))
+            case Stays(knot, place, owner):
+                self.tell(self.at(DATUM, False, knot) - Form(number=place.x_um), frozenset({owner}))
+                self.tell(self.at(DATUM, True, knot) - Form(number=place.y_um), frozenset({owner}))
+            case Middle(middle, first, second, owner):
+                frame = self._frame_of_middle(fact)
+                for upwards in (False, True):
+                    ends = self.at(frame, upwards, first) + self.at(frame, upwards, second)
+                    self.tell(ends - self.at(frame, upwards, middle).times(2), frozenset({owner}))
+            case Mirror():
+                self._mirror(fact)
+            case Off():
+                self._off(fact)
+            case Apart():
+                self.loose.append(fact)
+
+    def _frame_of_middle(self, fact: Middle) -> int:
+        """The frame that knows most of the three points, the datum's where they are alike."""
+        known = Counter(key.frame for equation in self.equations for key in equation.form.terms
+                        if isinstance(key, Coordinate) and key.knot in (fact.middle, fact.first, fact.second)
+                        and key.knot != ORIGIN_KNOT)
+        if ORIGIN_KNOT in (fact.middle, fact.first, fact.second):
+            return DATUM
+        best = max(known.values(), default=0)
+        return min((number for number, count in known.items() if count == best), default=DATUM)
+
+    def _mirror(self, fact: Mirror) -> None:
+        line = self.lines.leader(fact.line)
+        upwards = self.fixed_axis(line)
+        if upwards is None:
+            return
+        frame = self.frame(line).number
+        on_line = self.at(frame, upwards, self.lines.members(line)[0].knot)
+        ends = self.at(frame, upwards, fact.first) + self.at(frame, upwards, fact.second)
+        self.tell(ends - on_line.times(2), frozenset({fact.owner}))
+
+    def _off(self, fact: Off) -> None:
+        line = self.lines.leader(fact.line)
+        upwards = self.fixed_axis(line)
+        if upwards is None:
+            self.loose.append(fact)
+            return
+        frame = self.frame(line)
+        on_line = self.lines.members(line)[0].knot
+        sign = self._sign(frame, upwards, on_line, fact.point)
+        step = self.at(frame.number, upwards, fact.point) - self.at(frame.number, upwards, on_line)
+        self.tell(step - fact.value.times(sign), frozenset({fact.owner}))
+
+    def _sign(self, frame: Frame, upwards: bool, first: Knot, second: Knot) -> int:
+        """Which way along an axis the second point is drawn from the first."""
+        run = frame.along(upwards, self.facts.drawn[second]) - frame.along(upwards, self.facts.drawn[first])
+        return 1 if run >= 0 else -1
+
+    # -- distances along an axis
+
+    def _settle(self) -> bool:
+        """Makes an equation of the first distance that runs along an axis; False where none does."""
+        for fact in self.loose:
+            if isinstance(fact, Apart) and self._settles(fact):
+                self.loose.remove(fact)
+                return True
+        return False
+
+    def _settles(self, fact: Apart) -> bool:
+        """Where the points are level, the distance is the way along; where it is that already, they are level."""
+        for frame in self.frames:
+            for upwards in (False, True):
+                across = self._run(frame, not upwards, fact)
+                sign = self._sign(frame, upwards, fact.first, fact.second)
+                along = self._run(frame, upwards, fact) - fact.value.times(sign)
+                if self.system.reduced(across) == Form():
+                    self.tell(along, frozenset({fact.owner}))
+                    return True
+                if self.system.reduced(along) == Form():
+                    self.tell(across, frozenset({fact.owner}))
+                    return True
+        return False
+
+    def _run(self, frame: Frame, upwards: bool, fact: Apart) -> Form:
+        return self.at(frame.number, upwards, fact.second) - self.at(frame.number, upwards, fact.first)
+
+
+def _cross(lean: Lean) -> tuple[Fraction, int, int]:
+    return lean.degrees % 90, lean.ahead, lean.left

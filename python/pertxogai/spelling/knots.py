@@ -1,0 +1,55 @@
+"""Points that are one: by sharing, by a word that says so, and the centres of rims round one centre."""
+from __future__ import annotations
+
+from collections.abc import Iterator
+
+from pertxogai.drawing import (
+    ORIGIN, Coincident, Concentric, Drawing, Pair, Perpendicular, PointRef, Tangent, Which)
+from pertxogai.spelling.facts import ORIGIN_KNOT, Knot, Owner
+
+
+def knots_of(drawing: Drawing) -> tuple[dict[PointRef, Knot], list[Owner]]:
+    """The knot of each point, the origin's first; and the constraints that say of one point that it is one."""
+    classes = _Classes()
+    for pair in drawing.shared():
+        classes.join(pair)
+    repeats = [owner for pair, owner in _told(drawing) if not classes.join(pair) and owner is not None]
+    numbers: dict[PointRef, Knot] = {classes.leader(ORIGIN): ORIGIN_KNOT}
+    refs = {ORIGIN: ORIGIN_KNOT}
+    for ref in drawing.points():
+        leader = classes.leader(ref)
+        refs[ref] = numbers.setdefault(leader, Knot(len(numbers)))
+    return refs, repeats
+
+
+def _told(drawing: Drawing) -> Iterator[tuple[Pair, Owner | None]]:
+    """Each two points that a constraint says to be one, with its owner where it says nothing else."""
+    for number, constraint in enumerate(drawing.constraints, 1):
+        match constraint:
+            case Coincident(first, second):
+                yield Pair(first, second), Owner(number)
+            case Concentric(one, other):
+                centres = (PointRef(each.name, Which.CENTRE) for each in (one, other))
+                yield Pair(*centres), Owner(number)
+            case Tangent(at=Pair() as pair) | Perpendicular(at=Pair() as pair):
+                yield pair, None
+
+
+class _Classes:
+    """Points that are one, each class with a leader."""
+
+    def __init__(self) -> None:
+        self._above: dict[PointRef, PointRef] = {}
+
+    def leader(self, ref: PointRef) -> PointRef:
+        while ref in self._above:
+            ref = self._above[ref]
+        return ref
+
+    def join(self, pair: Pair) -> bool:
+        """Makes two points one; False where they are already."""
+        first, second = self.leader(pair.first), self.leader(pair.second)
+        if first == second:
+            return False
+        self._above[second] = first
+        return True

@@ -1,0 +1,93 @@
+"""How one endless line leans against another, exactly: whole degrees and tangents, added up."""
+from __future__ import annotations
+
+from dataclasses import dataclass
+from fractions import Fraction
+from math import atan2, gcd, pi, tan
+
+from pertxogai.drawing import Degrees, Slope, Turn
+from pertxogai.language import nearest_ratio
+
+MOST_RATIO = 10_000
+
+
+@dataclass(frozen=True)
+class Lean:
+    """The turn from one line to another, up to half turns: `degrees` from 0 to below 180, and then the turn of the
+    direction (`ahead`, `left`), two whole numbers without a common divisor."""
+
+    degrees: Fraction = Fraction(0)
+    ahead: int = 1
+    left: int = 0
+
+    @staticmethod
+    def of(turn: Turn) -> Lean:
+        """The lean of lines with this turn."""
+        match turn:
+            case Degrees(value):
+                return _made(value, 1, 0)
+            case Slope(p, q, _):
+                return _made(Fraction(0), q, p)
+
+    def __add__(self, other: Lean) -> Lean:
+        return _made(self.degrees + other.degrees,
+                     self.ahead * other.ahead - self.left * other.left,
+                     self.ahead * other.left + self.left * other.ahead)
+
+    def __neg__(self) -> Lean:
+        return _made(-self.degrees, self.ahead, -self.left)
+
+    def level(self) -> bool:
+        """Whether the lines are parallel."""
+        return not self.degrees and not self.left
+
+    def upright(self) -> bool:
+        """Whether the lines are square to each other."""
+        return self.degrees == 90 and not self.left
+
+    def ratio(self) -> tuple[int, int]:
+        """The tangent p, q as the language takes it: exact where that can be, else the nearest. Not for parallels."""
+        way = self.way()
+        if way is not None and max(map(abs, way)) <= MOST_RATIO:
+            sign = -1 if way[0] < 0 or (way[0] == 0 and way[1] < 0) else 1
+            return sign * way[1], sign * way[0]
+        tangent = Fraction(tan(self.radians()))
+        return nearest_ratio(tangent, 1)
+
+    def exact(self) -> bool:
+        """Whether `ratio` is the lean itself."""
+        way = self.way()
+        return way is not None and max(map(abs, way)) <= MOST_RATIO
+
+    def way(self) -> tuple[int, int] | None:
+        """The direction (ahead, left) in whole numbers; None where it has none."""
+        if self.degrees % 45:
+            return None
+        ahead, left = self.ahead, self.left
+        for _ in range(int(self.degrees // 45)):
+            ahead, left = ahead - left, ahead + left
+        divisor = gcd(ahead, left)
+        return ahead // divisor, left // divisor
+
+    def radians(self) -> float:
+        """The turn in radians, near enough for a drawing."""
+        return float(self.degrees) * pi / 180 + atan2(self.left, self.ahead)
+
+
+SQUARE = Lean(Fraction(90))
+"""A right angle."""
+
+
+def _made(degrees: Fraction, ahead: int, left: int) -> Lean:
+    divisor = gcd(ahead, left)
+    ahead, left = ahead // divisor, left // divisor
+    if ahead < 0 or (ahead == 0 and left < 0):
+        ahead, left = -ahead, -left
+    match (ahead, left):
+        case (0, 1):
+            degrees, ahead, left = degrees + 90, 1, 0
+        case (1, 1):
+            degrees, ahead, left = degrees + 45, 1, 0
+        case (1, -1):
+            degrees, ahead, left = degrees - 45, 1, 0
+    return Lean(degrees % 180, ahead, left)

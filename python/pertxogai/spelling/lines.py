@@ -1,0 +1,103 @@
+"""The lines of a drawing with the points on each. Lines that are told to be one, or share two points, are one."""
+from __future__ import annotations
+
+from dataclasses import dataclass
+
+from pertxogai.drawing import X_AXIS, Y_AXIS
+from pertxogai.spelling.facts import ORIGIN_KNOT, Facts, Knot, Leans, Lies, Line, OneLine, Owner
+from pertxogai.spelling.lean import SQUARE, Lean
+
+
+@dataclass(frozen=True)
+class Member:
+    """A point on a line, and who puts it there; None of a segment's own end."""
+
+    knot: Knot
+    owner: Owner | None
+
+
+class Lines:
+    """All lines, each led by one, with their points."""
+
+    def __init__(self, facts: Facts) -> None:
+        self._facts = facts
+        self._above: dict[Line, Line] = {}
+        self._members: dict[Line, list[Member]] = {}
+        self.leans: list[Leans] = [Leans(X_AXIS, Y_AXIS, SQUARE, Owner(0))]
+        self.repeats: list[Owner] = []
+        for line, own in facts.own.items():
+            self._members[line] = [Member(knot, None) for knot in dict.fromkeys(own)]
+        for fact in facts.facts:
+            self._take(fact)
+        while self._merge_sharers():
+            pass
+
+    def _take(self, fact: object) -> None:
+        match fact:
+            case Lies(point, line, owner):
+                self._put(point, line, owner)
+            case OneLine(first, second, owner):
+                for knot in dict.fromkeys(self._facts.own[second]):
+                    self._put(knot, first, owner)
+                self._join(self.leader(first), self.leader(second), owner)
+            case Leans():
+                self.leans.append(fact)
+
+    def leader(self, line: Line) -> Line:
+        """The line that stands for all that are one with this."""
+        while line in self._above:
+            line = self._above[line]
+        return line
+
+    def all(self) -> list[Line]:
+        """One line of each class, in the order of the drawing."""
+        return list(self._members)
+
+    def members(self, line: Line) -> list[Member]:
+        """The points on a line, its own ends first."""
+        return sorted(self._members[self.leader(line)], key=lambda each: each.owner is not None)
+
+    def names(self, line: Line) -> list[Line]:
+        """All lines that are one with this."""
+        return [each for each in self._facts.own if self.leader(each) == self.leader(line)]
+
+    def _put(self, point: Knot, line: Line, owner: Owner) -> None:
+        members = self._members[self.leader(line)]
+        if any(each.knot == point for each in members):
+            if not any(isinstance(each, OneLine) and each.owner == owner for each in self._facts.facts):
+                self.repeats.append(owner)
+            return
+        members.append(Member(point, owner))
+
+    def _join(self, first: Line, second: Line, owner: Owner) -> None:
+        if first == second:
+            return
+        if second in (X_AXIS, Y_AXIS):
+            first, second = second, first
+        known = {each.knot: each for each in self._members[first]}
+        for each in self._members.pop(second):
+            old = known.get(each.knot)
+            known[each.knot] = each if old is None or (old.owner is None and each.owner is not None) else old
+        self._members[first] = list(known.values())
+        self._above[second] = first
+
+    def _merge_sharers(self) -> bool:
+        """Joins the first two lines that share two points; False where there are none."""
+        lines = self.all()
+        for place, first in enumerate(lines):
+            knots = {each.knot for each in self._members[first]}
+            for second in lines[place + 1:]:
+                shared = knots & {each.knot for each in self._members[second]}
+                if len(shared) >= 2 and not {first, second} == {X_AXIS, Y_AXIS}:
+                    self._join(first, second, Owner(0))
+                    return True
+        return False
+
+
+def origin_is_used(lines: Lines) -> bool:
+    """Whether anything but the axes themselves speaks of the origin."""
+    return any(each.knot == ORIGIN_KNOT and each.owner is not None
+               for line in lines.all() for each in lines.members(line))
+
+
+__all__ = ["Lean", "Lines", "Member", "origin_is_used"]

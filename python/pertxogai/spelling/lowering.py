@@ -1,0 +1,269 @@
+"""The facts that each word of a designer says."""
+from __future__ import annotations
+
+from fractions import Fraction
+
+from pertxogai.drawing import (
+    ORIGIN, X_AXIS, Y_AXIS, AngleBetween, Arc, Circle, Coincident, Collinear, Concentric, Constraint, Diameter,
+    Distance, Drawing, Equal, Fixed, Horizontal, Length, Midpoint, Pair, Parallel, ParallelDistance, Perpendicular,
+    Place, PointLineDistance, PointOn, PointRef, Radius, Segment, Shape, ShapeRef, Slope, Symmetric, Tangent, Touch, Vertical,
+    Which, XDistance, YDistance, points_of, run_um, touch, turn)
+from pertxogai.spelling.facts import (
+    ORIGIN_KNOT, Apart, Between, Fact, Facts, Knot, LengthOf, Leans, Lies, Line, Middle, Mirror, Off, OneLine, Owner,
+    RadiusOf, Shift, Sized, Stays)
+from pertxogai.spelling.knots import knots_of
+from pertxogai.spelling.lean import SQUARE, Lean
+from pertxogai.values import Form
+
+LEVEL = Lean()
+RIMS = (Circle, Arc)
+
+
+def lowered(drawing: Drawing) -> Facts:
+    """All facts of a drawing."""
+    return _Lowering(drawing).facts
+
+
+class _Lowering:
+    """A drawing on its way to facts."""
+
+    def __init__(self, drawing: Drawing) -> None:
+        self.drawing = drawing
+        self.facts = Facts()
+        self.facts.refs, self.facts.repeats = knots_of(drawing)
+        for ref, knot in self.facts.refs.items():
+            place = drawing.drawn(ref)
+            self.facts.drawn.setdefault(knot, (place.x_um, place.y_um))
+        self.facts.own[X_AXIS] = (ORIGIN_KNOT, ORIGIN_KNOT)
+        self.facts.own[Y_AXIS] = (ORIGIN_KNOT, ORIGIN_KNOT)
+        for number, shape in enumerate(drawing.geometry, 1):
+            self._shape(shape, Owner(number, True))
+        for number, constraint in enumerate(drawing.constraints, 1):
+            self._constraint(constraint, Owner(number))
+
+    def _say(self, fact: Fact) -> None:
+        self.facts.facts.append(fact)
+
+    def _knot(self, ref: PointRef) -> Knot:
+        return self.facts.refs[ref]
+
+    def _ends(self, name: str) -> tuple[Knot, Knot]:
+        return self._knot(PointRef(name, Which.START)), self._knot(PointRef(name, Which.END))
+
+    def _centre(self, rim: ShapeRef) -> Knot:
+        return self._knot(PointRef(rim.name, Which.CENTRE))
+
+    def _shape(self, shape: Shape, owner: Owner) -> None:
+        match shape:
+            case Segment(name):
+                self.facts.own[ShapeRef(name)] = self._ends(name)
+            case Arc(name):
+                for end in dict.fromkeys(self._ends(name)):
+                    self._apart(self._centre(ShapeRef(name)), end, Form.of(RadiusOf(name)), owner)
+        if shape.outer:
+            self._stays(shape, owner)
+
+    def _stays(self, shape: Shape, owner: Owner) -> None:
+        """A shape from outside, or a fixed one: its points where they are drawn, and its radius."""
+        refs = points_of(shape)
+        if isinstance(shape, Arc):
+            refs = refs[:2]
+            self._say(Leans(X_AXIS, Between(self._centre(ShapeRef(shape.name)), self._ends(shape.name)[1]),
+                            self._lean_of(shape), owner))
+        for ref in dict.fromkeys(map(self._knot, refs)):
+            x, y = self.facts.drawn[ref]
+            self._say(Stays(ref, Place(x, y), owner))
+        if isinstance(shape, Circle):
+            self._size(Form.of(RadiusOf(shape.name)), shape.radius_um, owner)
+
+    def _lean_of(self, arc: Arc) -> Lean:
+        """How an arc's drawn last radius leans against the x axis."""
+        centre, end = self._centre(ShapeRef(arc.name)), self._ends(arc.name)[1]
+        line = self._through(centre, end)
+        a, b = self.facts.direction(line)
+        denominator = a.denominator * b.denominator
+        return Lean.of(Slope(int(b * denominator), int(a * denominator), False))
+
+    def _through(self, first: Knot, second: Knot) -> Between:
+        line = Between(first, second)
+        self.facts.own[line] = (first, second)
+        return line
+
+    def _apart(self, first: Knot, second: Knot, value: Form, owner: Owner) -> None:
+        self._say(Apart(first, second, value, owner))
+
+    def _size(self, form: Form, value_um: Fraction, owner: Owner) -> None:
+        self._say(Sized(form - Form(number=value_um), owner))
+
+    def _length(self, segment: ShapeRef, owner: Owner) -> Form:
+        """A segment's length as an unknown, which is said to be that of its ends."""
+        first, second = self._ends(segment.name)
+        size = LengthOf(first, second)
+        if not any(isinstance(each, Apart) and each.value.key() == Form.of(size).key() for each in self.facts.facts):
+            self._apart(first, second, Form.of(size), owner)
+        return Form.of(size)
+
+    def _off(self, point: Knot, line: ShapeRef, value: Form, owner: Owner) -> None:
+        self._say(Off(point, line, value, self.facts.left(point, line), owner))
+
+    def _constraint(self, constraint: Constraint, owner: Owner) -> None:
+        match constraint:
+            case Coincident() | Concentric():
+                return
+            case Length() | Distance() | Radius() | Diameter() | Equal():
+                self._sizes(constraint, owner)
+            case XDistance(first, second):
+                self._shift(first, second, False, run_um(self.drawing, constraint), owner)
+            case YDistance(first, second):
+                self._shift(first, second, True, run_um(self.drawing, constraint), owner)
+            case Horizontal(of) | Vertical(of):
+                self._aligned(of, isinstance(constraint, Vertical), owner)
+            case Parallel() | Perpendicular() | AngleBetween() | Collinear():
+                self._leans(constraint, owner)
+            case PointOn(point, curve):
+                self._on(self._knot(point), curve, owner)
+            case PointLineDistance(point, line, value):
+                self._off(self._knot(point), line, Form(number=value), owner)
+            case ParallelDistance(first_line, second_line, value):
+                self._parallel_distance(first_line, second_line, value, owner)
+            case Tangent():
+                self._tangent(constraint, owner)
+            case Symmetric() | Midpoint():
+                self._halves(constraint, owner)
+            case Fixed(what):
+                self._fixed(what, owner)
+
+    def _sizes(self, constraint: Length | Distance | Radius | Diameter | Equal, owner: Owner) -> None:
+        match constraint:
+            case Length(segment, value):
+                self._size(self._length(segment, owner), value, owner)
+            case Distance(first, second, value):
+                self._apart(self._knot(first), self._knot(second), Form(number=value), owner)
+            case Radius(rim, value):
+                self._size(Form.of(RadiusOf(rim.name)), value, owner)
+            case Diameter(rim, value):
+                self._size(Form.of(RadiusOf(rim.name)).times(2), value, owner)
+            case Equal(one, other):
+                if isinstance(self.drawing.shape(one.name), RIMS):
+                    form = Form.of(RadiusOf(one.name)) - Form.of(RadiusOf(other.name))
+                else:
+                    form = self._length(one, owner) - self._length(other, owner)
+                self._size(form, Fraction(0), owner)
+
+    def _shift(self, first: PointRef, second: PointRef, upwards: bool, value: Fraction, owner: Owner) -> None:
+        self._say(Shift(self._knot(first), self._knot(second), upwards, Form(number=value), owner))
+
+    def _aligned(self, of: ShapeRef | Pair, vertical: bool, owner: Owner) -> None:
+        """Horizontal, or vertical: a segment's line leans so, two points have one y or x."""
+        if isinstance(of, ShapeRef):
+            self._say(Leans(X_AXIS, of, SQUARE if vertical else LEVEL, owner))
+            return
+        ends = (self._knot(of.first), self._knot(of.second))
+        for line, own in self.facts.own.items():
+            if set(own) == set(ends) and ends[0] != ends[1]:
+                self._say(Leans(X_AXIS, line, SQUARE if vertical else LEVEL, owner))
+                return
+        self._say(Shift(*ends, not vertical, Form(), owner))
+
+    def _leans(self, constraint: Parallel | Perpendicular | AngleBetween | Collinear, owner: Owner) -> None:
+        match constraint:
+            case Parallel(first, second):
+                self._say(Leans(first, second, LEVEL, owner))
+            case Perpendicular(first, second):
+                self._say(Leans(first, second, SQUARE, owner))
+            case AngleBetween(first, second):
+                self._say(Leans(first, second, Lean.of(turn(self.drawing, constraint)), owner))
+            case Collinear(first, second):
+                self._say(OneLine(first, second, owner))
+
+    def _on(self, point: Knot, curve: ShapeRef, owner: Owner) -> None:
+        if isinstance(self.drawing.shape(curve.name), RIMS):
+            self._apart(self._centre(curve), point, Form.of(RadiusOf(curve.name)), owner)
+        else:
+            self._say(Lies(point, curve, owner))
+
+    def _parallel_distance(self, first: ShapeRef, second: ShapeRef, value: Fraction, owner: Owner) -> None:
+        """One dimension: a point of a segment from the other line."""
+        if isinstance(self.drawing.shape(second.name), Segment):
+            self._off(self._ends(second.name)[0], first, Form(number=value), owner)
+        else:
+            self._off(self._ends(first.name)[0], second, Form(number=value), owner)
+
+    def _tangent(self, constraint: Tangent, owner: Owner) -> None:
+        first, second = constraint.first, constraint.second
+        rims = [isinstance(self.drawing.shape(each.name), RIMS) for each in (first, second)]
+        if rims == [True, True]:
+            self._rims(constraint, owner)
+        elif rims == [False, False]:
+            self._say(OneLine(first, second, owner))
+        else:
+            self._touches(*((second, first) if rims[0] else (first, second)), owner)
+
+    def _touches(self, line: ShapeRef, rim: ShapeRef, owner: Owner) -> None:
+        """At an arc's end that lies on the line the centre is on the normal; else it is a radius away."""
+        centre = self._centre(rim)
+        for end in self._rim_points(rim):
+            if self._known_on(end, line):
+                self._say(Leans(line, self._through(end, centre), SQUARE, owner))
+                return
+        self._off(centre, line, Form.of(RadiusOf(rim.name)), owner)
+
+    def _rim_points(self, rim: ShapeRef) -> list[Knot]:
+        """The points that are told to lie on a rim: an arc's ends, and what a `PointOn` puts there."""
+        points = list(self._ends(rim.name)) if isinstance(self.drawing.shape(rim.name), Arc) else []
+        points += [self._knot(each.point) for each in self.drawing.constraints
+                   if isinstance(each, PointOn) and each.curve == rim]
+        return points
+
+    def _known_on(self, point: Knot, line: ShapeRef) -> bool:
+        """Whether a point is told to lie on a line: one of its ends, or put there."""
+        return point in self.facts.own[line] or any(
+            isinstance(each, PointOn) and each.curve == line and self._knot(each.point) == point
+            for each in self.drawing.constraints)
+
+    def _rims(self, constraint: Tangent, owner: Owner) -> None:
+        """Two rims touch: at a shared point the line of centres runs through it; else by the radii."""
+        first, second = constraint.first, constraint.second
+        centres = self._centre(first), self._centre(second)
+        others = self._rim_points(second)
+        shared = [end for end in self._rim_points(first) if end in others]
+        if constraint.at is not None:
+            shared.insert(0, self._knot(constraint.at.first))
+        if shared:
+            self._say(Lies(shared[0], self._through(*centres), owner))
+            return
+        one, other = Form.of(RadiusOf(first.name)), Form.of(RadiusOf(second.name))
+        if touch(self.drawing, constraint) is Touch.OUTSIDE:
+            self._apart(*centres, one + other, owner)
+        elif self.drawing.drawn_radius_um(first.name) >= self.drawing.drawn_radius_um(second.name):
+            self._apart(*centres, one - other, owner)
+        else:
+            self._apart(*centres, other - one, owner)
+
+    def _halves(self, constraint: Symmetric | Midpoint, owner: Owner) -> None:
+        match constraint:
+            case Midpoint(point, segment):
+                self._say(Middle(self._knot(point), *self._ends(segment.name), owner))
+            case Symmetric(first, second, PointRef() as about):
+                self._say(Middle(self._knot(about), self._knot(first), self._knot(second), owner))
+            case Symmetric(first, second, ShapeRef() as line):
+                ends = self._knot(first), self._knot(second)
+                self._say(Leans(line, self._through(*ends), SQUARE, owner))
+                self._say(Mirror(*ends, line, owner))
+
+    def _fixed(self, what: PointRef | ShapeRef, owner: Owner) -> None:
+        if isinstance(what, ShapeRef):
+            shape = self.drawing.shape(what.name)
+            if isinstance(shape, Shape):
+                self._stays(shape, owner)
+            return
+        x, y = self.facts.drawn[self._knot(what)]
+        self._say(Stays(self._knot(what), Place(x, y), owner))
+
+
+def uses_datum(line: Line) -> bool:
+    """Whether a line is an axis of the datum."""
+    return line in (X_AXIS, Y_AXIS)
+
+
+__all__ = ["ORIGIN", "lowered", "uses_datum"]

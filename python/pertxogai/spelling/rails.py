@@ -1,0 +1,202 @@
+"""Rails: the lines that all points of one known x, or y, share, and how far each point lies from its rail."""
+from __future__ import annotations
+
+from collections import Counter
+from collections.abc import Hashable, Iterable
+from dataclasses import dataclass
+from fractions import Fraction
+
+from pertxogai.spelling.axes import DATUM, Axes, Coordinate, Equation
+from pertxogai.spelling.facts import Knot, LengthOf, Line, Owner, RadiusOf
+from pertxogai.spelling.style import Style
+from pertxogai.values import Form, LinearSystem
+
+
+@dataclass(frozen=True)
+class Rail:
+    """What is unknown in a coordinate: nothing on the datum's axes. `upwards` rails run along the first axis."""
+
+    frame: int
+    upwards: bool
+    unknown: frozenset[tuple[Hashable, Fraction]]
+
+    def datum(self) -> bool:
+        """Whether it is an axis of the datum."""
+        return self.frame == DATUM and not self.unknown
+
+
+@dataclass(frozen=True)
+class Size:
+    """What is unknown in a length or radius."""
+
+    unknown: frozenset[tuple[Hashable, Fraction]]
+
+
+@dataclass(frozen=True)
+class Span:
+    """How far a point is from another or from a line, as an unknown that nothing tells."""
+
+    first: Knot
+    second: Knot | Line
+
+
+@dataclass(frozen=True)
+class Run:
+    """An x or y dimension that is spelled by itself: the second point lies `run_um` from the first along an axis."""
+
+    first: Coordinate
+    second: Coordinate
+    run_um: Fraction
+    owners: frozenset[Owner]
+
+
+@dataclass(frozen=True)
+class Pending:
+    """An equation that the rails don't say, in rails and sizes."""
+
+    number: int
+    form: Form
+
+
+class Rails:
+    """The rails of a drawing in a style, the dimensions between them, and what they don't say."""
+
+    def __init__(self, axes: Axes, style: Style) -> None:
+        self.axes = axes
+        self._system = LinearSystem(_rank)
+        self.runs: list[Run] = []
+        self._run_numbers: set[int] = set()
+        self._take(style)
+        self.members: dict[Rail, dict[Coordinate, Fraction]] = {}
+        for coordinate in _coordinates(axes.equations):
+            rest = self._system.reduced(Form.of(coordinate))
+            rail = Rail(coordinate.frame, coordinate.upwards, rest.key())
+            self.members.setdefault(rail, {})[coordinate] = rest.number
+        self._sizes: dict[Size, tuple[Hashable, Fraction]] = {}
+        for size in self._all_sizes():
+            rest = self._system.reduced(Form.of(size))
+            self._sizes.setdefault(Size(rest.key()), (size, rest.number))
+
+    def _all_sizes(self) -> list[Hashable]:
+        forms = [equation.form for equation in self.axes.equations] + [fact.value for fact in self.axes.loose]
+        return list(dict.fromkeys(key for form in forms for key in form.terms if not isinstance(key, Coordinate)))
+
+    def _take(self, style: Style) -> None:
+        for number, equation in enumerate(self.axes.equations):
+            run = None if style.solves() else self._run(equation)
+            if run is None:
+                self._system.add(equation.form, number)
+            else:
+                self.runs.append(run)
+                self._run_numbers.add(number)
+
+    def _run(self, equation: Equation) -> Run | None:
+        """The dimension that an equation is between two coordinates, where it isn't 0."""
+        keys = [key for key in equation.form.terms if isinstance(key, Coordinate)]
+        sizes = Form({key: value for key, value in equation.form.terms.items()
+                      if not isinstance(key, Coordinate)}, equation.form.number)
+        value = self.axes.system.reduced(sizes)
+        if len(keys) == 1:
+            return None
+        if len(keys) != 2 or value.terms or not value.number:
+            return None
+        second, first = sorted(keys, key=lambda key: -equation.form.terms[key])
+        if [equation.form.terms[key] for key in (second, first)] != [1, -1]:
+            return None
+        return Run(first, second, -value.number, equation.owners)
+
+    def rail(self, coordinate: Coordinate) -> Rail | None:
+        """The rail of a coordinate; None where nothing is said of it."""
+        for rail, members in self.members.items():
+            if coordinate in members:
+                return rail
+        return None
+
+    def offset(self, rail: Rail) -> Fraction:
+        """Where among its points a rail runs: at 0 for the datum, else where most of them are."""
+        if rail.datum():
+            return Fraction(0)
+        counted = Counter(self.members[rail].values())
+        return max(counted, key=lambda value: counted[value])
+
+    def owners(self, first: Coordinate | None, second: Coordinate) -> frozenset[Owner]:
+        """Who says how far the second coordinate is from the first, or from the datum."""
+        form = Form.of(second) - (Form() if first is None else Form.of(first))
+        return _owners(self.axes.equations[mark] for mark in self._system.sources(form))
+
+    def number(self, form: Form) -> Fraction | None:
+        """The value of a form of sizes, in micrometres; None where it isn't known."""
+        rest = self.axes.system.reduced(form)
+        return None if rest.terms else rest.number
+
+    def symbols(self, form: Form) -> Form:
+        """A form of coordinates and sizes in rails, each taken for itself, and what is unknown in sizes."""
+        total = Form(number=form.number)
+        for key, factor in form.terms.items():
+            rest = self._system.reduced(Form.of(key))
+            if not rest.terms:
+                total = total + rest.times(factor)
+            elif isinstance(key, Coordinate):
+                symbol: Hashable = Rail(key.frame, key.upwards, rest.key())
+                total = total + Form({symbol: Fraction(1)}, rest.number).times(factor)
+            else:
+                total = total + Form({Size(rest.key()): Fraction(1)}, rest.number).times(factor)
+        return total
+
+    def unfold(self, form: Form) -> Form:
+        """A form of rails and sizes in the first coordinate of each rail, and the first of each size."""
+        total = Form(number=form.number)
+        for key, factor in form.terms.items():
+            if isinstance(key, Rail):
+                coordinate, number = next(iter(self.members[key].items()))
+                total = total + Form({coordinate: Fraction(1)}, -number).times(factor)
+            elif isinstance(key, Size):
+                size, number = self._sizes[key]
+                total = total + Form({size: Fraction(1)}, -number).times(factor)
+        return total
+
+    def pending(self) -> list[Pending]:
+        """The equations that the rails don't say."""
+        found = []
+        for number, equation in enumerate(self.axes.equations):
+            form = self.symbols(equation.form)
+            if form.terms and number not in self._run_numbers:
+                found.append(Pending(number, form))
+        return found
+
+    def lost(self) -> frozenset[Owner]:
+        """Who says something that neither the rails nor the sizes can say."""
+        system = LinearSystem(lambda key: 0 if isinstance(key, Size) else 1)
+        lost: set[Owner] = set()
+        for each in self.pending():
+            rest = system.reduced(each.form)
+            system.add(each.form, each.number)
+            if rest.terms and not any(isinstance(key, Size) for key in rest.terms):
+                lost |= self.axes.equations[each.number].owners
+        for number, fact in enumerate(self.axes.loose, len(self.axes.equations)):
+            if self.number(fact.value) is None:
+                form = self.symbols(fact.value) - Form.of(Span(fact.ends()[0], fact.ends()[1]))
+                rest = system.reduced(form)
+                system.add(form, number)
+                if not any(isinstance(key, Size) for key in rest.terms):
+                    lost.add(fact.owner)
+        return frozenset(lost)
+
+
+def _rank(key: Hashable) -> int:
+    """Sizes are solved for first, so that coordinates stay for rails."""
+    return 0 if isinstance(key, (LengthOf, RadiusOf)) else 1
+
+
+def _coordinates(equations: Iterable[Equation]) -> list[Coordinate]:
+    found: dict[Coordinate, None] = {}
+    for equation in equations:
+        found.update((key, None) for key in equation.form.terms if isinstance(key, Coordinate))
+    return list(found)
+
+
+def _owners(equations: Iterable[Equation]) -> frozenset[Owner]:
+    return frozenset(owner for equation in equations for owner in equation.owners)
+
+
+__all__ = ["Knot", "Pending", "Rail", "Rails", "Run", "Size"]

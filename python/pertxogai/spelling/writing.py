@@ -1,0 +1,399 @@
+"""Rails, leaning lines, distances and angles as the elements and constraints of a sketch."""
+from __future__ import annotations
+
+from collections.abc import Iterable
+from dataclasses import dataclass
+from fractions import Fraction
+from math import atan2, cos, hypot, pi
+
+from pertxogai import language
+from pertxogai.drawing import X_AXIS, Y_AXIS
+from pertxogai.spelling.axes import DATUM, Axes, Coordinate, Frame
+from pertxogai.spelling.drafts import Draft, Rounded, Sheet, Spot
+from pertxogai.spelling.facts import ORIGIN_KNOT, Between, Knot, Line, Owner
+from pertxogai.spelling.lean import SQUARE, Lean
+from pertxogai.spelling.rails import Rail, Rails, Run
+from pertxogai.spelling.style import Style
+from pertxogai.values import Form
+
+LEVEL = Lean()
+Track = Rail | Line
+"""What becomes a line of the sketch: a rail, or a line that leans."""
+
+
+@dataclass(frozen=True)
+class Heading:
+    """A line of the sketch: which way it runs in its frame, `turn` counter-clockwise from the first axis, and the
+    rail that it is, with its place along the axis that it fixes."""
+
+    name: str
+    frame: int
+    quarters: int | None
+    radians: float
+    rail: Rail | None
+    at_um: Fraction
+
+
+@dataclass(frozen=True)
+class Spelled:
+    """A drawing in the language. The sketch is `scale` times as large as the drawing.
+
+    owners: who says each constraint, in their order. points: the name of each knot's point. tracks: what each line
+    stands for. left_out: who says something that isn't in the sketch. headings: which way each line runs. rounded: values that had to be rounded."""
+
+    style: Style
+    sketch: language.Sketch
+    scale: int
+    owners: tuple[frozenset[Owner], ...]
+    points: dict[Knot, str]
+    tracks: dict[str, Track | None]
+    headings: tuple[Heading, ...]
+    left_out: frozenset[Owner]
+    rounded: tuple[Rounded, ...]
+
+
+def written(axes: Axes, rails: Rails, style: Style) -> Spelled:
+    """The drawing, spelled in that style."""
+    writer = _Writer(axes, rails, style)
+    writer.write()
+    return writer.spelled()
+
+
+class _Writer:
+    """A sheet that is being filled."""
+
+    def __init__(self, axes: Axes, rails: Rails, style: Style) -> None:
+        self.axes = axes
+        self.rails = rails
+        self.style = style
+        self.sheet = Sheet()
+        self.names: dict[Track, str] = {}
+        self.helps: dict[str, Lean] = {}
+        self.points: dict[Knot, str] = {}
+        self.ways: dict[Knot, Spot] = dict(axes.facts.drawn)
+        self.left_out: set[Owner] = set()
+        self.bases: dict[int, list[Track]] = {}
+
+    def write(self) -> None:
+        """Fills the sheet: points, lines, then angles, heights and distances."""
+        self._name_points()
+        tracks = self._tracks()
+        self._settle_ways()
+        for track in tracks:
+            self._draw(track)
+        self._angles(tracks)
+        for track in tracks:
+            self._points_on(track)
+        for run in self.rails.runs:
+            self._run(run)
+        self._loose()
+        self._drop_idle()
+
+    def spelled(self) -> Spelled:
+        """What was written."""
+        for knot, name in self.points.items():
+            self.sheet.points[name] = self.ways[knot]
+        scale = self.sheet.scale()
+        sketch, rounded = self.sheet.sketch(scale)
+        names = {name: track for track, name in self.names.items()}
+        tracks: dict[str, Track | None] = {name: names.get(name) for name in self.sheet.lines}
+        headings = tuple(self._heading(name, track) for name, track in tracks.items() if track is not None)
+        owners = tuple(draft.owners for draft in self.sheet.drafts)
+        left_out = frozenset(self.left_out) | self.rails.lost()
+        return Spelled(self.style, sketch, scale, owners, dict(self.points), tracks, headings, left_out, rounded)
+
+    def _heading(self, name: str, track: Track) -> Heading:
+        frame = self._frame(track)
+        if isinstance(track, Rail):
+            return Heading(name, frame.number, 0 if track.upwards else 1, 0.0, track, self.rails.offset(track))
+        turn = self.axes.lean(track).radians()
+        a, b = self.axes.facts.direction(track)
+        drawn = atan2(float(b), float(a)) - atan2(float(frame.way[1]), float(frame.way[0]))
+        return Heading(name, frame.number, None, turn if cos(turn - drawn) >= 0 else turn + pi, None, Fraction(0))
+
+    # -- elements
+
+    def _name_points(self) -> None:
+        origin = any(ORIGIN_KNOT in _ends(each) for each in self.axes.loose) or any(
+            coordinate.knot == ORIGIN_KNOT and len(members) > 1 for rail, members in self.rails.members.items()
+            for coordinate in members)
+        for knot in dict.fromkeys(self.axes.facts.refs.values()):
+            if knot != ORIGIN_KNOT:
+                self.points[knot] = f"P{knot.number}"
+            elif origin:
+                self.points[knot] = "O"
+
+    def _tracks(self) -> list[Track]:
+        """The rails that carry something, and the lines that lean, named."""
+        ran = {rail for run in self.rails.runs for rail in self._run_rails(run)}
+        rails: list[Track] = sorted(
+            (rail for rail, members in self.rails.members.items() if len(members) > 1 or rail in ran),
+            key=lambda rail: (not rail.datum(), rail.frame, -len(self.rails.members[rail])))
+        lines: list[Track] = [line for line in self.axes.lines.all() if self.axes.fixed_axis(line) is None]
+        for number, track in enumerate([*rails, *lines]):
+            self.names[track] = self._track_name(track, number)
+        return [*rails, *lines]
+
+    def _track_name(self, track: Track, number: int) -> str:
+        if isinstance(track, Rail):
+            if track.datum():
+                return "X" if track.upwards else "Y"
+            return f"R{number}"
+        return f"L{number}"
+
+    def _frame(self, track: Track) -> Frame:
+        return self.axes.frames[track.frame] if isinstance(track, Rail) else self.axes.frame(track)
+
+    def _lean(self, track: Track) -> Lean:
+        if isinstance(track, Rail):
+            return LEVEL if track.upwards else SQUARE
+        return self.axes.lean(track)
+
+    def _settle_ways(self) -> None:
+        """Draws a point on the other side of its rail where the dimensions put it there."""
+        for rail in self.names:
+            if isinstance(rail, Rail):
+                for coordinate, offset in self.rails.members[rail].items():
+                    self._settle_way(rail, coordinate, offset - self.rails.offset(rail))
+
+    def _settle_way(self, rail: Rail, coordinate: Coordinate, height: Fraction) -> None:
+        a, b = _unit(self._frame(rail).way)
+        if rail.upwards:
+            a, b = -b, a
+        x, y = self.ways[coordinate.knot]
+        off = a * x + b * y - self._rail_at(rail)
+        if height and (off > 0) != (height > 0):
+            shift = height - off
+            self.ways[coordinate.knot] = (x + a * shift, y + b * shift)
+
+    def _rail_at(self, rail: Rail) -> Fraction:
+        """Where a rail is drawn, along the axis that it fixes."""
+        if rail.datum():
+            return Fraction(0)
+        a, b = _unit(self._frame(rail).way)
+        if rail.upwards:
+            a, b = -b, a
+        offset = self.rails.offset(rail)
+        knot = next(each.knot for each, value in self.rails.members[rail].items() if value == offset)
+        x, y = self.axes.facts.drawn[knot]
+        return a * x + b * y
+
+    def _draw(self, track: Track) -> None:
+        if not isinstance(track, Rail):
+            first = self.axes.facts.own[track][0]
+            x, y = self.ways[first]
+            a, b = self.axes.facts.direction(track)
+            self.sheet.lines[self.names[track]] = ((x, y), (x + a, y + b))
+            return
+        a, b = _unit(self._frame(track).way)
+        if not track.upwards:
+            a, b = -b, a
+        at = self._rail_at(track)
+        x, y = (-b * at, a * at) if track.upwards else (b * at, -a * at)
+        reach = Fraction(100_000)
+        self.sheet.lines[self.names[track]] = ((x, y), (x + a * reach, y + b * reach))
+
+    # -- constraints
+
+    def _say(self, first: str, second: str, owners: Iterable[Owner], value: Fraction | None = None) -> None:
+        self.sheet.drafts.append(Draft(first, second, frozenset(owners), abs(value) if value else None))
+
+    def _angles(self, tracks: list[Track]) -> None:
+        """Ties the lines of each frame by angles."""
+        for frame in self.axes.frames:
+            mine = [track for track in tracks if self._frame(track) == frame]
+            if mine:
+                self._tie(mine)
+
+    def _tie(self, tracks: list[Track]) -> None:
+        group = {track: track for track in tracks}
+        for first, second, lean, owner in self._near_ties(tracks):
+            if _leader(group, first) != _leader(group, second):
+                group[_leader(group, second)] = _leader(group, first)
+                self._angle(first, second, lean, {owner})
+        base = tracks[0]
+        other = next((each for each in tracks if self._lean(each) != self._lean(base)), None)
+        if other is not None and _leader(group, other) != _leader(group, base):
+            self._tie_to(group, base, other)
+        for track in tracks:
+            if _leader(group, track) == _leader(group, base):
+                continue
+            if self._lean(track) != self._lean(base):
+                self._tie_to(group, base, track)
+            elif other is not None:
+                self._tie_to(group, other, track)
+            else:
+                self._square_help(base, track)
+
+    def _tie_to(self, group: dict[Track, Track], base: Track, track: Track) -> None:
+        group[_leader(group, track)] = _leader(group, base)
+        self._angle(base, track, -self._lean(base) + self._lean(track), self._direction_owners(base, track))
+
+    def _near_ties(self, tracks: list[Track]) -> list[tuple[Track, Track, Lean, Owner]]:
+        """The angles that are told against the line that the designer names, or of which a normal is one."""
+        found = []
+        for leans in self.axes.directions.joined:
+            first, second = self._track_of(leans.first), self._track_of(leans.second)
+            normal = isinstance(leans.second, Between) and isinstance(second, Between)
+            if (self.style.near() or normal) and first in tracks and second in tracks and not leans.lean.level():
+                assert first is not None and second is not None
+                found.append((first, second, leans.lean, leans.owner))
+        return found
+
+    def _track_of(self, line: Line) -> Track | None:
+        """The track that stands for a line."""
+        upwards = self.axes.fixed_axis(line)
+        if upwards is None:
+            return line
+        knot = self.axes.lines.members(line)[0].knot
+        return self.rails.rail(Coordinate(self.axes.frame(line).number, upwards, knot))
+
+    def _direction_owners(self, first: Track, second: Track) -> frozenset[Owner]:
+        """Who says the directions of two tracks against each other."""
+        found: set[Owner] = set()
+        for track in (first, second):
+            if not isinstance(track, Rail):
+                found |= self.axes.directions.owners(self._frame(track).line, track)
+            elif not track.datum():
+                found |= self._rail_owners(track)
+        return frozenset(found)
+
+    def _rail_owners(self, rail: Rail) -> frozenset[Owner]:
+        members = list(self.rails.members[rail])
+        return frozenset(owner for each in members[1:] for owner in self.rails.owners(members[0], each))
+
+    def _angle(self, first: Track, second: Track, lean: Lean, owners: Iterable[Owner]) -> None:
+        names = self.names[first], self.names[second]
+        self.sheet.drafts.append(Draft(*names, frozenset(owners) - {Owner(0)}, ratio=lean.ratio()))
+
+    def _square_help(self, base: Track, track: Track) -> None:
+        """A line of help, square to two parallel ones, through a point of the first."""
+        name = self._help(base)
+        self.sheet.drafts.append(Draft(name, self.names[track], self._direction_owners(base, track), ratio=(1, 0)))
+
+    def _help(self, base: Track) -> str:
+        name = f"N{self.names[base]}"
+        if name not in self.sheet.lines:
+            (x, y), (u, v) = self.sheet.lines[self.names[base]]
+            knot = self._a_point_of(base)
+            x, y, a, b = *self.ways[knot], u - x, v - y
+            self.sheet.lines[name] = ((x, y), (x - b, y + a))
+            owners = self._direction_owners(base, base)
+            self._say(self.points[knot], name, owners)
+            self.sheet.drafts.append(Draft(self.names[base], name, owners, ratio=(1, 0)))
+        return name
+
+    def _a_point_of(self, track: Track) -> Knot:
+        if isinstance(track, Rail):
+            return next(each.knot for each in self.rails.members[track] if each.knot in self.points)
+        return self.axes.lines.members(track)[0].knot
+
+    def _points_on(self, track: Track) -> None:
+        name = self.names[track]
+        if not isinstance(track, Rail):
+            owners = self._direction_owners(track, track)
+            for member in self.axes.lines.members(track):
+                if member.knot in self.points:
+                    self._say(self.points[member.knot], name, {member.owner} if member.owner else owners)
+            return
+        offset = self.rails.offset(track)
+        members = self.rails.members[track]
+        anchor = None if track.datum() else next(each for each, value in members.items() if value == offset)
+        for coordinate, value in members.items():
+            if coordinate.knot in self.points:
+                owners = self._rail_owners(track) if coordinate == anchor else self.rails.owners(anchor, coordinate)
+                self._say(self.points[coordinate.knot], name, owners, value - offset)
+
+    def _run_rails(self, run: Run) -> list[Rail]:
+        """The rails whose lines a run needs: the one with more points, or both for feet."""
+        rails = [rail for rail in map(self.rails.rail, (run.first, run.second)) if rail is not None]
+        if self.style is Style.FEET:
+            return rails
+        return [max(rails, key=lambda rail: (rail.datum(), len(self.rails.members[rail])))]
+
+    def _run(self, run: Run) -> None:
+        rails = self._run_rails(run)
+        if self.style is Style.FEET and len(rails) == 2 and self._feet(run, rails):
+            return
+        first, second, sign = run.first, run.second, 1
+        rail = rails[0]
+        if self.rails.rail(first) != rail:
+            first, second, sign = second, first, -1
+        from_line = sign * run.run_um + self.rails.members[rail][first] - self.rails.offset(rail)
+        if second.knot in self.points:
+            self._say(self.points[second.knot], self.names[rail], run.owners, from_line)
+
+    def _feet(self, run: Run, rails: list[Rail]) -> bool:
+        """The dimension between the feet of two rails on the first rail across; False where there is none."""
+        across = next((each for each in self.names if isinstance(each, Rail) and each.frame == rails[0].frame
+                       and each.upwards != rails[0].upwards), None)
+        ends = [self.rails.members[rail][end] - self.rails.offset(rail)
+                for rail, end in zip(rails, (run.first, run.second))]
+        apart = run.run_um + ends[0] - ends[1]
+        if across is None or not apart:
+            return False
+        feet = [self._foot(rail, across, run) for rail in rails]
+        self._say(feet[0], feet[1], run.owners, apart)
+        return True
+
+    def _foot(self, rail: Rail, across: Rail, run: Run) -> str:
+        name = f"F{self.names[rail]}"
+        if name not in self.sheet.points:
+            a, b = _unit(self._frame(rail).way)
+            along, up = self._rail_at(rail), self._rail_at(across)
+            if rail.upwards:
+                along, up = up, along
+            self.sheet.points[name] = (a * along - b * up, b * along + a * up)
+            self._say(name, self.names[rail], run.owners)
+            self._say(name, self.names[across], run.owners)
+        return name
+
+    def _loose(self) -> None:
+        """Distances that run along no axis."""
+        for fact in self.axes.loose:
+            value = self.rails.number(fact.value)
+            first, second = fact.ends()
+            if value is None:
+                continue
+            if not value:
+                self.left_out.add(fact.owner)
+                continue
+            name = self.points[second] if isinstance(second, Knot) else self.names[self.axes.lines.leader(second)]
+            self._say(self.points[first], name, {fact.owner}, value)
+
+    def _drop_idle(self) -> None:
+        """Takes away lines that hold nothing: with two constraints at most, of which one at most is an angle."""
+        kept = {self.names[track] for track in list(self.names)[:2] if self._frame(track).number == DATUM}
+        while True:
+            idle = next((name for name in self.sheet.lines if name not in kept and self._idle(name)), None)
+            if idle is None:
+                return
+            del self.sheet.lines[idle]
+            self.sheet.drafts = [each for each in self.sheet.drafts if idle not in each.names()]
+
+    def _idle(self, name: str) -> bool:
+        mine = [each for each in self.sheet.drafts if name in each.names()]
+        return len(mine) <= 2 and sum(each.ratio is not None for each in mine) <= 1
+
+
+def _leader(group: dict[Track, Track], track: Track) -> Track:
+    while group[track] != track:
+        track = group[track]
+    return track
+
+
+def _ends(fact: object) -> tuple[object, ...]:
+    ends = getattr(fact, "ends")
+    return tuple(ends())
+
+
+def _unit(way: Spot) -> Spot:
+    """A drawn direction of length 1, near enough for a drawing; exact along the axes."""
+    a, b = way
+    if not a or not b:
+        return Fraction((a > 0) - (a < 0)), Fraction((b > 0) - (b < 0))
+    size = hypot(float(a), float(b))
+    return Fraction(float(a) / size), Fraction(float(b) / size)
+
+
+__all__ = ["Form", "Heading", "Spelled", "Track", "X_AXIS", "Y_AXIS", "written"]
