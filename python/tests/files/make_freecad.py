@@ -750,13 +750,107 @@ def symmetric_kite(sheet):
     sheet.tie("Distance", high, 26)
 
 
+def tangent_forms(sheet):
+    """Tangency in the forms that the tool has: at an end on a curve, through a point, of lines."""
+    ring = sheet.circle(0, 0, 20)
+    sheet.tie("Coincident", ring, CENTRE, *ORIGIN)
+    sheet.tie("Radius", ring, 20)
+    tail = sheet.line(12, 16, -20, 40)
+    sheet.tie("Tangent", tail, START, ring)
+    sheet.tie("DistanceX", *ORIGIN, tail, START, 12)
+    sheet.tie("Distance", tail, 41)
+    bow, other = sheet.circle(32, 0, 12), sheet.point(20, 0)
+    sheet.tie("PointOnObject", other, START, ring)
+    sheet.tie("PointOnObject", other, START, bow)
+    sheet.tie("TangentViaPoint", ring, bow, other, START)
+    sheet.tie("PointOnObject", bow, CENTRE, X_AXIS)
+    sheet.tie("Radius", bow, 13)
+    first, second = sheet.line(-40, -30, -20, -31), sheet.line(-10, -30, 10, -30)
+    sheet.tie("Tangent", first, second)
+    sheet.tie("Horizontal", first)
+    sheet.tie("DistanceY", *ORIGIN, second, START, -31)
+    for end, x in (((first, START), -42), ((first, END), -22), ((second, START), -11),
+                   ((second, END), 11)):
+        sheet.tie("DistanceX", *ORIGIN, *end, x)
+    third = sheet.line(11, -30, 30, -32)
+    sheet.tie("Tangent", second, END, third, START)
+    sheet.tie("Distance", third, 20)
+
+
+def perpendicular_forms(sheet):
+    """Right angles in the forms that the tool has: lines, at ends, on a curve, with a circle."""
+    ring = sheet.circle(0, 0, 20)
+    sheet.tie("Coincident", ring, CENTRE, *ORIGIN)
+    sheet.tie("Radius", ring, 20)
+    spoke = sheet.line(12, 16, 30, 40)
+    sheet.tie("Perpendicular", spoke, START, ring)
+    sheet.tie("DistanceX", *ORIGIN, spoke, START, 12)
+    sheet.tie("Distance", spoke, 33)
+    through = sheet.line(-30, 5, 40, -7)
+    sheet.tie("Perpendicular", through, ring)
+    sheet.tie("DistanceX", *ORIGIN, through, START, -32)
+    sheet.tie("DistanceY", *ORIGIN, through, START, 8)
+    sheet.tie("Distance", through, 70)
+    cap = sheet.line(-32, 8, -30, 20)
+    sheet.tie("Perpendicular", through, START, cap, START)
+    sheet.tie("Distance", cap, 12)
+    bow = sheet.arc(60, 30, 15, 180, 270)
+    floor = sheet.line(60, 15, 60, 50)
+    sheet.tie("Perpendicular", bow, END, floor, START)
+    sheet.tie("Vertical", floor)
+    sheet.tie("Distance", floor, 36)
+    sheet.tie("DistanceX", *ORIGIN, bow, CENTRE, 61)
+    sheet.tie("DistanceY", *ORIGIN, bow, CENTRE, 31)
+    sheet.tie("Radius", bow, 14)
+    sheet.tie("Horizontal", bow, START, bow, CENTRE)
+
+
+def angle_forms(sheet):
+    """Angles in the forms that the tool has, to both sides, from starts and from ends."""
+    rays = [sheet.line(0, 0, x, y) for x, y in ((40, 0), (30, 25), (-20, 30), (-35, -10), (5, -40))]
+    for ray in rays:
+        sheet.tie("Coincident", ray, START, *ORIGIN)
+        sheet.tie("Distance", ray, 38)
+    sheet.tie("Angle", rays[0], math.radians(-5))
+    sheet.tie("Angle", rays[0], rays[1], math.radians(41))
+    sheet.tie("Angle", rays[2], START, rays[1], START, math.radians(-80))
+    sheet.tie("Angle", X_AXIS, rays[3], math.radians(-165))
+    sheet.tie("Angle", rays[4], START, rays[3], START, math.radians(-87.5))
+    tail = sheet.line(60, 10, 36, 20)
+    sheet.tie("Coincident", tail, END, rays[1], END)
+    sheet.tie("Distance", tail, 20)
+    sheet.tie("Angle", tail, END, rays[1], END, math.radians(-120))
+    back = sheet.line(60, -30, 37, -4)
+    sheet.tie("Coincident", back, END, rays[0], END)
+    sheet.tie("Distance", back, 21)
+    sheet.tie("Angle", rays[0], START, back, END, math.radians(-60))
+
+
+def distance_forms(sheet):
+    """Distances in the forms that the tool has: of a line alone, backwards, to the left, of 0."""
+    first = sheet.line(30, 20, 5, 8)
+    sheet.tie("DistanceX", first, -26)
+    sheet.tie("DistanceY", first, -13)
+    sheet.tie("DistanceX", first, START, 31)
+    sheet.tie("DistanceY", first, START, 22)
+    second = sheet.line(-20, 10, -21, 35)
+    sheet.tie("DistanceX", second, 0)
+    sheet.tie("DistanceX", second, START, first, END, 25)
+    sheet.tie("DistanceY", first, END, second, START, 2)
+    sheet.tie("Distance", second, END, X_AXIS, 36)
+    mark = sheet.point(-10, 20)
+    sheet.tie("Distance", mark, START, second, 9)
+    sheet.tie("Distance", mark, START, *ORIGIN, 22)
+
+
 DRAWINGS = (
     plate, plate_by_lengths, plate_centred, four_holes, hole_grid, slot, slot_sloped,
     slotted_plate, bracket, rounded_plate, hexagon, flange, flange_of_four, tee, beam, half_moon,
     hook, link, rollers, triangle_by_sides, triangle_by_angles, wedge, trapezium, chamfered_plate,
     keyhole, shaft, gusset, vee_block, parallelogram, rhombus, named, reference, inches, blocked,
     middles, washer, star, cam, plate_without_height, plate_with_loose_hole, hinge, free_plate,
-    twice, contradiction, ellipse, spline, inactive, perpendicular_ends, symmetric_kite)
+    twice, contradiction, ellipse, spline, inactive, perpendicular_ends, symmetric_kite, tangent_forms,
+    perpendicular_forms, angle_forms, distance_forms)
 
 
 def facts(name, sketch):
