@@ -60,7 +60,7 @@ def _read(entries: list[tuple[int, Node]]) -> tuple[list[Numbered], list[LeftOut
         try:
             if kind not in _KINDS:
                 raise Unsaid(f"a drawing has no {_plain(kind)}")
-            shapes.append(Numbered(count, name, _KINDS[kind].read(_body(node), dress)))
+            shapes.append(Numbered(count, name, _KINDS[kind].read(body_of(node), dress)))
         except Unsaid as unsaid:
             shapes.append(Numbered(count, name, None))
             left_out.append(LeftOut(name, str(unsaid)))
@@ -77,8 +77,8 @@ def _plain(kind: str) -> str:
     return "".join(" " + letter.lower() if letter.isupper() else letter for letter in kind).strip()
 
 
-def _body(node: Node) -> Node:
-    """The element that has the numbers."""
+def body_of(node: Node) -> Node:
+    """The element of a shape's entry that has the numbers. Raises Unsaid where there is none."""
     for child in node.children:
         if child.tag not in ("GeoExtensions", "Construction"):
             return child
@@ -127,6 +127,17 @@ def angles_of(body: Node) -> tuple[float, float]:
     if number(body, "NormalZ", "1") < 0:
         return math.pi - end, math.pi - start
     return start, end
+
+
+def params_of(body: Node, start: float, end: float) -> tuple[float, float]:
+    """FreeCAD's StartAngle and EndAngle of an arc whose ends stand at these angles to the x axis,
+    counter-clockwise from the first to the second; the opposite of `angles_of`."""
+    turn = number(body, "AngleXU", "0")
+    if number(body, "NormalZ", "1") < 0:
+        start, end = math.pi - end, math.pi - start
+    first = (start - turn) % (2 * math.pi)
+    opening = (end - start) % (2 * math.pi)
+    return first, first + opening
 
 
 @dataclass(frozen=True)
