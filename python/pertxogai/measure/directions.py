@@ -5,7 +5,7 @@ from __future__ import annotations
 from dataclasses import dataclass
 from fractions import Fraction
 
-from pertxogai.drawing import Degrees, Slope, Turn
+from pertxogai.drawing import Slope, Turn
 from pertxogai.measure.circular import Enclosed, cos_sin, exactly
 from pertxogai.measure.exact import Root, Way, cross, dot, least, square
 
@@ -56,28 +56,36 @@ LOST = Bend(Fraction(1), False)
 
 def bend(first: Line, second: Line, turn: Turn) -> Bend:
     """How far the second is off the first, turned by this; as one direction to another."""
-    cosine, sine = _turned(turn)
+    wanted = _turned(turn)
     along, aside = dot(first.way, second.way), cross(first.way, second.way)
-    squares = square(first.way) * square(second.way) * _scale(turn)
+    squares = square(first.way) * square(second.way) * wanted.square
     if squares == 0:
         return LOST
-    over = cosine.times(aside).plus(sine.times(-along)).size()
-    ahead = cosine.times(along).plus(sine.times(aside)).high >= 0
+    over = wanted.cosine.times(aside).plus(wanted.sine.times(-along)).size()
+    ahead = wanted.cosine.times(along).plus(wanted.sine.times(aside)).high >= 0
     return Bend(over * over / squares, not ahead)
 
 
-def _turned(turn: Turn) -> tuple[Enclosed, Enclosed]:
-    """Cosine and sine of a turn, up to the factor whose square is `_scale`."""
-    match turn:
-        case Degrees(value):
-            return cos_sin(value)
-        case Slope(p, q, backward):
-            # q isn't negative: the turn is to within a right angle, then half round if backward.
-            return (exactly(-q), exactly(-p)) if backward else (exactly(q), exactly(p))
+@dataclass(frozen=True)
+class _Wanted:
+    """A direction by its cosine and sine, times the root of `square`."""
+
+    cosine: Enclosed
+    sine: Enclosed
+    square: int
 
 
-def _scale(turn: Turn) -> int:
-    return turn.p ** 2 + turn.q ** 2 if isinstance(turn, Slope) else 1
+def _turned(turn: Turn) -> _Wanted:
+    """The direction of the x axis, turned. Whole multiples of 45 degrees, which alone have
+    fractions for tangents, are exact."""
+    if isinstance(turn, Slope):
+        # q isn't negative: the turn is to within a right angle, then half round if backward.
+        sign = -1 if turn.backward else 1
+        return _Wanted(exactly(sign * turn.q), exactly(sign * turn.p), turn.p ** 2 + turn.q ** 2)
+    if turn.value % 90 == 45:
+        return _Wanted(exactly(1 if turn.value % 360 in (45, 315) else -1),
+                       exactly(1 if turn.value % 360 < 180 else -1), 2)
+    return _Wanted(*cos_sin(turn.value), 1)
 
 
 def bend_of_lines(first: Line, second: Line, right_angle: bool) -> Bend:
