@@ -1,6 +1,78 @@
-"""x"""
+"""Placed coordinates written into a new SolveSpace file.
+
+The numbers (`Param`) of the sketch's points and radii change; everything else stays as it is.
+SolveSpace makes its entities of these numbers when it opens the file.
+"""
+
 from __future__ import annotations
 
+from collections.abc import Iterator, Mapping
+from decimal import Decimal
+from fractions import Fraction
+from pathlib import Path
 
-def write_solvespace() -> None:
-    """Not yet."""
+from pertxogai.found import Unsaid
+from pertxogai.measure import Number, Solution
+from pertxogai.saving import saving
+from pertxogai.solvespace.reading import (
+    contents_of, name_of_group, requests_of, sketch_groups)
+from pertxogai.solvespace.records import Record, read_lines, records
+from pertxogai.solvespace.shapes import Request, drawn
+from pertxogai.upright import upright
+
+_NM_PER_MM = 10 ** 6
+_DIGITS = 20
+_VALUE = b"Param.val="
+
+
+def write_solvespace(path: Path, out: Path, solutions: Mapping[str, Solution]) -> None:
+    """Copies a file to `out` with the numbers of each sketch that is named where its solution
+    has them; what wasn't placed stays as it is.
+
+    Raises FileRefusal where the file can't be read or written, and where `out` is the file.
+    """
+    lines = read_lines(path)
+    contents = contents_of(path, lines)
+    values: dict[int, str] = {}
+    for group in sketch_groups(contents):
+        solution = solutions.get(name_of_group(group))
+        if solution is not None:
+            values.update(_values(requests_of(group, contents), upright(solution)))
+    with saving(out, path) as stream:
+        stream.write(b"\n".join(_rewritten(lines, values)))
+
+
+def _values(requests: list[Record], solution: Solution) -> Iterator[tuple[int, str]]:
+    """The new numbers of what was drawn, by their handles."""
+    for request in requests:
+        try:
+            one = drawn(request)
+        except Unsaid:
+            continue
+        for ref, handle in one.places().items():
+            if ref in solution.points:
+                x, y = solution.points[ref]
+                yield handle, _mm(x)
+                yield handle + 1, _mm(y)
+        if one.kind is Request.CIRCLE and one.name in solution.radii:
+            yield one.radius(), _mm(solution.radii[one.name])
+
+
+def _rewritten(lines: list[bytes], values: Mapping[int, str]) -> Iterator[bytes]:
+    """The lines with new numbers. A number of 0 has no line of its own in the file."""
+    new: dict[int, bytes] = {}
+    for record in records(lines):
+        if record.word == "Param" and record.handle("h.v") in values:
+            new[record.added] = _VALUE + values[record.handle("h.v")].encode("ascii")
+    for count, line in enumerate(lines):
+        if count + 1 in new and line.startswith(_VALUE):
+            continue
+        if count in new:
+            yield new[count]
+        yield line
+
+
+def _mm(value_nm: Number) -> str:
+    """Millimetres of nanometres, with as many digits as SolveSpace writes."""
+    exact = Fraction(value_nm)
+    return f"{Decimal(exact.numerator) / Decimal(exact.denominator * _NM_PER_MM):.{_DIGITS}f}"
