@@ -80,9 +80,10 @@ class LengthBar:
 
 @dataclass(frozen=True)
 class Tag:
-    """A text near a place, as that of an angle at a corner or of a radius."""
+    """A text near a place, as that of an angle at a corner; or, with a radius, outside or inside of a rim."""
 
     at: Spot
+    radius: float
     text: str
     ink: Ink = Ink(Manner.BAR)
 

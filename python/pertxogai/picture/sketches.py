@@ -104,8 +104,7 @@ class _Layout:
         if ink == BAR:
             for it in self.elements:
                 if isinstance(it, Laid) and it.radius:
-                    yield Tag((it.at[0] + it.radius * math.sqrt(0.5), it.at[1] + it.radius * math.sqrt(0.5)),
-                              f"R{mm_text(round(it.radius * 1000))}", ink)
+                    yield Tag(it.at, it.radius, f"R{mm_text(round(it.radius * 1000))}", ink)
 
     def marked(self, own: Sequence[tuple[int, Constraint]], may_go: set[int]) -> Iterator[Dimension]:
         """Those constraints that may go, with their numbers."""
@@ -120,7 +119,7 @@ class _Layout:
         lines = segments(self.sketch, self.elements)
         names = constraint.names()
         at = next((places[name] for name in names if name in places), None) or middle_of(lines[names[0]])
-        return Tag(at, f"c{number} {constraint.text().split()[0]}", SPARE)
+        return Tag(at, 0.0, f"c{number} {constraint.text().split()[0]}", SPARE)
 
     def _dimensions(self, constraint: Constraint, ink: Ink, number: str | None) -> Iterator[Dimension]:
         if isinstance(constraint, Distance):
@@ -155,7 +154,7 @@ class _Layout:
             return
         text = f"{math.degrees(math.atan2(abs(constraint.p), constraint.q)):.4g}°"
         text = text if corner else f"{text} to {constraint.first}"
-        yield Tag(corner or middle_of(two), f"{number}: {text}" if number else text, ink)
+        yield Tag(corner or middle_of(two), 0.0, f"{number}: {text}" if number else text, ink)
 
 
 def _is_near(place: Spot, segment: tuple[Spot, Spot]) -> bool:

@@ -22,7 +22,8 @@ STYLE = """
     .datum { stroke: #9aa5b1; stroke-width: 1; fill: none; stroke-dasharray: 12 3 2 3 }
     .bar { stroke: #8794a2; stroke-width: 1.2; fill: none }
     .spare { stroke: #c01a1a; stroke-width: 1.6; stroke-dasharray: 5 3; fill: none }
-    text { font-family: Helvetica, Arial, sans-serif; text-anchor: middle }
+    text { font-family: Helvetica, Arial, sans-serif; text-anchor: middle;
+      stroke: #ffffff; stroke-width: 3px; stroke-linejoin: round; paint-order: stroke }
     .name { font-size: 14px }
     .length { font-size: 12px; fill: #5a6673 }
     .legend { font-size: 13px; text-anchor: start }
@@ -89,7 +90,7 @@ class _Drawer:
                 texts.put_beside(bar.text, start, end, bar.ink)
         for tag in self.scene.dimensions:
             if isinstance(tag, Tag):
-                texts.put_near(tag.text, self.page.at(tag.at), tag.ink)
+                texts.put_near(tag.text, self.page.at(tag.at), tag.radius * self.page.scale, tag.ink)
         return texts.written
 
     def _squares(self) -> Iterator[str]:

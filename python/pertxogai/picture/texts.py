@@ -41,10 +41,11 @@ class Texts:
         """Writes a dimension along a bar."""
         self._put(words, 12, "length", ink, lambda wide, tall: self._beside(start, end, wide, tall), None)
 
-    def put_near(self, words: str, at: Spot, ink: Ink) -> None:
-        """Writes a dimension near a place, in any direction."""
+    def put_near(self, words: str, at: Spot, radius: float, ink: Ink) -> None:
+        """Writes a dimension near a place, or near the rim around it, in any direction."""
+        fars = [radius + far for far in (1, 9, 20)] + ([0.0] if radius > 26 else [])
         self._put(words, 12, "length", ink, lambda wide, tall: [
-            _beyond(at, way, far, wide, tall) for far in (3, 14, 28) for way in EIGHTHS], None)
+            _beyond(at, way, far, wide, tall) for far in fars for way in EIGHTHS], None)
 
     def _put(self, words: str, size: int, kind: str, ink: Ink, places: Places, named: Figure | None) -> None:
         wide, tall = len(words) * size * WIDE_LETTER, float(size)

@@ -1,0 +1,118 @@
+"""Pictures of a designer's drawing: as drawn, or as placed, with the dimensions that were asked for."""
+from __future__ import annotations
+
+import math
+from collections.abc import Iterator, Sequence
+from dataclasses import dataclass
+from fractions import Fraction
+
+from ..drawing import (AngleBetween, Arc, Axis, Circle, Constraint, Degrees, Diameter, Distance, Drawing, Length,
+                       ParallelDistance, Point, PointLineDistance, PointRef, Radius, Segment, Shape, ShapeRef, Which,
+                       XDistance, YDistance)
+from ..measure import Solution
+from .marks import Bow, Dimension, Dot, Ink, LengthBar, Manner, Mark, Ring, Scene, Spot, Stroke, Tag
+from .plane import between, crossing, foot, unit
+from .svg import Picture, picture_of
+
+BAR = Ink(Manner.BAR)
+
+
+def picture_of_designed(drawing: Drawing, solution: Solution | None = None, title: str = "a drawing",
+                        notes: Sequence[str] = ()) -> Picture:
+    """A drawing as it is, or where its points are placed, seen from its datum; notes stand below."""
+    return picture_of(scene_of_designed(drawing, solution, title, notes))
+
+
+def scene_of_designed(drawing: Drawing, solution: Solution | None = None, title: str = "a drawing",
+                      notes: Sequence[str] = ()) -> Scene:
+    """The same as a scene, to which more can be added."""
+    where = Whereabouts(drawing, solution)
+    dimensions = [it for constraint in drawing.constraints for it in where.dimensions(constraint)]
+    marks = tuple(where.mark(shape) for shape in drawing.geometry)
+    return Scene(title, marks, tuple(dimensions), tuple((note, Ink()) for note in notes))
+
+
+@dataclass(frozen=True)
+class Whereabouts:
+    """Where the shapes of a drawing lie, in millimetres from its datum: as drawn, or as placed."""
+
+    drawing: Drawing
+    solution: Solution | None
+
+    def at(self, ref: PointRef) -> Spot:
+        """The place of a point. Raises MissingPlace where it isn't placed."""
+        if self.solution is None:
+            place = self.drawing.drawn(ref)
+            return float(place.x_um) / 1e3, float(place.y_um) / 1e3
+        x, y = self.solution.spot(ref)
+        frame = self.solution.frame
+        way = unit(float(frame.right[0]), float(frame.right[1]))
+        dx, dy = float(x - frame.origin[0]) / 1e6, float(y - frame.origin[1]) / 1e6
+        return way[0] * dx + way[1] * dy, way[0] * dy - way[1] * dx
+
+    def radius(self, name: str) -> float:
+        """The radius of a circle or arc. Raises MissingPlace."""
+        if self.solution is None:
+            return float(self.drawing.drawn_radius_um(name)) / 1e3
+        return float(self.solution.radius(name)) / 1e6
+
+    def mark(self, shape: Shape) -> Mark:
+        """A shape as a mark."""
+        ink = Ink(Manner.CONSTRUCTION if shape.construction or shape.outer else Manner.EDGE)
+        name = shape.name
+        match shape:
+            case Point():
+                return Dot(self.at(PointRef(name)), name, ink)
+            case Segment():
+                return Stroke(*self.ends(name), name, ink)
+            case Circle():
+                return Ring(self.at(PointRef(name, Which.CENTRE)), self.radius(name), name, ink)
+            case Arc():
+                return Bow(self.at(PointRef(name, Which.CENTRE)), *self.ends(name), name, ink)
+
+    def ends(self, name: str) -> tuple[Spot, Spot]:
+        """The ends of a segment, arc, or axis of the datum."""
+        shape = self.drawing.shape(name)
+        if isinstance(shape, Axis):
+            return (0.0, 0.0), ((0.0, 1.0) if shape.upwards else (1.0, 0.0))
+        return self.at(PointRef(name, Which.START)), self.at(PointRef(name, Which.END))
+
+    def dimensions(self, constraint: Constraint) -> Iterator[Dimension]:
+        """The dimension that a constraint is shown as; none for those that have no number."""
+        match constraint:
+            case Length(segment, value):
+                yield LengthBar(*self.ends(segment.name), mm(value), BAR)
+            case Distance(first, second, value):
+                yield LengthBar(self.at(first), self.at(second), mm(value), BAR)
+            case XDistance(first, second, value) | YDistance(first, second, value):
+                yield self._run(isinstance(constraint, XDistance), self.at(first), self.at(second), mm(value))
+            case PointLineDistance(point, line, value):
+                yield LengthBar(self.at(point), foot(self.at(point), *self.ends(line.name)), mm(value), BAR)
+            case ParallelDistance(first, second, value):
+                start = between(*self.ends(first.name), 0.5)
+                yield LengthBar(start, foot(start, *self.ends(second.name)), mm(value), BAR)
+            case Radius(rim, value) | Diameter(rim, value):
+                yield Tag(*self._rim(rim), f"{'R' if isinstance(constraint, Radius) else 'D'}{mm(value)}", BAR)
+            case AngleBetween():
+                yield self._angle(constraint)
+
+    def _run(self, is_x: bool, first: Spot, second: Spot, text: str) -> Dimension:
+        """A dimension along an axis, at the height of its second point."""
+        start = (first[0], second[1]) if is_x else (second[0], first[1])
+        return LengthBar(start, second, text, BAR)
+
+    def _rim(self, rim: ShapeRef) -> tuple[Spot, float]:
+        return self.at(PointRef(rim.name, Which.CENTRE)), self.radius(rim.name)
+
+    def _angle(self, angle: AngleBetween) -> Dimension:
+        one, two = self.ends(angle.first.name), self.ends(angle.second.name)
+        corner = crossing(one, two)
+        near = corner is not None and min(math.dist(corner, end) for end in (*one, *two)) <= math.dist(*one)
+        value = angle.value
+        degrees = float(value.value) if isinstance(value, Degrees) else math.degrees(math.atan2(value.p, value.q))
+        return Tag(corner if corner and near else between(*two, 0.5), 0.0, f"{abs(degrees):.4g}°", BAR)
+
+
+def mm(um: Fraction) -> str:
+    """Micrometres as a number of millimetres to read."""
+    return f"{float(um) / 1e3:.7g}"
