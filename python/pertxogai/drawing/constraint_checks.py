@@ -143,7 +143,8 @@ def _check_touching(scene: Scene, first: ShapeRef, second: ShapeRef) -> None:
             check_line(scene, each)
     _check_different(first, second)
     if not is_rim(scene, first) and not is_rim(scene, second):
-        raise WordFault(second.name, "is no circle or arc: two segments that touch are `collinear`")
+        raise WordFault(second.name, "is no circle or arc: two segments on one line are "
+                                     "`collinear`")
 
 
 def _check_ends(scene: Scene, first: ShapeRef, second: ShapeRef, at: Pair | None) -> None:

@@ -217,9 +217,8 @@ class Tangent:
     """A line and a rim touch, or two rims do.
 
     Without `at` the point of touch is anywhere; two rims touch from outside or the one inside
-    the other, as drawn (`pertxogai.drawing.touch`). With `at`, an end of the one and an end of the other
-    are one point, and the two touch there: the centres of the rims and that point lie on the
-    normal. Two lines that touch are `Collinear`.
+    the other, as drawn (`pertxogai.drawing.touch`). With `at`, an end of the one and an end of
+    the other are one point, and the two touch there: the centres of the rims lie on the normal. Two lines that touch are `Collinear`.
     """
 
     first: ShapeRef

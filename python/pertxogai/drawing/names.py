@@ -31,7 +31,7 @@ def check_shape_name(name: str) -> None:
         raise WordFault(name, "is no name: write a letter and then letters, digits or _, "
                               "without blanks")
     if len(name) > MOST_LETTERS:
-        raise WordFault(name, f"is too long: a name has at most {MOST_LETTERS} letters")
+        raise WordFault(name, f"is too long: write {MOST_LETTERS} letters at most")
 
 
 def check_constraint_name(name: str) -> None:
@@ -44,7 +44,7 @@ def check_constraint_name(name: str) -> None:
     if _PLACE.match(name):
         raise WordFault(name, "is how a constraint without a name is called: take another name")
     if len(name) > MOST_CALLED:
-        raise WordFault(name, f"is too long: a constraint's name has at most {MOST_CALLED} letters")
+        raise WordFault(name, f"is too long: write {MOST_CALLED} letters at most")
 
 
 def nearest(word: str, known: Iterable[str]) -> str:

@@ -139,7 +139,7 @@ class _Reader:
 def _check_text(line: str) -> None:
     for letter in line:
         if not (letter.isprintable() or letter == "\t"):
-            raise WordFault(f"U+{ord(letter):04X}", "is no letter of a text: is the file a drawing?")
+            raise WordFault(f"U+{ord(letter):04X}", "is no letter of a text: is this a drawing?")
     if len(line) > MOST_LETTERS:
         raise WordFault(line[:20] + "..", f"begins a line of more than {MOST_LETTERS} letters: "
                                           "write shorter ones")

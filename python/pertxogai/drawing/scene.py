@@ -6,7 +6,8 @@ from collections.abc import Iterable
 from fractions import Fraction
 
 from pertxogai.drawing.exact import root_near
-from pertxogai.drawing.geometry import Arc, Axis, Circle, Datum, Origin, Point, Segment, Shape, Spot
+from pertxogai.drawing.geometry import (
+    Arc, Axis, Circle, Datum, Origin, Point, Segment, Shape, Spot)
 from pertxogai.drawing.places import Place
 from pertxogai.drawing.references import ORIGIN, X_AXIS, Y_AXIS, PointRef, Which
 

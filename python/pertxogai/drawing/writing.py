@@ -31,7 +31,8 @@ def write_drawing(drawing: Drawing) -> str:
     for place, item in enumerate(items):
         notes = above.get(place, [])
         lines.extend(_note_line(note) for note in notes if not note.beside)
-        lines.append(" ".join([line_of(item), *(_note_line(note) for note in notes if note.beside)]))
+        beside = [_note_line(note) for note in notes if note.beside]
+        lines.append(" ".join([line_of(item), *beside]))
     lines.extend(_note_line(note) for note in above.get(len(items), []))
     return "\n".join(lines) + "\n"
 
@@ -60,7 +61,8 @@ def _shape(shape: Shape) -> str:
         case Circle():
             return f"circle {shape.name} {_spot(shape.centre)} {mm_text(shape.radius_um)}"
         case Arc():
-            return f"arc {shape.name} {_spot(shape.centre)} {_spot(shape.start)} {_spot(shape.end)}"
+            spots = (shape.centre, shape.start, shape.end)
+            return " ".join(["arc", shape.name, *(_spot(each) for each in spots)])
         case _:
             assert_never(shape)
 
