@@ -1,0 +1,193 @@
+"""The commands `judge` and `draw`, as ./pertxogai calls them."""
+from __future__ import annotations
+
+import argparse
+import json
+import os
+import sys
+from collections.abc import Callable, Iterator, Sequence
+from dataclasses import dataclass, replace
+from enum import IntEnum
+from pathlib import Path
+
+from .dxf import MissingLibrary, Release, dxf_text, marks_of
+from .inputs import Input, InputRefused, SketchText, read_inputs
+from .judged import JudgedSketch, TextRefused, concerned, judge_sketch, sketch_json, what_to_do
+from .picture import Picture, picture_of_drawing, picture_of_parts, picture_of_shape
+from .program import Asks, Program, ProgramError
+from .reports import read_dxf
+
+EPILOG = """exit status: 0 where all is well and placed, or drawn; 1 where a sketch isn't well, or has no places;
+2 where the words or a file can't be read, or nothing can be written; 3 where the program gave no answer.
+The program is found by --program, the variable PERTXOGAI_SKETCH, the repository's build, or the path."""
+
+
+class Exit(IntEnum):
+    """The exit statuses of ./pertxogai."""
+
+    WELL = 0
+    NOT_WELL = 1
+    BAD_INPUT = 2
+    NO_ANSWER = 3
+
+
+class CommandError(Exception):
+    """What the user asked for can't be done. The message is one line, and says what to do."""
+
+
+def main(words: Sequence[str] | None = None) -> int:
+    """Does what the words ask for, and returns the exit status."""
+    options = _parser().parse_args(words)
+    act: Callable[[argparse.Namespace], Exit] = options.act
+    try:
+        return act(options)
+    except (InputRefused, TextRefused, CommandError, MissingLibrary) as error:
+        return _complain(error, Exit.BAD_INPUT)
+    except ProgramError as error:
+        return _complain(error, Exit.NO_ANSWER)
+    except BrokenPipeError:
+        os.dup2(os.open(os.devnull, os.O_WRONLY), sys.stdout.fileno())
+        return Exit.BAD_INPUT
+    except KeyboardInterrupt:
+        return 130
+
+
+def _complain(error: Exception, status: Exit) -> Exit:
+    print(f"pertxogai: {' '.join(str(error).split())}", file=sys.stderr)
+    return status
+
+
+def _parser() -> argparse.ArgumentParser:
+    parser = argparse.ArgumentParser(
+        prog="pertxogai", epilog=EPILOG, formatter_class=argparse.RawDescriptionHelpFormatter,
+        description="Asks the proved program `sketch` about a sketch: judges it, places it, draws it.")
+    commands = parser.add_subparsers(dest="command", required=True, metavar="COMMAND")
+    judge = _command(commands, "judge", "tells the verdict, and what fails by your own names", _judge)
+    judge.add_argument("--json", action="store_true", help="print one object of JSON")
+    draw = _command(commands, "draw", "draws a sketch as SVG or DXF", _draw)
+    draw.add_argument("-o", "--output", type=Path, required=True, metavar="OUT", help="OUT.svg or OUT.dxf")
+    draw.add_argument("--as-drawn", action="store_true", help="as it is drawn, and not as it is placed")
+    draw.add_argument("--sketch", metavar="NAME", help="which sketch of a file that has several")
+    draw.add_argument("--release", choices=[it.value for it in Release], default=Release.R2010.value,
+                      help="the version of DXF (default: %(default)s)")
+    return parser
+
+
+def _command(commands: argparse._SubParsersAction[argparse.ArgumentParser], name: str, what: str,
+             act: Callable[[argparse.Namespace], Exit]) -> argparse.ArgumentParser:
+    parser = commands.add_parser(name, help=what, description=what, epilog=EPILOG,
+                                 formatter_class=argparse.RawDescriptionHelpFormatter)
+    parser.add_argument("file", type=Path, metavar="FILE", help="a sketch: .sketch, .drawing, .FCStd, .slvs")
+    parser.add_argument("--program", metavar="PATH", help="the program `sketch`")
+    parser.add_argument("--seconds", type=float, default=60.0, help="how long a call may take (default: %(default)g)")
+    parser.set_defaults(act=act)
+    return parser
+
+
+def _program(options: argparse.Namespace) -> Asks:
+    if not options.seconds > 0:
+        raise CommandError("--seconds takes a number above 0")
+    return replace(Program.find(options.program), seconds=options.seconds)
+
+
+def _judge(options: argparse.Namespace) -> Exit:
+    found = read_inputs(options.file)
+    program = _program(options)
+    judged = [_judged(it, program) for it in found]
+    if options.json:
+        print(json.dumps({"file": str(options.file), "sketches": [sketch_json(it) for it in judged]}, indent=2))
+    else:
+        for it in judged:
+            print("\n".join(_told(it)))
+    return Exit.WELL if all(it.is_placed() for it in judged) else Exit.NOT_WELL
+
+
+def _judged(found: Input, program: Asks) -> JudgedSketch:
+    if isinstance(found, SketchText):
+        return judge_sketch(found.name, found.text, program)
+    raise CommandError(f"{found.name}: drawings aren't judged yet")
+
+
+def _told(judged: JudgedSketch) -> Iterator[str]:
+    """What was judged, in lines to read."""
+    check = judged.check
+    yield (f"{judged.name}: {check.verdict.value}, elements {check.elements}, constraints {check.constraints}, parts"
+           f" {len(check.parts)}")
+    if judged.solved:
+        yield (f"  placed within {judged.solved.length_tolerance_nm} nm and {judged.solved.angle_tolerance_ppb} ppb")
+        yield from (f"  {placed.text()}" for placed in judged.solved.places)
+    if judged.fault:
+        yield f"  {judged.fault.text().strip()}"
+        yield from (f"    of {constraint.text()}" for constraint in concerned(judged))
+        yield f"  what to do: {what_to_do(judged.fault)}"
+    if judged.parts:
+        yield from (f"  {part.text().strip()}" for part in check.parts)
+    if judged.spare:
+        yield "  what to do: take one of these away, and ask again"
+        yield from (f"    {it.text()}" for it in judged.spare)
+    elif judged.parts:
+        yield "  what to do: tie the parts by a dimension between elements of two of them"
+
+
+def _draw(options: argparse.Namespace) -> Exit:
+    suffix = options.output.suffix.lower()
+    if suffix not in (".svg", ".dxf"):
+        raise CommandError(f"{options.output}: the output's name ends in .svg or .dxf")
+    found = _chosen(read_inputs(options.file), options.sketch)
+    sheet = _sheet(found, options)
+    text = sheet.picture().svg if suffix == ".svg" else sheet.dxf(Release(options.release))
+    _write(options.output, text)
+    return Exit.WELL
+
+
+def _chosen(found: Sequence[Input], name: str | None) -> Input:
+    """The sketch of that name, or the only one. Raises CommandError."""
+    names = ", ".join(it.name for it in found)
+    chosen = [it for it in found if name in (None, it.name)]
+    if len(chosen) != 1:
+        raise CommandError(f"the file has the sketches {names}: choose one by --sketch NAME")
+    return chosen[0]
+
+
+@dataclass(frozen=True)
+class _SketchSheet:
+    """A text of the language, to be drawn."""
+
+    judged: JudgedSketch
+    text: str
+    program: Asks
+    as_drawn: bool
+
+    def picture(self) -> Picture:
+        """As placed, or part by part where it isn't well or has no places."""
+        judged = self.judged
+        if self.as_drawn or judged.fault:
+            return picture_of_drawing(judged.sketch, judged.name)
+        if judged.solved:
+            return picture_of_shape(judged.sketch, judged.solved, judged.name)
+        assert judged.parts is not None
+        return picture_of_parts(judged.sketch, judged.parts, judged.spare, judged.name)
+
+    def dxf(self, release: Release) -> str:
+        """The program's own lines with their ends. Raises CommandError where there are no places."""
+        if not self.judged.solved:
+            raise CommandError(f"{self.judged.name} has no places, so no DXF is written: see ./pertxogai judge")
+        return dxf_text(marks_of(read_dxf(self.program.ask(["dxf"], self.text).text)), release)
+
+
+def _sheet(found: Input, options: argparse.Namespace) -> _SketchSheet:
+    program = _program(options)
+    if isinstance(found, SketchText):
+        return _SketchSheet(judge_sketch(found.name, found.text, program), found.text, program, options.as_drawn)
+    raise CommandError(f"{found.name}: drawings aren't drawn yet")
+
+
+def _write(path: Path, text: str) -> None:
+    """Writes a file whole or not at all. Raises CommandError."""
+    part = path.with_name(f".{path.name}.{os.getpid()}")
+    try:
+        part.write_text(text, encoding="utf-8")
+        part.replace(path)
+    except OSError as error:
+        part.unlink(missing_ok=True)
+        raise CommandError(f"{path}: can't be written: {error.strerror or error}") from None

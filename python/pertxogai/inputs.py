@@ -1,0 +1,98 @@
+"""The files that the commands read, by the ending of their names."""
+from __future__ import annotations
+
+from collections.abc import Callable
+from dataclasses import dataclass
+from pathlib import Path
+
+from .drawing import Drawing, DrawingRefusal, read_drawing
+from .found import FileRefusal, FoundSketch
+
+MOST_BYTES = 64 << 20
+
+
+class InputRefused(Exception):
+    """A file can't be read as a sketch. The message is one line, and says what to do."""
+
+
+@dataclass(frozen=True)
+class SketchText:
+    """A text of the sketch language, as it stands in the file: whether it is one, the program says."""
+
+    name: str
+    text: str
+
+
+@dataclass(frozen=True)
+class DesignerDrawing:
+    """A designer's drawing, and what of the file couldn't be said in it."""
+
+    name: str
+    drawing: Drawing
+    left_out: tuple[str, ...] = ()
+
+
+Input = SketchText | DesignerDrawing
+
+
+@dataclass(frozen=True)
+class Kind:
+    """A kind of file: the ending of its name, what it is, and what reads it."""
+
+    suffix: str
+    what: str
+    read: Callable[[Path], tuple[Input, ...]]
+
+
+def read_inputs(path: Path) -> tuple[Input, ...]:
+    """The sketches of a file. Raises InputRefused."""
+    kind = next((it for it in KINDS if it.suffix.lower() == path.suffix.lower()), None)
+    if kind is None:
+        known = ", ".join(f"{it.suffix} ({it.what})" for it in KINDS)
+        raise InputRefused(f"{path}: the ending {path.suffix or 'of its name'} isn't known: rename it to one of {known}")
+    try:
+        if path.stat().st_size > MOST_BYTES:
+            raise InputRefused(f"{path}: over {MOST_BYTES >> 20} MiB, which no sketch needs: look whether it is the"
+                               " right file")
+        return kind.read(path)
+    except OSError as error:
+        raise InputRefused(f"{path}: can't be read: {error.strerror or error}") from None
+    except (DrawingRefusal, FileRefusal) as refusal:
+        raise InputRefused(_named(path, str(refusal))) from None
+
+
+def _named(path: Path, refusal: str) -> str:
+    return refusal if refusal.startswith(str(path)) else f"{path}: {refusal}"
+
+
+def _read_sketch(path: Path) -> tuple[Input, ...]:
+    return (SketchText(path.stem, path.read_bytes().decode("utf-8", "surrogateescape")),)
+
+
+def _read_drawing(path: Path) -> tuple[Input, ...]:
+    text = path.read_bytes().decode("utf-8", "surrogateescape")
+    return (DesignerDrawing(path.stem, read_drawing(text)),)
+
+
+def _read_freecad(path: Path) -> tuple[Input, ...]:
+    from .freecad import read_freecad
+
+    return tuple(map(_found, read_freecad(path)))
+
+
+def _read_solvespace(path: Path) -> tuple[Input, ...]:
+    from .solvespace import read_solvespace
+
+    return tuple(map(_found, read_solvespace(path)))
+
+
+def _found(found: FoundSketch) -> DesignerDrawing:
+    return DesignerDrawing(found.label or found.name, found.drawing, tuple(map(str, found.left_out)))
+
+
+KINDS = (
+    Kind(".sketch", "the sketch language", _read_sketch),
+    Kind(".drawing", "a designer's drawing", _read_drawing),
+    Kind(".FCStd", "FreeCAD", _read_freecad),
+    Kind(".slvs", "SolveSpace", _read_solvespace),
+)

@@ -1,0 +1,154 @@
+"""What was judged of a sketch, for the command line: the program's answers with the user's own names."""
+from __future__ import annotations
+
+from collections.abc import Sequence
+from dataclasses import dataclass
+
+from .language import Constraint, Placed, PlacedCircle, PlacedLine, Refusal, Sketch
+from .language.clusters import ClusterName
+from .program import Answer, Asks, Status
+from .reports import (CheckReport, ConstraintFault, Fault, LineFault, NumberFault, Part, PartsReport, Plan, RangeFault,
+                      Refused, Solved, Spare, TurnedFault, Verdict, read_answer, read_check, read_fault, read_parts,
+                      read_plan, read_refusal, read_solve, read_spare)
+from .reports.rows import NotAReport
+
+
+class TextRefused(Exception):
+    """The program refuses a text. The message is one line: where, the code, and the line itself."""
+
+    def __init__(self, refused: Refused, text: str) -> None:
+        lines = text.splitlines()
+        shown = f": {lines[refused.line - 1].strip()[:60]!r}" if 0 < refused.line <= len(lines) else ""
+        super().__init__(f"refused line {refused.line} {refused.code.name} {refused.code.word}{shown}; see 'How a text"
+                         " is refused' in docs/LANGUAGE.md")
+        self.refused = refused
+
+
+@dataclass(frozen=True)
+class JudgedSketch:
+    """A sketch and what the program answers to it: parts and verdict; places or a fault where it is well; the spare
+    constraints where it is over; and the parts, each by itself, where it isn't well."""
+
+    name: str
+    sketch: Sketch
+    check: CheckReport
+    solved: Solved | None = None
+    fault: Fault | None = None
+    plan: Plan | None = None
+    spare: tuple[Spare, ...] = ()
+    parts: PartsReport | None = None
+
+    def is_placed(self) -> bool:
+        """Whether it is well, and has places within the limit."""
+        return self.solved is not None
+
+
+def judge_sketch(name: str, text: str, asks: Asks) -> JudgedSketch:
+    """Asks the program what there is to say of a text. Raises TextRefused and ProgramError."""
+    check = read_check(_done(asks.ask(["check"], text), text).text)
+    try:
+        sketch = Sketch.parse(text)
+    except Refusal as refusal:
+        raise NotAReport(f"the program reads what pertxogai doesn't ({refusal}): they are of different versions") from None
+    if check.verdict is Verdict.WELL:
+        return _placed(name, sketch, check, text, asks)
+    spare = read_spare(_done(asks.ask(["spare"], text), text).text) if check.verdict is Verdict.OVER else ()
+    parts = read_parts(_done(asks.ask(["parts"], text), text).text)
+    return JudgedSketch(name, sketch, check, spare=spare, parts=parts)
+
+
+def _placed(name: str, sketch: Sketch, check: CheckReport, text: str, asks: Asks) -> JudgedSketch:
+    answer = asks.ask(["solve"], text)
+    if answer.status in (Status.FAULT, Status.TOLERANCE):
+        plan = read_plan(_done(asks.ask(["plan"], text), text).text)
+        return JudgedSketch(name, sketch, check, fault=read_fault(answer.text), plan=plan)
+    return JudgedSketch(name, sketch, check, solved=read_solve(_done(answer, text).text))
+
+
+def _done(answer: Answer, text: str) -> Answer:
+    """The answer, where the command did its work. Raises TextRefused and NotAReport."""
+    if answer.status is Status.REFUSED:
+        raise TextRefused(read_refusal(answer.text), text)
+    if answer.status is not Status.DONE:
+        read_answer(("check",), answer)
+        raise NotAReport(f"the program ended with status {answer.status.value}, which doesn't fit what it was asked")
+    return answer
+
+
+def concerned(judged: JudgedSketch) -> tuple[Constraint, ...]:
+    """The constraints that a fault is about: that which is beyond its limit, or all that its step has joined."""
+    fault, constraints = judged.fault, judged.sketch.constraints
+    if isinstance(fault, ConstraintFault):
+        return (constraints[fault.constraint - 1],)
+    if isinstance(fault, TurnedFault) and not fault.of.is_step:
+        return (constraints[fault.of.number - 1],)
+    if isinstance(fault, (NumberFault, RangeFault)):
+        return _joined(judged.plan, fault.at.step)
+    return _joined(judged.plan, fault.of.number) if isinstance(fault, TurnedFault) else ()
+
+
+def _joined(plan: Plan | None, step: int) -> tuple[Constraint, ...]:
+    """The constraints of the clusters that a step joins, where these are its own leaves."""
+    if plan is None:
+        return ()
+    leaves = {ClusterName(False, leaf.number): leaf.constraint for leaf in plan.leaves}
+    return tuple(leaves[name] for name in plan.steps[step - 1].joins if name in leaves)
+
+
+def what_to_do(fault: Fault) -> str:
+    """What helps against a fault, in a sentence."""
+    if isinstance(fault, NumberFault):
+        if fault.low > 0 or fault.high < 0:
+            return "no shape has these dimensions: change a length of them"
+        return "two places can't be told apart, or lines are parallel: change a length, or dimension it otherwise"
+    if isinstance(fault, RangeFault):
+        return "the proportions are beyond the grid: look for a slip in the lengths"
+    return "take a finer grid (bits=38) or a greater within="
+
+
+def places_json(places: Sequence[Placed]) -> dict[str, object]:
+    """Places by the names of elements, in nm and parts per 10^9."""
+    return {it.name: _place_json(it) for it in places}
+
+
+def _place_json(placed: Placed) -> dict[str, object]:
+    if isinstance(placed, PlacedLine):
+        return {"a_ppb": placed.a_ppb, "b_ppb": placed.b_ppb, "c_nm": placed.c_nm}
+    place: dict[str, object] = {"x_nm": placed.x_nm, "y_nm": placed.y_nm}
+    if isinstance(placed, PlacedCircle):
+        place["radius_nm"] = placed.radius_nm
+    return place
+
+
+def part_json(part: Part) -> dict[str, object]:
+    """A part of the report."""
+    return {"number": part.number, "over": part.over, "elements": list(part.elements), "held": part.held,
+            "due": part.due}
+
+
+def fault_json(judged: JudgedSketch) -> dict[str, object] | None:
+    """The fault: the program's line, the constraints that it concerns, and what to do."""
+    fault = judged.fault
+    if fault is None:
+        return None
+    line = fault.name if isinstance(fault, LineFault) else None
+    return {"text": fault.text().strip(), "constraints": [it.text() for it in concerned(judged)], "line": line,
+            "what_to_do": what_to_do(fault)}
+
+
+def sketch_json(judged: JudgedSketch) -> dict[str, object]:
+    """All of it as one object for JSON. A sketch is spelled as it is written, and leaves nothing out."""
+    solved, parts = judged.solved, [part_json(part) for part in judged.check.parts]
+    for entry, placed in zip(parts, judged.parts.parts if judged.parts else ()):
+        shape = placed.shape
+        entry["places"] = places_json(shape.places) if isinstance(shape, Solved) else None
+        entry["fault"] = shape.text().strip() if shape and not isinstance(shape, Solved) else None
+    return {
+        "name": judged.name, "verdict": judged.check.verdict.value, "parts": parts, "spelled": "as written",
+        "exact": True, "left_out": [], "frozen": [],
+        "spare": [{"number": it.number, "constraint": it.constraint.text()} for it in judged.spare],
+        "places": places_json(solved.places) if solved else None,
+        "length_tolerance_nm": solved.length_tolerance_nm if solved else None,
+        "angle_tolerance_ppb": solved.angle_tolerance_ppb if solved else None,
+        "fault": fault_json(judged), "deviations": [],
+    }
