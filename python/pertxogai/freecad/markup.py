@@ -61,7 +61,7 @@ def read_markup(data: bytes) -> list[Kept]:
     try:
         gathering.parser.Parse(data, True)
     except expat.ExpatError as error:
-        raise BadMarkup(f"its {error}") from None
+        raise BadMarkup(f"it is no XML: {error}") from None
     except (UnicodeError, LookupError):
         raise BadMarkup("its text has a wrong encoding") from None
     return list(gathering.objects.values())

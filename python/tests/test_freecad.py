@@ -1,0 +1,294 @@
+"""FreeCAD's files, read. What FreeCAD itself solved and saved is the oracle."""
+
+import math
+import zipfile
+from fractions import Fraction
+from pathlib import Path
+
+import pytest
+
+from pertxogai.drawing import (
+    Arc, Circle, Coincident, Degrees, Diameter, PointRef, Radius, Segment, Which, XDistance,
+    YDistance)
+from pertxogai.drawing.soundness import faults
+from pertxogai.found import Apart, FileRefusal, FoundSketch
+from pertxogai.freecad import read_freecad
+from pertxogai.measure import Solution, Unit, greatest, measure
+
+FILES = Path(__file__).parent / "files"
+FACTS = [line.split() for line in (FILES / "freecad.facts").read_text().splitlines()]
+SOLVED = [(fact[0], fact[1]) for fact in FACTS if fact[3] == "0"]
+
+
+def found(file: str, sketch: str = "Sketch") -> FoundSketch:
+    """A sketch of a file of the stock."""
+    sketches = {one.name: one for one in read_freecad(FILES / f"{file}.FCStd")}
+    return sketches[sketch]
+
+
+def stored(one: FoundSketch) -> Solution:
+    """The places that the file has, in nm."""
+    drawing = one.drawing
+    points = {}
+    for ref in drawing.points():
+        place = drawing.drawn(ref)
+        points[ref] = (place.x_um * 1000, place.y_um * 1000)
+    radii: dict[str, Fraction] = {}
+    for shape in drawing.geometry:
+        if isinstance(shape, Circle):
+            radii[shape.name] = shape.radius_um * 1000
+        elif isinstance(shape, Arc):
+            centre, start = (points[PointRef(shape.name, which)]
+                             for which in (Which.CENTRE, Which.START))
+            away = math.hypot(start[0] - centre[0], start[1] - centre[1])
+            radii[shape.name] = Fraction(round(away, 3))
+    return Solution(points, radii)
+
+
+@pytest.mark.parametrize("file,sketch", SOLVED)
+def test_what_freecad_solved_meets_each_constraint(file: str, sketch: str) -> None:
+    one = found(file, sketch)
+    deviations = measure(one.drawing, stored(one))
+    for unit in Unit:
+        worst = greatest(deviations, unit)
+        assert worst is None or worst.amount <= 1, worst
+
+
+@pytest.mark.parametrize("file,sketch", [(fact[0], fact[1]) for fact in FACTS])
+def test_every_drawing_is_sound(file: str, sketch: str) -> None:
+    one = found(file, sketch)
+    assert not faults(one.drawing)
+    assert len(one.numbers) == len(one.drawing.constraints)
+
+
+def test_a_plate_with_two_holes() -> None:
+    one = found("plate")
+    assert [shape.name for shape in one.drawing.geometry] == [
+        "Line1", "Line2", "Line3", "Line4", "Circle5", "Circle6"]
+    origin, hole = PointRef("Origin"), PointRef("Circle6", Which.CENTRE)
+    told = one.drawing.constraints
+    assert Coincident(PointRef("Line1", Which.START), origin, "Constraint9") in told
+    assert any(isinstance(each, Radius) and each.value_um == 5000 for each in told)
+    assert any(isinstance(each, XDistance) and (each.first, each.second) == (origin, hole)
+               and each.value_um == 45000 for each in told)
+    assert one.numbers == tuple(range(1, 18))
+    assert one.left_out == () and one.aside == ()
+
+
+def test_names_and_an_expression_by_its_value() -> None:
+    named = {each.name: each for each in found("named").drawing.constraints}
+    height, width = named["height"], named["width"]
+    assert isinstance(width, XDistance) and width.value_um == 48000
+    assert isinstance(height, YDistance) and height.value_um == 18000
+    assert "hole x" in named and isinstance(named["Bohrungsgröße"], Diameter)
+
+
+def test_inches() -> None:
+    told = found("inches").drawing.constraints
+    assert [each.value_um for each in told if isinstance(each, (XDistance, YDistance))] == [
+        63500, 28575]
+
+
+def test_reference_dimensions_stand_aside() -> None:
+    aside = found("reference").aside
+    assert [(each.name, each.why) for each in aside] == [
+        ("diagonal", Apart.REFERENCE), ("Constraint13", Apart.REFERENCE)]
+    assert all(len(each.constraints) == 1 for each in aside)
+
+
+def test_what_was_switched_off_stands_aside() -> None:
+    assert [(each.number, each.why) for each in found("inactive").aside] == [(12, Apart.OFF)]
+
+
+def test_what_a_drawing_has_not_is_named() -> None:
+    told = [str(each) for each in found("ellipse").left_out]
+    assert told[0] == "Ellipse5: a drawing has no ellipse"
+    assert told[-1] == "Constraint16: it speaks of Ellipse5, which is left out"
+    assert str(found("spline").left_out[0]) == "BSplineCurve2: a drawing has no b spline curve"
+
+
+def test_construction() -> None:
+    ring = next(shape for shape in found("hexagon").drawing.geometry if isinstance(shape, Circle))
+    assert ring.construction
+    assert not found("hexagon").drawing.geometry[0].construction
+
+
+def test_a_file_without_a_sketch() -> None:
+    with pytest.raises(FileRefusal, match="no sketch in it"):
+        read_freecad(FILES / "empty.FCStd")
+
+
+OBJECT = '<Objects Count="1"><Object type="Sketcher::SketchObject" name="S" id="1"/></Objects>'
+
+
+def document(properties: str) -> str:
+    """A document with one sketch of these properties."""
+    return (f'<?xml version="1.0" encoding="utf-8"?><Document SchemaVersion="4">{OBJECT}'
+            f'<ObjectData Count="1"><Object name="S"><Properties>{properties}</Properties>'
+            '</Object></ObjectData></Document>')
+
+
+def written(path: Path, text: str | bytes, name: str = "Document.xml") -> Path:
+    """A zip with one member."""
+    with zipfile.ZipFile(path, "w", zipfile.ZIP_DEFLATED) as archive:
+        archive.writestr(name, text)
+    return path
+
+
+def geometry(*entries: str, name: str = "Geometry") -> str:
+    """A list of shapes."""
+    return (f'<Property name="{name}" type="Part::PropertyGeometryList">'
+            f'<GeometryList count="{len(entries)}">{"".join(entries)}</GeometryList></Property>')
+
+
+def segment(x1: float, y1: float, x2: float, y2: float, behind: str = "") -> str:
+    """A segment as FreeCAD writes it."""
+    return (f'<Geometry type="Part::GeomLineSegment" id="1"><LineSegment StartX="{x1}" '
+            f'StartY="{y1}" StartZ="0" EndX="{x2}" EndY="{y2}" EndZ="0"/>{behind}</Geometry>')
+
+
+def arc(normal: int, turn: float) -> str:
+    """An arc of radius 10 round the origin from 0.3 to 1 rad, as FreeCAD writes it."""
+    return ('<Geometry type="Part::GeomArcOfCircle"><ArcOfCircle CenterX="0" CenterY="0" '
+            f'CenterZ="0" NormalX="0" NormalY="0" NormalZ="{normal}" AngleXU="{turn}" Radius="10" '
+            'StartAngle="0.3" EndAngle="1.0"/></Geometry>')
+
+
+def constraints(*entries: str) -> str:
+    """A list of constraints."""
+    return ('<Property name="Constraints" type="Sketcher::PropertyConstraintList">'
+            f'<ConstraintList count="{len(entries)}">{"".join(entries)}</ConstraintList>'
+            '</Property>')
+
+
+def test_version_0_18_tells_construction_by_an_element(tmp_path: Path) -> None:
+    path = written(tmp_path / "old.FCStd", document(geometry(
+        segment(0, 0, 5, 0, '<Construction value="1"/>'),
+        segment(0, 0, 5, 0, '<Construction value="0"/>'))))
+    first, second = read_freecad(path)[0].drawing.geometry
+    assert first.construction and not second.construction
+
+
+def test_version_1_0_stores_outer_geometry(tmp_path: Path) -> None:
+    tie = ('<Constrain Name="" Type="1" Value="0" First="0" FirstPos="2" Second="-3" '
+           'SecondPos="1" Third="-2000" ThirdPos="0" IsDriving="1" IsActive="1"/>')
+    outer = geometry(segment(0, 0, 1, 0), segment(0, 0, 0, 1), segment(7, 0, 7, 9),
+                     name="ExternalGeo")
+    path = written(tmp_path / "new.FCStd",
+                   document(geometry(segment(0, 0, 7, 0)) + outer + constraints(tie)))
+    drawing = read_freecad(path)[0].drawing
+    edge = drawing.geometry[1]
+    assert isinstance(edge, Segment) and edge.outer and edge.name == "Outer1"
+    assert drawing.constraints == (Coincident(
+        PointRef("Line1", Which.END), PointRef("Outer1", Which.START), "Constraint1"),)
+
+
+@pytest.mark.parametrize("normal,turn,start,end", [
+    (1, 0.0, 0.3, 1.0),
+    (1, 0.5, 0.8, 1.5),
+    (-1, 0.0, math.pi - 1.0, math.pi - 0.3),
+])
+def test_an_arc_turned_or_seen_from_behind(tmp_path: Path, normal: int, turn: float, start: float,
+                                           end: float) -> None:
+    path = written(tmp_path / "arc.FCStd", document(geometry(arc(normal, turn))))
+    drawing = read_freecad(path)[0].drawing
+    for which, angle in ((Which.START, start), (Which.END, end)):
+        place = drawing.drawn(PointRef("Arc1", which))
+        assert math.isclose(float(place.x_um), 10000 * math.cos(angle), abs_tol=1e-5)
+        assert math.isclose(float(place.y_um), 10000 * math.sin(angle), abs_tol=1e-5)
+
+
+def test_numbers_are_read_as_they_were_typed(tmp_path: Path) -> None:
+    tie = ('<Constrain Name="far: #1" Type="6" Value="59.99999999999999" First="0" FirstPos="0" '
+           'Second="-2000" SecondPos="0" Third="-2000" ThirdPos="0"/>')
+    angle = ('<Constrain Name="" Type="9" Value="0.52359877559829882" First="0" FirstPos="0" '
+             'Second="-2000" SecondPos="0" Third="-2000" ThirdPos="0"/>')
+    path = written(tmp_path / "a.FCStd",
+                   document(geometry(segment(0, 0, 7, 1)) + constraints(tie, angle)))
+    length, turn = read_freecad(path)[0].drawing.constraints
+    assert getattr(length, "value_um") == 60000 and length.name == "far 1"
+    assert getattr(turn, "value") == Degrees(Fraction(30))
+
+
+@pytest.mark.parametrize("properties,what", [
+    (geometry(segment(float("nan"), 0, 1, 1)), "Line1: its StartX is no number"),
+    (geometry(segment(1, 1, 1, 1)), "Line1: 'Line1' is drawn from a place to itself"),
+    (geometry('<Geometry type="Part::GeomCircle"/>'), "Circle1: its numbers aren't in the file"),
+    (constraints('<Constrain Type="77" First="0"/>'), "Constraint1: FreeCAD's kind 77"),
+    (constraints('<Constrain Type="16" First="0"/>'), "Constraint1: a drawing has no constraint "
+                                                      "for Snell's law"),
+    (constraints('<Constrain Type="x" First="0"/>'), "Constraint1: its Type is no whole number"),
+    (constraints('<Constrain Type="2" First="9"/>'), "Constraint1: it speaks of a shape that "
+                                                     "isn't in the file"),
+])
+def test_what_is_unsound_is_left_out(tmp_path: Path, properties: str, what: str) -> None:
+    path = written(tmp_path / "a.FCStd", document(properties))
+    assert str(read_freecad(path)[0].left_out[0]).startswith(what)
+
+
+def refused(path: Path) -> str:
+    """The one line with which a file is refused."""
+    with pytest.raises(FileRefusal) as refusal:
+        read_freecad(path)
+    line = str(refusal.value)
+    assert "\n" not in line and str(path) in line
+    return line
+
+
+def test_a_document_type_is_refused(tmp_path: Path) -> None:
+    bomb = ('<?xml version="1.0"?><!DOCTYPE d [<!ENTITY a "aaaaaaaaaa"><!ENTITY b "&a;&a;&a;">]>'
+            '<Document>&b;</Document>')
+    assert "declares a document type" in refused(written(tmp_path / "a.FCStd", bomb))
+    outside = '<!DOCTYPE d SYSTEM "file:///etc/passwd"><Document/>'
+    assert "declares a document type" in refused(written(tmp_path / "b.FCStd", outside))
+
+
+def test_a_document_of_too_many_bytes_is_refused(tmp_path: Path) -> None:
+    path = tmp_path / "a.FCStd"
+    with zipfile.ZipFile(path, "w", zipfile.ZIP_DEFLATED) as archive:
+        with archive.open("Document.xml", "w") as member:
+            member.write(b"<Document>")
+            for _ in range(70):
+                member.write(b" " * (1 << 20))
+    assert path.stat().st_size < 1 << 20
+    assert "has more than 64 MB" in refused(path)
+
+
+@pytest.mark.parametrize("name", ["../out.brp", "/etc/passwd", "a/../../b", "..\\out", "C:\\out"])
+def test_a_member_that_leads_out_is_refused(tmp_path: Path, name: str) -> None:
+    path = written(tmp_path / "a.FCStd", document(""))
+    with zipfile.ZipFile(path, "a") as archive:
+        archive.writestr(name, "x")
+    assert "leads out of it" in refused(path)
+
+
+def test_two_members_of_one_name_are_refused(tmp_path: Path) -> None:
+    path = written(tmp_path / "a.FCStd", document(""))
+    with zipfile.ZipFile(path, "a") as archive, pytest.warns(UserWarning):
+        archive.writestr("Document.xml", "x")
+    assert "two members of one name" in refused(path)
+
+
+def test_other_files_are_refused(tmp_path: Path) -> None:
+    text = tmp_path / "a.FCStd"
+    text.write_text("sketch 1\nend\n")
+    assert "no sound zip" in refused(text)
+    assert "No such file" in refused(tmp_path / "b.FCStd")
+    assert "Is a directory" in refused(tmp_path)
+    assert "it has no Document.xml" in refused(written(tmp_path / "c.FCStd", "x", "other.xml"))
+    assert "it is no XML" in refused(written(tmp_path / "d.FCStd", "<Document>&"))
+    assert "can't be read" in refused(written(tmp_path / "e.FCStd", b"\xff\xfe\x00<"))
+
+
+def test_a_damaged_zip_is_refused(tmp_path: Path) -> None:
+    whole = (FILES / "plate.FCStd").read_bytes()
+    path = tmp_path / "a.FCStd"
+    for length in range(0, len(whole), 97):
+        path.write_bytes(whole[:length])
+        refused(path)
+    for place in range(40, 2000, 61):
+        path.write_bytes(whole[:place] + bytes([whole[place] ^ 0x5a]) + whole[place + 1:])
+        try:
+            read_freecad(path)
+        except FileRefusal as refusal:
+            assert "\n" not in str(refusal)

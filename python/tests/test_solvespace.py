@@ -1,0 +1,151 @@
+"""SolveSpace's files, read and written. What SolveSpace itself solved and saved is the oracle."""
+
+from fractions import Fraction
+from pathlib import Path
+
+import pytest
+
+from pertxogai.drawing import (
+    AngleBetween, Arc, Circle, Degrees, Fixed, Length, Midpoint, ORIGIN, Pair, PointLineDistance,
+    PointOn, PointRef, ShapeRef, Symmetric, Tangent, Which, X_AXIS, XDistance, Y_AXIS)
+from pertxogai.drawing.soundness import faults
+from pertxogai.found import Apart, FileRefusal, FoundSketch
+from pertxogai.measure import Solution, Unit, greatest, measure
+from pertxogai.solvespace import read_solvespace, write_solvespace
+
+FILES = Path(__file__).parent / "files"
+NAMES = sorted(path.stem for path in FILES.glob("*.slvs"))
+
+
+def found(name: str) -> FoundSketch:
+    """The one sketch of a file of the stock."""
+    (one,) = read_solvespace(FILES / f"{name}.slvs")
+    return one
+
+
+def stored(one: FoundSketch) -> Solution:
+    """The places that the file has, in nm."""
+    points = {ref: (one.drawing.drawn(ref).x_um * 1000, one.drawing.drawn(ref).y_um * 1000)
+              for ref in one.drawing.points()}
+    radii = {shape.name: one.drawing.drawn_radius_um(shape.name) * 1000
+             for shape in one.drawing.geometry if isinstance(shape, (Circle, Arc))}
+    return Solution(points, radii)
+
+
+@pytest.mark.parametrize("name", NAMES)
+def test_what_solvespace_solved_meets_each_constraint(name: str) -> None:
+    one = found(name)
+    assert not faults(one.drawing)
+    deviations = measure(one.drawing, stored(one))
+    for unit in Unit:
+        worst = greatest(deviations, unit)
+        assert worst is None or worst.amount <= 1, worst
+
+
+def test_a_plate_with_two_holes() -> None:
+    one = found("plate")
+    assert one.name == "g002" and one.label == "g002-sketch-in-plane"
+    assert [shape.name for shape in one.drawing.geometry] == [
+        "Line4", "Line5", "Line6", "Line7", "Circle8", "Circle9"]
+    told = one.drawing.constraints
+    assert Length(ShapeRef("Line4"), Fraction(60000), "c00a-pt-pt-distance") in told
+    assert PointLineDistance(PointRef("Circle9", Which.CENTRE), ShapeRef("Line7"),
+                             Fraction(45000), "c00e-pt-line-distance") in told
+
+
+def test_a_touch_says_the_joint_too() -> None:
+    """Four joints and four touches are four tangents at ends."""
+    told = found("slot").drawing.constraints
+    assert [each.at for each in told if isinstance(each, Tangent)] == [
+        Pair(PointRef("Arc4", Which.END), PointRef("Line6", Which.START)),
+        Pair(PointRef("Arc4", Which.START), PointRef("Line7", Which.START)),
+        Pair(PointRef("Arc5", Which.START), PointRef("Line6", Which.END)),
+        Pair(PointRef("Arc5", Which.END), PointRef("Line7", Which.END))]
+    assert len(told) == 9
+
+
+@pytest.mark.parametrize("name,constraint", [
+    ("wedge", AngleBetween(ShapeRef("Line4"), ShapeRef("Line6"), Degrees(Fraction(-150)))),
+    ("parallelogram", AngleBetween(ShapeRef("Line4"), ShapeRef("Line5"), Degrees(Fraction(60)))),
+    ("mirrored", Symmetric(PointRef("Line4", Which.START), PointRef("Line4", Which.END), Y_AXIS)),
+    ("mirrored", PointOn(PointRef("Line4", Which.START), X_AXIS)),
+    ("middle", Midpoint(PointRef("Circle9", Which.CENTRE), ShapeRef("Line8"))),
+    ("pinned", Fixed(PointRef("Line4", Which.START))),
+    ("offsets", XDistance(ORIGIN, PointRef("Circle4", Which.CENTRE), Fraction(22000))),
+    ("offsets", PointOn(PointRef("Circle5", Which.CENTRE), Y_AXIS)),
+])
+def test_forms(name: str, constraint: object) -> None:
+    from dataclasses import replace
+
+    from pertxogai.drawing import Sense
+    plain = [replace(each, name=None) for each in found(name).drawing.constraints]
+    plain = [replace(each, sense=Sense.DRAWN) if hasattr(each, "sense") else each
+             for each in plain]
+    assert constraint in plain
+
+
+def test_a_reference_dimension_stands_aside() -> None:
+    assert [(each.number, each.why) for each in found("pinned").aside] == [(6, Apart.REFERENCE)]
+
+
+def test_what_a_drawing_has_not_is_named() -> None:
+    assert [str(each) for each in found("curved").left_out] == [
+        "r005: a drawing has no Bezier curve",
+        "c004-pts-coincident: it speaks of a point that isn't in this drawing"]
+
+
+def test_places_are_written_and_all_else_is_kept(tmp_path: Path) -> None:
+    given, out = FILES / "plate.slvs", tmp_path / "out.slvs"
+    points = {PointRef("Line4", Which.START): (0, 1_500_000),
+              PointRef("Line4", Which.END): (61_000_001, 0)}
+    write_solvespace(given, out, {"g002": Solution(points, {"Circle8": 6_000_000})})
+    drawing = read_solvespace(out)[0].drawing
+    start, end = (drawing.drawn(PointRef("Line4", which)) for which in (Which.START, Which.END))
+    assert (start.x_um, start.y_um) == (0, 1500)
+    assert (end.x_um, end.y_um) == (Fraction(61000001, 1000), 0)
+    assert drawing.drawn_radius_um("Circle8") == 6000
+    old, new = ([line for line in path.read_bytes().split(b"\n")
+                 if not line.startswith(b"Param.val=")] for path in (given, out))
+    assert old == new
+
+
+def test_the_given_file_is_never_written(tmp_path: Path) -> None:
+    given = tmp_path / "given.slvs"
+    given.write_bytes((FILES / "plate.slvs").read_bytes())
+    with pytest.raises(FileRefusal, match="isn't written over"):
+        write_solvespace(given, given, {})
+    assert given.read_bytes() == (FILES / "plate.slvs").read_bytes()
+
+
+def refused(path: Path) -> str:
+    """The one line with which a file is refused."""
+    with pytest.raises(FileRefusal) as refusal:
+        read_solvespace(path)
+    line = str(refusal.value)
+    assert "\n" not in line and str(path) in line
+    return line
+
+
+def test_other_files_are_refused(tmp_path: Path) -> None:
+    magic = b"\xb1\xb2\xb3SolveSpaceREVa\n\n\n"
+    path = tmp_path / "a.slvs"
+    path.write_text("sketch 1\n")
+    assert "no SolveSpace file" in refused(path)
+    path.write_bytes(magic)
+    assert "no sketch in a plane" in refused(path)
+    path.write_bytes(magic + b"Param.h.v.=00040010\nParam.val=inf\nAddParam\n")
+    assert "a Param is none" in refused(path)
+    path.write_bytes(magic + b"Constraint.type=20\nAddConstraint\n" * 8001)
+    assert "more than 8000 constraints" in refused(path)
+    assert "No such file" in refused(tmp_path / "none.slvs")
+
+
+def test_a_damaged_file_is_read_or_refused(tmp_path: Path) -> None:
+    whole = (FILES / "slot.slvs").read_bytes()
+    path = tmp_path / "a.slvs"
+    for place in range(20, len(whole), 53):
+        path.write_bytes(whole[:place] + bytes([whole[place] ^ 0x15]) + whole[place + 1:])
+        try:
+            assert all(not faults(one.drawing) for one in read_solvespace(path))
+        except FileRefusal as refusal:
+            assert "\n" not in str(refusal)
