@@ -86,6 +86,12 @@ def _read_solvespace(path: Path) -> tuple[Input, ...]:
     return tuple(map(_found, read_solvespace(path)))
 
 
+def _read_outline(path: Path) -> tuple[Input, ...]:
+    from .outline import read_outline
+
+    return (_found(read_outline(path).accepted()),)
+
+
 def _found(found: FoundSketch) -> DesignerDrawing:
     return DesignerDrawing(found.label or found.name, found.drawing, tuple(map(str, found.left_out)))
 
@@ -95,4 +101,5 @@ KINDS = (
     Kind(".drawing", "a designer's drawing", _read_drawing),
     Kind(".FCStd", "FreeCAD", _read_freecad),
     Kind(".slvs", "SolveSpace", _read_solvespace),
+    Kind(".dxf", "a DXF drawing", _read_outline),
 )
