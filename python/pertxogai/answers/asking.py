@@ -1,58 +1,117 @@
-"""Asks the program for one style after the other, and takes the first that is well and placed."""
+"""Asks the program for one style after the other, and takes the first that is well and placed.
+
+Where what is linear is told twice, each dimension is spelled by itself, so that the program says what is spare.
+"""
 from __future__ import annotations
 
 from dataclasses import dataclass, replace
-from fractions import Fraction
+from enum import Enum
 
+from pertxogai.answers.freezing import frozen_choices
 from pertxogai.answers.growing import grown
-from pertxogai.answers.placing import Plate, in_datum
-from pertxogai.drawing import ORIGIN, Drawing
-from pertxogai.measure import Deviation, Solution, measure
+from pertxogai.drawing import Drawing
 from pertxogai.program import Asks, Status
-from pertxogai.reports import CheckReport, Fault, PartsReport, Refused, Solved, Verdict, read_check, read_fault, read_parts, read_refusal, read_solve
+from pertxogai.reports import CheckReport, Fault, Solved, Verdict, read_check, read_fault, read_parts, read_solve
 from pertxogai.spelling import Axes, Rails, Spelled, Style, axes_of, written
 from pertxogai.spelling.axes import Equation
+from pertxogai.spelling.facts import Owner
 
 ROUNDS = 80
+"""So many values at most are read off placed parts."""
+FREEZES = 4
+"""So many lengths and radii at most are taken as drawn."""
+SOLVED_FIRST = (Style.VALUES, Style.VALUES_NEAR, Style.GRID, Style.FEET)
+ONE_BY_ONE = (Style.GRID, Style.FEET, Style.VALUES, Style.VALUES_NEAR)
+
+
+class Place(Enum):
+    """How the program places: with the key `place`."""
+
+    BOXES = "boxes"
+    POINTS = "points"
 
 
 @dataclass(frozen=True)
 class Asked:
-    """What the program answered to one style of a drawing."""
+    """What the program answered to one style of a drawing: what `check` says, and of what is well, the places or
+    the fault. grown: equations that placed parts told. frozen: who is only measured."""
 
     spelled: Spelled
     axes: Axes
     rails: Rails
     check: CheckReport
-    grown: tuple[Equation, ...]
-    place: str = "boxes"
+    grown: tuple[Equation, ...] = ()
+    frozen: frozenset[Owner] = frozenset()
+    place: Place = Place.BOXES
     solved: Solved | Fault | None = None
 
 
-def ask(axes: Axes, style: Style, program: Asks) -> Asked:
-    """One style, with what grows from placed parts."""
+def ask_styles(drawing: Drawing, program: Asks, freeze: bool) -> Asked:
+    """The first style that is well and placed; else one that is well; else one that is over; else the one with the
+    fewest parts. With `freeze`, what is open is asked again with lengths and radii as they are drawn."""
+    axes = axes_of(drawing)
+    best: Asked | None = None
+    for style in ONE_BY_ONE if axes.told else SOLVED_FIRST:
+        asked = _placed(ask(axes, style, program), program)
+        if axes.told and asked.check.verdict is Verdict.WELL:
+            continue
+        if isinstance(asked.solved, Solved):
+            return asked
+        if best is None or _worth(asked) > _worth(best):
+            best = asked
+    if best is None:
+        best = _placed(ask(axes, Style.VALUES, program, insist=True), program)
+    if freeze and best.check.verdict is Verdict.OPEN:
+        return _frozen(best, program)
+    return best
+
+
+def ask(axes: Axes, style: Style, program: Asks, insist: bool = False) -> Asked:
+    """One style, with what grows from placed parts. `insist`: what is linear and told twice is spelled twice."""
     equations: list[Equation] = []
-    for _ in range(ROUNDS):
+    while True:
         rails = Rails(axes, style)
-        spelled = written(axes, rails, style)
+        spelled = written(axes, rails, style, insist)
         text = spelled.sketch.text()
         check = read_check(program.ask(["check"], text).text)
-        if check.verdict is Verdict.OPEN:
+        more = None
+        if check.verdict is Verdict.OPEN and len(equations) < ROUNDS:
             more = grown(axes, rails, spelled, read_parts(program.ask(["parts"], text).text))
-            if more is not None:
-                axes = more.axes
-                equations.append(more.equation)
-                continue
-        return Asked(spelled, axes, rails, check, tuple(equations))
-    return Asked(spelled, axes, rails, check, tuple(equations))
+        if more is None:
+            return Asked(spelled, axes, rails, check, tuple(equations))
+        axes = more.axes
+        equations.append(more.equation)
 
 
-def placed(asked: Asked, program: Asks) -> Asked:
+def _placed(asked: Asked, program: Asks) -> Asked:
     """The places of what is well, by boxes, else by points."""
-    best = asked
-    for place in ("boxes", "points"):
-        answer = program.ask(["solve", f"place={place}"], asked.spelled.sketch.text())
+    if asked.check.verdict is not Verdict.WELL:
+        return asked
+    for place in Place:
+        answer = program.ask(["solve", f"place={place.value}"], asked.spelled.sketch.text())
         if answer.status is Status.DONE:
             return replace(asked, place=place, solved=read_solve(answer.text))
-        best = replace(asked, place=place, solved=read_fault(answer.text))
-    return best
+        asked = replace(asked, place=place, solved=read_fault(answer.text))
+    return asked
+
+
+def _frozen(asked: Asked, program: Asks) -> Asked:
+    """What is open, with one length or radius after the other as drawn, while that leaves fewer parts."""
+    for _ in range(FREEZES):
+        best = asked
+        for choice in frozen_choices(asked.axes, asked.rails):
+            trial = ask(choice.axes, asked.spelled.style, program)
+            trial = replace(_placed(trial, program), grown=asked.grown + trial.grown,
+                            frozen=asked.frozen | {choice.owner})
+            if trial.check.verdict is not Verdict.OVER and _worth(trial) > _worth(best):
+                best = trial
+        if best is asked or best.check.verdict is Verdict.WELL:
+            return best
+        asked = best
+    return asked
+
+
+def _worth(asked: Asked) -> tuple[int, bool, int]:
+    """What is well and placed before what is well, then what is over, then the fewer parts."""
+    order = {Verdict.WELL: 2, Verdict.OVER: 1, Verdict.OPEN: 0}
+    return order[asked.check.verdict], isinstance(asked.solved, Solved), -len(asked.check.parts)

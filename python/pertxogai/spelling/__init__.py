@@ -3,8 +3,11 @@ from __future__ import annotations
 
 from pertxogai.drawing import Drawing
 from pertxogai.spelling.axes import Axes
+from pertxogai.spelling.facts import Facts
 from pertxogai.spelling.lines import Lines
 from pertxogai.spelling.lowering import lowered
+from pertxogai.spelling.mirrors import with_halves
+from pertxogai.spelling.polygons import with_polygons
 from pertxogai.spelling.rails import Rails
 from pertxogai.spelling.style import Style
 from pertxogai.spelling.writing import Spelled, written
@@ -18,8 +21,11 @@ def spell(drawing: Drawing, style: Style) -> Spelled:
 
 def axes_of(drawing: Drawing) -> Axes:
     """What a drawing says of x and y."""
-    facts = lowered(drawing)
-    return Axes(facts, Lines(facts))
+    facts: Facts | None = with_polygons(lowered(drawing))
+    while facts is not None:
+        axes = Axes(facts, Lines(facts))
+        facts = with_halves(axes)
+    return axes
 
 
 __all__ = ["Axes", "Rails", "Spelled", "Style", "axes_of", "spell", "written"]

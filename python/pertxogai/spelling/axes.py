@@ -225,16 +225,57 @@ class Axes:
 
     def _settle(self) -> bool:
         """Makes an equation of the first distance that runs along an axis; False where none does."""
-        for fact in self.loose:
-            if isinstance(fact, Apart) and self._settles(fact):
-                self.loose.remove(fact)
-                return True
+        datum, others = self.frames[:1], self.frames[1:]
+        for frames in (datum, others):
+            for settles in (self._settles, self._is_mate):
+                for fact in self.loose:
+                    if isinstance(fact, Apart) and settles(fact, frames):
+                        self.loose.remove(fact)
+                        return True
         return False
 
-    def _settles(self, fact: Apart) -> bool:
+    def _has_rails(self, frame: Frame, upwards: bool) -> bool:
+        """Whether distances along an axis of a frame are told from lines across it."""
+        return frame.number == DATUM or any(
+            self.fixed_axis(line) is upwards for line in self.lines.all() if self.frame(line) == frame)
+
+    def _is_mate(self, fact: Apart, frames: list[Frame]) -> bool:
+        """Two equal distances that rise alike also run alike."""
+        for mate in self.loose:
+            if mate is fact:
+                break
+            if isinstance(mate, Apart) and self.system.reduced(mate.value - fact.value) == Form():
+                owners = frozenset({fact.owner}) | self._owners(mate.value - fact.value)
+                if any(self._runs_alike(frame, upwards, mate, fact, owners)
+                       for frame in frames for upwards in (False, True)):
+                    return True
+        return False
+
+    def _owners(self, form: Form) -> frozenset[Owner]:
+        return frozenset(owner for mark in self.system.sources(form) for owner in self.equations[mark].owners)
+
+    def _runs_alike(self, frame: Frame, upwards: bool, mate: Apart, fact: Apart, owners: frozenset[Owner]) -> bool:
+        across, mates = self._run(frame, not upwards, fact), self._run(frame, not upwards, mate)
+        known = self._knows(across) and self._knows(mates)
+        alike = self.system.reduced(across - mates) == Form() or self.system.reduced(across + mates) == Form()
+        if not known or not alike or {fact.first, fact.second} == {mate.first, mate.second}:
+            return False
+        signs = [self._sign(frame, upwards, each.first, each.second) for each in (fact, mate)]
+        self.tell(self._run(frame, upwards, fact).times(signs[0])
+                  - self._run(frame, upwards, mate).times(signs[1]), owners)
+        return True
+
+    def _knows(self, form: Form) -> bool:
+        """Whether something is said of each coordinate of a form."""
+        said = {key for equation in self.equations for key in equation.form.terms}
+        return set(form.terms) <= said
+
+    def _settles(self, fact: Apart, frames: list[Frame]) -> bool:
         """Where the points are level, the distance is the way along; where it is that already, they are level."""
-        for frame in self.frames:
+        for frame in frames:
             for upwards in (False, True):
+                if not self._has_rails(frame, upwards):
+                    continue
                 across = self._run(frame, not upwards, fact)
                 sign = self._sign(frame, upwards, fact.first, fact.second)
                 along = self._run(frame, upwards, fact) - fact.value.times(sign)

@@ -2,19 +2,19 @@
 from __future__ import annotations
 
 from collections.abc import Iterable
-from dataclasses import dataclass
+from dataclasses import dataclass, replace
 from fractions import Fraction
 from math import atan2, cos, hypot, pi
 
 from pertxogai import language
 from pertxogai.drawing import X_AXIS, Y_AXIS
-from pertxogai.spelling.axes import DATUM, Axes, Coordinate, Frame
+from pertxogai.spelling.axes import DATUM, Axes, Coordinate, Equation, Frame
 from pertxogai.spelling.drafts import Draft, Rounded, Sheet, Spot
 from pertxogai.spelling.facts import ORIGIN_KNOT, Between, Knot, Line, Owner
 from pertxogai.spelling.lean import SQUARE, Lean
 from pertxogai.spelling.rails import Rail, Rails, Run
 from pertxogai.spelling.style import Style
-from pertxogai.values import Form
+from pertxogai.values import Form, Told
 
 LEVEL = Lean()
 Track = Rail | Line
@@ -52,10 +52,12 @@ class Spelled:
     rounded: tuple[Rounded, ...]
 
 
-def written(axes: Axes, rails: Rails, style: Style) -> Spelled:
-    """The drawing, spelled in that style."""
+def written(axes: Axes, rails: Rails, style: Style, insist: bool = False) -> Spelled:
+    """The drawing, spelled in that style. `insist`: what is linear and told twice is spelled twice."""
     writer = _Writer(axes, rails, style)
     writer.write()
+    if insist:
+        writer.write_told()
     return writer.spelled()
 
 
@@ -360,6 +362,39 @@ class _Writer:
                 continue
             name = self.points[second] if isinstance(second, Knot) else self.names[self.axes.lines.leader(second)]
             self._say(self.points[first], name, {fact.owner}, value)
+
+    def write_told(self) -> None:
+        """Spells each dimension again that follows from others: as a height over a rail, else between two points."""
+        for number, (equation, told) in enumerate(self.axes.told):
+            circuit = frozenset(owner for mark in told.marks for owner in self.axes.equations[mark].owners)
+            if not self._told_height(equation, told, circuit):
+                self._told_size(number, equation, told, circuit)
+
+    def _told_height(self, equation: Equation, told: Told, circuit: frozenset[Owner]) -> bool:
+        for key, factor in equation.form.terms.items():
+            rail = self.rails.rail(key) if isinstance(key, Coordinate) else None
+            if rail is None or not isinstance(key, Coordinate):
+                continue
+            pair = self.points.get(key.knot, ""), self.names.get(rail, "")
+            place = next((place for place, each in enumerate(self.sheet.drafts) if each.names() == pair), None)
+            if place is not None:
+                height = self.rails.members[rail][key] - self.rails.offset(rail)
+                self.sheet.drafts[place] = replace(self.sheet.drafts[place], owners=circuit)
+                self._say(*pair, equation.owners, height - told.amount / factor)
+                return True
+        return False
+
+    def _told_size(self, number: int, equation: Equation, told: Told, circuit: frozenset[Owner]) -> None:
+        """A length or radius that is told twice, as a distance of two points of its own, told twice."""
+        size = next((key for key in equation.form.terms), None)
+        if size is None:
+            return
+        value = self.rails.number(Form.of(size)) or Fraction(1000)
+        names = f"T{number}", f"U{number}"
+        self.sheet.points[names[0]], self.sheet.points[names[1]] = (Fraction(0), Fraction(0)), (value, Fraction(0))
+        self._say(*names, circuit, value)
+        again = value - told.amount / equation.form.terms[size]
+        self._say(*names, equation.owners, again if again > 0 else value)
 
     def _drop_idle(self) -> None:
         """Takes away lines that hold nothing: with two constraints at most, of which one at most is an angle."""

@@ -1,0 +1,186 @@
+"""What becomes of a drawing: the program's verdict with its reasons, in the designer's words."""
+from __future__ import annotations
+
+from collections.abc import Iterable, Sequence
+from dataclasses import dataclass, replace
+
+from pertxogai.answers.asking import Asked, Place, ask_styles
+from pertxogai.answers.faults import Failure, failure
+from pertxogai.answers.missing import Missing, missing
+from pertxogai.answers.naming import Names
+from pertxogai.answers.solution import solution_of
+from pertxogai.answers.warnings import Warning, warnings
+from pertxogai.drawing import Drawing
+from pertxogai.measure import Deviation, Solution, Unit, measure
+from pertxogai.program import Asks
+from pertxogai.reports import Solved, Verdict, read_plan, read_spare
+from pertxogai.spelling.facts import Owner
+from pertxogai.spelling.style import Style
+
+WITHIN_NM = 2
+"""A dimension that is off by no more, once it was left out, repeats the others."""
+WITHIN_PPB = 200
+TRIED = 12
+"""So many dimensions at most are left out by turns."""
+
+
+@dataclass(frozen=True)
+class Surplus:
+    """A dimension that may go, and how far it is off once the rest is placed without it: a repeat where `amount` is
+    no more than rounding. None where the rest has no places."""
+
+    number: int
+    name: str
+    off: Deviation | None
+
+    def repeats(self) -> bool | None:
+        """Whether it says the same as the others; None where that can't be told."""
+        if self.off is None:
+            return None
+        return self.off.amount <= (WITHIN_NM if self.off.unit is Unit.NM else WITHIN_PPB)
+
+
+@dataclass(frozen=True)
+class Told:
+    """A constraint by its place in the drawing, from 1, and its name."""
+
+    number: int
+    name: str
+
+
+@dataclass(frozen=True)
+class Judgement:
+    """The program's verdict on a drawing and all that goes with it.
+
+    style: how it was spelled. pieces and missing: where it is open. surplus: where it is over, each dimension that may
+    go. solution: where it is placed, in the datum's frame, in whole nanometres; place: by boxes or by points.
+    failure: why it isn't, though it is well. deviations: of each constraint on those places. left_out: constraints
+    that couldn't be spelled. frozen: those left to their drawn values, to be measured. rounded: those of which the
+    value had to be rounded. grown: those told by a value that was read off a placed part. repeats: those that tell
+    of one point that it is itself."""
+
+    verdict: Verdict
+    asked: Asked
+    names: Names
+    missing: Missing | None = None
+    surplus: tuple[Surplus, ...] = ()
+    solution: Solution | None = None
+    failure: Failure | None = None
+    deviations: tuple[Deviation, ...] = ()
+    warnings: tuple[Warning, ...] = ()
+
+    @property
+    def style(self) -> Style:
+        """How the drawing was spelled."""
+        return self.asked.spelled.style
+
+    @property
+    def place(self) -> Place:
+        """How the program was told to place it."""
+        return self.asked.place
+
+    @property
+    def left_out(self) -> tuple[str, ...]:
+        """What couldn't be spelled."""
+        return self.names.owners(self.asked.spelled.left_out)
+
+    @property
+    def frozen(self) -> tuple[str, ...]:
+        """What is only measured, since a length or radius that it needs was taken as drawn."""
+        return self.names.owners(self.asked.frozen)
+
+    @property
+    def grown(self) -> tuple[str, ...]:
+        """What is told by a value that was read off a placed part."""
+        return self.names.owners(owner for each in self.asked.grown for owner in each.owners)
+
+    @property
+    def rounded(self) -> tuple[str, ...]:
+        """What is told by a rounded value."""
+        numbers = [each.number for each in self.asked.spelled.rounded]
+        return self.names.owners(owner for number in numbers for owner in self.asked.spelled.owners[number - 1])
+
+    @property
+    def repeats(self) -> tuple[str, ...]:
+        """What tells of one point that it is itself, or that it lies on a line of its own."""
+        return self.names.owners([*self.asked.axes.facts.repeats, *self.asked.axes.lines.repeats])
+
+
+def judge(drawing: Drawing, program: Asks, freeze: bool = False) -> Judgement:
+    """What the program says of a drawing. `freeze`: whether lengths and radii that nothing tells may be taken as
+    they are drawn. Raises ProgramError."""
+    asked = ask_styles(drawing, program, freeze)
+    names = Names(drawing, asked.spelled, asked.axes.facts.refs)
+    judged = Judgement(asked.check.verdict, asked, names)
+    match asked.check.verdict:
+        case Verdict.OPEN:
+            return replace(judged, missing=missing(names, asked.check))
+        case Verdict.OVER:
+            return replace(judged, surplus=_surplus(judged, drawing, program))
+        case _:
+            return _placed(judged, drawing, program)
+
+
+def _placed(judged: Judgement, drawing: Drawing, program: Asks) -> Judgement:
+    solved = judged.asked.solved
+    if isinstance(solved, Solved):
+        solution = solution_of(drawing, judged.asked, solved)
+        return replace(judged, solution=solution, deviations=measure(drawing, solution),
+                       warnings=warnings(drawing, solution))
+    if solved is None:
+        return judged
+    plan = read_plan(program.ask(["plan"], judged.asked.spelled.sketch.text()).text)
+    return replace(judged, failure=failure(judged.names, solved, plan))
+
+
+def _surplus(judged: Judgement, drawing: Drawing, program: Asks) -> tuple[Surplus, ...]:
+    """Each constraint that the program calls spare, measured on the rest without it."""
+    numbers = _spare(judged, program)
+    found = []
+    for number in numbers[:TRIED]:
+        found.append(Surplus(number, drawing.called(number), _off_without(drawing, number, program, len(numbers))))
+    found += [Surplus(number, drawing.called(number), None) for number in numbers[TRIED:]]
+    return tuple(found)
+
+
+def _spare(judged: Judgement, program: Asks) -> list[int]:
+    """The places of the designer's constraints that the program calls spare, by number."""
+    spelled = judged.asked.spelled
+    spare = read_spare(program.ask(["spare"], spelled.sketch.text()).text)
+    owners = {owner for each in spare for owner in spelled.owners[each.number - 1]}
+    return sorted(owner.number for owner in owners if owner.number and not owner.shape)
+
+
+def _off_without(drawing: Drawing, number: int, program: Asks, depth: int) -> Deviation | None:
+    """How far a constraint is off where the rest is placed without it; more of what is spare goes first, where the
+    rest is still over."""
+    gone = [number]
+    for _ in range(depth):
+        rest, kept = _without(drawing, gone)
+        asked = ask_styles(rest, program, False)
+        if asked.check.verdict is Verdict.OVER:
+            names = Names(rest, asked.spelled, asked.axes.facts.refs)
+            spare = _spare(Judgement(Verdict.OVER, asked, names), program)
+            if not spare:
+                return None
+            gone.append(kept[spare[-1] - 1])
+            continue
+        if not isinstance(asked.solved, Solved):
+            return None
+        return _worst(measure(drawing, solution_of(rest, asked, asked.solved)), number)
+    return None
+
+
+def _without(drawing: Drawing, gone: Sequence[int]) -> tuple[Drawing, list[int]]:
+    """The drawing without some constraints, and the places, from 1, of those that are kept."""
+    kept = [number for number in range(1, len(drawing.constraints) + 1) if number not in gone]
+    return Drawing(drawing.geometry, tuple(drawing.constraints[number - 1] for number in kept)), kept
+
+
+def _worst(deviations: Iterable[Deviation], number: int) -> Deviation | None:
+    """The deviation of a constraint that counts: in nanometres, before that of an angle."""
+    mine = [each for each in deviations if each.number == number]
+    return max(mine, key=lambda each: (each.unit is Unit.NM, each.amount), default=None)
+
+
+__all__ = ["Judgement", "Owner", "Surplus", "Told", "judge"]

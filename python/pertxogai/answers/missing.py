@@ -1,0 +1,63 @@
+"""Where a drawing is open: how many dimensions it lacks at least, and between which of its pieces."""
+from __future__ import annotations
+
+from dataclasses import dataclass
+from enum import Enum
+
+from pertxogai.answers.naming import Names
+from pertxogai.reports import CheckReport, Part
+
+
+class Tie(Enum):
+    """How two pieces hang together, and so what ties them."""
+
+    LOOSE = "loose: give one of them two dimensions from the other, and one more"
+    HINGE = "they turn about a point: give an angle, or a distance between points of both"
+    SLIDE = "they slide along a line: give a distance between points of both, not across that line"
+
+
+@dataclass(frozen=True)
+class Piece:
+    """A part that is rigid by itself: the points and segments that the designer knows in it."""
+
+    number: int
+    elements: tuple[str, ...]
+
+
+@dataclass(frozen=True)
+class Joint:
+    """Two pieces, how they hang together, and the points or segments that they share."""
+
+    first: Piece
+    second: Piece
+    tie: Tie
+    shared: tuple[str, ...]
+
+
+@dataclass(frozen=True)
+class Missing:
+    """At least `count` dimensions are missing, by counting; 0 where the drawing is rigid in a way that merging
+    doesn't find. `joints`: each piece but the first, with one before it that it hangs at, where there is one."""
+
+    count: int
+    pieces: tuple[Piece, ...]
+    joints: tuple[Joint, ...]
+
+
+def missing(names: Names, check: CheckReport) -> Missing:
+    """What is missing by the program's parts: n elements that are well hold 2n - 3 constraints."""
+    count = max(0, 2 * check.elements - 3 - check.constraints)
+    pieces = tuple(Piece(part.number, names.elements(part.elements)) for part in check.parts)
+    shown = [place for place, piece in enumerate(pieces) if piece.elements]
+    joints = tuple(_joint(names, check.parts, pieces, shown, place) for place in shown[1:])
+    return Missing(count, tuple(pieces[place] for place in shown), joints)
+
+
+def _joint(names: Names, parts: tuple[Part, ...], pieces: tuple[Piece, ...], shown: list[int], place: int) -> Joint:
+    mine = set(parts[place].elements)
+    first = next((other for other in shown if other < place and mine & set(parts[other].elements)), shown[0])
+    shared = [name for name in parts[place].elements if name in parts[first].elements]
+    tie = Tie.LOOSE
+    if shared:
+        tie = Tie.SLIDE if shared[0] in names.spelled.tracks else Tie.HINGE
+    return Joint(pieces[first], pieces[place], tie, names.elements(shared))

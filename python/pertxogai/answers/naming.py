@@ -1,0 +1,50 @@
+"""What a line, an element or a constraint of the sketch is called in the designer's words."""
+from __future__ import annotations
+
+from collections.abc import Iterable
+from dataclasses import dataclass
+
+from pertxogai.drawing import Drawing, PointRef, ShapeRef
+from pertxogai.spelling.facts import Knot, Owner
+from pertxogai.spelling.writing import Spelled
+
+
+@dataclass(frozen=True)
+class Names:
+    """The names of one spelled drawing. Lines of help have none."""
+
+    drawing: Drawing
+    spelled: Spelled
+    refs: dict[PointRef, Knot]
+
+    def owner(self, owner: Owner) -> str:
+        """A constraint as the drawing calls it; an arc as `the ends of ARC`."""
+        if owner.shape:
+            return f"the ends of {self.drawing.geometry[owner.number - 1].name}"
+        return self.drawing.called(owner.number)
+
+    def owners(self, owners: Iterable[Owner]) -> tuple[str, ...]:
+        """Constraints and arcs by their places."""
+        return tuple(self.owner(each) for each in sorted(set(owners)) if each.number)
+
+    def constraint(self, number: int) -> tuple[str, ...]:
+        """Who says the sketch's constraint of that number, from 1."""
+        return self.owners(self.spelled.owners[number - 1])
+
+    def point(self, name: str) -> PointRef | None:
+        """The designer's point behind a point of the sketch, the first of those that are one; None for help."""
+        knot = next((knot for knot, each in self.spelled.points.items() if each == name), None)
+        return None if knot is None else next(ref for ref, each in self.refs.items() if each == knot)
+
+    def element(self, name: str) -> str | None:
+        """A point, or the segment that a line is; None of what only helps."""
+        point = self.point(name)
+        if point is not None:
+            return str(point)
+        track = self.spelled.tracks.get(name)
+        return track.name if isinstance(track, ShapeRef) else None
+
+    def elements(self, names: Iterable[str]) -> tuple[str, ...]:
+        """The elements that a designer drew, without help."""
+        found = (self.element(name) for name in names)
+        return tuple(each for each in found if each is not None)

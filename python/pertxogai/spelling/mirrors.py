@@ -1,0 +1,66 @@
+"""Lines that are mirror images to an axis: the angle between them is halved by the axis."""
+from __future__ import annotations
+
+from dataclasses import replace
+from fractions import Fraction
+from math import atan2, cos
+
+from pertxogai.spelling.axes import Axes, Frame
+from pertxogai.spelling.facts import Facts, Leans, Line
+from pertxogai.spelling.lean import Lean
+from pertxogai.values import Form
+
+
+def with_halves(axes: Axes) -> Facts | None:
+    """The facts with the first angle of two mirrored lines told as half of it from the axis; None where none is."""
+    for fact in axes.facts.facts:
+        if isinstance(fact, Leans) and not fact.lean.left:
+            halved = _halved(axes, fact)
+            if halved is not None:
+                facts = [halved if each is fact else each for each in axes.facts.facts]
+                return replace(axes.facts, facts=facts)
+    return None
+
+
+def _halved(axes: Axes, fact: Leans) -> Leans | None:
+    first, second = axes.lines.leader(fact.first), axes.lines.leader(fact.second)
+    own = axes.frame(first)
+    if own.number == 0:
+        return None
+    for frame in axes.frames:
+        if frame != own and _mirrored(axes, frame, first, second):
+            half = Lean((-fact.lean.degrees / 2) % 180)
+            lean = min((half, half + Lean(Fraction(90))), key=lambda each: _off(axes, frame, first, each))
+            return Leans(frame.line, first, lean, fact.owner)
+    return None
+
+
+def _mirrored(axes: Axes, frame: Frame, first: Line, second: Line) -> bool:
+    one, other = _run(axes, frame, first), _run(axes, frame, second)
+    if one is None or other is None:
+        return False
+    (u, v), (a, b) = one, other
+    zero = Form()
+    if axes.system.reduced(u) == zero or axes.system.reduced(v) == zero:
+        return False
+    reduced = axes.system.reduced
+    return ((reduced(u - a) == zero and reduced(v + b) == zero)
+            or (reduced(u + a) == zero and reduced(v - b) == zero))
+
+
+def _run(axes: Axes, frame: Frame, line: Line) -> tuple[Form, Form] | None:
+    """The way from a line's first point to its second in a frame."""
+    members = axes.lines.members(line)
+    if len(members) < 2:
+        return None
+    first, second = (each.knot for each in members[:2])
+    u, v = (axes.at(frame.number, upwards, second) - axes.at(frame.number, upwards, first)
+            for upwards in (False, True))
+    return u, v
+
+
+def _off(axes: Axes, frame: Frame, line: Line, lean: Lean) -> float:
+    """How far a lean is off the drawn one: 0 where it is just so."""
+    a, b = axes.facts.direction(line)
+    drawn = atan2(float(b), float(a)) - atan2(float(frame.way[1]), float(frame.way[0]))
+    return 1 - cos(2 * (lean.radians() - drawn))
