@@ -12,7 +12,7 @@ from pertxogai.answers.growing import grown
 from pertxogai.drawing import Drawing
 from pertxogai.program import Asks, Status
 from pertxogai.reports import CheckReport, Fault, Solved, Verdict, read_check, read_fault, read_parts, read_solve
-from pertxogai.spelling import Axes, Rails, Spelled, Style, axes_of, written
+from pertxogai.spelling import Axes, Care, Rails, Spelled, Style, axes_of, written
 from pertxogai.spelling.axes import Equation
 from pertxogai.spelling.facts import Owner
 
@@ -60,18 +60,24 @@ def ask_styles(drawing: Drawing, program: Asks, freeze: bool) -> Asked:
         if best is None or _worth(asked) > _worth(best):
             best = asked
     if best is None:
-        best = _placed(ask(axes, Style.VALUES, program, insist=True), program)
+        best = _placed(ask(axes, Style.VALUES, program, Care(insist=True)), program)
     if freeze and best.check.verdict is Verdict.OPEN:
         return _frozen(best, program)
     return best
 
 
-def ask(axes: Axes, style: Style, program: Asks, insist: bool = False) -> Asked:
-    """One style, with what grows from placed parts. `insist`: what is linear and told twice is spelled twice."""
+def finer(asked: Asked, program: Asks) -> Asked:
+    """The same with angles told as finely as can be, where that is still well and placed."""
+    fine = _placed(ask(asked.axes, asked.spelled.style, program, Care(fine=True)), program)
+    return replace(fine, grown=asked.grown + fine.grown, frozen=asked.frozen) if _worth(fine) >= _worth(asked) else asked
+
+
+def ask(axes: Axes, style: Style, program: Asks, care: Care = Care()) -> Asked:
+    """One style, with what grows from placed parts."""
     equations: list[Equation] = []
     while True:
         rails = Rails(axes, style)
-        spelled = written(axes, rails, style, insist)
+        spelled = written(axes, rails, style, care)
         text = spelled.sketch.text()
         check = read_check(program.ask(["check"], text).text)
         more = None

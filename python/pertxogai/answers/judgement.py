@@ -4,7 +4,7 @@ from __future__ import annotations
 from collections.abc import Iterable, Sequence
 from dataclasses import dataclass, replace
 
-from pertxogai.answers.asking import Asked, Place, ask_styles
+from pertxogai.answers.asking import Asked, Place, ask_styles, finer
 from pertxogai.answers.faults import Failure, failure
 from pertxogai.answers.missing import Missing, missing
 from pertxogai.answers.naming import Names
@@ -124,21 +124,40 @@ def judge(drawing: Drawing, program: Asks, freeze: bool = False) -> Judgement:
 def _placed(judged: Judgement, drawing: Drawing, program: Asks) -> Judgement:
     solved = judged.asked.solved
     if isinstance(solved, Solved):
-        solution = solution_of(drawing, judged.asked, solved)
-        return replace(judged, solution=solution, deviations=measure(drawing, solution),
-                       warnings=warnings(drawing, solution))
+        judged = _measured(judged, drawing)
+        if not any(each.amount > WITHIN_NM for each in judged.deviations):
+            return judged
+        asked = finer(judged.asked, program)
+        fine = _measured(replace(judged, asked=asked, names=replace(judged.names, spelled=asked.spelled)), drawing)
+        return min((judged, fine), key=_greatest)
     if solved is None:
         return judged
     plan = read_plan(program.ask(["plan"], judged.asked.spelled.sketch.text()).text)
     return replace(judged, failure=failure(judged.names, solved, plan))
 
 
+def _measured(judged: Judgement, drawing: Drawing) -> Judgement:
+    """With the places in the datum's frame, and all that is measured on them."""
+    if not isinstance(judged.asked.solved, Solved):
+        return judged
+    solution = solution_of(drawing, judged.asked, judged.asked.solved)
+    return replace(judged, solution=solution, deviations=measure(drawing, solution),
+                   warnings=warnings(drawing, solution))
+
+
+def _greatest(judged: Judgement) -> int:
+    return max((each.amount for each in judged.deviations if each.unit is Unit.NM), default=0)
+
+
 def _surplus(judged: Judgement, drawing: Drawing, program: Asks) -> tuple[Surplus, ...]:
-    """Each constraint that the program calls spare, measured on the rest without it."""
+    """Each constraint that the program calls spare, and without which the rest isn't open, measured on the rest."""
     numbers = _spare(judged, program)
     found = []
     for number in numbers[:TRIED]:
-        found.append(Surplus(number, drawing.called(number), _off_without(drawing, number, program, len(numbers))))
+        rest = _rest_without(drawing, number, program, len(numbers))
+        if rest is not None:
+            off = _off(drawing, number, *rest) if isinstance(rest[1].solved, Solved) else None
+            found.append(Surplus(number, drawing.called(number), off))
     found += [Surplus(number, drawing.called(number), None) for number in numbers[TRIED:]]
     return tuple(found)
 
@@ -151,24 +170,27 @@ def _spare(judged: Judgement, program: Asks) -> list[int]:
     return sorted(owner.number for owner in owners if owner.number and not owner.shape)
 
 
-def _off_without(drawing: Drawing, number: int, program: Asks, depth: int) -> Deviation | None:
-    """How far a constraint is off where the rest is placed without it; more of what is spare goes first, where the
-    rest is still over."""
+def _rest_without(drawing: Drawing, number: int, program: Asks, depth: int) -> tuple[Drawing, Asked] | None:
+    """What is well of a drawing without a constraint, and without more of what is spare then, where the rest is
+    still over; None where the rest is open, so that the constraint can't go."""
     gone = [number]
     for _ in range(depth):
         rest, kept = _without(drawing, gone)
         asked = ask_styles(rest, program, False)
-        if asked.check.verdict is Verdict.OVER:
-            names = Names(rest, asked.spelled, asked.axes.facts.refs)
-            spare = _spare(Judgement(Verdict.OVER, asked, names), program)
-            if not spare:
-                return None
-            gone.append(kept[spare[-1] - 1])
-            continue
-        if not isinstance(asked.solved, Solved):
+        if asked.check.verdict is not Verdict.OVER:
+            return (rest, asked) if asked.check.verdict is Verdict.WELL else None
+        spare = _spare(Judgement(Verdict.OVER, asked, Names(rest, asked.spelled, asked.axes.facts.refs)), program)
+        if not spare:
             return None
-        return _worst(measure(drawing, solution_of(rest, asked, asked.solved)), number)
+        gone.append(kept[spare[-1] - 1])
     return None
+
+
+def _off(drawing: Drawing, number: int, rest: Drawing, asked: Asked) -> Deviation | None:
+    """How far a constraint is off on the places of the rest."""
+    if not isinstance(asked.solved, Solved):
+        return None
+    return _worst(measure(drawing, solution_of(rest, asked, asked.solved)), number)
 
 
 def _without(drawing: Drawing, gone: Sequence[int]) -> tuple[Drawing, list[int]]:

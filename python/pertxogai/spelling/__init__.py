@@ -10,7 +10,7 @@ from pertxogai.spelling.mirrors import with_halves
 from pertxogai.spelling.polygons import with_polygons
 from pertxogai.spelling.rails import Rails
 from pertxogai.spelling.style import Style
-from pertxogai.spelling.writing import Spelled, written
+from pertxogai.spelling.writing import Care, Spelled, written
 
 
 def spell(drawing: Drawing, style: Style) -> Spelled:
@@ -28,4 +28,4 @@ def axes_of(drawing: Drawing) -> Axes:
     return axes
 
 
-__all__ = ["Axes", "Rails", "Spelled", "Style", "axes_of", "spell", "written"]
+__all__ = ["Axes", "Care", "Rails", "Spelled", "Style", "axes_of", "spell", "written"]

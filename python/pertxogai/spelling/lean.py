@@ -3,7 +3,7 @@ from __future__ import annotations
 
 from dataclasses import dataclass
 from fractions import Fraction
-from math import atan2, gcd, pi, tan
+from math import atan2, gcd, pi, sin, tan
 
 from pertxogai.drawing import Degrees, Slope, Turn
 from pertxogai.language import nearest_ratio
@@ -54,6 +54,16 @@ class Lean:
         tangent = Fraction(tan(self.radians()))
         return nearest_ratio(tangent, 1)
 
+    def halves(self) -> tuple[Lean, Lean] | None:
+        """Two leans by ratios of which the sum is this within 10^-11 or so, where no ratio is this; else None."""
+        if self.exact():
+            return None
+        goal = self.radians()
+        tried = ((p, q) for q in range(1, 40) for p in range(-q, q + 1) if p and gcd(p, q) == 1)
+        pairs = (_pair(goal, p, q) for p, q in tried)
+        return min((pair for pair in pairs if pair is not None),
+                   key=lambda pair: abs(sin(goal - pair[0].radians() - pair[1].radians())))
+
     def exact(self) -> bool:
         """Whether `ratio` is the lean itself."""
         way = self.way()
@@ -72,6 +82,16 @@ class Lean:
     def radians(self) -> float:
         """The turn in radians, near enough for a drawing."""
         return float(self.degrees) * pi / 180 + atan2(self.left, self.ahead)
+
+
+def _pair(goal: float, p: int, q: int) -> tuple[Lean, Lean] | None:
+    """The lean of a small ratio, and that of the ratio nearest the rest."""
+    first = _made(Fraction(0), q, p)
+    tangent = Fraction(tan(goal - first.radians()))
+    if abs(tangent) < Fraction(1, 100) or abs(tangent) > 100:
+        return None
+    rest = nearest_ratio(tangent, 1)
+    return first, _made(Fraction(0), rest[1], rest[0])
 
 
 SQUARE = Lean(Fraction(90))

@@ -4,7 +4,7 @@ from __future__ import annotations
 from collections.abc import Iterable
 from dataclasses import dataclass, replace
 from fractions import Fraction
-from math import atan2, cos, hypot, pi
+from math import atan2, cos, hypot, pi, sin
 
 from pertxogai import language
 from pertxogai.drawing import X_AXIS, Y_AXIS
@@ -35,6 +35,15 @@ class Heading:
 
 
 @dataclass(frozen=True)
+class Care:
+    """What else is asked of a spelling. insist: what is linear and told twice is spelled twice. fine: an angle that is
+    no ratio is told by two that add up to it, with a line of help."""
+
+    insist: bool = False
+    fine: bool = False
+
+
+@dataclass(frozen=True)
 class Spelled:
     """A drawing in the language. The sketch is `scale` times as large as the drawing.
 
@@ -52,11 +61,11 @@ class Spelled:
     rounded: tuple[Rounded, ...]
 
 
-def written(axes: Axes, rails: Rails, style: Style, insist: bool = False) -> Spelled:
-    """The drawing, spelled in that style. `insist`: what is linear and told twice is spelled twice."""
-    writer = _Writer(axes, rails, style)
+def written(axes: Axes, rails: Rails, style: Style, care: Care = Care()) -> Spelled:
+    """The drawing, spelled in that style."""
+    writer = _Writer(axes, rails, style, care)
     writer.write()
-    if insist:
+    if care.insist:
         writer.write_told()
     return writer.spelled()
 
@@ -64,7 +73,8 @@ def written(axes: Axes, rails: Rails, style: Style, insist: bool = False) -> Spe
 class _Writer:
     """A sheet that is being filled."""
 
-    def __init__(self, axes: Axes, rails: Rails, style: Style) -> None:
+    def __init__(self, axes: Axes, rails: Rails, style: Style, care: Care) -> None:
+        self.care = care
         self.axes = axes
         self.rails = rails
         self.style = style
@@ -265,8 +275,21 @@ class _Writer:
         return frozenset(owner for each in members[1:] for owner in self.rails.owners(members[0], each))
 
     def _angle(self, first: Track, second: Track, lean: Lean, owners: Iterable[Owner]) -> None:
-        names = self.names[first], self.names[second]
-        self.sheet.drafts.append(Draft(*names, frozenset(owners) - {Owner(0)}, ratio=lean.ratio()))
+        names, said = (self.names[first], self.names[second]), frozenset(owners) - {Owner(0)}
+        halves = lean.halves() if self.care.fine else None
+        if halves is None:
+            self.sheet.drafts.append(Draft(*names, said, ratio=lean.ratio()))
+            return
+        between = f"H{names[1]}"
+        knot = self._a_point_of(second)
+        (x, y), (u, v) = self.sheet.lines[names[1]]
+        c, s = Fraction(cos(halves[1].radians())), Fraction(sin(halves[1].radians()))
+        a, b = (u - x) * c + (v - y) * s, (v - y) * c - (u - x) * s
+        x, y = self.ways[knot]
+        self.sheet.lines[between] = ((x, y), (x + a, y + b))
+        self._say(self.points[knot], between, said)
+        self.sheet.drafts.append(Draft(names[0], between, said, ratio=halves[0].ratio()))
+        self.sheet.drafts.append(Draft(between, names[1], said, ratio=halves[1].ratio()))
 
     def _square_help(self, base: Track, track: Track) -> None:
         """A line of help, square to two parallel ones, through a point of the first."""
