@@ -292,3 +292,60 @@ def test_a_damaged_zip_is_refused(tmp_path: Path) -> None:
             read_freecad(path)
         except FileRefusal as refusal:
             assert "\n" not in str(refusal)
+
+
+OUTER = [line.split() for line in (FILES / "freecad.outer").read_text().splitlines()]
+
+
+def test_outer_geometry_lies_where_freecad_sees_it() -> None:
+    """A solid, moved and seen from a tilted plane; FreeCAD tells 0 0 of a point that isn't there."""
+    drawing = found("solid", "Over").drawing
+    seen = 0
+    for _, _, count, position, x, y in OUTER:
+        name = f"Outer{count}"
+        shape = drawing.shape(name)
+        which = {"1": Which.START, "2": Which.END, "3": Which.CENTRE}[position]
+        if isinstance(shape, Segment) and which is Which.CENTRE:
+            continue
+        if isinstance(shape, Circle) and which is not Which.CENTRE:
+            continue
+        ref = PointRef(name, which if isinstance(shape, (Segment, Circle, Arc)) else Which.AT)
+        place = drawing.drawn(ref)
+        assert math.isclose(float(place.x_um) / 1000, float(x), abs_tol=2e-9)
+        assert math.isclose(float(place.y_um) / 1000, float(y), abs_tol=2e-9)
+        seen += 1
+    assert seen == 8 * 2 + 18 * 3 + 2 * 3 + 2 and not found("solid", "Over").left_out
+
+
+def test_outer_geometry_of_another_sketch_and_of_a_pad() -> None:
+    edge, ring = (shape for shape in found("outer", "Over").drawing.geometry if shape.outer)
+    assert isinstance(edge, Segment) and isinstance(ring, Circle) and ring.radius_um == 5000
+    side = next(shape for shape in found("body", "Sketch001").drawing.geometry if shape.outer)
+    assert isinstance(side, Segment)
+    drawing = found("body", "Sketch001").drawing
+    assert drawing.drawn(PointRef("Outer1", Which.END)).x_um == 82500
+
+
+@pytest.mark.parametrize("sub", ["Edge99", "Vertex0", "Face1", "", "Edge"])
+def test_outer_geometry_that_is_not_there_is_left_out(tmp_path: Path, sub: str) -> None:
+    link = (f'<Property name="ExternalGeometry"><LinkSubList count="1"><Link obj="S" sub="{sub}"/>'
+            '</LinkSubList></Property><Property name="Shape"><Part file="PartShape.brp"/></Property>')
+    with zipfile.ZipFile(FILES / "plate.FCStd") as archive:
+        shape = archive.read("PartShape.brp")
+    path = written(tmp_path / "a.FCStd", document(link))
+    with zipfile.ZipFile(path, "a") as archive:
+        archive.writestr("PartShape.brp", shape)
+    assert str(read_freecad(path)[0].left_out[0]).startswith("Outer1: S has no ")
+
+
+def test_a_damaged_shape_is_left_out(tmp_path: Path) -> None:
+    link = ('<Property name="ExternalGeometry"><LinkSubList count="1"><Link obj="S" sub="Edge2"/>'
+            '</LinkSubList></Property><Property name="Shape"><Part file="PartShape.brp"/></Property>')
+    with zipfile.ZipFile(FILES / "plate.FCStd") as archive:
+        shape = archive.read("PartShape.brp")
+    for place in range(0, len(shape), 41):
+        path = written(tmp_path / "a.FCStd", document(link))
+        with zipfile.ZipFile(path, "a") as archive:
+            archive.writestr("PartShape.brp", shape[:place] + b"7" + shape[place + 1:])
+        one = read_freecad(path)[0]
+        assert len(one.left_out) + len(one.drawing.geometry) == 1

@@ -9,6 +9,7 @@ from pertxogai.drawing import Constraint
 from pertxogai.found import Apart, Aside, FileRefusal, FoundSketch, Unsaid
 from pertxogai.freecad.archive import DOCUMENT, open_archive, read_member
 from pertxogai.freecad.markup import BadMarkup, Kept, Node, read_markup
+from pertxogai.freecad.outer import Shelf, outer_shapes
 from pertxogai.freecad.shapes import Numbered, read_outer, read_shapes
 from pertxogai.freecad.ties import Shapes, name_of, read_entry, say
 from pertxogai.gathering import Gathering
@@ -24,7 +25,9 @@ def read_freecad(path: Path) -> tuple[FoundSketch, ...]:
     """
     with open_archive(path) as archive:
         objects = objects_of(path, read_member(path, archive, DOCUMENT))
-        found = tuple(_sketch(kept) for kept in objects if kept.kind == SKETCH)
+        shelf = Shelf({kept.name: kept for kept in objects},
+                      lambda member: read_member(path, archive, member))
+        found = tuple(_sketch(kept, shelf) for kept in objects if kept.kind == SKETCH)
     if not found:
         raise FileRefusal(f"{path}: no sketch in it: draw one by FreeCAD's Sketcher, and save")
     return found
@@ -38,10 +41,10 @@ def objects_of(path: Path, data: bytes) -> list[Kept]:
         raise FileRefusal(f"{path}: its {DOCUMENT} can't be read: {bad}") from None
 
 
-def _sketch(kept: Kept) -> FoundSketch:
+def _sketch(kept: Kept, shelf: Shelf) -> FoundSketch:
     """One sketch."""
     gathering = Gathering()
-    shapes = Shapes(_shapes(kept, gathering))
+    shapes = Shapes(_shapes(kept, shelf, gathering))
     aside = []
     for count, node in enumerate(kept.list_of("Constraints"), 1):
         why, name = _apart(node), name_of(node, count)
@@ -55,10 +58,11 @@ def _sketch(kept: Kept) -> FoundSketch:
     return gathering.found(kept.name, _label(kept), aside)
 
 
-def _shapes(kept: Kept, gathering: Gathering) -> list[Numbered]:
+def _shapes(kept: Kept, shelf: Shelf, gathering: Gathering) -> list[Numbered]:
     """The shapes of a sketch, outer ones last; those that can't be drawn have none."""
     shapes, left_out = read_shapes(kept.list_of("Geometry"))
-    outer, outer_left_out = read_outer(kept.list_of("ExternalGeo"))
+    stored = kept.list_of("ExternalGeo")
+    outer, outer_left_out = read_outer(stored) if stored else outer_shapes(kept, shelf)
     for one in left_out + outer_left_out:
         gathering.leave_out(one.what, one.why)
     return [one if one.shape is not None and gathering.add_shape(one.shape)

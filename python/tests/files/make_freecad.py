@@ -5,7 +5,8 @@ Run it in FreeCAD's console, with the directory to write into:
     freecadcmd python/tests/files/make_freecad.py
 
 It writes NAME.FCStd for each drawing, and freecad.facts: a line for each sketch with what FreeCAD
-itself says of it, `file sketch solve CODE fully yes|no`. CODE is what its `solve` answers: 0 is
+itself says of it, `file sketch solve CODE fully yes|no`, and freecad.outer: where it sees the points
+of outer geometry. CODE is what its `solve` answers: 0 is
 solved, -2 redundant, -3 conflicting, -4 over-constrained.
 """
 
@@ -919,6 +920,45 @@ def body():
     return save("body", document)
 
 
+def solid():
+    """A sketch on a tilted plane that refers to the edges and corners of a moved solid: a block
+    with a hole and a round corner. freecad.outer has where FreeCAD sees their points."""
+    document = FreeCAD.newDocument("solid")
+    block = document.addObject("Part::Box", "Block")
+    block.Length, block.Width, block.Height = 40, 30, 20
+    drill = document.addObject("Part::Cylinder", "Drill")
+    drill.Radius, drill.Height = 6, 50
+    drill.Placement.Base = FreeCAD.Vector(15, 12, -5)
+    cut = document.addObject("Part::Cut", "Cut")
+    cut.Base, cut.Tool = block, drill
+    document.recompute()
+    soft = document.addObject("Part::Fillet", "Soft")
+    soft.Base = cut
+    upright = [count for count, edge in enumerate(cut.Shape.Edges, 1)
+               if abs(edge.tangentAt(edge.FirstParameter).z) > 0.9 and edge.Length < 21]
+    soft.Edges = [(upright[0], 5.0, 5.0)]
+    turn = FreeCAD.Rotation(FreeCAD.Vector(1, 2, 3), 40)
+    soft.Placement = FreeCAD.Placement(FreeCAD.Vector(3, -4, 7), turn)
+    document.recompute()
+    over = Sheet(document, "Over")
+    over.sketch.Placement = FreeCAD.Placement(FreeCAD.Vector(1, 2, 30), turn)
+    lines = []
+    for word, parts in (("Edge", soft.Shape.Edges), ("Vertex", soft.Shape.Vertexes)):
+        for count in range(1, len(parts) + 1):
+            over.sketch.addExternal("Soft", "%s%d" % (word, count))
+    document.recompute()
+    for count in range(len(soft.Shape.Edges) + len(soft.Shape.Vertexes)):
+        for position in (START, END, CENTRE):
+            try:
+                at = over.sketch.getPoint(-3 - count, position)
+            except ValueError:
+                continue
+            lines.append("solid Over %d %d %.9f %.9f" % (count + 1, position, at.x, at.y))
+    with open(os.path.join(HERE, "freecad.outer"), "w", encoding="utf-8") as out:
+        out.write("\n".join(lines) + "\n")
+    return save("solid", document)
+
+
 def empty():
     """A document without a sketch."""
     document = FreeCAD.newDocument("empty")
@@ -927,7 +967,7 @@ def empty():
 
 def main():
     """Writes everything."""
-    lines = [line for draw in DRAWINGS for line in one(draw)] + outer() + body() + empty()
+    lines = [line for draw in DRAWINGS for line in one(draw)] + outer() + body() + solid() + empty()
     with open(os.path.join(HERE, "freecad.facts"), "w", encoding="utf-8") as out:
         out.write("\n".join(lines) + "\n")
 
