@@ -1,0 +1,45 @@
+"""What several tests need: the program under test, and the worked rows."""
+from __future__ import annotations
+
+import re
+from dataclasses import dataclass
+from pathlib import Path
+
+import pytest
+
+from pertxogai.program import Answer, Program, Status
+
+TESTS = Path(__file__).resolve().parent
+TOP = TESTS.parents[1]
+
+
+@dataclass(frozen=True)
+class Row:
+    """A worked row: words and a text, and what the program answers."""
+
+    name: str
+    words: tuple[str, ...]
+    text: str
+    answer: Answer
+
+
+def read_row(path: Path) -> Row:
+    """The row of a file: words, status, the lengths of input and output, and these two."""
+    head, body = path.read_bytes().split(b"\n\n", 1)
+    found = re.fullmatch(rb"words: (.*)\nstatus: (\d+)\ninput: (\d+) bytes\noutput: (\d+) bytes", head)
+    assert found, path
+    size = int(found[3])
+    assert len(body) == size + int(found[4]), path
+    text = body[:size].decode("utf-8", "surrogateescape")
+    answer = Answer(Status(int(found[2])), body[size:].decode("ascii"))
+    return Row(path.stem, tuple(found[1].decode().split()), text, answer)
+
+
+ROWS = [read_row(path) for path in sorted((TESTS / "rows").glob("*.row"))]
+EXAMPLES = sorted((TOP / "examples").rglob("*.sketch"))
+
+
+@pytest.fixture(scope="session")
+def program() -> Program:
+    """The program under test: that of PERTXOGAI_SKETCH, or the repository's build."""
+    return Program.find()

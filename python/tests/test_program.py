@@ -1,0 +1,176 @@
+"""The program: how it is found, its statuses, and what is said where it gives no answer."""
+from __future__ import annotations
+
+import stat
+import subprocess
+import time
+from pathlib import Path
+
+import pytest
+from conftest import ROWS, Row
+
+from pertxogai.library import Library, quickest
+from pertxogai.program import (
+    Answer, MissingProgram, Program, ProgramCrashed, ProgramError, ProgramSpoke, ProgramTimedOut, Status)
+from pertxogai.reports import NotAReport, read_answer
+
+TRIANGLE = "sketch 1\npoint A 0 0\npoint B 4 0\npoint C 4 3\ndistance A B 4\ndistance A C 5\ndistance B C 3\nend\n"
+
+
+def script(folder: Path, body: str) -> str:
+    """A stand-in for the program."""
+    path = folder / "sketch"
+    path.write_text("#!/bin/sh\n" + body)
+    path.chmod(path.stat().st_mode | stat.S_IXUSR)
+    return str(path)
+
+
+@pytest.mark.parametrize("row", ROWS, ids=lambda row: row.name)
+def test_a_row_is_answered(row: Row, program) -> None:
+    assert program.ask(row.words, row.text) == row.answer
+
+
+@pytest.mark.parametrize("status", list(Status), ids=lambda it: it.name)
+def test_each_status_is_handed_on(status: Status, tmp_path) -> None:
+    answer = Program(script(tmp_path, f"cat; exit {status.value}")).ask(["check"], "some\ntext\n")
+    assert answer == Answer(status, "some\ntext\n")
+
+
+def test_words_and_text_go_in(tmp_path) -> None:
+    answer = Program(script(tmp_path, 'echo "$#" "$@"; wc -c')).ask(["solve", "bits=27", "a b", ""], "x" * 300_000)
+    assert answer.text.split("\n")[:2] == ["4 solve bits=27 a b ", "300000"]
+
+
+@pytest.mark.parametrize("words, text, status", [
+    (["check"], TRIANGLE, Status.DONE), (["check"], "", Status.REFUSED), (["check", "x"], TRIANGLE, Status.USAGE),
+    ([], TRIANGLE, Status.USAGE), (["plan"], "sketch 1\npoint A 0 0\npoint B 0 1\nend\n", Status.NOT_WELL),
+    (["solve"], TRIANGLE.replace("A C 5", "A C 9"), Status.FAULT),
+    (["verify"], TRIANGLE + "tolerance 0 0\n", Status.CLAIM_FAILS), (["check"], "\udcff\u20ac", Status.REFUSED)])
+def test_statuses_of_the_program_itself(words, text: str, status: Status, program) -> None:
+    answer = program.ask(words, text)
+    assert answer.status is status
+    read_answer(words, answer)
+
+
+def refused(kind: type[ProgramError], program: Program, *inside: str) -> None:
+    with pytest.raises(kind) as error:
+        program.ask(["check"], TRIANGLE)
+    message = str(error.value)
+    assert "\n" not in message and all(it in message for it in inside), message
+
+
+def test_a_program_that_crashes(tmp_path) -> None:
+    refused(ProgramCrashed, Program(script(tmp_path, "echo 'out of luck' >&2; kill -SEGV $$")), "SIGSEGV", "out of luck")
+    refused(ProgramCrashed, Program(script(tmp_path, "exit 77")), "status 77")
+
+
+def test_a_program_that_hangs(tmp_path) -> None:
+    begin = time.monotonic()
+    refused(ProgramTimedOut, Program(script(tmp_path, "exec sleep 30"), seconds=0.3), "0.3 s", "more seconds")
+    refused(ProgramTimedOut, Program(script(tmp_path, "exec >&- 2>&-; exec sleep 30"), seconds=0.3), "0.3 s")
+    assert time.monotonic() - begin < 10
+
+
+def test_a_program_that_reads_nothing(tmp_path) -> None:
+    program = Program(script(tmp_path, "exec <&-; echo done"))
+    assert program.ask(["check"], "x" * 1_000_000).text == "done\n"
+
+
+def test_a_program_that_floods(tmp_path) -> None:
+    refused(ProgramSpoke, Program(script(tmp_path, "exec yes"), seconds=30), "64 MiB")
+
+
+def test_a_program_that_prints_rubbish(tmp_path) -> None:
+    refused(ProgramSpoke, Program(script(tmp_path, r"printf '\377\376'")), "no text")
+    for words in ("check", "plan", "solve", "dxf", "spare", "parts", "derive", "grow", "verify", "migrate", "session"):
+        answer = Program(script(tmp_path, "echo verdict maybe")).ask([words], TRIANGLE)
+        with pytest.raises(NotAReport):
+            read_answer([words], answer)
+
+
+def test_a_program_that_wants_much_memory(tmp_path) -> None:
+    greedy = script(tmp_path, "exec tail -c 2000000000 /dev/zero")
+    with pytest.raises(ProgramError):
+        Program(greedy, seconds=20, memory_mib=64).ask(["check"], TRIANGLE)
+
+
+def test_a_program_that_is_missing(tmp_path, monkeypatch) -> None:
+    monkeypatch.setenv("PERTXOGAI_SKETCH", str(tmp_path / "nothing"))
+    with pytest.raises(MissingProgram, match="nothing"):
+        Program.find()
+    monkeypatch.setenv("PERTXOGAI_SKETCH", script(tmp_path, "echo mine"))
+    assert Program.find().path == str(tmp_path / "sketch")
+    assert Program.find("/bin/cat").path == "/bin/cat"
+    monkeypatch.delenv("PERTXOGAI_SKETCH")
+    monkeypatch.setattr("pertxogai.program.BUILD", tmp_path / "unbuilt")
+    monkeypatch.setenv("PATH", str(tmp_path))
+    assert Program.find().path == str(tmp_path / "sketch")
+    monkeypatch.setenv("PATH", "/nowhere")
+    with pytest.raises(MissingProgram, match="run ./sketch once"):
+        Program.find()
+    refused(MissingProgram, Program(str(tmp_path / "gone")), "can't be run")
+    monkeypatch.setenv("PERTXOGAI_MEMORY_MIB", "much")
+    with pytest.raises(MissingProgram, match="whole number"):
+        Program.find("/bin/cat")
+
+
+def test_a_call_costs_little(program) -> None:
+    """Within 3 ms of the program's own time, by the least of many calls each."""
+    def least(call) -> float:
+        times = []
+        for _ in range(60):
+            begin = time.perf_counter()
+            call()
+            times.append(time.perf_counter() - begin)
+        return min(times)
+
+    own = least(lambda: subprocess.run([program.path, "check"], input=TRIANGLE.encode(), capture_output=True))
+    assert least(lambda: program.ask(["check"], TRIANGLE)) < own + 0.003
+
+
+LIBRARY = r"""
+#include <stdint.h>
+#include <string.h>
+/* Answers with the command's length and words, then the input, as the program's library hands on a text. */
+int32_t sketch_answer(const uint8_t *command, size_t length, const uint8_t *input, size_t size_in, uint8_t *output,
+                      size_t room, size_t *size) {
+    *size = 0;
+    for (size_t i = 0; i < length + 1 + size_in; i++, ++*size)
+        if (i < room)
+            output[i] = i < length ? (command[i] < 128 ? command[i] : '?') : i == length ? '\n' : input[i - length - 1];
+    return length == 5 ? 0 : length == 7 ? 99 : 2;
+}
+"""
+
+
+@pytest.fixture(scope="module")
+def library(tmp_path_factory) -> str:
+    folder = tmp_path_factory.mktemp("library")
+    (folder / "stand_in.c").write_text(LIBRARY)
+    try:
+        subprocess.run(["cc", "-shared", "-fPIC", "-o", "libsketch.so", "stand_in.c"], cwd=folder, check=True,
+                       capture_output=True)
+    except OSError:
+        pytest.skip("no C compiler makes a stand-in for the library")
+    return str(folder / "libsketch.so")
+
+
+def test_the_library_behind_the_same_call(library: str, monkeypatch) -> None:
+    found = Library.find(library)
+    assert found.ask(["check"], "text\n") == Answer(Status.DONE, "check\ntext\n")
+    assert found.ask(["check"], "x" * 200_000).text == "check\n" + "x" * 200_000
+    assert found.ask(["a b", ""], "") == Answer(Status.USAGE, "? ?\n")
+    with pytest.raises(ProgramCrashed):
+        found.ask(["migrate"], "")
+    monkeypatch.setenv("PERTXOGAI_LIBRARY", library)
+    assert isinstance(quickest(), Library)
+
+
+def test_a_library_that_is_none(monkeypatch, tmp_path) -> None:
+    for path in ("libc.so.6", str(tmp_path / "gone.so")):
+        with pytest.raises(MissingProgram, match="no libsketch"):
+            Library.find(path)
+    monkeypatch.delenv("PERTXOGAI_LIBRARY", raising=False)
+    monkeypatch.setattr("ctypes.util.find_library", lambda name: None)
+    monkeypatch.setenv("PERTXOGAI_SKETCH", script(tmp_path, "echo"))
+    assert isinstance(quickest(), Program)
