@@ -156,7 +156,7 @@ class Axes:
                 continue
             frame = self.frame(line)
             first = self.at(frame.number, upwards_or_none, members[0].knot)
-            for member in members[1:]:
+            for member in members[2 if line in self.facts.implied else 1:]:
                 owners = frozenset({member.owner} if member.owner else set())
                 if member is members[1] or not owners:
                     owners |= self.directions.owners(frame.line, line)

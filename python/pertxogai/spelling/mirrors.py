@@ -1,4 +1,5 @@
-"""Lines that are mirror images to an axis: the angle between them is halved by the axis."""
+"""Directions that follow from places: of lines whose points are level, and of lines that are mirror images to an
+axis, which halves the angle between them."""
 from __future__ import annotations
 
 from dataclasses import replace
@@ -6,9 +7,22 @@ from fractions import Fraction
 from math import atan2, cos
 
 from pertxogai.spelling.axes import Axes, Frame
-from pertxogai.spelling.facts import Facts, Leans, Line
-from pertxogai.spelling.lean import Lean
+from pertxogai.spelling.facts import Facts, Leans, Line, Owner
+from pertxogai.spelling.lean import SQUARE, Lean
 from pertxogai.values import Form
+
+
+def with_implied(axes: Axes) -> Facts | None:
+    """The facts with the first line that follows to run along an axis of the datum; None where none does."""
+    for line in axes.lines.all():
+        run = _run(axes, axes.frames[0], line)
+        if axes.frame(line).number == 0 or run is None:
+            continue
+        for across, lean in zip(run, (SQUARE, Lean())):
+            if axes.system.reduced(across) == Form():
+                leans = Leans(axes.frames[0].line, line, lean, Owner(0))
+                return replace(axes.facts, facts=[*axes.facts.facts, leans], implied=axes.facts.implied | {line})
+    return None
 
 
 def with_halves(axes: Axes) -> Facts | None:
