@@ -10,12 +10,16 @@ from dataclasses import dataclass, replace
 from enum import IntEnum
 from pathlib import Path
 
+from .answers import judge
+from .drawing_sheet import DrawingSheet, NoPlaces
 from .dxf import MissingLibrary, Release, dxf_text, marks_of
-from .inputs import Input, InputRefused, SketchText, read_inputs
+from .found import FileRefusal
+from .inputs import DesignerDrawing, Input, InputRefused, SketchText, kind_of, read_inputs
 from .judged import JudgedSketch, TextRefused, concerned, judge_sketch, sketch_json, what_to_do
 from .picture import Picture, picture_of_drawing, picture_of_parts, picture_of_shape
 from .program import Asks, Program, ProgramError
 from .reports import read_dxf
+from .told import JudgedDrawing, drawing_json, told
 
 EPILOG = """exit status: 0 where all is well and placed, or drawn; 1 where a sketch isn't well, or has no places;
 2 where the words or a file can't be read, or nothing can be written; 3 where the program gave no answer.
@@ -41,7 +45,7 @@ def main(words: Sequence[str] | None = None) -> int:
     act: Callable[[argparse.Namespace], Exit] = options.act
     try:
         return act(options)
-    except (InputRefused, TextRefused, CommandError, MissingLibrary) as error:
+    except (InputRefused, TextRefused, CommandError, MissingLibrary, FileRefusal, NoPlaces) as error:
         return _complain(error, Exit.BAD_INPUT)
     except ProgramError as error:
         return _complain(error, Exit.NO_ANSWER)
@@ -64,6 +68,8 @@ def _parser() -> argparse.ArgumentParser:
     commands = parser.add_subparsers(dest="command", required=True, metavar="COMMAND")
     judge = _command(commands, "judge", "tells the verdict, and what fails by your own names", _judge)
     judge.add_argument("--json", action="store_true", help="print one object of JSON")
+    judge.add_argument("--write", type=Path, metavar="OUT",
+                       help="copy a .FCStd or .slvs to OUT, with its sketches where they are placed")
     draw = _command(commands, "draw", "draws a sketch as SVG or DXF", _draw)
     draw.add_argument("-o", "--output", type=Path, required=True, metavar="OUT", help="OUT.svg or OUT.dxf")
     draw.add_argument("--as-drawn", action="store_true", help="as it is drawn, and not as it is placed")
@@ -77,7 +83,9 @@ def _command(commands: argparse._SubParsersAction[argparse.ArgumentParser], name
              act: Callable[[argparse.Namespace], Exit]) -> argparse.ArgumentParser:
     parser = commands.add_parser(name, help=what, description=what, epilog=EPILOG,
                                  formatter_class=argparse.RawDescriptionHelpFormatter)
-    parser.add_argument("file", type=Path, metavar="FILE", help="a sketch: .sketch, .drawing, .FCStd, .slvs")
+    parser.add_argument("file", type=Path, metavar="FILE", help="a sketch: .sketch, .drawing, .FCStd, .slvs, .dxf")
+    parser.add_argument("--freeze", action="store_true",
+                        help="take lengths and radii that nothing tells as they are drawn")
     parser.add_argument("--program", metavar="PATH", help="the program `sketch`")
     parser.add_argument("--seconds", type=float, default=60.0, help="how long a call may take (default: %(default)g)")
     parser.set_defaults(act=act)
@@ -93,19 +101,43 @@ def _program(options: argparse.Namespace) -> Asks:
 def _judge(options: argparse.Namespace) -> Exit:
     found = read_inputs(options.file)
     program = _program(options)
-    judged = [_judged(it, program) for it in found]
+    judged = [_judged(it, program, options.freeze) for it in found]
+    if options.write is not None:
+        _write_placed(options.file, options.write, found, judged)
     if options.json:
-        print(json.dumps({"file": str(options.file), "sketches": [sketch_json(it) for it in judged]}, indent=2))
+        print(json.dumps({"file": str(options.file), "sketches": [_json(it) for it in judged]}, indent=2))
     else:
         for it in judged:
-            print("\n".join(_told(it)))
+            print("\n".join(_told(it) if isinstance(it, JudgedSketch) else told(it)))
     return Exit.WELL if all(it.is_placed() for it in judged) else Exit.NOT_WELL
 
 
-def _judged(found: Input, program: Asks) -> JudgedSketch:
+def _judged(found: Input, program: Asks, freeze: bool) -> JudgedSketch | JudgedDrawing:
     if isinstance(found, SketchText):
         return judge_sketch(found.name, found.text, program)
-    raise CommandError(f"{found.name}: drawings aren't judged yet")
+    return _judged_drawing(found, program, freeze)
+
+
+def _judged_drawing(found: DesignerDrawing, program: Asks, freeze: bool) -> JudgedDrawing:
+    return JudgedDrawing(found.name, found.drawing, judge(found.drawing, program, freeze), found.left_out)
+
+
+def _json(judged: JudgedSketch | JudgedDrawing) -> dict[str, object]:
+    return sketch_json(judged) if isinstance(judged, JudgedSketch) else drawing_json(judged)
+
+
+def _write_placed(path: Path, out: Path, found: Sequence[Input],
+                  judged: Sequence[JudgedSketch | JudgedDrawing]) -> None:
+    """Copies a file with its sketches where they are placed. Raises CommandError and FileRefusal."""
+    kind = kind_of(path)
+    if kind is None or kind.write is None:
+        raise CommandError(f"{path}: only .FCStd and .slvs are written back")
+    solutions = {each.key: it.judgement.solution for each, it in zip(found, judged)
+                 if isinstance(each, DesignerDrawing) and isinstance(it, JudgedDrawing)
+                 and it.judgement.solution is not None}
+    if not solutions:
+        raise CommandError(f"{path}: no sketch of it has places, so {out} isn't written: see ./pertxogai judge")
+    kind.write(path, out, solutions)
 
 
 def _told(judged: JudgedSketch) -> Iterator[str]:
@@ -175,11 +207,11 @@ class _SketchSheet:
         return dxf_text(marks_of(read_dxf(self.program.ask(["dxf"], self.text).text)), release)
 
 
-def _sheet(found: Input, options: argparse.Namespace) -> _SketchSheet:
+def _sheet(found: Input, options: argparse.Namespace) -> _SketchSheet | DrawingSheet:
     program = _program(options)
     if isinstance(found, SketchText):
         return _SketchSheet(judge_sketch(found.name, found.text, program), found.text, program, options.as_drawn)
-    raise CommandError(f"{found.name}: drawings aren't drawn yet")
+    return DrawingSheet(_judged_drawing(found, program, options.freeze), options.as_drawn)
 
 
 def _write(path: Path, text: str) -> None:

@@ -1,12 +1,13 @@
 """The files that the commands read, by the ending of their names."""
 from __future__ import annotations
 
-from collections.abc import Callable
+from collections.abc import Callable, Mapping
 from dataclasses import dataclass
 from pathlib import Path
 
 from .drawing import Drawing, DrawingRefusal, read_drawing
 from .found import FileRefusal, FoundSketch
+from .measure import Solution
 
 MOST_BYTES = 64 << 20
 
@@ -25,11 +26,12 @@ class SketchText:
 
 @dataclass(frozen=True)
 class DesignerDrawing:
-    """A designer's drawing, and what of the file couldn't be said in it."""
+    """A designer's drawing, what of the file couldn't be said in it, and the file's own name of it."""
 
     name: str
     drawing: Drawing
     left_out: tuple[str, ...] = ()
+    key: str = ""
 
 
 Input = SketchText | DesignerDrawing
@@ -37,16 +39,22 @@ Input = SketchText | DesignerDrawing
 
 @dataclass(frozen=True)
 class Kind:
-    """A kind of file: the ending of its name, what it is, and what reads it."""
+    """A kind of file: the ending of its name, what it is, what reads it, and what copies it with placed sketches."""
 
     suffix: str
     what: str
     read: Callable[[Path], tuple[Input, ...]]
+    write: Callable[[Path, Path, Mapping[str, Solution]], None] | None = None
+
+
+def kind_of(path: Path) -> Kind | None:
+    """What kind of file it is by its name; None where it isn't known."""
+    return next((it for it in KINDS if it.suffix.lower() == path.suffix.lower()), None)
 
 
 def read_inputs(path: Path) -> tuple[Input, ...]:
     """The sketches of a file. Raises InputRefused."""
-    kind = next((it for it in KINDS if it.suffix.lower() == path.suffix.lower()), None)
+    kind = kind_of(path)
     if kind is None:
         known = ", ".join(f"{it.suffix} ({it.what})" for it in KINDS)
         raise InputRefused(f"{path}: the ending {path.suffix or 'of its name'} isn't known: rename it to one of {known}")
@@ -93,13 +101,25 @@ def _read_outline(path: Path) -> tuple[Input, ...]:
 
 
 def _found(found: FoundSketch) -> DesignerDrawing:
-    return DesignerDrawing(found.label or found.name, found.drawing, tuple(map(str, found.left_out)))
+    return DesignerDrawing(found.label or found.name, found.drawing, tuple(map(str, found.left_out)), found.name)
+
+
+def _write_freecad(path: Path, out: Path, solutions: Mapping[str, Solution]) -> None:
+    from .freecad import write_freecad
+
+    write_freecad(path, out, solutions)
+
+
+def _write_solvespace(path: Path, out: Path, solutions: Mapping[str, Solution]) -> None:
+    from .solvespace import write_solvespace
+
+    write_solvespace(path, out, solutions)
 
 
 KINDS = (
     Kind(".sketch", "the sketch language", _read_sketch),
     Kind(".drawing", "a designer's drawing", _read_drawing),
-    Kind(".FCStd", "FreeCAD", _read_freecad),
-    Kind(".slvs", "SolveSpace", _read_solvespace),
+    Kind(".FCStd", "FreeCAD", _read_freecad, _write_freecad),
+    Kind(".slvs", "SolveSpace", _read_solvespace, _write_solvespace),
     Kind(".dxf", "a DXF drawing", _read_outline),
 )

@@ -1,0 +1,173 @@
+"""What is told of a judged drawing: lines to read, and one object for JSON."""
+
+from __future__ import annotations
+
+from collections.abc import Iterator
+from dataclasses import dataclass
+
+from pertxogai.answers import Judgement, Surplus
+from pertxogai.drawing import Circle, Drawing, PointRef
+from pertxogai.drawing.geometry import Arc
+from pertxogai.measure import Deviation, Solution, Unit, greatest
+from pertxogai.reports import Part, Solved
+from pertxogai.upright import upright
+
+
+@dataclass(frozen=True)
+class JudgedDrawing:
+    """A drawing, the judgement on it, and what of its file the drawing can't say."""
+
+    name: str
+    drawing: Drawing
+    judgement: Judgement
+    not_drawn: tuple[str, ...] = ()
+
+    def is_placed(self) -> bool:
+        """Whether it is well and has places, and all of the file was judged."""
+        return self.judgement.solution is not None
+
+    def left_out(self) -> tuple[str, ...]:
+        """What the file has and the drawing can't say, and what of the drawing can't be spelled."""
+        return self.not_drawn + self.judgement.left_out
+
+    def worst(self) -> tuple[Deviation, ...]:
+        """The greatest deviation in nm and that in ppb, where something was measured so."""
+        found = (greatest(self.judgement.deviations, unit) for unit in Unit)
+        return tuple(each for each in found if each is not None)
+
+
+def drawing_json(judged: JudgedDrawing) -> dict[str, object]:
+    """All of it as one object for JSON. Places are nm in the datum's frame, whole where they
+    were printed in it."""
+    judgement = judged.judgement
+    solved = judgement.asked.solved if judgement.solution is not None else None
+    placed = isinstance(solved, Solved)
+    return {
+        "name": judged.name,
+        "verdict": judgement.verdict.value,
+        "parts": [_part(judgement, part) for part in judgement.asked.check.parts],
+        "spelled": judgement.style.value,
+        "exact": not judgement.frozen,
+        "left_out": list(judged.left_out()),
+        "frozen": list(judgement.frozen),
+        "spare": [_spare(each) for each in judgement.surplus],
+        "places": _places(judged.drawing, judgement.solution) if judgement.solution else None,
+        "length_tolerance_nm": solved.length_tolerance_nm if isinstance(solved, Solved) else None,
+        "angle_tolerance_ppb": solved.angle_tolerance_ppb if isinstance(solved, Solved) else None,
+        "fault": _fault(judgement) if not placed else None,
+        "deviations": [_deviation(each, judged.drawing) for each in judged.worst()],
+    }
+
+
+def told(judged: JudgedDrawing) -> Iterator[str]:
+    """What was judged, in lines to read; the first tells the verdict."""
+    judgement = judged.judgement
+    check = judgement.asked.check
+    yield (f"{judged.name}: {judgement.verdict.value}, spelled {judgement.style.value}, elements "
+           f"{check.elements}, constraints {check.constraints}, parts {len(check.parts)}")
+    yield from (f"  left out: {what}" for what in judged.left_out())
+    yield from (f"  taken as drawn, and measured: {what}" for what in judgement.frozen)
+    yield from _placed_lines(judged)
+    yield from _failure_lines(judgement)
+    yield from _missing_lines(judgement)
+    yield from _surplus_lines(judgement)
+    yield from (f"  look: {warning.text()}" for warning in judgement.warnings)
+
+
+def _placed_lines(judged: JudgedDrawing) -> Iterator[str]:
+    """Within what it is placed, and what is off most."""
+    solved = judged.judgement.asked.solved
+    if judged.judgement.solution is None or not isinstance(solved, Solved):
+        return
+    yield (f"  placed within {solved.length_tolerance_nm} nm and "
+           f"{solved.angle_tolerance_ppb} ppb")
+    off = [each for each in judged.worst() if each.amount]
+    for each in off:
+        yield (f"  measured: at most {each.amount} {each.unit.value} off, "
+               f"{each.called(judged.drawing)}")
+    if not off:
+        yield "  measured: each constraint holds exactly"
+
+
+def _failure_lines(judgement: Judgement) -> Iterator[str]:
+    """The program's fault with the designer's names."""
+    failure = judgement.failure
+    if failure is None:
+        return
+    yield f"  no places: {failure.text.strip()}"
+    if failure.at:
+        yield f"    where {', '.join(failure.at)} meet"
+    if failure.dimensions:
+        yield f"  what to do: look at {', '.join(failure.dimensions)}"
+
+
+def _missing_lines(judgement: Judgement) -> Iterator[str]:
+    """What an open drawing lacks."""
+    lacks = judgement.missing
+    if lacks is None:
+        return
+    if lacks.count:
+        yield f"  lacks {lacks.count} dimension{'s' if lacks.count > 1 else ''} at least"
+    for piece in lacks.pieces:
+        yield f"  piece {piece.number}: {' '.join(piece.elements)}"
+    for joint in lacks.joints:
+        shared = f" share {' '.join(joint.shared)};" if joint.shared else ""
+        yield (f"  what to do: pieces {joint.first.number} and {joint.second.number}{shared} "
+               f"{joint.tie.value}")
+
+
+def _surplus_lines(judgement: Judgement) -> Iterator[str]:
+    """What may go."""
+    if judgement.surplus:
+        yield "  what to do: take one of these away, and ask again"
+    for each in judgement.surplus:
+        off = each.off
+        told_off = "" if off is None else f": off by {off.amount} {off.unit.value} without it"
+        yield f"    {each.name}{told_off}"
+
+
+def _part(judgement: Judgement, part: Part) -> dict[str, object]:
+    """A part by the points and segments that the designer drew."""
+    return {"number": part.number, "over": part.over,
+            "elements": list(judgement.names.elements(part.elements)),
+            "held": part.held, "due": part.due}
+
+
+def _spare(each: Surplus) -> dict[str, object]:
+    """A dimension that may go."""
+    return {"number": each.number, "name": each.name, "repeats": each.repeats(),
+            "off": each.off.amount if each.off is not None else None,
+            "unit": each.off.unit.value if each.off is not None else None}
+
+
+def _places(drawing: Drawing, solution: Solution) -> dict[str, object]:
+    """The placed points of each shape, and the radii of its rims."""
+    level = upright(solution)
+    places: dict[str, dict[str, object]] = {}
+    for ref in drawing.points():
+        if ref in level.points:
+            places.setdefault(ref.shape, {})[ref.which.value] = _nm(level, ref)
+    for shape in drawing.geometry:
+        if isinstance(shape, (Circle, Arc)) and shape.name in level.radii:
+            places.setdefault(shape.name, {})["radius_nm"] = round(level.radii[shape.name])
+    return dict(places)
+
+
+def _nm(solution: Solution, ref: PointRef) -> dict[str, int]:
+    """A place in whole nm."""
+    x, y = solution.points[ref]
+    return {"x_nm": round(x), "y_nm": round(y)}
+
+
+def _fault(judgement: Judgement) -> dict[str, object] | None:
+    """The program's fault, whole, and what it is about."""
+    failure = judgement.failure
+    if failure is None:
+        return None
+    return {"text": failure.text.strip(), "constraints": list(failure.dimensions),
+            "at": list(failure.at)}
+
+
+def _deviation(each: Deviation, drawing: Drawing) -> dict[str, object]:
+    """How far something is off."""
+    return {"amount": each.amount, "unit": each.unit.value, "of": each.called(drawing)}
