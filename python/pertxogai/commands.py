@@ -5,20 +5,21 @@ import argparse
 import json
 import os
 import sys
-from collections.abc import Callable, Iterator, Sequence
-from dataclasses import dataclass, replace
+from collections.abc import Callable, Sequence
+from dataclasses import replace
 from enum import IntEnum
 from pathlib import Path
 
 from .answers import judge
 from .drawing_sheet import DrawingSheet, NoPlaces
-from .dxf import MissingLibrary, Release, dxf_text, marks_of
+from .dxf import MissingLibrary, Release
 from .found import FileRefusal
 from .inputs import DesignerDrawing, Input, InputRefused, SketchText, kind_of, read_inputs
-from .judged import JudgedSketch, TextRefused, concerned, judge_sketch, sketch_json, what_to_do
-from .picture import Picture, picture_of_drawing, picture_of_parts, picture_of_shape
+from .judged import JudgedSketch, TextRefused, judge_sketch
 from .program import Asks, Program, ProgramError
-from .reports import read_dxf
+from .saving import saving
+from .sketch_sheet import SketchSheet
+from .sketch_told import sketch_json, sketch_told
 from .told import JudgedDrawing, drawing_json, told
 
 EPILOG = """exit status: 0 where all is well and placed, or drawn; 1 where a sketch isn't well, or has no places;
@@ -108,7 +109,7 @@ def _judge(options: argparse.Namespace) -> Exit:
         print(json.dumps({"file": str(options.file), "sketches": [_json(it) for it in judged]}, indent=2))
     else:
         for it in judged:
-            print("\n".join(_told(it) if isinstance(it, JudgedSketch) else told(it)))
+            print("\n".join(sketch_told(it) if isinstance(it, JudgedSketch) else told(it)))
     return Exit.WELL if all(it.is_placed() for it in judged) else Exit.NOT_WELL
 
 
@@ -140,27 +141,6 @@ def _write_placed(path: Path, out: Path, found: Sequence[Input],
     kind.write(path, out, solutions)
 
 
-def _told(judged: JudgedSketch) -> Iterator[str]:
-    """What was judged, in lines to read."""
-    check = judged.check
-    yield (f"{judged.name}: {check.verdict.value}, elements {check.elements}, constraints {check.constraints}, parts"
-           f" {len(check.parts)}")
-    if judged.solved:
-        yield (f"  placed within {judged.solved.length_tolerance_nm} nm and {judged.solved.angle_tolerance_ppb} ppb")
-        yield from (f"  {placed.text()}" for placed in judged.solved.places)
-    if judged.fault:
-        yield f"  {judged.fault.text().strip()}"
-        yield from (f"    of {constraint.text()}" for constraint in concerned(judged))
-        yield f"  what to do: {what_to_do(judged.fault)}"
-    if judged.parts:
-        yield from (f"  {part.text().strip()}" for part in check.parts)
-    if judged.spare:
-        yield "  what to do: take one of these away, and ask again"
-        yield from (f"    {it.text()}" for it in judged.spare)
-    elif judged.parts:
-        yield "  what to do: tie the parts by a dimension between elements of two of them"
-
-
 def _draw(options: argparse.Namespace) -> Exit:
     suffix = options.output.suffix.lower()
     if suffix not in (".svg", ".dxf"):
@@ -168,7 +148,8 @@ def _draw(options: argparse.Namespace) -> Exit:
     found = _chosen(read_inputs(options.file), options.sketch)
     sheet = _sheet(found, options)
     text = sheet.picture().svg if suffix == ".svg" else sheet.dxf(Release(options.release))
-    _write(options.output, text)
+    with saving(options.output, options.file) as file:
+        file.write(text.encode("utf-8"))
     return Exit.WELL
 
 
@@ -181,45 +162,8 @@ def _chosen(found: Sequence[Input], name: str | None) -> Input:
     return chosen[0]
 
 
-@dataclass(frozen=True)
-class _SketchSheet:
-    """A text of the language, to be drawn."""
-
-    judged: JudgedSketch
-    text: str
-    program: Asks
-    as_drawn: bool
-
-    def picture(self) -> Picture:
-        """As placed, or part by part where it isn't well or has no places."""
-        judged = self.judged
-        if self.as_drawn or judged.fault:
-            return picture_of_drawing(judged.sketch, judged.name)
-        if judged.solved:
-            return picture_of_shape(judged.sketch, judged.solved, judged.name)
-        assert judged.parts is not None
-        return picture_of_parts(judged.sketch, judged.parts, judged.spare, judged.name)
-
-    def dxf(self, release: Release) -> str:
-        """The program's own lines with their ends. Raises CommandError where there are no places."""
-        if not self.judged.solved:
-            raise CommandError(f"{self.judged.name} has no places, so no DXF is written: see ./pertxogai judge")
-        return dxf_text(marks_of(read_dxf(self.program.ask(["dxf"], self.text).text)), release)
-
-
-def _sheet(found: Input, options: argparse.Namespace) -> _SketchSheet | DrawingSheet:
+def _sheet(found: Input, options: argparse.Namespace) -> SketchSheet | DrawingSheet:
     program = _program(options)
     if isinstance(found, SketchText):
-        return _SketchSheet(judge_sketch(found.name, found.text, program), found.text, program, options.as_drawn)
+        return SketchSheet(judge_sketch(found.name, found.text, program), program, options.as_drawn)
     return DrawingSheet(_judged_drawing(found, program, options.freeze), options.as_drawn)
-
-
-def _write(path: Path, text: str) -> None:
-    """Writes a file whole or not at all. Raises CommandError."""
-    part = path.with_name(f".{path.name}.{os.getpid()}")
-    try:
-        part.write_text(text, encoding="utf-8")
-        part.replace(path)
-    except OSError as error:
-        part.unlink(missing_ok=True)
-        raise CommandError(f"{path}: can't be written: {error.strerror or error}") from None

@@ -1,16 +1,14 @@
-"""What was judged of a sketch, for the command line: the program's answers with the user's own names."""
+"""A sketch and all that the program answers to it: one call for people who script CAD."""
 from __future__ import annotations
 
-from collections.abc import Sequence
 from dataclasses import dataclass
 
-from .language import Constraint, Placed, PlacedCircle, PlacedLine, Refusal, Sketch
-from .language.clusters import ClusterName
+from .language import ClusterName, Constraint, Refusal, Sketch
+from .picture import Picture, picture_of_drawing, picture_of_parts, picture_of_shape
 from .program import Answer, Asks, Status
-from .reports import (CheckReport, ConstraintFault, Fault, LineFault, NumberFault, Part, PartsReport, Plan, RangeFault,
+from .reports import (Cause, CheckReport, ConstraintFault, Fault, NotAReport, NumberFault, PartsReport, Plan, RangeFault,
                       Refused, Solved, Spare, TurnedFault, Verdict, read_answer, read_check, read_fault, read_parts,
                       read_plan, read_refusal, read_solve, read_spare)
-from .reports.rows import NotAReport
 
 
 class TextRefused(Exception):
@@ -42,9 +40,21 @@ class JudgedSketch:
         """Whether it is well, and has places within the limit."""
         return self.solved is not None
 
+    def picture(self, as_drawn: bool = False) -> Picture:
+        """As it is placed; part by part where it isn't well; and as it is drawn where it has no places."""
+        if self.solved and not as_drawn:
+            return picture_of_shape(self.sketch, self.solved, self.name)
+        if self.parts and not as_drawn:
+            return picture_of_parts(self.sketch, self.parts, self.spare, self.name)
+        return picture_of_drawing(self.sketch, self.name)
 
-def judge_sketch(name: str, text: str, asks: Asks) -> JudgedSketch:
-    """Asks the program what there is to say of a text. Raises TextRefused and ProgramError."""
+    def _repr_svg_(self) -> str:
+        return self.picture().svg
+
+
+def judge_sketch(name: str, given: Sketch | str, asks: Asks) -> JudgedSketch:
+    """Asks the program what there is to say of a sketch, or of a text. Raises TextRefused and ProgramError."""
+    text = given if isinstance(given, str) else given.text()
     check = read_check(_done(asks.ask(["check"], text), text).text)
     try:
         sketch = Sketch.parse(text)
@@ -97,58 +107,10 @@ def _joined(plan: Plan | None, step: int) -> tuple[Constraint, ...]:
 
 def what_to_do(fault: Fault) -> str:
     """What helps against a fault, in a sentence."""
+    if isinstance(fault, NumberFault) and fault.cause is Cause.GAP:
+        return "no shape has these dimensions: change a length of them"
     if isinstance(fault, NumberFault):
-        if fault.low > 0 or fault.high < 0:
-            return "no shape has these dimensions: change a length of them"
         return "two places can't be told apart, or lines are parallel: change a length, or dimension it otherwise"
     if isinstance(fault, RangeFault):
         return "the proportions are beyond the grid: look for a slip in the lengths"
     return "take a finer grid (bits=38) or a greater within="
-
-
-def places_json(places: Sequence[Placed]) -> dict[str, object]:
-    """Places by the names of elements, in nm and parts per 10^9."""
-    return {it.name: _place_json(it) for it in places}
-
-
-def _place_json(placed: Placed) -> dict[str, object]:
-    if isinstance(placed, PlacedLine):
-        return {"a_ppb": placed.a_ppb, "b_ppb": placed.b_ppb, "c_nm": placed.c_nm}
-    place: dict[str, object] = {"x_nm": placed.x_nm, "y_nm": placed.y_nm}
-    if isinstance(placed, PlacedCircle):
-        place["radius_nm"] = placed.radius_nm
-    return place
-
-
-def part_json(part: Part) -> dict[str, object]:
-    """A part of the report."""
-    return {"number": part.number, "over": part.over, "elements": list(part.elements), "held": part.held,
-            "due": part.due}
-
-
-def fault_json(judged: JudgedSketch) -> dict[str, object] | None:
-    """The fault: the program's line, the constraints that it concerns, and what to do."""
-    fault = judged.fault
-    if fault is None:
-        return None
-    line = fault.name if isinstance(fault, LineFault) else None
-    return {"text": fault.text().strip(), "constraints": [it.text() for it in concerned(judged)], "line": line,
-            "what_to_do": what_to_do(fault)}
-
-
-def sketch_json(judged: JudgedSketch) -> dict[str, object]:
-    """All of it as one object for JSON. A sketch is spelled as it is written, and leaves nothing out."""
-    solved, parts = judged.solved, [part_json(part) for part in judged.check.parts]
-    for entry, placed in zip(parts, judged.parts.parts if judged.parts else ()):
-        shape = placed.shape
-        entry["places"] = places_json(shape.places) if isinstance(shape, Solved) else None
-        entry["fault"] = shape.text().strip() if shape and not isinstance(shape, Solved) else None
-    return {
-        "name": judged.name, "verdict": judged.check.verdict.value, "parts": parts, "spelled": "as written",
-        "exact": True, "left_out": [], "frozen": [],
-        "spare": [{"number": it.number, "constraint": it.constraint.text()} for it in judged.spare],
-        "places": places_json(solved.places) if solved else None,
-        "length_tolerance_nm": solved.length_tolerance_nm if solved else None,
-        "angle_tolerance_ppb": solved.angle_tolerance_ppb if solved else None,
-        "fault": fault_json(judged), "deviations": [],
-    }

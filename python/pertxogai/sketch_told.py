@@ -1,0 +1,94 @@
+"""What is told of a judged sketch: lines to read, and one object for JSON."""
+from __future__ import annotations
+
+from collections.abc import Iterator, Sequence
+
+from .judged import JudgedSketch, concerned, what_to_do
+from .language import Placed, PlacedCircle, PlacedLine
+from .reports import AtConstraint, LineFault, Part, Solved
+
+
+def sketch_told(judged: JudgedSketch) -> Iterator[str]:
+    """What was judged, in lines to read; the first tells the verdict."""
+    check = judged.check
+    yield (f"{judged.name}: {check.verdict.value}, elements {check.elements}, constraints {check.constraints}, parts"
+           f" {len(check.parts)}")
+    if judged.solved:
+        yield f"  placed within {judged.solved.length_tolerance_nm} nm and {judged.solved.angle_tolerance_ppb} ppb"
+        yield from (f"  {placed.text()}" for placed in judged.solved.places)
+    if judged.fault:
+        yield f"  {judged.fault.text().strip()}"
+        yield from (f"    of {constraint.text()}" for constraint in concerned(judged))
+        yield f"  what to do: {what_to_do(judged.fault)}"
+    if judged.parts:
+        yield from (f"  {part.text().strip()}" for part in check.parts)
+    if judged.spare:
+        yield "  what to do: take one of these away, and ask again"
+        yield from (f"    {it.text()}" for it in judged.spare)
+    elif judged.parts:
+        yield "  what to do: tie the parts by a dimension between elements of two of them"
+
+
+def sketch_json(judged: JudgedSketch) -> dict[str, object]:
+    """All of it as one object for JSON. A sketch is spelled as it is written, and leaves nothing out."""
+    solved = judged.solved
+    return {
+        "name": judged.name, "verdict": judged.check.verdict.value, "parts": _parts(judged), "spelled": "as written",
+        "exact": True, "left_out": [], "frozen": [],
+        "spare": [{"number": it.number, "name": it.constraint.text()} for it in judged.spare],
+        "places": _places(solved.places) if solved else None,
+        "length_tolerance_nm": solved.length_tolerance_nm if solved else None,
+        "angle_tolerance_ppb": solved.angle_tolerance_ppb if solved else None,
+        "fault": _fault(judged), "deviations": list(_deviations(judged)),
+    }
+
+
+def _parts(judged: JudgedSketch) -> list[dict[str, object]]:
+    """The parts, and where they were placed one by one, where each lies in a frame of its own."""
+    parts = [_part(part) for part in judged.check.parts]
+    for entry, placed in zip(parts, judged.parts.parts if judged.parts else ()):
+        shape = placed.shape
+        entry["places"] = _places(shape.places) if isinstance(shape, Solved) else None
+        entry["fault"] = shape.text().strip() if shape and not isinstance(shape, Solved) else None
+    return parts
+
+
+def _part(part: Part) -> dict[str, object]:
+    return {"number": part.number, "over": part.over, "elements": list(part.elements), "held": part.held,
+            "due": part.due}
+
+
+def _places(places: Sequence[Placed]) -> dict[str, object]:
+    """Places by the names of elements, in nm and parts per 10^9."""
+    return {it.name: _place(it) for it in places}
+
+
+def _place(placed: Placed) -> dict[str, object]:
+    if isinstance(placed, PlacedLine):
+        return {"a_ppb": placed.a_ppb, "b_ppb": placed.b_ppb, "c_nm": placed.c_nm}
+    place: dict[str, object] = {"x_nm": placed.x_nm, "y_nm": placed.y_nm}
+    if isinstance(placed, PlacedCircle):
+        place["radius_nm"] = placed.radius_nm
+    return place
+
+
+def _fault(judged: JudgedSketch) -> dict[str, object] | None:
+    """The fault: the program's line, the constraints and lines that it concerns, and what to do."""
+    fault = judged.fault
+    if fault is None:
+        return None
+    at = [fault.name] if isinstance(fault, LineFault) else []
+    return {"text": fault.text().strip(), "constraints": [it.text() for it in concerned(judged)], "at": at,
+            "what_to_do": what_to_do(fault)}
+
+
+def _deviations(judged: JudgedSketch) -> Iterator[dict[str, object]]:
+    """What is off most, in nm and in ppb: the tolerances, each with what needs it."""
+    if judged.solved is None:
+        return
+    for amount, unit, at in ((judged.solved.length_tolerance_nm, "nm", judged.solved.length_at),
+                             (judged.solved.angle_tolerance_ppb, "ppb", judged.solved.angle_at)):
+        if isinstance(at, AtConstraint):
+            yield {"amount": amount, "unit": unit, "of": judged.sketch.constraints[at.number - 1].text()}
+        elif at:
+            yield {"amount": amount, "unit": unit, "of": at.text()}
