@@ -47,7 +47,7 @@ def drawing_json(judged: JudgedDrawing) -> dict[str, object]:
         "verdict": judgement.verdict.value,
         "parts": [_part(judgement, part) for part in judgement.asked.check.parts],
         "spelled": judgement.style.value,
-        "exact": not judgement.frozen,
+        "exact": not (judgement.frozen or judgement.rounded or judged.left_out()),
         "left_out": list(judged.left_out()),
         "frozen": list(judgement.frozen),
         "spare": [_spare(each) for each in judgement.surplus],
