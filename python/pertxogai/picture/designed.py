@@ -11,7 +11,7 @@ from ..drawing import (AngleBetween, Arc, Axis, Circle, Constraint, Degrees, Dia
                        XDistance, YDistance)
 from ..measure import Solution
 from .marks import Bow, Dimension, Dot, Ink, LengthBar, Manner, Mark, Ring, Scene, Spot, Stroke, Tag
-from .plane import between, crossing, foot, unit
+from .plane import between, crossing, foot, sweep, unit
 from .svg import Picture, picture_of
 
 BAR = Ink(Manner.BAR)
@@ -85,14 +85,14 @@ class Whereabouts:
             case Distance(first, second, value):
                 yield LengthBar(self.at(first), self.at(second), mm(value), BAR)
             case XDistance(first, second, value) | YDistance(first, second, value):
-                yield self._run(isinstance(constraint, XDistance), self.at(first), self.at(second), mm(value))
+                yield self._run(isinstance(constraint, XDistance), self.at(first), self.at(second), mm(abs(value)))
             case PointLineDistance(point, line, value):
                 yield LengthBar(self.at(point), foot(self.at(point), *self.ends(line.name)), mm(value), BAR)
             case ParallelDistance(first, second, value):
                 start = between(*self.ends(first.name), 0.5)
                 yield LengthBar(start, foot(start, *self.ends(second.name)), mm(value), BAR)
             case Radius(rim, value) | Diameter(rim, value):
-                yield Tag(*self._rim(rim), f"{'R' if isinstance(constraint, Radius) else 'D'}{mm(value)}", BAR)
+                yield Tag(*self._rim(rim), f"{'R' if isinstance(constraint, Radius) else 'Ø'}{mm(value)}", BAR)
             case AngleBetween():
                 yield self._angle(constraint)
 
@@ -102,7 +102,13 @@ class Whereabouts:
         return LengthBar(start, second, text, BAR)
 
     def _rim(self, rim: ShapeRef) -> tuple[Spot, float]:
-        return self.at(PointRef(rim.name, Which.CENTRE)), self.radius(rim.name)
+        """Where the dimension of a rim stands: around a circle, or at the middle of an arc."""
+        centre, radius = self.at(PointRef(rim.name, Which.CENTRE)), self.radius(rim.name)
+        if isinstance(self.drawing.shape(rim.name), Circle):
+            return centre, radius
+        first, turn = sweep(centre, *self.ends(rim.name))
+        middle = first + turn / 2
+        return (centre[0] + radius * math.cos(middle), centre[1] + radius * math.sin(middle)), 0.0
 
     def _angle(self, angle: AngleBetween) -> Dimension:
         one, two = self.ends(angle.first.name), self.ends(angle.second.name)

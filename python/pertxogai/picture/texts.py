@@ -86,8 +86,9 @@ class Texts:
         sides = [across, (-across[0], -across[1])]
         if inwards > 0:
             sides.reverse()
-        shares = (0.5, 0.4, 0.6, 0.3, 0.7, 0.2, 0.8)
-        return [_beyond(between(start, end, share), side, 2, wide, tall) for share in shares for side in sides]
+        shares = (0.5, 0.4, 0.6, 0.3, 0.7, 0.2, 0.8, 0.12, 0.88)
+        return [_beyond(between(start, end, share), side, far, wide, tall)
+                for far in (2, 11) for share in shares for side in sides]
 
 
 def _box(place: Spot, wide: float, tall: float) -> Box:
