@@ -1,0 +1,48 @@
+"""DXF by ezdxf, read back by ezdxf."""
+from __future__ import annotations
+
+import builtins
+import io
+
+import ezdxf
+import pytest
+
+from pertxogai.dxf import MissingLibrary, Release, dxf_text, marks_of
+from pertxogai.picture import Bow, Dot, Ink, Manner, Ring, Stroke
+from pertxogai.reports import CircleEntity, LineEntity, PointEntity
+
+MARKS = (Dot((1, 2)), Ring((0, 0), 5), Stroke((0, 0), (1.5, 2), "", Ink(Manner.CONSTRUCTION)),
+         Bow((10, 0), (15, 0), (10, 5)))
+
+
+@pytest.mark.parametrize("release, version", [(Release.R12, "AC1009"), (Release.R2010, "AC1024")])
+def test_every_kind_is_read_back(release: Release, version: str) -> None:
+    document = ezdxf.read(io.StringIO(dxf_text(MARKS, release)))
+    assert document.dxfversion == version and not document.audit().errors
+    point, circle, line, arc = document.modelspace()
+    assert tuple(point.dxf.location)[:2] == (1, 2) and point.dxf.layer == "EDGES"
+    assert (tuple(circle.dxf.center)[:2], circle.dxf.radius) == ((0, 0), 5)
+    assert tuple(line.dxf.start)[:2] == (0, 0) and tuple(line.dxf.end)[:2] == (1.5, 2)
+    assert line.dxf.layer == "CONSTRUCTION" and document.layers.get("CONSTRUCTION").dxf.linetype == "DASHED"
+    assert (arc.dxf.radius, arc.dxf.start_angle, arc.dxf.end_angle) == (5, 0, 90)
+
+
+def test_units_are_millimetres() -> None:
+    document = ezdxf.read(io.StringIO(dxf_text(MARKS)))
+    assert document.units == 4 and document.header["$MEASUREMENT"] == 1
+
+
+def test_the_programs_own_entities() -> None:
+    marks = marks_of([PointEntity(1_000_000, -1), LineEntity(0, 0, 5_000_000, 1), CircleEntity(0, 0, 2_500_000)])
+    assert marks == (Dot((1.0, -1e-6)), Stroke((0.0, 0.0), (5.0, 1e-6)), Ring((0.0, 0.0), 2.5))
+
+
+def test_without_ezdxf(monkeypatch) -> None:
+    def refuse(name: str, *rest, real=builtins.__import__):
+        if name.startswith("ezdxf"):
+            raise ImportError(name)
+        return real(name, *rest)
+
+    monkeypatch.setattr(builtins, "__import__", refuse)
+    with pytest.raises(MissingLibrary, match="python3-ezdxf"):
+        dxf_text(MARKS)
