@@ -1,0 +1,51 @@
+"""Opens files in FreeCAD's console and tells how their sketches lie and what FreeCAD says of them.
+
+    freecadcmd python/tests/with_programs/reopened.py
+
+LISTED names a file with a line for each file to open; TOLD the file to write: for each sketch
+`place FILE SKETCH SHAPE POSITION x y`, as stored, then `facts FILE SKETCH CODE fully`, and then
+`solved ..` as `place`, once FreeCAD solved it itself. Lengths are millimetres.
+"""
+
+import os
+
+import FreeCAD
+
+
+def places(sketch):
+    """The places of a sketch's own shapes: FreeCAD's numbers of shape and position, x, y."""
+    for shape in range(len(sketch.Geometry)):
+        for position in (1, 2, 3):
+            try:
+                at = sketch.getPoint(shape, position)
+            except ValueError:
+                continue
+            yield "%d %d %.12f %.12f" % (shape, position, at.x, at.y)
+
+
+def lines(path):
+    """The lines of one file."""
+    document = FreeCAD.openDocument(path)
+    for sketch in document.Objects:
+        if sketch.TypeId == "Sketcher::SketchObject":
+            head = "%s %s" % (os.path.basename(path), sketch.Name)
+            for place in places(sketch):
+                yield "place %s %s" % (head, place)
+            code = sketch.solve()
+            fully = "yes" if sketch.FullyConstrained else "no"
+            yield "facts %s %d %s" % (head, code, fully)
+            for place in places(sketch):
+                yield "solved %s %s" % (head, place)
+    FreeCAD.closeDocument(document.Name)
+
+
+def main():
+    """Tells all that is listed."""
+    with open(os.environ["LISTED"], encoding="utf-8") as listed:
+        paths = [line.strip() for line in listed if line.strip()]
+    with open(os.environ["TOLD"], "w", encoding="utf-8") as told:
+        for path in paths:
+            told.writelines(line + "\n" for line in lines(path))
+
+
+main()
