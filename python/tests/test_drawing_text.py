@@ -319,5 +319,5 @@ def test_a_plate_by_hand():
                       (Length(BOTTOM, um(120)), Horizontal(BOTTOM, "Level")))
     assert write_drawing(drawing) == (
         "drawing 1\nsegment Bottom 0 0 120 0\nlength Bottom 120\nLevel: horizontal Bottom\n")
-    assert drawing.called(1) == "constraint 1"
+    assert drawing.called(1) == "constraint 1 (length Bottom 120)"
     assert drawing.called(2) == "Level"

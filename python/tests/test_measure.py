@@ -271,7 +271,7 @@ def test_greatest_is_told_with_its_name():
     solution = pushed(as_drawn(drawing), "Base.end", 9, 6)
     found = measure(drawing, solution)
     assert greatest(found, Unit.NM).called(drawing) == "Left width"
-    assert greatest(found, Unit.PPB).called(drawing) == "constraint 2"
+    assert greatest(found, Unit.PPB).called(drawing) == "constraint 2 (horizontal Base)"
     assert greatest((), Unit.NM) is None
 
 

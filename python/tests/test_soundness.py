@@ -83,7 +83,7 @@ def test_each_constraint_is_told_by_its_name_or_place():
     wrong = (Length(EDGE, Fraction(0)), Length(EDGE, MM, "Width"), Length(HOLE, MM, "Depth"),
              Length(EDGE, MM, "Width"))
     assert [line.split(":")[0] for line in told(constraints=wrong)] == [
-        "constraint 1", "Depth", "Width"]
+        "constraint 1 (length Edge 0)", "Depth", "Width"]
 
 
 def test_shapes_come_first():

@@ -18,7 +18,8 @@ from pertxogai.drawing.senses import Slope, Touch, Turn, run_um, touch, turn, wa
 from pertxogai.drawing.scene import Scene, points_of, spot_of
 from pertxogai.drawing.sketching import Drawing, Note
 from pertxogai.drawing.soundness import checked, faults
-from pertxogai.drawing.writing import line_of, words_of, write_drawing
+from pertxogai.drawing.wording import line_of, words_of
+from pertxogai.drawing.writing import write_drawing
 
 __all__ = [
     "AngleBetween", "AngleValue", "Arc", "Axis", "Circle", "Coincident", "Collinear",

@@ -12,6 +12,7 @@ from pertxogai.drawing.geometry import Datum, Shape
 from pertxogai.drawing.places import Place
 from pertxogai.drawing.references import Pair, PointRef
 from pertxogai.drawing.scene import Scene, points_of, spot_of
+from pertxogai.drawing.wording import words_of
 
 
 @dataclass(frozen=True)
@@ -55,8 +56,10 @@ class Drawing:
         return self.scene.has(name)
 
     def called(self, number: int) -> str:
-        """What the constraint at place `number`, from 1, is called."""
-        return self.constraints[number - 1].name or f"constraint {number}"
+        """What the constraint at place `number`, from 1, is called: by the name that its owner
+        gave it, else by its place and its words, as `constraint 7 (length Bottom 120)`."""
+        constraint = self.constraints[number - 1]
+        return constraint.name or f"constraint {number} ({words_of(constraint)})"
 
     def drawn(self, ref: PointRef) -> Place:
         """Where a point is drawn."""

@@ -1,0 +1,114 @@
+"""How a shape or a constraint is told in a line of text."""
+
+from __future__ import annotations
+
+from typing import assert_never
+
+from pertxogai.drawing.constraints import (
+    AngleBetween, Coincident, Collinear, Concentric, Constraint, Diameter, Distance, Equal, Fixed,
+    Horizontal, Length, Midpoint, Parallel, ParallelDistance, Perpendicular, PointLineDistance,
+    PointOn, Radius, Sense, Symmetric, Tangent, Vertical, XDistance, YDistance)
+from pertxogai.drawing.geometry import Arc, Circle, Point, Segment, Shape, Spot
+from pertxogai.drawing.numbers import angle_text, mm_text
+from pertxogai.drawing.references import ORIGIN, X_AXIS, PointRef
+
+Valued = Length | Distance | PointLineDistance | ParallelDistance | Radius | Diameter
+"""The constraints whose value stands last and has no sign."""
+
+
+def line_of(item: Shape | Constraint) -> str:
+    """The line of a shape or a constraint, as a designer writes it."""
+    if isinstance(item, Point | Segment | Circle | Arc):
+        return _flags(item) + _shape(item)
+    return (f"{item.name}: " if item.name is not None else "") + words_of(item)
+
+
+def _flags(shape: Shape) -> str:
+    return ("construction " if shape.construction else "") + ("outer " if shape.outer else "")
+
+
+def _shape(shape: Shape) -> str:
+    match shape:
+        case Point():
+            return f"point {shape.name} {_spot(shape.at)}"
+        case Segment():
+            return f"segment {shape.name} {_spot(shape.start)} {_spot(shape.end)}"
+        case Circle():
+            return f"circle {shape.name} {_spot(shape.centre)} {mm_text(shape.radius_um)}"
+        case Arc():
+            spots = (shape.centre, shape.start, shape.end)
+            return " ".join(["arc", shape.name, *(_spot(each) for each in spots)])
+        case _:
+            assert_never(shape)
+
+
+def _spot(spot: Spot) -> str:
+    if isinstance(spot, PointRef):
+        return str(spot)
+    return f"{mm_text(spot.x_um)} {mm_text(spot.y_um)}"
+
+
+def words_of(constraint: Constraint) -> str:
+    """The line of a constraint without its name."""
+    match constraint:
+        case Coincident(first, second):
+            return f"coincident {first} {second}"
+        case PointOn(point, curve):
+            return f"on {point} {curve}"
+        case Horizontal(of):
+            return f"horizontal {of}"
+        case Vertical(of):
+            return f"vertical {of}"
+        case Midpoint(point, segment):
+            return f"midpoint {point} {segment}"
+        case Symmetric(first, second, about):
+            return f"symmetric {first} {second} about {about}"
+        case Fixed(what):
+            return f"fixed {what}"
+        case Tangent() | Perpendicular():
+            return _touching(constraint)
+        case AngleBetween():
+            return _angle(constraint)
+        case XDistance() | YDistance():
+            return _run(constraint)
+        case Parallel() | Collinear() | Equal() | Concentric():
+            return f"{_word(constraint)} {constraint.first} {constraint.second}"
+        case _:
+            return _valued(constraint)
+
+
+def _word(constraint: Constraint) -> str:
+    return type(constraint).__name__.lower()
+
+
+def _touching(constraint: Tangent | Perpendicular) -> str:
+    of = constraint.at or f"{constraint.first} {constraint.second}"
+    return f"{_word(constraint)} {of}"
+
+
+def _angle(angle: AngleBetween) -> str:
+    lines = f"{angle.second}" if angle.first == X_AXIS else f"{angle.first} {angle.second}"
+    return f"angle {lines} {angle_text(angle.value, angle.sense is Sense.SIGNED)}"
+
+
+def _run(run: XDistance | YDistance) -> str:
+    points = f"{run.second}" if run.first == ORIGIN else f"{run.first} {run.second}"
+    plus = "+" if run.sense is Sense.SIGNED and run.value_um >= 0 else ""
+    return f"{'x' if isinstance(run, XDistance) else 'y'} {points} {plus}{mm_text(run.value_um)}"
+
+
+def _valued(constraint: Valued) -> str:
+    value = mm_text(constraint.value_um)
+    match constraint:
+        case Length(segment):
+            return f"length {segment} {value}"
+        case Distance(first, second):
+            return f"distance {first} {second} {value}"
+        case PointLineDistance(point, line):
+            return f"distance {point} {line} {value}"
+        case ParallelDistance(line, parallel):
+            return f"distance {line} {parallel} {value}"
+        case Radius(rim) | Diameter(rim):
+            return f"{_word(constraint)} {rim} {value}"
+        case _:
+            assert_never(constraint)
