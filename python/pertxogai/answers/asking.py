@@ -12,7 +12,7 @@ from pertxogai.answers.growing import grown
 from pertxogai.drawing import Drawing
 from pertxogai.program import Asks, Status
 from pertxogai.reports import CheckReport, Fault, Solved, Verdict, read_check, read_fault, read_parts, read_solve
-from pertxogai.spelling import Axes, Care, Rails, Spelled, Style, axes_of, written
+from pertxogai.spelling import READINGS, Axes, Care, Rails, Spelled, Style, axes_of, written
 from pertxogai.spelling.axes import Equation
 from pertxogai.spelling.facts import Owner
 
@@ -47,9 +47,28 @@ class Asked:
 
 
 def ask_styles(drawing: Drawing, program: Asks, freeze: bool) -> Asked:
-    """The first style that is well and placed; else one that is well; else one that is over; else the one with the
-    fewest parts. With `freeze`, what is open is asked again with lengths and radii as they are drawn."""
-    axes = axes_of(drawing)
+    """The first reading and style that is well and placed; else one that is well; else one that is over; else the one
+    with the fewest parts. With `freeze`, what is open is asked again with lengths and radii as they are drawn."""
+    best: Asked | None = None
+    seen: list[tuple[Equation, ...]] = []
+    for reading in READINGS:
+        axes = axes_of(drawing, reading)
+        if tuple(axes.equations) in seen:
+            continue
+        seen.append(tuple(axes.equations))
+        asked = _best_style(axes, program)
+        if isinstance(asked.solved, Solved):
+            return asked
+        if best is None or _worth(asked) > _worth(best):
+            best = asked
+    assert best is not None
+    if freeze and best.check.verdict is Verdict.OPEN:
+        return _frozen(best, program)
+    return best
+
+
+def _best_style(axes: Axes, program: Asks) -> Asked:
+    """The first style that is placed, else the best; what is linear and told twice is told so to the program."""
     best: Asked | None = None
     for style in ONE_BY_ONE if axes.told else SOLVED_FIRST:
         asked = _placed(ask(axes, style, program), program)
@@ -59,11 +78,7 @@ def ask_styles(drawing: Drawing, program: Asks, freeze: bool) -> Asked:
             return asked
         if best is None or _worth(asked) > _worth(best):
             best = asked
-    if best is None:
-        best = _placed(ask(axes, Style.VALUES, program, Care(insist=True)), program)
-    if freeze and best.check.verdict is Verdict.OPEN:
-        return _frozen(best, program)
-    return best
+    return best or _placed(ask(axes, Style.VALUES, program, Care(insist=True)), program)
 
 
 def finer(asked: Asked, program: Asks) -> Asked:

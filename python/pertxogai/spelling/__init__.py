@@ -1,6 +1,8 @@
 """How a designer's words are spelled in the language: once for each style, with the owner of each line."""
 from __future__ import annotations
 
+from dataclasses import dataclass
+
 from pertxogai.drawing import Drawing
 from pertxogai.spelling.axes import Axes
 from pertxogai.spelling.facts import Facts
@@ -20,10 +22,23 @@ def spell(drawing: Drawing, style: Style) -> Spelled:
     return written(axes, Rails(axes, style), style)
 
 
-def axes_of(drawing: Drawing, slots: bool = True) -> Axes:
-    """What a drawing says of x and y. `slots`: whether ways between centres are told for radii."""
-    facts: Facts | None = with_polygons(lowered(drawing))
-    if slots and facts is not None:
+@dataclass(frozen=True)
+class Reading:
+    """How a drawing's words are taken. slots: ways between centres along a line are told for radii. middles: regular
+    polygons are told by the middles of opposite corners."""
+
+    slots: bool = True
+    middles: bool = False
+
+
+READINGS = (Reading(), Reading(middles=True), Reading(slots=False))
+"""The readings in the order in which they are tried."""
+
+
+def axes_of(drawing: Drawing, reading: Reading = READINGS[0]) -> Axes:
+    """What a drawing says of x and y."""
+    facts: Facts | None = with_polygons(lowered(drawing), reading.middles)
+    if reading.slots and facts is not None:
         facts = with_slots(facts)
     while facts is not None:
         axes = Axes(facts, Lines(facts))
@@ -31,4 +46,4 @@ def axes_of(drawing: Drawing, slots: bool = True) -> Axes:
     return axes
 
 
-__all__ = ["Axes", "Care", "Rails", "Spelled", "Style", "axes_of", "spell", "written"]
+__all__ = ["Axes", "Care", "READINGS", "Rails", "Reading", "Spelled", "Style", "axes_of", "spell", "written"]

@@ -70,6 +70,8 @@ class Axes:
         for leans in lines.leans:
             self.directions.tell(replace(
                 leans, first=lines.leader(leans.first), second=lines.leader(leans.second)))
+        while self._merge_parallels():
+            pass
         self.frames: list[Frame] = []
         self._of_root: dict[Line, Frame] = {}
         self._make_frames()
@@ -100,6 +102,18 @@ class Axes:
         return other
 
     # -- frames
+
+    def _merge_parallels(self) -> bool:
+        """Makes the first two parallels that share a point one line; False where there are none."""
+        lines = self.lines.all()
+        for place, first in enumerate(lines):
+            knots = {each.knot for each in self.lines.members(first)}
+            for second in lines[place + 1:]:
+                lean = self.directions.between(first, second)
+                if lean is not None and lean.level() and knots & {each.knot for each in self.lines.members(second)}:
+                    self.lines.join(first, second)
+                    return True
+        return False
 
     def _make_frames(self) -> None:
         classes: dict[Line, list[Line]] = {}
@@ -150,17 +164,25 @@ class Axes:
         for upwards in (False, True):
             self.tell(self.at(DATUM, upwards, ORIGIN_KNOT), frozenset())
         for line in self.lines.all():
-            upwards_or_none = self.fixed_axis(line)
-            members = self.lines.members(line)
-            if upwards_or_none is None or len(members) < 2:
+            upwards = self.fixed_axis(line)
+            if upwards is not None:
+                self._line_says(line, upwards)
+
+    def _line_says(self, line: Line, upwards: bool) -> None:
+        """That all points of a line share a coordinate, but for those of which that is why its direction is known."""
+        frame = self.frame(line)
+        implied = [pair for each, pair in self.facts.implied.items() if self.lines.leader(each) == line]
+        members = self.lines.members(line)
+        first = self.at(frame.number, upwards, members[0].knot)
+        for member in members[1:]:
+            mates = [pair for pair in implied if member.knot in pair]
+            if mates:
+                implied.remove(mates[0])
                 continue
-            frame = self.frame(line)
-            first = self.at(frame.number, upwards_or_none, members[0].knot)
-            for member in members[2 if line in self.facts.implied else 1:]:
-                owners = frozenset({member.owner} if member.owner else set())
-                if member is members[1] or not owners:
-                    owners |= self.directions.owners(frame.line, line)
-                self.tell(self.at(frame.number, upwards_or_none, member.knot) - first, owners)
+            owners = frozenset({member.owner} if member.owner else set())
+            if member is members[1] or not owners:
+                owners |= self.directions.owners(frame.line, line)
+            self.tell(self.at(frame.number, upwards, member.knot) - first, owners)
 
     def _say(self, fact: Fact) -> None:
         match fact:
@@ -244,31 +266,30 @@ class Axes:
         for mate in self.loose:
             if mate is fact:
                 break
-            if isinstance(mate, Apart) and self.system.reduced(mate.value - fact.value) == Form():
+            if isinstance(mate, Apart) and self._untold_alike(mate, fact):
                 owners = frozenset({fact.owner}) | self._owners(mate.value - fact.value)
                 if any(self._runs_alike(frame, upwards, mate, fact, owners)
                        for frame in frames for upwards in (False, True)):
                     return True
         return False
 
+    def _untold_alike(self, mate: Apart, fact: Apart) -> bool:
+        """Whether two distances are told to be equal and nothing else."""
+        reduced = self.system.reduced
+        return bool(reduced(fact.value).terms) and reduced(mate.value - fact.value) == Form()
+
     def _owners(self, form: Form) -> frozenset[Owner]:
         return frozenset(owner for mark in self.system.sources(form) for owner in self.equations[mark].owners)
 
     def _runs_alike(self, frame: Frame, upwards: bool, mate: Apart, fact: Apart, owners: frozenset[Owner]) -> bool:
         across, mates = self._run(frame, not upwards, fact), self._run(frame, not upwards, mate)
-        known = self._knows(across) and self._knows(mates)
         alike = self.system.reduced(across - mates) == Form() or self.system.reduced(across + mates) == Form()
-        if not known or not alike or {fact.first, fact.second} == {mate.first, mate.second}:
+        if not alike or {fact.first, fact.second} == {mate.first, mate.second}:
             return False
         signs = [self._sign(frame, upwards, each.first, each.second) for each in (fact, mate)]
         self.tell(self._run(frame, upwards, fact).times(signs[0])
                   - self._run(frame, upwards, mate).times(signs[1]), owners)
         return True
-
-    def _knows(self, form: Form) -> bool:
-        """Whether something is said of each coordinate of a form."""
-        said = {key for equation in self.equations for key in equation.form.terms}
-        return set(form.terms) <= said
 
     def _settles(self, fact: Apart, frames: list[Frame]) -> bool:
         """Where the points are level, the distance is the way along; where it is that already, they are level."""

@@ -182,8 +182,8 @@ class Facts:
     own: dict[Line, tuple[Knot, Knot]] = field(default_factory=dict)
     facts: list[Fact] = field(default_factory=list)
     repeats: list[Owner] = field(default_factory=list)
-    implied: set[Line] = field(default_factory=set)
-    """Lines of which the direction follows from the places of their points."""
+    implied: dict[Line, tuple[Knot, Knot]] = field(default_factory=dict)
+    """Lines of which the direction follows from the places of two of their points."""
 
     def direction(self, line: Line) -> tuple[Fraction, Fraction]:
         """The drawn direction of a line, from its first own point to its second."""

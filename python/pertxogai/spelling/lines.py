@@ -39,7 +39,7 @@ class Lines:
             case OneLine(first, second, owner):
                 for knot in dict.fromkeys(self._facts.own[second]):
                     self._put(knot, first, owner)
-                self._join(self.leader(first), self.leader(second), owner)
+                self.join(self.leader(first), self.leader(second))
             case Leans():
                 self.leans.append(fact)
 
@@ -69,7 +69,8 @@ class Lines:
             return
         members.append(Member(point, owner))
 
-    def _join(self, first: Line, second: Line, owner: Owner) -> None:
+    def join(self, first: Line, second: Line) -> None:
+        """Makes two lines one, led by the first, or by an axis."""
         if first == second:
             return
         if second in (X_AXIS, Y_AXIS):
@@ -89,7 +90,7 @@ class Lines:
             for second in lines[place + 1:]:
                 shared = knots & {each.knot for each in self._members[second]}
                 if len(shared) >= 2 and not {first, second} == {X_AXIS, Y_AXIS}:
-                    self._join(first, second, Owner(0))
+                    self.join(first, second)
                     return True
         return False
 

@@ -4,10 +4,12 @@ from __future__ import annotations
 
 from dataclasses import replace
 from fractions import Fraction
+from itertools import combinations
 from math import atan2, cos
 
+from pertxogai.drawing import Slope
 from pertxogai.spelling.axes import Axes, Frame
-from pertxogai.spelling.facts import Facts, Leans, Line, Owner
+from pertxogai.spelling.facts import Facts, Knot, Leans, Line, Owner
 from pertxogai.spelling.lean import SQUARE, Lean
 from pertxogai.values import Form
 
@@ -15,14 +17,30 @@ from pertxogai.values import Form
 def with_implied(axes: Axes) -> Facts | None:
     """The facts with the first line that follows to run along an axis of the datum; None where none does."""
     for line in axes.lines.all():
-        run = _run(axes, axes.frames[0], line)
-        if axes.frame(line).number == 0 or run is None:
+        if axes.frame(line).number == 0:
             continue
-        for across, lean in zip(run, (SQUARE, Lean())):
-            if axes.system.reduced(across) == Form():
+        for pair in combinations([each.knot for each in axes.lines.members(line)], 2):
+            lean = _lean_of(*map(axes.system.reduced, _way(axes, axes.frames[0], pair)))
+            if lean is not None and (lean.level() or lean.upright() or _has_company(axes, line)):
                 leans = Leans(axes.frames[0].line, line, lean, Owner(0))
-                return replace(axes.facts, facts=[*axes.facts.facts, leans], implied=axes.facts.implied | {line})
+                implied = {**axes.facts.implied, line: pair}
+                return replace(axes.facts, facts=[*axes.facts.facts, leans], implied=implied)
     return None
+
+
+def _lean_of(ahead: Form, left: Form) -> Lean | None:
+    """The direction of a known way; None where it isn't known."""
+    if ahead == Form() or left == Form():
+        return Lean() if ahead != Form() else SQUARE if left != Form() else None
+    if ahead.terms or left.terms:
+        return None
+    slope = left.number / ahead.number
+    return Lean.of(Slope(slope.numerator, slope.denominator, False))
+
+
+def _has_company(axes: Axes, line: Line) -> bool:
+    """Whether the directions of other lines are known against this one's."""
+    return any(other != line and axes.frame(other) == axes.frame(line) for other in axes.lines.all())
 
 
 def with_halves(axes: Axes) -> Facts | None:
@@ -65,10 +83,12 @@ def _mirrored(axes: Axes, frame: Frame, first: Line, second: Line) -> bool:
 def _run(axes: Axes, frame: Frame, line: Line) -> tuple[Form, Form] | None:
     """The way from a line's first point to its second in a frame."""
     members = axes.lines.members(line)
-    if len(members) < 2:
-        return None
-    first, second = (each.knot for each in members[:2])
-    u, v = (axes.at(frame.number, upwards, second) - axes.at(frame.number, upwards, first)
+    return _way(axes, frame, (members[0].knot, members[1].knot)) if len(members) >= 2 else None
+
+
+def _way(axes: Axes, frame: Frame, pair: tuple[Knot, Knot]) -> tuple[Form, Form]:
+    """The way from a point to another in a frame."""
+    u, v = (axes.at(frame.number, upwards, pair[1]) - axes.at(frame.number, upwards, pair[0])
             for upwards in (False, True))
     return u, v
 

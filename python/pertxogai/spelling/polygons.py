@@ -10,7 +10,7 @@ from dataclasses import dataclass, replace
 from fractions import Fraction
 from math import atan2, pi
 
-from pertxogai.spelling.facts import Apart, Between, Fact, Facts, Knot, Leans, LengthOf, Line, RadiusOf, Sized
+from pertxogai.spelling.facts import Apart, Between, Fact, Facts, Knot, Leans, LengthOf, Line, Middle, RadiusOf, Sized
 from pertxogai.spelling.lean import SQUARE, Lean
 from pertxogai.values import Form
 
@@ -34,11 +34,36 @@ class Polygon:
         return -(SQUARE + Lean((self.turn / 2) % 180))
 
 
-def with_polygons(facts: Facts) -> Facts:
-    """The facts, with each regular polygon told by its radii."""
+def with_polygons(facts: Facts, middles: bool) -> Facts:
+    """The facts, with each regular polygon told by its radii. `middles`: of opposite corners, where there are such,
+    the centre is the middle, and that is told of the second half of the corners."""
     for polygon in list(_polygons(facts)):
-        facts = _told(facts, polygon)
+        if len(polygon.equals) == len(polygon.corners) - 1:
+            facts = _told(facts, polygon)
+            if middles and not len(polygon.corners) % 2:
+                facts = _opposite(facts, polygon)
     return facts
+
+
+def _opposite(facts: Facts, polygon: Polygon) -> Facts:
+    """That a corner has its radius and the lean of it, as that the centre is in the middle to the opposite one."""
+    half = len(polygon.corners) // 2
+    rest = list(facts.facts)
+    for place in range(half, 2 * half):
+        corner, radius = polygon.corners[place], polygon.radius(place)
+        step = next(each for each in rest if isinstance(each, Leans) and each.second == radius
+                    and each.first == polygon.radius(place - 1))
+        rim = next(each for each in rest if _is_on_rim(each, polygon, corner, place))
+        rest = [each for each in rest if each not in (step, rim)]
+        rest.append(Middle(polygon.centre, polygon.corners[place - half], corner, step.owner))
+    return replace(facts, facts=rest)
+
+
+def _is_on_rim(fact: Fact, polygon: Polygon, corner: Knot, place: int) -> bool:
+    """Whether a fact says that a corner is on the circle, as it is or by the side before it."""
+    if isinstance(fact, Apart):
+        return (fact.first, fact.second) == (polygon.centre, corner) and polygon.rim in fact.value.terms
+    return isinstance(fact, Leans) and fact.second == polygon.radius(place - 1) and fact.lean == polygon.to_radius()
 
 
 def _polygons(facts: Facts) -> Iterator[Polygon]:
@@ -111,17 +136,38 @@ def _turn(facts: Facts, centre: Knot, corners: tuple[Knot, ...]) -> Fraction | N
 
 def _told(facts: Facts, polygon: Polygon) -> Facts:
     count = len(polygon.corners)
-    if len(polygon.equals) != count - 1:
-        return facts
     for place in range(count):
         facts.own[polygon.radius(place)] = (polygon.centre, polygon.corners[place])
     rest = [_against_radius(facts, fact, polygon) for fact in facts.facts if fact not in polygon.equals]
+    rest = [_of_first_side(fact, polygon) for fact in rest if not _is_other_side(fact, polygon)]
     step = Lean(polygon.turn % 180)
     for place, equal in enumerate(polygon.equals):
         rest.append(Leans(polygon.radius(place), polygon.radius(place + 1), step, equal.owner))
     if not _radius_is_told(facts, polygon.rim):
         rest = [_chord_for_radius(facts, fact, polygon) for fact in rest]
     return replace(facts, facts=[fact for fact in rest if not _is_idle(rest, fact)])
+
+
+def _lengths(polygon: Polygon) -> list[LengthOf]:
+    """The lengths of the sides, that of the first side first."""
+    keys = dict.fromkeys(key for equal in polygon.equals for key in equal.form.terms if isinstance(key, LengthOf))
+    return sorted(keys, key=lambda key: {key.first, key.second} != set(polygon.corners[:2]))
+
+
+def _is_other_side(fact: Fact, polygon: Polygon) -> bool:
+    """Whether a fact says the length of a side but the first."""
+    return isinstance(fact, Apart) and any(fact.value.key() == Form.of(each).key() for each in _lengths(polygon)[1:])
+
+
+def _of_first_side(fact: Fact, polygon: Polygon) -> Fact:
+    """What is said of a side's length, said of the first side's."""
+    if not isinstance(fact, Sized):
+        return fact
+    lengths = _lengths(polygon)
+    form = Form(number=fact.form.number)
+    for key, factor in fact.form.terms.items():
+        form = form + Form.of(lengths[0] if key in lengths else key).times(factor)
+    return replace(fact, form=form)
 
 
 def _side(facts: Facts, polygon: Polygon, place: int) -> Line | None:

@@ -219,11 +219,14 @@ class _Writer:
 
     def _tie(self, tracks: list[Track]) -> None:
         group = {track: track for track in tracks}
+        base = tracks[0]
+        for track in tracks:
+            if track in self.axes.facts.implied and track != base:
+                group[_leader(group, track)] = _leader(group, base)
         for first, second, lean, owner in self._near_ties(tracks):
             if _leader(group, first) != _leader(group, second):
                 group[_leader(group, second)] = _leader(group, first)
                 self._angle(first, second, lean, {owner})
-        base = tracks[0]
         other = next((each for each in tracks if self._lean(each) != self._lean(base)), None)
         if other is not None and _leader(group, other) != _leader(group, base):
             self._tie_to(group, base, other)
