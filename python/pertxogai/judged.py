@@ -101,8 +101,8 @@ def _joined(plan: Plan | None, step: int) -> tuple[Constraint, ...]:
     """The constraints of the clusters that a step joins, where these are its own leaves."""
     if plan is None:
         return ()
-    leaves = {ClusterName(False, leaf.number): leaf.constraint for leaf in plan.leaves}
-    return tuple(leaves[name] for name in plan.steps[step - 1].joins if name in leaves)
+    joined = plan.steps[step - 1].joins
+    return tuple(leaf.constraint for leaf in plan.leaves if ClusterName(False, leaf.number) in joined)
 
 
 def what_to_do(fault: Fault) -> str:

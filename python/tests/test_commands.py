@@ -67,7 +67,7 @@ def test_json_of_what_is_not_well(capsys) -> None:
     assert [part["places"]["Pin"] for part in sketch["parts"]] == [{"x_nm": 0, "y_nm": 0}] * 2
     sketch, = json.loads(judged(capsys, "judge", "--json", str(EXAMPLES / "no-triangle.sketch"))[1])["sketches"]
     assert sketch["fault"]["text"] == "fault s1 build height C gap -1443109011456 -1443109011456 bits 38"
-    assert sketch["fault"]["constraints"] == ["distance B C 1", "distance A C 1", "distance A B 5"]
+    assert sketch["fault"]["constraints"] == ["distance A B 5", "distance A C 1", "distance B C 1"]
 
 
 def test_json_of_a_drawing_has_the_same_members(capsys, tmp_path) -> None:
@@ -174,3 +174,14 @@ def test_the_launcher(tmp_path) -> None:
     closed = subprocess.run(["sh", "-c", f"'{TOP}/pertxogai' judge '{EXAMPLES}/bracket.sketch' | head -n 1"],
                             capture_output=True, text=True)
     assert closed.stderr == ""
+
+
+def test_the_example_of_the_readme(tmp_path) -> None:
+    def run(*sides: str) -> subprocess.CompletedProcess[str]:
+        words = ["/usr/bin/python3", str(TOP / "python" / "examples" / "triangle.py"), *sides, str(tmp_path / "out.svg")]
+        return subprocess.run(words, capture_output=True, text=True, env={**os.environ, "PYTHONPATH": str(TOP / "python")})
+
+    assert run("4", "5", "3").stdout.splitlines() == ["well", "point A 0 0", "point B 4000000 0", "point C 4000000 3000000"]
+    assert run("5", "1", "1").stdout.splitlines() == ["well", "distance A B 5", "distance A C 1", "distance B C 1"]
+    assert ElementTree.parse(tmp_path / "out.svg").getroot().tag.endswith("svg")
+    assert "the nearest is 3 mm" in run("4", "5", "3.00005").stderr

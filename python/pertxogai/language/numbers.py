@@ -52,7 +52,7 @@ def checked_um(value: int | Fraction, least: int = -MOST_UM) -> int:
     nearest = min(max(nearest_whole(value), least), MOST_UM)
     if nearest != value:
         shown = f"{float(Fraction(value) / 1000):.10g} mm"
-        raise NotHeld(f"{shown} isn't held, which takes whole micrometres from {mm_text(least)} to"
+        raise NotHeld(f"{shown} isn't held: the language takes whole micrometres from {mm_text(least)} to"
                       f" {mm_text(MOST_UM)} mm", f"{mm_text(nearest)} mm")
     return nearest
 
@@ -67,7 +67,7 @@ def checked_ratio(p: int, q: int) -> None:
     if p == 0:
         raise NotHeld("an angle of 0 is no constraint: see 'Parallel lines' in docs/LANGUAGE.md", None)
     if q < 0 or abs(p) > MOST_RATIO or q > MOST_RATIO:
-        raise NotHeld(f"the ratio {p}/{q} isn't held, whose numbers go to {MOST_RATIO}, q from 0",
+        raise NotHeld(f"the ratio {p}/{q} isn't held: its numbers go to {MOST_RATIO}, the second from 0",
                       "{}/{}".format(*nearest_ratio(p, q)))
 
 
