@@ -1,0 +1,25 @@
+"""A plate of a width and a height in mm, with a hole in its middle: plate.py 120 80"""
+import sys
+
+from pertxogai.answers import judge
+from pertxogai.drawing import PointRef, Which, read_drawing, write_drawing
+from pertxogai.program import Program
+
+WORDS = """
+rectangle Plate 0 0 100 50
+circle Hole 50 25 5
+coincident PlateBottom.start Origin
+Width: length PlateBottom {}
+Height: length PlateRight {}
+symmetric PlateBottom.start PlateTop.start about Hole
+diameter Hole 12
+"""
+
+drawing = read_drawing(WORDS.format(*sys.argv[1:3]))
+judged = judge(drawing, Program.find())
+print(judged.verdict.value)
+if judged.solution is not None:
+    x_nm, y_nm = judged.solution.spot(PointRef("Hole", Which.CENTRE))
+    print("the hole lies at", x_nm, y_nm, "nm")
+    print("the greatest deviation is", max(each.amount for each in judged.deviations))
+print(*write_drawing(drawing).splitlines()[:3], sep="\n")
