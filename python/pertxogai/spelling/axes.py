@@ -171,18 +171,20 @@ class Axes:
     def _line_says(self, line: Line, upwards: bool) -> None:
         """That all points of a line share a coordinate, but for those of which that is why its direction is known."""
         frame = self.frame(line)
-        implied = [pair for each, pair in self.facts.implied.items() if self.lines.leader(each) == line]
         members = self.lines.members(line)
-        first = self.at(frame.number, upwards, members[0].knot)
-        for member in members[1:]:
-            mates = [pair for pair in implied if member.knot in pair]
-            if mates:
-                implied.remove(mates[0])
+        group = {member.knot: member.knot for member in members}
+        for each, (one, other) in self.facts.implied.items():
+            if self.lines.leader(each) == line and one in group and other in group:
+                _join(group, one, other)
+        first = members[0].knot
+        for member in sorted(members[1:], key=lambda each: each.owner is None):
+            if not _join(group, first, member.knot):
                 continue
             owners = frozenset({member.owner} if member.owner else set())
             if member is members[1] or not owners:
                 owners |= self.directions.owners(frame.line, line)
-            self.tell(self.at(frame.number, upwards, member.knot) - first, owners)
+            at = self.at(frame.number, upwards, member.knot)
+            self.tell(at - self.at(frame.number, upwards, first), owners)
 
     def _say(self, fact: Fact) -> None:
         match fact:
@@ -310,6 +312,16 @@ class Axes:
 
     def _run(self, frame: Frame, upwards: bool, fact: Apart) -> Form:
         return self.at(frame.number, upwards, fact.second) - self.at(frame.number, upwards, fact.first)
+
+
+def _join(group: dict[Knot, Knot], first: Knot, second: Knot) -> bool:
+    """Makes two points of one group; False where they are already."""
+    while group[first] != first:
+        first = group[first]
+    while group[second] != second:
+        second = group[second]
+    group[second] = first
+    return first != second
 
 
 def _cross(lean: Lean) -> tuple[Fraction, int, int]:
