@@ -254,6 +254,11 @@ def test_a_document_of_too_many_bytes_is_refused(tmp_path: Path) -> None:
     assert "has more than 64 MB" in refused(path)
 
 
+def test_a_sketch_of_too_many_shapes_is_refused(tmp_path: Path) -> None:
+    path = written(tmp_path / "a.FCStd", document(geometry(*[segment(0, 0, 1, 1)] * 8001)))
+    assert "S has more than 8000 entries in its list Geometry" in refused(path)
+
+
 @pytest.mark.parametrize("name", ["../out.brp", "/etc/passwd", "a/../../b", "..\\out", "C:\\out"])
 def test_a_member_that_leads_out_is_refused(tmp_path: Path, name: str) -> None:
     path = written(tmp_path / "a.FCStd", document(""))

@@ -14,6 +14,9 @@ from pertxogai.freecad.shapes import Numbered, read_outer, read_shapes
 from pertxogai.freecad.ties import Shapes, name_of, read_entry, say
 from pertxogai.gathering import Gathering
 
+MOST_ENTRIES = 8_000
+"""The most shapes, or constraints, of a sketch that is read: some times what the program takes."""
+
 SKETCH = "Sketcher::SketchObject"
 """FreeCAD's word for the kind of object that a sketch is."""
 
@@ -25,12 +28,22 @@ def read_freecad(path: Path) -> tuple[FoundSketch, ...]:
     """
     with open_archive(path) as archive:
         objects = objects_of(path, read_member(path, archive, DOCUMENT))
+        _check_size(path, objects)
         shelf = Shelf({kept.name: kept for kept in objects},
                       lambda member: read_member(path, archive, member))
         found = tuple(_sketch(kept, shelf) for kept in objects if kept.kind == SKETCH)
     if not found:
         raise FileRefusal(f"{path}: no sketch in it: draw one by FreeCAD's Sketcher, and save")
     return found
+
+
+def _check_size(path: Path, objects: list[Kept]) -> None:
+    """Refuses a file with a sketch of more than `MOST_ENTRIES`."""
+    for kept in objects:
+        for word in ("Geometry", "Constraints"):
+            if len(kept.list_of(word)) > MOST_ENTRIES:
+                raise FileRefusal(f"{path}: {_label(kept)} has more than {MOST_ENTRIES} entries in "
+                                  f"its list {word}: take a part of it")
 
 
 def objects_of(path: Path, data: bytes) -> list[Kept]:

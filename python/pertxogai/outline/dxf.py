@@ -5,6 +5,7 @@ They are read by ezdxf, which Debian has as python3-ezdxf.
 
 from __future__ import annotations
 
+import logging
 import math
 from collections.abc import Iterator
 from dataclasses import dataclass
@@ -21,6 +22,8 @@ MOST_BYTES = 16 << 20
 _DIGITS = 9
 _MM_OF_UNIT = {0: Fraction(1), 1: Fraction(254, 10), 2: Fraction(3048, 10), 4: Fraction(1),
                5: Fraction(10), 6: Fraction(1000), 13: Fraction(1, 1000), 14: Fraction(100)}
+_UNSOUND = (ValueError, LookupError, TypeError, AttributeError, ArithmeticError, AssertionError)
+"""What ezdxf raises, beside its own errors, at numbers and words that it doesn't expect."""
 _POLYLINES = frozenset({"LWPOLYLINE", "POLYLINE"})
 
 
@@ -33,9 +36,29 @@ class Entity:
     why: str = ""
 
 
-def read_entities(path: Path) -> Iterator[Entity]:
+def read_entities(path: Path) -> list[Entity]:
     """The entities of a file's model space, in order. Raises FileRefusal."""
-    document = _document(path)
+    try:
+        from ezdxf.lldxf.const import DXFError
+    except ImportError:
+        raise FileRefusal("a DXF file is read by ezdxf: install Debian's python3-ezdxf") from None
+    try:
+        return list(_entities(path))
+    except OSError as error:
+        raise FileRefusal(f"{path}: can't be read: {error.strerror or 'it is no DXF file'}"
+                          ) from None
+    except (DXFError, *_UNSOUND):
+        raise FileRefusal(f"{path}: no sound DXF file: save it as DXF again") from None
+
+
+def _entities(path: Path) -> Iterator[Entity]:
+    """The entities as ezdxf reads them."""
+    import ezdxf
+
+    _hush()
+    if path.stat().st_size > MOST_BYTES:
+        raise FileRefusal(f"{path}: has more than {MOST_BYTES >> 20} MB")
+    document = ezdxf.readfile(path)  # type: ignore[attr-defined]
     unit = int(document.header.get("$INSUNITS", 0)) if _tells_unit(path) else 0
     if unit not in _MM_OF_UNIT:
         raise FileRefusal(f"{path}: its unit, number {unit} of DXF, isn't known here: save it in "
@@ -48,22 +71,11 @@ def read_entities(path: Path) -> Iterator[Entity]:
             yield reader.read(entity)
 
 
-def _document(path: Path) -> Any:
-    """The file as ezdxf reads it. Raises FileRefusal."""
-    try:
-        import ezdxf
-        from ezdxf.lldxf.const import DXFError
-    except ImportError:
-        raise FileRefusal("a DXF file is read by ezdxf: install Debian's python3-ezdxf") from None
-    try:
-        if path.stat().st_size > MOST_BYTES:
-            raise FileRefusal(f"{path}: has more than {MOST_BYTES >> 20} MB")
-        return ezdxf.readfile(path)  # type: ignore[attr-defined]
-    except OSError as error:
-        raise FileRefusal(f"{path}: can't be read: {error.strerror or 'it is no DXF file'}"
-                          ) from None
-    except (DXFError, ValueError, LookupError, TypeError, AttributeError):
-        raise FileRefusal(f"{path}: no sound DXF file: save it as DXF again") from None
+def _hush() -> None:
+    """Keeps ezdxf's own notes on a file off the terminal: what matters is told here."""
+    notes = logging.getLogger("ezdxf")
+    if not notes.handlers:
+        notes.addHandler(logging.NullHandler())
 
 
 def _tells_unit(path: Path) -> bool:
