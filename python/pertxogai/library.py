@@ -11,6 +11,7 @@ import os
 from collections.abc import Callable, Sequence
 from dataclasses import dataclass
 
+from .encoding import as_bytes
 from .errors import MissingProgram, ProgramCrashed, ProgramSpoke
 from .program import Answer, Asks, Program, Status
 
@@ -45,7 +46,7 @@ class Library:
         """Does what the words ask for on the text, as the program does. Other threads run meanwhile. Raises
         ProgramError."""
         command = b" ".join(map(_word, words))
-        given = text.encode("utf-8", "surrogateescape")
+        given = as_bytes(text)
         size = _SIZE()
         room = 4096 + 4 * len(given)
         while True:
@@ -75,5 +76,5 @@ def quickest() -> Asks:
 def _word(word: str) -> bytes:
     """The bytes of a word. A command's words stand between spaces, so one with a space, or none at all, is handed on
     as a byte that no word has: it isn't of the form, and the answer is the usage line as it is from the program."""
-    given = word.encode("utf-8", "surrogateescape")
+    given = as_bytes(word)
     return b"\xff" if not given or b" " in given else given

@@ -8,6 +8,7 @@ import signal
 import subprocess
 import time
 from collections.abc import Sequence
+from contextlib import suppress
 from dataclasses import dataclass
 from typing import IO
 
@@ -39,7 +40,7 @@ class Ended:
         last = self.complaint.decode("ascii", "replace").strip().splitlines()[-1:]
         end = f"ended with status {self.code}"
         if self.code < 0:
-            end = f"was ended by signal {signal.Signals(-self.code).name}"
+            end = f"was ended by signal {-self.code} ({signal.strsignal(-self.code)})"
         return " and said: ".join([end, *last])
 
 
@@ -47,7 +48,7 @@ def run_process(words: Sequence[str], given: bytes, limits: Limits) -> Ended:
     """Runs a file with words on bytes. Raises MissingProgram, ProgramTimedOut or ProgramSpoke."""
     pipe = subprocess.PIPE
     try:
-        process = subprocess.Popen(words, stdin=pipe, stdout=pipe, stderr=pipe, bufsize=0)
+        process = subprocess.Popen(words, stdin=pipe, stdout=pipe, stderr=pipe, bufsize=0, start_new_session=True)
     except (OSError, ValueError) as error:
         raise MissingProgram(f"{words[0]} can't be run: {error}") from None
     with process:
@@ -55,15 +56,22 @@ def run_process(words: Sequence[str], given: bytes, limits: Limits) -> Ended:
             _limit_memory(process, limits)
             return _Talk(words, process, given, limits).to_the_end()
         except BaseException:
-            process.kill()
+            _stop(process)
             raise
+
+
+def _stop(process: subprocess.Popen[bytes]) -> None:
+    """Ends a run and all that it started."""
+    with suppress(ProcessLookupError):
+        os.killpg(process.pid, signal.SIGKILL)
 
 
 def _limit_memory(process: subprocess.Popen[bytes], limits: Limits) -> None:
     """Takes effect before the program has read its text, since that is handed on after this."""
     if limits.memory_mib is not None:
         most = limits.memory_mib * MEBIBYTE
-        resource.prlimit(process.pid, resource.RLIMIT_AS, (most, most))
+        with suppress(ProcessLookupError):
+            resource.prlimit(process.pid, resource.RLIMIT_AS, (most, most))
 
 
 class _Talk:

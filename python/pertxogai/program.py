@@ -13,6 +13,7 @@ from enum import IntEnum
 from pathlib import Path
 from typing import Protocol
 
+from .encoding import as_bytes
 from .errors import MissingProgram, ProgramCrashed, ProgramError, ProgramSpoke, ProgramTimedOut
 from .process import Limits, run_process
 
@@ -85,8 +86,7 @@ class Program:
 
     def ask(self, words: Sequence[str], text: str) -> Answer:
         """Runs the program with these words on this text. Raises ProgramError."""
-        given = text.encode("utf-8", "surrogateescape")
-        ended = run_process([self.path, *words], given, Limits(self.seconds, self.memory_mib))
+        ended = run_process([self.path, *words], as_bytes(text), Limits(self.seconds, self.memory_mib))
         try:
             return Answer(Status(ended.code), ended.written.decode("ascii"))
         except UnicodeDecodeError:

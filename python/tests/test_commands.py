@@ -136,7 +136,7 @@ def test_files_that_are_not_there_and_outputs_that_cannot_be(capsys, tmp_path) -
 
 def test_programs_that_give_no_answer(capsys, tmp_path) -> None:
     sketch = str(EXAMPLES / "triangle.sketch")
-    for body, inside in [("exec sleep 9", "0.2 s"), ("kill -SEGV $$", "SIGSEGV"), ("echo rubbish", "no report of check"),
+    for body, inside in [("exec sleep 9", "0.2 s"), ("kill -SEGV $$", "signal 11"), ("echo rubbish", "no report of check"),
                          ("exit 5", "memory ran out"), ("exit 3", "input"), ("exit 77", "status 77")]:
         script = write(tmp_path, "sketch", b"#!/bin/sh\n" + body.encode() + b"\n")
         os.chmod(script, 0o755)

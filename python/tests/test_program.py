@@ -45,7 +45,8 @@ def test_words_and_text_go_in(tmp_path) -> None:
     (["check"], TRIANGLE, Status.DONE), (["check"], "", Status.REFUSED), (["check", "x"], TRIANGLE, Status.USAGE),
     ([], TRIANGLE, Status.USAGE), (["plan"], "sketch 1\npoint A 0 0\npoint B 0 1\nend\n", Status.NOT_WELL),
     (["solve"], TRIANGLE.replace("A C 5", "A C 9"), Status.FAULT),
-    (["verify"], TRIANGLE + "tolerance 0 0\n", Status.CLAIM_FAILS), (["check"], "\udcff\u20ac", Status.REFUSED)])
+    (["verify"], TRIANGLE + "tolerance 0 0\n", Status.CLAIM_FAILS), (["check"], "\udcff\u20ac", Status.REFUSED),
+    (["check"], "\ud800", Status.REFUSED)])
 def test_statuses_of_the_program_itself(words, text: str, status: Status, program) -> None:
     answer = program.ask(words, text)
     assert answer.status is status
@@ -60,7 +61,7 @@ def refused(kind: type[ProgramError], program: Program, *inside: str) -> None:
 
 
 def test_a_program_that_crashes(tmp_path) -> None:
-    refused(ProgramCrashed, Program(script(tmp_path, "echo 'out of luck' >&2; kill -SEGV $$")), "SIGSEGV", "out of luck")
+    refused(ProgramCrashed, Program(script(tmp_path, "echo 'out of luck' >&2; kill -SEGV $$")), "signal 11", "out of luck")
     refused(ProgramCrashed, Program(script(tmp_path, "exit 77")), "status 77")
 
 
@@ -68,6 +69,9 @@ def test_a_program_that_hangs(tmp_path) -> None:
     begin = time.monotonic()
     refused(ProgramTimedOut, Program(script(tmp_path, "exec sleep 30"), seconds=0.3), "0.3 s", "more seconds")
     refused(ProgramTimedOut, Program(script(tmp_path, "exec >&- 2>&-; exec sleep 30"), seconds=0.3), "0.3 s")
+    refused(ProgramTimedOut, Program(script(tmp_path, f"(sleep 1; touch {tmp_path}/left) & wait"), seconds=0.3), "0.3 s")
+    time.sleep(1.2)
+    assert not (tmp_path / "left").exists()    # what it started was stopped too
     assert time.monotonic() - begin < 10
 
 

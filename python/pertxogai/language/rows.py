@@ -4,6 +4,7 @@ from __future__ import annotations
 from collections.abc import Callable, Iterator, Sequence
 from dataclasses import dataclass
 
+from ..encoding import as_bytes
 from .refusal import Code, Faulty, Refusal, Refused
 
 MOST_TEXT = 1_048_576
@@ -39,7 +40,7 @@ class Row:
 
 def rows_of(text: str) -> list[Row]:
     """The lines of a text. Raises Refusal where it has too many bytes (E20)."""
-    given = text.encode("utf-8", "surrogateescape")
+    given = as_bytes(text)
     if len(given) > MOST_TEXT:
         raise Refusal(Refused(0, Code.E20))
     pieces = given.split(b"\n")

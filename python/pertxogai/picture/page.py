@@ -9,7 +9,7 @@ from .marks import Bow, Dimension, Dot, LengthBar, Mark, Ring, Scene, Spot, Stro
 from .plane import sweep
 
 MARGIN = 44.0
-LEAST_WIDTH, MOST_WIDTH = 560.0, 1400.0
+LEAST_WIDTH, MOST_WIDTH = 560.0, 6000.0
 SHAPE = 330 / 560
 
 

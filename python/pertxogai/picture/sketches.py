@@ -2,8 +2,9 @@
 from __future__ import annotations
 
 import math
-from collections.abc import Iterator, Sequence
+from collections.abc import Iterator, Mapping, Sequence
 from dataclasses import dataclass
+from functools import cached_property
 
 from ..language import Angle, Block, Constraint, Distance, Sketch
 from ..language.numbers import mm_text
@@ -88,12 +89,21 @@ class _Layout:
     sketch: Sketch
     elements: Sequence[LaidElement]
 
+    @cached_property
+    def lines(self) -> Mapping[str, tuple[Spot, Spot]]:
+        """The segment that stands for each line."""
+        return segments(self.sketch, self.elements)
+
+    @cached_property
+    def at(self) -> Mapping[str, Spot]:
+        """The place of each point and centre."""
+        return {it.name: it.at for it in self.elements if isinstance(it, Laid)}
+
     def marks(self, ink: Ink) -> Iterator[Mark]:
         """The elements as marks, in their order."""
-        lines = segments(self.sketch, self.elements)
         for it in self.elements:
             if isinstance(it, LaidLine):
-                yield Stroke(*lines[it.name], it.name, ink)
+                yield Stroke(*self.lines[it.name], it.name, ink)
             else:
                 yield Ring(it.at, it.radius, it.name, ink) if it.radius else Dot(it.at, it.name, ink)
 
@@ -115,10 +125,8 @@ class _Layout:
 
     def _tag(self, constraint: Constraint, number: int) -> Dimension:
         """A constraint that has no dimension, as a text near its first element."""
-        places = {it.name: it.at for it in self.elements if isinstance(it, Laid)}
-        lines = segments(self.sketch, self.elements)
         names = constraint.names()
-        at = next((places[name] for name in names if name in places), None) or middle_of(lines[names[0]])
+        at = next((self.at[name] for name in names if name in self.at), None) or middle_of(self.lines[names[0]])
         return Tag(at, 0.0, f"c{number} {constraint.text().split()[0]}", SPARE)
 
     def _dimensions(self, constraint: Constraint, ink: Ink, number: str | None) -> Iterator[Dimension]:
@@ -127,25 +135,21 @@ class _Layout:
         elif isinstance(constraint, Angle):
             yield from self._angle(constraint, ink, number)
         elif isinstance(constraint, Block):
-            at = {it.name: it.at for it in self.elements if isinstance(it, Laid)}
             names = constraint.names()
             sides = [(names[0], names[1])] if len(names) == 2 else list(zip(names, names[1:] + names[:1]))
             for place, (one, two) in enumerate(sides):
-                yield LengthBar(at[one], at[two], number if number and not place else "", ink)
+                yield LengthBar(self.at[one], self.at[two], number if number and not place else "", ink)
 
     def _distance(self, constraint: Distance, ink: Ink, number: str | None) -> Iterator[Dimension]:
-        at = {it.name: it.at for it in self.elements if isinstance(it, Laid)}
-        lines = segments(self.sketch, self.elements)
         first, second = constraint.names()
-        if first in lines:
+        if first in self.lines:
             first, second = second, first
-        end = foot_on(at[first], lines[second]) if second in lines else at[second]
+        end = foot_on(self.at[first], self.lines[second]) if second in self.lines else self.at[second]
         text = mm_text(constraint.length_um)
-        yield LengthBar(at[first], end, f"{number}: {text}" if number else text, ink)
+        yield LengthBar(self.at[first], end, f"{number}: {text}" if number else text, ink)
 
     def _angle(self, constraint: Angle, ink: Ink, number: str | None) -> Iterator[Dimension]:
-        lines = segments(self.sketch, self.elements)
-        one, two = lines[constraint.first], lines[constraint.second]
+        one, two = self.lines[constraint.first], self.lines[constraint.second]
         corner = crossing(one, two)
         if corner is None or not (_is_near(corner, one) and _is_near(corner, two)):
             corner = None

@@ -5,6 +5,7 @@ import math
 from collections.abc import Callable, Sequence
 from dataclasses import dataclass
 
+from .cells import Cells
 from .marks import Dot, Ink, Ring, Spot
 from .page import Figure, Page
 from .plane import Box, between, crosses, overlaps, reach, unit
@@ -29,9 +30,15 @@ class Texts:
     """The texts that stand so far, and the lines and circles that they should leave free."""
 
     def __init__(self, page: Page, figures: Sequence[Figure], bars: Sequence[tuple[Spot, Spot]]) -> None:
-        self.page, self.figures, self.bars = page, figures, bars
-        self.boxes: list[Box] = []
+        self.page = page
         self.written: list[Text] = []
+        self.boxes: Cells[Box] = Cells()
+        self.figures: Cells[Figure] = Cells()
+        self.bars: Cells[tuple[Spot, Spot]] = Cells()
+        for figure in figures:
+            _add_figure(self.figures, figure)
+        for bar in bars:
+            self.bars.add_segment(bar, *bar, 0.0)
 
     def put_name(self, figure: Figure) -> None:
         """Writes the name of a figure."""
@@ -49,20 +56,31 @@ class Texts:
 
     def _put(self, words: str, size: int, kind: str, ink: Ink, places: Places, named: Figure | None) -> None:
         wide, tall = len(words) * size * WIDE_LETTER, float(size)
-        found = [(place, _box(place, wide, tall)) for place in places(wide, tall)]
-        costs = [self._cost(box, place, named) for place, box in found]
-        place, box = found[costs.index(min(costs))]
-        self.boxes.append(box)
+        place, box = self._best(places(wide, tall), wide, tall, named)
+        self.boxes.add_box(box, box)
         self.written.append(Text(words, (place[0], place[1] + 0.35 * tall), size, kind, ink))
+
+    def _best(self, places: Sequence[Spot], wide: float, tall: float, named: Figure | None) -> tuple[Spot, Box]:
+        """The first of the places where a text costs least, with its box."""
+        best, least = (places[0], _box(places[0], wide, tall)), math.inf
+        for place in places:
+            box = _box(place, wide, tall)
+            cost = self._cost(box, place, named)
+            if cost < least:
+                best, least = (place, box), cost
+            if cost == 0:
+                break
+        return best
 
     def _cost(self, box: Box, place: Spot, named: Figure | None) -> int:
         """How much a text in a box would cover, or mislead."""
-        near = (box[0] - 3, box[1], box[2] + 3, box[3])
-        texts = sum(overlaps(near, it) for it in self.boxes)
+        wide = (box[0] - 3, box[1], box[2] + 3, box[3])
+        texts = sum(overlaps(wide, it) for it in self.boxes.near(wide))
         outside = min(box[0], box[1]) < 2 or box[2] > self.page.width - 2 or box[3] > self.page.height - 2
-        strokes = sum(_is_covered(it, box) for it in self.figures)
-        strange = named is not None and any(_misleads(place, named, it) for it in self.figures)
-        return 5 * texts + 9 * outside + 2 * strokes + 3 * strange + sum(crosses(*bar, box) for bar in self.bars)
+        figures = self.figures.near(box)
+        strokes = sum(_is_covered(it, box) for it in figures)
+        strange = named is not None and any(_misleads(place, named, it) for it in figures)
+        return 5 * texts + 9 * outside + 2 * strokes + 3 * strange + sum(crosses(*it, box) for it in self.bars.near(box))
 
     def _name_places(self, figure: Figure) -> Places:
         if len(figure.places) > 1:
@@ -89,6 +107,16 @@ class Texts:
         shares = (0.5, 0.4, 0.6, 0.3, 0.7, 0.2, 0.8, 0.12, 0.88)
         return [_beyond(between(start, end, share), side, far, wide, tall)
                 for far in (2, 11) for share in shares for side in sides]
+
+
+def _add_figure(cells: Cells[Figure], figure: Figure) -> None:
+    """Adds a figure where it is near enough to a text to matter; a circle with all that is within it."""
+    if len(figure.places) > 1:
+        for one, two in zip(figure.places, figure.places[1:]):
+            cells.add_segment(figure, one, two, 0.0)
+    else:
+        (x, y), far = figure.places[0], figure.radius + 6
+        cells.add_box(figure, (x - far, y - far, x + far, y + far))
 
 
 def _box(place: Spot, wide: float, tall: float) -> Box:
