@@ -246,6 +246,15 @@ def test_tangent_at_a_shared_corner_sees_a_kink():
     assert amounts(drawing, solution) == (100, 10_000)
 
 
+@pytest.mark.parametrize("on", ["on Edge.end Rim", "on Mark Rim\ncoincident Mark Edge.end"])
+def test_tangent_at_an_end_that_lies_on_the_rim(on):
+    text = "segment Edge 0 0 50 0\ncircle Rim 50 10 10\npoint Mark 50 0\ntangent Rim Edge\n"
+    drawing = read_drawing(text + on)
+    assert amounts(drawing, as_drawn(drawing)) == (0, 0)
+    solution = pushed(as_drawn(drawing), "Rim.centre", 100, 0)
+    assert amounts(drawing, solution) == (100, 10_000)
+
+
 def test_what_shapes_imply():
     text = ("point A 0 0\nsegment Edge A 50 0\narc Fillet 50 10 Edge.end 60 10\n"
             "outer circle Pin 80 0 5\nouter segment Rail 0 -20 90 -20")

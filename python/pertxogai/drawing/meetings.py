@@ -4,7 +4,7 @@ from __future__ import annotations
 
 from collections.abc import Iterator
 
-from pertxogai.drawing.constraints import Coincident, Perpendicular, Tangent
+from pertxogai.drawing.constraints import Coincident, Perpendicular, PointOn, Tangent
 from pertxogai.drawing.geometry import Segment
 from pertxogai.drawing.references import Pair, PointRef, ShapeRef, Which
 from pertxogai.drawing.sketching import Drawing
@@ -18,6 +18,8 @@ class Meetings:
         self._leader: dict[PointRef, PointRef] = {}
         for pair in joined(drawing):
             self._join(pair)
+        self._on = {(self.leader(each.point), each.curve) for each in drawing.constraints
+                    if isinstance(each, PointOn)}
 
     def leader(self, point: PointRef) -> PointRef:
         """The point that stands for all that are one with this one."""
@@ -41,6 +43,19 @@ class Meetings:
             for other in (PointRef(second.name, which) for which in ends):
                 if self.same(one, other):
                     return Pair(one, other)
+        return None
+
+
+    def contact(self, tangent: Tangent) -> Pair | None:
+        """The point in which the two shapes of a tangent touch, as a point of each, where the
+        drawing's words tell one: an end of both, or an end of the one that lies on the other."""
+        corner = tangent.at or self.corner(tangent.first, tangent.second)
+        if corner is not None:
+            return corner
+        for shape, other in ((tangent.first, tangent.second), (tangent.second, tangent.first)):
+            for end in (PointRef(shape.name, Which.START), PointRef(shape.name, Which.END)):
+                if (self.leader(end), other) in self._on:
+                    return Pair(end, end)
         return None
 
 
