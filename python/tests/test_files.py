@@ -1,0 +1,137 @@
+"""Files of other programs by the commands, as their users call them."""
+from __future__ import annotations
+
+import json
+import math
+from pathlib import Path
+from typing import Any
+
+import pytest
+
+from pertxogai.commands import main
+from pertxogai.drawing import PointRef, Which
+from pertxogai.freecad import read_freecad
+from pertxogai.solvespace import read_solvespace
+
+FILES = Path(__file__).parent / "files"
+MM = 1_000_000
+
+
+@pytest.fixture(autouse=True)
+def _program(program: Any, monkeypatch: pytest.MonkeyPatch) -> None:
+    monkeypatch.setenv("PERTXOGAI_SKETCH", program.path)
+
+
+def called(capsys: pytest.CaptureFixture[str], *words: object) -> tuple[int, str, str]:
+    """The status and what was written on both outputs."""
+    status = main(list(map(str, words)))
+    out, err = capsys.readouterr()
+    return status, out, err
+
+
+def sketch_of(capsys: pytest.CaptureFixture[str], *words: object) -> dict[str, Any]:
+    """The one sketch of a file, by `judge --json`."""
+    _, out, err = called(capsys, "judge", "--json", *words)
+    assert err == ""
+    (sketch,) = json.loads(out)["sketches"]
+    return dict(sketch)
+
+
+def at(place: dict[str, int]) -> tuple[int, int]:
+    """A place in nm."""
+    return place["x_nm"], place["y_nm"]
+
+
+@pytest.mark.parametrize("file,hole,corner", [
+    ("plate.FCStd", "Circle6", "Line2"), ("plate.slvs", "Circle9", "Line5")])
+def test_a_plate_with_two_holes(capsys: pytest.CaptureFixture[str], file: str, hole: str,
+                                corner: str) -> None:
+    sketch = sketch_of(capsys, FILES / file)
+    assert sketch["verdict"] == "well" and sketch["exact"] and sketch["fault"] is None
+    assert sketch["left_out"] == sketch["frozen"] == sketch["spare"] == []
+    assert at(sketch["places"][corner]["end"]) == (60 * MM, 40 * MM)
+    assert at(sketch["places"][hole]["centre"]) == (45 * MM, 20 * MM)
+    assert sketch["places"][hole]["radius_nm"] == 5 * MM
+    assert [each["amount"] for each in sketch["deviations"]] == [0, 0]
+
+
+def test_two_eyes_and_their_common_tangent(capsys: pytest.CaptureFixture[str]) -> None:
+    """Radii 16 and 9, 52 apart: the touch lies at 16·7/52 along and 16·√(52² - 7²)/52 across."""
+    sketch = sketch_of(capsys, FILES / "link.FCStd")
+    x, y = at(sketch["places"]["Line3"]["start"])
+    assert abs(x - 16 * 7 * MM / 52) <= 2
+    assert abs(y - 16 * math.sqrt(52 ** 2 - 7 ** 2) * MM / 52) <= 2
+    assert max(each["amount"] for each in sketch["deviations"] if each["unit"] == "nm") <= 2
+
+
+def test_too_much_is_told_by_name(capsys: pytest.CaptureFixture[str]) -> None:
+    status, out, _ = called(capsys, "judge", FILES / "twice.FCStd")
+    assert status == 1 and out.startswith("Sketch: over")
+    assert "    above: off by 0 nm without it" in out.splitlines()
+    spare = sketch_of(capsys, FILES / "contradiction.FCStd")["spare"]
+    above = next(each for each in spare if each["name"] == "above")
+    assert (above["off"], above["unit"], above["repeats"]) == (5 * MM, "nm", False)
+
+
+def test_too_little_is_told_by_pieces(capsys: pytest.CaptureFixture[str]) -> None:
+    status, out, _ = called(capsys, "judge", FILES / "hinge.FCStd")
+    assert status == 1 and out.startswith("Sketch: open")
+    assert "  lacks 1 dimension at least" in out.splitlines()
+
+
+def test_each_sketch_of_a_file_is_judged(capsys: pytest.CaptureFixture[str]) -> None:
+    status, out, _ = called(capsys, "judge", FILES / "body.FCStd")
+    assert status == 0
+    assert [line.split(",")[0] for line in out.splitlines() if not line.startswith(" ")] == [
+        "Sketch: well", "Sketch001: well"]
+
+
+def test_what_is_left_out_is_told(capsys: pytest.CaptureFixture[str]) -> None:
+    _, out, _ = called(capsys, "judge", FILES / "spline.FCStd")
+    assert "  left out: BSplineCurve2: a drawing has no b spline curve" in out.splitlines()
+
+
+def test_places_are_written_back(capsys: pytest.CaptureFixture[str], tmp_path: Path) -> None:
+    out = tmp_path / "out.FCStd"
+    status, _, err = called(capsys, "judge", FILES / "wedge.FCStd", "--write", out)
+    assert (status, err) == (0, "")
+    top = read_freecad(out)[0].drawing.drawn(PointRef("Line2", Which.END))
+    assert top.x_um == 60000
+    assert abs(float(top.y_um) - 60000 * math.tan(math.radians(30))) <= 0.002
+    called(capsys, "judge", FILES / "slot.slvs", "--write", tmp_path / "out.slvs")
+    far = read_solvespace(tmp_path / "out.slvs")[0].drawing.drawn(PointRef("Arc5", Which.CENTRE))
+    assert (far.x_um, far.y_um) == (32000, 0)
+
+
+def test_nothing_is_written_where_there_are_no_places(capsys: pytest.CaptureFixture[str],
+                                                      tmp_path: Path) -> None:
+    for name in ("hinge.FCStd", "loose.slvs"):
+        status, _, err = called(capsys, "judge", FILES / name, "--write", tmp_path / "out")
+        assert status == 2 and "no sketch of it has places" in err and err.count("\n") == 1
+    status, _, err = called(capsys, "judge", FILES / "plate.FCStd", "--write",
+                            FILES / "plate.FCStd")
+    assert status == 2 and "isn't written over" in err and err.count("\n") == 1
+    assert list(tmp_path.iterdir()) == []
+
+
+def test_pictures(capsys: pytest.CaptureFixture[str], tmp_path: Path) -> None:
+    for name in ("link.FCStd", "twice.FCStd", "slot.slvs"):
+        out = tmp_path / f"{name}.svg"
+        assert called(capsys, "draw", FILES / name, "-o", out)[0] == 0
+        assert "<svg" in out.read_text()
+    status, _, err = called(capsys, "draw", FILES / "twice.FCStd", "-o", tmp_path / "a.dxf")
+    assert status == 2 and "has no places" in err
+    assert called(capsys, "draw", FILES / "twice.FCStd", "-o", tmp_path / "a.dxf",
+                  "--as-drawn")[0] == 0
+    status, _, err = called(capsys, "draw", FILES / "body.FCStd", "-o", tmp_path / "b.svg")
+    assert status == 2 and "choose one by --sketch NAME" in err
+    assert called(capsys, "draw", FILES / "body.FCStd", "-o", tmp_path / "b.svg", "--sketch",
+                  "Sketch001")[0] == 0
+
+
+def test_a_dxf_outline_is_dimensioned_by_nothing(capsys: pytest.CaptureFixture[str],
+                                                 tmp_path: Path) -> None:
+    out = tmp_path / "plate.dxf"
+    assert called(capsys, "draw", FILES / "plate.FCStd", "-o", out)[0] == 0
+    sketch = sketch_of(capsys, out)
+    assert sketch["verdict"] == "open" and sketch["places"] is None
