@@ -88,7 +88,7 @@ def test_each_sketch_of_a_file_is_judged(capsys: pytest.CaptureFixture[str]) -> 
 
 def test_what_is_left_out_is_told(capsys: pytest.CaptureFixture[str]) -> None:
     _, out, _ = called(capsys, "judge", FILES / "spline.FCStd")
-    assert "  left out: BSplineCurve2: a drawing has no b spline curve" in out.splitlines()
+    assert "  left out: BSplineCurve2: a drawing has no spline" in out.splitlines()
 
 
 def test_places_are_written_back(capsys: pytest.CaptureFixture[str], tmp_path: Path) -> None:

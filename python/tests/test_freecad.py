@@ -103,8 +103,11 @@ def test_what_was_switched_off_stands_aside() -> None:
 def test_what_a_drawing_has_not_is_named() -> None:
     told = [str(each) for each in found("ellipse").left_out]
     assert told[0] == "Ellipse5: a drawing has no ellipse"
+    assert told[1:5] == [f"{name}: it belongs to a curve that is left out"
+                         for name in ("Line6", "Line7", "Point8", "Point9")]
     assert told[-1] == "Constraint16: it speaks of Ellipse5, which is left out"
-    assert str(found("spline").left_out[0]) == "BSplineCurve2: a drawing has no b spline curve"
+    assert len(found("ellipse").drawing.geometry) == 4
+    assert str(found("spline").left_out[0]) == "BSplineCurve2: a drawing has no spline"
 
 
 def test_construction() -> None:

@@ -11,7 +11,7 @@ from pertxogai.freecad.archive import DOCUMENT, open_archive, read_member
 from pertxogai.freecad.markup import BadMarkup, Kept, Node, read_markup
 from pertxogai.freecad.outer import Shelf, outer_shapes
 from pertxogai.freecad.shapes import Numbered, read_outer, read_shapes
-from pertxogai.freecad.ties import Shapes, name_of, read_entry, say
+from pertxogai.freecad.ties import Shapes, name_of, part_of_a_curve, read_entry, say
 from pertxogai.gathering import Gathering
 
 MOST_ENTRIES = 8_000
@@ -78,8 +78,18 @@ def _shapes(kept: Kept, shelf: Shelf, gathering: Gathering) -> list[Numbered]:
     outer, outer_left_out = read_outer(stored) if stored else outer_shapes(kept, shelf)
     for one in left_out + outer_left_out:
         gathering.leave_out(one.what, one.why)
-    return [one if one.shape is not None and gathering.add_shape(one.shape)
-            else replace(one, shape=None) for one in shapes + outer]
+    parts = {part_of_a_curve(node) for node in kept.list_of("Constraints")}
+    return [_added(one, one.number in parts, gathering) for one in shapes + outer]
+
+
+def _added(one: Numbered, is_part: bool, gathering: Gathering) -> Numbered:
+    """A shape once it was added; without its shape where it is a part of a curve that is left
+    out, or unsound."""
+    if one.shape is not None and is_part:
+        gathering.leave_out(one.name, "it belongs to a curve that is left out")
+    elif one.shape is not None and gathering.add_shape(one.shape):
+        return one
+    return replace(one, shape=None)
 
 
 def _said_aside(node: Node, count: int, shapes: Shapes) -> tuple[Constraint, ...]:

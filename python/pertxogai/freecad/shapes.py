@@ -18,6 +18,8 @@ from pertxogai.freecad.values import length_um, number, place
 FIRST_OUTER = -3
 """FreeCAD's number of the first outer shape; -1 and -2 are the axes."""
 
+_OTHERS = {"Ellipse": "ellipse", "ArcOfEllipse": "arc of an ellipse", "BSplineCurve": "spline",
+           "ArcOfHyperbola": "arc of a hyperbola", "ArcOfParabola": "arc of a parabola"}
 _FLAGS = "geometryModeFlags"
 _CONSTRUCTION_FLAG = 1
 
@@ -59,7 +61,7 @@ def _read(entries: list[tuple[int, Node]]) -> tuple[list[Numbered], list[LeftOut
         dress = _Dress(name, _is_construction(node), count < 0)
         try:
             if kind not in _KINDS:
-                raise Unsaid(f"a drawing has no {_plain(kind)}")
+                raise Unsaid(f"a drawing has no {_OTHERS.get(kind, kind)}")
             shapes.append(Numbered(count, name, _KINDS[kind].read(body_of(node), dress)))
         except Unsaid as unsaid:
             shapes.append(Numbered(count, name, None))
@@ -70,11 +72,6 @@ def _read(entries: list[tuple[int, Node]]) -> tuple[list[Numbered], list[LeftOut
 def _name(count: int, word: str) -> str:
     """What the drawing calls a shape."""
     return f"{word}{count + 1}" if count >= 0 else f"Outer{FIRST_OUTER - count + 1}"
-
-
-def _plain(kind: str) -> str:
-    """A kind in plain words: ArcOfEllipse is `arc of ellipse`."""
-    return "".join(" " + letter.lower() if letter.isupper() else letter for letter in kind).strip()
 
 
 def body_of(node: Node) -> Node:

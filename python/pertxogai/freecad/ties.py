@@ -106,6 +106,17 @@ def read_entry(node: Node, count: int) -> Entry:
                  name_of(node, count))
 
 
+def part_of_a_curve(node: Node) -> int | None:
+    """The number of the shape that an entry makes a part of a curve, as the axis of an ellipse;
+    None where it is no such entry."""
+    try:
+        if whole(node, "Type", "0") == Kind.INTERNAL_ALIGNMENT:
+            return whole(node, "First", str(_NO_SHAPE))
+    except Unsaid:
+        pass
+    return None
+
+
 def name_of(node: Node, count: int) -> str:
     """What FreeCAD shows as the name of a constraint."""
     return node.get("Name", "") or f"Constraint{count}"

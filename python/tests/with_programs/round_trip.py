@@ -28,6 +28,7 @@ NEAR_MM = 0.002
 KNOWN = {
     "cam": "arcs whose radius nothing tells",
     "free-plate": "rigid, and not held to the origin, which FreeCAD counts as two freedoms",
+    "ellipse": "what is left out is free",
     "spline": "what is left out is free",
 }
 """Files on which the verdict and FreeCAD's freedoms differ, and why."""
