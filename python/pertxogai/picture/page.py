@@ -9,8 +9,8 @@ from .marks import Bow, Dimension, Dot, LengthBar, Mark, Ring, Scene, Spot, Stro
 from .plane import sweep
 
 MARGIN = 44.0
-LEAST_WIDTH, MOST_WIDTH = 560.0, 6000.0
-SHAPE = 330 / 560
+WIDTH, HEIGHT, MOST = 560.0, 330.0, 8000.0
+ROOM = 2600.0
 
 
 @dataclass(frozen=True)
@@ -29,20 +29,23 @@ class Page:
 
     @staticmethod
     def fitted(scene: Scene) -> Page:
-        """The page that holds a scene: wider the more there is to name, and as high as need be."""
+        """The page that holds a scene: larger the more there is to name, and no higher than it need be."""
         spots = [spot for mark in (*scene.marks, *scene.dimensions) for spot in _corners(mark)] or [(0.0, 0.0)]
         low = min(x for x, _ in spots), min(y for _, y in spots)
         high = max(x for x, _ in spots), max(y for _, y in spots)
         wide, tall = max(high[0] - low[0], 1e-3), max(high[1] - low[1], 1e-3)
-        width = min(max(LEAST_WIDTH, 72 * math.sqrt(len(scene.marks) + len(scene.dimensions))), MOST_WIDTH)
-        scale = min((width - 2 * MARGIN) / wide, (width * SHAPE * _height_factor(scene) - 2 * MARGIN) / tall)
+        scale = _scale(wide, tall, len(scene.marks) + len(scene.dimensions))
+        width = max(WIDTH, float(round(wide * scale + 2 * MARGIN)))
         height = float(round(tall * scale + 2 * MARGIN))
-        return Page(float(round(width)), height, scale, ((low[0] + high[0]) / 2, (low[1] + high[1]) / 2))
+        return Page(width, height, scale, ((low[0] + high[0]) / 2, (low[1] + high[1]) / 2))
 
 
-def _height_factor(scene: Scene) -> float:
-    """Pictures with much to name may be nearly square."""
-    return 1.0 if len(scene.marks) <= 20 else 1.5
+def _scale(wide: float, tall: float, count: int) -> float:
+    """The pixels of a millimetre, for a scene so wide and tall that has so many things: as many as fit the page, or
+    more where each wouldn't have its room; but no side gets longer than MOST."""
+    fits = min((WIDTH - 2 * MARGIN) / wide, (HEIGHT - 2 * MARGIN) / tall)
+    roomy = math.sqrt(ROOM * count / (max(wide, tall / 6) * max(tall, wide / 6)))
+    return min(max(fits, roomy), MOST / max(wide, tall))
 
 
 def _corners(mark: Mark | Dimension) -> Iterable[Spot]:
