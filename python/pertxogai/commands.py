@@ -120,7 +120,8 @@ def _judged(found: Input, program: Asks, freeze: bool) -> JudgedSketch | JudgedD
 
 
 def _judged_drawing(found: DesignerDrawing, program: Asks, freeze: bool) -> JudgedDrawing:
-    return JudgedDrawing(found.name, found.drawing, judge(found.drawing, program, freeze), found.left_out)
+    return JudgedDrawing(found.name, found.drawing, judge(found.drawing, program, freeze), found.left_out,
+                         found.aside)
 
 
 def _json(judged: JudgedSketch | JudgedDrawing) -> dict[str, object]:

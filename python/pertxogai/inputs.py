@@ -26,12 +26,14 @@ class SketchText:
 
 @dataclass(frozen=True)
 class DesignerDrawing:
-    """A designer's drawing, what of the file couldn't be said in it, and the file's own name of it."""
+    """A designer's drawing, what of the file couldn't be said in it, the file's own name of it, and which of the
+    file's constraints only measure or are switched off."""
 
     name: str
     drawing: Drawing
     left_out: tuple[str, ...] = ()
     key: str = ""
+    aside: tuple[str, ...] = ()
 
 
 Input = SketchText | DesignerDrawing
@@ -101,7 +103,8 @@ def _read_outline(path: Path) -> tuple[Input, ...]:
 
 
 def _found(found: FoundSketch) -> DesignerDrawing:
-    return DesignerDrawing(found.label or found.name, found.drawing, tuple(map(str, found.left_out)), found.name)
+    aside = tuple(f"{each.name} ({each.why.value})" for each in found.aside)
+    return DesignerDrawing(found.label or found.name, found.drawing, tuple(map(str, found.left_out)), found.name, aside)
 
 
 def _write_freecad(path: Path, out: Path, solutions: Mapping[str, Solution]) -> None:

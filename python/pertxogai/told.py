@@ -15,12 +15,14 @@ from pertxogai.upright import upright
 
 @dataclass(frozen=True)
 class JudgedDrawing:
-    """A drawing, the judgement on it, and what of its file the drawing can't say."""
+    """A drawing, the judgement on it, what of its file the drawing can't say, and which of the
+    file's constraints only measure or are switched off."""
 
     name: str
     drawing: Drawing
     judgement: Judgement
     not_drawn: tuple[str, ...] = ()
+    aside: tuple[str, ...] = ()
 
     def is_placed(self) -> bool:
         """Whether it is well and has places, and all of the file was judged."""
@@ -49,6 +51,7 @@ def drawing_json(judged: JudgedDrawing) -> dict[str, object]:
         "spelled": judgement.style.value,
         "exact": not (judgement.frozen or judgement.rounded or judged.left_out()),
         "left_out": list(judged.left_out()),
+        "aside": list(judged.aside),
         "frozen": list(judgement.frozen),
         "spare": [_spare(each) for each in judgement.surplus],
         "places": _places(judged.drawing, judgement.solution) if judgement.solution else None,
@@ -66,6 +69,7 @@ def told(judged: JudgedDrawing) -> Iterator[str]:
     yield (f"{judged.name}: {judgement.verdict.value}, spelled {judgement.style.value}, elements "
            f"{check.elements}, constraints {check.constraints}, parts {len(check.parts)}")
     yield from (f"  left out: {what}" for what in judged.left_out())
+    yield from (f"  not asked for: {what}" for what in judged.aside)
     yield from (f"  taken as drawn, and measured: {what}" for what in judgement.frozen)
     yield from _placed_lines(judged)
     yield from _failure_lines(judgement)

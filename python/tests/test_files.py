@@ -91,6 +91,11 @@ def test_what_is_left_out_is_told(capsys: pytest.CaptureFixture[str]) -> None:
     assert "  left out: BSplineCurve2: a drawing has no spline" in out.splitlines()
 
 
+def test_what_only_measures_is_told(capsys: pytest.CaptureFixture[str]) -> None:
+    status, out, _ = called(capsys, "judge", FILES / "reference.FCStd")
+    assert status == 0 and "  not asked for: diagonal (reference)" in out.splitlines()
+
+
 def test_places_are_written_back(capsys: pytest.CaptureFixture[str], tmp_path: Path) -> None:
     out = tmp_path / "out.FCStd"
     status, _, err = called(capsys, "judge", FILES / "wedge.FCStd", "--write", out)
