@@ -70,9 +70,10 @@ def ask_styles(drawing: Drawing, program: Asks, freeze: bool) -> Asked:
 def _best_style(axes: Axes, program: Asks) -> Asked:
     """The first style that is placed, else the best; what is linear and told twice is told so to the program."""
     best: Asked | None = None
-    for style in ONE_BY_ONE if axes.told else SOLVED_FIRST:
+    twice = bool(axes.surplus() or axes.conflicts())
+    for style in ONE_BY_ONE if twice else SOLVED_FIRST:
         asked = _placed(ask(axes, style, program), program)
-        if axes.told and asked.check.verdict is Verdict.WELL:
+        if twice and asked.check.verdict is Verdict.WELL:
             continue
         if isinstance(asked.solved, Solved):
             return asked

@@ -10,11 +10,11 @@ from pertxogai.answers.missing import Missing, missing
 from pertxogai.answers.naming import Names
 from pertxogai.answers.solution import solution_of
 from pertxogai.answers.warnings import Warning, warnings
-from pertxogai.drawing import Drawing
+from pertxogai.drawing import Circle, Drawing
 from pertxogai.measure import Deviation, Solution, Unit, measure
 from pertxogai.program import Asks
 from pertxogai.reports import Solved, Verdict, read_plan, read_spare
-from pertxogai.spelling.facts import Owner
+from pertxogai.spelling.facts import RadiusOf
 from pertxogai.spelling.style import Style
 
 WITHIN_NM = 2
@@ -38,14 +38,6 @@ class Surplus:
         if self.off is None:
             return None
         return self.off.amount <= (WITHIN_NM if self.off.unit is Unit.NM else WITHIN_PPB)
-
-
-@dataclass(frozen=True)
-class Told:
-    """A constraint by its place in the drawing, from 1, and its name."""
-
-    number: int
-    name: str
 
 
 @dataclass(frozen=True)
@@ -102,8 +94,18 @@ class Judgement:
 
     @property
     def repeats(self) -> tuple[str, ...]:
-        """What tells of one point that it is itself, or that it lies on a line of its own."""
-        return self.names.owners([*self.asked.axes.facts.repeats, *self.asked.axes.lines.repeats])
+        """What says again what follows already, and is no line of a sketch: a direction, a size, a point that is
+        itself."""
+        return self.names.owners(self.asked.axes.repeats())
+
+    @property
+    def undimensioned(self) -> tuple[str, ...]:
+        """The circles of which nothing says the radius; they are shown as they are drawn."""
+        axes = self.asked.axes
+        said = {key for equation in axes.equations for key in equation.form.terms}
+        said |= {key for fact in axes.loose for key in fact.value.terms}
+        return tuple(shape.name for shape in self.names.drawing.geometry
+                     if isinstance(shape, Circle) and RadiusOf(shape.name) not in said)
 
 
 def judge(drawing: Drawing, program: Asks, freeze: bool = False) -> Judgement:
@@ -205,4 +207,4 @@ def _worst(deviations: Iterable[Deviation], number: int) -> Deviation | None:
     return max(mine, key=lambda each: (each.unit is Unit.NM, each.amount), default=None)
 
 
-__all__ = ["Judgement", "Owner", "Surplus", "Told", "judge"]
+__all__ = ["Judgement", "Surplus", "judge"]

@@ -12,7 +12,7 @@ from typing import Protocol
 from pertxogai.drawing import X_AXIS
 from pertxogai.spelling.directions import Directions
 from pertxogai.spelling.facts import (
-    ORIGIN_KNOT, Apart, Fact, Facts, Knot, Line, Middle, Mirror, Off, Owner, Shift, Sized, Stays)
+    ORIGIN_KNOT, Apart, Fact, Facts, HalfOf, Knot, Leans, Line, Middle, Mirror, Off, Owner, RadiusOf, Shift, Sized, Stays)
 from pertxogai.spelling.lean import Lean
 from pertxogai.spelling.lines import Lines
 from pertxogai.values import Form, LinearSystem, Told
@@ -101,6 +101,27 @@ class Axes:
             pass
         return other
 
+    def surplus(self) -> list[tuple[Equation, Told]]:
+        """The equations that say nothing new, but for radii that are told again as they are."""
+        return [(equation, told) for equation, told in self.told
+                if told.amount or not all(isinstance(key, RadiusOf) for key in equation.form.terms)]
+
+    def conflicts(self) -> list[Leans]:
+        """The leans that are another than what follows from the others."""
+        return [leans for leans in self.directions.told
+                if self.directions.between(leans.first, leans.second) != leans.lean]
+
+    def repeats(self) -> frozenset[Owner]:
+        """Who says again, and says nothing else, what is no line of a sketch: that a point is itself or lies on its
+        own line, a direction that follows from others, a size that is known."""
+        found = {*self.facts.repeats, *self.lines.repeats}
+        found |= {leans.owner for leans in self.directions.told if leans not in self.conflicts()}
+        for equation, told in self.told:
+            if (equation, told) not in self.surplus():
+                found |= equation.owners
+                found |= {owner for mark in told.marks for owner in self.equations[mark].owners}
+        return frozenset(found)
+
     # -- frames
 
     def _merge_parallels(self) -> bool:
@@ -164,9 +185,9 @@ class Axes:
         for upwards in (False, True):
             self.tell(self.at(DATUM, upwards, ORIGIN_KNOT), frozenset())
         for line in self.lines.all():
-            upwards = self.fixed_axis(line)
-            if upwards is not None:
-                self._line_says(line, upwards)
+            axis = self.fixed_axis(line)
+            if axis is not None:
+                self._line_says(line, axis)
 
     def _line_says(self, line: Line, upwards: bool) -> None:
         """That all points of a line share a coordinate, but for those of which that is why its direction is known."""
@@ -222,6 +243,9 @@ class Axes:
         line = self.lines.leader(fact.line)
         upwards = self.fixed_axis(line)
         if upwards is None:
+            for knot in (fact.first, fact.second):
+                half = Form.of(HalfOf(fact.owner))
+                self.loose.append(Off(knot, fact.line, half, self.facts.left(knot, fact.line), fact.owner))
             return
         frame = self.frame(line).number
         on_line = self.at(frame, upwards, self.lines.members(line)[0].knot)

@@ -2,11 +2,12 @@
 from __future__ import annotations
 
 from fractions import Fraction
+from math import atan2, cos, hypot, pi, sin, sqrt
 
 from pertxogai.drawing import (
-    ORIGIN, X_AXIS, Y_AXIS, AngleBetween, Arc, Circle, Coincident, Collinear, Concentric, Constraint, Diameter,
-    Distance, Drawing, Equal, Fixed, Horizontal, Length, Midpoint, Pair, Parallel, ParallelDistance, Perpendicular,
-    Place, PointLineDistance, PointOn, PointRef, Radius, Segment, Shape, ShapeRef, Slope, Symmetric, Tangent, Touch, Vertical,
+    ORIGIN, X_AXIS, Y_AXIS, AngleBetween, Arc, Axis, Circle, Coincident, Collinear, Concentric, Constraint, Degrees, Diameter,
+    Distance, Drawing, Equal, Fixed, Horizontal, Length, Midpoint, Origin, Pair, Parallel, ParallelDistance, Perpendicular,
+    Place, PointLineDistance, PointOn, PointRef, Radius, Segment, Sense, Shape, ShapeRef, Slope, Symmetric, Tangent, Touch, Vertical,
     Which, XDistance, YDistance, points_of, run_um, touch, turn)
 from pertxogai.spelling.facts import (
     ORIGIN_KNOT, Apart, Between, Fact, Facts, Knot, LengthOf, Leans, Lies, Line, Middle, Mirror, Off, OneLine, Owner,
@@ -38,6 +39,9 @@ class _Lowering:
         self.facts.own[Y_AXIS] = (ORIGIN_KNOT, ORIGIN_KNOT)
         for number, shape in enumerate(drawing.geometry, 1):
             self._shape(shape, Owner(number, True))
+        for constraint in drawing.constraints:
+            if isinstance(constraint, AngleBetween) and constraint.sense is Sense.SIGNED:
+                self._redraw(constraint)
         for number, constraint in enumerate(drawing.constraints, 1):
             self._constraint(constraint, Owner(number))
 
@@ -176,6 +180,22 @@ class _Lowering:
             case Collinear(first, second):
                 self._say(OneLine(first, second, owner))
 
+    def _redraw(self, angle: AngleBetween) -> None:
+        """Draws a segment as its signed angle says, where it is drawn more than half a right angle off."""
+        first, second = self.facts.direction(angle.first), self.facts.direction(angle.second)
+        asked = turn(self.drawing, angle)
+        if isinstance(asked, Degrees):
+            radians = float(asked.value) * pi / 180
+        else:
+            radians = atan2(asked.p, asked.q) + (pi if asked.backward else 0)
+        goal = atan2(float(first[1]), float(first[0])) + radians
+        size = hypot(float(second[0]), float(second[1]))
+        if isinstance(self.drawing.shape(angle.second.name), Segment) and cos(
+                goal - atan2(float(second[1]), float(second[0]))) < sqrt(0.5):
+            start, end = self._ends(angle.second.name)
+            x, y = self.facts.drawn[start]
+            self.facts.drawn[end] = (x + Fraction(size * cos(goal)), y + Fraction(size * sin(goal)))
+
     def _on(self, point: Knot, curve: ShapeRef, owner: Owner) -> None:
         if isinstance(self.drawing.shape(curve.name), RIMS):
             self._apart(self._centre(curve), point, Form.of(RadiusOf(curve.name)), owner)
@@ -254,7 +274,7 @@ class _Lowering:
     def _fixed(self, what: PointRef | ShapeRef, owner: Owner) -> None:
         if isinstance(what, ShapeRef):
             shape = self.drawing.shape(what.name)
-            if isinstance(shape, Shape):
+            if not isinstance(shape, (Origin, Axis)):
                 self._stays(shape, owner)
             return
         x, y = self.facts.drawn[self._knot(what)]

@@ -10,7 +10,7 @@ from pertxogai import language
 from pertxogai.drawing import X_AXIS, Y_AXIS
 from pertxogai.spelling.axes import DATUM, Axes, Coordinate, Equation, Frame
 from pertxogai.spelling.drafts import Draft, Rounded, Sheet, Spot
-from pertxogai.spelling.facts import ORIGIN_KNOT, Between, Knot, Line, Owner
+from pertxogai.spelling.facts import ORIGIN_KNOT, Between, Knot, Leans, Line, Owner
 from pertxogai.spelling.lean import SQUARE, Lean
 from pertxogai.spelling.rails import Rail, Rails, Run
 from pertxogai.spelling.style import Style
@@ -132,7 +132,7 @@ class _Writer:
         for knot in dict.fromkeys(self.axes.facts.refs.values()):
             if knot != ORIGIN_KNOT:
                 self.points[knot] = f"P{knot.number}"
-            elif origin:
+            elif origin or len(set(self.axes.facts.refs.values())) == 1:
                 self.points[knot] = "O"
 
     def _tracks(self) -> list[Track]:
@@ -391,10 +391,23 @@ class _Writer:
 
     def write_told(self) -> None:
         """Spells each dimension again that follows from others: as a height over a rail, else between two points."""
-        for number, (equation, told) in enumerate(self.axes.told):
+        for leans in self.axes.conflicts():
+            self._told_angle(leans)
+        for number, (equation, told) in enumerate(self.axes.surplus()):
             circuit = frozenset(owner for mark in told.marks for owner in self.axes.equations[mark].owners)
             if not self._told_height(equation, told, circuit):
                 self._told_size(number, equation, told, circuit)
+
+    def _told_angle(self, leans: Leans) -> None:
+        """An angle that isn't as others say: as two that are told of two lines of its own."""
+        known = self.axes.directions.between(leans.first, leans.second)
+        lean = leans.lean if known is None or known.level() else known
+        names = f"V{len(self.sheet.lines)}", f"W{len(self.sheet.lines)}"
+        zero, ahead = (Fraction(0), Fraction(0)), (Fraction(1000), Fraction(0))
+        self.sheet.lines[names[0]] = (zero, ahead)
+        self.sheet.lines[names[1]] = (zero, (Fraction(cos(lean.radians())) * 1000, Fraction(sin(lean.radians())) * 1000))
+        for owners in (self.axes.directions.owners(leans.first, leans.second), {leans.owner}):
+            self.sheet.drafts.append(Draft(*names, frozenset(owners), ratio=lean.ratio()))
 
     def _told_height(self, equation: Equation, told: Told, circuit: frozenset[Owner]) -> bool:
         for key, factor in equation.form.terms.items():
