@@ -2,11 +2,12 @@
 
 from __future__ import annotations
 
+from collections.abc import Iterator
 from dataclasses import dataclass
 
 from pertxogai.dxf import Release, dxf_text
-from pertxogai.picture import Picture, picture_of, scene_of_designed
-from pertxogai.picture.marks import Scene
+from pertxogai.picture import Ink, Marking, Picture, Scene, picture_of, scene_of_designed
+from pertxogai.shape_parts import parts_of_shapes
 from pertxogai.told import JudgedDrawing, told
 
 
@@ -34,6 +35,18 @@ class DrawingSheet:
 
     def _scene(self) -> Scene:
         judged = self.judged
-        solution = None if self.as_drawn else judged.judgement.solution
-        notes = () if solution is not None or self.as_drawn else tuple(told(judged))
-        return scene_of_designed(judged.drawing, solution, judged.name, notes)
+        if self.as_drawn:
+            return scene_of_designed(judged.drawing, None, judged.name)
+        judgement = judged.judgement
+        if judgement.solution is not None:
+            return scene_of_designed(judged.drawing, judgement.solution, judged.name)
+        spare = frozenset(each.number for each in judgement.surplus)
+        marking = Marking(parts_of_shapes(judgement), spare, tuple(self._legend()))
+        return scene_of_designed(judged.drawing, None, judged.name, marking)
+
+    def _legend(self) -> Iterator[tuple[str, Ink]]:
+        """What was judged, each piece in its colour."""
+        pieces = self.judged.judgement.missing.pieces if self.judged.judgement.missing else ()
+        numbers = {f"piece {piece.number}": piece.number for piece in pieces}
+        for line in told(self.judged):
+            yield line, Ink(part=numbers.get(line.strip().partition(":")[0]))

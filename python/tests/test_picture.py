@@ -13,7 +13,7 @@ from pertxogai.judged import judge_sketch
 from pertxogai.language import Sketch
 from pertxogai.measure import Frame, Solution
 from pertxogai.picture import (
-    Bow, Dot, Ink, LengthBar, Manner, Ring, Scene, Square, Stroke, Tag, picture_of, picture_of_designed,
+    Bow, Dot, Ink, LengthBar, Manner, Marking, Ring, Scene, Square, Stroke, Tag, picture_of, picture_of_designed,
     picture_of_drawing, picture_of_parts, picture_of_shape)
 from pertxogai.picture.page import Figure, Page
 from pertxogai.picture.placed import LaidLine, Motion, as_drawn, as_placed, laid_on, segments
@@ -194,3 +194,14 @@ def test_plane_geometry() -> None:
     assert not crosses((-5, -1), (15, -1), box) and not crosses((-5, 8), (3, 16), box)
     assert crossing(((0, 0), (1, 0)), ((5, 5), (5, 6))) == (5, 0)
     assert crossing(((0, 0), (1, 0)), ((5, 5), (6, 5))) is None
+
+
+def test_pieces_of_a_drawing_have_colours_and_what_may_go_is_marked() -> None:
+    drawing = read_drawing("segment A 0 0 60 0\nsegment B 0 20 60 20\nhorizontal A B\nlength A 60\nlength B 50\n")
+    marking = Marking({"A": 1, "B": 2}, frozenset({1, 3}), (("piece 2: B", Ink(part=2)), ("long " * 40, Ink())))
+    svg = picture_of_designed(drawing, None, "two", marking).svg
+    root = ElementTree.fromstring(svg)
+    classes = [it.get("class") for it in root.iter(f"{SVG}line")]
+    assert classes.count("edge p1") == 1 and classes.count("edge p2") == 1 and classes.count("spare") == 1
+    assert {drawing.called(1), "60", "50", "piece 2: B"} <= set(texts_of(svg))
+    assert max(map(len, texts_of(svg))) < 80    # what is long goes on in the next line

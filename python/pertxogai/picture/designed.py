@@ -2,11 +2,11 @@
 from __future__ import annotations
 
 import math
-from collections.abc import Iterator, Sequence
-from dataclasses import dataclass
+from collections.abc import Iterator, Mapping, Sequence
+from dataclasses import dataclass, field
 from fractions import Fraction
 
-from ..drawing import (AngleBetween, Arc, Axis, Circle, Constraint, Degrees, Diameter, Distance, Drawing, Length,
+from ..drawing import (AngleBetween, Arc, Axis, Circle, Constraint, Degrees, Diameter, Distance, Drawing, Length, Pair,
                        ParallelDistance, Point, PointLineDistance, PointRef, Radius, Segment, Shape, ShapeRef, Which,
                        XDistance, YDistance)
 from ..measure import Solution
@@ -15,21 +15,37 @@ from .plane import between, crossing, foot, sweep, unit
 from .svg import Picture, picture_of
 
 BAR = Ink(Manner.BAR)
+SPARE = Ink(Manner.SPARE)
+
+
+@dataclass(frozen=True)
+class Marking:
+    """What a picture of a drawing tells beside its shapes: the part of each shape, by its name; which constraints may
+    go, by their places from 1; and the lines below."""
+
+    parts: Mapping[str, int] = field(default_factory=dict)
+    spare: frozenset[int] = frozenset()
+    legend: tuple[tuple[str, Ink], ...] = ()
 
 
 def picture_of_designed(drawing: Drawing, solution: Solution | None = None, title: str = "a drawing",
-                        notes: Sequence[str] = ()) -> Picture:
-    """A drawing as it is, or where its points are placed, seen from its datum; notes stand below."""
-    return picture_of(scene_of_designed(drawing, solution, title, notes))
+                        marking: Marking = Marking()) -> Picture:
+    """A drawing as it is, or where its points are placed, seen from its datum."""
+    return picture_of(scene_of_designed(drawing, solution, title, marking))
 
 
 def scene_of_designed(drawing: Drawing, solution: Solution | None = None, title: str = "a drawing",
-                      notes: Sequence[str] = ()) -> Scene:
+                      marking: Marking = Marking()) -> Scene:
     """The same as a scene, to which more can be added."""
     where = Whereabouts(drawing, solution)
-    dimensions = [it for constraint in drawing.constraints for it in where.dimensions(constraint)]
-    marks = tuple(where.mark(shape) for shape in drawing.geometry)
-    return Scene(title, marks, tuple(dimensions), tuple((note, Ink()) for note in notes))
+    marks = tuple(where.mark(shape, marking.parts.get(shape.name)) for shape in drawing.geometry)
+    dimensions: list[Dimension] = []
+    for number, constraint in enumerate(drawing.constraints, 1):
+        if number in marking.spare:
+            dimensions += where.spare(constraint, drawing.called(number))
+        else:
+            dimensions += where.dimensions(constraint, BAR)
+    return Scene(title, marks, tuple(dimensions), marking.legend)
 
 
 @dataclass(frozen=True)
@@ -56,9 +72,9 @@ class Whereabouts:
             return float(self.drawing.drawn_radius_um(name)) / 1e3
         return float(self.solution.radius(name)) / 1e6
 
-    def mark(self, shape: Shape) -> Mark:
-        """A shape as a mark."""
-        ink = Ink(Manner.CONSTRUCTION if shape.construction or shape.outer else Manner.EDGE)
+    def mark(self, shape: Shape, part: int | None) -> Mark:
+        """A shape as a mark, with the colour of a part."""
+        ink = Ink(Manner.CONSTRUCTION if shape.construction or shape.outer else Manner.EDGE, part)
         name = shape.name
         match shape:
             case Point():
@@ -77,29 +93,45 @@ class Whereabouts:
             return (0.0, 0.0), ((0.0, 1.0) if shape.upwards else (1.0, 0.0))
         return self.at(PointRef(name, Which.START)), self.at(PointRef(name, Which.END))
 
-    def dimensions(self, constraint: Constraint) -> Iterator[Dimension]:
+    def spare(self, constraint: Constraint, name: str) -> Sequence[Dimension]:
+        """A constraint that may go: its dimension, or its name at the first thing that it names."""
+        shown = list(self.dimensions(constraint, SPARE))
+        of = next((it for it in vars(constraint).values() if isinstance(it, (PointRef, ShapeRef, Pair))), None)
+        return shown or ([Tag(self._place_of(of), 0.0, name, SPARE)] if of else [])
+
+    def _place_of(self, thing: PointRef | ShapeRef | Pair) -> Spot:
+        """A place at which a text tells of a thing: a point, or the middle of a segment, arc or circle."""
+        if isinstance(thing, Pair):
+            return between(self.at(thing.first), self.at(thing.second), 0.5)
+        if isinstance(thing, PointRef):
+            return self.at(thing)
+        if isinstance(self.drawing.shape(thing.name), (Arc, Circle)):
+            return self._rim(thing)[0]
+        return between(*self.ends(thing.name), 0.5)
+
+    def dimensions(self, constraint: Constraint, ink: Ink) -> Iterator[Dimension]:
         """The dimension that a constraint is shown as; none for those that have no number."""
         match constraint:
             case Length(segment, value):
-                yield LengthBar(*self.ends(segment.name), mm(value), BAR)
+                yield LengthBar(*self.ends(segment.name), mm(value), ink)
             case Distance(first, second, value):
-                yield LengthBar(self.at(first), self.at(second), mm(value), BAR)
+                yield LengthBar(self.at(first), self.at(second), mm(value), ink)
             case XDistance(first, second, value) | YDistance(first, second, value):
-                yield self._run(isinstance(constraint, XDistance), self.at(first), self.at(second), mm(abs(value)))
+                yield self._run(isinstance(constraint, XDistance), self.at(first), self.at(second), mm(abs(value)), ink)
             case PointLineDistance(point, line, value):
-                yield LengthBar(self.at(point), foot(self.at(point), *self.ends(line.name)), mm(value), BAR)
+                yield LengthBar(self.at(point), foot(self.at(point), *self.ends(line.name)), mm(value), ink)
             case ParallelDistance(first, second, value):
                 start = between(*self.ends(first.name), 0.5)
-                yield LengthBar(start, foot(start, *self.ends(second.name)), mm(value), BAR)
+                yield LengthBar(start, foot(start, *self.ends(second.name)), mm(value), ink)
             case Radius(rim, value) | Diameter(rim, value):
-                yield Tag(*self._rim(rim), f"{'R' if isinstance(constraint, Radius) else 'Ø'}{mm(value)}", BAR)
+                yield Tag(*self._rim(rim), f"{'R' if isinstance(constraint, Radius) else 'Ø'}{mm(value)}", ink)
             case AngleBetween():
-                yield self._angle(constraint)
+                yield self._angle(constraint, ink)
 
-    def _run(self, is_x: bool, first: Spot, second: Spot, text: str) -> Dimension:
+    def _run(self, is_x: bool, first: Spot, second: Spot, text: str, ink: Ink) -> Dimension:
         """A dimension along an axis, at the height of its second point."""
         start = (first[0], second[1]) if is_x else (second[0], first[1])
-        return LengthBar(start, second, text, BAR)
+        return LengthBar(start, second, text, ink)
 
     def _rim(self, rim: ShapeRef) -> tuple[Spot, float]:
         """Where the dimension of a rim stands: around a circle, or at the middle of an arc."""
@@ -110,13 +142,13 @@ class Whereabouts:
         middle = first + turn / 2
         return (centre[0] + radius * math.cos(middle), centre[1] + radius * math.sin(middle)), 0.0
 
-    def _angle(self, angle: AngleBetween) -> Dimension:
+    def _angle(self, angle: AngleBetween, ink: Ink) -> Dimension:
         one, two = self.ends(angle.first.name), self.ends(angle.second.name)
         corner = crossing(one, two)
         near = corner is not None and min(math.dist(corner, end) for end in (*one, *two)) <= math.dist(*one)
         value = angle.value
         degrees = float(value.value) if isinstance(value, Degrees) else math.degrees(math.atan2(value.p, value.q))
-        return Tag(corner if corner and near else between(*two, 0.5), 0.0, f"{abs(degrees):.4g}°", BAR)
+        return Tag(corner if corner and near else between(*two, 0.5), 0.0, f"{abs(degrees):.4g}°", ink)
 
 
 def mm(um: Fraction) -> str:

@@ -6,6 +6,7 @@ from collections.abc import Iterator
 from dataclasses import dataclass
 from html import escape
 from pathlib import Path
+from textwrap import wrap
 
 from .marks import Bow, Dot, Ink, LengthBar, Manner, Ring, Scene, Spot, Square, Tag
 from .page import Figure, Page
@@ -15,6 +16,7 @@ from .texts import Text, Texts
 COLOURS = ("#1d3b5a", "#a8410b", "#1a7048", "#7a2a8c", "#8a6a00", "#0b6a8a", "#a01f4b", "#4d4d4d")
 SPARE_COLOUR = "#c01a1a"
 LEGEND_LINE = 20
+LEGEND_LETTER = 7.2
 STYLE = """
     .back { fill: #ffffff }
     .edge { stroke-width: 2; fill: none; stroke-linecap: round }
@@ -55,12 +57,14 @@ class _Drawer:
     def __init__(self, scene: Scene) -> None:
         self.scene, self.page = scene, Page.fitted(scene)
         self.figures = [Figure.of(mark, self.page) for mark in scene.marks]
+        self.legend = [(row, ink) for words, ink in scene.legend
+                       for row in wrap(words, int((self.page.width - 28) / LEGEND_LETTER), subsequent_indent="    ")]
         self.bars = [(self.page.at(it.start), self.page.at(it.end), it)
                      for it in scene.dimensions if isinstance(it, LengthBar)]
 
     def lines(self) -> Iterator[str]:
         """The lines of the SVG."""
-        wide, tall = self.page.width, self.page.height + LEGEND_LINE * len(self.scene.legend)
+        wide, tall = self.page.width, self.page.height + LEGEND_LINE * len(self.legend)
         size = f'width="{wide:g}" height="{tall:g}" viewBox="0 0 {wide:g} {tall:g}"'
         yield f'<svg xmlns="http://www.w3.org/2000/svg" {size}>'
         yield f"  <title>{escape(self.scene.title)}</title>"
@@ -102,9 +106,9 @@ class _Drawer:
                 yield f'  <polyline {_class(it.ink)} points="{" ".join(f"{a:.1f},{b:.1f}" for a, b in spots)}"/>'
 
     def _legend(self) -> Iterator[str]:
-        for row, (words, ink) in enumerate(self.scene.legend):
-            y = self.page.height + LEGEND_LINE * row + 6
-            yield f'  <text class="legend" {_fill(ink)} x="14" y="{y:.1f}">{escape(words)}</text>'
+        for row, (words, ink) in enumerate(self.legend):
+            x, y = 14 if words == words.lstrip() else 28, self.page.height + LEGEND_LINE * row + 6
+            yield f'  <text class="legend" {_fill(ink)} x="{x}" y="{y:.1f}">{escape(words.strip())}</text>'
 
 
 def _order(figure: Figure) -> int:
