@@ -72,19 +72,19 @@ def _best_style(axes: Axes, program: Asks) -> Asked:
     best: Asked | None = None
     twice = bool(axes.surplus() or axes.conflicts())
     for style in ONE_BY_ONE if twice else SOLVED_FIRST:
-        asked = _placed(ask(axes, style, program), program)
+        asked = placed(ask(axes, style, program), program)
         if twice and asked.check.verdict is Verdict.WELL:
             continue
         if isinstance(asked.solved, Solved):
             return asked
         if best is None or _worth(asked) > _worth(best):
             best = asked
-    return best or _placed(ask(axes, Style.VALUES, program, Care(insist=True)), program)
+    return best or placed(ask(axes, Style.VALUES, program, Care(insist=True)), program)
 
 
 def finer(asked: Asked, program: Asks) -> Asked:
     """The same with angles told as finely as can be, where that is still well and placed."""
-    fine = _placed(ask(asked.axes, asked.spelled.style, program, Care(fine=True)), program)
+    fine = placed(ask(asked.axes, asked.spelled.style, program, Care(fine=True)), program)
     return replace(fine, grown=asked.grown + fine.grown, frozen=asked.frozen) if _worth(fine) >= _worth(asked) else asked
 
 
@@ -105,7 +105,7 @@ def ask(axes: Axes, style: Style, program: Asks, care: Care = Care()) -> Asked:
         equations.append(more.equation)
 
 
-def _placed(asked: Asked, program: Asks) -> Asked:
+def placed(asked: Asked, program: Asks) -> Asked:
     """The places of what is well, by boxes, else by points."""
     if asked.check.verdict is not Verdict.WELL:
         return asked
@@ -123,7 +123,7 @@ def _frozen(asked: Asked, program: Asks) -> Asked:
         best = asked
         for choice in frozen_choices(asked.axes, asked.rails):
             trial = ask(choice.axes, asked.spelled.style, program)
-            trial = replace(_placed(trial, program), grown=asked.grown + trial.grown,
+            trial = replace(placed(trial, program), grown=asked.grown + trial.grown,
                             frozen=asked.frozen | {choice.owner})
             if trial.check.verdict is not Verdict.OVER and _worth(trial) > _worth(best):
                 best = trial

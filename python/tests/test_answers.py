@@ -1,0 +1,171 @@
+"""What a designer is told: what is missing, what is too much, what fails, what has turned, in the drawing's words."""
+from __future__ import annotations
+
+from fractions import Fraction
+
+import pytest
+
+from pertxogai.answers import Departure, Tie, judge
+from pertxogai.answers.faults import Unit as Measure
+from pertxogai.drawing import PointRef, Which, read_drawing
+from pertxogai.measure import Unit
+from pertxogai.reports import Verdict
+from pertxogai.spelling import Style
+
+PLATE = """rectangle Plate 0 0 61 39
+coincident PlateBottom.start Origin
+Width: length PlateTop 60
+Height: length PlateLeft 40
+"""
+
+
+def test_a_plate_is_well_and_placed_in_the_datums_frame(program):
+    found = judge(read_drawing(PLATE), program)
+    assert found.verdict is Verdict.WELL and found.style is Style.VALUES
+    assert found.solution.spot(PointRef("PlateTop", Which.START)) == (60_000_000, 40_000_000)
+    assert all(each.amount == 0 for each in found.deviations if each.unit is Unit.NM)
+    assert not (found.left_out or found.frozen or found.grown or found.rounded or found.repeats or found.warnings)
+
+
+def test_a_missing_height_is_counted_and_named_between_its_pieces(program):
+    found = judge(read_drawing(PLATE.replace("Height: length PlateLeft 40\n", "")), program)
+    assert found.verdict is Verdict.OPEN and found.solution is None
+    assert found.missing.count == 1
+    joint, = found.missing.joints
+    assert joint.tie is Tie.HINGE or joint.tie is Tie.SLIDE or joint.tie is Tie.LOOSE
+    shown = [name for piece in found.missing.pieces for name in piece.elements]
+    assert "PlateTop.start" in shown or "PlateTop.end" in shown or "PlateRight.end" in shown
+    assert not any(name.startswith(("R", "X", "Y", "N", "L")) for name in shown)
+
+
+def test_two_triangles_at_a_hinge_lack_one_dimension_about_their_point(program):
+    text = ("point A 0 0\npoint B 30 0\npoint C 0 40\npoint D -30 0\npoint E -30 -40\n"
+            "distance A B 30\ndistance A C 40\ndistance B C 50\n"
+            "distance A D 30\ndistance A E 50\ndistance D E 40\n")
+    found = judge(read_drawing(text), program)
+    assert found.missing.count == 1
+    joint, = found.missing.joints
+    assert joint.tie is Tie.HINGE and joint.shared == ("A",)
+    assert joint.first.elements == ("A", "B", "C") and joint.second.elements == ("A", "D", "E")
+
+
+def test_a_dimension_told_twice_repeats(program):
+    found = judge(read_drawing(PLATE + "Again: x PlateBottom.end 60\n"), program)
+    assert found.verdict is Verdict.OVER
+    names = {each.name: each for each in found.surplus}
+    assert {"Width", "Again"} <= set(names) and "Height" not in names
+    assert names["Again"].repeats() and names["Width"].off.amount == 0
+
+
+def test_a_dimension_that_contradicts_is_off_by_the_difference(program):
+    found = judge(read_drawing(PLATE + "Again: x PlateBottom.end 60.005\n"), program)
+    assert found.verdict is Verdict.OVER
+    names = {each.name: each for each in found.surplus}
+    assert names["Again"].repeats() is False and names["Again"].off.amount == 5000
+    assert names["Width"].off.amount == 5000
+
+
+def test_a_surplus_that_is_no_line_of_x_or_y_is_the_programs_too(program):
+    text = ("point A 0 0\npoint B 30 0\npoint C 0 40\npoint D 30 40\n"
+            "S1: distance A B 30\nS2: distance A C 40\nS3: distance B C 50\nS4: distance B D 40\nS5: distance C D 30\n"
+            "S6: distance A D 50\n")
+    found = judge(read_drawing(text), program)
+    assert found.verdict is Verdict.OVER
+    assert [each.name for each in found.surplus] == ["S1", "S2", "S3", "S4", "S5", "S6"]
+    assert all(each.repeats() for each in found.surplus)
+
+
+def test_directions_that_contradict_are_over(program):
+    text = ("segment A 0 0 40 0\nsegment B A.end 60 35\ncoincident A.start Origin\nhorizontal A\nlength A 40\n"
+            "length B 40\nFirst: angle A B 120deg\nOther: angle A B 121deg\n")
+    found = judge(read_drawing(text), program)
+    assert found.verdict is Verdict.OVER
+    assert {"First", "Other"} <= {each.name for each in found.surplus}
+    assert all(each.repeats() is False for each in found.surplus if each.off is not None)
+
+
+def test_no_such_triangle_names_its_three_sides_and_the_gap(program):
+    text = "point A 0 0\npoint B 5 0\npoint C 2 1\nLong: distance A B 5\nLeft: distance A C 1\nRight: distance B C 1\n"
+    found = judge(read_drawing(text), program)
+    assert found.verdict is Verdict.WELL and found.solution is None
+    assert found.failure.dimensions == ("Long", "Left", "Right")
+    assert set(found.failure.at) == {"A", "B", "C"}
+    assert found.failure.amount.unit is Measure.SQUARE_MM
+    assert found.failure.amount.low == found.failure.amount.high == Fraction(-21, 4)
+
+
+def test_the_gap_is_told_in_the_drawings_size(program):
+    text = ("point A 0 0\npoint B 5 0\npoint C 2 1\nLong: distance A B 5.0005\nLeft: distance A C 1\n"
+            "Right: distance B C 1\n")
+    found = judge(read_drawing(text), program)
+    assert found.asked.spelled.scale == 2
+    assert abs(found.failure.amount.low + Fraction(21, 4)) < Fraction(1, 100)
+
+
+def test_an_edge_that_turned_about_is_warned_of(program):
+    text = ("segment Base 0 0 40 0\nsegment Step Base.end 50 0\ncoincident Base.start Origin\nhorizontal Base Step\n"
+            "length Base 40\nx Base.end Step.end -10\n")
+    found = judge(read_drawing(text), program)
+    assert [(each.departure, each.shapes) for each in found.warnings] == [(Departure.TURNED, ("Step",))]
+
+
+def test_a_corner_on_the_other_side_is_warned_of(program):
+    text = ("segment Base 0 0 40 0\nsegment Up Base.end 41 20\ncoincident Base.start Origin\nhorizontal Base\n"
+            "length Base 40\ny Base.end Up.end -20\nvertical Up\n")
+    found = judge(read_drawing(text), program)
+    assert Departure.OTHER_SIDE in [each.departure for each in found.warnings]
+
+
+CAM = """arc Base 0 0 -20 0 20 0
+arc Nose 0 27 4 32 -4 32
+arc Right -21.538 0 Base.end Nose.start
+arc Left 21.538 0 Nose.end Base.start
+tangent Base Right
+tangent Right Nose
+tangent Nose Left
+tangent Left Base
+coincident Base.centre Origin
+on Nose.centre YAxis
+on Base.start XAxis
+on Base.end XAxis
+radius Base 20
+radius Nose 7
+y Nose.centre 27
+"""
+
+
+def test_a_free_radius_is_named_and_can_be_frozen(program):
+    found = judge(read_drawing(CAM), program)
+    assert found.verdict is Verdict.OPEN
+    assert {"the ends of Right", "the ends of Left"} & set(found.left_out)
+    frozen = judge(read_drawing(CAM), program, freeze=True)
+    assert frozen.verdict is Verdict.WELL and frozen.frozen and frozen.solution is not None
+    assert max(each.amount for each in frozen.deviations if each.unit is Unit.NM) < 500_000
+
+
+def test_a_half_mirrored_in_an_axis_grows_from_the_other(program):
+    text = ("segment A 0 30 21 0\nsegment B 0 30 -21 0\non A.start YAxis\non A.end XAxis\ncoincident B.start A.start\n"
+            "length A 50\ny A.start 30\nMirror: symmetric A.end B.end about YAxis\n")
+    found = judge(read_drawing(text), program)
+    assert found.verdict is Verdict.WELL and found.grown == ("Mirror",)
+    assert found.solution.spot(PointRef("B", Which.END)) == (-40_000_000, 0)
+
+
+@pytest.mark.parametrize("text, repeats", [
+    ("segment Bar 0 0 40 0\ncoincident Bar.start Origin\nA: horizontal Bar\nB: horizontal Bar\nlength Bar 40\n", "B"),
+    ("circle Hole 1 1 5\ncoincident Hole Origin\nA: radius Hole 5\nB: diameter Hole 10\n", "B")])
+def test_what_is_no_line_of_a_sketch_repeats_without_being_over(text, repeats, program):
+    found = judge(read_drawing(text), program)
+    assert found.verdict is Verdict.WELL and repeats in found.repeats
+
+
+def test_radii_that_contradict_are_over(program):
+    text = "circle Hole 1 1 5\ncoincident Hole Origin\nA: radius Hole 5\nB: diameter Hole 11\n"
+    found = judge(read_drawing(text), program)
+    assert found.verdict is Verdict.OVER
+    assert {each.name for each in found.surplus} == {"A", "B"}
+
+
+def test_a_circle_without_a_radius_is_told(program):
+    found = judge(read_drawing(PLATE + "circle Hole 30 20 5\nx Hole 30\ny Hole 20\n"), program)
+    assert found.verdict is Verdict.WELL and found.undimensioned == ("Hole",)
