@@ -107,6 +107,14 @@ def test_run(line, expected):
     assert run_um(drawing, drawing.constraints[0]) == expected
 
 
+def test_points_that_are_one_count_as_drawn_where_the_first_is():
+    text = "point P 20 15\npoint Q -20 10\ncoincident P Origin\ny P Q 10\nx Q P 20"
+    drawing = read_drawing(text)
+    assert [run_um(drawing, each) for each in drawing.constraints[1:]] == [10000, 20000]
+    text = "segment First 0 0 10 0\nsegment Second 3 5 8 2\ncoincident Second.start First.end"
+    assert way(read_drawing(text), ShapeRef("Second")) == (-2000, 2000)
+
+
 def test_ways():
     drawing = read_drawing("segment Edge 3 4 1 -2.5")
     assert way(drawing, ShapeRef("Edge")) == (-2000, -6500)

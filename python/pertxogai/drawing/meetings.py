@@ -3,18 +3,26 @@
 from __future__ import annotations
 
 from collections.abc import Iterator
+from typing import TYPE_CHECKING
 
-from pertxogai.drawing.constraints import Coincident, Perpendicular, PointOn, Tangent
-from pertxogai.drawing.geometry import Segment
-from pertxogai.drawing.references import Pair, PointRef, ShapeRef, Which
-from pertxogai.drawing.sketching import Drawing
+from pertxogai.drawing.constraints import (
+    Coincident, Concentric, Perpendicular, PointOn, Tangent)
+from pertxogai.drawing.places import Place
+from pertxogai.drawing.references import ORIGIN, Pair, PointRef, ShapeRef, Which
+
+if TYPE_CHECKING:
+    from pertxogai.drawing.sketching import Drawing
 
 
 class Meetings:
-    """The classes of points that are one, by sharing, by `coincident`, and by a `tangent` or
-    `perpendicular` at an end. What follows from other constraints isn't looked at."""
+    """The classes of points that are one: by sharing, by `coincident`, by a `tangent` or
+    `perpendicular` at an end, and the centres of concentric rims. What follows from other
+    constraints isn't looked at."""
 
     def __init__(self, drawing: Drawing) -> None:
+        self._drawing = drawing
+        order = [ORIGIN, *drawing.points()]
+        self._rank = {point: place for place, point in enumerate(order)}
         self._leader: dict[PointRef, PointRef] = {}
         for pair in joined(drawing):
             self._join(pair)
@@ -22,15 +30,20 @@ class Meetings:
                     if isinstance(each, PointOn)}
 
     def leader(self, point: PointRef) -> PointRef:
-        """The point that stands for all that are one with this one."""
+        """The first of the points that are one with this one; the origin comes before all."""
         while point in self._leader:
             point = self._leader[point]
         return point
 
     def _join(self, pair: Pair) -> None:
-        first, second = self.leader(pair.first), self.leader(pair.second)
+        first, second = sorted((self.leader(pair.first), self.leader(pair.second)),
+                               key=lambda point: self._rank[point])
         if first != second:
-            self._leader[first] = second
+            self._leader[second] = first
+
+    def drawn(self, point: PointRef) -> Place:
+        """Where a point counts as drawn: where the first of those that are one with it is."""
+        return self._drawing.drawn(self.leader(point))
 
     def same(self, first: PointRef, second: PointRef) -> bool:
         """Whether the two points are one."""
@@ -66,10 +79,7 @@ def joined(drawing: Drawing) -> Iterator[Pair]:
         match constraint:
             case Coincident(first, second):
                 yield Pair(first, second)
+            case Concentric(one, other):
+                yield Pair(PointRef(one.name, Which.CENTRE), PointRef(other.name, Which.CENTRE))
             case Tangent(at=Pair() as pair) | Perpendicular(at=Pair() as pair):
                 yield pair
-
-
-def is_segment(drawing: Drawing, line: ShapeRef) -> bool:
-    """Whether a line is a segment, and not an axis."""
-    return isinstance(drawing.shape(line.name), Segment)

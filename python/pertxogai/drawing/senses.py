@@ -1,6 +1,7 @@
 """What the drawn places decide where a constraint leaves it to them.
 
-Where a number that decides is 0, it counts as plus, as in the language.
+Where a number that decides is 0, it counts as plus, as in the language. Points that are one by
+the drawing's words count as drawn where the first of them is (`Meetings.drawn`).
 """
 
 from __future__ import annotations
@@ -12,7 +13,6 @@ from fractions import Fraction
 from pertxogai.drawing.constraints import (AngleBetween, Degrees, Ratio, Sense, Tangent, XDistance,
                                            YDistance)
 from pertxogai.drawing.geometry import Axis
-from pertxogai.drawing.meetings import Meetings, is_segment
 from pertxogai.drawing.places import Place
 from pertxogai.drawing.references import PointRef, ShapeRef, Which
 from pertxogai.drawing.sketching import Drawing
@@ -48,8 +48,8 @@ def way(drawing: Drawing, line: ShapeRef) -> Way:
     shape = drawing.shape(line.name)
     if isinstance(shape, Axis):
         return (Fraction(0), Fraction(1)) if shape.upwards else (Fraction(1), Fraction(0))
-    return _between(drawing.drawn(PointRef(line.name, Which.START)),
-                    drawing.drawn(PointRef(line.name, Which.END)))
+    return _between(drawing.meetings.drawn(PointRef(line.name, Which.START)),
+                    drawing.meetings.drawn(PointRef(line.name, Which.END)))
 
 
 def turn(drawing: Drawing, angle: AngleBetween) -> Turn:
@@ -71,12 +71,11 @@ def turn(drawing: Drawing, angle: AngleBetween) -> Turn:
 def _drawn_degrees(drawing: Drawing, angle: AngleBetween, value: Fraction, left: bool,
                    ahead: bool) -> Degrees:
     """The turn for an angle without a sign: of the corner, else of the crossing lines."""
-    if is_segment(drawing, angle.first) and is_segment(drawing, angle.second):
-        corner = Meetings(drawing).corner(angle.first, angle.second)
-        if corner is not None:
-            # Both rays leave the corner, or both come to it: else one direction is turned round.
-            size = value if corner.first.which is corner.second.which else 180 - value
-            return Degrees(size if left else -size)
+    corner = drawing.meetings.corner(angle.first, angle.second)
+    if corner is not None:
+        # Both rays leave the corner, or both come to it: else one direction is turned round.
+        size = value if corner.first.which is corner.second.which else 180 - value
+        return Degrees(size if left else -size)
     size = value if (value <= 90) == ahead else 180 - value
     return Degrees(size if left else -size)
 
@@ -85,7 +84,7 @@ def run_um(drawing: Drawing, distance: XDistance | YDistance) -> Fraction:
     """The signed x or y distance, second less first, in micrometres."""
     if distance.sense is Sense.SIGNED:
         return distance.value_um
-    first, second = drawing.drawn(distance.first), drawing.drawn(distance.second)
+    first, second = (drawing.meetings.drawn(each) for each in (distance.first, distance.second))
     if isinstance(distance, XDistance):
         drawn = second.x_um - first.x_um
     else:
@@ -96,8 +95,8 @@ def run_um(drawing: Drawing, distance: XDistance | YDistance) -> Fraction:
 def touch(drawing: Drawing, tangent: Tangent) -> Touch:
     """How the two rims of a tangent touch: inside where the drawn centres are nearer to the
     difference of the drawn radii than to their sum, that is nearer than the greater radius."""
-    first = drawing.drawn(PointRef(tangent.first.name, Which.CENTRE))
-    second = drawing.drawn(PointRef(tangent.second.name, Which.CENTRE))
+    first, second = (drawing.meetings.drawn(PointRef(each.name, Which.CENTRE))
+                     for each in (tangent.first, tangent.second))
     apart = _between(first, second)
     greater = max(drawing.drawn_radius_um(each.name) for each in (tangent.first, tangent.second))
     return Touch.INSIDE if _dot(apart, apart) < greater * greater else Touch.OUTSIDE

@@ -9,6 +9,7 @@ from functools import cached_property
 
 from pertxogai.drawing.constraints import Constraint
 from pertxogai.drawing.geometry import Datum, Shape
+from pertxogai.drawing.meetings import Meetings
 from pertxogai.drawing.places import Place
 from pertxogai.drawing.references import Pair, PointRef
 from pertxogai.drawing.scene import Scene, points_of, spot_of
@@ -46,6 +47,11 @@ class Drawing:
     def scene(self) -> Scene:
         """The shapes by their names."""
         return Scene(self.geometry)
+
+    @cached_property
+    def meetings(self) -> Meetings:
+        """Which points are one."""
+        return Meetings(self)
 
     def shape(self, name: str) -> Shape | Datum:
         """The shape of that name, or that part of the datum; KeyError where there is none."""

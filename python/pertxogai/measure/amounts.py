@@ -175,7 +175,7 @@ def _collinear(placed: Placed, first: Line, second: Line) -> Amounts:
 
 
 def _tangent(placed: Placed, tangent: Tangent) -> Amounts:
-    at = placed.meetings.contact(tangent)
+    at = placed.drawing.meetings.contact(tangent)
     if at is not None:
         return _touching_there(placed, tangent, at)
     first, second = tangent.first, tangent.second

@@ -4,10 +4,9 @@ from __future__ import annotations
 
 from dataclasses import dataclass
 from fractions import Fraction
-from functools import cached_property
 
 from pertxogai.drawing import (
-    ORIGIN, Axis, Circle, Drawing, Meetings, PointRef, Segment, ShapeRef, Which)
+    ORIGIN, Axis, Circle, Drawing, PointRef, Segment, ShapeRef, Which)
 from pertxogai.drawing.places import NM_PER_UM
 from pertxogai.measure.directions import Line
 from pertxogai.measure.exact import (
@@ -26,11 +25,6 @@ class Placed:
 
     drawing: Drawing
     solution: Solution
-
-    @cached_property
-    def meetings(self) -> Meetings:
-        """Which points are one."""
-        return Meetings(self.drawing)
 
     def spot(self, ref: PointRef) -> Way:
         """Where a point lies."""
