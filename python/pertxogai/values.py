@@ -1,9 +1,9 @@
-"""What is linear, by exact fractions: equations in unknowns, which of them are told twice, and what they leave free.
+"""What is linear, by exact fractions: equations in unknowns, which of them are told twice, and
+what they leave free.
 
-A `Form` is a sum of unknowns times fractions, and a number. A `LinearSystem` takes equations `form = 0`, each with a
-mark of its owner's, and keeps those that say something new; of one that doesn't it tells the others that it follows
-from, and by how much it contradicts them.
-"""
+A `Form` is a sum of unknowns times fractions, and a number. A `LinearSystem` takes equations `form
+= 0`, each with a mark of its owner's, and keeps those that say something new; of one that doesn't
+it tells the others that it follows from, and by how much it contradicts them. """
 from __future__ import annotations
 
 from collections.abc import Callable, Hashable, Iterable, Mapping
@@ -35,7 +35,8 @@ class Form:
         """The form times a number."""
         if not factor:
             return Form()
-        return Form({key: value * factor for key, value in self.terms.items()}, self.number * factor)
+        return Form({key: value * factor for key, value in self.terms.items()},
+                    self.number * factor)
 
     def key(self) -> frozenset[tuple[Hashable, Fraction]]:
         """What is unknown in it, to be compared."""
@@ -44,8 +45,8 @@ class Form:
 
 @dataclass(frozen=True)
 class Told:
-    """An equation that says nothing new: `marks` are the equations that it follows from, with its own; it is off
-    these by `amount`, 0 where it repeats them."""
+    """An equation that says nothing new: `marks` are the equations that it follows from, with its
+    own; it is off these by `amount`, 0 where it repeats them."""
 
     marks: frozenset[int]
     amount: Fraction
@@ -60,7 +61,8 @@ class _Row:
 
 
 class LinearSystem:
-    """Equations, kept solved: each unknown that was solved for is a form of those that are free."""
+    """Equations, kept solved: each unknown that was solved for is a form of those that are
+    free."""
 
     def __init__(self, rank: Callable[[Hashable], int] = lambda unknown: 0) -> None:
         """`rank`: of the unknowns of an equation one of the least rank is solved for."""
@@ -75,8 +77,10 @@ class LinearSystem:
             return Told(_marks(sources), rest.number)
         pivot = min(rest.terms, key=self._rank)
         factor = rest.terms[pivot]
-        others = Form({key: value for key, value in rest.terms.items() if key != pivot}, rest.number)
-        row = _Row(others.times(-1 / factor), {key: value / -factor for key, value in sources.items()})
+        others = Form({key: value for key, value in rest.terms.items() if key != pivot},
+                      rest.number)
+        row = _Row(others.times(-1 / factor),
+                   {key: value / -factor for key, value in sources.items()})
         self._rows = {key: _put(old, pivot, row) for key, old in self._rows.items()}
         self._rows[pivot] = row
         return None
@@ -91,7 +95,8 @@ class LinearSystem:
 
     def _reduced(self, form: Form) -> tuple[Form, Mapping[Hashable, Fraction]]:
         known = [(key, value) for key, value in form.terms.items() if key in self._rows]
-        rest = Form({key: value for key, value in form.terms.items() if key not in self._rows}, form.number)
+        rest = Form({key: value for key, value in form.terms.items() if key not in self._rows},
+                    form.number)
         sources: Mapping[Hashable, Fraction] = {}
         for key, value in known:
             row = self._rows[key]
@@ -105,7 +110,8 @@ def _put(old: _Row, pivot: Hashable, row: _Row) -> _Row:
     factor = old.value.terms.get(pivot)
     if factor is None:
         return old
-    value = Form({key: each for key, each in old.value.terms.items() if key != pivot}, old.value.number)
+    value = Form({key: each for key, each in old.value.terms.items() if key != pivot},
+                 old.value.number)
     return _Row(value + row.value.times(factor), _sum(old.sources, row.sources, factor))
 
 

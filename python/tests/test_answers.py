@@ -1,4 +1,5 @@
-"""What a designer is told: what is missing, what is too much, what fails, what has turned, in the drawing's words."""
+"""What a designer is told: what is missing, what is too much, what fails, what has turned, in the
+drawing's words."""
 from __future__ import annotations
 
 from fractions import Fraction
@@ -24,7 +25,8 @@ def test_a_plate_is_well_and_placed_in_the_datums_frame(program):
     assert found.verdict is Verdict.WELL and found.style is Style.VALUES
     assert found.solution.spot(PointRef("PlateTop", Which.START)) == (60_000_000, 40_000_000)
     assert all(each.amount == 0 for each in found.deviations if each.unit is Unit.NM)
-    assert not (found.left_out or found.frozen or found.grown or found.rounded or found.repeats or found.warnings)
+    assert not (found.left_out or found.frozen or found.grown or found.rounded or found.repeats
+                or found.warnings)
 
 
 def test_a_missing_height_is_counted_and_named_between_its_pieces(program):
@@ -106,7 +108,8 @@ def test_an_edge_that_turned_about_is_warned_of(program):
     text = ("segment Base 0 0 40 0\nsegment Step Base.end 50 0\ncoincident Base.start Origin\nhorizontal Base Step\n"
             "length Base 40\nx Base.end Step.end -10\n")
     found = judge(read_drawing(text), program)
-    assert [(each.departure, each.shapes) for each in found.warnings] == [(Departure.TURNED, ("Step",))]
+    assert [(each.departure, each.shapes)
+            for each in found.warnings] == [(Departure.TURNED, ("Step",))]
 
 
 def test_a_corner_on_the_other_side_is_warned_of(program):

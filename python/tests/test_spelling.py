@@ -1,6 +1,7 @@
 """Each word of a designer spelled in each style: asked of the program, placed, and measured.
 
-The places are worked out by hand, in millimetres; two nanometres is what a printed number may be off."""
+The places are worked out by hand, in millimetres; two nanometres is what a printed number may be
+off."""
 from __future__ import annotations
 
 from dataclasses import dataclass
@@ -25,7 +26,8 @@ SOLVED = (VALUES, NEAR)
 
 @dataclass(frozen=True)
 class Case:
-    """A word or two, a drawing that asks for them, where points come to lie, and the styles that apply."""
+    """A word or two, a drawing that asks for them, where points come to lie, and the styles that
+    apply."""
 
     name: str
     text: str
@@ -40,14 +42,19 @@ length Bar 40
 """
 CASES = (
     Case("a pinned bar", BAR, (("Bar.end", "40", "0"),)),
-    Case("horizontal of two points", BAR + "point P 61 2\nhorizontal P Bar.end\nx P 60", (("P", "60", "0"),)),
+    Case("horizontal of two points", BAR + "point P 61 2\nhorizontal P Bar.end\nx P 60",
+         (("P", "60", "0"),)),
     Case("vertical", "segment Up 0 0 1 28\ncoincident Up.start Origin\nvertical Up\nlength Up 30",
          (("Up.end", "0", "30"),)),
-    Case("vertical of two points", BAR + "point P 41 9\nvertical P Bar.end\ny P 10", (("P", "40", "10"),)),
-    Case("x and y distances", BAR + "point P 52 -8\nx Bar.end P 12\ny Bar.end P 7", (("P", "52", "-7"),)),
-    Case("distance of points", BAR + "point P 30 31\ndistance P Bar.start 50\ndistance P Bar.end 30",
+    Case("vertical of two points", BAR + "point P 41 9\nvertical P Bar.end\ny P 10",
+         (("P", "40", "10"),)),
+    Case("x and y distances", BAR + "point P 52 -8\nx Bar.end P 12\ny Bar.end P 7",
+         (("P", "52", "-7"),)),
+    Case("distance of points",
+         BAR + "point P 30 31\ndistance P Bar.start 50\ndistance P Bar.end 30",
          (("P", "40", "30"),)),
-    Case("distance from a horizontal segment", BAR + "point P 10 12\ndistance P Bar 15\nx P 10", (("P", "10", "15"),)),
+    Case("distance from a horizontal segment", BAR + "point P 10 12\ndistance P Bar 15\nx P 10",
+         (("P", "10", "15"),)),
     Case("distance from a leaning segment",
          "segment Ramp 0 0 31 39\nfixed Ramp.start\nangle Ramp 4/3\nlength Ramp 50\npoint P -7 6\n"
          "distance P Ramp 10\ndistance P Origin 10", (("Ramp.end", "30", "40"),), ()),
@@ -56,54 +63,69 @@ CASES = (
          "segment Ramp 0 0 31 39\nfixed Ramp.start\nangle Ramp 4/3\nlength Ramp 50\npoint P 14 21\non P Ramp\n"
          "distance P Origin 25", (("P", "15", "20"),)),
     Case("point on an axis", BAR + "point P 1 9\non P YAxis\ny P 10", (("P", "0", "10"),)),
-    Case("point on a circle", "circle C 0 0 49\nfixed C\nradius C 50\npoint P 29 41\non P C\nx P 30",
+    Case("point on a circle",
+         "circle C 0 0 49\nfixed C\nradius C 50\npoint P 29 41\non P C\nx P 30",
          (("P", "30", "40"),), ()),
     Case("radius, centre told, point on it",
          "circle C 1 1 49\ncoincident C.centre Origin\nradius C 50\npoint P 29 41\non P C\nx P 30",
          (("P", "30", "40"),)),
-    Case("diameter", "circle C 1 1 49\ncoincident C.centre Origin\ndiameter C 100\npoint P 29 41\non P C\nx P 30",
+    Case("diameter",
+         "circle C 1 1 49\ncoincident C.centre Origin\ndiameter C 100\npoint P 29 41\non P C\nx P 30",
          (("P", "30", "40"),)),
     Case("parallel and distance of parallels",
          BAR + "segment Over 0 19 42 21\nparallel Over Bar\ndistance Over Bar 20\nx Over.start 0\nx Over.end 42",
          (("Over.start", "0", "20"), ("Over.end", "42", "20"))),
     Case("perpendicular", BAR + "segment Up Bar.end 41 22\nperpendicular Up Bar\nlength Up 25",
          (("Up.end", "40", "25"),)),
-    Case("angle as a ratio", BAR + "segment Up Bar.end 69 41\nangle Up 4/3\nlength Up 50", (("Up.end", "70", "40"),)),
-    Case("angle in degrees", BAR + "segment Up Bar.end 51 12\nangle Up 45deg\nx Up.end 50", (("Up.end", "50", "10"),)),
-    Case("equal lengths", BAR + "segment Up Bar.end 41 22\nvertical Up\nequal Up Bar", (("Up.end", "40", "40"),),
+    Case("angle as a ratio", BAR + "segment Up Bar.end 69 41\nangle Up 4/3\nlength Up 50",
+         (("Up.end", "70", "40"),)),
+    Case("angle in degrees", BAR + "segment Up Bar.end 51 12\nangle Up 45deg\nx Up.end 50",
+         (("Up.end", "50", "10"),)),
+    Case("equal lengths", BAR + "segment Up Bar.end 41 22\nvertical Up\nequal Up Bar",
+         (("Up.end", "40", "40"),),
          ALL),
-    Case("equal radii", "circle A 0 0 5\ncircle B 19 1 6\ncoincident A.centre Origin\nradius A 6\nequal A B\n"
+    Case("equal radii",
+         "circle A 0 0 5\ncircle B 19 1 6\ncoincident A.centre Origin\nradius A 6\nequal A B\n"
          "y B.centre 0\ntangent A B", (("B.centre", "12", "0"),), ALL),
-    Case("concentric", "circle A 0 0 5\ncircle B 1 1 9\ncoincident A.centre Origin\nradius A 6\nconcentric A B\n"
+    Case("concentric",
+         "circle A 0 0 5\ncircle B 1 1 9\ncoincident A.centre Origin\nradius A 6\nconcentric A B\n"
          "radius B 10\npoint P 9 7\non P B\ny P 6", (("P", "8", "6"),)),
     Case("midpoint", BAR + "point M 19 1\nmidpoint M Bar", (("M", "20", "0"),), SOLVED),
-    Case("symmetric to a point", BAR + "point P 59 1\nsymmetric P Bar.start about Bar.end", (("P", "80", "0"),), SOLVED),
-    Case("symmetric to an axis", BAR + "point P -39 1\nsymmetric P Bar.end about YAxis", (("P", "-40", "0"),), SOLVED),
+    Case("symmetric to a point", BAR + "point P 59 1\nsymmetric P Bar.start about Bar.end",
+         (("P", "80", "0"),), SOLVED),
+    Case("symmetric to an axis", BAR + "point P -39 1\nsymmetric P Bar.end about YAxis",
+         (("P", "-40", "0"),), SOLVED),
     Case("symmetric to a leaning line",
          "construction segment M 0 0 40 39\npoint P 51 1\npoint Q 1 51\ncoincident M.start Origin\nlength M 50\n"
          "angle M 1/1\nsymmetric P Q about M\nx P 50\ny P 0", (("Q", "0", "50"),)),
-    Case("fixed", "point P 12 7\nfixed P\npoint Q 16 10\ndistance P Q 5\ny Q 10", (("Q", "16", "10"),), ()),
-    Case("collinear", BAR + "segment More 50 1 70 -1\ncollinear Bar More\nx More.start 50\nlength More 20",
+    Case("fixed", "point P 12 7\nfixed P\npoint Q 16 10\ndistance P Q 5\ny Q 10",
+         (("Q", "16", "10"),), ()),
+    Case("collinear",
+         BAR + "segment More 50 1 70 -1\ncollinear Bar More\nx More.start 50\nlength More 20",
          (("More.end", "70", "0"),)),
     Case("tangent line and circle", BAR + "circle C 21 9 8\nradius C 8\nx C 20\ntangent C Bar",
          (("C.centre", "20", "8"),)),
     Case("tangent of a leaning line",
          "segment Ramp 0 0 31 39\ncoincident Ramp.start Origin\nangle Ramp 4/3\nlength Ramp 50\ncircle C -9 8 9\n"
          "radius C 10\ntangent C Ramp\ny C 0", (("C.centre", "-12.5", "0"),)),
-    Case("tangent circles, outside", "circle A 0 0 5\ncircle B 11 8 5\ncoincident A.centre Origin\nradius A 6\n"
+    Case("tangent circles, outside",
+         "circle A 0 0 5\ncircle B 11 8 5\ncoincident A.centre Origin\nradius A 6\n"
          "radius B 4\ntangent A B\ny B.centre 6", (("B.centre", "8", "6"),)),
-    Case("tangent circles, inside", "circle A 0 0 16\ncircle B 7 7 5\ncoincident A.centre Origin\nradius A 16\n"
+    Case("tangent circles, inside",
+         "circle A 0 0 16\ncircle B 7 7 5\ncoincident A.centre Origin\nradius A 16\n"
          "radius B 6\ntangent A B\ny B.centre 6", (("B.centre", "8", "6"),)),
     Case("tangent at a shared end: a fillet",
          "segment A 0 0 31 1\narc R 30 9 A.end 40 11\nsegment B R.end 41 40\ncoincident A.start Origin\nhorizontal A\n"
          "vertical B\ntangent A R\ntangent R B\nradius R 10\nx B.end 40\ny B.end 40",
-         (("A.end", "30", "0"), ("R.centre", "30", "10"), ("R.end", "40", "10")), (VALUES, NEAR, FEET)),
+         (("A.end", "30", "0"), ("R.centre", "30", "10"), ("R.end", "40", "10")), (VALUES, NEAR,
+                                                                                   FEET)),
     Case("tangent arcs at a shared end",
          "arc A 0 0 10 1 -9 1\narc B -14 0 A.end -14 -5\ncoincident A.centre Origin\nradius A 10\n"
          "on A.start XAxis\nradius B 5\ntangent A B\nx B.centre -9\nx B.end -9",
          (("B.centre", "-9", "-12"), ("B.end", "-9", "-17")), ()),
 )
-NAMED = [pytest.param(case, style, id=f"{case.name} - {style.value}") for case in CASES for style in case.styles]
+NAMED = [pytest.param(case, style, id=f"{case.name} - {style.value}") for case in CASES
+         for style in case.styles]
 
 
 def ref_of(word: str) -> PointRef:
@@ -121,7 +143,8 @@ def test_a_word_is_well_and_placed(case, style, program):
     assert all(each.amount <= 2 for each in measure(drawing, solution) if each.unit is Unit.NM)
     for word, x, y in case.places:
         at = solution.spot(ref_of(word))
-        assert abs(at[0] - um_of_mm(x) * 1000) <= 2 and abs(at[1] - um_of_mm(y) * 1000) <= 2, (word, at)
+        off = at[0] - um_of_mm(x) * 1000, at[1] - um_of_mm(y) * 1000
+        assert max(map(abs, off)) <= 2, (word, at)
 
 
 def test_every_line_has_an_owner_that_says_it():
@@ -151,12 +174,14 @@ def test_leans_add_up_exactly():
     assert (Lean.of(Slope(3, 4, True)) + -Lean.of(Slope(3, 4, False))).level()
 
 
-@pytest.mark.parametrize("degrees, ratio", [(90, (1, 0)), (45, (1, 1)), (135, (-1, 1)), (180 - 45, (-1, 1))])
+@pytest.mark.parametrize("degrees, ratio",
+                         [(90, (1, 0)), (45, (1, 1)), (135, (-1, 1)), (180 - 45, (-1, 1))])
 def test_right_angles_and_their_halves_are_exact(degrees, ratio):
     assert Lean.of(Degrees(Fraction(degrees))).ratio() == ratio
 
 
-@pytest.mark.parametrize("degrees, tangent", [(30, 3 ** -0.5), (60, 3 ** 0.5), (120, -3 ** 0.5), (150, -3 ** -0.5)])
+@pytest.mark.parametrize("degrees, tangent",
+                         [(30, 3 ** -0.5), (60, 3 ** 0.5), (120, -3 ** 0.5), (150, -3 ** -0.5)])
 def test_other_angles_are_near(degrees, tangent):
     p, q = Lean.of(Degrees(Fraction(degrees))).ratio()
     assert abs(atan(p / q) - atan(tangent)) < 2e-8

@@ -1,4 +1,5 @@
-"""What a designer is told: the program's answers with the drawing's names, and what a person asks next."""
+"""What a designer is told: the program's answers with the drawing's names, and what a person asks
+next."""
 from pertxogai.answers.asking import Asked, Place, ask_styles
 from pertxogai.answers.faults import Amount, Failure
 from pertxogai.answers.judgement import Judgement, Surplus, judge
@@ -6,5 +7,6 @@ from pertxogai.answers.missing import Joint, Missing, Piece, Tie
 from pertxogai.answers.naming import Names
 from pertxogai.answers.warnings import Departure, Warning
 
-__all__ = ["Amount", "Asked", "Departure", "Failure", "Joint", "Judgement", "Missing", "Names", "Piece", "Place",
+__all__ = ["Amount", "Asked", "Departure", "Failure", "Joint", "Judgement", "Missing", "Names",
+           "Piece", "Place",
            "Surplus", "Tie", "Warning", "ask_styles", "judge"]

@@ -1,7 +1,7 @@
 """Asks the program for one style after the other, and takes the first that is well and placed.
 
-Where what is linear is told twice, each dimension is spelled by itself, so that the program says what is spare.
-"""
+Where what is linear is told twice, each dimension is spelled by itself, so that the program says
+what is spare. """
 from __future__ import annotations
 
 from dataclasses import dataclass, replace
@@ -10,8 +10,10 @@ from enum import Enum
 from pertxogai.answers.freezing import frozen_choices
 from pertxogai.answers.growing import grown
 from pertxogai.drawing import Drawing
+from pertxogai.language import Refusal
 from pertxogai.program import Asks, Status
-from pertxogai.reports import CheckReport, Fault, Solved, Verdict, read_check, read_fault, read_parts, read_solve
+from pertxogai.reports import (
+    CheckReport, Fault, Refused, Solved, Verdict, read_answer, read_fault, read_parts, read_solve)
 from pertxogai.spelling import READINGS, Axes, Care, Rails, Spelled, Style, axes_of, written
 from pertxogai.spelling.axes import Equation
 from pertxogai.spelling.facts import Owner
@@ -33,8 +35,9 @@ class Place(Enum):
 
 @dataclass(frozen=True)
 class Asked:
-    """What the program answered to one style of a drawing: what `check` says, and of what is well, the places or
-    the fault. grown: equations that placed parts told. frozen: who is only measured."""
+    """What the program answered to one style of a drawing: what `check` says, and of what is well,
+    the places or the fault. grown: equations that placed parts told. frozen: who is only
+    measured."""
 
     spelled: Spelled
     axes: Axes
@@ -47,8 +50,9 @@ class Asked:
 
 
 def ask_styles(drawing: Drawing, program: Asks, freeze: bool) -> Asked:
-    """The first reading and style that is well and placed; else one that is well; else one that is over; else the one
-    with the fewest parts. With `freeze`, what is open is asked again with lengths and radii as they are drawn."""
+    """The first reading and style that is well and placed; else one that is well; else one that is
+    over; else the one with the fewest parts. With `freeze`, what is open is asked again with
+    lengths and radii as they are drawn."""
     best: Asked | None = None
     seen: list[tuple[Equation, ...]] = []
     for reading in READINGS:
@@ -68,7 +72,8 @@ def ask_styles(drawing: Drawing, program: Asks, freeze: bool) -> Asked:
 
 
 def _best_style(axes: Axes, program: Asks) -> Asked:
-    """The first style that is placed, else the best; what is linear and told twice is told so to the program."""
+    """The first style that is placed, else the best; what is linear and told twice is told so to
+    the program."""
     best: Asked | None = None
     twice = bool(axes.surplus() or axes.conflicts())
     for style in ONE_BY_ONE if twice else SOLVED_FIRST:
@@ -85,7 +90,8 @@ def _best_style(axes: Axes, program: Asks) -> Asked:
 def finer(asked: Asked, program: Asks) -> Asked:
     """The same with angles told as finely as can be, where that is still well and placed."""
     fine = placed(ask(asked.axes, asked.spelled.style, program, Care(fine=True)), program)
-    return replace(fine, grown=asked.grown + fine.grown, frozen=asked.frozen) if _worth(fine) >= _worth(asked) else asked
+    return replace(fine, grown=asked.grown + fine.grown,
+                   frozen=asked.frozen) if _worth(fine) >= _worth(asked) else asked
 
 
 def ask(axes: Axes, style: Style, program: Asks, care: Care = Care()) -> Asked:
@@ -95,7 +101,7 @@ def ask(axes: Axes, style: Style, program: Asks, care: Care = Care()) -> Asked:
         rails = Rails(axes, style)
         spelled = written(axes, rails, style, care)
         text = spelled.sketch.text()
-        check = read_check(program.ask(["check"], text).text)
+        check = _checked(program, text)
         more = None
         if check.verdict is Verdict.OPEN and len(equations) < ROUNDS:
             more = grown(axes, rails, spelled, read_parts(program.ask(["parts"], text).text))
@@ -103,6 +109,16 @@ def ask(axes: Axes, style: Style, program: Asks, care: Care = Care()) -> Asked:
             return Asked(spelled, axes, rails, check, tuple(equations))
         axes = more.axes
         equations.append(more.equation)
+
+
+def _checked(program: Asks, text: str) -> CheckReport:
+    """What `check` says. Raises Refusal where the program refuses the text, as one that is too
+    large."""
+    report = read_answer(("check",), program.ask(["check"], text))
+    if isinstance(report, Refused):
+        raise Refusal(report)
+    assert isinstance(report, CheckReport)
+    return report
 
 
 def placed(asked: Asked, program: Asks) -> Asked:
@@ -118,7 +134,8 @@ def placed(asked: Asked, program: Asks) -> Asked:
 
 
 def _frozen(asked: Asked, program: Asks) -> Asked:
-    """What is open, with one length or radius after the other as drawn, while that leaves fewer parts."""
+    """What is open, with one length or radius after the other as drawn, while that leaves fewer
+    parts."""
     for _ in range(FREEZES):
         best = asked
         for choice in frozen_choices(asked.axes, asked.rails):

@@ -1,4 +1,5 @@
-"""Where a step has no places: which dimensions meet there, and by how much they miss each other."""
+"""Where a step has no places: which dimensions meet there, and by how much they miss each
+other."""
 from __future__ import annotations
 
 from dataclasses import dataclass
@@ -39,8 +40,9 @@ class Amount:
 
 @dataclass(frozen=True)
 class Failure:
-    """The program's fault, whole, with the designer's names: the dimensions beneath the step or the constraint that
-    it names, the points and segments at which the step meets, and the number that failed."""
+    """The program's fault, whole, with the designer's names: the dimensions beneath the step or
+    the constraint that it names, the points and segments at which the step meets, and the number
+    that failed."""
 
     fault: Fault
     text: str
@@ -56,7 +58,8 @@ def failure(names: Names, fault: Fault, plan: Plan) -> Failure:
             low, high = fault.ends()
             unit = _unit(fault.at)
             size = names.spelled.scale ** unit.power
-            return _of_step(names, fault, plan, fault.at.step, Amount(low / size, high / size, unit))
+            return _of_step(names, fault, plan, fault.at.step,
+                            Amount(low / size, high / size, unit))
         case RangeFault():
             return _of_step(names, fault, plan, fault.at.step, None)
         case ConstraintFault(number):
@@ -71,7 +74,8 @@ def failure(names: Names, fault: Fault, plan: Plan) -> Failure:
 
 def _of_step(names: Names, fault: Fault, plan: Plan, step: int, amount: Amount | None) -> Failure:
     found = next(each for each in plan.steps if each.number == step)
-    owners = {owner for number in _leaves(plan, step) for owner in names.spelled.owners[number - 1]}
+    owners = {owner for number in _leaves(plan, step)
+              for owner in names.spelled.owners[number - 1]}
     return Failure(fault, fault.text(), names.owners(owners), names.elements(found.at), amount)
 
 
@@ -91,6 +95,7 @@ def _leaves(plan: Plan, step: int) -> list[int]:
 
 def _unit(at: StepAt) -> Unit:
     """What the number is told in that was under a root, or divided."""
-    if at.quantity in UNDER_A_ROOT or (at.phase is not Phase.BUILD and at.quantity in ("cos", "sin")):
+    if at.quantity in UNDER_A_ROOT or (at.phase is not Phase.BUILD
+                                       and at.quantity in ("cos", "sin")):
         return Unit.SQUARE_MM
     return Unit.MM if at.quantity in DIVIDED_BY_A_LENGTH else Unit.NONE

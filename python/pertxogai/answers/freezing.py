@@ -1,7 +1,7 @@
 """Lengths and radii that nothing tells, taken as they are drawn.
 
-One constraint that needs such a value is then not spelled but only measured, since the value takes its place.
-"""
+One constraint that needs such a value is then not spelled but only measured, since the value takes
+its place. """
 from __future__ import annotations
 
 from collections.abc import Iterator
@@ -10,7 +10,7 @@ from fractions import Fraction
 from math import isqrt
 
 from pertxogai.spelling.axes import Axes, Equation
-from pertxogai.spelling.facts import Facts, Knot, Owner
+from pertxogai.spelling.facts import Facts, Knot, Line, Owner
 from pertxogai.spelling.rails import Rails, Size
 from pertxogai.values import Form
 
@@ -24,7 +24,8 @@ class Frozen:
 
 
 def frozen_choices(axes: Axes, rails: Rails) -> Iterator[Frozen]:
-    """Each way to take an untold distance as it is drawn: in turn, what needs it is only measured."""
+    """Each way to take an untold distance as it is drawn: in turn, what needs it is only
+    measured."""
     for fact in axes.loose:
         rest = rails.symbols(fact.value)
         if len(rest.terms) == 1 and isinstance(next(iter(rest.terms)), Size):
@@ -33,7 +34,7 @@ def frozen_choices(axes: Axes, rails: Rails) -> Iterator[Frozen]:
             yield Frozen(axes.replaced(None, equation, fact), fact.owner)
 
 
-def _drawn(facts: Facts, first: Knot, second: object) -> Fraction:
+def _drawn(facts: Facts, first: Knot, second: Knot | Line) -> Fraction:
     """How far a point is drawn from a point, or from a line, in micrometres."""
     x, y = facts.drawn[first]
     if isinstance(second, Knot):

@@ -1,6 +1,6 @@
-"""Values that follow from what the program has placed: a length equal to one of a part that stands, a half mirrored
-from the other. The program places the parts; what is read off them is told as the length that it is.
-"""
+"""Values that follow from what the program has placed: a length equal to one of a part that
+stands, a half mirrored from the other. The program places the parts; what is read off them is told
+as the length that it is. """
 from __future__ import annotations
 
 from collections.abc import Iterator
@@ -10,7 +10,7 @@ from math import isqrt
 
 from pertxogai.answers.placing import Plate, along
 from pertxogai.reports import PartsReport, Solved
-from pertxogai.spelling.axes import Axes, Coordinate, Equation
+from pertxogai.spelling.axes import DATUM, Axes, Equation
 from pertxogai.spelling.facts import Knot
 from pertxogai.spelling.rails import Rail, Rails, Size, Span
 from pertxogai.spelling.writing import Spelled
@@ -47,12 +47,11 @@ def grown(axes: Axes, rails: Rails, spelled: Spelled, report: PartsReport) -> Gr
 def _told(form: Form) -> bool:
     """Whether an equation fixes one size, one rail from the datum, or one rail from another."""
     keys = list(form.terms)
+    rails = [key for key in keys if isinstance(key, Rail)]
     if len(keys) == 1:
-        return isinstance(keys[0], Size) or keys[0].frame == 0
-    if len(keys) != 2 or not all(isinstance(key, Rail) for key in keys):
-        return False
-    first, second = keys
-    return (first.frame, first.upwards) == (second.frame, second.upwards) and not sum(form.terms.values())
+        return not rails or rails[0].frame == DATUM
+    axes = {(rail.frame, rail.upwards) for rail in rails}
+    return len(keys) == len(rails) == 2 and len(axes) == 1 and not sum(form.terms.values())
 
 
 def _measured(rails: Rails, spelled: Spelled, report: PartsReport) -> Iterator[Form]:
@@ -75,12 +74,14 @@ def _coordinates(rails: Rails, spelled: Spelled, plate: Plate, frame: int) -> It
             yield form - found[0][0] - Form(number=place - found[0][1])
 
 
-def _along(rails: Rails, spelled: Spelled, plate: Plate, axis: tuple[Fraction, Fraction], frame: int,
-           upwards: bool) -> Iterator[tuple[Form, Fraction]]:
+def _along(rails: Rails, spelled: Spelled, plate: Plate, axis: tuple[Fraction, Fraction],
+           frame: int, upwards: bool) -> Iterator[tuple[Form, Fraction]]:
     """Each rail and coordinate of a part, in rails, and its place along an axis."""
     for heading in spelled.headings:
         rail = heading.rail
-        if rail is not None and heading.name in plate.lines and (rail.frame, rail.upwards) == (frame, upwards):
+        if rail is None or heading.name not in plate.lines:
+            continue
+        if (rail.frame, rail.upwards) == (frame, upwards):
             form = Form(number=heading.at_um) + (Form() if rail.datum() else Form.of(rail))
             yield form, along(axis, upwards, plate.foot(heading.name))
     for rail, members in rails.members.items():
@@ -102,7 +103,8 @@ def _spans(rails: Rails, spelled: Spelled, plate: Plate) -> Iterator[Form]:
         if isinstance(second, Knot):
             other = spelled.points[second]
             if name in plate.points and other in plate.points:
-                yield Form({Span(first, second): Fraction(1)}, -_distance(plate.points[name], plate.points[other]))
+                yield Form({Span(first, second): Fraction(1)},
+                           -_distance(plate.points[name], plate.points[other]))
         else:
             track = next((key for key, track in spelled.tracks.items()
                           if track == rails.axes.lines.leader(second)), None)
@@ -114,5 +116,3 @@ def _distance(first: tuple[Fraction, Fraction], second: tuple[Fraction, Fraction
     square = (first[0] - second[0]) ** 2 + (first[1] - second[1]) ** 2
     return Fraction(isqrt(int(square * 10 ** 24)), 10 ** 12)
 
-
-__all__ = ["Coordinate", "Grown", "grown"]

@@ -11,7 +11,7 @@ from pertxogai.answers.naming import Names
 from pertxogai.answers.solution import solution_of
 from pertxogai.answers.warnings import Warning, warnings
 from pertxogai.drawing import Circle, Drawing
-from pertxogai.measure import Deviation, Solution, Unit, measure
+from pertxogai.measure import Deviation, Solution, Unit, greatest, measure
 from pertxogai.program import Asks
 from pertxogai.reports import Solved, Verdict, read_plan, read_spare
 from pertxogai.spelling.facts import RadiusOf
@@ -26,8 +26,8 @@ TRIED = 12
 
 @dataclass(frozen=True)
 class Surplus:
-    """A dimension that may go, and how far it is off once the rest is placed without it: a repeat where `amount` is
-    no more than rounding. None where the rest has no places."""
+    """A dimension that may go, and how far it is off once the rest is placed without it: a repeat
+    where `amount` is no more than rounding. None where the rest has no places."""
 
     number: int
     name: str
@@ -44,11 +44,12 @@ class Surplus:
 class Judgement:
     """The program's verdict on a drawing and all that goes with it.
 
-    style: how it was spelled. pieces and missing: where it is open. surplus: where it is over, each dimension that may
-    go. solution: where it is placed, in the datum's frame, in whole nanometres; place: by boxes or by points.
-    failure: why it isn't, though it is well. deviations: of each constraint on those places. left_out: constraints
-    that couldn't be spelled. frozen: those left to their drawn values, to be measured. rounded: those of which the
-    value had to be rounded. grown: those told by a value that was read off a placed part. repeats: those that tell
+    style: how it was spelled. pieces and missing: where it is open. surplus: where it is over,
+    each dimension that may go. solution: where it is placed, in the datum's frame, in whole
+    nanometres; place: by boxes or by points. failure: why it isn't, though it is well. deviations:
+    of each constraint on those places. left_out: constraints that couldn't be spelled. frozen:
+    those left to their drawn values, to be measured. rounded: those of which the value had to be
+    rounded. grown: those told by a value that was read off a placed part. repeats: those that tell
     of one point that it is itself."""
 
     verdict: Verdict
@@ -90,12 +91,13 @@ class Judgement:
     def rounded(self) -> tuple[str, ...]:
         """What is told by a rounded value."""
         numbers = [each.number for each in self.asked.spelled.rounded]
-        return self.names.owners(owner for number in numbers for owner in self.asked.spelled.owners[number - 1])
+        return self.names.owners(owner for number in numbers
+                                 for owner in self.asked.spelled.owners[number - 1])
 
     @property
     def repeats(self) -> tuple[str, ...]:
-        """What says again what follows already, and is no line of a sketch: a direction, a size, a point that is
-        itself."""
+        """What says again what follows already, and is no line of a sketch: a direction, a size, a
+        point that is itself."""
         return self.names.owners(self.asked.axes.repeats())
 
     @property
@@ -109,8 +111,10 @@ class Judgement:
 
 
 def judge(drawing: Drawing, program: Asks, freeze: bool = False) -> Judgement:
-    """What the program says of a drawing. `freeze`: whether lengths and radii that nothing tells may be taken as
-    they are drawn. Raises ProgramError."""
+    """What the program says of a drawing. `freeze`: whether lengths and radii that nothing tells
+    may be taken as they are drawn. Raises ProgramError; Refusal where the program takes no such
+    sketch, as one of too many elements; NotHeld where a place or length is larger than the
+    language holds."""
     asked = ask_styles(drawing, program, freeze)
     names = Names(drawing, asked.spelled, asked.axes.facts.refs)
     judged = Judgement(asked.check.verdict, asked, names)
@@ -130,7 +134,8 @@ def _placed(judged: Judgement, drawing: Drawing, program: Asks) -> Judgement:
         if not any(each.amount > WITHIN_NM for each in judged.deviations):
             return judged
         asked = finer(judged.asked, program)
-        fine = _measured(replace(judged, asked=asked, names=replace(judged.names, spelled=asked.spelled)), drawing)
+        fine = _measured(replace(judged, asked=asked,
+                                 names=replace(judged.names, spelled=asked.spelled)), drawing)
         return min((judged, fine), key=_greatest)
     if solved is None:
         return judged
@@ -152,7 +157,8 @@ def _greatest(judged: Judgement) -> int:
 
 
 def _surplus(judged: Judgement, drawing: Drawing, program: Asks) -> tuple[Surplus, ...]:
-    """Each constraint that the program calls spare, and without which the rest isn't open, measured on the rest."""
+    """Each constraint that the program calls spare, and without which the rest isn't open,
+    measured on the rest."""
     numbers = _spare(judged, program)
     found = []
     for number in numbers[:TRIED]:
@@ -172,16 +178,18 @@ def _spare(judged: Judgement, program: Asks) -> list[int]:
     return sorted(owner.number for owner in owners if owner.number and not owner.shape)
 
 
-def _rest_without(drawing: Drawing, number: int, program: Asks, depth: int) -> tuple[Drawing, Asked] | None:
-    """What is well of a drawing without a constraint, and without more of what is spare then, where the rest is
-    still over; None where the rest is open, so that the constraint can't go."""
+def _rest_without(drawing: Drawing, number: int, program: Asks,
+                  depth: int) -> tuple[Drawing, Asked] | None:
+    """What is well of a drawing without a constraint, and without more of what is spare then,
+    where the rest is still over; None where the rest is open, so that the constraint can't go."""
     gone = [number]
     for _ in range(depth):
         rest, kept = _without(drawing, gone)
         asked = ask_styles(rest, program, False)
         if asked.check.verdict is not Verdict.OVER:
             return (rest, asked) if asked.check.verdict is Verdict.WELL else None
-        spare = _spare(Judgement(Verdict.OVER, asked, Names(rest, asked.spelled, asked.axes.facts.refs)), program)
+        spare = _spare(Judgement(Verdict.OVER, asked,
+                                 Names(rest, asked.spelled, asked.axes.facts.refs)), program)
         if not spare:
             return None
         gone.append(kept[spare[-1] - 1])
@@ -198,13 +206,15 @@ def _off(drawing: Drawing, number: int, rest: Drawing, asked: Asked) -> Deviatio
 def _without(drawing: Drawing, gone: Sequence[int]) -> tuple[Drawing, list[int]]:
     """The drawing without some constraints, and the places, from 1, of those that are kept."""
     kept = [number for number in range(1, len(drawing.constraints) + 1) if number not in gone]
-    return Drawing(drawing.geometry, tuple(drawing.constraints[number - 1] for number in kept)), kept
+    return Drawing(drawing.geometry,
+                   tuple(drawing.constraints[number - 1] for number in kept)), kept
 
 
 def _worst(deviations: Iterable[Deviation], number: int) -> Deviation | None:
     """The deviation of a constraint that counts: in nanometres, before that of an angle."""
     mine = [each for each in deviations if each.number == number]
-    return max(mine, key=lambda each: (each.unit is Unit.NM, each.amount), default=None)
+    lengths = [each for each in mine if each.unit is Unit.NM]
+    return greatest(lengths, Unit.NM) or greatest(mine, Unit.PPB)
 
 
 __all__ = ["Judgement", "Surplus", "judge"]

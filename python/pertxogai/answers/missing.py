@@ -1,4 +1,5 @@
-"""Where a drawing is open: how many dimensions it lacks at least, and between which of its pieces."""
+"""Where a drawing is open: how many dimensions it lacks at least, and between which of its
+pieces."""
 from __future__ import annotations
 
 from dataclasses import dataclass
@@ -36,8 +37,9 @@ class Joint:
 
 @dataclass(frozen=True)
 class Missing:
-    """At least `count` dimensions are missing, by counting; 0 where the drawing is rigid in a way that merging
-    doesn't find. `joints`: each piece but the first, with one before it that it hangs at, where there is one."""
+    """At least `count` dimensions are missing, by counting; 0 where the drawing is rigid in a way
+    that merging doesn't find. `joints`: each piece but the first, with one before it that it hangs
+    at, where there is one."""
 
     count: int
     pieces: tuple[Piece, ...]
@@ -53,9 +55,11 @@ def missing(names: Names, check: CheckReport) -> Missing:
     return Missing(count, tuple(pieces[place] for place in shown), joints)
 
 
-def _joint(names: Names, parts: tuple[Part, ...], pieces: tuple[Piece, ...], shown: list[int], place: int) -> Joint:
+def _joint(names: Names, parts: tuple[Part, ...], pieces: tuple[Piece, ...], shown: list[int],
+           place: int) -> Joint:
     mine = set(parts[place].elements)
-    first = next((other for other in shown if other < place and mine & set(parts[other].elements)), shown[0])
+    first = next((other for other in shown if other < place and mine & set(parts[other].elements)),
+                 shown[0])
     shared = [name for name in parts[place].elements if name in parts[first].elements]
     tie = Tie.LOOSE
     if shared:

@@ -32,9 +32,10 @@ class Names:
         return self.owners(self.spelled.owners[number - 1])
 
     def point(self, name: str) -> PointRef | None:
-        """The designer's point behind a point of the sketch, the first of those that are one; None for help."""
+        """The designer's point behind a point of the sketch, the first of those that are one; None
+        for help."""
         knot = next((knot for knot, each in self.spelled.points.items() if each == name), None)
-        return None if knot is None else next(ref for ref, each in self.refs.items() if each == knot)
+        return next((ref for ref, each in self.refs.items() if each == knot), None)
 
     def element(self, name: str) -> str | None:
         """A point, or the segment that a line is; None of what only helps."""

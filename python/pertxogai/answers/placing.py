@@ -1,4 +1,5 @@
-"""Printed places in the frame of the drawing's datum, exactly, and then rounded to whole nanometres."""
+"""Printed places in the frame of the drawing's datum, exactly, and then rounded to whole
+nanometres."""
 from __future__ import annotations
 
 from collections.abc import Sequence
@@ -75,8 +76,9 @@ def along(axis: Spot, upwards: bool, spot: Spot) -> Fraction:
 
 
 def in_datum(spelled: Spelled, plate: Plate, drawn: dict[str, Spot]) -> dict[str, tuple[int, int]]:
-    """Each point in the datum's frame, in whole nanometres. Where the drawing isn't tied to an axis, the first
-    point has its drawn coordinate there; where it has no direction, the printed one stays."""
+    """Each point in the datum's frame, in whole nanometres. Where the drawing isn't tied to an
+    axis, the first point has its drawn coordinate there; where it has no direction, the printed
+    one stays."""
     axis = plate.axis(spelled.headings, DATUM)
     if axis is None:
         axis = (Fraction(1), Fraction(0))
@@ -88,9 +90,11 @@ def in_datum(spelled: Spelled, plate: Plate, drawn: dict[str, Spot]) -> dict[str
     return found
 
 
-def _shift(spelled: Spelled, plate: Plate, axis: Spot, upwards: bool, drawn: dict[str, Spot]) -> Fraction:
+def _shift(spelled: Spelled, plate: Plate, axis: Spot, upwards: bool,
+           drawn: dict[str, Spot]) -> Fraction:
     for each in spelled.headings:
-        if each.rail is not None and each.rail.datum() and each.rail.upwards == upwards and each.name in plate.lines:
+        rail = each.rail
+        if rail and rail.datum() and rail.upwards == upwards and each.name in plate.lines:
             return -along(axis, upwards, plate.foot(each.name))
     name = next(iter(plate.points))
     return drawn[name][upwards] - along(axis, upwards, plate.points[name])

@@ -1,4 +1,5 @@
-"""Where the designer's points lie, and how large the rims are: in whole nanometres, in the datum's frame."""
+"""Where the designer's points lie, and how large the rims are: in whole nanometres, in the datum's
+frame."""
 from __future__ import annotations
 
 from fractions import Fraction
@@ -28,13 +29,16 @@ def solution_of(drawing: Drawing, asked: Asked, solved: Solved) -> Solution:
     return Solution(points, radii)
 
 
-def _radius(drawing: Drawing, asked: Asked, points: dict[PointRef, Spot], shape: Circle | Arc) -> Number:
-    """A radius that is told; else an arc's by its placed start, and a circle's by a point on it, or as drawn."""
+def _radius(drawing: Drawing, asked: Asked, points: dict[PointRef, Spot],
+            shape: Circle | Arc) -> Number:
+    """A radius that is told; else an arc's by its placed start, and a circle's by a point on it,
+    or as drawn."""
     told = asked.rails.number(Form.of(RadiusOf(shape.name)))
     if told is not None:
         return _whole(told * 1000)
     if isinstance(shape, Arc):
-        return _apart(points[PointRef(shape.name, Which.CENTRE)], points[PointRef(shape.name, Which.START)])
+        return _apart(points[PointRef(shape.name, Which.CENTRE)],
+                      points[PointRef(shape.name, Which.START)])
     return _whole(shape.radius_um * 1000)
 
 

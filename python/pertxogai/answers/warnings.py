@@ -1,4 +1,5 @@
-"""Where the placed shape departs from the drawn one: edges turned about, corners on the other side, crossings."""
+"""Where the placed shape departs from the drawn one: edges turned about, corners on the other
+side, crossings."""
 from __future__ import annotations
 
 from collections.abc import Callable, Iterator
@@ -43,8 +44,10 @@ def warnings(drawing: Drawing, solution: Solution) -> tuple[Warning, ...]:
         place = drawing.drawn(ref)
         return place.x_um, place.y_um
     edges = [shape.name for shape in drawing.geometry if isinstance(shape, Segment)]
-    outline = [shape.name for shape in drawing.geometry if isinstance(shape, Segment) and not shape.construction]
-    return (*_turned(edges, drawn, solution.spot), *_corners(drawing, outline, drawn, solution.spot),
+    outline = [shape.name for shape in drawing.geometry if isinstance(shape, Segment)
+               and not shape.construction]
+    return (*_turned(edges, drawn, solution.spot),
+            *_corners(drawing, outline, drawn, solution.spot),
             *_crossings(drawing, outline, drawn, solution.spot))
 
 
@@ -83,9 +86,11 @@ def _crossings(drawing: Drawing, outline: list[str], drawn: At, placed: At) -> I
     meetings = Meetings(drawing)
     for place, first in enumerate(outline):
         for second in outline[place + 1:]:
-            if meetings.corner(ShapeRef(first), ShapeRef(second)) is None:
-                if _cross_each_other(first, second, placed) and not _cross_each_other(first, second, drawn):
-                    yield Warning(Departure.CROSSES, (first, second))
+            if meetings.corner(ShapeRef(first), ShapeRef(second)) is not None:
+                continue
+            before, after = (_cross_each_other(first, second, at) for at in (drawn, placed))
+            if after and not before:
+                yield Warning(Departure.CROSSES, (first, second))
 
 
 def _cross_each_other(first: str, second: str, at: At) -> bool:

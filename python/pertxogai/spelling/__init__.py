@@ -1,4 +1,5 @@
-"""How a designer's words are spelled in the language: once for each style, with the owner of each line."""
+"""How a designer's words are spelled in the language: once for each style, with the owner of each
+line."""
 from __future__ import annotations
 
 from dataclasses import dataclass
@@ -24,8 +25,8 @@ def spell(drawing: Drawing, style: Style) -> Spelled:
 
 @dataclass(frozen=True)
 class Reading:
-    """How a drawing's words are taken. slots: ways between centres along a line are told for radii. middles: regular
-    polygons are told by the middles of opposite corners."""
+    """How a drawing's words are taken. slots: ways between centres along a line are told for
+    radii. middles: regular polygons are told by the middles of opposite corners."""
 
     slots: bool = True
     middles: bool = False
@@ -46,4 +47,5 @@ def axes_of(drawing: Drawing, reading: Reading = READINGS[0]) -> Axes:
     return axes
 
 
-__all__ = ["Axes", "Care", "READINGS", "Rails", "Reading", "Spelled", "Style", "axes_of", "spell", "written"]
+__all__ = ["Axes", "Care", "READINGS", "Rails", "Reading", "Spelled", "Style", "axes_of", "spell",
+           "written"]

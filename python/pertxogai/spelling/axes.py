@@ -1,6 +1,5 @@
-"""What a drawing says of x and y: each class of lines of known directions has two axes, and along them its parallels,
-right angles, shifts, middles and mirrors are equations.
-"""
+"""What a drawing says of x and y: each class of lines of known directions has two axes, and along
+them its parallels, right angles, shifts, middles and mirrors are equations. """
 from __future__ import annotations
 
 from collections import Counter
@@ -12,7 +11,8 @@ from typing import Protocol
 from pertxogai.drawing import X_AXIS
 from pertxogai.spelling.directions import Directions
 from pertxogai.spelling.facts import (
-    ORIGIN_KNOT, Apart, Fact, Facts, HalfOf, Knot, Leans, Line, Middle, Mirror, Off, Owner, RadiusOf, Shift, Sized, Stays)
+    ORIGIN_KNOT, Apart, Fact, Facts, HalfOf, Knot, Leans, Line, Middle, Mirror, Off, Owner,
+    RadiusOf, Shift, Sized, Stays)
 from pertxogai.spelling.lean import Lean
 from pertxogai.spelling.lines import Lines
 from pertxogai.values import Form, LinearSystem, Told
@@ -23,7 +23,8 @@ DATUM = 0
 
 @dataclass(frozen=True)
 class Coordinate:
-    """A point's coordinate in a frame, in micrometres: along its first line, or `upwards`, to that line's left."""
+    """A point's coordinate in a frame, in micrometres: along its first line, or `upwards`, to that
+    line's left."""
 
     frame: int
     upwards: bool
@@ -85,8 +86,10 @@ class Axes:
         while self._settle():
             pass
 
-    def replaced(self, number: int | None, equation: Equation, without: Apart | Off | None = None) -> Axes:
-        """The same with another equation in the place of one, or a new one, and without a distance."""
+    def replaced(self, number: int | None, equation: Equation,
+                 without: Apart | Off | None = None) -> Axes:
+        """The same with another equation in the place of one, or a new one, and without a
+        distance."""
         other = copy(self)
         equations = list(self.equations)
         if number is None:
@@ -104,7 +107,8 @@ class Axes:
     def surplus(self) -> list[tuple[Equation, Told]]:
         """The equations that say nothing new, but for radii that are told again as they are."""
         return [(equation, told) for equation, told in self.told
-                if told.amount or not all(isinstance(key, RadiusOf) for key in equation.form.terms)]
+                if told.amount or not all(isinstance(key, RadiusOf)
+                                          for key in equation.form.terms)]
 
     def conflicts(self) -> list[Leans]:
         """The leans that are another than what follows from the others."""
@@ -112,8 +116,9 @@ class Axes:
                 if self.directions.between(leans.first, leans.second) != leans.lean]
 
     def repeats(self) -> frozenset[Owner]:
-        """Who says again, and says nothing else, what is no line of a sketch: that a point is itself or lies on its
-        own line, a direction that follows from others, a size that is known."""
+        """Who says again, and says nothing else, what is no line of a sketch: that a point is
+        itself or lies on its own line, a direction that follows from others, a size that is
+        known."""
         found = {*self.facts.repeats, *self.lines.repeats}
         found |= {leans.owner for leans in self.directions.told if leans not in self.conflicts()}
         for equation, told in self.told:
@@ -125,13 +130,13 @@ class Axes:
     # -- frames
 
     def _merge_parallels(self) -> bool:
-        """Makes the first two parallels that share a point one line; False where there are none."""
+        """Makes the first two parallels that share a point one line; False where there are
+        none."""
         lines = self.lines.all()
         for place, first in enumerate(lines):
-            knots = {each.knot for each in self.lines.members(first)}
             for second in lines[place + 1:]:
                 lean = self.directions.between(first, second)
-                if lean is not None and lean.level() and knots & {each.knot for each in self.lines.members(second)}:
+                if lean is not None and lean.level() and self.lines.share(first, second):
                     self.lines.join(first, second)
                     return True
         return False
@@ -190,7 +195,8 @@ class Axes:
                 self._line_says(line, axis)
 
     def _line_says(self, line: Line, upwards: bool) -> None:
-        """That all points of a line share a coordinate, but for those of which that is why its direction is known."""
+        """That all points of a line share a coordinate, but for those of which that is why its
+        direction is known."""
         frame = self.frame(line)
         members = self.lines.members(line)
         group = {member.knot: member.knot for member in members}
@@ -215,7 +221,8 @@ class Axes:
                 form = self.at(DATUM, upwards, second) - self.at(DATUM, upwards, first) - value
                 self.tell(form, frozenset({owner}))
             case Stays(knot, place, owner):
-                self.tell(self.at(DATUM, False, knot) - Form(number=place.x_um), frozenset({owner}))
+                self.tell(self.at(DATUM, False, knot) - Form(number=place.x_um),
+                          frozenset({owner}))
                 self.tell(self.at(DATUM, True, knot) - Form(number=place.y_um), frozenset({owner}))
             case Middle(middle, first, second, owner):
                 frame = self._frame_of_middle(fact)
@@ -231,11 +238,11 @@ class Axes:
 
     def _frame_of_middle(self, fact: Middle) -> int:
         """The frame that knows most of the three points, the datum's where they are alike."""
-        known = Counter(key.frame for equation in self.equations for key in equation.form.terms
-                        if isinstance(key, Coordinate) and key.knot in (fact.middle, fact.first, fact.second)
-                        and key.knot != ORIGIN_KNOT)
-        if ORIGIN_KNOT in (fact.middle, fact.first, fact.second):
+        knots = (fact.middle, fact.first, fact.second)
+        if ORIGIN_KNOT in knots:
             return DATUM
+        known = Counter(key.frame for equation in self.equations for key in equation.form.terms
+                        if isinstance(key, Coordinate) and key.knot in knots)
         best = max(known.values(), default=0)
         return min((number for number, count in known.items() if count == best), default=DATUM)
 
@@ -245,7 +252,8 @@ class Axes:
         if upwards is None:
             for knot in (fact.first, fact.second):
                 half = Form.of(HalfOf(fact.owner))
-                self.loose.append(Off(knot, fact.line, half, self.facts.left(knot, fact.line), fact.owner))
+                self.loose.append(Off(knot, fact.line, half, self.facts.left(knot, fact.line),
+                                      fact.owner))
             return
         frame = self.frame(line).number
         on_line = self.at(frame, upwards, self.lines.members(line)[0].knot)
@@ -266,13 +274,14 @@ class Axes:
 
     def _sign(self, frame: Frame, upwards: bool, first: Knot, second: Knot) -> int:
         """Which way along an axis the second point is drawn from the first."""
-        run = frame.along(upwards, self.facts.drawn[second]) - frame.along(upwards, self.facts.drawn[first])
-        return 1 if run >= 0 else -1
+        start, end = (frame.along(upwards, self.facts.drawn[knot]) for knot in (first, second))
+        return 1 if end >= start else -1
 
     # -- distances along an axis
 
     def _settle(self) -> bool:
-        """Makes an equation of the first distance that runs along an axis; False where none does."""
+        """Makes an equation of the first distance that runs along an axis; False where none
+        does."""
         datum, others = self.frames[:1], self.frames[1:]
         for frames in (datum, others):
             for settles in (self._settles, self._is_mate):
@@ -285,7 +294,8 @@ class Axes:
     def _has_rails(self, frame: Frame, upwards: bool) -> bool:
         """Whether distances along an axis of a frame are told from lines across it."""
         return frame.number == DATUM or any(
-            self.fixed_axis(line) is upwards for line in self.lines.all() if self.frame(line) == frame)
+            self.fixed_axis(line) is upwards for line in self.lines.all()
+            if self.frame(line) == frame)
 
     def _is_mate(self, fact: Apart, frames: list[Frame]) -> bool:
         """Two equal distances that rise alike also run alike."""
@@ -305,11 +315,13 @@ class Axes:
         return bool(reduced(fact.value).terms) and reduced(mate.value - fact.value) == Form()
 
     def _owners(self, form: Form) -> frozenset[Owner]:
-        return frozenset(owner for mark in self.system.sources(form) for owner in self.equations[mark].owners)
+        return frozenset(owner for mark in self.system.sources(form)
+                         for owner in self.equations[mark].owners)
 
-    def _runs_alike(self, frame: Frame, upwards: bool, mate: Apart, fact: Apart, owners: frozenset[Owner]) -> bool:
+    def _runs_alike(self, frame: Frame, upwards: bool, mate: Apart, fact: Apart,
+                    owners: frozenset[Owner]) -> bool:
         across, mates = self._run(frame, not upwards, fact), self._run(frame, not upwards, mate)
-        alike = self.system.reduced(across - mates) == Form() or self.system.reduced(across + mates) == Form()
+        alike = Form() in map(self.system.reduced, (across - mates, across + mates))
         if not alike or {fact.first, fact.second} == {mate.first, mate.second}:
             return False
         signs = [self._sign(frame, upwards, each.first, each.second) for each in (fact, mate)]
@@ -318,7 +330,8 @@ class Axes:
         return True
 
     def _settles(self, fact: Apart, frames: list[Frame]) -> bool:
-        """Where the points are level, the distance is the way along; where it is that already, they are level."""
+        """Where the points are level, the distance is the way along; where it is that already,
+        they are level."""
         for frame in frames:
             for upwards in (False, True):
                 if not self._has_rails(frame, upwards):
@@ -335,7 +348,8 @@ class Axes:
         return False
 
     def _run(self, frame: Frame, upwards: bool, fact: Apart) -> Form:
-        return self.at(frame.number, upwards, fact.second) - self.at(frame.number, upwards, fact.first)
+        first = self.at(frame.number, upwards, fact.first)
+        return self.at(frame.number, upwards, fact.second) - first
 
 
 def _join(group: dict[Knot, Knot], first: Knot, second: Knot) -> bool:

@@ -1,7 +1,7 @@
 """Classes of lines of which the directions are known against each other, with the lean of each.
 
-A lean that joins two classes says something new; one within a class follows from those that joined it.
-"""
+A lean that joins two classes says something new; one within a class follows from those that joined
+it. """
 from __future__ import annotations
 
 from dataclasses import dataclass
@@ -12,7 +12,8 @@ from pertxogai.spelling.lean import Lean
 
 @dataclass(frozen=True)
 class Bearing:
-    """A line's lean against its class's first line, and the leans, by their places, that say so."""
+    """A line's lean against its class's first line, and the leans, by their places, that say
+    so."""
 
     root: Line
     lean: Lean

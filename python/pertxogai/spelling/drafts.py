@@ -1,21 +1,24 @@
-"""A sketch on its way: its elements as they are drawn, and its constraints with exact values and owners."""
+"""A sketch on its way: its elements as they are drawn, and its constraints with exact values and
+owners."""
 from __future__ import annotations
 
 from dataclasses import dataclass, field
 from fractions import Fraction
 
 from pertxogai import language
-from pertxogai.spelling.facts import Knot, Owner
+from pertxogai.spelling.facts import Owner
 
 Spot = tuple[Fraction, Fraction]
-SCALES = (1, 2, 4, 5, 8, 10, 16, 20, 25, 40, 50, 80, 100, 125, 160, 200, 250, 400, 500, 625, 800, 1000)
+SCALES = (1, 2, 4, 5, 8, 10, 16, 20, 25, 40, 50, 80, 100, 125, 160, 200, 250, 400, 500, 625, 800,
+          1000)
 ROOM_UM = Fraction(250_000_000)
 """How large a drawing may become, in micrometres: a quarter of what the language holds."""
 
 
 @dataclass(frozen=True)
 class Draft:
-    """A constraint: `on` where there is neither value nor ratio. `second` is a line, or a point for a distance."""
+    """A constraint: `on` where there is neither value nor ratio. `second` is a line, or a point
+    for a distance."""
 
     first: str
     second: str
@@ -30,7 +33,8 @@ class Draft:
 
 @dataclass(frozen=True)
 class Rounded:
-    """A value that the language can't hold, even on a greater scale, in micrometres, and what was told instead."""
+    """A value that the language can't hold, even on a greater scale, in micrometres, and what was
+    told instead."""
 
     number: int
     exact_um: Fraction
@@ -39,17 +43,19 @@ class Rounded:
 
 @dataclass
 class Sheet:
-    """The elements and constraints so far; points and lines by their names, in micrometres of the drawing."""
+    """The elements and constraints so far; points and lines by their names, in micrometres of the
+    drawing."""
 
     points: dict[str, Spot] = field(default_factory=dict)
     lines: dict[str, tuple[Spot, Spot]] = field(default_factory=dict)
     drafts: list[Draft] = field(default_factory=list)
 
     def scale(self) -> int:
-        """How many times larger the sketch is told, so that its values are whole micrometres where they can be."""
+        """How many times larger the sketch is told, so that its values are whole micrometres where
+        they can be."""
         values = [each.value_um for each in self.drafts if each.value_um is not None]
         spots = [abs(each) for spot in self.points.values() for each in spot]
-        room = ROOM_UM / max([Fraction(1), *map(abs, values), *spots])
+        room = ROOM_UM / max([Fraction(1), *(abs(value) for value in values), *spots])
         fitting = [scale for scale in SCALES if scale <= room] or [1]
         for scale in fitting:
             if all((value * scale).denominator == 1 for value in values):
@@ -57,9 +63,11 @@ class Sheet:
         return fitting[-1]
 
     def sketch(self, scale: int) -> tuple[language.Sketch, tuple[Rounded, ...]]:
-        """The sketch as values of the language, so many times larger, and the values that had to be rounded."""
+        """The sketch as values of the language, so many times larger, and the values that had to
+        be rounded."""
         elements: list[language.Element] = [
-            language.Point(name, *(_whole(each * scale) for each in spot)) for name, spot in self.points.items()]
+            language.Point(name, *(_whole(each * scale)
+                                   for each in spot)) for name, spot in self.points.items()]
         for name, ends in self.lines.items():
             elements.append(_line(name, ends, scale))
         rounded = []
@@ -90,5 +98,3 @@ def _line(name: str, ends: tuple[Spot, Spot], scale: int) -> language.Line:
 def _whole(value: Fraction) -> int:
     return language.numbers.nearest_whole(value)
 
-
-__all__ = ["Draft", "Knot", "Rounded", "Sheet", "Spot"]

@@ -1,4 +1,5 @@
-"""What a drawing says, in few kinds of facts: points that are one, lines with the points on them, leans, distances.
+"""What a drawing says, in few kinds of facts: points that are one, lines with the points on them,
+leans, distances.
 
 Each fact has an owner: the constraint, or the shape, that says it.
 """
@@ -14,8 +15,8 @@ from pertxogai.values import Form
 
 @dataclass(frozen=True, order=True)
 class Owner:
-    """Who says a fact: the constraint at place `number`, from 1, or the shape at that place, an arc of which it is
-    said that its ends are on its circle."""
+    """Who says a fact: the constraint at place `number`, from 1, or the shape at that place, an
+    arc of which it is said that its ends are on its circle."""
 
     number: int
     shape: bool = False
@@ -80,8 +81,8 @@ class Apart:
 
 @dataclass(frozen=True)
 class Off:
-    """A point is `value` away from a line, on the side where it is drawn: `sign` is 1 on the left of the line's
-    drawn direction, else -1."""
+    """A point is `value` away from a line, on the side where it is drawn: `sign` is 1 on the left
+    of the line's drawn direction, else -1."""
 
     point: Knot
     line: Line
@@ -145,7 +146,8 @@ class Middle:
 
 @dataclass(frozen=True)
 class Mirror:
-    """Two points are mirror images to a line. That the line through them is square to it stands as `Leans`."""
+    """Two points are mirror images to a line. That the line through them is square to it stands as
+    `Leans`."""
 
     first: Knot
     second: Knot
@@ -188,7 +190,7 @@ class Facts:
     def direction(self, line: Line) -> tuple[Fraction, Fraction]:
         """The drawn direction of a line, from its first own point to its second."""
         if isinstance(line, ShapeRef) and line.name in ("XAxis", "YAxis"):
-            return (Fraction(1), Fraction(0)) if line.name == "XAxis" else (Fraction(0), Fraction(1))
+            return Fraction(line.name == "XAxis"), Fraction(line.name == "YAxis")
         first, second = self.own[line]
         (x, y), (u, v) = self.drawn[first], self.drawn[second]
         return u - x, v - y

@@ -1,4 +1,5 @@
-"""Points that are one: by sharing, by a word that says so, and the centres of rims round one centre."""
+"""Points that are one: by sharing, by a word that says so, and the centres of rims round one
+centre."""
 from __future__ import annotations
 
 from collections.abc import Iterator
@@ -9,11 +10,13 @@ from pertxogai.spelling.facts import ORIGIN_KNOT, Knot, Owner
 
 
 def knots_of(drawing: Drawing) -> tuple[dict[PointRef, Knot], list[Owner]]:
-    """The knot of each point, the origin's first; and the constraints that say of one point that it is one."""
+    """The knot of each point, the origin's first; and the constraints that say of one point that
+    it is one."""
     classes = _Classes()
     for pair in drawing.shared():
         classes.join(pair)
-    repeats = [owner for pair, owner in _told(drawing) if not classes.join(pair) and owner is not None]
+    repeats = [owner for pair, owner in _told(drawing)
+               if not classes.join(pair) and owner is not None]
     numbers: dict[PointRef, Knot] = {classes.leader(ORIGIN): ORIGIN_KNOT}
     refs = {ORIGIN: ORIGIN_KNOT}
     for ref in drawing.points():
@@ -23,7 +26,8 @@ def knots_of(drawing: Drawing) -> tuple[dict[PointRef, Knot], list[Owner]]:
 
 
 def _told(drawing: Drawing) -> Iterator[tuple[Pair, Owner | None]]:
-    """Each two points that a constraint says to be one, with its owner where it says nothing else."""
+    """Each two points that a constraint says to be one, with its owner where it says nothing
+    else."""
     for number, constraint in enumerate(drawing.constraints, 1):
         match constraint:
             case Coincident(first, second):

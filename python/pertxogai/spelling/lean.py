@@ -13,8 +13,8 @@ MOST_RATIO = 10_000
 
 @dataclass(frozen=True)
 class Lean:
-    """The turn from one line to another, up to half turns: `degrees` from 0 to below 180, and then the turn of the
-    direction (`ahead`, `left`), two whole numbers without a common divisor."""
+    """The turn from one line to another, up to half turns: `degrees` from 0 to below 180, and then
+    the turn of the direction (`ahead`, `left`), two whole numbers without a common divisor."""
 
     degrees: Fraction = Fraction(0)
     ahead: int = 1
@@ -46,16 +46,18 @@ class Lean:
         return self.degrees == 90 and not self.left
 
     def ratio(self) -> tuple[int, int]:
-        """The tangent p, q as the language takes it: exact where that can be, else the nearest. Not for parallels."""
+        """The tangent p, q as the language takes it: exact where that can be, else the nearest.
+        Not for parallels."""
         way = self.way()
-        if way is not None and max(map(abs, way)) <= MOST_RATIO:
+        if way is not None and self.exact():
             sign = -1 if way[0] < 0 or (way[0] == 0 and way[1] < 0) else 1
             return sign * way[1], sign * way[0]
         tangent = Fraction(tan(self.radians()))
         return nearest_ratio(tangent, 1)
 
     def halves(self) -> tuple[Lean, Lean] | None:
-        """Two leans by ratios of which the sum is this within 10^-11 or so, where no ratio is this; else None."""
+        """Two leans by ratios of which the sum is this within 10^-11 or so, where no ratio is
+        this; else None."""
         if self.exact():
             return None
         goal = self.radians()
@@ -67,7 +69,7 @@ class Lean:
     def exact(self) -> bool:
         """Whether `ratio` is the lean itself."""
         way = self.way()
-        return way is not None and max(map(abs, way)) <= MOST_RATIO
+        return way is not None and abs(way[0]) <= MOST_RATIO and abs(way[1]) <= MOST_RATIO
 
     def way(self) -> tuple[int, int] | None:
         """The direction (ahead, left) in whole numbers; None where it has none."""

@@ -1,11 +1,12 @@
-"""The lines of a drawing with the points on each. Lines that are told to be one, or share two points, are one."""
+"""The lines of a drawing with the points on each. Lines that are told to be one, or share two
+points, are one."""
 from __future__ import annotations
 
 from dataclasses import dataclass
 
 from pertxogai.drawing import X_AXIS, Y_AXIS
-from pertxogai.spelling.facts import ORIGIN_KNOT, Facts, Knot, Leans, Lies, Line, OneLine, Owner
-from pertxogai.spelling.lean import SQUARE, Lean
+from pertxogai.spelling.facts import Facts, Knot, Leans, Lies, Line, OneLine, Owner
+from pertxogai.spelling.lean import SQUARE
 
 
 @dataclass(frozen=True)
@@ -57,6 +58,11 @@ class Lines:
         """The points on a line, its own ends first."""
         return sorted(self._members[self.leader(line)], key=lambda each: each.owner is not None)
 
+    def share(self, first: Line, second: Line) -> bool:
+        """Whether two lines have a point in common."""
+        return bool({each.knot for each in self.members(first)}
+                    & {each.knot for each in self.members(second)})
+
     def names(self, line: Line) -> list[Line]:
         """All lines that are one with this."""
         return [each for each in self._facts.own if self.leader(each) == self.leader(line)]
@@ -64,7 +70,8 @@ class Lines:
     def _put(self, point: Knot, line: Line, owner: Owner) -> None:
         members = self._members[self.leader(line)]
         if any(each.knot == point for each in members):
-            if not any(isinstance(each, OneLine) and each.owner == owner for each in self._facts.facts):
+            if not any(isinstance(each, OneLine) and each.owner == owner
+                       for each in self._facts.facts):
                 self.repeats.append(owner)
             return
         members.append(Member(point, owner))
@@ -78,7 +85,8 @@ class Lines:
         known = {each.knot: each for each in self._members[first]}
         for each in self._members.pop(second):
             old = known.get(each.knot)
-            known[each.knot] = each if old is None or (old.owner is None and each.owner is not None) else old
+            known[each.knot] = each if old is None or (old.owner is None
+                                                       and each.owner is not None) else old
         self._members[first] = list(known.values())
         self._above[second] = first
 
@@ -93,12 +101,3 @@ class Lines:
                     self.join(first, second)
                     return True
         return False
-
-
-def origin_is_used(lines: Lines) -> bool:
-    """Whether anything but the axes themselves speaks of the origin."""
-    return any(each.knot == ORIGIN_KNOT and each.owner is not None
-               for line in lines.all() for each in lines.members(line))
-
-
-__all__ = ["Lean", "Lines", "Member", "origin_is_used"]

@@ -5,13 +5,14 @@ from fractions import Fraction
 from math import atan2, cos, hypot, pi, sin, sqrt
 
 from pertxogai.drawing import (
-    ORIGIN, X_AXIS, Y_AXIS, AngleBetween, Arc, Axis, Circle, Coincident, Collinear, Concentric, Constraint, Degrees, Diameter,
-    Distance, Drawing, Equal, Fixed, Horizontal, Length, Midpoint, Origin, Pair, Parallel, ParallelDistance, Perpendicular,
-    Place, PointLineDistance, PointOn, PointRef, Radius, Segment, Sense, Shape, ShapeRef, Slope, Symmetric, Tangent, Touch, Vertical,
-    Which, XDistance, YDistance, points_of, run_um, touch, turn)
+    X_AXIS, Y_AXIS, AngleBetween, Arc, Axis, Circle, Coincident, Collinear, Concentric, Constraint,
+    Degrees, Diameter, Distance, Drawing, Equal, Fixed, Horizontal, Length, Midpoint, Origin, Pair,
+    Parallel, ParallelDistance, Perpendicular, Place, PointLineDistance, PointOn, PointRef, Radius,
+    Segment, Sense, Shape, ShapeRef, Slope, Symmetric, Tangent, Touch, Vertical, Which, XDistance,
+    YDistance, points_of, run_um, touch, turn)
 from pertxogai.spelling.facts import (
-    ORIGIN_KNOT, Apart, Between, Fact, Facts, Knot, LengthOf, Leans, Lies, Line, Middle, Mirror, Off, OneLine, Owner,
-    RadiusOf, Shift, Sized, Stays)
+    ORIGIN_KNOT, Apart, Between, Fact, Facts, Knot, Leans, LengthOf, Lies, Middle, Mirror, Off,
+    OneLine, Owner, RadiusOf, Shift, Sized, Stays)
 from pertxogai.spelling.knots import knots_of
 from pertxogai.spelling.lean import SQUARE, Lean
 from pertxogai.values import Form
@@ -68,11 +69,13 @@ class _Lowering:
             self._stays(shape, owner)
 
     def _stays(self, shape: Shape, owner: Owner) -> None:
-        """A shape from outside, or a fixed one: its points where they are drawn, and its radius."""
+        """A shape from outside, or a fixed one: its points where they are drawn, and its
+        radius."""
         refs = points_of(shape)
         if isinstance(shape, Arc):
             refs = refs[:2]
-            self._say(Leans(X_AXIS, Between(self._centre(ShapeRef(shape.name)), self._ends(shape.name)[1]),
+            self._say(Leans(X_AXIS,
+                            Between(self._centre(ShapeRef(shape.name)), self._ends(shape.name)[1]),
                             self._lean_of(shape), owner))
         for ref in dict.fromkeys(map(self._knot, refs)):
             x, y = self.facts.drawn[ref]
@@ -103,7 +106,8 @@ class _Lowering:
         """A segment's length as an unknown, which is said to be that of its ends."""
         first, second = self._ends(segment.name)
         size = LengthOf(first, second)
-        if not any(isinstance(each, Apart) and each.value.key() == Form.of(size).key() for each in self.facts.facts):
+        if not any(isinstance(each, Apart) and each.value.key() == Form.of(size).key()
+                   for each in self.facts.facts):
             self._apart(first, second, Form.of(size), owner)
         return Form.of(size)
 
@@ -137,7 +141,8 @@ class _Lowering:
             case Fixed(what):
                 self._fixed(what, owner)
 
-    def _sizes(self, constraint: Length | Distance | Radius | Diameter | Equal, owner: Owner) -> None:
+    def _sizes(self, constraint: Length | Distance | Radius | Diameter | Equal,
+               owner: Owner) -> None:
         match constraint:
             case Length(segment, value):
                 self._size(self._length(segment, owner), value, owner)
@@ -154,7 +159,8 @@ class _Lowering:
                     form = self._length(one, owner) - self._length(other, owner)
                 self._size(form, Fraction(0), owner)
 
-    def _shift(self, first: PointRef, second: PointRef, upwards: bool, value: Fraction, owner: Owner) -> None:
+    def _shift(self, first: PointRef, second: PointRef, upwards: bool, value: Fraction,
+               owner: Owner) -> None:
         self._say(Shift(self._knot(first), self._knot(second), upwards, Form(number=value), owner))
 
     def _aligned(self, of: ShapeRef | Pair, vertical: bool, owner: Owner) -> None:
@@ -169,7 +175,8 @@ class _Lowering:
                 return
         self._say(Shift(*ends, not vertical, Form(), owner))
 
-    def _leans(self, constraint: Parallel | Perpendicular | AngleBetween | Collinear, owner: Owner) -> None:
+    def _leans(self, constraint: Parallel | Perpendicular | AngleBetween | Collinear,
+               owner: Owner) -> None:
         match constraint:
             case Parallel(first, second):
                 self._say(Leans(first, second, LEVEL, owner))
@@ -181,7 +188,8 @@ class _Lowering:
                 self._say(OneLine(first, second, owner))
 
     def _redraw(self, angle: AngleBetween) -> None:
-        """Draws a segment as its signed angle says, where it is drawn more than half a right angle off."""
+        """Draws a segment as its signed angle says, where it is drawn more than half a right angle
+        off."""
         first, second = self.facts.direction(angle.first), self.facts.direction(angle.second)
         asked = turn(self.drawing, angle)
         if isinstance(asked, Degrees):
@@ -190,11 +198,12 @@ class _Lowering:
             radians = atan2(asked.p, asked.q) + (pi if asked.backward else 0)
         goal = atan2(float(first[1]), float(first[0])) + radians
         size = hypot(float(second[0]), float(second[1]))
-        if isinstance(self.drawing.shape(angle.second.name), Segment) and cos(
-                goal - atan2(float(second[1]), float(second[0]))) < sqrt(0.5):
+        near = cos(goal - atan2(float(second[1]), float(second[0]))) >= sqrt(0.5)
+        if isinstance(self.drawing.shape(angle.second.name), Segment) and not near:
             start, end = self._ends(angle.second.name)
             x, y = self.facts.drawn[start]
-            self.facts.drawn[end] = (x + Fraction(size * cos(goal)), y + Fraction(size * sin(goal)))
+            self.facts.drawn[end] = (x + Fraction(size * cos(goal)),
+                                     y + Fraction(size * sin(goal)))
 
     def _on(self, point: Knot, curve: ShapeRef, owner: Owner) -> None:
         if isinstance(self.drawing.shape(curve.name), RIMS):
@@ -202,7 +211,8 @@ class _Lowering:
         else:
             self._say(Lies(point, curve, owner))
 
-    def _parallel_distance(self, first: ShapeRef, second: ShapeRef, value: Fraction, owner: Owner) -> None:
+    def _parallel_distance(self, first: ShapeRef, second: ShapeRef, value: Fraction,
+                           owner: Owner) -> None:
         """One dimension: a point of a segment from the other line."""
         if isinstance(self.drawing.shape(second.name), Segment):
             self._off(self._ends(second.name)[0], first, Form(number=value), owner)
@@ -220,7 +230,8 @@ class _Lowering:
             self._touches(*((second, first) if rims[0] else (first, second)), owner)
 
     def _touches(self, line: ShapeRef, rim: ShapeRef, owner: Owner) -> None:
-        """At an arc's end that lies on the line the centre is on the normal; else it is a radius away."""
+        """At an arc's end that lies on the line the centre is on the normal; else it is a radius
+        away."""
         centre = self._centre(rim)
         for end in self._rim_points(rim):
             if self._known_on(end, line):
@@ -229,8 +240,10 @@ class _Lowering:
         self._off(centre, line, Form.of(RadiusOf(rim.name)), owner)
 
     def _rim_points(self, rim: ShapeRef) -> list[Knot]:
-        """The points that are told to lie on a rim: an arc's ends, and what a `PointOn` puts there."""
-        points = list(self._ends(rim.name)) if isinstance(self.drawing.shape(rim.name), Arc) else []
+        """The points that are told to lie on a rim: an arc's ends, and what a `PointOn` puts
+        there."""
+        is_arc = isinstance(self.drawing.shape(rim.name), Arc)
+        points = list(self._ends(rim.name)) if is_arc else []
         points += [self._knot(each.point) for each in self.drawing.constraints
                    if isinstance(each, PointOn) and each.curve == rim]
         return points
@@ -242,7 +255,8 @@ class _Lowering:
             for each in self.drawing.constraints)
 
     def _rims(self, constraint: Tangent, owner: Owner) -> None:
-        """Two rims touch: at a shared point the line of centres runs through it; else by the radii."""
+        """Two rims touch: at a shared point the line of centres runs through it; else by the
+        radii."""
         first, second = constraint.first, constraint.second
         centres = self._centre(first), self._centre(second)
         others = self._rim_points(second)
@@ -279,11 +293,3 @@ class _Lowering:
             return
         x, y = self.facts.drawn[self._knot(what)]
         self._say(Stays(self._knot(what), Place(x, y), owner))
-
-
-def uses_datum(line: Line) -> bool:
-    """Whether a line is an axis of the datum."""
-    return line in (X_AXIS, Y_AXIS)
-
-
-__all__ = ["ORIGIN", "lowered", "uses_datum"]

@@ -1,5 +1,5 @@
-"""Directions that follow from places: of lines whose points are level, and of lines that are mirror images to an
-axis, which halves the angle between them."""
+"""Directions that follow from places: of lines whose points are level, and of lines that are
+mirror images to an axis, which halves the angle between them."""
 from __future__ import annotations
 
 from dataclasses import replace
@@ -15,7 +15,8 @@ from pertxogai.values import Form
 
 
 def with_implied(axes: Axes) -> Facts | None:
-    """The facts with the first line that follows to run along an axis of the datum; None where none does."""
+    """The facts with the first line that follows to run along an axis of the datum; None where
+    none does."""
     for line in axes.lines.all():
         if axes.frame(line).number == 0:
             continue
@@ -40,11 +41,13 @@ def _lean_of(ahead: Form, left: Form) -> Lean | None:
 
 def _has_company(axes: Axes, line: Line) -> bool:
     """Whether the directions of other lines are known against this one's."""
-    return any(other != line and axes.frame(other) == axes.frame(line) for other in axes.lines.all())
+    return any(other != line and axes.frame(other) == axes.frame(line)
+               for other in axes.lines.all())
 
 
 def with_halves(axes: Axes) -> Facts | None:
-    """The facts with the first angle of two mirrored lines told as half of it from the axis; None where none is."""
+    """The facts with the first angle of two mirrored lines told as half of it from the axis; None
+    where none is."""
     for fact in axes.facts.facts:
         if isinstance(fact, Leans) and not fact.lean.left:
             halved = _halved(axes, fact)
@@ -62,7 +65,8 @@ def _halved(axes: Axes, fact: Leans) -> Leans | None:
     for frame in axes.frames:
         if frame != own and _mirrored(axes, frame, first, second):
             half = Lean((-fact.lean.degrees / 2) % 180)
-            lean = min((half, half + Lean(Fraction(90))), key=lambda each: _off(axes, frame, first, each))
+            lean = min((half, half + Lean(Fraction(90))),
+                       key=lambda each: _off(axes, frame, first, each))
             return Leans(frame.line, first, lean, fact.owner)
     return None
 

@@ -1,8 +1,8 @@
 """Regular polygons: equal sides that close round a circle turn by equal parts of a full turn.
 
-The equal lengths are told as the leans of the radii against each other, which say the same: with n corners on one
-circle, the n sides are equal where each two neighbouring radii make the n-th part of the full turns.
-"""
+The equal lengths are told as the leans of the radii against each other, which say the same: with n
+corners on one circle, the n sides are equal where each two neighbouring radii make the n-th part
+of the full turns. """
 from __future__ import annotations
 
 from collections.abc import Iterator
@@ -10,14 +10,16 @@ from dataclasses import dataclass, replace
 from fractions import Fraction
 from math import atan2, pi
 
-from pertxogai.spelling.facts import Apart, Between, Fact, Facts, Knot, Leans, LengthOf, Line, Middle, RadiusOf, Sized
+from pertxogai.spelling.facts import (
+    Apart, Between, Fact, Facts, Knot, Leans, LengthOf, Line, Middle, RadiusOf, Sized)
 from pertxogai.spelling.lean import SQUARE, Lean
 from pertxogai.values import Form
 
 
 @dataclass(frozen=True)
 class Polygon:
-    """A regular polygon: its corners in order, the turn from each radius to the next, and who says it equal."""
+    """A regular polygon: its corners in order, the turn from each radius to the next, and who says
+    it equal."""
 
     centre: Knot
     rim: RadiusOf
@@ -35,8 +37,9 @@ class Polygon:
 
 
 def with_polygons(facts: Facts, middles: bool) -> Facts:
-    """The facts, with each regular polygon told by its radii. `middles`: of opposite corners, where there are such,
-    the centre is the middle, and that is told of the second half of the corners."""
+    """The facts, with each regular polygon told by its radii. `middles`: of opposite corners,
+    where there are such, the centre is the middle, and that is told of the second half of the
+    corners."""
     for polygon in list(_polygons(facts)):
         if len(polygon.equals) == len(polygon.corners) - 1:
             facts = _told(facts, polygon)
@@ -46,7 +49,8 @@ def with_polygons(facts: Facts, middles: bool) -> Facts:
 
 
 def _opposite(facts: Facts, polygon: Polygon) -> Facts:
-    """That a corner has its radius and the lean of it, as that the centre is in the middle to the opposite one."""
+    """That a corner has its radius and the lean of it, as that the centre is in the middle to the
+    opposite one."""
     half = len(polygon.corners) // 2
     rest = list(facts.facts)
     for place in range(half, 2 * half):
@@ -62,8 +66,10 @@ def _opposite(facts: Facts, polygon: Polygon) -> Facts:
 def _is_on_rim(fact: Fact, polygon: Polygon, corner: Knot, place: int) -> bool:
     """Whether a fact says that a corner is on the circle, as it is or by the side before it."""
     if isinstance(fact, Apart):
-        return (fact.first, fact.second) == (polygon.centre, corner) and polygon.rim in fact.value.terms
-    return isinstance(fact, Leans) and fact.second == polygon.radius(place - 1) and fact.lean == polygon.to_radius()
+        ends = polygon.centre, corner
+        return (fact.first, fact.second) == ends and polygon.rim in fact.value.terms
+    return (isinstance(fact, Leans) and fact.second == polygon.radius(place - 1)
+            and fact.lean == polygon.to_radius())
 
 
 def _polygons(facts: Facts) -> Iterator[Polygon]:
@@ -121,7 +127,8 @@ def _rims(facts: Facts, corners: tuple[Knot, ...]) -> list[tuple[Knot, RadiusOf]
 
 
 def _turn(facts: Facts, centre: Knot, corners: tuple[Knot, ...]) -> Fraction | None:
-    """The turn in degrees from one radius to the next, where all are drawn to one side and close."""
+    """The turn in degrees from one radius to the next, where all are drawn to one side and
+    close."""
     turns = []
     for first, second in zip(corners, (*corners[1:], corners[0])):
         (x, y), (u, v), (a, b) = (facts.drawn[knot] for knot in (centre, first, second))
@@ -138,7 +145,8 @@ def _told(facts: Facts, polygon: Polygon) -> Facts:
     count = len(polygon.corners)
     for place in range(count):
         facts.own[polygon.radius(place)] = (polygon.centre, polygon.corners[place])
-    rest = [_against_radius(facts, fact, polygon) for fact in facts.facts if fact not in polygon.equals]
+    rest = [_against_radius(facts, fact, polygon) for fact in facts.facts
+            if fact not in polygon.equals]
     rest = [_of_first_side(fact, polygon) for fact in rest if not _is_other_side(fact, polygon)]
     step = Lean(polygon.turn % 180)
     for place, equal in enumerate(polygon.equals):
@@ -150,13 +158,15 @@ def _told(facts: Facts, polygon: Polygon) -> Facts:
 
 def _lengths(polygon: Polygon) -> list[LengthOf]:
     """The lengths of the sides, that of the first side first."""
-    keys = dict.fromkeys(key for equal in polygon.equals for key in equal.form.terms if isinstance(key, LengthOf))
+    keys = dict.fromkeys(key for equal in polygon.equals for key in equal.form.terms
+                         if isinstance(key, LengthOf))
     return sorted(keys, key=lambda key: {key.first, key.second} != set(polygon.corners[:2]))
 
 
 def _is_other_side(fact: Fact, polygon: Polygon) -> bool:
     """Whether a fact says the length of a side but the first."""
-    return isinstance(fact, Apart) and any(fact.value.key() == Form.of(each).key() for each in _lengths(polygon)[1:])
+    return isinstance(fact, Apart) and any(fact.value.key() == Form.of(each).key()
+                                           for each in _lengths(polygon)[1:])
 
 
 def _of_first_side(fact: Fact, polygon: Polygon) -> Fact:
@@ -193,8 +203,11 @@ def _radius_is_told(facts: Facts, rim: RadiusOf) -> bool:
 
 
 def _chord_for_radius(facts: Facts, fact: Fact, polygon: Polygon) -> Fact:
-    """That a corner, but the first, is on the circle, as the lean of the radius against the side before it."""
-    if isinstance(fact, Apart) and fact.value.key() == Form.of(polygon.rim).key() and fact.second in polygon.corners[1:]:
+    """That a corner, but the first, is on the circle, as the lean of the radius against the side
+    before it."""
+    rim = Form.of(polygon.rim).key()
+    if (isinstance(fact, Apart) and fact.value.key() == rim
+            and fact.second in polygon.corners[1:]):
         place = polygon.corners.index(fact.second) - 1
         side = _side(facts, polygon, place)
         if side is not None:

@@ -1,4 +1,5 @@
-"""Rails: the lines that all points of one known x, or y, share, and how far each point lies from its rail."""
+"""Rails: the lines that all points of one known x, or y, share, and how far each point lies from
+its rail."""
 from __future__ import annotations
 
 from collections import Counter
@@ -14,7 +15,8 @@ from pertxogai.values import Form, LinearSystem
 
 @dataclass(frozen=True)
 class Rail:
-    """What is unknown in a coordinate: nothing on the datum's axes. `upwards` rails run along the first axis."""
+    """What is unknown in a coordinate: nothing on the datum's axes. `upwards` rails run along the
+    first axis."""
 
     frame: int
     upwards: bool
@@ -42,7 +44,8 @@ class Span:
 
 @dataclass(frozen=True)
 class Run:
-    """An x or y dimension that is spelled by itself: the second point lies `run_um` from the first along an axis."""
+    """An x or y dimension that is spelled by itself: the second point lies `run_um` from the first
+    along an axis."""
 
     first: Coordinate
     second: Coordinate
@@ -78,8 +81,10 @@ class Rails:
             self._sizes.setdefault(Size(rest.key()), (size, rest.number))
 
     def _all_sizes(self) -> list[Hashable]:
-        forms = [equation.form for equation in self.axes.equations] + [fact.value for fact in self.axes.loose]
-        return list(dict.fromkeys(key for form in forms for key in form.terms if not isinstance(key, Coordinate)))
+        forms = [equation.form for equation in self.axes.equations]
+        forms += [fact.value for fact in self.axes.loose]
+        return list(dict.fromkeys(key for form in forms for key in form.terms
+                                  if not isinstance(key, Coordinate)))
 
     def _take(self, style: Style) -> None:
         for number, equation in enumerate(self.axes.equations):
@@ -130,7 +135,8 @@ class Rails:
         return None if rest.terms else rest.number
 
     def symbols(self, form: Form) -> Form:
-        """A form of coordinates and sizes in rails, each taken for itself, and what is unknown in sizes."""
+        """A form of coordinates and sizes in rails, each taken for itself, and what is unknown in
+        sizes."""
         total = Form(number=form.number)
         for key, factor in form.terms.items():
             rest = self._system.reduced(Form.of(key))
@@ -144,7 +150,8 @@ class Rails:
         return total
 
     def unfold(self, form: Form) -> Form:
-        """A form of rails and sizes in the first coordinate of each rail, and the first of each size."""
+        """A form of rails and sizes in the first coordinate of each rail, and the first of each
+        size."""
         total = Form(number=form.number)
         for key, factor in form.terms.items():
             if isinstance(key, Rail):
@@ -198,5 +205,3 @@ def _coordinates(equations: Iterable[Equation]) -> list[Coordinate]:
 def _owners(equations: Iterable[Equation]) -> frozenset[Owner]:
     return frozenset(owner for equation in equations for owner in equation.owners)
 
-
-__all__ = ["Knot", "Pending", "Rail", "Rails", "Run", "Size"]

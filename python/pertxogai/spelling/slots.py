@@ -1,7 +1,8 @@
-"""Two rims of one radius that touch a line from one side: the way between their centres runs along the line.
+"""Two rims of one radius that touch a line from one side: the way between their centres runs along
+the line.
 
-That is told in the place of one of the two radii, of which it is a consequence together with the other.
-"""
+That is told in the place of one of the two radii, of which it is a consequence together with the
+other. """
 from __future__ import annotations
 
 from dataclasses import dataclass, replace
@@ -13,7 +14,8 @@ from pertxogai.values import Form, LinearSystem
 
 @dataclass(frozen=True)
 class Foot:
-    """A rim's end at which it touches a line, and the fact that says how far it is from the centre."""
+    """A rim's end at which it touches a line, and the fact that says how far it is from the
+    centre."""
 
     line: Line
     centre: Knot

@@ -7,7 +7,6 @@ from fractions import Fraction
 from math import atan2, cos, hypot, pi, sin
 
 from pertxogai import language
-from pertxogai.drawing import X_AXIS, Y_AXIS
 from pertxogai.spelling.axes import DATUM, Axes, Coordinate, Equation, Frame
 from pertxogai.spelling.drafts import Draft, Rounded, Sheet, Spot
 from pertxogai.spelling.facts import ORIGIN_KNOT, Between, Knot, Leans, Line, Owner
@@ -23,8 +22,8 @@ Track = Rail | Line
 
 @dataclass(frozen=True)
 class Heading:
-    """A line of the sketch: which way it runs in its frame, `turn` counter-clockwise from the first axis, and the
-    rail that it is, with its place along the axis that it fixes."""
+    """A line of the sketch: which way it runs in its frame, `turn` counter-clockwise from the
+    first axis, and the rail that it is, with its place along the axis that it fixes."""
 
     name: str
     frame: int
@@ -36,8 +35,8 @@ class Heading:
 
 @dataclass(frozen=True)
 class Care:
-    """What else is asked of a spelling. insist: what is linear and told twice is spelled twice. fine: an angle that is
-    no ratio is told by two that add up to it, with a line of help."""
+    """What else is asked of a spelling. insist: what is linear and told twice is spelled twice.
+    fine: an angle that is no ratio is told by two that add up to it, with a line of help."""
 
     insist: bool = False
     fine: bool = False
@@ -47,8 +46,9 @@ class Care:
 class Spelled:
     """A drawing in the language. The sketch is `scale` times as large as the drawing.
 
-    owners: who says each constraint, in their order. points: the name of each knot's point. tracks: what each line
-    stands for. left_out: who says something that isn't in the sketch. headings: which way each line runs. rounded: values that had to be rounded."""
+    owners: who says each constraint, in their order. points: the name of each knot's point.
+    tracks: what each line stands for. left_out: who says something that isn't in the sketch.
+    headings: which way each line runs. rounded: values that had to be rounded."""
 
     style: Style
     sketch: language.Sketch
@@ -109,26 +109,30 @@ class _Writer:
         sketch, rounded = self.sheet.sketch(scale)
         names = {name: track for track, name in self.names.items()}
         tracks: dict[str, Track | None] = {name: names.get(name) for name in self.sheet.lines}
-        headings = tuple(self._heading(name, track) for name, track in tracks.items() if track is not None)
+        headings = tuple(self._heading(name, track) for name, track in tracks.items()
+                         if track is not None)
         owners = tuple(draft.owners for draft in self.sheet.drafts)
         left_out = frozenset(self.left_out) | self.rails.lost()
-        return Spelled(self.style, sketch, scale, owners, dict(self.points), tracks, headings, left_out, rounded)
+        return Spelled(self.style, sketch, scale, owners, dict(self.points), tracks, headings,
+                       left_out, rounded)
 
     def _heading(self, name: str, track: Track) -> Heading:
         frame = self._frame(track)
         if isinstance(track, Rail):
-            return Heading(name, frame.number, 0 if track.upwards else 1, 0.0, track, self.rails.offset(track))
+            return Heading(name, frame.number, 0 if track.upwards else 1, 0.0, track,
+                           self.rails.offset(track))
         turn = self.axes.lean(track).radians()
         a, b = self.axes.facts.direction(track)
         drawn = atan2(float(b), float(a)) - atan2(float(frame.way[1]), float(frame.way[0]))
-        return Heading(name, frame.number, None, turn if cos(turn - drawn) >= 0 else turn + pi, None, Fraction(0))
+        return Heading(name, frame.number, None, turn if cos(turn - drawn) >= 0 else turn + pi,
+                       None, Fraction(0))
 
     # -- elements
 
     def _name_points(self) -> None:
-        origin = any(ORIGIN_KNOT in _ends(each) for each in self.axes.loose) or any(
-            coordinate.knot == ORIGIN_KNOT and len(members) > 1 for rail, members in self.rails.members.items()
-            for coordinate in members)
+        origin = any(ORIGIN_KNOT in each.ends() for each in self.axes.loose) or any(
+            coordinate.knot == ORIGIN_KNOT and len(members) > 1
+            for members in self.rails.members.values() for coordinate in members)
         for knot in dict.fromkeys(self.axes.facts.refs.values()):
             if knot != ORIGIN_KNOT:
                 self.points[knot] = f"P{knot.number}"
@@ -138,13 +142,18 @@ class _Writer:
     def _tracks(self) -> list[Track]:
         """The rails that carry something, and the lines that lean, named."""
         ran = {rail for run in self.rails.runs for rail in self._run_rails(run)}
-        rails: list[Track] = sorted(
-            (rail for rail, members in self.rails.members.items() if len(members) > 1 or rail in ran),
-            key=lambda rail: (not rail.datum(), rail.frame, -len(self.rails.members[rail])))
-        lines: list[Track] = [line for line in self.axes.lines.all() if self.axes.fixed_axis(line) is None]
+        rails = sorted(
+            (rail for rail, members in self.rails.members.items()
+             if len(members) > 1 or rail in ran), key=self._turn)
+        lines: list[Track] = [line for line in self.axes.lines.all()
+                              if self.axes.fixed_axis(line) is None]
         for number, track in enumerate([*rails, *lines]):
             self.names[track] = self._track_name(track, number)
         return [*rails, *lines]
+
+    def _turn(self, rail: Rail) -> tuple[bool, int, int]:
+        """In which order rails are told: the datum's first, then those with most points."""
+        return not rail.datum(), rail.frame, -len(self.rails.members[rail])
 
     def _track_name(self, track: Track, number: int) -> str:
         if isinstance(track, Rail):
@@ -186,7 +195,8 @@ class _Writer:
         if rail.upwards:
             a, b = -b, a
         offset = self.rails.offset(rail)
-        knot = next(each.knot for each, value in self.rails.members[rail].items() if value == offset)
+        knot = next(each.knot for each, value in self.rails.members[rail].items()
+                    if value == offset)
         x, y = self.axes.facts.drawn[knot]
         return a * x + b * y
 
@@ -207,8 +217,10 @@ class _Writer:
 
     # -- constraints
 
-    def _say(self, first: str, second: str, owners: Iterable[Owner], value: Fraction | None = None) -> None:
-        self.sheet.drafts.append(Draft(first, second, frozenset(owners), abs(value) if value else None))
+    def _say(self, first: str, second: str, owners: Iterable[Owner],
+             value: Fraction | None = None) -> None:
+        self.sheet.drafts.append(Draft(first, second, frozenset(owners),
+                                       abs(value) if value else None))
 
     def _angles(self, tracks: list[Track]) -> None:
         """Ties the lines of each frame by angles."""
@@ -242,15 +254,18 @@ class _Writer:
 
     def _tie_to(self, group: dict[Track, Track], base: Track, track: Track) -> None:
         group[_leader(group, track)] = _leader(group, base)
-        self._angle(base, track, -self._lean(base) + self._lean(track), self._direction_owners(base, track))
+        self._angle(base, track, -self._lean(base) + self._lean(track),
+                    self._direction_owners(base, track))
 
     def _near_ties(self, tracks: list[Track]) -> list[tuple[Track, Track, Lean, Owner]]:
-        """The angles that are told against the line that the designer names, or of which a normal is one."""
+        """The angles that are told against the line that the designer names, or of which a normal
+        is one."""
         found = []
         for leans in self.axes.directions.joined:
             first, second = self._track_of(leans.first), self._track_of(leans.second)
             normal = isinstance(leans.second, Between) and isinstance(second, Between)
-            if (self.style.near() or normal) and first in tracks and second in tracks and not leans.lean.level():
+            if (self.style.near()
+                or normal) and first in tracks and second in tracks and not leans.lean.level():
                 assert first is not None and second is not None
                 found.append((first, second, leans.lean, leans.owner))
         return found
@@ -275,7 +290,8 @@ class _Writer:
 
     def _rail_owners(self, rail: Rail) -> frozenset[Owner]:
         members = list(self.rails.members[rail])
-        return frozenset(owner for each in members[1:] for owner in self.rails.owners(members[0], each))
+        return frozenset(owner for each in members[1:]
+                         for owner in self.rails.owners(members[0], each))
 
     def _angle(self, first: Track, second: Track, lean: Lean, owners: Iterable[Owner]) -> None:
         names, said = (self.names[first], self.names[second]), frozenset(owners) - {Owner(0)}
@@ -297,7 +313,8 @@ class _Writer:
     def _square_help(self, base: Track, track: Track) -> None:
         """A line of help, square to two parallel ones, through a point of the first."""
         name = self._help(base)
-        self.sheet.drafts.append(Draft(name, self.names[track], self._direction_owners(base, track), ratio=(1, 0)))
+        self.sheet.drafts.append(Draft(name, self.names[track],
+                                       self._direction_owners(base, track), ratio=(1, 0)))
 
     def _help(self, base: Track) -> str:
         name = f"N{self.names[base]}"
@@ -313,7 +330,8 @@ class _Writer:
 
     def _a_point_of(self, track: Track) -> Knot:
         if isinstance(track, Rail):
-            return next(each.knot for each in self.rails.members[track] if each.knot in self.points)
+            return next(each.knot for each in self.rails.members[track]
+                        if each.knot in self.points)
         return self.axes.lines.members(track)[0].knot
 
     def _points_on(self, track: Track) -> None:
@@ -322,19 +340,24 @@ class _Writer:
             owners = self._direction_owners(track, track)
             for member in self.axes.lines.members(track):
                 if member.knot in self.points:
-                    self._say(self.points[member.knot], name, {member.owner} if member.owner else owners)
+                    self._say(self.points[member.knot], name,
+                              {member.owner} if member.owner else owners)
             return
         offset = self.rails.offset(track)
         members = self.rails.members[track]
-        anchor = None if track.datum() else next(each for each, value in members.items() if value == offset)
+        anchor = next((each for each, value in members.items()
+                       if value == offset and not track.datum()), None)
         for coordinate, value in members.items():
             if coordinate.knot in self.points:
-                owners = self._rail_owners(track) if coordinate == anchor else self.rails.owners(anchor, coordinate)
+                owners = self.rails.owners(anchor, coordinate)
+                if coordinate == anchor:
+                    owners = self._rail_owners(track)
                 self._say(self.points[coordinate.knot], name, owners, value - offset)
 
     def _run_rails(self, run: Run) -> list[Rail]:
         """The rails whose lines a run needs: the one with more points, or both for feet."""
-        rails = [rail for rail in map(self.rails.rail, (run.first, run.second)) if rail is not None]
+        rails = [rail for rail in map(self.rails.rail, (run.first, run.second))
+                 if rail is not None]
         if self.style is Style.FEET:
             return rails
         return [max(rails, key=lambda rail: (rail.datum(), len(self.rails.members[rail])))]
@@ -352,8 +375,10 @@ class _Writer:
             self._say(self.points[second.knot], self.names[rail], run.owners, from_line)
 
     def _feet(self, run: Run, rails: list[Rail]) -> bool:
-        """The dimension between the feet of two rails on the first rail across; False where there is none."""
-        across = next((each for each in self.names if isinstance(each, Rail) and each.frame == rails[0].frame
+        """The dimension between the feet of two rails on the first rail across; False where there
+        is none."""
+        across = next((each for each in self.names if isinstance(each, Rail)
+                       and each.frame == rails[0].frame
                        and each.upwards != rails[0].upwards), None)
         ends = [self.rails.members[rail][end] - self.rails.offset(rail)
                 for rail, end in zip(rails, (run.first, run.second))]
@@ -386,15 +411,21 @@ class _Writer:
             if not value:
                 self.left_out.add(fact.owner)
                 continue
-            name = self.points[second] if isinstance(second, Knot) else self.names[self.axes.lines.leader(second)]
-            self._say(self.points[first], name, {fact.owner}, value)
+            self._say(self.points[first], self._end_name(second), {fact.owner}, value)
+
+    def _end_name(self, end: Knot | Line) -> str:
+        if isinstance(end, Knot):
+            return self.points[end]
+        return self.names[self.axes.lines.leader(end)]
 
     def write_told(self) -> None:
-        """Spells each dimension again that follows from others: as a height over a rail, else between two points."""
+        """Spells each dimension again that follows from others: as a height over a rail, else
+        between two points."""
         for leans in self.axes.conflicts():
             self._told_angle(leans)
         for number, (equation, told) in enumerate(self.axes.surplus()):
-            circuit = frozenset(owner for mark in told.marks for owner in self.axes.equations[mark].owners)
+            circuit = frozenset(owner for mark in told.marks
+                                for owner in self.axes.equations[mark].owners)
             if not self._told_height(equation, told, circuit):
                 self._told_size(number, equation, told, circuit)
 
@@ -405,7 +436,8 @@ class _Writer:
         names = f"V{len(self.sheet.lines)}", f"W{len(self.sheet.lines)}"
         zero, ahead = (Fraction(0), Fraction(0)), (Fraction(1000), Fraction(0))
         self.sheet.lines[names[0]] = (zero, ahead)
-        self.sheet.lines[names[1]] = (zero, (Fraction(cos(lean.radians())) * 1000, Fraction(sin(lean.radians())) * 1000))
+        self.sheet.lines[names[1]] = (zero, (Fraction(cos(lean.radians())) * 1000,
+                                             Fraction(sin(lean.radians())) * 1000))
         for owners in (self.axes.directions.owners(leans.first, leans.second), {leans.owner}):
             self.sheet.drafts.append(Draft(*names, frozenset(owners), ratio=lean.ratio()))
 
@@ -415,7 +447,8 @@ class _Writer:
             if rail is None or not isinstance(key, Coordinate):
                 continue
             pair = self.points.get(key.knot, ""), self.names.get(rail, "")
-            place = next((place for place, each in enumerate(self.sheet.drafts) if each.names() == pair), None)
+            place = next((place for place, each in enumerate(self.sheet.drafts)
+                          if each.names() == pair), None)
             if place is not None:
                 height = self.rails.members[rail][key] - self.rails.offset(rail)
                 self.sheet.drafts[place] = replace(self.sheet.drafts[place], owners=circuit)
@@ -423,23 +456,29 @@ class _Writer:
                 return True
         return False
 
-    def _told_size(self, number: int, equation: Equation, told: Told, circuit: frozenset[Owner]) -> None:
-        """A length or radius that is told twice, as a distance of two points of its own, told twice."""
+    def _told_size(self, number: int, equation: Equation, told: Told,
+                   circuit: frozenset[Owner]) -> None:
+        """A length or radius that is told twice, as a distance of two points of its own, told
+        twice."""
         size = next((key for key in equation.form.terms), None)
         if size is None:
             return
         value = self.rails.number(Form.of(size)) or Fraction(1000)
         names = f"T{number}", f"U{number}"
-        self.sheet.points[names[0]], self.sheet.points[names[1]] = (Fraction(0), Fraction(0)), (value, Fraction(0))
+        for name, x in zip(names, (Fraction(0), value)):
+            self.sheet.points[name] = x, Fraction(0)
         self._say(*names, circuit, value)
         again = value - told.amount / equation.form.terms[size]
         self._say(*names, equation.owners, again if again > 0 else value)
 
     def _drop_idle(self) -> None:
-        """Takes away lines that hold nothing: with two constraints at most, of which one at most is an angle."""
-        kept = {self.names[track] for track in list(self.names)[:2] if self._frame(track).number == DATUM}
+        """Takes away lines that hold nothing: with two constraints at most, of which one at most
+        is an angle."""
+        kept = {self.names[track] for track in list(self.names)[:2]
+                if self._frame(track).number == DATUM}
         while True:
-            idle = next((name for name in self.sheet.lines if name not in kept and self._idle(name)), None)
+            idle = next((name for name in self.sheet.lines if name not in kept
+                         and self._idle(name)), None)
             if idle is None:
                 return
             del self.sheet.lines[idle]
@@ -456,11 +495,6 @@ def _leader(group: dict[Track, Track], track: Track) -> Track:
     return track
 
 
-def _ends(fact: object) -> tuple[object, ...]:
-    ends = getattr(fact, "ends")
-    return tuple(ends())
-
-
 def _unit(way: Spot) -> Spot:
     """A drawn direction of length 1, near enough for a drawing; exact along the axes."""
     a, b = way
@@ -468,6 +502,3 @@ def _unit(way: Spot) -> Spot:
         return Fraction((a > 0) - (a < 0)), Fraction((b > 0) - (b < 0))
     size = hypot(float(a), float(b))
     return Fraction(float(a) / size), Fraction(float(b) / size)
-
-
-__all__ = ["Form", "Heading", "Spelled", "Track", "X_AXIS", "Y_AXIS", "written"]
