@@ -5,7 +5,8 @@
 It takes FreeCAD's console (freecadcmd), solvespace-cli, and the program as ./pertxogai finds it.
 For each sketch of python/tests/files it compares the verdict with FreeCAD's degrees of freedom,
 the written places with those that FreeCAD or SolveSpace solved and stored, and these with what
-the same program makes of the written file. It prints a line for each sketch and a summary, and
+the same program makes of the written file; and it draws FreeCAD's anew, each point up to 1 mm off,
+and compares where they are placed then. It prints a line for each sketch and a summary, and
 ends with status 1 where something isn't as expected: more than 2 µm apart, or another verdict
 than FreeCAD's that isn't among the known ones below.
 """
@@ -13,6 +14,7 @@ than FreeCAD's that isn't among the known ones below.
 import json
 import math
 import os
+import random
 import subprocess
 import sys
 import tempfile
@@ -32,6 +34,9 @@ KNOWN = {
     "spline": "what is left out is free",
 }
 """Files on which the verdict and FreeCAD's freedoms differ, and why."""
+
+HELD = {"blocked", "solid", "outer", "body"}
+"""Files of which a shape lies where it is drawn, so that they aren't drawn anew."""
 
 Places = Mapping[tuple[str, str, str, str], tuple[float, float]]
 """Places in mm by file, sketch, shape and position."""
@@ -141,11 +146,53 @@ def check_solvespace(directory: Path) -> Iterator[tuple[str, bool]]:
         yield line, is_right
 
 
+def check_rough(directory: Path) -> Iterator[tuple[str, bool]]:
+    """A line for each sketch of FreeCAD's that is well, drawn anew with each point moved by up to
+    a millimetre: whether it is placed where FreeCAD solved it, as FreeCAD itself has it."""
+    sys.path.insert(0, str(TOP / "python"))
+    from pertxogai.drawing import Arc, Circle
+    from pertxogai.freecad import read_freecad, write_freecad
+    from pertxogai.measure import Solution
+
+    chance = random.Random(1)
+    paths = [path for path in sorted(FILES.glob("*.FCStd"))
+             if path.stem not in {"empty", *KNOWN, *HELD}]
+    for path in paths:
+        solutions = {}
+        for found in read_freecad(path):
+            drawing = found.drawing
+            points = {ref: (round(drawing.drawn(ref).x_um * 1000) + chance.randint(-10**6, 10**6),
+                            round(drawing.drawn(ref).y_um * 1000) + chance.randint(-10**6, 10**6))
+                      for ref in drawing.points()}
+            radii = {shape.name: round(drawing.drawn_radius_um(shape.name) * 1000)
+                     for shape in drawing.geometry if isinstance(shape, (Circle, Arc))}
+            solutions[found.name] = Solution(points, radii)
+        write_freecad(path, directory / path.name, solutions)
+    given = reopened(paths, directory)
+    verdicts = {path: judged(directory / path.name, directory / f"placed-{path.name}")
+                for path in paths}
+    back = reopened([out for path in paths
+                     if (out := directory / f"placed-{path.name}").exists()], directory)
+    for path, of_file in verdicts.items():
+        names = [sketch for file, sketch in given.facts if file == path.name]
+        for sketch, verdict in zip(names, of_file.values(), strict=True):
+            theirs = expected(*given.facts[path.name, sketch])
+            line, is_right = f"rough {path.stem} {sketch}: {verdict}", verdict == theirs
+            if verdict == "well":
+                placed = {key: place for key, place in back.stored.items()
+                          if key[0] == f"placed-{path.name}"}
+                renamed = {(path.name, *key[1:]): place for key, place in placed.items()}
+                moved = apart(renamed, given.stored, path.name, sketch)
+                line += f", placed {moved * 1e6:.2f} nm away"
+                is_right = is_right and bool(renamed) and moved <= NEAR_MM
+            yield line, is_right
+
+
 def main() -> int:
     """Prints all lines and a summary; answers the status."""
     wrong = count = 0
     with tempfile.TemporaryDirectory() as name:
-        for check in (check_freecad, check_solvespace):
+        for check in (check_freecad, check_solvespace, check_rough):
             for line, is_right in check(Path(name)):
                 print(line if is_right else f"WRONG {line}", flush=True)
                 count, wrong = count + 1, wrong + (not is_right)
