@@ -156,24 +156,13 @@ def say(record: Record, plane: Plane, is_left: IsLeft) -> Said:
 
 
 def _plain(kind: Kind, record: Record, plane: Plane) -> Constraint:
-    """A constraint without a value."""
+    """A constraint without a value, of shapes."""
     first, second = record.handle("entityA.v"), record.handle("entityB.v")
-    point = record.handle("ptA.v")
     match kind:
-        case Kind.PTS_COINCIDENT:
-            return Coincident(plane.point(point), plane.point(record.handle("ptB.v")))
-        case Kind.PT_IN_PLANE:
-            return PointOn(plane.point(point), plane.axis(first))
-        case Kind.PT_ON_LINE:
-            return PointOn(plane.point(point), plane.line(first))
-        case Kind.PT_ON_CIRCLE:
-            return PointOn(plane.point(point), plane.rim(first))
         case Kind.EQ_LENGTH:
             return Equal(plane.line(first), plane.line(second))
         case Kind.EQUAL_RADIUS:
             return Equal(plane.rim(first), plane.rim(second))
-        case Kind.AT_MIDPOINT if point:
-            return Midpoint(plane.point(point), plane.line(first))
         case Kind.HORIZONTAL:
             return Horizontal(_level(record, plane))
         case Kind.VERTICAL:
@@ -182,6 +171,23 @@ def _plain(kind: Kind, record: Record, plane: Plane) -> Constraint:
             return Parallel(plane.line(first), plane.line(second))
         case Kind.PERPENDICULAR:
             return Perpendicular(plane.line(first), plane.line(second))
+    return _of_point(kind, record, plane)
+
+
+def _of_point(kind: Kind, record: Record, plane: Plane) -> Constraint:
+    """A constraint without a value, of a point."""
+    point, entity = record.handle("ptA.v"), record.handle("entityA.v")
+    match kind:
+        case Kind.PTS_COINCIDENT:
+            return Coincident(plane.point(point), plane.point(record.handle("ptB.v")))
+        case Kind.PT_IN_PLANE:
+            return PointOn(plane.point(point), plane.axis(entity))
+        case Kind.PT_ON_LINE:
+            return PointOn(plane.point(point), plane.line(entity))
+        case Kind.PT_ON_CIRCLE:
+            return PointOn(plane.point(point), plane.rim(entity))
+        case Kind.AT_MIDPOINT if point:
+            return Midpoint(plane.point(point), plane.line(entity))
         case Kind.LOCK_WHERE_DRAGGED:
             return Fixed(plane.point(point))
     raise Unsaid("a drawing has no such constraint")
