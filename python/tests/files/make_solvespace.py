@@ -307,6 +307,18 @@ def link(sheet):
     sheet.tie(90, 28, ea=second)
 
 
+def mirrors(sheet):
+    """Points mirrored to the horizontal, and to a reference plane; distances along the axes."""
+    first = sheet.line(10, 8, 11, -9)
+    sheet.tie(62, a=start(first), b=end(first))
+    sheet.tie(31, 12, a=start(first), ea=YZ_PLANE)
+    sheet.tie(31, -7, a=end(first), ea=ZX_PLANE)
+    second = sheet.line(-20, 30, 21, 31)
+    sheet.tie(60, a=start(second), b=end(second), ea=YZ_PLANE)
+    sheet.tie(34, 41, a=start(second), b=end(second), ea=YZ_PLANE | 0x20)
+    sheet.tie(34, 23, a=start(first), b=end(second), ea=ZX_PLANE | 0x20)
+
+
 def loose(sheet):
     """A plate that lacks its height."""
     bottom, right, top, left = sheet.rectangle(0, 0, 60, 40)
@@ -325,7 +337,7 @@ def curved(sheet):
 
 
 DRAWINGS = (plate, slot, triangle, wedge, mirrored, hexagon, kite, middle, parallelogram, pinned,
-            offsets, link, loose, curved)
+            offsets, link, mirrors, loose, curved)
 
 
 def main():
