@@ -96,7 +96,7 @@ def _shift(spelled: Spelled, plate: Plate, axis: Spot, upwards: bool,
         rail = each.rail
         if rail and rail.datum() and rail.upwards == upwards and each.name in plate.lines:
             return -along(axis, upwards, plate.foot(each.name))
-    name = next(iter(plate.points))
+    name = next(each for each in plate.points if each in drawn)
     return drawn[name][upwards] - along(axis, upwards, plate.points[name])
 
 
