@@ -22,8 +22,9 @@ from .sketch_sheet import SketchSheet
 from .sketch_told import sketch_json, sketch_told
 from .told import JudgedDrawing, drawing_json, told
 
-EPILOG = """exit status: 0 where all is well and placed, or drawn; 1 where a sketch isn't well, or has no places;
-2 where the words or a file can't be read, or nothing can be written; 3 where the program gave no answer.
+EPILOG = """exit status: 0 where all is well and placed, or drawn; 1 where a sketch isn't well, has no places,
+or isn't judged whole; 2 where the words or a file can't be read, or nothing can be written; 3 where
+the program gave no answer.
 The program is found by --program, the variable PERTXOGAI_SKETCH, the repository's build, or the path."""
 
 
@@ -46,7 +47,14 @@ def main(words: Sequence[str] | None = None) -> int:
     act: Callable[[argparse.Namespace], Exit] = options.act
     try:
         return act(options)
-    except (InputRefused, TextRefused, CommandError, MissingLibrary, FileRefusal, NoPlaces) as error:
+    except (
+        InputRefused,
+        TextRefused,
+        CommandError,
+        MissingLibrary,
+        FileRefusal,
+        NoPlaces,
+    ) as error:
         return _complain(error, Exit.BAD_INPUT)
     except ProgramError as error:
         return _complain(error, Exit.NO_ANSWER)
@@ -64,31 +72,67 @@ def _complain(error: Exception, status: Exit) -> Exit:
 
 def _parser() -> argparse.ArgumentParser:
     parser = argparse.ArgumentParser(
-        prog="pertxogai", epilog=EPILOG, formatter_class=argparse.RawDescriptionHelpFormatter,
-        description="Asks the proved program `sketch` about a sketch: judges it, places it, draws it.")
+        prog="pertxogai",
+        epilog=EPILOG,
+        formatter_class=argparse.RawDescriptionHelpFormatter,
+        description="Asks the proved program `sketch` about a sketch: judges it, places it, draws it.",
+    )
     commands = parser.add_subparsers(dest="command", required=True, metavar="COMMAND")
-    judge = _command(commands, "judge", "tells the verdict, and what fails by your own names", _judge)
+    judge = _command(
+        commands, "judge", "tells the verdict, and what fails by your own names", _judge
+    )
     judge.add_argument("--json", action="store_true", help="print one object of JSON")
-    judge.add_argument("--write", type=Path, metavar="OUT",
-                       help="copy a .FCStd or .slvs to OUT, with its sketches where they are placed")
+    judge.add_argument(
+        "--write",
+        type=Path,
+        metavar="OUT",
+        help="copy a .FCStd or .slvs to OUT, with its sketches where they are placed",
+    )
     draw = _command(commands, "draw", "draws a sketch as SVG or DXF", _draw)
-    draw.add_argument("-o", "--output", type=Path, required=True, metavar="OUT", help="OUT.svg or OUT.dxf")
-    draw.add_argument("--as-drawn", action="store_true", help="as it is drawn, and not as it is placed")
+    draw.add_argument(
+        "-o", "--output", type=Path, required=True, metavar="OUT", help="OUT.svg or OUT.dxf"
+    )
+    draw.add_argument(
+        "--as-drawn", action="store_true", help="as it is drawn, and not as it is placed"
+    )
     draw.add_argument("--sketch", metavar="NAME", help="which sketch of a file that has several")
-    draw.add_argument("--release", choices=[it.value for it in Release], default=Release.R2010.value,
-                      help="the version of DXF (default: %(default)s)")
+    draw.add_argument(
+        "--release",
+        choices=[it.value for it in Release],
+        default=Release.R2010.value,
+        help="the version of DXF (default: %(default)s)",
+    )
     return parser
 
 
-def _command(commands: argparse._SubParsersAction[argparse.ArgumentParser], name: str, what: str,
-             act: Callable[[argparse.Namespace], Exit]) -> argparse.ArgumentParser:
-    parser = commands.add_parser(name, help=what, description=what, epilog=EPILOG,
-                                 formatter_class=argparse.RawDescriptionHelpFormatter)
-    parser.add_argument("file", type=Path, metavar="FILE", help="a sketch: .sketch, .drawing, .FCStd, .slvs, .dxf")
-    parser.add_argument("--freeze", action="store_true",
-                        help="take lengths and radii that nothing tells as they are drawn")
+def _command(
+    commands: argparse._SubParsersAction[argparse.ArgumentParser],
+    name: str,
+    what: str,
+    act: Callable[[argparse.Namespace], Exit],
+) -> argparse.ArgumentParser:
+    parser = commands.add_parser(
+        name,
+        help=what,
+        description=what,
+        epilog=EPILOG,
+        formatter_class=argparse.RawDescriptionHelpFormatter,
+    )
+    parser.add_argument(
+        "file", type=Path, metavar="FILE", help="a sketch: .sketch, .drawing, .FCStd, .slvs, .dxf"
+    )
+    parser.add_argument(
+        "--freeze",
+        action="store_true",
+        help="take lengths and radii that nothing tells as they are drawn",
+    )
     parser.add_argument("--program", metavar="PATH", help="the program `sketch`")
-    parser.add_argument("--seconds", type=float, default=60.0, help="how long a call may take (default: %(default)g)")
+    parser.add_argument(
+        "--seconds",
+        type=float,
+        default=60.0,
+        help="how long a call may take (default: %(default)g)",
+    )
     parser.set_defaults(act=act)
     return parser
 
@@ -106,7 +150,11 @@ def _judge(options: argparse.Namespace) -> Exit:
     if options.write is not None:
         _write_placed(options.file, options.write, found, judged)
     if options.json:
-        print(json.dumps({"file": str(options.file), "sketches": [_json(it) for it in judged]}, indent=2))
+        print(
+            json.dumps(
+                {"file": str(options.file), "sketches": [_json(it) for it in judged]}, indent=2
+            )
+        )
     else:
         for it in judged:
             print("\n".join(sketch_told(it) if isinstance(it, JudgedSketch) else told(it)))
@@ -120,25 +168,38 @@ def _judged(found: Input, program: Asks, freeze: bool) -> JudgedSketch | JudgedD
 
 
 def _judged_drawing(found: DesignerDrawing, program: Asks, freeze: bool) -> JudgedDrawing:
-    return JudgedDrawing(found.name, found.drawing, judge(found.drawing, program, freeze), found.left_out,
-                         found.aside)
+    return JudgedDrawing(
+        found.name,
+        found.drawing,
+        judge(found.drawing, program, freeze),
+        found.left_out,
+        found.aside,
+    )
 
 
 def _json(judged: JudgedSketch | JudgedDrawing) -> dict[str, object]:
     return sketch_json(judged) if isinstance(judged, JudgedSketch) else drawing_json(judged)
 
 
-def _write_placed(path: Path, out: Path, found: Sequence[Input],
-                  judged: Sequence[JudgedSketch | JudgedDrawing]) -> None:
-    """Copies a file with its sketches where they are placed. Raises CommandError and FileRefusal."""
+def _write_placed(
+    path: Path, out: Path, found: Sequence[Input], judged: Sequence[JudgedSketch | JudgedDrawing]
+) -> None:
+    """Copies a file with its sketches where they are placed. Raises CommandError and
+    FileRefusal."""
     kind = kind_of(path)
     if kind is None or kind.write is None:
         raise CommandError(f"{path}: only .FCStd and .slvs are written back")
-    solutions = {each.key: it.judgement.solution for each, it in zip(found, judged)
-                 if isinstance(each, DesignerDrawing) and isinstance(it, JudgedDrawing)
-                 and it.judgement.solution is not None}
+    solutions = {
+        each.key: it.judgement.solution
+        for each, it in zip(found, judged)
+        if isinstance(each, DesignerDrawing)
+        and isinstance(it, JudgedDrawing)
+        and it.judgement.solution is not None
+    }
     if not solutions:
-        raise CommandError(f"{path}: no sketch of it has places, so {out} isn't written: see ./pertxogai judge")
+        raise CommandError(
+            f"{path}: no sketch of it has places, so {out} isn't written: see ./pertxogai judge"
+        )
     kind.write(path, out, solutions)
 
 
@@ -166,5 +227,7 @@ def _chosen(found: Sequence[Input], name: str | None) -> Input:
 def _sheet(found: Input, options: argparse.Namespace) -> SketchSheet | DrawingSheet:
     program = _program(options)
     if isinstance(found, SketchText):
-        return SketchSheet(judge_sketch(found.name, found.text, program), program, options.as_drawn)
+        return SketchSheet(
+            judge_sketch(found.name, found.text, program), program, options.as_drawn
+        )
     return DrawingSheet(_judged_drawing(found, program, options.freeze), options.as_drawn)

@@ -25,8 +25,9 @@ class JudgedDrawing:
     aside: tuple[str, ...] = ()
 
     def is_placed(self) -> bool:
-        """Whether it is well and has places, and all of the file was judged."""
-        return self.judgement.solution is not None
+        """Whether it is well and has places, something is drawn, and nothing is left out."""
+        return (self.judgement.solution is not None and bool(self.drawing.geometry)
+                and not self.left_out())
 
     def left_out(self) -> tuple[str, ...]:
         """What the file has and the drawing can't say, and what of the drawing can't be spelled."""
@@ -68,6 +69,8 @@ def told(judged: JudgedDrawing) -> Iterator[str]:
     check = judgement.asked.check
     yield (f"{judged.name}: {judgement.verdict.value}, spelled {judgement.style.value}, elements "
            f"{check.elements}, constraints {check.constraints}, parts {len(check.parts)}")
+    if not judged.drawing.geometry:
+        yield "  nothing is drawn in it that could be judged"
     yield from (f"  left out: {what}" for what in judged.left_out())
     yield from (f"  not asked for: {what}" for what in judged.aside)
     yield from (f"  taken as drawn, and measured: {what}" for what in judgement.frozen)

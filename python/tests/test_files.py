@@ -87,7 +87,8 @@ def test_each_sketch_of_a_file_is_judged(capsys: pytest.CaptureFixture[str]) -> 
 
 
 def test_what_is_left_out_is_told(capsys: pytest.CaptureFixture[str]) -> None:
-    _, out, _ = called(capsys, "judge", FILES / "spline.FCStd")
+    status, out, _ = called(capsys, "judge", FILES / "spline.FCStd")
+    assert status == 1 and out.startswith("Sketch: well")
     assert "  left out: BSplineCurve2: a drawing has no spline" in out.splitlines()
 
 
