@@ -8,7 +8,8 @@ from enum import Enum
 from pertxogai.drawing.conveniences import Said, polyline, rectangle
 from pertxogai.drawing.cursor import Cursor
 from pertxogai.drawing.geometry import Arc, Circle, Point, Segment, Shape, Spot
-from pertxogai.drawing.names import check_shape_name
+from pertxogai.drawing.names import check_shape_name, nearest
+from pertxogai.drawing.refusal import WordFault
 from pertxogai.drawing.soundness import check_shape
 
 
@@ -35,6 +36,7 @@ def read_shape(word: ShapeWord, flags: frozenset[Flag], words: Cursor) -> Said:
     to the cursor's scene."""
     name = words.word("a name")
     check_shape_name(name)
+    _check_blank(word, name, words)
     said = _drawn(word, name, words)
     words.end()
     shapes = tuple(_flagged(shape, flags) for shape in said.shapes)
@@ -42,6 +44,18 @@ def read_shape(word: ShapeWord, flags: frozenset[Flag], words: Cursor) -> Said:
         check_shape(words.scene, shape)
         words.scene.add(shape)
     return replace(said, shapes=shapes)
+
+
+def _check_blank(word: ShapeWord, name: str, words: Cursor) -> None:
+    """Raises WordFault at a word behind the name that may be meant as a part of it."""
+    second = words.peek()
+    if not second.isidentifier() or words.scene.has(second):
+        return
+    belongs = f"{name}_{second} if it belongs to the name"
+    if word is ShapeWord.POINT:
+        raise WordFault(second, f"is no number: write one for x, or {belongs}")
+    near = nearest(second, words.scene.names())
+    raise WordFault(second, f"isn't drawn: write its line further up, or {belongs}{near}")
 
 
 def _flagged(shape: Shape, flags: frozenset[Flag]) -> Shape:
