@@ -4,11 +4,11 @@
 
 It takes copies of two sketches of python/tests/files, judges both by the macro, places one, takes
 that back, and prints a line for each thing that it looked at, `right` or `wrong`; then it ends
-FreeCAD. The lines go to the file that MACRO_CHECK names, too.
+FreeCAD. The lines go to the file that MACRO_CHECK names, too. FreeCAD's first page is a browser, so
+root sets QTWEBENGINE_DISABLE_SANDBOX=1.
 """
 
 import os
-import sys
 import traceback
 
 import FreeCAD
