@@ -54,6 +54,9 @@ def drawing_json(judged: JudgedDrawing) -> dict[str, object]:
         "left_out": list(judged.left_out()),
         "aside": list(judged.aside),
         "frozen": list(judgement.frozen),
+        "rounded": list(judgement.rounded),
+        "repeats": list(judgement.repeats),
+        "undimensioned": list(judgement.undimensioned),
         "spare": [_spare(each) for each in judgement.surplus],
         "places": _places(judged.drawing, judgement.solution) if judgement.solution else None,
         "length_tolerance_nm": solved.length_tolerance_nm if isinstance(solved, Solved) else None,
@@ -74,6 +77,10 @@ def told(judged: JudgedDrawing) -> Iterator[str]:
     yield from (f"  left out: {what}" for what in judged.left_out())
     yield from (f"  not asked for: {what}" for what in judged.aside)
     yield from (f"  taken as drawn, and measured: {what}" for what in judgement.frozen)
+    yield from (f"  told by a rounded value: {what}" for what in judgement.rounded)
+    yield from (f"  repeats others, and may go: {what}" for what in judgement.repeats)
+    yield from (f"  its size is told by nothing: {what}, as drawn" for what in
+                judgement.undimensioned)
     yield from _placed_lines(judged)
     yield from _failure_lines(judgement)
     yield from _missing_lines(judgement)
