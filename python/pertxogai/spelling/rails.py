@@ -88,20 +88,21 @@ class Rails:
 
     def _take(self, style: Style) -> None:
         for number, equation in enumerate(self.axes.equations):
-            run = None if style.solves() else self._run(equation)
+            run = None if style.solves() else self._run(number, equation)
             if run is None:
                 self._system.add(equation.form, number)
             else:
                 self.runs.append(run)
                 self._run_numbers.add(number)
 
-    def _run(self, equation: Equation) -> Run | None:
-        """The dimension that an equation is between two coordinates, where it isn't 0."""
+    def _run(self, number: int, equation: Equation) -> Run | None:
+        """The dimension that an equation is between two coordinates, where it isn't 0, and where the
+        sizes in it are known without it."""
         keys = [key for key in equation.form.terms if isinstance(key, Coordinate)]
         sizes = Form({key: value for key, value in equation.form.terms.items()
                       if not isinstance(key, Coordinate)}, equation.form.number)
         value = self.axes.system.reduced(sizes)
-        if len(keys) == 1:
+        if len(keys) == 1 or number in self.axes.system.sources(sizes):
             return None
         if len(keys) != 2 or value.terms or not value.number:
             return None
