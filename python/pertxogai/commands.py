@@ -9,6 +9,7 @@ from collections.abc import Callable, Sequence
 from dataclasses import replace
 from enum import IntEnum
 from pathlib import Path
+from typing import TypeAlias
 
 from .answers import judge
 from .drawing_sheet import DrawingSheet, NoPlaces
@@ -22,10 +23,17 @@ from .sketch_sheet import SketchSheet
 from .sketch_told import sketch_json, sketch_told
 from .told import JudgedDrawing, drawing_json, told
 
-EPILOG = """exit status: 0 where all is well and placed, or drawn; 1 where a sketch isn't well, has no places,
-or isn't judged whole; 2 where the words or a file can't be read, or nothing can be written; 3 where
-the program gave no answer.
-The program is found by --program, the variable PERTXOGAI_SKETCH, the repository's build, or the path."""
+EPILOG = """exit status: 0 where all is well and placed, or drawn; 1 where a sketch isn't well, has
+no places, or isn't judged whole; 2 where the words or a file can't be read, or nothing can be
+written; 3 where the program gave no answer. The program is found by --program, the variable
+PERTXOGAI_SKETCH, the repository's build, or the path."""
+FILE = "a sketch: .sketch, .drawing, .FCStd, .slvs, .dxf"
+FREEZE = "take lengths and radii that nothing tells as they are drawn"
+OUTPUT = "OUT.svg or OUT.dxf"
+RELEASE = "the version of DXF (default: %(default)s)"
+SECONDS = "how long a call may take (default: %(default)g)"
+WRITE = "copy a .FCStd or .slvs to OUT, with its sketches where they are placed"
+Commands: TypeAlias = "argparse._SubParsersAction[argparse.ArgumentParser]"
 
 
 class Exit(IntEnum):
@@ -75,65 +83,40 @@ def _parser() -> argparse.ArgumentParser:
         prog="pertxogai",
         epilog=EPILOG,
         formatter_class=argparse.RawDescriptionHelpFormatter,
-        description="Asks the proved program `sketch` about a sketch: judges it, places it, draws it.",
+        description="Asks the proved program `sketch` about a sketch: judges, places, draws it.",
     )
     commands = parser.add_subparsers(dest="command", required=True, metavar="COMMAND")
-    judge = _command(
-        commands, "judge", "tells the verdict, and what fails by your own names", _judge
-    )
-    judge.add_argument("--json", action="store_true", help="print one object of JSON")
-    judge.add_argument(
-        "--write",
-        type=Path,
-        metavar="OUT",
-        help="copy a .FCStd or .slvs to OUT, with its sketches where they are placed",
-    )
-    draw = _command(commands, "draw", "draws a sketch as SVG or DXF", _draw)
-    draw.add_argument(
-        "-o", "--output", type=Path, required=True, metavar="OUT", help="OUT.svg or OUT.dxf"
-    )
-    draw.add_argument(
-        "--as-drawn", action="store_true", help="as it is drawn, and not as it is placed"
-    )
-    draw.add_argument("--sketch", metavar="NAME", help="which sketch of a file that has several")
-    draw.add_argument(
-        "--release",
-        choices=[it.value for it in Release],
-        default=Release.R2010.value,
-        help="the version of DXF (default: %(default)s)",
-    )
+    _add_judge(commands)
+    _add_draw(commands)
     return parser
 
 
-def _command(
-    commands: argparse._SubParsersAction[argparse.ArgumentParser],
-    name: str,
-    what: str,
-    act: Callable[[argparse.Namespace], Exit],
-) -> argparse.ArgumentParser:
+def _add_judge(commands: Commands) -> None:
+    judge = _command(commands, "judge", "tells the verdict, and what fails by your own names")
+    judge.set_defaults(act=_judge)
+    judge.add_argument("--json", action="store_true", help="print one object of JSON")
+    judge.add_argument("--write", type=Path, metavar="OUT", help=WRITE)
+
+
+def _add_draw(commands: Commands) -> None:
+    draw = _command(commands, "draw", "draws a sketch as SVG or DXF")
+    draw.set_defaults(act=_draw)
+    draw.add_argument("-o", "--output", type=Path, required=True, metavar="OUT", help=OUTPUT)
+    draw.add_argument("--as-drawn", action="store_true", help="as drawn, and not as placed")
+    draw.add_argument("--sketch", metavar="NAME", help="which sketch of a file that has several")
+    releases = [it.value for it in Release]
+    draw.add_argument("--release", choices=releases, default=releases[-1], help=RELEASE)
+
+
+def _command(commands: Commands, name: str, what: str) -> argparse.ArgumentParser:
+    formatter = argparse.RawDescriptionHelpFormatter
     parser = commands.add_parser(
-        name,
-        help=what,
-        description=what,
-        epilog=EPILOG,
-        formatter_class=argparse.RawDescriptionHelpFormatter,
+        name, help=what, description=what, epilog=EPILOG, formatter_class=formatter
     )
-    parser.add_argument(
-        "file", type=Path, metavar="FILE", help="a sketch: .sketch, .drawing, .FCStd, .slvs, .dxf"
-    )
-    parser.add_argument(
-        "--freeze",
-        action="store_true",
-        help="take lengths and radii that nothing tells as they are drawn",
-    )
+    parser.add_argument("file", type=Path, metavar="FILE", help=FILE)
+    parser.add_argument("--freeze", action="store_true", help=FREEZE)
     parser.add_argument("--program", metavar="PATH", help="the program `sketch`")
-    parser.add_argument(
-        "--seconds",
-        type=float,
-        default=60.0,
-        help="how long a call may take (default: %(default)g)",
-    )
-    parser.set_defaults(act=act)
+    parser.add_argument("--seconds", type=float, default=60.0, help=SECONDS)
     return parser
 
 

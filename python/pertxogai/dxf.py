@@ -1,4 +1,5 @@
-"""Drawings as DXF by ezdxf, in millimetres: segments and arcs with their ends, construction on a layer of its own."""
+"""Drawings as DXF by ezdxf, in millimetres: segments and arcs with their ends, construction on
+a layer of its own."""
 from __future__ import annotations
 
 import io
@@ -29,12 +30,15 @@ class MissingLibrary(Exception):
 
 
 def dxf_text(marks: Iterable[Mark], release: Release = Release.R2010) -> str:
-    """The marks of a picture, in millimetres, as a DXF drawing. Raises MissingLibrary without ezdxf."""
+    """The marks of a picture, in millimetres, as a DXF drawing. Raises MissingLibrary without
+    ezdxf."""
     try:
         from ezdxf.filemanagement import new
     except ImportError:
-        raise MissingLibrary("ezdxf is missing, which writes DXF: apt-get install python3-ezdxf, and run it by"
-                             " /usr/bin/python3") from None
+        raise MissingLibrary(
+            "ezdxf is missing, which writes DXF: apt-get install python3-ezdxf, and run it by"
+            " /usr/bin/python3"
+        ) from None
     document = new(release.value, setup=["linetypes"])
     document.units = MILLIMETRES
     document.header["$MEASUREMENT"] = 1
@@ -49,7 +53,8 @@ def dxf_text(marks: Iterable[Mark], release: Release = Release.R2010) -> str:
 
 
 def marks_of(entities: Iterable[Entity]) -> tuple[Mark, ...]:
-    """The entities of the program's own `dxf` as marks in millimetres: its points, circles, and lines with ends."""
+    """The entities of the program's own `dxf` as marks in millimetres: its points, circles, and
+    lines with ends."""
     return tuple(map(_mark, entities))
 
 
@@ -58,7 +63,9 @@ def _mark(entity: Entity) -> Mark:
         return Dot((entity.x_nm / 1e6, entity.y_nm / 1e6))
     if isinstance(entity, CircleEntity):
         return Ring((entity.x_nm / 1e6, entity.y_nm / 1e6), entity.radius_nm / 1e6)
-    return Stroke((entity.x1_nm / 1e6, entity.y1_nm / 1e6), (entity.x2_nm / 1e6, entity.y2_nm / 1e6))
+    return Stroke(
+        (entity.x1_nm / 1e6, entity.y1_nm / 1e6), (entity.x2_nm / 1e6, entity.y2_nm / 1e6)
+    )
 
 
 def _add(space: Modelspace, mark: Mark) -> None:
@@ -71,10 +78,15 @@ def _add(space: Modelspace, mark: Mark) -> None:
     elif isinstance(mark, Stroke):
         space.add_line(mark.start, mark.end, dxfattribs=layer)
     else:
-        space.add_arc(mark.centre, math.dist(mark.centre, mark.start), *_angles(mark), dxfattribs=layer)
+        space.add_arc(
+            mark.centre, math.dist(mark.centre, mark.start), *_angles(mark), dxfattribs=layer
+        )
 
 
 def _angles(arc: Bow) -> tuple[float, float]:
     """Where an arc starts and ends, in degrees."""
-    start, end = (math.degrees(math.atan2(y - arc.centre[1], x - arc.centre[0])) for x, y in (arc.start, arc.end))
+    start, end = (
+        math.degrees(math.atan2(y - arc.centre[1], x - arc.centre[0]))
+        for x, y in (arc.start, arc.end)
+    )
     return start, end

@@ -18,7 +18,8 @@ class InputRefused(Exception):
 
 @dataclass(frozen=True)
 class SketchText:
-    """A text of the sketch language, as it stands in the file: whether it is one, the program says."""
+    """A text of the sketch language, as it stands in the file: whether it is one, the program
+    says."""
 
     name: str
     text: str
@@ -26,8 +27,8 @@ class SketchText:
 
 @dataclass(frozen=True)
 class DesignerDrawing:
-    """A designer's drawing, what of the file couldn't be said in it, the file's own name of it, and which of the
-    file's constraints only measure or are switched off."""
+    """A designer's drawing, what of the file couldn't be said in it, the file's own name of it,
+    and which of the file's constraints only measure or are switched off."""
 
     name: str
     drawing: Drawing
@@ -41,7 +42,8 @@ Input = SketchText | DesignerDrawing
 
 @dataclass(frozen=True)
 class Kind:
-    """A kind of file: the ending of its name, what it is, what reads it, and what copies it with placed sketches."""
+    """A kind of file: the ending of its name, what it is, what reads it, and what copies it
+    with placed sketches."""
 
     suffix: str
     what: str
@@ -59,11 +61,17 @@ def read_inputs(path: Path) -> tuple[Input, ...]:
     kind = kind_of(path)
     if kind is None:
         known = ", ".join(f"{it.suffix} ({it.what})" for it in KINDS)
-        raise InputRefused(f"{path}: the ending {path.suffix or 'of its name'} isn't known: rename it to one of {known}")
+        raise InputRefused(
+            f"{path}: the ending {path.suffix or 'of its name'} isn't known: rename it to one of"
+            f" {known}"
+        )
     try:
         if path.stat().st_size > MOST_BYTES:
-            raise InputRefused(f"{path}: over {MOST_BYTES >> 20} MiB, which no sketch needs: look whether it is the"
-                               " right file")
+            raise InputRefused(
+                f"{path}: over {MOST_BYTES >> 20} MiB, which no sketch needs: look whether it is"
+                f" the"
+                " right file"
+            )
         return kind.read(path)
     except OSError as error:
         raise InputRefused(f"{path}: can't be read: {error.strerror or error}") from None
@@ -104,7 +112,13 @@ def _read_outline(path: Path) -> tuple[Input, ...]:
 
 def _found(found: FoundSketch) -> DesignerDrawing:
     aside = tuple(f"{each.name} ({each.why.value})" for each in found.aside)
-    return DesignerDrawing(found.label or found.name, found.drawing, tuple(map(str, found.left_out)), found.name, aside)
+    return DesignerDrawing(
+        found.label or found.name,
+        found.drawing,
+        tuple(map(str, found.left_out)),
+        found.name,
+        aside,
+    )
 
 
 def _write_freecad(path: Path, out: Path, solutions: Mapping[str, Solution]) -> None:

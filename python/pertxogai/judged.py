@@ -6,26 +6,54 @@ from dataclasses import dataclass
 from .language import ClusterName, Constraint, Refusal, Sketch
 from .picture import Picture, picture_of_drawing, picture_of_parts, picture_of_shape
 from .program import Answer, Asks, Status
-from .reports import (Cause, CheckReport, ConstraintFault, Fault, NotAReport, NumberFault, PartsReport, Plan, RangeFault,
-                      Refused, Solved, Spare, TurnedFault, Verdict, read_answer, read_check, read_fault, read_parts,
-                      read_plan, read_refusal, read_solve, read_spare)
+from .reports import (
+    Cause,
+    CheckReport,
+    ConstraintFault,
+    Fault,
+    NotAReport,
+    NumberFault,
+    PartsReport,
+    Plan,
+    RangeFault,
+    Refused,
+    Solved,
+    Spare,
+    TurnedFault,
+    Verdict,
+    read_answer,
+    read_check,
+    read_fault,
+    read_parts,
+    read_plan,
+    read_refusal,
+    read_solve,
+    read_spare,
+)
 
 
 class TextRefused(Exception):
-    """The program refuses a text. The message is one line: where, the code, and the line itself."""
+    """The program refuses a text. The message is one line: where, the code, and the line
+    itself."""
 
     def __init__(self, refused: Refused, text: str) -> None:
         lines = text.splitlines()
-        shown = f": {lines[refused.line - 1].strip()[:60]!r}" if 0 < refused.line <= len(lines) else ""
-        super().__init__(f"refused line {refused.line} {refused.code.name} {refused.code.word}{shown}; see 'How a text"
-                         " is refused' in docs/LANGUAGE.md")
+        shown = (
+            f": {lines[refused.line - 1].strip()[:60]!r}" if 0 < refused.line <= len(lines) else ""
+        )
+        super().__init__(
+            f"refused line {refused.line} {refused.code.name} {refused.code.word}{shown}; see"
+            f" 'How a text"
+            " is refused' in docs/LANGUAGE.md"
+        )
         self.refused = refused
 
 
 @dataclass(frozen=True)
 class JudgedSketch:
-    """A sketch and what the program answers to it: parts and verdict; places or a fault where it is well; the spare
-    constraints where it is over; and the parts, each by itself, where it isn't well."""
+    """A sketch and what the program answers to it: parts and verdict; places or a fault where
+    it is well; the spare constraints where it is over; and the parts, each by itself, where it
+    isn't well."""
 
     name: str
     sketch: Sketch
@@ -41,7 +69,8 @@ class JudgedSketch:
         return self.solved is not None
 
     def picture(self, as_drawn: bool = False) -> Picture:
-        """As it is placed; part by part where it isn't well; and as it is drawn where it has no places."""
+        """As it is placed; part by part where it isn't well; and as it is drawn where it has no
+        places."""
         if self.solved and not as_drawn:
             return picture_of_shape(self.sketch, self.solved, self.name)
         if self.parts and not as_drawn:
@@ -53,16 +82,23 @@ class JudgedSketch:
 
 
 def judge_sketch(name: str, given: Sketch | str, asks: Asks) -> JudgedSketch:
-    """Asks the program what there is to say of a sketch, or of a text. Raises TextRefused and ProgramError."""
+    """Asks the program what there is to say of a sketch, or of a text. Raises TextRefused and
+    ProgramError."""
     text = given if isinstance(given, str) else given.text()
     check = read_check(_done(asks.ask(["check"], text), text).text)
     try:
         sketch = Sketch.parse(text)
     except Refusal as refusal:
-        raise NotAReport(f"the program reads what pertxogai doesn't ({refusal}): they are of different versions") from None
+        raise NotAReport(
+            f"the program reads what pertxogai doesn't ({refusal}): they are of different versions"
+        ) from None
     if check.verdict is Verdict.WELL:
         return _placed(name, sketch, check, text, asks)
-    spare = read_spare(_done(asks.ask(["spare"], text), text).text) if check.verdict is Verdict.OVER else ()
+    spare = (
+        read_spare(_done(asks.ask(["spare"], text), text).text)
+        if check.verdict is Verdict.OVER
+        else ()
+    )
     parts = read_parts(_done(asks.ask(["parts"], text), text).text)
     return JudgedSketch(name, sketch, check, spare=spare, parts=parts)
 
@@ -81,12 +117,16 @@ def _done(answer: Answer, text: str) -> Answer:
         raise TextRefused(read_refusal(answer.text), text)
     if answer.status is not Status.DONE:
         read_answer(("check",), answer)
-        raise NotAReport(f"the program ended with status {answer.status.value}, which doesn't fit what it was asked")
+        raise NotAReport(
+            f"the program ended with status {answer.status.value}, which doesn't fit what it was"
+            f" asked"
+        )
     return answer
 
 
 def concerned(judged: JudgedSketch) -> tuple[Constraint, ...]:
-    """The constraints that a fault is about: that which is beyond its limit, or all that its step has joined."""
+    """The constraints that a fault is about: that which is beyond its limit, or all that its
+    step has joined."""
     fault, constraints = judged.fault, judged.sketch.constraints
     if isinstance(fault, ConstraintFault):
         return (constraints[fault.constraint - 1],)
@@ -102,7 +142,9 @@ def _joined(plan: Plan | None, step: int) -> tuple[Constraint, ...]:
     if plan is None:
         return ()
     joined = plan.steps[step - 1].joins
-    return tuple(leaf.constraint for leaf in plan.leaves if ClusterName(False, leaf.number) in joined)
+    return tuple(
+        leaf.constraint for leaf in plan.leaves if ClusterName(False, leaf.number) in joined
+    )
 
 
 def what_to_do(fault: Fault) -> str:
@@ -110,7 +152,10 @@ def what_to_do(fault: Fault) -> str:
     if isinstance(fault, NumberFault) and fault.cause is Cause.GAP:
         return "no shape has these dimensions: change a length of them"
     if isinstance(fault, NumberFault):
-        return "two places can't be told apart, or lines are parallel: change a length, or dimension it otherwise"
+        return (
+            "two places can't be told apart, or lines are parallel: change a length, or dimension"
+            " it otherwise"
+        )
     if isinstance(fault, RangeFault):
         return "the proportions are beyond the grid: look for a slip in the lengths"
     return "take a finer grid (bits=38) or a greater within="

@@ -21,7 +21,8 @@ CHUNK = 1 << 16
 
 @dataclass(frozen=True)
 class Limits:
-    """seconds: the most that a run may take; memory_mib: the most memory that it may have, None for no limit."""
+    """seconds: the most that a run may take; memory_mib: the most memory that it may have, None
+    for no limit."""
 
     seconds: float
     memory_mib: int | None
@@ -29,7 +30,8 @@ class Limits:
 
 @dataclass(frozen=True)
 class Ended:
-    """How a run ended: its exit status, or minus the signal that ended it, and all that it wrote."""
+    """How a run ended: its exit status, or minus the signal that ended it, and all that it
+    wrote."""
 
     code: int
     written: bytes
@@ -48,7 +50,9 @@ def run_process(words: Sequence[str], given: bytes, limits: Limits) -> Ended:
     """Runs a file with words on bytes. Raises MissingProgram, ProgramTimedOut or ProgramSpoke."""
     pipe = subprocess.PIPE
     try:
-        process = subprocess.Popen(words, stdin=pipe, stdout=pipe, stderr=pipe, bufsize=0, start_new_session=True)
+        process = subprocess.Popen(
+            words, stdin=pipe, stdout=pipe, stderr=pipe, bufsize=0, start_new_session=True
+        )
     except (OSError, ValueError) as error:
         raise MissingProgram(f"{words[0]} can't be run: {error}") from None
     with process:
@@ -77,7 +81,9 @@ def _limit_memory(process: subprocess.Popen[bytes], limits: Limits) -> None:
 class _Talk:
     """The pipes of a running file: what is still to be given, and what it wrote so far."""
 
-    def __init__(self, words: Sequence[str], process: subprocess.Popen[bytes], given: bytes, limits: Limits) -> None:
+    def __init__(
+        self, words: Sequence[str], process: subprocess.Popen[bytes], given: bytes, limits: Limits
+    ) -> None:
         assert process.stdin and process.stdout and process.stderr
         self.words, self.process, self.limits = words, process, limits
         self.left = memoryview(given)
@@ -108,9 +114,10 @@ class _Talk:
             pipe.close()
 
     def _give(self) -> bool:
-        """Hands on some bytes, and returns whether that is all: a program may end before it has read everything."""
+        """Hands on some bytes, and returns whether that is all: a program may end before it has
+        read everything."""
         try:
-            self.left = self.left[os.write(self.given.fileno(), self.left[:CHUNK]):]
+            self.left = self.left[os.write(self.given.fileno(), self.left[:CHUNK]) :]
         except BrokenPipeError:
             return True
         return not self.left
@@ -120,8 +127,11 @@ class _Talk:
         found = os.read(pipe.fileno(), CHUNK)
         self.written[pipe] += found
         if len(self.written[pipe]) > MOST_BYTES:
-            raise ProgramSpoke(f"{self.words[0]} wrote over {MOST_BYTES // MEBIBYTE} MiB and was stopped: is it the"
-                               " program `sketch`?")
+            raise ProgramSpoke(
+                f"{self.words[0]} wrote over {MOST_BYTES // MEBIBYTE} MiB and was stopped: is it"
+                f" the"
+                " program `sketch`?"
+            )
         return not found
 
     def _seconds_left(self) -> float:
@@ -131,5 +141,8 @@ class _Talk:
         return left
 
     def _late(self) -> ProgramTimedOut:
-        return ProgramTimedOut(f"{' '.join(self.words)} took over {self.limits.seconds:g} s and was stopped: give it more seconds,"
-                               " or a smaller sketch")
+        return ProgramTimedOut(
+            f"{' '.join(self.words)} took over {self.limits.seconds:g} s and was stopped: give it"
+            f" more seconds,"
+            " or a smaller sketch"
+        )

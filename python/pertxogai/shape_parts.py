@@ -9,14 +9,19 @@ from .reports import Part
 
 
 def parts_of_shapes(judgement: Judgement) -> Mapping[str, int]:
-    """The number of the part that has all points of a shape, by the shape's name: the greatest of several. A shape that
-    hangs between parts has none."""
+    """The number of the part that has all points of a shape, by the shape's name: the greatest
+    of several. A shape that hangs between parts has none."""
     largest = sorted(judgement.asked.check.parts, key=lambda part: -len(part.elements))
-    found = ((shape.name, _part_of(judgement, shape, largest)) for shape in judgement.names.drawing.geometry)
+    found = (
+        (shape.name, _part_of(judgement, shape, largest))
+        for shape in judgement.names.drawing.geometry
+    )
     return {name: number for name, number in found if number is not None}
 
 
 def _part_of(judgement: Judgement, shape: Shape, parts: list[Part]) -> int | None:
     names = judgement.names
-    points = {names.spelled.points.get(names.refs[ref]) for ref in points_of(shape) if ref in names.refs} - {None}
+    points = {
+        names.spelled.points.get(names.refs[ref]) for ref in points_of(shape) if ref in names.refs
+    } - {None}
     return next((part.number for part in parts if points and points <= set(part.elements)), None)

@@ -24,10 +24,16 @@ class SketchSheet:
         return self.judged.picture(self.as_drawn)
 
     def dxf(self, release: Release) -> str:
-        """The program's own points, circles, and lines with their ends. Raises NoPlaces and ProgramError."""
+        """The program's own points, circles, and lines with their ends. Raises NoPlaces and
+        ProgramError."""
         if not self.judged.is_placed() or self.as_drawn:
-            raise NoPlaces(f"{self.judged.name}: only a sketch that is placed is written as DXF: see ./pertxogai judge")
+            raise NoPlaces(
+                f"{self.judged.name}: only a sketch that is placed is written as DXF: see"
+                f" ./pertxogai judge"
+            )
         answer = self.program.ask(["dxf"], self.judged.sketch.text())
         if answer.status is not Status.DONE:
-            raise NotAReport(f"the program has places by solve and none by dxf (status {answer.status.value})")
+            raise NotAReport(
+                f"the program has places by solve and none by dxf (status {answer.status.value})"
+            )
         return dxf_text(marks_of(read_dxf(answer.text)), release)

@@ -11,10 +11,16 @@ from .reports import AtConstraint, LineFault, Part, Solved
 def sketch_told(judged: JudgedSketch) -> Iterator[str]:
     """What was judged, in lines to read; the first tells the verdict."""
     check = judged.check
-    yield (f"{judged.name}: {check.verdict.value}, elements {check.elements}, constraints {check.constraints}, parts"
-           f" {len(check.parts)}")
+    yield (
+        f"{judged.name}: {check.verdict.value}, elements {check.elements}, constraints"
+        f" {check.constraints}, parts"
+        f" {len(check.parts)}"
+    )
     if judged.solved:
-        yield f"  placed within {judged.solved.length_tolerance_nm} nm and {judged.solved.angle_tolerance_ppb} ppb"
+        yield (
+            f"  placed within {judged.solved.length_tolerance_nm} nm and"
+            f" {judged.solved.angle_tolerance_ppb} ppb"
+        )
         yield from (f"  {placed.text()}" for placed in judged.solved.places)
     if judged.fault:
         yield f"  {judged.fault.text().strip()}"
@@ -30,16 +36,23 @@ def sketch_told(judged: JudgedSketch) -> Iterator[str]:
 
 
 def sketch_json(judged: JudgedSketch) -> dict[str, object]:
-    """All of it as one object for JSON. A sketch is spelled as it is written, and leaves nothing out."""
+    """All of it as one object for JSON. A sketch is spelled as it is written, and leaves
+    nothing out."""
     solved = judged.solved
     return {
-        "name": judged.name, "verdict": judged.check.verdict.value, "parts": _parts(judged), "spelled": "as written",
-        "exact": True, "left_out": [], "frozen": [],
+        "name": judged.name,
+        "verdict": judged.check.verdict.value,
+        "parts": _parts(judged),
+        "spelled": "as written",
+        "exact": True,
+        "left_out": [],
+        "frozen": [],
         "spare": [{"number": it.number, "name": it.constraint.text()} for it in judged.spare],
         "places": _places(solved.places) if solved else None,
         "length_tolerance_nm": solved.length_tolerance_nm if solved else None,
         "angle_tolerance_ppb": solved.angle_tolerance_ppb if solved else None,
-        "fault": _fault(judged), "deviations": list(_deviations(judged)),
+        "fault": _fault(judged),
+        "deviations": list(_deviations(judged)),
     }
 
 
@@ -54,8 +67,13 @@ def _parts(judged: JudgedSketch) -> list[dict[str, object]]:
 
 
 def _part(part: Part) -> dict[str, object]:
-    return {"number": part.number, "over": part.over, "elements": list(part.elements), "held": part.held,
-            "due": part.due}
+    return {
+        "number": part.number,
+        "over": part.over,
+        "elements": list(part.elements),
+        "held": part.held,
+        "due": part.due,
+    }
 
 
 def _places(places: Sequence[Placed]) -> dict[str, object]:
@@ -73,22 +91,33 @@ def _place(placed: Placed) -> dict[str, object]:
 
 
 def _fault(judged: JudgedSketch) -> dict[str, object] | None:
-    """The fault: the program's line, the constraints and lines that it concerns, and what to do."""
+    """The fault: the program's line, the constraints and lines that it concerns, and what to
+    do."""
     fault = judged.fault
     if fault is None:
         return None
     at = [fault.name] if isinstance(fault, LineFault) else []
-    return {"text": fault.text().strip(), "constraints": [it.text() for it in concerned(judged)], "at": at,
-            "what_to_do": what_to_do(fault)}
+    return {
+        "text": fault.text().strip(),
+        "constraints": [it.text() for it in concerned(judged)],
+        "at": at,
+        "what_to_do": what_to_do(fault),
+    }
 
 
 def _deviations(judged: JudgedSketch) -> Iterator[dict[str, object]]:
     """What is off most, in nm and in ppb: the tolerances, each with what needs it."""
     if judged.solved is None:
         return
-    for amount, unit, at in ((judged.solved.length_tolerance_nm, "nm", judged.solved.length_at),
-                             (judged.solved.angle_tolerance_ppb, "ppb", judged.solved.angle_at)):
+    for amount, unit, at in (
+        (judged.solved.length_tolerance_nm, "nm", judged.solved.length_at),
+        (judged.solved.angle_tolerance_ppb, "ppb", judged.solved.angle_at),
+    ):
         if isinstance(at, AtConstraint):
-            yield {"amount": amount, "unit": unit, "of": judged.sketch.constraints[at.number - 1].text()}
+            yield {
+                "amount": amount,
+                "unit": unit,
+                "of": judged.sketch.constraints[at.number - 1].text(),
+            }
         elif at:
             yield {"amount": amount, "unit": unit, "of": at.text()}

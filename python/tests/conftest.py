@@ -26,7 +26,9 @@ class Row:
 def read_row(path: Path) -> Row:
     """The row of a file: words, status, the lengths of input and output, and these two."""
     head, body = path.read_bytes().split(b"\n\n", 1)
-    found = re.fullmatch(rb"words: (.*)\nstatus: (\d+)\ninput: (\d+) bytes\noutput: (\d+) bytes", head)
+    found = re.fullmatch(
+        rb"words: (.*)\nstatus: (\d+)\ninput: (\d+) bytes\noutput: (\d+) bytes", head
+    )
     assert found, path
     size = int(found[3])
     assert len(body) == size + int(found[4]), path

@@ -31,14 +31,29 @@ def judged(capsys, *words: str) -> tuple[int, str, str]:
 def test_judge_a_sketch_that_is_well(capsys) -> None:
     status, out, err = judged(capsys, "judge", str(EXAMPLES / "triangle.sketch"))
     assert (status, err) == (0, "")
-    assert out.splitlines() == ["triangle: well, elements 3, constraints 3, parts 1", "  placed within 0 nm and 0 ppb",
-                                "  point A 0 0", "  point B 4000000 0", "  point C 4000000 3000000"]
+    assert out.splitlines() == [
+        "triangle: well, elements 3, constraints 3, parts 1",
+        "  placed within 0 nm and 0 ppb",
+        "  point A 0 0",
+        "  point B 4000000 0",
+        "  point C 4000000 3000000",
+    ]
 
 
-@pytest.mark.parametrize("name, lines", [
-    ("braced-square", ["over", "c6 : distance C D 4", "take one of these away"]),
-    ("hinge", ["open", "part 2 sound elements 4 held 5 due 5 : Pin Door D1 D2", "tie the parts"]),
-    ("no-triangle", ["well", "fault s1 build height C gap", "of distance A B 5", "change a length"])])
+@pytest.mark.parametrize(
+    "name, lines",
+    [
+        ("braced-square", ["over", "c6 : distance C D 4", "take one of these away"]),
+        (
+            "hinge",
+            ["open", "part 2 sound elements 4 held 5 due 5 : Pin Door D1 D2", "tie the parts"],
+        ),
+        (
+            "no-triangle",
+            ["well", "fault s1 build height C gap", "of distance A B 5", "change a length"],
+        ),
+    ],
+)
 def test_judge_what_is_not_well(name: str, lines: list[str], capsys) -> None:
     status, out, err = judged(capsys, "judge", str(EXAMPLES / f"{name}.sketch"))
     assert (status, err) == (1, "") and all(line in out for line in lines), out
@@ -48,25 +63,54 @@ def test_json_of_a_sketch_that_is_well(capsys) -> None:
     status, out, _ = judged(capsys, "judge", "--json", str(EXAMPLES / "wedge.sketch"))
     found = json.loads(out)
     assert status == 0 and found["file"].endswith("wedge.sketch")
-    sketch, = found["sketches"]
-    assert list(sketch) == ["name", "verdict", "parts", "spelled", "exact", "left_out", "frozen", "spare", "places",
-                            "length_tolerance_nm", "angle_tolerance_ppb", "fault", "deviations"]
-    assert (sketch["name"], sketch["verdict"], sketch["exact"], sketch["fault"]) == ("wedge", "well", True, None)
+    (sketch,) = found["sketches"]
+    assert list(sketch) == [
+        "name",
+        "verdict",
+        "parts",
+        "spelled",
+        "exact",
+        "left_out",
+        "frozen",
+        "spare",
+        "places",
+        "length_tolerance_nm",
+        "angle_tolerance_ppb",
+        "fault",
+        "deviations",
+    ]
+    assert (sketch["name"], sketch["verdict"], sketch["exact"], sketch["fault"]) == (
+        "wedge",
+        "well",
+        True,
+        None,
+    )
     assert sketch["places"]["Top"] == {"x_nm": 60000000, "y_nm": 34641015}
     assert sketch["places"]["Back"] == {"a_ppb": -1000000000, "b_ppb": 0, "c_nm": -60000000}
     assert (sketch["length_tolerance_nm"], sketch["angle_tolerance_ppb"]) == (1, 1)
-    assert sketch["deviations"] == [{"amount": 1, "unit": "nm", "of": "on Top Face"},
-                                    {"amount": 1, "unit": "ppb", "of": "line Face"}]
+    assert sketch["deviations"] == [
+        {"amount": 1, "unit": "nm", "of": "on Top Face"},
+        {"amount": 1, "unit": "ppb", "of": "line Face"},
+    ]
 
 
 def test_json_of_what_is_not_well(capsys) -> None:
-    sketch, = json.loads(judged(capsys, "judge", "--json", str(EXAMPLES / "hole-row.sketch"))[1])["sketches"]
+    (sketch,) = json.loads(
+        judged(capsys, "judge", "--json", str(EXAMPLES / "hole-row.sketch"))[1]
+    )["sketches"]
     assert (sketch["verdict"], sketch["places"]) == ("over", None)
     assert sketch["spare"][5] == {"number": 6, "name": "distance A C 70"}
-    sketch, = json.loads(judged(capsys, "judge", "--json", str(EXAMPLES / "hinge.sketch"))[1])["sketches"]
+    (sketch,) = json.loads(judged(capsys, "judge", "--json", str(EXAMPLES / "hinge.sketch"))[1])[
+        "sketches"
+    ]
     assert [part["places"]["Pin"] for part in sketch["parts"]] == [{"x_nm": 0, "y_nm": 0}] * 2
-    sketch, = json.loads(judged(capsys, "judge", "--json", str(EXAMPLES / "no-triangle.sketch"))[1])["sketches"]
-    assert sketch["fault"]["text"] == "fault s1 build height C gap -1443109011456 -1443109011456 bits 38"
+    (sketch,) = json.loads(
+        judged(capsys, "judge", "--json", str(EXAMPLES / "no-triangle.sketch"))[1]
+    )["sketches"]
+    assert (
+        sketch["fault"]["text"]
+        == "fault s1 build height C gap -1443109011456 -1443109011456 bits 38"
+    )
     assert sketch["fault"]["constraints"] == ["distance A B 5", "distance A C 1", "distance B C 1"]
 
 
@@ -75,9 +119,22 @@ def test_json_of_a_drawing_has_the_same_members(capsys, tmp_path) -> None:
     path.write_text("segment Base 0 0 60 0\nlength Base 60\n")
     judged(capsys, "judge", "--json", str(path))
     main(["judge", "--json", str(path)])
-    sketch, = json.loads(capsys.readouterr().out)["sketches"]
-    assert {"name", "verdict", "parts", "spelled", "exact", "left_out", "frozen", "spare", "places",
-            "length_tolerance_nm", "angle_tolerance_ppb", "fault", "deviations"} <= set(sketch)
+    (sketch,) = json.loads(capsys.readouterr().out)["sketches"]
+    assert {
+        "name",
+        "verdict",
+        "parts",
+        "spelled",
+        "exact",
+        "left_out",
+        "frozen",
+        "spare",
+        "places",
+        "length_tolerance_nm",
+        "angle_tolerance_ppb",
+        "fault",
+        "deviations",
+    } <= set(sketch)
 
 
 @pytest.mark.parametrize("name", ["bracket", "hinge", "hole-row", "no-triangle"])
@@ -103,16 +160,36 @@ def write(folder: Path, name: str, data: bytes) -> str:
     return str(folder / name)
 
 
-@pytest.mark.parametrize("name, data, inside", [
-    ("empty.sketch", b"", "refused line 0 E18 empty"), ("empty.drawing", b"", ""), ("empty.FCStd", b"", ""),
-    ("other.sketch", b"\x89PNG\r\n\x1a\n\x00\xff", "refused line 1 E19"), ("a.png", b"", "ending .png"),
-    ("bare", b"", "ending"), ("name.sketch", b"sketch 1\npoint my point 0 0\nend\n", "line 2 E3 shape"),
-    ("small.sketch", b"sketch 1\npoint A 0 0\npoint B 0.0004 0\nend\n", "line 3 E8 number"),
-    ("long.sketch", b"sketch 1\n" + b"".join(b"point P%d %d 0\n" % (k, k) for k in range(3000)) + b"end\n",
-     "line 2002 E13"), ("other.FCStd", b"sketch 1\n", ""), ("other.slvs", b"\xff\xfe", ""), ("other.dxf", b"x", "")])
-def test_bad_files_are_refused_in_a_line(name: str, data: bytes, inside: str, capsys, tmp_path) -> None:
+@pytest.mark.parametrize(
+    "name, data, inside",
+    [
+        ("empty.sketch", b"", "refused line 0 E18 empty"),
+        ("empty.drawing", b"", ""),
+        ("empty.FCStd", b"", ""),
+        ("other.sketch", b"\x89PNG\r\n\x1a\n\x00\xff", "refused line 1 E19"),
+        ("a.png", b"", "ending .png"),
+        ("bare", b"", "ending"),
+        ("name.sketch", b"sketch 1\npoint my point 0 0\nend\n", "line 2 E3 shape"),
+        ("small.sketch", b"sketch 1\npoint A 0 0\npoint B 0.0004 0\nend\n", "line 3 E8 number"),
+        (
+            "long.sketch",
+            b"sketch 1\n" + b"".join(b"point P%d %d 0\n" % (k, k) for k in range(3000)) + b"end\n",
+            "line 2002 E13",
+        ),
+        ("other.FCStd", b"sketch 1\n", ""),
+        ("other.slvs", b"\xff\xfe", ""),
+        ("other.dxf", b"x", ""),
+    ],
+)
+def test_bad_files_are_refused_in_a_line(
+    name: str, data: bytes, inside: str, capsys, tmp_path
+) -> None:
     path = write(tmp_path, name, data)
-    for words in (["judge", path], ["judge", "--json", path], ["draw", path, "-o", str(tmp_path / "out.svg")]):
+    for words in (
+        ["judge", path],
+        ["judge", "--json", path],
+        ["draw", path, "-o", str(tmp_path / "out.svg")],
+    ):
         status, out, err = judged(capsys, *words)
         if name != "empty.drawing":
             assert (status, out, err.count("\n")) == (2, "", 1), err
@@ -123,12 +200,14 @@ def test_bad_files_are_refused_in_a_line(name: str, data: bytes, inside: str, ca
 def test_files_that_are_not_there_and_outputs_that_cannot_be(capsys, tmp_path) -> None:
     sketch = str(EXAMPLES / "triangle.sketch")
     for words, inside in [
-            (["judge", str(tmp_path / "gone.sketch")], "No such file"), (["judge", str(tmp_path)], "ending"),
-            (["draw", sketch, "-o", str(tmp_path / "no" / "out.svg")], "can't be written"),
-            (["draw", sketch, "-o", str(tmp_path / "out.png")], ".svg or .dxf"),
-            (["draw", str(EXAMPLES / "hinge.sketch"), "-o", str(tmp_path / "out.dxf")], "placed"),
-            (["draw", sketch, "--sketch", "other", "-o", str(tmp_path / "out.svg")], "--sketch"),
-            (["judge", "--seconds", "0", sketch], "--seconds")]:
+        (["judge", str(tmp_path / "gone.sketch")], "No such file"),
+        (["judge", str(tmp_path)], "ending"),
+        (["draw", sketch, "-o", str(tmp_path / "no" / "out.svg")], "can't be written"),
+        (["draw", sketch, "-o", str(tmp_path / "out.png")], ".svg or .dxf"),
+        (["draw", str(EXAMPLES / "hinge.sketch"), "-o", str(tmp_path / "out.dxf")], "placed"),
+        (["draw", sketch, "--sketch", "other", "-o", str(tmp_path / "out.svg")], "--sketch"),
+        (["judge", "--seconds", "0", sketch], "--seconds"),
+    ]:
         status, out, err = judged(capsys, *words)
         assert (status, out, err.count("\n")) == (2, "", 1) and inside in err, err
     assert list(tmp_path.iterdir()) == []
@@ -136,8 +215,14 @@ def test_files_that_are_not_there_and_outputs_that_cannot_be(capsys, tmp_path) -
 
 def test_programs_that_give_no_answer(capsys, tmp_path) -> None:
     sketch = str(EXAMPLES / "triangle.sketch")
-    for body, inside in [("exec sleep 9", "0.2 s"), ("kill -SEGV $$", "signal 11"), ("echo rubbish", "no report of check"),
-                         ("exit 5", "memory ran out"), ("exit 3", "input"), ("exit 77", "status 77")]:
+    for body, inside in [
+        ("exec sleep 9", "0.2 s"),
+        ("kill -SEGV $$", "signal 11"),
+        ("echo rubbish", "no report of check"),
+        ("exit 5", "memory ran out"),
+        ("exit 3", "input"),
+        ("exit 77", "status 77"),
+    ]:
         script = write(tmp_path, "sketch", b"#!/bin/sh\n" + body.encode() + b"\n")
         os.chmod(script, 0o755)
         status, out, err = judged(capsys, "judge", "--program", script, "--seconds", "0.2", sketch)
@@ -146,8 +231,17 @@ def test_programs_that_give_no_answer(capsys, tmp_path) -> None:
     assert status == 3 and "gone" in err
 
 
-@pytest.mark.parametrize("words", [[], ["paint"], ["judge"], ["draw", "a.sketch"], ["judge", "a", "b"],
-                                   ["judge", "--seconds", "x", "a"]])
+@pytest.mark.parametrize(
+    "words",
+    [
+        [],
+        ["paint"],
+        ["judge"],
+        ["draw", "a.sketch"],
+        ["judge", "a", "b"],
+        ["judge", "--seconds", "x", "a"],
+    ],
+)
 def test_words_that_are_not_of_the_form(words: list[str], capsys) -> None:
     with pytest.raises(SystemExit) as ended:
         main(words)
@@ -163,25 +257,55 @@ def test_help(words: list[str], capsys) -> None:
 
 def test_the_launcher(tmp_path) -> None:
     def run(*words: str, **more: str) -> subprocess.CompletedProcess[str]:
-        return subprocess.run([str(TOP / "pertxogai"), *words], cwd=tmp_path, capture_output=True, text=True,
-                              env={**os.environ, **more})
+        return subprocess.run(
+            [str(TOP / "pertxogai"), *words],
+            cwd=tmp_path,
+            capture_output=True,
+            text=True,
+            env={**os.environ, **more},
+        )
 
     done = run("judge", str(EXAMPLES / "triangle.sketch"))
     assert (done.returncode, done.stderr) == (0, "") and done.stdout.startswith("triangle: well")
     assert run("judge", str(EXAMPLES / "hinge.sketch")).returncode == 1
     done = run("judge", "x.sketch", PERTXOGAI_PYTHON="/nowhere/python3")
-    assert done.returncode == 2 and done.stderr.count("\n") == 1 and "PERTXOGAI_PYTHON" in done.stderr
-    closed = subprocess.run(["sh", "-c", f"'{TOP}/pertxogai' judge '{EXAMPLES}/bracket.sketch' | head -n 1"],
-                            capture_output=True, text=True)
+    assert (
+        done.returncode == 2 and done.stderr.count("\n") == 1 and "PERTXOGAI_PYTHON" in done.stderr
+    )
+    closed = subprocess.run(
+        ["sh", "-c", f"'{TOP}/pertxogai' judge '{EXAMPLES}/bracket.sketch' | head -n 1"],
+        capture_output=True,
+        text=True,
+    )
     assert closed.stderr == ""
 
 
 def test_the_example_of_the_readme(tmp_path) -> None:
     def run(*sides: str) -> subprocess.CompletedProcess[str]:
-        words = ["/usr/bin/python3", str(TOP / "python" / "examples" / "triangle.py"), *sides, str(tmp_path / "out.svg")]
-        return subprocess.run(words, capture_output=True, text=True, env={**os.environ, "PYTHONPATH": str(TOP / "python")})
+        words = [
+            "/usr/bin/python3",
+            str(TOP / "python" / "examples" / "triangle.py"),
+            *sides,
+            str(tmp_path / "out.svg"),
+        ]
+        return subprocess.run(
+            words,
+            capture_output=True,
+            text=True,
+            env={**os.environ, "PYTHONPATH": str(TOP / "python")},
+        )
 
-    assert run("4", "5", "3").stdout.splitlines() == ["well", "point A 0 0", "point B 4000000 0", "point C 4000000 3000000"]
-    assert run("5", "1", "1").stdout.splitlines() == ["well", "distance A B 5", "distance A C 1", "distance B C 1"]
+    assert run("4", "5", "3").stdout.splitlines() == [
+        "well",
+        "point A 0 0",
+        "point B 4000000 0",
+        "point C 4000000 3000000",
+    ]
+    assert run("5", "1", "1").stdout.splitlines() == [
+        "well",
+        "distance A B 5",
+        "distance A C 1",
+        "distance B C 1",
+    ]
     assert ElementTree.parse(tmp_path / "out.svg").getroot().tag.endswith("svg")
     assert "the nearest is 3 mm" in run("4", "5", "3.00005").stderr

@@ -11,8 +11,12 @@ from pertxogai.dxf import MissingLibrary, Release, dxf_text, marks_of
 from pertxogai.picture import Bow, Dot, Ink, Manner, Ring, Stroke
 from pertxogai.reports import CircleEntity, LineEntity, PointEntity
 
-MARKS = (Dot((1, 2)), Ring((0, 0), 5), Stroke((0, 0), (1.5, 2), "", Ink(Manner.CONSTRUCTION)),
-         Bow((10, 0), (15, 0), (10, 5)))
+MARKS = (
+    Dot((1, 2)),
+    Ring((0, 0), 5),
+    Stroke((0, 0), (1.5, 2), "", Ink(Manner.CONSTRUCTION)),
+    Bow((10, 0), (15, 0), (10, 5)),
+)
 
 
 @pytest.mark.parametrize("release, version", [(Release.R12, "AC1009"), (Release.R2010, "AC1024")])
@@ -23,7 +27,10 @@ def test_every_kind_is_read_back(release: Release, version: str) -> None:
     assert tuple(point.dxf.location)[:2] == (1, 2) and point.dxf.layer == "EDGES"
     assert (tuple(circle.dxf.center)[:2], circle.dxf.radius) == ((0, 0), 5)
     assert tuple(line.dxf.start)[:2] == (0, 0) and tuple(line.dxf.end)[:2] == (1.5, 2)
-    assert line.dxf.layer == "CONSTRUCTION" and document.layers.get("CONSTRUCTION").dxf.linetype == "DASHED"
+    assert (
+        line.dxf.layer == "CONSTRUCTION"
+        and document.layers.get("CONSTRUCTION").dxf.linetype == "DASHED"
+    )
     assert (arc.dxf.radius, arc.dxf.start_angle, arc.dxf.end_angle) == (5, 0, 90)
 
 
@@ -33,7 +40,9 @@ def test_units_are_millimetres() -> None:
 
 
 def test_the_programs_own_entities() -> None:
-    marks = marks_of([PointEntity(1_000_000, -1), LineEntity(0, 0, 5_000_000, 1), CircleEntity(0, 0, 2_500_000)])
+    marks = marks_of(
+        [PointEntity(1_000_000, -1), LineEntity(0, 0, 5_000_000, 1), CircleEntity(0, 0, 2_500_000)]
+    )
     assert marks == (Dot((1.0, -1e-6)), Stroke((0.0, 0.0), (5.0, 1e-6)), Ring((0.0, 0.0), 2.5))
 
 

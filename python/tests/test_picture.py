@@ -13,8 +13,23 @@ from pertxogai.judged import judge_sketch
 from pertxogai.language import Sketch
 from pertxogai.measure import Frame, Solution
 from pertxogai.picture import (
-    Bow, Dot, Ink, LengthBar, Manner, Marking, Ring, Scene, Square, Stroke, Tag, picture_of, picture_of_designed,
-    picture_of_drawing, picture_of_parts, picture_of_shape)
+    Bow,
+    Dot,
+    Ink,
+    LengthBar,
+    Manner,
+    Marking,
+    Ring,
+    Scene,
+    Square,
+    Stroke,
+    Tag,
+    picture_of,
+    picture_of_designed,
+    picture_of_drawing,
+    picture_of_parts,
+    picture_of_shape,
+)
 from pertxogai.picture.page import Figure, Page
 from pertxogai.picture.placed import LaidLine, Motion, as_drawn, as_placed, laid_on, segments
 from pertxogai.picture.plane import crosses, crossing, overlaps
@@ -22,10 +37,14 @@ from pertxogai.picture.texts import Texts
 from pertxogai.reports import Spare, read_parts, read_solve
 
 SVG = "{http://www.w3.org/2000/svg}"
-TRIANGLE = Sketch.parse("sketch 1\npoint A 0 0\npoint B 4 0\npoint C 4 3\ndistance A B 4\ndistance A C 5\n"
-                        "distance B C 3\nend\n")
-PLACES = read_solve("verdict well\nsteps 1\nbits 38\npoint A 0 0\npoint B 4000000 0\npoint C 4000000 3000000\n"
-                    "length tolerance 0 nm at c1\nangle tolerance 0 ppb at none\n")
+TRIANGLE = Sketch.parse(
+    "sketch 1\npoint A 0 0\npoint B 4 0\npoint C 4 3\ndistance A B 4\ndistance A C 5\n"
+    "distance B C 3\nend\n"
+)
+PLACES = read_solve(
+    "verdict well\nsteps 1\nbits 38\npoint A 0 0\npoint B 4000000 0\npoint C 4000000 3000000\n"
+    "length tolerance 0 nm at c1\nangle tolerance 0 ppb at none\n"
+)
 
 
 def texts_of(svg: str) -> list[str]:
@@ -38,7 +57,11 @@ def boxes_of(svg: str) -> list[tuple[float, float, float, float]]:
     for it in ElementTree.fromstring(svg).iter(f"{SVG}text"):
         size = {"name": 14, "length": 12}.get(it.get("class", ""))
         if size:
-            x, y, wide = float(it.get("x", 0)), float(it.get("y", 0)), len(it.text or "") * size * 0.5
+            x, y, wide = (
+                float(it.get("x", 0)),
+                float(it.get("y", 0)),
+                len(it.text or "") * size * 0.5,
+            )
             boxes.append((x - wide / 2, y - 0.7 * size, x + wide / 2, y))
     return boxes
 
@@ -63,15 +86,26 @@ def test_a_page_keeps_proportions_and_puts_y_up() -> None:
 
 
 def test_every_kind_of_mark_and_dimension() -> None:
-    scene = Scene("all", (Dot((0, 0), "P"), Stroke((0, 0), (10, 0), "S", Ink(Manner.CONSTRUCTION)),
-                          Ring((5, 5), 2, "R"), Bow((0, 0), (10, 0), (0, 10), "Q")),
-                  (LengthBar((0, 0), (10, 0), "10"), Tag((0, 0), 0.0, "90°"), Square((0, 0), (1, 0), (0, 1))),
-                  (("a line", Ink(part=2)),))
+    scene = Scene(
+        "all",
+        (
+            Dot((0, 0), "P"),
+            Stroke((0, 0), (10, 0), "S", Ink(Manner.CONSTRUCTION)),
+            Ring((5, 5), 2, "R"),
+            Bow((0, 0), (10, 0), (0, 10), "Q"),
+        ),
+        (
+            LengthBar((0, 0), (10, 0), "10"),
+            Tag((0, 0), 0.0, "90°"),
+            Square((0, 0), (1, 0), (0, 1)),
+        ),
+        (("a line", Ink(part=2)),),
+    )
     root = ElementTree.fromstring(picture_of(scene).svg)
     assert sorted(texts_of(picture_of(scene).svg)) == ["10", "90°", "P", "Q", "R", "S", "a line"]
     path = next(it for it in root.iter(f"{SVG}path")).get("d", "")
     x1, y1, radius, _, _, large, sweep, x2, y2 = map(float, re.findall(r"-?[\d.]+", path))
-    assert (large, sweep) == (0, 0) and x1 > x2 and y1 > y2    # a quarter to the left, y down
+    assert (large, sweep) == (0, 0) and x1 > x2 and y1 > y2  # a quarter to the left, y down
     assert radius == pytest.approx(x1 - x2, abs=0.2) == pytest.approx(y1 - y2, abs=0.2)
     assert any("construction" in it.get("class", "") for it in root.iter(f"{SVG}line"))
 
@@ -90,29 +124,55 @@ def test_a_scene_of_one_place_and_of_none() -> None:
 def test_each_example(path, program) -> None:
     judged = judge_sketch(path.stem, path.read_text(), program)
     for svg in (judged.picture().svg, judged.picture(as_drawn=True).svg):
-        assert "nan" not in svg and {it.name for it in judged.sketch.elements} <= set(texts_of(svg))
+        assert "nan" not in svg and {it.name for it in judged.sketch.elements} <= set(
+            texts_of(svg)
+        )
         root = ElementTree.fromstring(svg)
         wide, tall = float(root.get("width", 0)), float(root.get("height", 0))
         for left, top, right, bottom in boxes_of(svg):
             assert -4 <= left and right <= wide + 4 and 0 <= top and bottom <= tall
 
 
-@pytest.mark.parametrize("name", ["bracket", "flange", "wedge", "rectangle", "gusset", "roof-truss", "slotted-plate",
-                                  "belt-drive", "four-bar", "arm", "motor", "hinge", "braced-square"])
+@pytest.mark.parametrize(
+    "name",
+    [
+        "bracket",
+        "flange",
+        "wedge",
+        "rectangle",
+        "gusset",
+        "roof-truss",
+        "slotted-plate",
+        "belt-drive",
+        "four-bar",
+        "arm",
+        "motor",
+        "hinge",
+        "braced-square",
+    ],
+)
 def test_texts_do_not_cover_each_other(name: str, program) -> None:
     path = TOP / "examples" / f"{name}.sketch"
     boxes = boxes_of(judge_sketch(name, path.read_text(), program).picture().svg)
-    covered = [(one, two) for k, one in enumerate(boxes) for two in boxes[:k] if overlaps(one, two)]
+    covered = [
+        (one, two) for k, one in enumerate(boxes) for two in boxes[:k] if overlaps(one, two)
+    ]
     assert len(covered) <= (1 if name == "flange" else 0)
 
 
 def test_a_name_goes_where_it_covers_least() -> None:
-    marks = (Dot((0, 0), "A"), Stroke((0, 0), (0, 50)), Stroke((0, 0), (0, -50)), Stroke((0, 0), (50, 0)),
-             Stroke((0, 0), (50, 50)), Stroke((0, 0), (50, -50)))
+    marks = (
+        Dot((0, 0), "A"),
+        Stroke((0, 0), (0, 50)),
+        Stroke((0, 0), (0, -50)),
+        Stroke((0, 0), (50, 0)),
+        Stroke((0, 0), (50, 50)),
+        Stroke((0, 0), (50, -50)),
+    )
     page = Page.fitted(Scene("", marks))
     texts = Texts(page, [Figure.of(mark, page) for mark in marks], [])
     texts.put_name(Figure.of(marks[0], page))
-    assert texts.written[0].at[0] < page.at((0, 0))[0]    # to the left is nothing
+    assert texts.written[0].at[0] < page.at((0, 0))[0]  # to the left is nothing
 
 
 def test_parts_are_laid_on_their_drawing() -> None:
@@ -125,15 +185,21 @@ def test_parts_are_laid_on_their_drawing() -> None:
 
 def test_a_part_is_not_mirrored() -> None:
     mirrored = read_solve(PLACES.text().replace("4000000 3000000", "4000000 -3000000"))
-    laid = {it.name: it.at for it in laid_on(as_placed(mirrored.places), as_drawn(TRIANGLE.elements))}
+    laid = {
+        it.name: it.at for it in laid_on(as_placed(mirrored.places), as_drawn(TRIANGLE.elements))
+    }
     (ax, ay), (bx, by), (cx, cy) = laid["A"], laid["B"], laid["C"]
     assert (bx - ax) * (cy - ay) - (by - ay) * (cx - ax) < 0
 
 
 def test_a_part_of_lines_is_laid_on_their_directions() -> None:
     sketch = Sketch.parse("sketch 1\nline L 5 5 5 25\npoint P 2 10\ndistance P L 3\nend\n")
-    placed = as_placed(read_solve("verdict well\nsteps 0\nbits 38\nline L 0 1000000000 0\npoint P 0 3000000\n"
-                                  "length tolerance 0 nm at c1\nangle tolerance 0 ppb at line L\n").places)
+    placed = as_placed(
+        read_solve(
+            "verdict well\nsteps 0\nbits 38\nline L 0 1000000000 0\npoint P 0 3000000\n"
+            "length tolerance 0 nm at c1\nangle tolerance 0 ppb at line L\n"
+        ).places
+    )
     line, point = laid_on(placed, as_drawn(sketch.elements))
     assert isinstance(line, LaidLine)
     assert line.way == pytest.approx((0, 1)) and line.through[0] == pytest.approx(5)
@@ -141,24 +207,38 @@ def test_a_part_of_lines_is_laid_on_their_directions() -> None:
 
 
 def test_lines_run_over_what_is_tied_to_them() -> None:
-    sketch = Sketch.parse("sketch 1\nline L 0 0 1 0\nline N 0 9 1 9\npoint P 2 0\ncircle H 30 5 5\npoint Q 7 7\n"
-                          "on P L\ntangent L H\nend\n")
+    sketch = Sketch.parse(
+        "sketch 1\nline L 0 0 1 0\nline N 0 9 1 9\npoint P 2 0\ncircle H 30 5 5\npoint Q 7 7\n"
+        "on P L\ntangent L H\nend\n"
+    )
     found = segments(sketch, as_drawn(sketch.elements))
     assert found["L"] == ((2, 0), (30, 0))
-    assert found["N"] == ((-10, 9), (10, 9))    # nothing is tied to it: 10 mm to either side
+    assert found["N"] == ((-10, 9), (10, 9))  # nothing is tied to it: 10 mm to either side
 
 
 def test_parts_have_colours_and_spare_ones_are_marked() -> None:
-    text = ("sketch 1\npoint A 0 0\npoint B 4 0\npoint C 9 9\npoint D 12 9\ndistance A B 4\ndistance B A 4\n"
-            "distance C D 3\nend\n")
+    text = (
+        "sketch 1\npoint A 0 0\npoint B 4 0\npoint C 9 9\npoint D 12 9\ndistance A B 4\ndistance"
+        " B A 4\n"
+        "distance C D 3\nend\n"
+    )
     sketch = Sketch.parse(text)
-    report = read_parts("verdict over\nparts 2\npart 1 over elements 2 held 2 due 1 : A B\n"
-                        "part 2 sound elements 2 held 1 due 1 : C D\nsteps 0\nbits 38\npoint C 0 0\npoint D 3000000 0\n"
-                        "length tolerance 0 nm at c3\nangle tolerance 0 ppb at none\n")
+    report = read_parts(
+        "verdict over\nparts 2\npart 1 over elements 2 held 2 due 1 : A B\n"
+        "part 2 sound elements 2 held 1 due 1 : C D\nsteps 0\nbits 38\npoint C 0 0\npoint D"
+        " 3000000 0\n"
+        "length tolerance 0 nm at c3\nangle tolerance 0 ppb at none\n"
+    )
     spare = tuple(Spare(number, sketch.constraints[number - 1]) for number in (1, 2))
     svg = picture_of_parts(sketch, report, spare).svg
-    assert {"c1: 4", "c2: 4", "3", "part 1, holds 2, due 1: A B", "part 2, placed: C D",
-            "each by itself may go: c1, c2"} <= set(texts_of(svg))
+    assert {
+        "c1: 4",
+        "c2: 4",
+        "3",
+        "part 1, holds 2, due 1: A B",
+        "part 2, placed: C D",
+        "each by itself may go: c1, c2",
+    } <= set(texts_of(svg))
     root = ElementTree.fromstring(svg)
     assert {it.get("class") for it in root.iter(f"{SVG}circle")} == {"f1", "f2"}
     assert [it.get("class") for it in root.iter(f"{SVG}line")] == ["spare", "spare", "bar"]
@@ -169,39 +249,63 @@ def test_a_drawing_as_it_is() -> None:
 
 
 def test_angles_and_right_angles() -> None:
-    sketch = Sketch.parse("sketch 1\nline X 0 0 9 0\nline Y 0 0 0 9\nline Z 0 0 9 9\npoint P 0 0\npoint Q 9 0\n"
-                          "point R 0 9\npoint S 9 9\non P X\non Q X\non P Y\non R Y\non P Z\non S Z\nangle X Y 1/0\n"
-                          "angle X Z 1/1\nend\n")
+    sketch = Sketch.parse(
+        "sketch 1\nline X 0 0 9 0\nline Y 0 0 0 9\nline Z 0 0 9 9\npoint P 0 0\npoint Q 9 0\n"
+        "point R 0 9\npoint S 9 9\non P X\non Q X\non P Y\non R Y\non P Z\non S Z\nangle X Y 1/0\n"
+        "angle X Z 1/1\nend\n"
+    )
     svg = picture_of_drawing(sketch).svg
     assert "45°" in texts_of(svg) and svg.count("<polyline") == 1
 
 
 def test_a_designers_drawing_as_drawn_and_as_placed() -> None:
-    drawing = read_drawing("segment Base 0 0 60 0\narc Bend 60 10 60 0 70 10\ncircle Hole 20 20 5\npoint P 1 2\n"
-                           "length Base 60\nradius Hole 5\n")
-    assert {"Base", "Bend", "Hole", "P", "60", "R5"} == set(texts_of(picture_of_designed(drawing).svg))
+    drawing = read_drawing(
+        "segment Base 0 0 60 0\narc Bend 60 10 60 0 70 10\ncircle Hole 20 20 5\npoint P 1 2\n"
+        "length Base 60\nradius Hole 5\n"
+    )
+    assert {"Base", "Bend", "Hole", "P", "60", "R5"} == set(
+        texts_of(picture_of_designed(drawing).svg)
+    )
     base = [PointRef("Base", Which.START), PointRef("Base", Which.END)]
-    places = {base[0]: (0, 0), base[1]: (0, 60_000_000), PointRef("Bend", Which.CENTRE): (-10_000_000, 60_000_000),
-              PointRef("Bend", Which.START): (0, 60_000_000), PointRef("Bend", Which.END): (-10_000_000, 70_000_000),
-              PointRef("Hole", Which.CENTRE): (-20_000_000, 20_000_000), PointRef("P"): (-2_000_000, 1_000_000)}
+    places = {
+        base[0]: (0, 0),
+        base[1]: (0, 60_000_000),
+        PointRef("Bend", Which.CENTRE): (-10_000_000, 60_000_000),
+        PointRef("Bend", Which.START): (0, 60_000_000),
+        PointRef("Bend", Which.END): (-10_000_000, 70_000_000),
+        PointRef("Hole", Which.CENTRE): (-20_000_000, 20_000_000),
+        PointRef("P"): (-2_000_000, 1_000_000),
+    }
     turned = Solution(places, {"Hole": 5_000_000, "Bend": 10_000_000}, Frame((0, 0), (0, 1)))
     assert picture_of_designed(drawing, turned).svg == picture_of_designed(drawing).svg
 
 
 def test_plane_geometry() -> None:
     box = (0.0, 0.0, 10.0, 10.0)
-    assert crosses((-5, 5), (15, 5), box) and crosses((5, 5), (6, 6), box) and crosses((-5, 0), (0, 0), box)
+    assert (
+        crosses((-5, 5), (15, 5), box)
+        and crosses((5, 5), (6, 6), box)
+        and crosses((-5, 0), (0, 0), box)
+    )
     assert not crosses((-5, -1), (15, -1), box) and not crosses((-5, 8), (3, 16), box)
     assert crossing(((0, 0), (1, 0)), ((5, 5), (5, 6))) == (5, 0)
     assert crossing(((0, 0), (1, 0)), ((5, 5), (6, 5))) is None
 
 
 def test_pieces_of_a_drawing_have_colours_and_what_may_go_is_marked() -> None:
-    drawing = read_drawing("segment A 0 0 60 0\nsegment B 0 20 60 20\nhorizontal A B\nlength A 60\nlength B 50\n")
-    marking = Marking({"A": 1, "B": 2}, frozenset({1, 3}), (("piece 2: B", Ink(part=2)), ("long " * 40, Ink())))
+    drawing = read_drawing(
+        "segment A 0 0 60 0\nsegment B 0 20 60 20\nhorizontal A B\nlength A 60\nlength B 50\n"
+    )
+    marking = Marking(
+        {"A": 1, "B": 2}, frozenset({1, 3}), (("piece 2: B", Ink(part=2)), ("long " * 40, Ink()))
+    )
     svg = picture_of_designed(drawing, None, "two", marking).svg
     root = ElementTree.fromstring(svg)
     classes = [it.get("class") for it in root.iter(f"{SVG}line")]
-    assert classes.count("edge p1") == 1 and classes.count("edge p2") == 1 and classes.count("spare") == 1
+    assert (
+        classes.count("edge p1") == 1
+        and classes.count("edge p2") == 1
+        and classes.count("spare") == 1
+    )
     assert {drawing.called(1), "60", "50", "piece 2: B"} <= set(texts_of(svg))
-    assert max(map(len, texts_of(svg))) < 80    # what is long goes on in the next line
+    assert max(map(len, texts_of(svg))) < 80  # what is long goes on in the next line

@@ -11,10 +11,21 @@ from conftest import ROWS, Row
 
 from pertxogai.library import Library, quickest
 from pertxogai.program import (
-    Answer, MissingProgram, Program, ProgramCrashed, ProgramError, ProgramSpoke, ProgramTimedOut, Status)
+    Answer,
+    MissingProgram,
+    Program,
+    ProgramCrashed,
+    ProgramError,
+    ProgramSpoke,
+    ProgramTimedOut,
+    Status,
+)
 from pertxogai.reports import NotAReport, read_answer
 
-TRIANGLE = "sketch 1\npoint A 0 0\npoint B 4 0\npoint C 4 3\ndistance A B 4\ndistance A C 5\ndistance B C 3\nend\n"
+TRIANGLE = (
+    "sketch 1\npoint A 0 0\npoint B 4 0\npoint C 4 3\n"
+    "distance A B 4\ndistance A C 5\ndistance B C 3\nend\n"
+)
 
 
 def script(folder: Path, body: str) -> str:
@@ -37,16 +48,26 @@ def test_each_status_is_handed_on(status: Status, tmp_path) -> None:
 
 
 def test_words_and_text_go_in(tmp_path) -> None:
-    answer = Program(script(tmp_path, 'echo "$#" "$@"; wc -c')).ask(["solve", "bits=27", "a b", ""], "x" * 300_000)
+    answer = Program(script(tmp_path, 'echo "$#" "$@"; wc -c')).ask(
+        ["solve", "bits=27", "a b", ""], "x" * 300_000
+    )
     assert answer.text.split("\n")[:2] == ["4 solve bits=27 a b ", "300000"]
 
 
-@pytest.mark.parametrize("words, text, status", [
-    (["check"], TRIANGLE, Status.DONE), (["check"], "", Status.REFUSED), (["check", "x"], TRIANGLE, Status.USAGE),
-    ([], TRIANGLE, Status.USAGE), (["plan"], "sketch 1\npoint A 0 0\npoint B 0 1\nend\n", Status.NOT_WELL),
-    (["solve"], TRIANGLE.replace("A C 5", "A C 9"), Status.FAULT),
-    (["verify"], TRIANGLE + "tolerance 0 0\n", Status.CLAIM_FAILS), (["check"], "\udcff\u20ac", Status.REFUSED),
-    (["check"], "\ud800", Status.REFUSED)])
+@pytest.mark.parametrize(
+    "words, text, status",
+    [
+        (["check"], TRIANGLE, Status.DONE),
+        (["check"], "", Status.REFUSED),
+        (["check", "x"], TRIANGLE, Status.USAGE),
+        ([], TRIANGLE, Status.USAGE),
+        (["plan"], "sketch 1\npoint A 0 0\npoint B 0 1\nend\n", Status.NOT_WELL),
+        (["solve"], TRIANGLE.replace("A C 5", "A C 9"), Status.FAULT),
+        (["verify"], TRIANGLE + "tolerance 0 0\n", Status.CLAIM_FAILS),
+        (["check"], "\udcff\u20ac", Status.REFUSED),
+        (["check"], "\ud800", Status.REFUSED),
+    ],
+)
 def test_statuses_of_the_program_itself(words, text: str, status: Status, program) -> None:
     answer = program.ask(words, text)
     assert answer.status is status
@@ -61,17 +82,35 @@ def refused(kind: type[ProgramError], program: Program, *inside: str) -> None:
 
 
 def test_a_program_that_crashes(tmp_path) -> None:
-    refused(ProgramCrashed, Program(script(tmp_path, "echo 'out of luck' >&2; kill -SEGV $$")), "signal 11", "out of luck")
+    refused(
+        ProgramCrashed,
+        Program(script(tmp_path, "echo 'out of luck' >&2; kill -SEGV $$")),
+        "signal 11",
+        "out of luck",
+    )
     refused(ProgramCrashed, Program(script(tmp_path, "exit 77")), "status 77")
 
 
 def test_a_program_that_hangs(tmp_path) -> None:
     begin = time.monotonic()
-    refused(ProgramTimedOut, Program(script(tmp_path, "exec sleep 30"), seconds=0.3), "0.3 s", "more seconds")
-    refused(ProgramTimedOut, Program(script(tmp_path, "exec >&- 2>&-; exec sleep 30"), seconds=0.3), "0.3 s")
-    refused(ProgramTimedOut, Program(script(tmp_path, f"(sleep 1; touch {tmp_path}/left) & wait"), seconds=0.3), "0.3 s")
+    refused(
+        ProgramTimedOut,
+        Program(script(tmp_path, "exec sleep 30"), seconds=0.3),
+        "0.3 s",
+        "more seconds",
+    )
+    refused(
+        ProgramTimedOut,
+        Program(script(tmp_path, "exec >&- 2>&-; exec sleep 30"), seconds=0.3),
+        "0.3 s",
+    )
+    refused(
+        ProgramTimedOut,
+        Program(script(tmp_path, f"(sleep 1; touch {tmp_path}/left) & wait"), seconds=0.3),
+        "0.3 s",
+    )
     time.sleep(1.2)
-    assert not (tmp_path / "left").exists()    # what it started was stopped too
+    assert not (tmp_path / "left").exists()  # what it started was stopped too
     assert time.monotonic() - begin < 10
 
 
@@ -86,7 +125,19 @@ def test_a_program_that_floods(tmp_path) -> None:
 
 def test_a_program_that_prints_rubbish(tmp_path) -> None:
     refused(ProgramSpoke, Program(script(tmp_path, r"printf '\377\376'")), "no text")
-    for words in ("check", "plan", "solve", "dxf", "spare", "parts", "derive", "grow", "verify", "migrate", "session"):
+    for words in (
+        "check",
+        "plan",
+        "solve",
+        "dxf",
+        "spare",
+        "parts",
+        "derive",
+        "grow",
+        "verify",
+        "migrate",
+        "session",
+    ):
         answer = Program(script(tmp_path, "echo verdict maybe")).ask([words], TRIANGLE)
         with pytest.raises(NotAReport):
             read_answer([words], answer)
@@ -120,6 +171,7 @@ def test_a_program_that_is_missing(tmp_path, monkeypatch) -> None:
 
 def test_a_call_costs_little(program) -> None:
     """Within 3 ms of the program's own time, by the least of many calls each."""
+
     def least(call) -> float:
         times = []
         for _ in range(60):
@@ -128,20 +180,25 @@ def test_a_call_costs_little(program) -> None:
             times.append(time.perf_counter() - begin)
         return min(times)
 
-    own = least(lambda: subprocess.run([program.path, "check"], input=TRIANGLE.encode(), capture_output=True))
+    own = least(
+        lambda: subprocess.run(
+            [program.path, "check"], input=TRIANGLE.encode(), capture_output=True
+        )
+    )
     assert least(lambda: program.ask(["check"], TRIANGLE)) < own + 0.003
 
 
 LIBRARY = r"""
 #include <stdint.h>
 #include <string.h>
-/* Answers with the command's length and words, then the input, as the program's library hands on a text. */
-int32_t sketch_answer(const uint8_t *command, size_t length, const uint8_t *input, size_t size_in, uint8_t *output,
-                      size_t room, size_t *size) {
+/* Answers with the command and then the input, as the program's library hands on a text. */
+int32_t sketch_answer(const uint8_t *command, size_t length, const uint8_t *input, size_t size_in,
+                      uint8_t *output, size_t room, size_t *size) {
     *size = 0;
     for (size_t i = 0; i < length + 1 + size_in; i++, ++*size)
         if (i < room)
-            output[i] = i < length ? (command[i] < 128 ? command[i] : '?') : i == length ? '\n' : input[i - length - 1];
+            output[i] = i > length ? input[i - length - 1] : i == length ? '\n'
+                      : command[i] < 128 ? command[i] : '?';
     return length == 5 ? 0 : length == 7 ? 99 : 2;
 }
 """
@@ -152,8 +209,12 @@ def library(tmp_path_factory) -> str:
     folder = tmp_path_factory.mktemp("library")
     (folder / "stand_in.c").write_text(LIBRARY)
     try:
-        subprocess.run(["cc", "-shared", "-fPIC", "-o", "libsketch.so", "stand_in.c"], cwd=folder, check=True,
-                       capture_output=True)
+        subprocess.run(
+            ["cc", "-shared", "-fPIC", "-o", "libsketch.so", "stand_in.c"],
+            cwd=folder,
+            check=True,
+            capture_output=True,
+        )
     except OSError:
         pytest.skip("no C compiler makes a stand-in for the library")
     return str(folder / "libsketch.so")

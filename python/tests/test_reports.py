@@ -4,14 +4,72 @@ from __future__ import annotations
 import pytest
 from conftest import EXAMPLES, ROWS, Row
 
-from pertxogai.language import Choice, ClusterName, Claim, Distance, Flip, Flips, Offer, Offers, Point, Session, Sketch
+from pertxogai.language import (
+    Choice,
+    ClusterName,
+    Claim,
+    Distance,
+    Flip,
+    Flips,
+    Offer,
+    Offers,
+    Point,
+    Session,
+    Sketch,
+)
 from pertxogai.program import Answer, Status
 from pertxogai.reports import (
-    Accepted, AtConstraint, AtLine, Cause, CheckReport, CircleEntity, ClaimFails, Code, ConstraintFault, Failing, Idle,
-    LineEntity, LineFault, NoAnswer, NoChoice, NotAReport, NumberFault, Part, Phase, PointEntity, RangeFault, Refused,
-    RefusedEdit, Shape, Solved, Spare, Stale, StepAt, Taken, TurnedFault, Unit, Usage, Verdict, Verified, read_answer,
-    read_check, read_derive, read_dxf, read_fault, read_flips, read_offers, read_parts, read_plan, read_session,
-    read_solve, read_spare, read_verify, write_derive, write_dxf, write_spare)
+    Accepted,
+    AtConstraint,
+    AtLine,
+    Cause,
+    CheckReport,
+    CircleEntity,
+    ClaimFails,
+    Code,
+    ConstraintFault,
+    Failing,
+    Idle,
+    LineEntity,
+    LineFault,
+    NoAnswer,
+    NoChoice,
+    NotAReport,
+    NumberFault,
+    Part,
+    Phase,
+    PointEntity,
+    RangeFault,
+    Refused,
+    RefusedEdit,
+    Shape,
+    Solved,
+    Spare,
+    Stale,
+    StepAt,
+    Taken,
+    TurnedFault,
+    Unit,
+    Usage,
+    Verdict,
+    Verified,
+    read_answer,
+    read_check,
+    read_derive,
+    read_dxf,
+    read_fault,
+    read_flips,
+    read_offers,
+    read_parts,
+    read_plan,
+    read_session,
+    read_solve,
+    read_spare,
+    read_verify,
+    write_derive,
+    write_dxf,
+    write_spare,
+)
 
 TRIANGLE = """verdict well
 elements 3
@@ -45,8 +103,11 @@ def test_a_spoilt_row_is_refused(row: Row) -> None:
         spoilt += [text + text, ""]
     if row.words[0] not in ("dxf", "flips", "session", "offers"):
         lines = text.splitlines(keepends=True)
-        spoilt += ["".join(lines[:k] + lines[k + 1:]) for k in range(min(len(lines), 8))
-                   if lines[k].split()[0] not in ("point", "line", "circle")]
+        spoilt += [
+            "".join(lines[:k] + lines[k + 1 :])
+            for k in range(min(len(lines), 8))
+            if lines[k].split()[0] not in ("point", "line", "circle")
+        ]
     for it in spoilt:
         if it != text and not (row.words[0] == "migrate" and row.answer.status == Status.DONE):
             with pytest.raises(NotAReport):
@@ -54,19 +115,39 @@ def test_a_spoilt_row_is_refused(row: Row) -> None:
 
 
 def test_check() -> None:
-    report = read_check("verdict over\nelements 3\nconstraints 2\nparts 2\npart 1 over elements 2 held 2 due 1 : A B\n"
-                        "part 2 sound elements 1 held 0 due 0 : C\n")
-    assert report == CheckReport(Verdict.OVER, 3, 2, (
-        Part(1, True, ("A", "B"), 2, 1), Part(2, False, ("C",), 0, 0)))
+    report = read_check(
+        "verdict over\nelements 3\nconstraints 2\nparts 2\npart 1 over elements 2 held 2 due 1 :"
+        " A B\n"
+        "part 2 sound elements 1 held 0 due 0 : C\n"
+    )
+    assert report == CheckReport(
+        Verdict.OVER, 3, 2, (Part(1, True, ("A", "B"), 2, 1), Part(2, False, ("C",), 0, 0))
+    )
 
 
-@pytest.mark.parametrize("old, new", [
-    ("verdict open", "verdict well"), ("verdict open", "verdict over"), ("parts 2", "parts 3"), ("parts 2", "parts 1"),
-    ("part 2", "part 3"), ("held 3 due 3", "held 4 due 3"), ("held 3 due 3", "held 3 due 2"), ("3 : A B C", "3 : A B"),
-    ("sound", "over"), ("elements 4", "elements 04"), ("constraints 3", "constraints -3"), ("verdict open", "Verdict open")])
+@pytest.mark.parametrize(
+    "old, new",
+    [
+        ("verdict open", "verdict well"),
+        ("verdict open", "verdict over"),
+        ("parts 2", "parts 3"),
+        ("parts 2", "parts 1"),
+        ("part 2", "part 3"),
+        ("held 3 due 3", "held 4 due 3"),
+        ("held 3 due 3", "held 3 due 2"),
+        ("3 : A B C", "3 : A B"),
+        ("sound", "over"),
+        ("elements 4", "elements 04"),
+        ("constraints 3", "constraints -3"),
+        ("verdict open", "Verdict open"),
+    ],
+)
 def test_a_report_that_contradicts_itself_is_none(old: str, new: str) -> None:
-    text = ("verdict open\nelements 4\nconstraints 3\nparts 2\npart 1 sound elements 3 held 3 due 3 : A B C\n"
-            "part 2 sound elements 1 held 0 due 0 : D\n")
+    text = (
+        "verdict open\nelements 4\nconstraints 3\nparts 2\npart 1 sound elements 3 held 3 due 3 :"
+        " A B C\n"
+        "part 2 sound elements 1 held 0 due 0 : D\n"
+    )
     read_check(text)
     with pytest.raises(NotAReport) as refused:
         read_check(text.replace(old, new, 1))
@@ -78,7 +159,11 @@ def test_plan() -> None:
     assert plan.leaves[1].constraint == Distance("A", "C", 5000)
     step = plan.steps[0]
     assert step.joins == (ClusterName(False, 3), ClusterName(False, 2), ClusterName(False, 1))
-    assert (step.at, step.keeps, step.choice) == (("C", "A", "B"), ClusterName(False, 1), Choice.TURN_PLUS)
+    assert (step.at, step.keeps, step.choice) == (
+        ("C", "A", "B"),
+        ClusterName(False, 1),
+        Choice.TURN_PLUS,
+    )
     tree = plan.tree()
     assert tree is not None and tree.made_by == step
     assert [it.made_by for it in tree.joined] == [plan.leaves[2], plan.leaves[1], plan.leaves[0]]
@@ -87,19 +172,34 @@ def test_plan() -> None:
     assert lone.tree() is None and lone.frame() is None
 
 
-@pytest.mark.parametrize("old, new", [
-    ("joins c3 c2 c1", "joins c3 c2 c4"), ("joins c3 c2 c1", "joins c3 c2 c2"), ("step s1", "step s2"),
-    ("keeps c1", "keeps c4"), ("turn +", "turn"), ("turn +", "none +"), ("leaf c2", "leaf c1"), ("A C 5", "A C 5.0"),
-    ("distance A C", "distanc A C"), ("steps 1", "steps 0"), ("verdict well", "verdict open"), ("c3 c2", "c03 c2"),
-    ("distance A C 5", "on A")])
+@pytest.mark.parametrize(
+    "old, new",
+    [
+        ("joins c3 c2 c1", "joins c3 c2 c4"),
+        ("joins c3 c2 c1", "joins c3 c2 c2"),
+        ("step s1", "step s2"),
+        ("keeps c1", "keeps c4"),
+        ("turn +", "turn"),
+        ("turn +", "none +"),
+        ("leaf c2", "leaf c1"),
+        ("A C 5", "A C 5.0"),
+        ("distance A C", "distanc A C"),
+        ("steps 1", "steps 0"),
+        ("verdict well", "verdict open"),
+        ("c3 c2", "c03 c2"),
+        ("distance A C 5", "on A"),
+    ],
+)
 def test_a_spoilt_plan_is_none(old: str, new: str) -> None:
     with pytest.raises(NotAReport):
         read_plan(TRIANGLE.replace(old, new, 1))
 
 
 def test_solve() -> None:
-    solved = read_solve("verdict well\nsteps 1\nbits 38\npoint A -1 0\nline L 0 1000000000 -5\ncircle H 3 4 5\n"
-                        "length tolerance 2 nm at c1\nangle tolerance 1 ppb at line L\n")
+    solved = read_solve(
+        "verdict well\nsteps 1\nbits 38\npoint A -1 0\nline L 0 1000000000 -5\ncircle H 3 4 5\n"
+        "length tolerance 2 nm at c1\nangle tolerance 1 ppb at line L\n"
+    )
     assert isinstance(solved, Solved) and (solved.steps, solved.bits) == (1, 38)
     assert [it.name for it in solved.places] == ["A", "L", "H"]
     assert (solved.length_tolerance_nm, solved.length_at) == (2, AtConstraint(1))
@@ -107,27 +207,57 @@ def test_solve() -> None:
     assert solved.place("H").text() == "circle H 3 4 5"
 
 
-@pytest.mark.parametrize("line", [
-    "point A 0 -0", "point A 01 0", "point A 0", "point A 0 0 0", "line A 0 0", "point A 0 +1", "point A 0.5 1"])
+@pytest.mark.parametrize(
+    "line",
+    [
+        "point A 0 -0",
+        "point A 01 0",
+        "point A 0",
+        "point A 0 0 0",
+        "line A 0 0",
+        "point A 0 +1",
+        "point A 0.5 1",
+    ],
+)
 def test_a_spoilt_place_is_none(line: str) -> None:
     with pytest.raises(NotAReport):
-        read_solve(f"verdict well\nsteps 0\nbits 38\n{line}\nlength tolerance 0 nm at none\n"
-                   "angle tolerance 0 ppb at none\n")
+        read_solve(
+            f"verdict well\nsteps 0\nbits 38\n{line}\nlength tolerance 0 nm at none\n"
+            "angle tolerance 0 ppb at none\n"
+        )
 
 
-@pytest.mark.parametrize("line, fault", [
-    ("fault s1 build height C gap -1443109011456 -1443109011456 bits 38",
-     NumberFault(StepAt(1, Phase.BUILD, "height", "C"), Cause.GAP, -1443109011456, -1443109011456, 38)),
-    ("fault s18 first base P1 flat -395716241959 2090124924219 bits 38",
-     NumberFault(StepAt(18, Phase.FIRST, "base", "P1"), Cause.FLAT, -395716241959, 2090124924219, 38)),
-    ("fault s5 second fx L range bits 16", RangeFault(StepAt(5, Phase.SECOND, "fx", "L"), 16)),
-    ("fault s2 build size L flat 0 0 bits 27",
-     NumberFault(StepAt(2, Phase.BUILD, "size", "L"), Cause.FLAT, 0, 0, 27)),
-    ("fault c1 tolerance 2 nm limit 1", ConstraintFault(1, 2, Unit.NM, 1)),
-    ("fault c12 tolerance 5435 ppb limit 1000", ConstraintFault(12, 5435, Unit.PPB, 1000)),
-    ("fault line Y tolerance 2158 ppb limit 1000", LineFault("Y", 2158, 1000)),
-    ("fault s1 turned drawn + placed 0", TurnedFault(ClusterName(True, 1), 1, 0)),
-    ("fault c4 turned drawn - placed 1", TurnedFault(ClusterName(False, 4), -1, 1))])
+@pytest.mark.parametrize(
+    "line, fault",
+    [
+        (
+            "fault s1 build height C gap -1443109011456 -1443109011456 bits 38",
+            NumberFault(
+                StepAt(1, Phase.BUILD, "height", "C"),
+                Cause.GAP,
+                -1443109011456,
+                -1443109011456,
+                38,
+            ),
+        ),
+        (
+            "fault s18 first base P1 flat -395716241959 2090124924219 bits 38",
+            NumberFault(
+                StepAt(18, Phase.FIRST, "base", "P1"), Cause.FLAT, -395716241959, 2090124924219, 38
+            ),
+        ),
+        ("fault s5 second fx L range bits 16", RangeFault(StepAt(5, Phase.SECOND, "fx", "L"), 16)),
+        (
+            "fault s2 build size L flat 0 0 bits 27",
+            NumberFault(StepAt(2, Phase.BUILD, "size", "L"), Cause.FLAT, 0, 0, 27),
+        ),
+        ("fault c1 tolerance 2 nm limit 1", ConstraintFault(1, 2, Unit.NM, 1)),
+        ("fault c12 tolerance 5435 ppb limit 1000", ConstraintFault(12, 5435, Unit.PPB, 1000)),
+        ("fault line Y tolerance 2158 ppb limit 1000", LineFault("Y", 2158, 1000)),
+        ("fault s1 turned drawn + placed 0", TurnedFault(ClusterName(True, 1), 1, 0)),
+        ("fault c4 turned drawn - placed 1", TurnedFault(ClusterName(False, 4), -1, 1)),
+    ],
+)
 def test_each_kind_of_fault(line: str, fault: object) -> None:
     assert read_fault(line + "\n") == fault
     assert fault.text() == line + "\n"
@@ -138,10 +268,21 @@ def test_the_ends_of_a_fault_are_exact() -> None:
     assert [float(end) for end in fault.ends()] == [-5.25, -5.25]
 
 
-@pytest.mark.parametrize("line", [
-    "fault s1 build heigth C gap 1 1 bits 38", "fault s1 build height C gap 2 1 bits 38", "fault c1 turned drawn + placed 1",
-    "fault s1 turned drawn - placed -1", "fault c1 tolerance 1 nm limit 1", "fault s0 build x", "fault c1 tolerance 2 mm limit 1",
-    "fault s1 build height C gap 1 1 bits 37", "fault s1 third height C range bits 38", "fault line L tolerance 2 nm limit 1"])
+@pytest.mark.parametrize(
+    "line",
+    [
+        "fault s1 build heigth C gap 1 1 bits 38",
+        "fault s1 build height C gap 2 1 bits 38",
+        "fault c1 turned drawn + placed 1",
+        "fault s1 turned drawn - placed -1",
+        "fault c1 tolerance 1 nm limit 1",
+        "fault s0 build x",
+        "fault c1 tolerance 2 mm limit 1",
+        "fault s1 build height C gap 1 1 bits 37",
+        "fault s1 third height C range bits 38",
+        "fault line L tolerance 2 nm limit 1",
+    ],
+)
 def test_what_is_no_fault_line(line: str) -> None:
     with pytest.raises(NotAReport):
         read_fault(line + "\n")
@@ -149,11 +290,21 @@ def test_what_is_no_fault_line(line: str) -> None:
 
 def test_spare_and_derive() -> None:
     assert read_spare("spare 2\nc1 : distance A B 4\nc6 : distance A B 4\n") == (
-        Spare(1, Distance("A", "B", 4000)), Spare(6, Distance("A", "B", 4000)))
+        Spare(1, Distance("A", "B", 4000)),
+        Spare(6, Distance("A", "B", 4000)),
+    )
     assert read_spare("spare 0\n") == ()
-    assert read_derive("clusters 2\ncluster 1 : X Y\ncluster 2 : X Z P\n") == (("X", "Y"), ("X", "Z", "P"))
+    assert read_derive("clusters 2\ncluster 1 : X Y\ncluster 2 : X Z P\n") == (
+        ("X", "Y"),
+        ("X", "Z", "P"),
+    )
     assert read_derive("clusters 0\n") == ()
-    for text in ("spare 1\n", "spare 0\nc1 : on A L\n", "spare 2\nc6 : on A L\nc1 : on A L\n", "spare 1\nc1 : on A 9\n"):
+    for text in (
+        "spare 1\n",
+        "spare 0\nc1 : on A L\n",
+        "spare 2\nc6 : on A L\nc1 : on A L\n",
+        "spare 1\nc1 : on A 9\n",
+    ):
         with pytest.raises(NotAReport):
             read_spare(text)
     with pytest.raises(NotAReport):
@@ -163,11 +314,14 @@ def test_spare_and_derive() -> None:
 def test_verify() -> None:
     assert read_verify("verified steps 1 length 0 nm angle 2 ppb\n") == Verified(1, 0, 2)
     for line, fails in [
-            ("s2", ClaimFails(Failing.CLUSTER, ClusterName(True, 2))),
-            ("c3", ClaimFails(Failing.CLUSTER, ClusterName(False, 3))), ("parts", ClaimFails(Failing.PARTS, None)),
-            ("element A", ClaimFails(Failing.ELEMENT, "A")), ("line L", ClaimFails(Failing.LINE, "L")),
-            ("sign s1", ClaimFails(Failing.SIGN, ClusterName(True, 1))),
-            ("sign c1", ClaimFails(Failing.SIGN, ClusterName(False, 1)))]:
+        ("s2", ClaimFails(Failing.CLUSTER, ClusterName(True, 2))),
+        ("c3", ClaimFails(Failing.CLUSTER, ClusterName(False, 3))),
+        ("parts", ClaimFails(Failing.PARTS, None)),
+        ("element A", ClaimFails(Failing.ELEMENT, "A")),
+        ("line L", ClaimFails(Failing.LINE, "L")),
+        ("sign s1", ClaimFails(Failing.SIGN, ClusterName(True, 1))),
+        ("sign c1", ClaimFails(Failing.SIGN, ClusterName(False, 1))),
+    ]:
         assert read_verify(f"verify fails {line}\n") == fails
         assert fails.text() == f"verify fails {line}\n"
     for line in ("verify fails", "verify fails 3", "verify fails sign A", "verified steps 1"):
@@ -176,12 +330,20 @@ def test_verify() -> None:
 
 
 def test_offers_and_flips() -> None:
-    report = read_offers("offer 1 taken s1\noffer 2 stale c3\noffer 64 idle\nverdict well\nelements 1\nconstraints 0\n"
-                         "parts 1\npart 1 sound elements 1 held 0 due 0 : A\n")
+    report = read_offers(
+        "offer 1 taken s1\noffer 2 stale c3\noffer 64 idle\nverdict well\nelements 1\nconstraints"
+        " 0\n"
+        "parts 1\npart 1 sound elements 1 held 0 due 0 : A\n"
+    )
     assert [(it.worker, it.answer) for it in report.answers] == [
-        (1, Taken(ClusterName(True, 1))), (2, Stale(ClusterName(False, 3))), (64, Idle())]
-    flips = read_flips("flip 1 ok\npoint A 0 0\nlength tolerance 0 nm at none\nangle tolerance 0 ppb at none\n"
-                       "flip 2 no-choice s9\nflip 3 fault\nfault c1 tolerance 2 nm limit 1\n")
+        (1, Taken(ClusterName(True, 1))),
+        (2, Stale(ClusterName(False, 3))),
+        (64, Idle()),
+    ]
+    flips = read_flips(
+        "flip 1 ok\npoint A 0 0\nlength tolerance 0 nm at none\nangle tolerance 0 ppb at none\n"
+        "flip 2 no-choice s9\nflip 3 fault\nfault c1 tolerance 2 nm limit 1\n"
+    )
     assert isinstance(flips[0].answer, Shape)
     assert flips[1].answer == NoChoice(ClusterName(True, 9))
     assert flips[2].answer == ConstraintFault(1, 2, Unit.NM, 1)
@@ -191,24 +353,70 @@ def test_offers_and_flips() -> None:
 
 
 def test_dxf() -> None:
-    entities = (PointEntity(-1, 2_500_000), LineEntity(0, 0, 1, -1_000_000_000_000), CircleEntity(0, 0, 5_000_000))
+    entities = (
+        PointEntity(-1, 2_500_000),
+        LineEntity(0, 0, 1, -1_000_000_000_000),
+        CircleEntity(0, 0, 5_000_000),
+    )
     text = write_dxf(entities)
     assert text.splitlines()[4:12] == ["0", "POINT", "8", "0", "10", "-0.000001", "20", "2.500000"]
     assert read_dxf(text) == entities
-    for old, new in [("-0.000001", "-0.00001"), ("-0.000001", "-0.000000"), ("POINT", "ARC"), ("EOF", "EOF\n0"),
-                     ("\n8\n0", "\n8\n1"), ("ENDSEC", "SECTION")]:
+    for old, new in [
+        ("-0.000001", "-0.00001"),
+        ("-0.000001", "-0.000000"),
+        ("POINT", "ARC"),
+        ("EOF", "EOF\n0"),
+        ("\n8\n0", "\n8\n1"),
+        ("ENDSEC", "SECTION"),
+    ]:
         with pytest.raises(NotAReport):
             read_dxf(text.replace(old, new, 1))
 
 
 def test_a_session_of_every_reply(program) -> None:
-    lines = ["undo", "point A 0 0", "check", "point B 4 0", "line L 0 0 10 0", "distance A B 4", "solve", "on A L", "on B L",
-             "set 1 5", "drop 9", "check", "plan", "solve", "write", "erase A"]
+    lines = [
+        "undo",
+        "point A 0 0",
+        "check",
+        "point B 4 0",
+        "line L 0 0 10 0",
+        "distance A B 4",
+        "solve",
+        "on A L",
+        "on B L",
+        "set 1 5",
+        "drop 9",
+        "check",
+        "plan",
+        "solve",
+        "write",
+        "erase A",
+    ]
     replies = read_session(program.ask(["session"], "\n".join(lines)).text)
     kinds = [type(it).__name__ for it in replies]
-    assert kinds == ["RefusedEdit", "Accepted", "CheckReport", "Accepted", "Accepted", "Accepted", "CheckReport", "Accepted",
-                     "Accepted", "Accepted", "RefusedEdit", "CheckReport", "Plan", "Solved", "Sketch", "RefusedEdit"]
-    assert replies[0] == RefusedEdit(Code.S3) and replies[1] == Accepted("A") and replies[5] == Accepted("c1")
+    assert kinds == [
+        "RefusedEdit",
+        "Accepted",
+        "CheckReport",
+        "Accepted",
+        "Accepted",
+        "Accepted",
+        "CheckReport",
+        "Accepted",
+        "Accepted",
+        "Accepted",
+        "RefusedEdit",
+        "CheckReport",
+        "Plan",
+        "Solved",
+        "Sketch",
+        "RefusedEdit",
+    ]
+    assert (
+        replies[0] == RefusedEdit(Code.S3)
+        and replies[1] == Accepted("A")
+        and replies[5] == Accepted("c1")
+    )
     assert replies[9] == Accepted(None) and replies[-1] == RefusedEdit(Code.S2)
     lone = Session((Point("A", 0, 0),)).text() + "solve\n"
     assert isinstance(read_session(program.ask(["session"], lone).text)[1], Solved)
@@ -219,10 +427,18 @@ def test_statuses_without_a_report() -> None:
         with pytest.raises(NoAnswer) as refused:
             read_answer(["check"], Answer(status, ""))
         assert refused.value.status is status and "\n" not in str(refused.value)
-    assert read_answer(["check"], Answer(Status.USAGE, "usage: sketch check|plan\n")) == Usage("usage: sketch check|plan")
-    assert read_answer(["plan"], Answer(Status.REFUSED, "refused line 0 E18 empty\n")) == Refused(0, Code.E18)
-    for status, text in [(Status.REFUSED, "refused line 1 E18 header\n"), (Status.REFUSED, "refused line 1 E99 x\n"),
-                         (Status.USAGE, "\n"), (Status.DONE, "")]:
+    assert read_answer(["check"], Answer(Status.USAGE, "usage: sketch check|plan\n")) == Usage(
+        "usage: sketch check|plan"
+    )
+    assert read_answer(["plan"], Answer(Status.REFUSED, "refused line 0 E18 empty\n")) == Refused(
+        0, Code.E18
+    )
+    for status, text in [
+        (Status.REFUSED, "refused line 1 E18 header\n"),
+        (Status.REFUSED, "refused line 1 E99 x\n"),
+        (Status.USAGE, "\n"),
+        (Status.DONE, ""),
+    ]:
         with pytest.raises(NotAReport):
             read_answer(["check"], Answer(status, text))
     with pytest.raises(NotAReport):
@@ -241,20 +457,36 @@ def test_what_solve_prints_is_a_claim_that_holds(program) -> None:
     text = (EXAMPLES[0].parents[0] / "bracket.sketch").read_text()
     plan = read_plan(program.ask(["plan"], text).text)
     solved = read_solve(program.ask(["solve"], text).text)
-    claim = Claim(Sketch.parse(text), plan.steps, solved.places, solved.length_tolerance_nm, solved.angle_tolerance_ppb)
+    claim = Claim(
+        Sketch.parse(text),
+        plan.steps,
+        solved.places,
+        solved.length_tolerance_nm,
+        solved.angle_tolerance_ppb,
+    )
     assert Claim.parse(claim.text()) == claim
     answer = read_verify(program.ask(["verify"], claim.text()).text)
-    assert answer == Verified(len(plan.steps), solved.length_tolerance_nm, solved.angle_tolerance_ppb)
+    assert answer == Verified(
+        len(plan.steps), solved.length_tolerance_nm, solved.angle_tolerance_ppb
+    )
 
 
 def test_flips_and_offers_of_values(program) -> None:
     sketch = Sketch.parse((EXAMPLES[0].parents[0] / "arm.sketch").read_text())
-    flips = read_flips(program.ask(["flips"], Flips(sketch, (Flip(()), Flip((3,)), Flip((2,)))).text()).text)
+    flips = read_flips(
+        program.ask(["flips"], Flips(sketch, (Flip(()), Flip((3,)), Flip((2,)))).text()).text
+    )
     assert [type(it.answer).__name__ for it in flips] == ["Shape", "Shape", "NoChoice"]
-    offers = Offers(sketch, (Offer(1, (ClusterName(False, 3), ClusterName(False, 2), ClusterName(False, 1))),))
-    assert read_offers(program.ask(["offers"], offers.text()).text).answers[0].answer == Taken(ClusterName(True, 1))
+    offers = Offers(
+        sketch, (Offer(1, (ClusterName(False, 3), ClusterName(False, 2), ClusterName(False, 1))),)
+    )
+    assert read_offers(program.ask(["offers"], offers.text()).text).answers[0].answer == Taken(
+        ClusterName(True, 1)
+    )
 
 
 def test_parts_of_values(program) -> None:
-    report = read_parts(program.ask(["parts"], (EXAMPLES[0].parents[0] / "hinge.sketch").read_text()).text)
+    report = read_parts(
+        program.ask(["parts"], (EXAMPLES[0].parents[0] / "hinge.sketch").read_text()).text
+    )
     assert [len(it.shape.places) for it in report.parts] == [4, 4]

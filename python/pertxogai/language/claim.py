@@ -1,4 +1,5 @@
-"""What `verify` reads: a sketch, and behind it the steps, places and tolerances that someone says of it."""
+"""What `verify` reads: a sketch, and behind it the steps, places and tolerances that someone
+says of it."""
 from __future__ import annotations
 
 import re
@@ -22,8 +23,8 @@ _COUNTS = {"step": (13, 14), "point": (4,), "circle": (5,), "line": (5,), "toler
 
 @dataclass(frozen=True)
 class Claim:
-    """A sketch, and what is said of it: the steps in their order, where elements lie, and within how many nm each
-    length and how many parts per 10^9 each angle and normal holds."""
+    """A sketch, and what is said of it: the steps in their order, where elements lie, and
+    within how many nm each length and how many parts per 10^9 each angle and normal holds."""
 
     sketch: Sketch
     steps: tuple[Step, ...]
@@ -33,8 +34,12 @@ class Claim:
 
     def text(self) -> str:
         """The text that `verify` reads."""
-        lines = [*(step.text() for step in self.steps), *(placed.text() for placed in self.places),
-                 f"tolerance {self.length_tolerance_nm} {self.angle_tolerance_ppb}", ""]
+        lines = [
+            *(step.text() for step in self.steps),
+            *(placed.text() for placed in self.places),
+            f"tolerance {self.length_tolerance_nm} {self.angle_tolerance_ppb}",
+            "",
+        ]
         return self.sketch.text() + "\n".join(lines)
 
     @staticmethod
@@ -68,7 +73,9 @@ class _Reader:
         if len(words) not in _COUNTS[words[0]]:
             raise Faulty(Code.E3)
         if words[0] == "tolerance":
-            self.tolerances = _whole(words[1], 0, MOST_TOLERANCE), _whole(words[2], 0, MOST_TOLERANCE)
+            self.tolerances = _whole(words[1], 0, MOST_TOLERANCE), _whole(
+                words[2], 0, MOST_TOLERANCE
+            )
             return True
         if words[0] == "step":
             self.steps.append(self._step(words))
@@ -81,12 +88,16 @@ class _Reader:
         choices = [choice for choice in Choice if choice.value == " ".join(words[12:])]
         if (words[2], words[6], words[10]) != ("joins", "at", "keeps") or not choices:
             raise Faulty(Code.E2)
-        number, one, two, three, keeps = (_cluster(word) for word in (words[1], *words[3:6], words[11]))
+        number, one, two, three, keeps = (
+            _cluster(word) for word in (words[1], *words[3:6], words[11])
+        )
         if not number.is_step or not all(map(is_name, words[7:10])):
             raise Faulty(Code.E4)
         if any(name not in self.kinds for name in words[7:10]):
             raise Faulty(Code.E6)
-        return Step(number.number, (one, two, three), (words[7], words[8], words[9]), keeps, choices[0])
+        return Step(
+            number.number, (one, two, three), (words[7], words[8], words[9]), keeps, choices[0]
+        )
 
     def _place(self, words: Sequence[str]) -> None:
         """Adds a place. Raises Faulty: E4, E6, E7, E8, E5."""

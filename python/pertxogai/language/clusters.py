@@ -21,7 +21,8 @@ class ClusterName:
 
 
 def read_cluster(word: str) -> ClusterName | None:
-    """The cluster of a word, or None where it is no cluster's name: a number goes from 1 to 999999."""
+    """The cluster of a word, or None where it is no cluster's name: a number goes from 1 to
+    999999."""
     found = _CLUSTER.fullmatch(word)
     return ClusterName(found[1] == "s", int(found[2])) if found else None
 
@@ -38,8 +39,9 @@ class Choice(Enum):
 
 @dataclass(frozen=True)
 class Step:
-    """A step of a plan: the three clusters that it joins, the elements that the first and second, the second and
-    third, and the third and first share, the cluster that stays where it lies, and the choice."""
+    """A step of a plan: the three clusters that it joins, the elements that the first and
+    second, the second and third, and the third and first share, the cluster that stays where it
+    lies, and the choice."""
 
     number: int
     joins: tuple[ClusterName, ClusterName, ClusterName]
@@ -50,5 +52,7 @@ class Step:
     def text(self) -> str:
         """The line of a plan or claim."""
         joins = " ".join(name.text() for name in self.joins)
-        return (f"step s{self.number} joins {joins} at {' '.join(self.at)} keeps {self.keeps.text()}"
-                f" {self.choice.value}")
+        return (
+            f"step s{self.number} joins {joins} at {' '.join(self.at)} keeps {self.keeps.text()}"
+            f" {self.choice.value}"
+        )

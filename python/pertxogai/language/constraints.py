@@ -11,7 +11,8 @@ MOST_PLACES = 16
 
 @dataclass(frozen=True)
 class Distance:
-    """Two points or centres are `length_um` apart, or a point or centre and a line are, in either order."""
+    """Two points or centres are `length_um` apart, or a point or centre and a line are, in
+    either order."""
 
     first: str
     second: str
@@ -31,7 +32,8 @@ class Distance:
 
 @dataclass(frozen=True)
 class On:
-    """A point or centre lies on a line, or a point on a circle: `carrier` is that line or circle."""
+    """A point or centre lies on a line, or a point on a circle: `carrier` is that line or
+    circle."""
 
     point: str
     carrier: str
@@ -47,7 +49,8 @@ class On:
 
 @dataclass(frozen=True)
 class Tangent:
-    """A line and a circle, in either order, touch. On which side the circle lies is as it is drawn."""
+    """A line and a circle, in either order, touch. On which side the circle lies is as it is
+    drawn."""
 
     first: str
     second: str
@@ -95,8 +98,9 @@ class Inside:
 
 @dataclass(frozen=True)
 class Angle:
-    """The angle from the line `first` to the line `second` has the tangent p/q; 1/0 is a right angle. Both numbers
-    are at most 10,000, p isn't 0, q isn't negative; the ratio isn't reduced. Raises NotHeld."""
+    """The angle from the line `first` to the line `second` has the tangent p/q; 1/0 is a right
+    angle. Both numbers are at most 10,000, p isn't 0, q isn't negative; the ratio isn't
+    reduced. Raises NotHeld."""
 
     first: str
     second: str
@@ -131,13 +135,16 @@ class BlockPlace:
 
 @dataclass(frozen=True)
 class Block:
-    """From 2 to 16 points or centres lie towards each other as these places do, not mirrored (version 2)."""
+    """From 2 to 16 points or centres lie towards each other as these places do, not mirrored
+    (version 2)."""
 
     places: tuple[BlockPlace, ...]
 
     def __post_init__(self) -> None:
         if not 2 <= len(self.places) <= MOST_PLACES:
-            raise ValueError(f"a block has from 2 to {MOST_PLACES} places, and this one {len(self.places)}")
+            raise ValueError(
+                f"a block has from 2 to {MOST_PLACES} places, and this one {len(self.places)}"
+            )
 
     def names(self) -> tuple[str, ...]:
         """The elements that it names, in order."""

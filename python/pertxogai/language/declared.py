@@ -38,8 +38,8 @@ class Declared:
         self.constraints += 1
 
     def check_kinds(self, of: type[Constraint], names: tuple[str, ...]) -> None:
-        """Raises Faulty where a name isn't declared (E6), the elements aren't what the constraint takes (E7), or the
-        version doesn't have it (E2)."""
+        """Raises Faulty where a name isn't declared (E6), the elements aren't what the
+        constraint takes (E7), or the version doesn't have it (E2)."""
         if of is Block and self.version == 1:
             raise Faulty(Code.E2)
         if any(name not in self.elements for name in names):

@@ -1,4 +1,5 @@
-"""The elements of a sketch. Places are where they are drawn, in whole micrometres, x to the right and y up."""
+"""The elements of a sketch. Places are where they are drawn, in whole micrometres, x to the
+right and y up."""
 from __future__ import annotations
 
 from dataclasses import dataclass
@@ -27,8 +28,8 @@ class Point:
 
 @dataclass(frozen=True)
 class Line:
-    """A directed line without ends, drawn from (x1_um, y1_um) towards (x2_um, y2_um). Raises NotHeld where these are
-    one place, and NotAName."""
+    """A directed line without ends, drawn from (x1_um, y1_um) towards (x2_um, y2_um). Raises
+    NotHeld where these are one place, and NotAName."""
 
     name: str
     x1_um: int
@@ -41,7 +42,9 @@ class Line:
         for um in self._places():
             checked_um(um)
         if (self.x1_um, self.y1_um) == (self.x2_um, self.y2_um):
-            raise ValueError(f"line {self.name} is drawn through one place twice: draw it through two")
+            raise ValueError(
+                f"line {self.name} is drawn through one place twice: draw it through two"
+            )
 
     def _places(self) -> tuple[int, int, int, int]:
         return self.x1_um, self.y1_um, self.x2_um, self.y2_um
@@ -53,8 +56,8 @@ class Line:
 
 @dataclass(frozen=True)
 class Circle:
-    """A circle whose radius is a dimension, and exact; drawn with its centre at (x_um, y_um). Raises NotHeld and
-    NotAName."""
+    """A circle whose radius is a dimension, and exact; drawn with its centre at (x_um, y_um).
+    Raises NotHeld and NotAName."""
 
     name: str
     x_um: int
@@ -69,7 +72,9 @@ class Circle:
 
     def text(self) -> str:
         """The line of the language."""
-        return " ".join(["circle", self.name, *map(mm_text, (self.x_um, self.y_um, self.radius_um))])
+        return " ".join(
+            ["circle", self.name, *map(mm_text, (self.x_um, self.y_um, self.radius_um))]
+        )
 
 
 Element = Point | Line | Circle

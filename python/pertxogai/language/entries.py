@@ -3,20 +3,51 @@ from __future__ import annotations
 
 from collections.abc import Callable, Sequence
 
-from .constraints import (MOST_PLACES, Angle, Block, BlockPlace, Constraint, Distance, Inside, On, Outside, Tangent)
+from .constraints import (
+    MOST_PLACES,
+    Angle,
+    Block,
+    BlockPlace,
+    Constraint,
+    Distance,
+    Inside,
+    On,
+    Outside,
+    Tangent,
+)
 from .declared import Declared
 from .elements import Circle, Element, Line, Point
 from .names import is_name
 from .numbers import read_ratio, read_um
 from .refusal import Code, Faulty
 
-_COUNTS = {"point": 4, "line": 6, "circle": 5, "distance": 4, "on": 3, "tangent": 3, "outside": 3, "inside": 3,
-           "angle": 4}
+_COUNTS = {
+    "point": 4,
+    "line": 6,
+    "circle": 5,
+    "distance": 4,
+    "on": 3,
+    "tangent": 3,
+    "outside": 3,
+    "inside": 3,
+    "angle": 4,
+}
 _ELEMENTS = ("point", "line", "circle")
-_TOUCHES: dict[str, Callable[[str, str], Constraint]] = {"on": On, "tangent": Tangent, "outside": Outside,
-                                                         "inside": Inside}
-_TYPES: dict[str, type[Constraint]] = {"distance": Distance, "on": On, "tangent": Tangent, "outside": Outside,
-                                       "inside": Inside, "angle": Angle, "block": Block}
+_TOUCHES: dict[str, Callable[[str, str], Constraint]] = {
+    "on": On,
+    "tangent": Tangent,
+    "outside": Outside,
+    "inside": Inside,
+}
+_TYPES: dict[str, type[Constraint]] = {
+    "distance": Distance,
+    "on": On,
+    "tangent": Tangent,
+    "outside": Outside,
+    "inside": Inside,
+    "angle": Angle,
+    "block": Block,
+}
 
 
 def is_element(words: Sequence[str]) -> bool:
@@ -25,7 +56,8 @@ def is_element(words: Sequence[str]) -> bool:
 
 
 def check_shape(words: Sequence[str], version: int) -> None:
-    """Raises Faulty where no line of the version begins so (E2), or it has another number of words (E12, E3)."""
+    """Raises Faulty where no line of the version begins so (E2), or it has another number of
+    words (E12, E3)."""
     first = words[0]
     if first not in _COUNTS and (first != "block" or version == 1):
         raise Faulty(Code.E2)

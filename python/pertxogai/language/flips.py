@@ -1,4 +1,5 @@
-"""What `flips` reads: a sketch, and behind it lists of steps whose choices are to be turned over."""
+"""What `flips` reads: a sketch, and behind it lists of steps whose choices are to be turned
+over."""
 from __future__ import annotations
 
 from collections.abc import Sequence
@@ -15,7 +16,8 @@ MOST_STEPS = 16
 
 @dataclass(frozen=True)
 class Flip:
-    """Up to 16 steps of the plan, by their numbers from 1 to 999999, each once; none is the drawing as it is."""
+    """Up to 16 steps of the plan, by their numbers from 1 to 999999, each once; none is the
+    drawing as it is."""
 
     steps: tuple[int, ...]
 

@@ -18,7 +18,8 @@ _RATIO = re.compile(r"(-?[0-9]{1,5})/([0-9]{1,5})")
 
 
 class NotHeld(ValueError):
-    """A number that the language can't hold. `nearest` is the text of the nearest that it can, or None."""
+    """A number that the language can't hold. `nearest` is the text of the nearest that it can,
+    or None."""
 
     def __init__(self, what: str, nearest: str | None) -> None:
         super().__init__(what + (f"; the nearest is {nearest}" if nearest else ""))
@@ -26,8 +27,9 @@ class NotHeld(ValueError):
 
 
 def micrometres(millimetres: Exact) -> int:
-    """The whole micrometres of a number of millimetres: 2, "2.5", 2.5, Fraction(5, 2), Decimal("2.5"). A float stands
-    for the shortest decimal that reads back as it, so 0.1 is a tenth.
+    """The whole micrometres of a number of millimetres: 2, "2.5", 2.5, Fraction(5, 2),
+    Decimal("2.5"). A float stands for the shortest decimal that reads back as it, so 0.1 is a
+    tenth.
 
     Raises NotHeld where it is no whole number of micrometres, or passes 1,000,000 mm."""
     exact = 1000 * _exact(millimetres)
@@ -52,8 +54,11 @@ def checked_um(value: int | Fraction, least: int = -MOST_UM) -> int:
     nearest = min(max(nearest_whole(value), least), MOST_UM)
     if nearest != value:
         shown = f"{float(Fraction(value) / 1000):.10g} mm"
-        raise NotHeld(f"{shown} isn't held: the language takes whole micrometres from {mm_text(least)} to"
-                      f" {mm_text(MOST_UM)} mm", f"{mm_text(nearest)} mm")
+        raise NotHeld(
+            f"{shown} isn't held: the language takes whole micrometres from {mm_text(least)} to"
+            f" {mm_text(MOST_UM)} mm",
+            f"{mm_text(nearest)} mm",
+        )
     return nearest
 
 
@@ -65,20 +70,27 @@ def checked_length_um(value: int | Fraction) -> int:
 def checked_ratio(p: int, q: int) -> None:
     """Raises NotHeld where the language holds no angle of the tangent p/q."""
     if p == 0:
-        raise NotHeld("an angle of 0 is no constraint: see 'Parallel lines' in docs/LANGUAGE.md", None)
+        raise NotHeld(
+            "an angle of 0 is no constraint: see 'Parallel lines' in docs/LANGUAGE.md", None
+        )
     if q < 0 or abs(p) > MOST_RATIO or q > MOST_RATIO:
-        raise NotHeld(f"the ratio {p}/{q} isn't held: its numbers go to {MOST_RATIO}, the second from 0",
-                      "{}/{}".format(*nearest_ratio(p, q)))
+        raise NotHeld(
+            f"the ratio {p}/{q} isn't held: its numbers go to {MOST_RATIO}, the second from 0",
+            "{}/{}".format(*nearest_ratio(p, q)),
+        )
 
 
 def nearest_ratio(p: int | Fraction, q: int | Fraction) -> tuple[int, int]:
-    """The ratio that the language holds whose tangent (up to 45 degrees) or cotangent is nearest that of p/q."""
+    """The ratio that the language holds whose tangent (up to 45 degrees) or cotangent is
+    nearest that of p/q."""
     if q == 0:
         return (1, 0) if p > 0 else (-1, 0)
     tangent = Fraction(p) / Fraction(q)
     if abs(tangent) <= 1:
         near = tangent.limit_denominator(MOST_RATIO)
-        return (near.numerator, near.denominator) if near else (1 if tangent >= 0 else -1, MOST_RATIO)
+        return (
+            (near.numerator, near.denominator) if near else (1 if tangent >= 0 else -1, MOST_RATIO)
+        )
     near = (1 / tangent).limit_denominator(MOST_RATIO)
     sign = -1 if tangent < 0 else 1
     return sign * near.denominator, abs(near.numerator)
@@ -99,7 +111,8 @@ def mm_text(um: int) -> str:
 
 
 def read_um(word: str) -> int | None:
-    """The micrometres of a number of the language, or None where the word is none or passes its limit."""
+    """The micrometres of a number of the language, or None where the word is none or passes its
+    limit."""
     found = _NUMBER.fullmatch(word)
     if found is None:
         return None
@@ -111,7 +124,8 @@ def read_um(word: str) -> int | None:
 
 
 def read_ratio(word: str) -> tuple[int, int] | None:
-    """The two numbers of a ratio of the language, or None where the word is none or passes its limit."""
+    """The two numbers of a ratio of the language, or None where the word is none or passes its
+    limit."""
     found = _RATIO.fullmatch(word)
     if found is None:
         return None

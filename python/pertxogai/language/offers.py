@@ -41,7 +41,9 @@ class Offers:
 
     def text(self) -> str:
         """The text that `offers` reads."""
-        return self.sketch.text() + "\n".join([*(offer.text() for offer in self.offers), "end", ""])
+        return self.sketch.text() + "\n".join(
+            [*(offer.text() for offer in self.offers), "end", ""]
+        )
 
     @staticmethod
     def parse(text: str) -> Offers:

@@ -19,8 +19,8 @@ class PlacedPoint:
 
 @dataclass(frozen=True)
 class PlacedLine:
-    """All places with a·x + b·y = c: the normal (a, b) in parts per 10^9, c in nanometres. It runs in the direction
-    (b, -a), and its left side is where a·x + b·y is greater than c."""
+    """All places with a·x + b·y = c: the normal (a, b) in parts per 10^9, c in nanometres. It
+    runs in the direction (b, -a), and its left side is where a·x + b·y is greater than c."""
 
     name: str
     a_ppb: int

@@ -13,7 +13,8 @@ MOST_LINE = 200
 
 @dataclass(frozen=True)
 class Row:
-    """A line of a text: its number, from 1, and its bytes without the line feed and one carriage return."""
+    """A line of a text: its number, from 1, and its bytes without the line feed and one
+    carriage return."""
 
     number: int
     bytes: bytes
@@ -64,8 +65,9 @@ def sound_rows(rows: list[Row]) -> Iterator[Row]:
 
 
 def read_lines_behind(rows: list[Row], take: Callable[[Sequence[str]], bool], lines: int) -> None:
-    """Hands the words of each line to `take`, until it says that it has all, and sees that only blank lines follow.
-    There are no comments. lines: how many the whole text has. Raises Refusal (E15, E17, E19, E16, and as `take`)."""
+    """Hands the words of each line to `take`, until it says that it has all, and sees that only
+    blank lines follow. There are no comments. lines: how many the whole text has. Raises
+    Refusal (E15, E17, E19, E16, and as `take`)."""
     is_ended = False
     for row in sound_rows(rows):
         words = row.words(False)

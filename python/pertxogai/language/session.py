@@ -8,7 +8,14 @@ from enum import Enum
 
 from .constraints import Constraint
 from .elements import Element
-from .entries import check_shape, is_element, read_constraint, read_element, read_length, read_tangent
+from .entries import (
+    check_shape,
+    is_element,
+    read_constraint,
+    read_element,
+    read_length,
+    read_tangent,
+)
 from .names import checked_name, is_name
 from .numbers import checked_length_um, checked_ratio, mm_text
 from .refusal import Code, Faulty
@@ -81,7 +88,8 @@ class Erase:
 
 
 class Ask(Enum):
-    """A line that is one word: a question about the sketch as it is now, or the undoing of an edit."""
+    """A line that is one word: a question about the sketch as it is now, or the undoing of an
+    edit."""
 
     CHECK = "check"
     PLAN = "plan"
@@ -109,8 +117,8 @@ class Session:
 
     @staticmethod
     def parse(text: str) -> Session:
-        """The session that a text is, up to its `end`. Raises Refusal at a line that is none of any session, by the
-        code that the program answers it with."""
+        """The session that a text is, up to its `end`. Raises Refusal at a line that is none of
+        any session, by the code that the program answers it with."""
         lines: list[SessionLine] = []
         for row in sound_rows(rows_of(text)):
             words = row.words(True)

@@ -14,10 +14,11 @@ from .rows import Row, has_word, rows_of, sound_rows
 
 @dataclass(frozen=True)
 class Sketch:
-    """A sketch of version 1 or 2: its elements and constraints, each numbered from 1 in their order.
+    """A sketch of version 1 or 2: its elements and constraints, each numbered from 1 in their
+    order.
 
-    Raises Refusal where it is none of the language: a name that is taken or unknown, elements of the wrong kind, a
-    block in version 1. The line that it names is that of `text()`."""
+    Raises Refusal where it is none of the language: a name that is taken or unknown, elements
+    of the wrong kind, a block in version 1. The line that it names is that of `text()`."""
 
     version: int
     elements: tuple[Element, ...]
@@ -38,7 +39,8 @@ class Sketch:
             raise Refusal(Refused(2, Code.E18))
 
     def text(self) -> str:
-        """The text in canonical spelling: header, elements, constraints, `end`. Comments aren't kept."""
+        """The text in canonical spelling: header, elements, constraints, `end`. Comments aren't
+        kept."""
         lines = [f"sketch {self.version}"]
         lines += [element.text() for element in self.elements]
         lines += [constraint.text() for constraint in self.constraints]
@@ -46,7 +48,8 @@ class Sketch:
 
     @staticmethod
     def parse(text: str) -> Sketch:
-        """The sketch that a text is. Raises Refusal, with the line and code that the program answers."""
+        """The sketch that a text is. Raises Refusal, with the line and code that the program
+        answers."""
         sketch, rest = read_sketch(rows_of(text))
         for row in sound_rows(rest):
             if row.words(sketch.version == 2):
@@ -55,7 +58,8 @@ class Sketch:
 
 
 def read_sketch(rows: list[Row]) -> tuple[Sketch, list[Row]]:
-    """The sketch that lines begin with, up to its `end`, and the lines behind that. Raises Refusal."""
+    """The sketch that lines begin with, up to its `end`, and the lines behind that. Raises
+    Refusal."""
     if not has_word(rows):
         raise Refusal(Refused(0, Code.E18))
     reader = _Reader()
@@ -65,7 +69,7 @@ def read_sketch(rows: list[Row]) -> tuple[Sketch, list[Row]]:
         except Faulty as fault:
             raise row.refusal(fault.code) from None
         if reader.is_ended:
-            return reader.sketch(), rows[row.number:]
+            return reader.sketch(), rows[row.number :]
     raise Refusal(Refused(len(rows) + 1, Code.E16))
 
 
@@ -99,7 +103,9 @@ class _Reader:
     def sketch(self) -> Sketch:
         """The sketch of the lines that were taken."""
         assert self.declared is not None
-        return Sketch(self.declared.version, tuple(self.declared.elements.values()), tuple(self.constraints))
+        return Sketch(
+            self.declared.version, tuple(self.declared.elements.values()), tuple(self.constraints)
+        )
 
 
 def add_entry(words: Sequence[str], declared: Declared, constraints: list[Constraint]) -> None:

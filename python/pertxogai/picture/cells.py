@@ -1,4 +1,5 @@
-"""What lies where on a page: things by the cells that they touch, so that few are looked at for a place."""
+"""What lies where on a page: things by the cells that they touch, so that few are looked at for
+a place."""
 from __future__ import annotations
 
 from collections.abc import Iterator
@@ -24,8 +25,12 @@ class Cells(Generic[T]):
 
     def add_segment(self, thing: T, one: Spot, two: Spot, width: float) -> None:
         """Adds a thing that lies along a segment, within so many pixels of it."""
-        box = (min(one[0], two[0]) - width, min(one[1], two[1]) - width,
-               max(one[0], two[0]) + width, max(one[1], two[1]) + width)
+        box = (
+            min(one[0], two[0]) - width,
+            min(one[1], two[1]) - width,
+            max(one[0], two[0]) + width,
+            max(one[1], two[1]) + width,
+        )
         for column, row in _cells_of(box):
             left, top = column * SIZE - width, row * SIZE - width
             if crosses(one, two, (left, top, left + SIZE + 2 * width, top + SIZE + 2 * width)):

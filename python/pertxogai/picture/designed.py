@@ -1,4 +1,5 @@
-"""Pictures of a designer's drawing: as drawn, or as placed, with the dimensions that were asked for."""
+"""Pictures of a designer's drawing: as drawn, or as placed, with the dimensions that were asked
+for."""
 from __future__ import annotations
 
 import math
@@ -6,11 +7,45 @@ from collections.abc import Iterator, Mapping, Sequence
 from dataclasses import dataclass, field
 from fractions import Fraction
 
-from ..drawing import (AngleBetween, Arc, Axis, Circle, Constraint, Degrees, Diameter, Distance, Drawing, Length, Pair,
-                       ParallelDistance, Point, PointLineDistance, PointRef, Radius, Segment, Shape, ShapeRef, Which,
-                       XDistance, YDistance)
+from ..drawing import (
+    AngleBetween,
+    Arc,
+    Axis,
+    Circle,
+    Constraint,
+    Degrees,
+    Diameter,
+    Distance,
+    Drawing,
+    Length,
+    Pair,
+    ParallelDistance,
+    Point,
+    PointLineDistance,
+    PointRef,
+    Radius,
+    Segment,
+    Shape,
+    ShapeRef,
+    Which,
+    XDistance,
+    YDistance,
+)
 from ..measure import Solution
-from .marks import Bow, Dimension, Dot, Ink, LengthBar, Manner, Mark, Ring, Scene, Spot, Stroke, Tag
+from .marks import (
+    Bow,
+    Dimension,
+    Dot,
+    Ink,
+    LengthBar,
+    Manner,
+    Mark,
+    Ring,
+    Scene,
+    Spot,
+    Stroke,
+    Tag,
+)
 from .plane import between, crossing, foot, sweep, unit
 from .svg import Picture, picture_of
 
@@ -20,22 +55,30 @@ SPARE = Ink(Manner.SPARE)
 
 @dataclass(frozen=True)
 class Marking:
-    """What a picture of a drawing tells beside its shapes: the part of each shape, by its name; which constraints may
-    go, by their places from 1; and the lines below."""
+    """What a picture of a drawing tells beside its shapes: the part of each shape, by its name;
+    which constraints may go, by their places from 1; and the lines below."""
 
     parts: Mapping[str, int] = field(default_factory=dict)
     spare: frozenset[int] = frozenset()
     legend: tuple[tuple[str, Ink], ...] = ()
 
 
-def picture_of_designed(drawing: Drawing, solution: Solution | None = None, title: str = "a drawing",
-                        marking: Marking = Marking()) -> Picture:
+def picture_of_designed(
+    drawing: Drawing,
+    solution: Solution | None = None,
+    title: str = "a drawing",
+    marking: Marking = Marking(),
+) -> Picture:
     """A drawing as it is, or where its points are placed, seen from its datum."""
     return picture_of(scene_of_designed(drawing, solution, title, marking))
 
 
-def scene_of_designed(drawing: Drawing, solution: Solution | None = None, title: str = "a drawing",
-                      marking: Marking = Marking()) -> Scene:
+def scene_of_designed(
+    drawing: Drawing,
+    solution: Solution | None = None,
+    title: str = "a drawing",
+    marking: Marking = Marking(),
+) -> Scene:
     """The same as a scene, to which more can be added."""
     where = Whereabouts(drawing, solution)
     marks = tuple(where.mark(shape, marking.parts.get(shape.name)) for shape in drawing.geometry)
@@ -94,13 +137,18 @@ class Whereabouts:
         return self.at(PointRef(name, Which.START)), self.at(PointRef(name, Which.END))
 
     def spare(self, constraint: Constraint, name: str) -> Sequence[Dimension]:
-        """A constraint that may go: its dimension, or its name at the first thing that it names."""
+        """A constraint that may go: its dimension, or its name at the first thing that it
+        names."""
         shown = list(self.dimensions(constraint, SPARE))
-        of = next((it for it in vars(constraint).values() if isinstance(it, (PointRef, ShapeRef, Pair))), None)
+        of = next(
+            (it for it in vars(constraint).values() if isinstance(it, (PointRef, ShapeRef, Pair))),
+            None,
+        )
         return shown or ([Tag(self._place_of(of), 0.0, name, SPARE)] if of else [])
 
     def _place_of(self, thing: PointRef | ShapeRef | Pair) -> Spot:
-        """A place at which a text tells of a thing: a point, or the middle of a segment, arc or circle."""
+        """A place at which a text tells of a thing: a point, or the middle of a segment, arc or
+        circle."""
         if isinstance(thing, Pair):
             return between(self.at(thing.first), self.at(thing.second), 0.5)
         if isinstance(thing, PointRef):
@@ -117,14 +165,16 @@ class Whereabouts:
             case Distance(first, second, value):
                 yield LengthBar(self.at(first), self.at(second), mm(value), ink)
             case XDistance(first, second, value) | YDistance(first, second, value):
-                yield self._run(isinstance(constraint, XDistance), self.at(first), self.at(second), mm(abs(value)), ink)
+                is_x = isinstance(constraint, XDistance)
+                yield self._run(is_x, self.at(first), self.at(second), mm(abs(value)), ink)
             case PointLineDistance(point, line, value):
-                yield LengthBar(self.at(point), foot(self.at(point), *self.ends(line.name)), mm(value), ink)
+                yield self._height(self.at(point), line, mm(value), ink)
             case ParallelDistance(first, second, value):
-                start = between(*self.ends(first.name), 0.5)
-                yield LengthBar(start, foot(start, *self.ends(second.name)), mm(value), ink)
-            case Radius(rim, value) | Diameter(rim, value):
-                yield Tag(*self._rim(rim), f"{'R' if isinstance(constraint, Radius) else 'Ø'}{mm(value)}", ink)
+                yield self._height(between(*self.ends(first.name), 0.5), second, mm(value), ink)
+            case Radius(rim, value):
+                yield Tag(*self._rim(rim), f"R{mm(value)}", ink)
+            case Diameter(rim, value):
+                yield Tag(*self._rim(rim), f"Ø{mm(value)}", ink)
             case AngleBetween():
                 yield self._angle(constraint, ink)
 
@@ -132,6 +182,10 @@ class Whereabouts:
         """A dimension along an axis, at the height of its second point."""
         start = (first[0], second[1]) if is_x else (second[0], first[1])
         return LengthBar(start, second, text, ink)
+
+    def _height(self, start: Spot, line: ShapeRef, text: str, ink: Ink) -> Dimension:
+        """A dimension from a place straight to a line."""
+        return LengthBar(start, foot(start, *self.ends(line.name)), text, ink)
 
     def _rim(self, rim: ShapeRef) -> tuple[Spot, float]:
         """Where the dimension of a rim stands: around a circle, or at the middle of an arc."""
@@ -145,10 +199,18 @@ class Whereabouts:
     def _angle(self, angle: AngleBetween, ink: Ink) -> Dimension:
         one, two = self.ends(angle.first.name), self.ends(angle.second.name)
         corner = crossing(one, two)
-        near = corner is not None and min(math.dist(corner, end) for end in (*one, *two)) <= math.dist(*one)
+        near = corner is not None and min(
+            math.dist(corner, end) for end in (*one, *two)
+        ) <= math.dist(*one)
         value = angle.value
-        degrees = float(value.value) if isinstance(value, Degrees) else math.degrees(math.atan2(value.p, value.q))
-        return Tag(corner if corner and near else between(*two, 0.5), 0.0, f"{abs(degrees):.4g}°", ink)
+        degrees = (
+            float(value.value)
+            if isinstance(value, Degrees)
+            else math.degrees(math.atan2(value.p, value.q))
+        )
+        return Tag(
+            corner if corner and near else between(*two, 0.5), 0.0, f"{abs(degrees):.4g}°", ink
+        )
 
 
 def mm(um: Fraction) -> str:

@@ -19,7 +19,8 @@ class Manner(Enum):
 
 @dataclass(frozen=True)
 class Ink:
-    """How a mark is drawn, and of which part it has the colour: a number from 1, or None for the one colour."""
+    """How a mark is drawn, and of which part it has the colour: a number from 1, or None for
+    the one colour."""
 
     manner: Manner = Manner.EDGE
     part: int | None = None
@@ -80,7 +81,8 @@ class LengthBar:
 
 @dataclass(frozen=True)
 class Tag:
-    """A text near a place, as that of an angle at a corner; or, with a radius, outside or inside of a rim."""
+    """A text near a place, as that of an angle at a corner; or, with a radius, outside or
+    inside of a rim."""
 
     at: Spot
     radius: float
@@ -90,7 +92,8 @@ class Tag:
 
 @dataclass(frozen=True)
 class Square:
-    """The small square of a right angle in the corner at a place, with sides along two directions."""
+    """The small square of a right angle in the corner at a place, with sides along two
+    directions."""
 
     at: Spot
     first: Spot

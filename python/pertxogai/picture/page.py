@@ -15,7 +15,8 @@ ROOM = 2600.0
 
 @dataclass(frozen=True)
 class Page:
-    """A page on which millimetres (y up) are pixels (y down): so many a millimetre, with `middle` in its middle."""
+    """A page on which millimetres (y up) are pixels (y down): so many a millimetre, with
+    `middle` in its middle."""
 
     width: float
     height: float
@@ -24,13 +25,18 @@ class Page:
 
     def at(self, place: Spot) -> Spot:
         """The pixel of a place."""
-        return (self.width / 2 + (place[0] - self.middle[0]) * self.scale,
-                self.height / 2 - (place[1] - self.middle[1]) * self.scale)
+        return (
+            self.width / 2 + (place[0] - self.middle[0]) * self.scale,
+            self.height / 2 - (place[1] - self.middle[1]) * self.scale,
+        )
 
     @staticmethod
     def fitted(scene: Scene) -> Page:
-        """The page that holds a scene: larger the more there is to name, and no higher than it need be."""
-        spots = [spot for mark in (*scene.marks, *scene.dimensions) for spot in _corners(mark)] or [(0.0, 0.0)]
+        """The page that holds a scene: larger the more there is to name, and no higher than it
+        need be."""
+        spots = [
+            spot for mark in (*scene.marks, *scene.dimensions) for spot in _corners(mark)
+        ] or [(0.0, 0.0)]
         low = min(x for x, _ in spots), min(y for _, y in spots)
         high = max(x for x, _ in spots), max(y for _, y in spots)
         wide, tall = max(high[0] - low[0], 1e-3), max(high[1] - low[1], 1e-3)
@@ -41,8 +47,9 @@ class Page:
 
 
 def _scale(wide: float, tall: float, count: int) -> float:
-    """The pixels of a millimetre, for a scene so wide and tall that has so many things: as many as fit the page, or
-    more where each wouldn't have its room; but no side gets longer than MOST."""
+    """The pixels of a millimetre, for a scene so wide and tall that has so many things: as many
+    as fit the page, or more where each wouldn't have its room; but no side gets longer than
+    MOST."""
     fits = min((WIDTH - 2 * MARGIN) / wide, (HEIGHT - 2 * MARGIN) / tall)
     roomy = math.sqrt(ROOM * count / (max(wide, tall / 6) * max(tall, wide / 6)))
     return min(max(fits, roomy), MOST / max(wide, tall))
@@ -70,12 +77,16 @@ def arc_places(arc: Bow) -> Sequence[Spot]:
     radius = math.dist(arc.centre, arc.start)
     count = max(int(turn * 16), 2)
     angles = (first + turn * k / count for k in range(count + 1))
-    return [(arc.centre[0] + radius * math.cos(it), arc.centre[1] + radius * math.sin(it)) for it in angles]
+    return [
+        (arc.centre[0] + radius * math.cos(it), arc.centre[1] + radius * math.sin(it))
+        for it in angles
+    ]
 
 
 @dataclass(frozen=True)
 class Figure:
-    """A mark on the page: its places in pixels (of an arc many, in order), and its radius if it is a circle."""
+    """A mark on the page: its places in pixels (of an arc many, in order), and its radius if it
+    is a circle."""
 
     mark: Mark
     places: tuple[Spot, ...]

@@ -1,11 +1,23 @@
-"""Where the elements of a sketch lie for a picture: as drawn, as placed, or as placed and laid on the drawing."""
+"""Where the elements of a sketch lie for a picture: as drawn, as placed, or as placed and laid
+on the drawing."""
 from __future__ import annotations
 
 import math
 from collections.abc import Iterable, Sequence
 from dataclasses import dataclass
 
-from ..language import Circle, Distance, Element, Line, On, Placed, PlacedCircle, PlacedLine, Sketch, Tangent
+from ..language import (
+    Circle,
+    Distance,
+    Element,
+    Line,
+    On,
+    Placed,
+    PlacedCircle,
+    PlacedLine,
+    Sketch,
+    Tangent,
+)
 from .marks import Spot
 from .plane import between, foot, unit
 
@@ -78,29 +90,40 @@ class Motion:
 
     def lay(self, elements: Iterable[LaidElement]) -> tuple[LaidElement, ...]:
         """The elements, moved."""
-        return tuple(Laid(it.name, self.of(it.at), it.radius) if isinstance(it, Laid) else
-                     LaidLine(it.name, self.of(it.through), self.turned(it.way)) for it in elements)
+        return tuple(
+            Laid(it.name, self.of(it.at), it.radius)
+            if isinstance(it, Laid)
+            else LaidLine(it.name, self.of(it.through), self.turned(it.way))
+            for it in elements
+        )
 
 
-def laid_on(elements: Sequence[LaidElement], drawing: Sequence[LaidElement]) -> tuple[LaidElement, ...]:
-    """The elements, moved so that they lie nearest to the same ones of a drawing: points and centres by least squares,
-    lines by their directions and by how far off the drawn places they run."""
+def laid_on(
+    elements: Sequence[LaidElement], drawing: Sequence[LaidElement]
+) -> tuple[LaidElement, ...]:
+    """The elements, moved so that they lie nearest to the same ones of a drawing: points and
+    centres by least squares, lines by their directions and by how far off the drawn places they
+    run."""
     drawn = {it.name: it for it in drawing}
-    points = [(one.at, two.at) for one in elements if isinstance(one, Laid)
-              for two in [drawn[one.name]] if isinstance(two, Laid)]
-    lines = [(one, two) for one in elements if isinstance(one, LaidLine)
-             for two in [drawn[one.name]] if isinstance(two, LaidLine)]
+    pairs = [(one, drawn[one.name]) for one in elements]
+    points = [(a.at, b.at) for a, b in pairs if isinstance(a, Laid) and isinstance(b, Laid)]
+    lines = [(a, b) for a, b in pairs if isinstance(a, LaidLine) and isinstance(b, LaidLine)]
     cos, sin = _turn(points, lines)
     turn = Motion(cos, sin, (0.0, 0.0))
-    shift = _shift([(turn.of(one), two) for one, two in points],
-                   [(turn.of(one.through), turn.turned(one.way), two.through) for one, two in lines])
+    shift = _shift(
+        [(turn.of(one), two) for one, two in points],
+        [(turn.of(one.through), turn.turned(one.way), two.through) for one, two in lines],
+    )
     return Motion(cos, sin, shift).lay(elements)
 
 
 def _turn(points: Sequence[tuple[Spot, Spot]], lines: Sequence[tuple[LaidLine, LaidLine]]) -> Spot:
     """The turn (cosine and sine) that brings the first of each pair nearest to the second."""
     froms, tos = _mean([one for one, _ in points]), _mean([two for _, two in points])
-    ways = [((one[0] - froms[0], one[1] - froms[1]), (two[0] - tos[0], two[1] - tos[1])) for one, two in points]
+    ways = [
+        ((one[0] - froms[0], one[1] - froms[1]), (two[0] - tos[0], two[1] - tos[1]))
+        for one, two in points
+    ]
     spread = sum(math.dist(two, tos) ** 2 for _, two in points) / max(len(points), 1) or 1.0
     dot = sum(ux * vx + uy * vy for (ux, uy), (vx, vy) in ways)
     cross = sum(ux * vy - uy * vx for (ux, uy), (vx, vy) in ways)
@@ -112,7 +135,8 @@ def _turn(points: Sequence[tuple[Spot, Spot]], lines: Sequence[tuple[LaidLine, L
 
 
 def _shift(points: Sequence[tuple[Spot, Spot]], lines: Sequence[tuple[Spot, Spot, Spot]]) -> Spot:
-    """The shift that brings turned points nearest to drawn ones, and turned lines (a place, a way) to drawn places."""
+    """The shift that brings turned points nearest to drawn ones, and turned lines (a place, a
+    way) to drawn places."""
     xx, xy, yy, x, y = 1e-9, 0.0, 1e-9, 0.0, 0.0
     for (fx, fy), (tx, ty) in points:
         xx, yy, x, y = xx + 1, yy + 1, x + tx - fx, y + ty - fy
@@ -131,8 +155,9 @@ def _mean(spots: Sequence[Spot]) -> Spot:
 
 
 def segments(sketch: Sketch, laid: Sequence[LaidElement]) -> dict[str, tuple[Spot, Spot]]:
-    """The segment that stands for each line: over the nearest places to the points and centres that a `distance`, `on`
-    or `tangent` ties to it, and 10 mm to either side where that is one place or none, as `dxf` draws it."""
+    """The segment that stands for each line: over the nearest places to the points and centres
+    that a `distance`, `on` or `tangent` ties to it, and 10 mm to either side where that is one
+    place or none, as `dxf` draws it."""
     places = {it.name: it for it in laid}
     ties: dict[str, list[Spot]] = {it.name: [] for it in laid if isinstance(it, LaidLine)}
     for constraint in sketch.constraints:

@@ -1,4 +1,5 @@
-"""Plane geometry for pictures, in floating point: nothing that is told as a number comes from here."""
+"""Plane geometry for pictures, in floating point: nothing that is told as a number comes from
+here."""
 from __future__ import annotations
 
 import math
@@ -65,7 +66,8 @@ def overlaps(one: Box, two: Box) -> bool:
 
 
 def sweep(centre: Spot, start: Spot, end: Spot) -> tuple[float, float]:
-    """The angle at which an arc starts, and how far it goes counter-clockwise, in radians, above 0."""
+    """The angle at which an arc starts, and how far it goes counter-clockwise, in radians,
+    above 0."""
     first = math.atan2(start[1] - centre[1], start[0] - centre[0])
     turn = (math.atan2(end[1] - centre[1], end[0] - centre[0]) - first) % math.tau
     return first, turn or math.tau

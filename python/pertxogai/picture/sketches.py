@@ -8,9 +8,32 @@ from functools import cached_property
 
 from ..language import Angle, Block, Constraint, Distance, Sketch
 from ..language.numbers import mm_text
-from ..reports import PartsReport, Shape, Solved, Spare
-from .marks import Dimension, Dot, Ink, LengthBar, Manner, Mark, Ring, Scene, Spot, Square, Stroke, Tag
-from .placed import Laid, LaidElement, LaidLine, as_drawn, as_placed, foot_on, laid_on, middle_of, segments
+from ..reports import Part, PartsReport, PlacedPart, Shape, Solved, Spare
+from .marks import (
+    Dimension,
+    Dot,
+    Ink,
+    LengthBar,
+    Manner,
+    Mark,
+    Ring,
+    Scene,
+    Spot,
+    Square,
+    Stroke,
+    Tag,
+)
+from .placed import (
+    Laid,
+    LaidElement,
+    LaidLine,
+    as_drawn,
+    as_placed,
+    foot_on,
+    laid_on,
+    middle_of,
+    segments,
+)
 from .plane import crossing, unit
 from .svg import Picture, picture_of
 
@@ -21,36 +44,56 @@ SPARE = Ink(Manner.SPARE)
 def picture_of_drawing(sketch: Sketch, title: str = "a sketch as drawn") -> Picture:
     """The sketch as it is drawn, with its dimensions."""
     layout = _Layout(sketch, as_drawn(sketch.elements))
-    return picture_of(Scene(title, tuple(layout.marks(Ink())), tuple(layout.dimensions(sketch.constraints, BAR))))
+    return picture_of(
+        Scene(title, tuple(layout.marks(Ink())), tuple(layout.dimensions(sketch.constraints, BAR)))
+    )
 
 
 def picture_of_shape(sketch: Sketch, shape: Shape, title: str = "a sketch as placed") -> Picture:
     """The sketch as it is placed, in the frame of its places, with its dimensions."""
     layout = _Layout(sketch, as_placed(shape.places))
-    return picture_of(Scene(title, tuple(layout.marks(Ink())), tuple(layout.dimensions(sketch.constraints, BAR))))
+    return picture_of(
+        Scene(title, tuple(layout.marks(Ink())), tuple(layout.dimensions(sketch.constraints, BAR)))
+    )
 
 
-def picture_of_parts(sketch: Sketch, report: PartsReport, spare: Sequence[Spare] = (),
-                     title: str = "the parts of a sketch") -> Picture:
-    """The parts of a sketch, each in a colour, with its own shape laid on the drawing; one without a shape as it is
-    drawn. Constraints of `spare`, of which each may go by itself, are marked."""
-    drawn = as_drawn(sketch.elements)
+def picture_of_parts(
+    sketch: Sketch,
+    report: PartsReport,
+    spare: Sequence[Spare] = (),
+    title: str = "the parts of a sketch",
+) -> Picture:
+    """The parts of a sketch, each in a colour, with its own shape laid on the drawing; one
+    without a shape as it is drawn. Constraints of `spare`, of which each may go by itself, are
+    marked."""
     marks: list[Mark] = []
     dimensions: list[Dimension] = []
     legend: list[tuple[str, Ink]] = []
     may_go = {it.number for it in spare}
     for placed in report.parts:
-        names = set(placed.part.elements)
-        elements: Sequence[LaidElement] = [it for it in drawn if it.name in names]
-        if isinstance(placed.shape, Solved):
-            elements = laid_on(as_placed(placed.shape.places), drawn)
-        layout, ink = _Layout(sketch, elements), Ink(part=placed.part.number)
-        own = [(number, it) for number, it in enumerate(sketch.constraints, 1) if names.issuperset(it.names())]
+        layout, ink = _layout_of(sketch, placed), Ink(part=placed.part.number)
+        own = _own(sketch, placed.part)
         marks += layout.marks(ink)
         dimensions += layout.dimensions([it for number, it in own if number not in may_go], BAR)
         dimensions += layout.marked(own, may_go)
         legend.append((_legend(placed.part.text(), placed.shape), ink))
-    return picture_of(Scene(title, _once(marks), tuple(dimensions), (*legend, *_spare_legend(spare))))
+    below = (*legend, *_spare_legend(spare))
+    return picture_of(Scene(title, _once(marks), tuple(dimensions), below))
+
+
+def _layout_of(sketch: Sketch, placed: PlacedPart) -> _Layout:
+    """A part where its own shape is laid on the drawing, or as it is drawn."""
+    drawn = as_drawn(sketch.elements)
+    if isinstance(placed.shape, Solved):
+        return _Layout(sketch, laid_on(as_placed(placed.shape.places), drawn))
+    return _Layout(sketch, [it for it in drawn if it.name in placed.part.elements])
+
+
+def _own(sketch: Sketch, part: Part) -> list[tuple[int, Constraint]]:
+    """The constraints that name elements of a part alone, with their numbers."""
+    names = set(part.elements)
+    numbered = enumerate(sketch.constraints, 1)
+    return [(number, it) for number, it in numbered if names.issuperset(it.names())]
 
 
 def _once(marks: Sequence[Mark]) -> tuple[Mark, ...]:
@@ -58,7 +101,13 @@ def _once(marks: Sequence[Mark]) -> tuple[Mark, ...]:
     seen: set[tuple[str, Spot]] = set()
     kept = []
     for mark in marks:
-        at = mark.start if isinstance(mark, Stroke) else mark.at if isinstance(mark, Dot) else mark.centre
+        at = (
+            mark.start
+            if isinstance(mark, Stroke)
+            else mark.at
+            if isinstance(mark, Dot)
+            else mark.centre
+        )
         key = mark.name, (round(at[0], 3), round(at[1], 3))
         if key not in seen:
             kept.append(mark)
@@ -105,7 +154,9 @@ class _Layout:
             if isinstance(it, LaidLine):
                 yield Stroke(*self.lines[it.name], it.name, ink)
             else:
-                yield Ring(it.at, it.radius, it.name, ink) if it.radius else Dot(it.at, it.name, ink)
+                yield Ring(it.at, it.radius, it.name, ink) if it.radius else Dot(
+                    it.at, it.name, ink
+                )
 
     def dimensions(self, constraints: Sequence[Constraint], ink: Ink) -> Iterator[Dimension]:
         """The dimensions of constraints, and the radii of circles."""
@@ -116,7 +167,9 @@ class _Layout:
                 if isinstance(it, Laid) and it.radius:
                     yield Tag(it.at, it.radius, f"R{mm_text(round(it.radius * 1000))}", ink)
 
-    def marked(self, own: Sequence[tuple[int, Constraint]], may_go: set[int]) -> Iterator[Dimension]:
+    def marked(
+        self, own: Sequence[tuple[int, Constraint]], may_go: set[int]
+    ) -> Iterator[Dimension]:
         """Those constraints that may go, with their numbers."""
         for number, constraint in own:
             if number in may_go:
@@ -126,25 +179,39 @@ class _Layout:
     def _tag(self, constraint: Constraint, number: int) -> Dimension:
         """A constraint that has no dimension, as a text near its first element."""
         names = constraint.names()
-        at = next((self.at[name] for name in names if name in self.at), None) or middle_of(self.lines[names[0]])
+        at = next((self.at[name] for name in names if name in self.at), None) or middle_of(
+            self.lines[names[0]]
+        )
         return Tag(at, 0.0, f"c{number} {constraint.text().split()[0]}", SPARE)
 
-    def _dimensions(self, constraint: Constraint, ink: Ink, number: str | None) -> Iterator[Dimension]:
+    def _dimensions(
+        self, constraint: Constraint, ink: Ink, number: str | None
+    ) -> Iterator[Dimension]:
         if isinstance(constraint, Distance):
             yield from self._distance(constraint, ink, number)
         elif isinstance(constraint, Angle):
             yield from self._angle(constraint, ink, number)
         elif isinstance(constraint, Block):
             names = constraint.names()
-            sides = [(names[0], names[1])] if len(names) == 2 else list(zip(names, names[1:] + names[:1]))
+            sides = (
+                [(names[0], names[1])]
+                if len(names) == 2
+                else list(zip(names, names[1:] + names[:1]))
+            )
             for place, (one, two) in enumerate(sides):
-                yield LengthBar(self.at[one], self.at[two], number if number and not place else "", ink)
+                yield LengthBar(
+                    self.at[one], self.at[two], number if number and not place else "", ink
+                )
 
     def _distance(self, constraint: Distance, ink: Ink, number: str | None) -> Iterator[Dimension]:
         first, second = constraint.names()
         if first in self.lines:
             first, second = second, first
-        end = foot_on(self.at[first], self.lines[second]) if second in self.lines else self.at[second]
+        end = (
+            foot_on(self.at[first], self.lines[second])
+            if second in self.lines
+            else self.at[second]
+        )
         text = mm_text(constraint.length_um)
         yield LengthBar(self.at[first], end, f"{number}: {text}" if number else text, ink)
 

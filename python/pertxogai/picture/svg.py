@@ -57,10 +57,18 @@ class _Drawer:
     def __init__(self, scene: Scene) -> None:
         self.scene, self.page = scene, Page.fitted(scene)
         self.figures = [Figure.of(mark, self.page) for mark in scene.marks]
-        self.legend = [(row, ink) for words, ink in scene.legend
-                       for row in wrap(words, int((self.page.width - 28) / LEGEND_LETTER), subsequent_indent="    ")]
-        self.bars = [(self.page.at(it.start), self.page.at(it.end), it)
-                     for it in scene.dimensions if isinstance(it, LengthBar)]
+        self.legend = [
+            (row, ink)
+            for words, ink in scene.legend
+            for row in wrap(
+                words, int((self.page.width - 28) / LEGEND_LETTER), subsequent_indent="    "
+            )
+        ]
+        self.bars = [
+            (self.page.at(it.start), self.page.at(it.end), it)
+            for it in scene.dimensions
+            if isinstance(it, LengthBar)
+        ]
 
     def lines(self) -> Iterator[str]:
         """The lines of the SVG."""
@@ -79,7 +87,9 @@ class _Drawer:
         yield "</svg>"
 
     def _part_styles(self) -> Iterator[str]:
-        inks = [it.ink for it in (*self.scene.marks, *self.scene.dimensions)] + [ink for _, ink in self.scene.legend]
+        inks = [it.ink for it in (*self.scene.marks, *self.scene.dimensions)] + [
+            ink for _, ink in self.scene.legend
+        ]
         for part in sorted({ink.part or 0 for ink in inks}):
             colour = COLOURS[max(part - 1, 0) % len(COLOURS)]
             yield f"    .p{part} {{ stroke: {colour} }} .f{part} {{ fill: {colour} }}\n"
@@ -94,7 +104,9 @@ class _Drawer:
                 texts.put_beside(bar.text, start, end, bar.ink)
         for tag in self.scene.dimensions:
             if isinstance(tag, Tag):
-                texts.put_near(tag.text, self.page.at(tag.at), tag.radius * self.page.scale, tag.ink)
+                texts.put_near(
+                    tag.text, self.page.at(tag.at), tag.radius * self.page.scale, tag.ink
+                )
         return texts.written
 
     def _squares(self) -> Iterator[str]:
@@ -103,16 +115,19 @@ class _Drawer:
                 x, y = self.page.at(it.at)
                 (ux, uy), (vx, vy) = ((8 * way[0], -8 * way[1]) for way in (it.first, it.second))
                 spots = ((x + ux, y + uy), (x + ux + vx, y + uy + vy), (x + vx, y + vy))
-                yield f'  <polyline {_class(it.ink)} points="{" ".join(f"{a:.1f},{b:.1f}" for a, b in spots)}"/>'
+                points = " ".join(f"{a:.1f},{b:.1f}" for a, b in spots)
+                yield f'  <polyline {_class(it.ink)} points="{points}"/>'
 
     def _legend(self) -> Iterator[str]:
         for row, (words, ink) in enumerate(self.legend):
             x, y = 14 if words == words.lstrip() else 28, self.page.height + LEGEND_LINE * row + 6
-            yield f'  <text class="legend" {_fill(ink)} x="{x}" y="{y:.1f}">{escape(words.strip())}</text>'
+            place = f'x="{x}" y="{y:.1f}"'
+            yield f'  <text class="legend" {_fill(ink)} {place}>{escape(words.strip())}</text>'
 
 
 def _order(figure: Figure) -> int:
-    """Names of circles first, since those can stand within them, then of points, then of lines and arcs."""
+    """Names of circles first, since those can stand within them, then of points, then of lines
+    and arcs."""
     return [Ring, Dot].index(type(figure.mark)) if isinstance(figure.mark, (Ring, Dot)) else 2
 
 
@@ -159,6 +174,12 @@ def _fill(ink: Ink) -> str:
 
 def _written(text: Text) -> str:
     x, y = text.at
-    fill = "" if text.kind == "length" and text.ink.manner is not Manner.SPARE else f" {_fill(text.ink)}"
+    fill = (
+        ""
+        if text.kind == "length" and text.ink.manner is not Manner.SPARE
+        else f" {_fill(text.ink)}"
+    )
     style = f' style="fill:{SPARE_COLOUR}"' if text.kind == "length" and fill else fill
-    return f'  <text class="{text.kind}"{style} x="{x:.1f}" y="{y:.1f}">{escape(text.words)}</text>'
+    return (
+        f'  <text class="{text.kind}"{style} x="{x:.1f}" y="{y:.1f}">{escape(text.words)}</text>'
+    )

@@ -29,7 +29,9 @@ class Text:
 class Texts:
     """The texts that stand so far, and the lines and circles that they should leave free."""
 
-    def __init__(self, page: Page, figures: Sequence[Figure], bars: Sequence[tuple[Spot, Spot]]) -> None:
+    def __init__(
+        self, page: Page, figures: Sequence[Figure], bars: Sequence[tuple[Spot, Spot]]
+    ) -> None:
         self.page = page
         self.written: list[Text] = []
         self.boxes: Cells[Box] = Cells()
@@ -46,21 +48,35 @@ class Texts:
 
     def put_beside(self, words: str, start: Spot, end: Spot, ink: Ink) -> None:
         """Writes a dimension along a bar."""
-        self._put(words, 12, "length", ink, lambda wide, tall: self._beside(start, end, wide, tall), None)
+        self._put(
+            words, 12, "length", ink, lambda wide, tall: self._beside(start, end, wide, tall), None
+        )
 
     def put_near(self, words: str, at: Spot, radius: float, ink: Ink) -> None:
         """Writes a dimension near a place, or near the rim around it, in any direction."""
         fars = [radius + far for far in (1, 9, 20)] + ([0.0] if radius > 26 else [])
-        self._put(words, 12, "length", ink, lambda wide, tall: [
-            _beyond(at, way, far, wide, tall) for far in fars for way in EIGHTHS], None)
+        self._put(
+            words,
+            12,
+            "length",
+            ink,
+            lambda wide, tall: [
+                _beyond(at, way, far, wide, tall) for far in fars for way in EIGHTHS
+            ],
+            None,
+        )
 
-    def _put(self, words: str, size: int, kind: str, ink: Ink, places: Places, named: Figure | None) -> None:
+    def _put(
+        self, words: str, size: int, kind: str, ink: Ink, places: Places, named: Figure | None
+    ) -> None:
         wide, tall = len(words) * size * WIDE_LETTER, float(size)
         place, box = self._best(places(wide, tall), wide, tall, named)
         self.boxes.add_box(box, box)
         self.written.append(Text(words, (place[0], place[1] + 0.35 * tall), size, kind, ink))
 
-    def _best(self, places: Sequence[Spot], wide: float, tall: float, named: Figure | None) -> tuple[Spot, Box]:
+    def _best(
+        self, places: Sequence[Spot], wide: float, tall: float, named: Figure | None
+    ) -> tuple[Spot, Box]:
         """The first of the places where a text costs least, with its box."""
         best, least = (places[0], _box(places[0], wide, tall)), math.inf
         for place in places:
@@ -76,11 +92,21 @@ class Texts:
         """How much a text in a box would cover, or mislead."""
         wide = (box[0] - 3, box[1], box[2] + 3, box[3])
         texts = sum(overlaps(wide, it) for it in self.boxes.near(wide))
-        outside = min(box[0], box[1]) < 2 or box[2] > self.page.width - 2 or box[3] > self.page.height - 2
+        outside = (
+            min(box[0], box[1]) < 2
+            or box[2] > self.page.width - 2
+            or box[3] > self.page.height - 2
+        )
         figures = self.figures.near(box)
         strokes = sum(_is_covered(it, box) for it in figures)
         strange = named is not None and any(_misleads(place, named, it) for it in figures)
-        return 5 * texts + 9 * outside + 2 * strokes + 3 * strange + sum(crosses(*it, box) for it in self.bars.near(box))
+        return (
+            5 * texts
+            + 9 * outside
+            + 2 * strokes
+            + 3 * strange
+            + sum(crosses(*it, box) for it in self.bars.near(box))
+        )
 
     def _name_places(self, figure: Figure) -> Places:
         if len(figure.places) > 1:
@@ -92,25 +118,40 @@ class Texts:
     def _around(self, figure: Figure, wide: float, tall: float) -> list[Spot]:
         """Within a circle, else outwards from the middle of the page."""
         (x, y), radius = figure.places[0], figure.radius
-        within = [(x, y), (x, y + radius - tall), (x, y - radius + tall)] if isinstance(figure.mark, Ring) else []
+        within = (
+            [(x, y), (x, y + radius - tall), (x, y - radius + tall)]
+            if isinstance(figure.mark, Ring)
+            else []
+        )
         middle = self.page.width / 2, self.page.height / 2
-        ways = sorted(EIGHTHS, key=lambda way: round(way[0] * (middle[0] - x) + way[1] * (middle[1] - y), 3))
-        return within + [_beyond((x, y), way, radius + far, wide, tall) for far in (3, 12) for way in ways]
+        ways = sorted(
+            EIGHTHS, key=lambda way: round(way[0] * (middle[0] - x) + way[1] * (middle[1] - y), 3)
+        )
+        return within + [
+            _beyond((x, y), way, radius + far, wide, tall) for far in (3, 12) for way in ways
+        ]
 
     def _beside(self, start: Spot, end: Spot, wide: float, tall: float) -> list[Spot]:
         """Along a segment: near its middle and outside first."""
         across = unit(start[1] - end[1], end[0] - start[0])
-        inwards = across[0] * (self.page.width / 2 - start[0]) + across[1] * (self.page.height / 2 - start[1])
+        inwards = across[0] * (self.page.width / 2 - start[0]) + across[1] * (
+            self.page.height / 2 - start[1]
+        )
         sides = [across, (-across[0], -across[1])]
         if inwards > 0:
             sides.reverse()
         shares = (0.5, 0.4, 0.6, 0.3, 0.7, 0.2, 0.8, 0.12, 0.88)
-        return [_beyond(between(start, end, share), side, far, wide, tall)
-                for far in (2, 11) for share in shares for side in sides]
+        return [
+            _beyond(between(start, end, share), side, far, wide, tall)
+            for far in (2, 11)
+            for share in shares
+            for side in sides
+        ]
 
 
 def _add_figure(cells: Cells[Figure], figure: Figure) -> None:
-    """Adds a figure where it is near enough to a text to matter; a circle with all that is within it."""
+    """Adds a figure where it is near enough to a text to matter; a circle with all that is
+    within it."""
     if len(figure.places) > 1:
         for one, two in zip(figure.places, figure.places[1:]):
             cells.add_segment(figure, one, two, 0.0)

@@ -22,9 +22,25 @@ from .solved import Solved, read_solve
 from .spare import Spare, read_spare
 from .verified import ClaimFails, Verified, read_verify
 
-Report = (CheckReport | Plan | Solved | PartsReport | OffersReport | Grown | Verified | ClaimFails | Sketch | Fault
-          | Refused | Usage | tuple[Spare, ...] | tuple[Flipped, ...] | tuple[Entity, ...] | tuple[Reply, ...]
-          | tuple[tuple[str, ...], ...])
+Report = (
+    CheckReport
+    | Plan
+    | Solved
+    | PartsReport
+    | OffersReport
+    | Grown
+    | Verified
+    | ClaimFails
+    | Sketch
+    | Fault
+    | Refused
+    | Usage
+    | tuple[Spare, ...]
+    | tuple[Flipped, ...]
+    | tuple[Entity, ...]
+    | tuple[Reply, ...]
+    | tuple[tuple[str, ...], ...]
+)
 
 
 class NoAnswer(NotAReport):
@@ -42,14 +58,24 @@ _WHAT = {
     Status.NO_ARGUMENTS: "since its arguments couldn't be read: try again",
 }
 _READERS: dict[str, Callable[[str], Report]] = {
-    "check": read_check, "plan": read_plan, "solve": read_solve, "dxf": read_dxf, "spare": read_spare,
-    "parts": read_parts, "flips": read_flips, "verify": read_verify, "session": read_session, "offers": read_offers,
-    "derive": read_derive, "grow": read_grow,
+    "check": read_check,
+    "plan": read_plan,
+    "solve": read_solve,
+    "dxf": read_dxf,
+    "spare": read_spare,
+    "parts": read_parts,
+    "flips": read_flips,
+    "verify": read_verify,
+    "session": read_session,
+    "offers": read_offers,
+    "derive": read_derive,
+    "grow": read_grow,
 }
 
 
 def read_answer(words: Sequence[str], answer: Answer) -> Report:
-    """What the program answered to a command, as a value. Raises NotAReport, and NoAnswer where there is none."""
+    """What the program answered to a command, as a value. Raises NotAReport, and NoAnswer where
+    there is none."""
     status = answer.status
     if status in _WHAT:
         raise NoAnswer(status)
@@ -68,7 +94,9 @@ def _report(command: str, text: str) -> Report:
     if command == "migrate":
         return _migrated(text)
     if command not in _READERS:
-        raise NotAReport(f"no report of {command!r} is known: update pertxogai, or use another command")
+        raise NotAReport(
+            f"no report of {command!r} is known: update pertxogai, or use another command"
+        )
     return _READERS[command](text)
 
 

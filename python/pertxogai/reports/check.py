@@ -11,11 +11,14 @@ _VERDICT = re.compile("verdict (well|over|open)")
 _ELEMENTS = re.compile(f"elements ({COUNT})")
 _CONSTRAINTS = re.compile(f"constraints ({COUNT})")
 _PARTS = re.compile(f"parts ({COUNT})")
-_PART = re.compile(f"part ({COUNT}) (sound|over) elements ({COUNT}) held ({COUNT}) due ({COUNT}) : ({NAMES})")
+_PART = re.compile(
+    f"part ({COUNT}) (sound|over) elements ({COUNT}) held ({COUNT}) due ({COUNT}) : ({NAMES})"
+)
 
 
 class Verdict(Enum):
-    """Whether the dimensions are just as many as fix the sketch, too many, or leave several parts."""
+    """Whether the dimensions are just as many as fix the sketch, too many, or leave several
+    parts."""
 
     WELL = "well"
     OVER = "over"
@@ -24,7 +27,8 @@ class Verdict(Enum):
 
 @dataclass(frozen=True)
 class Part:
-    """A piece that is rigid by itself: how many constraints it holds and is due, and its elements by number."""
+    """A piece that is rigid by itself: how many constraints it holds and is due, and its
+    elements by number."""
 
     number: int
     over: bool
@@ -35,8 +39,11 @@ class Part:
     def text(self) -> str:
         """The line of the report."""
         state = "over" if self.over else "sound"
-        return (f"part {self.number} {state} elements {len(self.elements)} held {self.held} due {self.due} :"
-                f" {' '.join(self.elements)}\n")
+        return (
+            f"part {self.number} {state} elements {len(self.elements)} held {self.held} due"
+            f" {self.due} :"
+            f" {' '.join(self.elements)}\n"
+        )
 
 
 @dataclass(frozen=True)
@@ -50,8 +57,11 @@ class CheckReport:
 
     def text(self) -> str:
         """The report as the program writes it."""
-        head = (f"verdict {self.verdict.value}\nelements {self.elements}\nconstraints {self.constraints}\n"
-                f"parts {len(self.parts)}\n")
+        head = (
+            f"verdict {self.verdict.value}\nelements {self.elements}\nconstraints"
+            f" {self.constraints}\n"
+            f"parts {len(self.parts)}\n"
+        )
         return head + "".join(part.text() for part in self.parts)
 
 
@@ -87,12 +97,15 @@ def take_part(rows: Rows, number: int) -> Part:
     names = tuple(found[6].split())
     held, due = int(found[4]), int(found[5])
     rows.claim((int(found[1]), int(found[3])) == (number, len(names)))
-    rows.claim(due == max(2 * len(names) - 3, 0) and held >= due and (found[2] == "over") == (held > due))
+    rows.claim(
+        due == max(2 * len(names) - 3, 0) and held >= due and (found[2] == "over") == (held > due)
+    )
     return Part(number, found[2] == "over", names, held, due)
 
 
 def verdict_of(parts: tuple[Part, ...]) -> Verdict:
-    """The verdict that a report of these parts has, by which a report that was cut or mixed is found out."""
+    """The verdict that a report of these parts has, by which a report that was cut or mixed is
+    found out."""
     if any(part.over for part in parts):
         return Verdict.OVER
     return Verdict.WELL if len(parts) == 1 else Verdict.OPEN

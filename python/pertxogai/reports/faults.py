@@ -9,8 +9,11 @@ from fractions import Fraction
 from ..language.clusters import ClusterName
 from .rows import CLUSTER, COUNT, NAME, WHOLE, Rows, cluster, whole
 
-_QUANTITIES = ("base2|base|first2|second2|foot|height|ex|ey|gap1|gap2|tilt|rise|lift|reach|cos|sin|det|f|g|x|y|a|b|c"
-               "|span2|fx|fy|tx|ty|det1|det2|size")
+_QUANTITIES = (
+    "base2|base|first2|second2|foot|height|ex|ey|gap1|gap2|tilt|rise|lift|reach|cos|sin|det"
+    "|f|g|x|y|a|b|c"
+    "|span2|fx|fy|tx|ty|det1|det2|size"
+)
 _AT = f"fault s({COUNT}) (build|first|second) ({_QUANTITIES}) ({NAME})"
 _NUMBER = re.compile(f"{_AT} (flat|gap) ({WHOLE}) ({WHOLE}) bits (16|27|38)")
 _RANGE = re.compile(f"{_AT} range bits (16|27|38)")
@@ -20,8 +23,8 @@ _TURNED = re.compile(f"fault ({CLUSTER}) turned drawn ([+-]) placed (-1|0|1)")
 
 
 class Phase(Enum):
-    """What a step was doing: constructing the element that the two clusters share which aren't kept, or carrying the
-    one or the other of these into place."""
+    """What a step was doing: constructing the element that the two clusters share which aren't
+    kept, or carrying the one or the other of these into place."""
 
     BUILD = "build"
     FIRST = "first"
@@ -44,7 +47,8 @@ class Unit(Enum):
 
 @dataclass(frozen=True)
 class StepAt:
-    """Where a step stopped: its number, its phase, the name of the number that was computed, and the element."""
+    """Where a step stopped: its number, its phase, the name of the number that was computed,
+    and the element."""
 
     step: int
     phase: Phase
@@ -58,8 +62,8 @@ class StepAt:
 
 @dataclass(frozen=True)
 class NumberFault:
-    """A number under a root or of a divisor lies between `low` and `high`, in units of 2^-bits: `flat` where it can't
-    be told from 0, `gap` where no shape has it."""
+    """A number under a root or of a divisor lies between `low` and `high`, in units of 2^-bits:
+    `flat` where it can't be told from 0, `gap` where no shape has it."""
 
     at: StepAt
     cause: Cause
@@ -90,7 +94,8 @@ class RangeFault:
 
 @dataclass(frozen=True)
 class ConstraintFault:
-    """The constraint of that number is met within `tolerance`, in nm or ppb, which is over the limit."""
+    """The constraint of that number is met within `tolerance`, in nm or ppb, which is over the
+    limit."""
 
     constraint: int
     tolerance: int
@@ -99,7 +104,10 @@ class ConstraintFault:
 
     def text(self) -> str:
         """The line that the program writes."""
-        return f"fault c{self.constraint} tolerance {self.tolerance} {self.unit.value} limit {self.limit}\n"
+        return (
+            f"fault c{self.constraint} tolerance {self.tolerance} {self.unit.value} limit"
+            f" {self.limit}\n"
+        )
 
 
 @dataclass(frozen=True)
@@ -112,12 +120,15 @@ class LineFault:
 
     def text(self) -> str:
         """The line that the program writes."""
-        return f"fault line {self.name} tolerance {self.tolerance_ppb} ppb limit {self.limit_ppb}\n"
+        return (
+            f"fault line {self.name} tolerance {self.tolerance_ppb} ppb limit {self.limit_ppb}\n"
+        )
 
 
 @dataclass(frozen=True)
 class TurnedFault:
-    """A step, angle or block turns otherwise than it is drawn: drawn +1 or -1, placed -1, 0 or 1."""
+    """A step, angle or block turns otherwise than it is drawn: drawn +1 or -1, placed -1, 0 or
+    1."""
 
     of: ClusterName
     drawn: int
@@ -125,7 +136,10 @@ class TurnedFault:
 
     def text(self) -> str:
         """The line that the program writes."""
-        return f"fault {self.of.text()} turned drawn {'+' if self.drawn > 0 else '-'} placed {self.placed}\n"
+        return (
+            f"fault {self.of.text()} turned drawn {'+' if self.drawn > 0 else '-'} placed"
+            f" {self.placed}\n"
+        )
 
 
 Fault = NumberFault | RangeFault | ConstraintFault | LineFault | TurnedFault
@@ -141,7 +155,9 @@ def take_fault(rows: Rows) -> Fault:
     """The fault that the next line names. Raises NotAReport."""
     if found := rows.take_if(_NUMBER):
         rows.claim(int(found[6]) <= int(found[7]))
-        return NumberFault(_at(found), Cause(found[5]), int(found[6]), int(found[7]), int(found[8]))
+        return NumberFault(
+            _at(found), Cause(found[5]), int(found[6]), int(found[7]), int(found[8])
+        )
     if found := rows.take_if(_RANGE):
         return RangeFault(_at(found), int(found[5]))
     if found := rows.take_if(_CONSTRAINT):

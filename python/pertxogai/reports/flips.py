@@ -23,7 +23,8 @@ class NoChoice:
 
 @dataclass(frozen=True)
 class Flipped:
-    """The answer to a list, by its number: its shape, why it has none, or the step that has no choice."""
+    """The answer to a list, by its number: its shape, why it has none, or the step that has no
+    choice."""
 
     number: int
     answer: Shape | Fault | NoChoice

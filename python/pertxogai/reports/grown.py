@@ -16,7 +16,8 @@ _SUM_Y = re.compile(f"sum y ({WHOLE}) nm")
 
 @dataclass(frozen=True)
 class Grown:
-    """The sketch of that many elements: its counts, the sums of its points' places in nm, and the tolerances."""
+    """The sketch of that many elements: its counts, the sums of its points' places in nm, and
+    the tolerances."""
 
     elements: int
     constraints: int
@@ -27,8 +28,12 @@ class Grown:
 
     def text(self) -> str:
         """The report as the program writes it."""
-        return (f"grow {self.elements}\nelements {self.elements}\nconstraints {self.constraints}\nverdict well\n"
-                f"steps {self.steps}\nsum x {self.sum_x_nm} nm\nsum y {self.sum_y_nm} nm\n{self.tolerances.text()}")
+        return (
+            f"grow {self.elements}\nelements {self.elements}\nconstraints {self.constraints}\n"
+            f"verdict well\n"
+            f"steps {self.steps}\nsum x {self.sum_x_nm} nm\nsum y {self.sum_y_nm} nm\n"
+            f"{self.tolerances.text()}"
+        )
 
 
 def read_grow(text: str) -> Grown:

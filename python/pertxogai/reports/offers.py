@@ -49,7 +49,8 @@ class Offered:
 
 @dataclass(frozen=True)
 class OffersReport:
-    """The answers in the order of the offers, and the report of `check`, which is the same whatever was offered."""
+    """The answers in the order of the offers, and the report of `check`, which is the same
+    whatever was offered."""
 
     answers: tuple[Offered, ...]
     check: CheckReport

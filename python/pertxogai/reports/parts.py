@@ -14,8 +14,8 @@ _PARTS = re.compile(f"parts ({COUNT})")
 
 @dataclass(frozen=True)
 class PlacedPart:
-    """A part, and the shape of its own sketch in a frame of its own; or why that has no places; None where the part
-    is over."""
+    """A part, and the shape of its own sketch in a frame of its own; or why that has no places;
+    None where the part is over."""
 
     part: Part
     shape: Solved | Fault | None

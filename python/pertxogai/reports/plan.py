@@ -14,8 +14,10 @@ from .rows import CLUSTER, COUNT, NAME, Rows, cluster, whole
 _STEPS = re.compile(f"steps ({COUNT})")
 _LEAF = re.compile(f"leaf c({COUNT}) : (.*)")
 _CHOICES = "|".join(re.escape(choice.value) for choice in Choice)
-_STEP = re.compile(f"step s({COUNT}) joins ({CLUSTER}) ({CLUSTER}) ({CLUSTER}) at ({NAME}) ({NAME}) ({NAME})"
-                   f" keeps ({CLUSTER}) ({_CHOICES})")
+_STEP = re.compile(
+    f"step s({COUNT}) joins ({CLUSTER}) ({CLUSTER}) ({CLUSTER}) at ({NAME}) ({NAME}) ({NAME})"
+    f" keeps ({CLUSTER}) ({_CHOICES})"
+)
 
 
 @dataclass(frozen=True)
@@ -32,7 +34,8 @@ class Leaf:
 
 @dataclass(frozen=True)
 class Branch:
-    """A cluster of the plan's tree: the step that made it and the three clusters that this joins, or a leaf."""
+    """A cluster of the plan's tree: the step that made it and the three clusters that this
+    joins, or a leaf."""
 
     made_by: Step | Leaf
     joined: tuple[Branch, ...]
@@ -40,7 +43,8 @@ class Branch:
 
 @dataclass(frozen=True)
 class Plan:
-    """How a sketch that is `well` is constructed: a leaf for each constraint, and the steps in their order."""
+    """How a sketch that is `well` is constructed: a leaf for each constraint, and the steps in
+    their order."""
 
     elements: int
     constraints: int
@@ -49,22 +53,31 @@ class Plan:
 
     def text(self) -> str:
         """The report as the program writes it."""
-        head = ["verdict well", f"elements {self.elements}", f"constraints {self.constraints}",
-                f"steps {len(self.steps)}"]
-        return "\n".join([*head, *(leaf.text() for leaf in self.leaves), *(it.text() for it in self.steps), ""])
+        head = [
+            "verdict well",
+            f"elements {self.elements}",
+            f"constraints {self.constraints}",
+            f"steps {len(self.steps)}",
+        ]
+        return "\n".join(
+            [*head, *(leaf.text() for leaf in self.leaves), *(it.text() for it in self.steps), ""]
+        )
 
     def tree(self) -> Branch | None:
-        """The cluster of the last step with all that it joins; None for a sketch without constraints."""
+        """The cluster of the last step with all that it joins; None for a sketch without
+        constraints."""
         made: dict[ClusterName, Branch] = {}
         for leaf in self.leaves:
             made[ClusterName(False, leaf.number)] = Branch(leaf, ())
         for step in self.steps:
-            made[ClusterName(True, step.number)] = Branch(step, tuple(made[name] for name in step.joins))
+            made[ClusterName(True, step.number)] = Branch(
+                step, tuple(made[name] for name in step.joins)
+            )
         return list(made.values())[-1] if made else None
 
     def frame(self) -> Leaf | None:
-        """The constraint whose frame the places have: what each `keeps` leads to from the last step down. None for a
-        sketch without constraints."""
+        """The constraint whose frame the places have: what each `keeps` leads to from the last
+        step down. None for a sketch without constraints."""
         leaves = {ClusterName(False, leaf.number): leaf for leaf in self.leaves}
         keeps = {ClusterName(True, step.number): step.keeps for step in self.steps}
         name = next(reversed([*leaves, *keeps]), None)
@@ -88,7 +101,12 @@ def take_plan(rows: Rows) -> Plan:
     numbers = [leaf.number for leaf in leaves]
     rows.claim(numbers == sorted(set(numbers)))
     made = {ClusterName(False, number) for number in numbers}
-    plan = Plan(elements, constraints, leaves, tuple(_step(rows, number, made) for number in range(1, steps + 1)))
+    plan = Plan(
+        elements,
+        constraints,
+        leaves,
+        tuple(_step(rows, number, made) for number in range(1, steps + 1)),
+    )
     rows.claim(len(made) == (1 if leaves else 0))
     return plan
 
@@ -99,15 +117,22 @@ def take_step(rows: Rows) -> Step | None:
     if found is None:
         return None
     joins = cluster(found[2]), cluster(found[3]), cluster(found[4])
-    return Step(int(found[1]), joins, (found[5], found[6], found[7]), cluster(found[8]), Choice(found[9]))
+    return Step(
+        int(found[1]), joins, (found[5], found[6], found[7]), cluster(found[8]), Choice(found[9])
+    )
 
 
 def _step(rows: Rows, number: int, live: set[ClusterName]) -> Step:
-    """The line of the step of that number, which joins three clusters that are live then, and keeps one of them."""
+    """The line of the step of that number, which joins three clusters that are live then, and
+    keeps one of them."""
     step = take_step(rows)
     if step is None:
         raise rows.fault()
-    rows.claim(step.number == number and len(live.intersection(step.joins)) == 3 and step.keeps in step.joins)
+    rows.claim(
+        step.number == number
+        and len(live.intersection(step.joins)) == 3
+        and step.keeps in step.joins
+    )
     live.difference_update(step.joins)
     live.add(ClusterName(True, number))
     return step
@@ -119,7 +144,8 @@ def _leaf(rows: Rows) -> Leaf:
 
 
 def take_constraint(rows: Rows, text: str) -> Constraint:
-    """The constraint of a text in canonical spelling, which the line before has. Raises NotAReport."""
+    """The constraint of a text in canonical spelling, which the line before has. Raises
+    NotAReport."""
     words = text.split(" ")
     try:
         check_shape(words, 2)

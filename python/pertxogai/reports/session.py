@@ -23,8 +23,8 @@ _END = re.compile("end")
 
 @dataclass(frozen=True)
 class Accepted:
-    """A line was done: the name of the element, or the `cI` of the constraint, that it made; None for an edit that
-    makes none."""
+    """A line was done: the name of the element, or the `cI` of the constraint, that it made;
+    None for an edit that makes none."""
 
     name: str | None
 
@@ -70,7 +70,7 @@ def _reply(rows: Rows) -> Reply:
 
 def _report(rows: Rows) -> CheckReport | Plan | Solved:
     """The report that begins with a verdict, by its second and its fourth line."""
-    following = [line.split(" ")[0] for line in rows.lines[rows.next:rows.next + 4]]
+    following = [line.split(" ")[0] for line in rows.lines[rows.next : rows.next + 4]]
     if following[1:2] == ["steps"]:
         return take_solve(rows)
     return take_plan(rows) if following[3:] == ["steps"] else take_check(rows)
@@ -81,7 +81,7 @@ def _written(rows: Rows) -> Sketch:
     for _ in rows.take_all(_LINE):
         pass
     rows.take(_END)
-    text = "\n".join([*rows.lines[start:rows.next], ""])
+    text = "\n".join([*rows.lines[start : rows.next], ""])
     try:
         sketch = Sketch.parse(text)
     except Refusal:

@@ -10,7 +10,10 @@ from .rows import COUNT, NAME, WHOLE, Rows, whole
 
 _STEPS = re.compile(f"steps ({COUNT})")
 _BITS = re.compile("bits (16|27|38)")
-_PLACE = re.compile(f"(?:(point) ({NAME}) ({WHOLE}) ({WHOLE})|(line|circle) ({NAME}) ({WHOLE}) ({WHOLE}) ({WHOLE}))")
+_PLACE = re.compile(
+    f"(?:(point) ({NAME}) ({WHOLE}) ({WHOLE})|(line|circle) ({NAME}) ({WHOLE}) ({WHOLE})"
+    f" ({WHOLE}))"
+)
 _LENGTH = re.compile(f"length tolerance ({COUNT}) nm at (?:c({COUNT})|none)")
 _ANGLE = re.compile(f"angle tolerance ({COUNT}) ppb at (?:line ({NAME})|c({COUNT})|none)")
 
@@ -39,8 +42,9 @@ class AtLine:
 
 @dataclass(frozen=True)
 class Tolerances:
-    """The least whole numbers within which the printed places meet each length, and each angle and normal; and the
-    first constraint or line that needs so much, None where there is nothing to measure."""
+    """The least whole numbers within which the printed places meet each length, and each angle
+    and normal; and the first constraint or line that needs so much, None where there is nothing
+    to measure."""
 
     length_nm: int
     length_at: AtConstraint | None
@@ -50,7 +54,10 @@ class Tolerances:
     def text(self) -> str:
         """The two lines of the report."""
         length, angle = (at.text() if at else "none" for at in (self.length_at, self.angle_at))
-        return f"length tolerance {self.length_nm} nm at {length}\nangle tolerance {self.angle_ppb} ppb at {angle}\n"
+        return (
+            f"length tolerance {self.length_nm} nm at {length}\nangle tolerance {self.angle_ppb}"
+            f" ppb at {angle}\n"
+        )
 
 
 @dataclass(frozen=True)
@@ -94,7 +101,8 @@ class Shape:
 
 @dataclass(frozen=True)
 class Solved(Shape):
-    """The shape of a sketch that is `well`: also the number of steps, and the digits behind the point of its grid."""
+    """The shape of a sketch that is `well`: also the number of steps, and the digits behind the
+    point of its grid."""
 
     steps: int
     bits: int
@@ -150,7 +158,9 @@ def take_tolerances(rows: Rows) -> Tolerances:
     at: AtConstraint | AtLine | None = AtLine(angle[2]) if angle[2] else None
     if angle[3]:
         at = AtConstraint(int(angle[3]))
-    return Tolerances(int(length[1]), AtConstraint(int(length[2])) if length[2] else None, int(angle[1]), at)
+    return Tolerances(
+        int(length[1]), AtConstraint(int(length[2])) if length[2] else None, int(angle[1]), at
+    )
 
 
 def _place(found: re.Match[str]) -> Placed:

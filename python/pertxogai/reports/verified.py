@@ -9,12 +9,15 @@ from ..language.clusters import ClusterName
 from .rows import CLUSTER, COUNT, NAME, cluster, whole
 
 _VERIFIED = re.compile(f"verified steps ({COUNT}) length ({COUNT}) nm angle ({COUNT}) ppb")
-_FAILS = re.compile(f"verify fails (?:({CLUSTER})|(parts)|(element|line) ({NAME})|(sign) ({CLUSTER}))")
+_FAILS = re.compile(
+    f"verify fails (?:({CLUSTER})|(parts)|(element|line) ({NAME})|(sign) ({CLUSTER}))"
+)
 
 
 @dataclass(frozen=True)
 class Verified:
-    """The claim is right: its steps are a plan, and each length holds within length_nm, each angle within angle_ppb."""
+    """The claim is right: its steps are a plan, and each length holds within length_nm, each
+    angle within angle_ppb."""
 
     steps: int
     length_nm: int
@@ -22,22 +25,25 @@ class Verified:
 
     def text(self) -> str:
         """The line that the program writes."""
-        return f"verified steps {self.steps} length {self.length_nm} nm angle {self.angle_ppb} ppb\n"
+        return (
+            f"verified steps {self.steps} length {self.length_nm} nm angle {self.angle_ppb} ppb\n"
+        )
 
 
 class Failing(Enum):
     """What of a claim may fail; its value is the word of the report."""
 
-    CLUSTER = ""         #: a step isn't legal, or a constraint doesn't hold
-    PARTS = "parts"      #: the steps leave more than one part
+    CLUSTER = ""  #: a step isn't legal, or a constraint doesn't hold
+    PARTS = "parts"  #: the steps leave more than one part
     ELEMENT = "element"  #: an element has no line, or another radius
-    LINE = "line"        #: a normal hasn't length 1
-    SIGN = "sign"        #: a step, angle or block turns otherwise than it is drawn
+    LINE = "line"  #: a normal hasn't length 1
+    SIGN = "sign"  #: a step, angle or block turns otherwise than it is drawn
 
 
 @dataclass(frozen=True)
 class ClaimFails:
-    """The first thing of a claim that fails: what it is, and the step, constraint or element; None for the parts."""
+    """The first thing of a claim that fails: what it is, and the step, constraint or element;
+    None for the parts."""
 
     what: Failing
     of: ClusterName | str | None
