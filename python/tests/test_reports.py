@@ -425,8 +425,9 @@ def test_a_session_of_every_reply(program) -> None:
 def test_statuses_without_a_report() -> None:
     for status in (Status.READ_FAILED, Status.WRITE_FAILED, Status.NO_MEMORY, Status.NO_ARGUMENTS):
         with pytest.raises(NoAnswer) as refused:
-            read_answer(["check"], Answer(status, ""))
-        assert refused.value.status is status and "\n" not in str(refused.value)
+            read_answer(["check"], Answer(status, "ok A\n"))
+        assert (refused.value.status, refused.value.text) == (status, "ok A\n")
+        assert "\n" not in str(refused.value)
     assert read_answer(["check"], Answer(Status.USAGE, "usage: sketch check|plan\n")) == Usage(
         "usage: sketch check|plan"
     )

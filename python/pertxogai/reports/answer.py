@@ -44,11 +44,15 @@ Report = (
 
 
 class NoAnswer(NotAReport):
-    """The program ended with a status that has no report: a read, a write or memory failed."""
+    """The program ended with a status that has no whole report: a read, a write or memory failed.
+    `text` is what it had written: of a session whole replies, if memory ran out."""
 
-    def __init__(self, status: Status) -> None:
-        super().__init__(f"the program ended with status {status.value}, {_WHAT[status]}")
-        self.status = status
+    def __init__(self, answer: Answer) -> None:
+        super().__init__(
+            f"the program ended with status {answer.status.value}, {_WHAT[answer.status]}"
+        )
+        self.status = answer.status
+        self.text = answer.text
 
 
 _WHAT = {
@@ -78,7 +82,7 @@ def read_answer(words: Sequence[str], answer: Answer) -> Report:
     there is none."""
     status = answer.status
     if status in _WHAT:
-        raise NoAnswer(status)
+        raise NoAnswer(answer)
     if status is Status.REFUSED:
         return read_refusal(answer.text)
     if status is Status.USAGE:
