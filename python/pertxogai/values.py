@@ -6,11 +6,13 @@ A `Form` is a sum of unknowns times fractions, and a number. A `LinearSystem` ta
 it tells the others that it follows from, and by how much it contradicts them. """
 from __future__ import annotations
 
-from collections.abc import Callable, Hashable, Iterable, Mapping
+from collections.abc import Callable, Hashable, Mapping
 from dataclasses import dataclass, field
 from fractions import Fraction
 
 Terms = Mapping[Hashable, Fraction]
+Sources = Mapping[int, int | Fraction]
+"""How often each equation, by its mark, goes into a combination."""
 
 
 @dataclass(frozen=True)
@@ -57,7 +59,7 @@ class _Row:
     """A pivot's value in what is free, and the combination of equations that says so."""
 
     value: Form
-    sources: Mapping[Hashable, Fraction]
+    sources: Sources
 
 
 class LinearSystem:
@@ -72,15 +74,15 @@ class LinearSystem:
     def add(self, form: Form, mark: int) -> Told | None:
         """Takes the equation form = 0; None where it says something new."""
         rest, sources = self._reduced(form)
-        sources = _sum(sources, {mark: Fraction(1)}, Fraction(1))
+        sources = _with(sources, {mark: 1}, 1)
         if not rest.terms:
-            return Told(_marks(sources), rest.number)
+            return Told(frozenset(sources), rest.number)
         pivot = min(rest.terms, key=self._rank)
         factor = rest.terms[pivot]
         others = Form({key: value for key, value in rest.terms.items() if key != pivot},
                       rest.number)
         row = _Row(others.times(-1 / factor),
-                   {key: value / -factor for key, value in sources.items()})
+                   _with({}, sources, _small(-1 / factor)))
         self._rows = {key: _put(old, pivot, row) for key, old in self._rows.items()}
         self._rows[pivot] = row
         return None
@@ -91,17 +93,17 @@ class LinearSystem:
 
     def sources(self, form: Form) -> frozenset[int]:
         """The equations by which the form is reduced as it is."""
-        return _marks(self._reduced(form)[1])
+        return frozenset(self._reduced(form)[1])
 
-    def _reduced(self, form: Form) -> tuple[Form, Mapping[Hashable, Fraction]]:
+    def _reduced(self, form: Form) -> tuple[Form, Sources]:
         known = [(key, value) for key, value in form.terms.items() if key in self._rows]
         rest = Form({key: value for key, value in form.terms.items() if key not in self._rows},
                     form.number)
-        sources: Mapping[Hashable, Fraction] = {}
+        sources: Sources = {}
         for key, value in known:
             row = self._rows[key]
             rest = rest + row.value.times(value)
-            sources = _sum(sources, row.sources, value)
+            sources = _with(sources, row.sources, _small(value))
         return rest, sources
 
 
@@ -112,7 +114,7 @@ def _put(old: _Row, pivot: Hashable, row: _Row) -> _Row:
         return old
     value = Form({key: each for key, each in old.value.terms.items() if key != pivot},
                  old.value.number)
-    return _Row(value + row.value.times(factor), _sum(old.sources, row.sources, factor))
+    return _Row(value + row.value.times(factor), _with(old.sources, row.sources, _small(factor)))
 
 
 def _sum(first: Mapping[Hashable, Fraction], second: Mapping[Hashable, Fraction],
@@ -126,5 +128,16 @@ def _sum(first: Mapping[Hashable, Fraction], second: Mapping[Hashable, Fraction]
     return total
 
 
-def _marks(sources: Iterable[Hashable]) -> frozenset[int]:
-    return frozenset(mark for mark in sources if isinstance(mark, int))
+def _with(first: Sources, second: Sources, factor: int | Fraction) -> Sources:
+    """first + factor · second, without what comes to 0; by whole numbers while they are whole."""
+    total = dict(first)
+    for key, value in second.items():
+        total[key] = total.get(key, 0) + factor * value
+        if not total[key]:
+            del total[key]
+    return total
+
+
+def _small(value: Fraction) -> int | Fraction:
+    """A whole number where it is one."""
+    return value.numerator if value.denominator == 1 else value
