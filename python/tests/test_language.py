@@ -294,6 +294,13 @@ def test_values_that_the_language_does_not_hold() -> None:
         with pytest.raises(NotHeld) as refused:
             make()
         assert refused.value.nearest == nearest
+    for wrong in (
+        lambda: Distance("A", "B", 4000.0),
+        lambda: Angle("L", "M", 1.0, 1),
+        lambda: Point("A", Fraction(4000), 0),
+    ):
+        with pytest.raises(TypeError, match="whole number"):
+            wrong()
     for name in ("", "9", "a b", "abcdefghijklmnopq", "\u00e9"):
         with pytest.raises(NotAName):
             Point(name, 0, 0)

@@ -59,6 +59,7 @@ def checked_um(value: int | Fraction, least: int = -MOST_UM) -> int:
             f" {mm_text(MOST_UM)} mm",
             f"{mm_text(nearest)} mm",
         )
+    _check_whole(value)
     return nearest
 
 
@@ -69,6 +70,8 @@ def checked_length_um(value: int | Fraction) -> int:
 
 def checked_ratio(p: int, q: int) -> None:
     """Raises NotHeld where the language holds no angle of the tangent p/q."""
+    _check_whole(p)
+    _check_whole(q)
     if p == 0:
         raise NotHeld(
             "an angle of 0 is no constraint: see 'Parallel lines' in docs/LANGUAGE.md", None
@@ -78,6 +81,12 @@ def checked_ratio(p: int, q: int) -> None:
             f"the ratio {p}/{q} isn't held: its numbers go to {MOST_RATIO}, the second from 0",
             "{}/{}".format(*nearest_ratio(p, q)),
         )
+
+
+def _check_whole(number: object) -> None:
+    """Raises TypeError at a number that is whole by its value alone, as 4000.0."""
+    if not isinstance(number, int):
+        raise TypeError(f"{number!r} is no int: take a whole number, as micrometres(..) makes one")
 
 
 def nearest_ratio(p: int | Fraction, q: int | Fraction) -> tuple[int, int]:
