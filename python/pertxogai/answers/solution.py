@@ -7,10 +7,10 @@ from math import isqrt
 
 from pertxogai.answers.asking import Asked
 from pertxogai.answers.placing import Plate, in_datum
-from pertxogai.drawing import ORIGIN, Arc, Circle, Drawing, PointRef, Which
+from pertxogai.drawing import ORIGIN, Arc, Circle, Drawing, PointRef
 from pertxogai.measure import Number, Solution, Spot
 from pertxogai.reports import Solved
-from pertxogai.spelling.facts import RadiusOf
+from pertxogai.spelling.facts import ORIGIN_KNOT, Apart, RadiusOf
 from pertxogai.values import Form
 
 
@@ -31,15 +31,17 @@ def solution_of(drawing: Drawing, asked: Asked, solved: Solved) -> Solution:
 
 def _radius(drawing: Drawing, asked: Asked, points: dict[PointRef, Spot],
             shape: Circle | Arc) -> Number:
-    """A radius that is told; else an arc's by its placed start, and a circle's by a point on it,
-    or as drawn."""
-    told = asked.rails.number(Form.of(RadiusOf(shape.name)))
+    """A radius that is told; else by a placed point on the rim; else as it is drawn."""
+    form = Form.of(RadiusOf(shape.name))
+    told = asked.rails.number(form)
     if told is not None:
         return _whole(told * 1000)
-    if isinstance(shape, Arc):
-        return _apart(points[PointRef(shape.name, Which.CENTRE)],
-                      points[PointRef(shape.name, Which.START)])
-    return _whole(shape.radius_um * 1000)
+    spots = {knot: points[ref] for ref, knot in asked.axes.facts.refs.items() if ref != ORIGIN}
+    spots[ORIGIN_KNOT] = (0, 0)
+    for fact in asked.axes.facts.facts:
+        if isinstance(fact, Apart) and fact.value == form:
+            return _apart(spots[fact.first], spots[fact.second])
+    return _whole(drawing.drawn_radius_um(shape.name) * 1000)
 
 
 def _apart(first: Spot, second: Spot) -> int:
