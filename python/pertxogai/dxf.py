@@ -84,9 +84,7 @@ def _add(space: Modelspace, mark: Mark) -> None:
 
 
 def _angles(arc: Bow) -> tuple[float, float]:
-    """Where an arc starts and ends, in degrees."""
-    start, end = (
-        math.degrees(math.atan2(y - arc.centre[1], x - arc.centre[0]))
-        for x, y in (arc.start, arc.end)
-    )
-    return start, end
+    """Where an arc starts and ends, in degrees from 0 to 360."""
+    (x, y), start, end = arc.centre, arc.start, arc.end
+    first, last = math.atan2(start[1] - y, start[0] - x), math.atan2(end[1] - y, end[0] - x)
+    return math.degrees(first) % 360, math.degrees(last) % 360

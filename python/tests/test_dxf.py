@@ -7,8 +7,9 @@ import io
 import ezdxf
 import pytest
 
+from pertxogai.drawing import read_drawing
 from pertxogai.dxf import MissingLibrary, Release, dxf_text, marks_of
-from pertxogai.picture import Bow, Dot, Ink, Manner, Ring, Stroke
+from pertxogai.picture import Bow, Dot, Ink, Manner, Ring, Stroke, scene_of_designed
 from pertxogai.reports import CircleEntity, LineEntity, PointEntity
 
 MARKS = (
@@ -32,6 +33,17 @@ def test_every_kind_is_read_back(release: Release, version: str) -> None:
         and document.layers.get("CONSTRUCTION").dxf.linetype == "DASHED"
     )
     assert (arc.dxf.radius, arc.dxf.start_angle, arc.dxf.end_angle) == (5, 0, 90)
+
+
+def test_a_designers_segments_and_arcs() -> None:
+    """A quarter from below to the right of its centre, and the edge that ends where it starts."""
+    drawing = read_drawing("segment Base 0 0 60 0\narc Bend 60 10 60 0 70 10\n")
+    document = ezdxf.read(io.StringIO(dxf_text(scene_of_designed(drawing).marks)))
+    line, arc = document.modelspace()
+    assert tuple(line.dxf.start)[:2] == (0, 0) and tuple(line.dxf.end)[:2] == (60, 0)
+    assert (arc.dxf.radius, arc.dxf.start_angle, arc.dxf.end_angle) == (10, 270, 0)
+    assert tuple(arc.start_point)[:2] == pytest.approx((60, 0))
+    assert tuple(arc.end_point)[:2] == pytest.approx((70, 10))
 
 
 def test_units_are_millimetres() -> None:
