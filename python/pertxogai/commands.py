@@ -2,6 +2,7 @@
 from __future__ import annotations
 
 import argparse
+import io
 import json
 import os
 import sys
@@ -51,6 +52,8 @@ class CommandError(Exception):
 
 def main(words: Sequence[str] | None = None) -> int:
     """Does what the words ask for, and returns the exit status."""
+    if isinstance(sys.stdout, io.TextIOWrapper):
+        sys.stdout.reconfigure(errors="backslashreplace")
     options = _parser().parse_args(words)
     act: Callable[[argparse.Namespace], Exit] = options.act
     try:
@@ -194,7 +197,7 @@ def _draw(options: argparse.Namespace) -> Exit:
     sheet = _sheet(found, options)
     text = sheet.picture().svg if suffix == ".svg" else sheet.dxf(Release(options.release))
     with saving(options.output, options.file) as file:
-        file.write(text.encode("utf-8"))
+        file.write(text.encode("utf-8", "replace"))
     return Exit.WELL
 
 

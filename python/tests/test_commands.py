@@ -309,3 +309,21 @@ def test_the_example_of_the_readme(tmp_path) -> None:
     ]
     assert ElementTree.parse(tmp_path / "out.svg").getroot().tag.endswith("svg")
     assert "the nearest is 3 mm" in run("4", "5", "3.00005").stderr
+
+
+def test_names_that_are_no_text(tmp_path) -> None:
+    """A file name of any byte, and a terminal of few letters."""
+    path = os.fsencode(tmp_path) + b"/\xff\xc3\xbc.sketch"
+    with open(path, "wb") as file:
+        file.write((EXAMPLES / "triangle.sketch").read_bytes())
+    for words in (
+        [b"judge", path],
+        [b"judge", b"--json", path],
+        [b"draw", path, b"-o", path + b".svg"],
+    ):
+        done = subprocess.run(
+            [os.fsencode(TOP / "pertxogai"), *words],
+            capture_output=True,
+            env={**os.environ, "LC_ALL": "C", "PYTHONIOENCODING": "ascii"},
+        )
+        assert (done.returncode, done.stderr) == (0, b"")
