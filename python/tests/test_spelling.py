@@ -6,10 +6,11 @@ from __future__ import annotations
 
 from dataclasses import dataclass
 from fractions import Fraction
-from math import atan, pi
+from math import atan, cos, pi, sin
 
 import pytest
 
+from pertxogai.answers import judge
 from pertxogai.answers.asking import Place, ask, placed
 from pertxogai.answers.solution import solution_of
 from pertxogai.drawing import Degrees, PointRef, Slope, Which, read_drawing, um_of_mm
@@ -192,3 +193,33 @@ def test_two_ratios_are_finer_than_one():
     first, second = lean.halves()
     assert abs(first.radians() + second.radians() - lean.radians()) % pi < 1e-9
     assert Angle("A", "B", *first.ratio()) and Angle("A", "B", *second.ratio())
+
+
+def polygon(count: int, start: str, asked: str) -> str:
+    """A regular polygon on a circle round the origin, drawn roughly, its first corner at `start`."""
+    turns = [2 * pi * place / count for place in range(count)]
+    corners = [f"{21 * cos(turn):.1f} {19 * sin(turn):.1f}" for turn in turns]
+    lines = [f"segment S0 {start} {corners[1]}"]
+    lines += [f"segment S{place} S{place - 1}.end {corners[place + 1]}"
+              for place in range(1, count - 1)]
+    lines += [f"segment S{count - 1} S{count - 2}.end S0.start", "construction circle C 1 1 20"]
+    lines += [f"on S{place}.start C" for place in range(count)]
+    lines += [f"equal S{place} S0" for place in range(1, count)]
+    return "\n".join([*lines, "coincident C.centre Origin", asked, ""])
+
+
+@pytest.mark.parametrize("text, place, at", [
+    (polygon(6, "20 0", "radius C 20\nhorizontal S1"), "S3.start", (-20_000_000, 0)),
+    (polygon(6, "20 0", "length S0 20\nhorizontal S1"), "S3.start", (-20_000_000, 0)),
+    (polygon(6, "20 0", "x S0.start 20\non S0.start XAxis"), "S3.start", (-20_000_000, 0)),
+    (polygon(6, "20 0", "radius C 20\nhorizontal S1"), "S1.start", (10_000_000, 17_320_508)),
+    (polygon(5, "20 0", "radius C 20\non S0.start XAxis"), "S1.start", (6_180_340, 19_021_130)),
+    (polygon(8, "20 0", "radius C 20\non S0.start XAxis"), "S1.start", (14_142_136, 14_142_136)),
+])
+def test_regular_polygons_are_placed(text, place, at, program):
+    drawing = read_drawing(text)
+    found = judge(drawing, program)
+    assert found.verdict is Verdict.WELL
+    assert all(each.amount <= 2 for each in found.deviations if each.unit is Unit.NM)
+    spot = found.solution.spot(ref_of(place))
+    assert max(abs(spot[0] - at[0]), abs(spot[1] - at[1])) <= 2

@@ -84,7 +84,7 @@ class _Writer:
         self.points: dict[Knot, str] = {}
         self.ways: dict[Knot, Spot] = dict(axes.facts.drawn)
         self.left_out: set[Owner] = set()
-        self.bases: dict[int, list[Track]] = {}
+        self.bars: list[Rail] = []
 
     def write(self) -> None:
         """Fills the sheet: points, lines, then angles, heights and distances."""
@@ -98,6 +98,7 @@ class _Writer:
             self._points_on(track)
         for run in self.rails.runs:
             self._run(run)
+        self._bars()
         self._loose()
         self._drop_idle()
 
@@ -142,14 +143,33 @@ class _Writer:
     def _tracks(self) -> list[Track]:
         """The rails that carry something, and the lines that lean, named."""
         ran = {rail for run in self.rails.runs for rail in self._run_rails(run)}
+        self.bars = [rail for rail in self.rails.members if rail not in ran and self._is_bar(rail)]
         rails = sorted(
             (rail for rail, members in self.rails.members.items()
-             if len(members) > 1 or rail in ran), key=self._turn)
+             if rail not in self.bars and (len(members) > 1 or rail in ran)), key=self._turn)
         lines: list[Track] = [line for line in self.axes.lines.all()
                               if self.axes.fixed_axis(line) is None]
         for number, track in enumerate([*rails, *lines]):
             self.names[track] = self._track_name(track, number)
         return [*rails, *lines]
+
+    def _is_bar(self, rail: Rail) -> bool:
+        """Whether a rail has two points alone, which are level: a distance says as much."""
+        members = list(self.rails.members[rail].items())
+        if rail.datum() or len(members) != 2 or members[0][1] == members[1][1]:
+            return False
+        across = [self.rails.rail(Coordinate(rail.frame, not rail.upwards, each.knot))
+                  for each, _ in members]
+        level = [self.rails.members[other].get(Coordinate(rail.frame, not rail.upwards, each.knot))
+                 for other, (each, _) in zip(across, members) if other is not None]
+        return across[0] == across[1] and len(level) == 2 and level[0] == level[1]
+
+    def _bars(self) -> None:
+        """Distances of points that are level."""
+        for rail in self.bars:
+            (first, start), (second, end) = self.rails.members[rail].items()
+            names = self.points[first.knot], self.points[second.knot]
+            self._say(*names, self.rails.owners(first, second), end - start)
 
     def _turn(self, rail: Rail) -> tuple[bool, int, int]:
         """In which order rails are told: the datum's first, then those with most points."""
@@ -172,7 +192,7 @@ class _Writer:
 
     def _settle_ways(self) -> None:
         """Draws a point on the other side of its rail where the dimensions put it there."""
-        for rail in self.names:
+        for rail in [*self.names, *self.bars]:
             if isinstance(rail, Rail):
                 for coordinate, offset in self.rails.members[rail].items():
                     self._settle_way(rail, coordinate, offset - self.rails.offset(rail))
