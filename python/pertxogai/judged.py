@@ -37,14 +37,13 @@ class TextRefused(Exception):
     itself."""
 
     def __init__(self, refused: Refused, text: str) -> None:
-        lines = text.splitlines()
+        lines = text.split("\n")
         shown = (
             f": {lines[refused.line - 1].strip()[:60]!r}" if 0 < refused.line <= len(lines) else ""
         )
         super().__init__(
             f"refused line {refused.line} {refused.code.name} {refused.code.word}{shown}; see"
-            f" 'How a text"
-            " is refused' in docs/LANGUAGE.md"
+            " 'How a text is refused' in docs/LANGUAGE.md"
         )
         self.refused = refused
 
