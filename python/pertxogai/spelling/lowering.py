@@ -120,10 +120,9 @@ class _Lowering:
                 return
             case Length() | Distance() | Radius() | Diameter() | Equal():
                 self._sizes(constraint, owner)
-            case XDistance(first, second):
-                self._shift(first, second, False, run_um(self.drawing, constraint), owner)
-            case YDistance(first, second):
-                self._shift(first, second, True, run_um(self.drawing, constraint), owner)
+            case XDistance(first, second) | YDistance(first, second):
+                upwards = isinstance(constraint, YDistance)
+                self._shift(first, second, upwards, run_um(self.drawing, constraint), owner)
             case Horizontal(of) | Vertical(of):
                 self._aligned(of, isinstance(constraint, Vertical), owner)
             case Parallel() | Perpendicular() | AngleBetween() | Collinear():

@@ -96,8 +96,8 @@ class Rails:
                 self._run_numbers.add(number)
 
     def _run(self, number: int, equation: Equation) -> Run | None:
-        """The dimension that an equation is between two coordinates, where it isn't 0, and where the
-        sizes in it are known without it."""
+        """The dimension that an equation is between two coordinates, where it isn't 0, and where
+        the sizes in it are known without it."""
         keys = [key for key in equation.form.terms if isinstance(key, Coordinate)]
         sizes = Form({key: value for key, value in equation.form.terms.items()
                       if not isinstance(key, Coordinate)}, equation.form.number)
