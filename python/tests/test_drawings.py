@@ -119,7 +119,8 @@ def test_there_are_a_hundred():
 
 
 def test_every_constraint_is_asked_for_in_some():
-    asked = {type(each) for path in DRAWINGS for each in read_drawing(path.read_text()).constraints}
+    asked = {type(each) for path in DRAWINGS
+             for each in read_drawing(path.read_text()).constraints}
     assert asked == {each for each in vars(constraints).values()
                      if isinstance(each, type) and each.__module__ == Coincident.__module__
                      and "name" in getattr(each, "__dataclass_fields__", ())}

@@ -71,7 +71,8 @@ CORNERS = [
 
 @pytest.mark.parametrize("first,second,expected", CORNERS)
 def test_angle_of_a_corner(first, second, expected):
-    found = turned(f"segment First {first}", f"segment Second {second}", "angle First Second 60deg")
+    lines = (f"segment First {first}", f"segment Second {second}")
+    found = turned(*lines, "angle First Second 60deg")
     assert found == expected
 
 

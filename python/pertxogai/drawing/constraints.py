@@ -218,7 +218,8 @@ class Tangent:
 
     Without `at` the point of touch is anywhere; two rims touch from outside or the one inside
     the other, as drawn (`pertxogai.drawing.touch`). With `at`, an end of the one and an end of
-    the other are one point, and the two touch there: the centres of the rims lie on the normal. Two lines that touch are `Collinear`.
+    the other are one point, and the two touch there: the centres of the rims lie on the normal.
+    Two lines that touch are `Collinear`.
     """
 
     first: ShapeRef
