@@ -69,8 +69,7 @@ def read_inputs(path: Path) -> tuple[Input, ...]:
         if path.stat().st_size > MOST_BYTES:
             raise InputRefused(
                 f"{path}: over {MOST_BYTES >> 20} MiB, which no sketch needs: look whether it is"
-                f" the"
-                " right file"
+                " the right file"
             )
         return kind.read(path)
     except OSError as error:

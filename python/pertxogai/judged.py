@@ -118,7 +118,7 @@ def _done(answer: Answer, text: str) -> Answer:
         read_answer(("check",), answer)
         raise NotAReport(
             f"the program ended with status {answer.status.value}, which doesn't fit what it was"
-            f" asked"
+            " asked"
         )
     return answer
 
@@ -152,8 +152,8 @@ def what_to_do(fault: Fault) -> str:
         return "no shape has these dimensions: change a length of them"
     if isinstance(fault, NumberFault):
         return (
-            "two places can't be told apart, or lines are parallel: change a length, or dimension"
-            " it otherwise"
+            "two places can't be told apart, or lines are parallel: change a length, or"
+            " dimension it otherwise"
         )
     if isinstance(fault, RangeFault):
         return "the proportions are beyond the grid: look for a slip in the lengths"

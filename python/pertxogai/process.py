@@ -129,8 +129,7 @@ class _Talk:
         if len(self.written[pipe]) > MOST_BYTES:
             raise ProgramSpoke(
                 f"{self.words[0]} wrote over {MOST_BYTES // MEBIBYTE} MiB and was stopped: is it"
-                f" the"
-                " program `sketch`?"
+                " the program `sketch`?"
             )
         return not found
 
@@ -143,6 +142,5 @@ class _Talk:
     def _late(self) -> ProgramTimedOut:
         return ProgramTimedOut(
             f"{' '.join(self.words)} took over {self.limits.seconds:g} s and was stopped: give it"
-            f" more seconds,"
-            " or a smaller sketch"
+            " more seconds, or a smaller sketch"
         )

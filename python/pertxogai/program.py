@@ -92,9 +92,8 @@ class Program:
         found = shutil.which(named or "sketch")
         if found is None and named is None:
             raise MissingProgram(
-                f"no program: {BUILD} isn't built and `sketch` isn't on the path; run ./sketch"
-                f" once,"
-                f" which builds it, or name one by {VARIABLE}"
+                f"no program: {BUILD} isn't built and `sketch` isn't on the path; build it by"
+                f" ./sketch prove, or name one by {VARIABLE}"
             )
         if found is None:
             raise MissingProgram(
@@ -116,8 +115,7 @@ class Program:
         except ValueError:
             raise ProgramCrashed(
                 f"{self.path} {' '.join(words)} {ended.how()}: it isn't the program `sketch`, or"
-                f" ran"
-                f" into a limit ({self.memory_mib} MiB)"
+                f" ran into a limit ({self.memory_mib} MiB)"
             ) from None
 
 

@@ -4,6 +4,7 @@ from __future__ import annotations
 import stat
 import subprocess
 import time
+from collections.abc import Callable
 from pathlib import Path
 
 import pytest
@@ -161,7 +162,7 @@ def test_a_program_that_is_missing(tmp_path, monkeypatch) -> None:
     monkeypatch.setenv("PATH", str(tmp_path))
     assert Program.find().path == str(tmp_path / "sketch")
     monkeypatch.setenv("PATH", "/nowhere")
-    with pytest.raises(MissingProgram, match="run ./sketch once"):
+    with pytest.raises(MissingProgram, match="./sketch prove"):
         Program.find()
     refused(MissingProgram, Program(str(tmp_path / "gone")), "can't be run")
     monkeypatch.setenv("PERTXOGAI_MEMORY_MIB", "much")
@@ -170,22 +171,25 @@ def test_a_program_that_is_missing(tmp_path, monkeypatch) -> None:
 
 
 def test_a_call_costs_little(program) -> None:
-    """Within 3 ms of the program's own time, by the least of many calls each."""
+    """Within 3 ms of the program's own time: by the least of calls of each by turns, as many as it
+    takes on a busy machine."""
+    own = ours = float("inf")
+    for _ in range(300):
+        own = min(own, seconds_of(lambda: run_plainly(program)))
+        ours = min(ours, seconds_of(lambda: program.ask(["check"], TRIANGLE)))
+        if ours < own + 0.003:
+            return
+    assert ours < own + 0.003
 
-    def least(call) -> float:
-        times = []
-        for _ in range(60):
-            begin = time.perf_counter()
-            call()
-            times.append(time.perf_counter() - begin)
-        return min(times)
 
-    own = least(
-        lambda: subprocess.run(
-            [program.path, "check"], input=TRIANGLE.encode(), capture_output=True
-        )
-    )
-    assert least(lambda: program.ask(["check"], TRIANGLE)) < own + 0.003
+def run_plainly(program: Program) -> None:
+    subprocess.run([program.path, "check"], input=TRIANGLE.encode(), capture_output=True)
+
+
+def seconds_of(call: Callable[[], object]) -> float:
+    begin = time.perf_counter()
+    call()
+    return time.perf_counter() - begin
 
 
 LIBRARY = r"""

@@ -41,8 +41,7 @@ class Part:
         state = "over" if self.over else "sound"
         return (
             f"part {self.number} {state} elements {len(self.elements)} held {self.held} due"
-            f" {self.due} :"
-            f" {' '.join(self.elements)}\n"
+            f" {self.due} : {' '.join(self.elements)}\n"
         )
 
 
