@@ -10,7 +10,6 @@ HERE = TOP / "c"
 PROGRAM = os.environ.get("PERTXOGAI_SKETCH", str(TOP / "crates/sketch/out/sketch"))
 STRICT = ["-Wall", "-Wextra", "-Wpedantic", "-Werror", "-O2", f"-I{HERE}"]
 SKETCHES = sorted([*(TOP / "examples").glob("*.sketch"), *(TOP / "examples/faults").glob("*.sketch")])
-ROWS = sorted((TOP / "python/tests/rows").glob("*.words"))
 COMMANDS = ["check", "plan", "plan order=last", "solve", "solve bits=16", "solve place=points", "dxf", "parts", "offers",
             "session", "migrate", "verify", "spare", "flips", "derive", "grow n=9", "nonsense", "", "check  ", "check order="]
 
@@ -26,7 +25,7 @@ def compiled(*words):
 
 @pytest.fixture(scope="session")
 def room(tmp_path_factory):
-    """The folder with the library, made anew of what is proved."""
+    """A folder with the library, which c/build makes of what is proved."""
     folder = tmp_path_factory.mktemp("library")
     compiled(HERE / "build", folder)
     return folder
@@ -44,13 +43,6 @@ def test_the_answers_are_the_programs(judge, sketch):
         wanted = run(PROGRAM, *command.split(), stdin=sketch.open("rb"))
         found = run(judge, sketch, command)
         assert (found.returncode, found.stdout) == (wanted.returncode, wanted.stdout), command
-
-
-@pytest.mark.parametrize("row", ROWS, ids=lambda path: path.stem)
-def test_a_worked_row(judge, row):
-    wanted = run(PROGRAM, *row.read_text().split(), stdin=row.with_suffix(".in").open("rb"))
-    found = run(judge, row.with_suffix(".in"), row.read_text().strip())
-    assert (found.returncode, found.stdout) == (wanted.returncode, wanted.stdout)
 
 
 def test_eight_threads_answer_as_one(room):
