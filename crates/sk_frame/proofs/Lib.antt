@@ -6,3 +6,6 @@ pub mod UnitTurns
 pub mod FrameTurns
 pub mod Meetings
 pub mod Edges
+pub mod ExactTurns
+pub mod SoundFrames
+pub mod MotionLaws

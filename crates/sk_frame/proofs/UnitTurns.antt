@@ -41,7 +41,29 @@ square_size : (z : ℤ) → z *ℤ z ≡ pos (unsigned_abs z * unsigned_abs z)
 square_size (pos n) = omega (arith, ints)
 square_size (negsuc n) = omega (arith, ints)
 
+square_small : (F : ℕ) (a : ℤ) → unsigned_abs a ≤ 2 ^ 23 * 2 ^ F → unsigned_abs a * unsigned_abs a ≤ 2 ^ 46 * 2 ^ F * 2 ^ F
+square_small F a small = omega (arith, mul-le (unsigned_abs a) (unsigned_abs a) (2 ^ 23 * 2 ^ F) (2 ^ 23 * 2 ^ F) small small)
+
+square_from : (F : ℕ) (a : ℤ) → pos 0 ≤ℤ floor_of (a *ℤ a) (pos (2 ^ F))
+square_from F a = at_most-floor (pos 0) (a *ℤ a) (pos (2 ^ F)) (pos-nonzero (2 ^ F) (unit-positive F)) (rw (square_size a) (omega (arith, ints)))
+
+square_to : (F : ℕ) (a : ℤ) → unsigned_abs a ≤ 2 ^ 23 * 2 ^ F → ceil_of (a *ℤ a) (pos (2 ^ F)) ≤ℤ pos (2 ^ 46 * 2 ^ F)
+square_to F a small = ceil_to (a *ℤ a) (2 ^ F) (2 ^ 46 * 2 ^ F) (unit-positive F) (rw (square_size a) (square_small F a small))
+
 -- the square of a part of the turn
+pub square_is : (F : ℕ) (a : ℤ) → unsigned_abs a ≤ 2 ^ 23 * 2 ^ F → product F (exactly a) (exactly a) ≡ Ok (record { lo = floor_of (a *ℤ a) (pos (2 ^ F)); hi = ceil_of (a *ℤ a) (pos (2 ^ F)) })
+square_is F a small =
+    let square : Interval = record { lo = floor_of (a *ℤ a) (pos (one F)); hi = ceil_of (a *ℤ a) (pos (one F)) } in
+    let make : ℤ → ℤ → Interval = λ l h. record { lo = floor_of l (pos (one F)); hi = ceil_of h (pos (one F)) } in
+    let from = square_from F a in
+    let to = square_to F a small in
+    let order : square.lo ≤ℤ square.hi = floor_below_ceil (a *ℤ a) (a *ℤ a) (2 ^ F) (unit-positive F) (≤ℤ_refl _) in
+    let wide : 2 ^ 46 * 2 ^ F ≤ 2 ^ (50 + F) = omega (arith, pow-add 2 50 F) in
+    sym (product-quotients F (exactly a) (exactly a))
+    ∙ ap (λ l. bounded 50 F (make l (greatest_at times (exactly a) (exactly a)))) (least_same (a *ℤ a))
+    ∙ ap (λ h. bounded 50 F (make (a *ℤ a) h)) (greatest_same (a *ℤ a))
+    ∙ bounded-ok 50 F square (size_of_bounds square.lo (2 ^ (50 + F)) (omega (arith, ints, from)) (omega (arith, ints, order, to, wide))) (size_of_bounds square.hi (2 ^ (50 + F)) (omega (arith, ints, from, order)) (omega (arith, ints, to, wide)))
+
 pub record HasSquare (F : ℕ) (a : ℤ) : Type 0 where
   pub square : Interval
   pub is : product F (exactly a) (exactly a) ≡ Ok square
@@ -51,27 +73,14 @@ pub record HasSquare (F : ℕ) (a : ℤ) : Type 0 where
   pub great : 2 ^ 22 * 2 ^ F ≤ unsigned_abs a → pos (2 ^ 44 * 2 ^ F) ≤ℤ square.lo
 
 pub square_of : (F : ℕ) (a : ℤ) → unsigned_abs a ≤ 2 ^ 23 * 2 ^ F → HasSquare F a
-square_of F a small =
-    let s : ℕ = unsigned_abs a * unsigned_abs a in
-    let unit : 0 < 2 ^ F = unit-positive F in
-    let size : s ≤ 2 ^ 46 * 2 ^ F * 2 ^ F = omega (arith, mul-le (unsigned_abs a) (unsigned_abs a) (2 ^ 23 * 2 ^ F) (2 ^ 23 * 2 ^ F) small small) in
-    let square : Interval = record { lo = floor_of (a *ℤ a) (pos (one F)); hi = ceil_of (a *ℤ a) (pos (one F)) } in
-    let make : ℤ → ℤ → Interval = λ l h. record { lo = floor_of l (pos (one F)); hi = ceil_of h (pos (one F)) } in
-    let from : pos 0 ≤ℤ square.lo = at_most-floor (pos 0) (a *ℤ a) (pos (2 ^ F)) (pos-nonzero (2 ^ F) unit) (rw (square_size a) (omega (arith, ints))) in
-    let to : square.hi ≤ℤ pos (2 ^ 46 * 2 ^ F) = ceil_to (a *ℤ a) (2 ^ F) (2 ^ 46 * 2 ^ F) unit (rw (square_size a) size) in
-    let order : square.lo ≤ℤ square.hi = floor_below_ceil (a *ℤ a) (a *ℤ a) (2 ^ F) unit (≤ℤ_refl _) in
-    let wide : 2 ^ 46 * 2 ^ F ≤ 2 ^ (50 + F) = omega (arith, pow-add 2 50 F) in
-    record {
-      square = square;
-      is = sym (product-quotients F (exactly a) (exactly a))
-          ∙ ap (λ l. bounded 50 F (make l (greatest_at times (exactly a) (exactly a)))) (least_same (a *ℤ a))
-          ∙ ap (λ h. bounded 50 F (make (a *ℤ a) h)) (greatest_same (a *ℤ a))
-          ∙ bounded-ok 50 F square (size_of_bounds square.lo (2 ^ (50 + F)) (omega (arith, ints, from)) (omega (arith, ints, order, to, wide))) (size_of_bounds square.hi (2 ^ (50 + F)) (omega (arith, ints, from, order)) (omega (arith, ints, to, wide)));
-      lo_from = from;
-      ordered = order;
-      hi_to = to;
-      great = λ great. at_most-floor (pos (2 ^ 44 * 2 ^ F)) (a *ℤ a) (pos (2 ^ F)) (pos-nonzero (2 ^ F) unit) (rw (square_size a) (omega (arith, ints, mul-le (2 ^ 22 * 2 ^ F) (2 ^ 22 * 2 ^ F) (unsigned_abs a) (unsigned_abs a) great great)));
-    }
+square_of F a small = record {
+  square = record { lo = floor_of (a *ℤ a) (pos (2 ^ F)); hi = ceil_of (a *ℤ a) (pos (2 ^ F)) };
+  is = square_is F a small;
+  lo_from = square_from F a;
+  ordered = floor_below_ceil (a *ℤ a) (a *ℤ a) (2 ^ F) (unit-positive F) (≤ℤ_refl _);
+  hi_to = square_to F a small;
+  great = λ great. at_most-floor (pos (2 ^ 44 * 2 ^ F)) (a *ℤ a) (pos (2 ^ F)) (pos-nonzero (2 ^ F) (unit-positive F)) (rw (square_size a) (omega (arith, ints, mul-le (2 ^ 22 * 2 ^ F) (2 ^ 22 * 2 ^ F) (unsigned_abs a) (unsigned_abs a) great great)));
+}
 
 -- ---- a part of the turn, on the grid
 
@@ -178,7 +187,7 @@ pub record HasTurn (F : ℕ) (a b : ℤ) : Type 0 where
   pub sin_lo : unsigned_abs sin.lo ≤ 2 * 2 ^ F
   pub sin_hi : unsigned_abs sin.hi ≤ 2 * 2 ^ F
 
-evaluated : (F : ℕ) (x y p q t size cos sin : Interval) → product F x x ≡ Ok p → product F y y ≡ Ok q → sum F p q ≡ Ok t → root F t ≡ Ok size → quotient F x size ≡ Ok cos → quotient F y size ≡ Ok sin
+pub evaluated : (F : ℕ) (x y p q t size cos sin : Interval) → product F x x ≡ Ok p → product F y y ≡ Ok q → sum F p q ≡ Ok t → root F t ≡ Ok size → quotient F x size ≡ Ok cos → quotient F y size ≡ Ok sin
     → evaluate {N = What} F (x ∷ y ∷ []) unit_turn ≡ Ok (size ∷ cos ∷ sin ∷ [])
 unfolding unit_turn
 evaluated F x y p q t size cos sin p_is q_is t_is size_is cos_is sin_is = rw (p_is, q_is, t_is, size_is, cos_is, sin_is) refl

@@ -3,15 +3,25 @@ ghost use Rattle.std.specs.Prelude.{◌≡◌, ◌≤◌, ◌<◌, Ok};
 ghost use Rattle.sk_base.specs.Bounds.{IsWithin};
 ghost use Rattle.sk_interval.specs.Operations.{of_micrometres};
 ghost use Rattle.sk_frame.specs.Frames.{IsSoundFrame};
-ghost use Rattle.sk_frame.specs.FrameMotions.{ratio, parts_motion, frame_motion};
+ghost use Rattle.sk_frame.specs.FrameMotions.{ratio, parts_motion, frame_motion, IsExactAlongAxes, HoldsFinerMotion};
 
 use crate::frames::Frame;
 use sk_base::Um;
 use sk_interval::{Grid, Iv};
 use sk_motion::{Motion, settle_motion};
 
-/// The motion that takes the frame to where it is drawn.
+/// The motion that takes the frame to where it is drawn. It has no fault on any grid.
 pub fn frame_motion<G: Grid>(f: &Frame) -> Motion<G>
+    requires { IsSoundFrame f.now }
+    ensures value { Ok result ≡ frame_motion G.BITS f.now }
+    ensures exact { 16 ≤ G.BITS → IsExactAlongAxes G.BITS f.now.turn result }
+    ensures nested { HoldsFinerMotion G.BITS f.now result }
+{
+    unit_motion(f)
+}
+
+/// The motion with its turn at length 1.
+fn unit_motion<G: Grid>(f: &Frame) -> Motion<G>
     requires { IsSoundFrame f.now }
     ensures { Ok result ≡ frame_motion G.BITS f.now }
 {

@@ -1,9 +1,8 @@
-use Rattle.std.proofs.Common.{Err, sym, ap, ◌∙◌}
-use Rattle.sk_motion.specs.Settling.{settled_motion}
-use Rattle.sk_frame.proofs.FrameTurns.{never}
+use Rattle.sk_frame.proofs.MotionLaws.{exact_along_axes, finer_motion}
 use Rattle.sk_frame.proofs.taking.frame_motion.Goals as goal
 
-pub unreachable-requires : goal.unreachable-requires
-unreachable-requires g c =
-    never g.G.Grid.BITS g.G.Grid.enough c.args.f.now c.requires c.in-Err.field-0
-    (ap (settled_motion g.G.Grid.BITS) (sym c.parts_motion.ensures) ∙ sym c.in-Err.ensures)
+pub returns-clause-exact : goal.returns-clause-exact
+returns-clause-exact g c = λ enough. exact_along_axes g.G.Grid.BITS enough c.args.f.now c.requires c.unit_motion.result c.unit_motion.ensures
+
+pub returns-clause-nested : goal.returns-clause-nested
+returns-clause-nested g c = λ k. finer_motion g.G.Grid.BITS g.G.Grid.enough c.args.f.now c.requires c.unit_motion.result c.unit_motion.ensures k
