@@ -22,7 +22,7 @@ use Rattle.sk_tree.specs.declared.Plan.{Plan}
 use Rattle.sk_tree.specs.declared.PlanStep.{PlanStep}
 use Rattle.sk_tree.specs.ByNumber.{by_number}
 use Rattle.sk_tree.specs.LegalPlan.{IsLegalPlan}
-use Rattle.sk_place.specs.declared.PlaceBy.{PlaceBy}
+use Rattle.sk_flips.specs.declared.placing.Layout.{Layout}
 use Rattle.sk_residual.specs.declared.Tolerance.{Tolerance}
 use Rattle.sk_residual.specs.declared.Turned.{Turned as SignThere}
 use Rattle.sk_residual.specs.declared.Wanted.TheVariants.{Chosen}
@@ -69,7 +69,7 @@ module _ (s : Sketch) (p : Plan) where
       (there, refl, all there (Contains-append_right (constraint_signs s at s.constraints) (signs_of_steps Chosen s at (flipped names p).steps) there among))
 
   -- where elements are found, all signs are as they are chosen
-  found_as_chosen : (G : Type 0) (placing : PlaceBy) (F limit : ℕ) (names : List Name) (at : Placed) (tol : Tolerance) → IsAlternative G placing F limit s p names (Found at tol) → AllAsDrawn (signs_wanted Chosen s at (flipped names p))
+  found_as_chosen : (G : Type 0) (placing : Layout) (F limit : ℕ) (names : List Name) (at : Placed) (tol : Tolerance) → IsAlternative G placing F limit s p names (Found at tol) → AllAsDrawn (signs_wanted Chosen s at (flipped names p))
   found_as_chosen G placing F limit names at tol (chosen, (boxes, placed, (lies, all, drawn, tolerance))) = subst (λ (here : Placed). AllAsDrawn (signs_wanted Chosen s here (flipped names p))) (sym lies) drawn
 
   one_sign : IsSoundSketch s → IsLegalPlan (graph_of s) p → (at : Placed) (step : PlanStep) → Contains p.steps step → is_open step.choice ≡ true → (sign : SignThere) × (choices s at step.step (by_number step.a step.b step.c) ≡ sign ∷ [])
@@ -78,7 +78,7 @@ module _ (s : Sketch) (p : Plan) where
       let differ = taken.1.joins.meets.triangle.differ in
       open_sign s at step.step step.a step.b step.c differ.0 differ.1 differ.2 sound step.choice opens taken.1.choice
 
-  pub other_signs : (G : Type 0) (placing : PlaceBy) (F limit : ℕ) (names others : List Name) (at there : Placed) (tol beside : Tolerance) → IsSoundSketch s → IsLegalPlan (graph_of s) p
+  pub other_signs : (G : Type 0) (placing : Layout) (F limit : ℕ) (names others : List Name) (at there : Placed) (tol beside : Tolerance) → IsSoundSketch s → IsLegalPlan (graph_of s) p
       → IsAlternative G placing F limit s p names (Found at tol) → IsAlternative G placing F limit s p others (Found there beside)
       → (n : Name) → Contains names n → ¬ Contains others n
       → (step : PlanStep) × Contains p.steps step × (step.step ≡ n) × (placed_signs s at step ≢ placed_signs s there step)

@@ -3,13 +3,13 @@ use Rattle.std.proofs.Common.{◌≡◌, ℕ, suc, List, [], ◌∷◌, ◌++◌
 use Rattle.sk_base.specs.declared.Name.{Name}
 use Rattle.sk_base.specs.declared.Sketch.{Sketch}
 use Rattle.sk_tree.specs.declared.Plan.{Plan}
-use Rattle.sk_place.specs.declared.PlaceBy.{PlaceBy}
+use Rattle.sk_flips.specs.declared.placing.Layout.{Layout}
 use Rattle.sk_flips.specs.declared.alternative.Alternative.{Alternative}
 use Rattle.sk_flips.specs.declared.placing.Placement.{Placement}
-use Rattle.sk_flips.specs.declared.placing.Placement.TheVariants.{Fault, Beyond, Turned, Holds}
+use Rattle.sk_flips.specs.declared.placing.Placement.TheVariants.{Fault, Uncarried, Beyond, Turned, Holds}
 use Rattle.sk_flips.specs.Alternatives.{alternative_of, IsTurnedPlacement, IsAlternative, AreAlternatives}
 
-module _ (G : Type 0) (placing : PlaceBy) (F limit : ℕ) (s : Sketch) (p : Plan) where
+module _ (G : Type 0) (placing : Layout) (F limit : ℕ) (s : Sketch) (p : Plan) where
   -- one list more
   pub alternatives_more : (lists : List (List Name)) (alternatives : List Alternative) (names : List Name) (a : Alternative) → AreAlternatives G placing F limit s p lists alternatives → IsAlternative G placing F limit s p names a
       → AreAlternatives G placing F limit s p (lists ++ names ∷ []) (alternatives ++ a ∷ [])
@@ -28,6 +28,7 @@ module _ (G : Type 0) (placing : PlaceBy) (F limit : ℕ) (s : Sketch) (p : Plan
   -- of a turned plan that is placed so
   pub is_alternative : (names : List Name) (placement : Placement) → IsTurnedPlacement G placing F limit s p names placement → IsAlternative G placing F limit s p names (alternative_of placement)
   is_alternative names (Fault f) is = is
+  is_alternative names (Uncarried f) is = is
   is_alternative names (Beyond b) is = is
   is_alternative names (Turned t) is = is
   is_alternative names (Holds at tol) is = is

@@ -6,7 +6,7 @@ use Rattle.sk_base.specs.declared.Sketch.{Sketch}
 use Rattle.sk_base.specs.SoundGraph.{IsSoundGraph}
 use Rattle.sk_graph.specs.SketchGraph.{graph_of}
 use Rattle.sk_tree.specs.declared.Plan.{Plan}
-use Rattle.sk_place.specs.declared.PlaceBy.{PlaceBy}
+use Rattle.sk_flips.specs.declared.placing.Layout.{Layout}
 use Rattle.sk_residual.specs.declared.Tolerance.{Tolerance}
 use Rattle.sk_residual.specs.Tolerances.{AllHoldWithin}
 use Rattle.sk_residual.proofs.Merging.{has_blocks}
@@ -15,7 +15,7 @@ use Rattle.sk_flips.specs.declared.alternative.Alternative.TheVariants.{Found}
 use Rattle.sk_flips.specs.Alternatives.{IsAlternative}
 use Rattle.sk_flips.specs.Placements.{IsTolerance}
 
-module _ (G : Type 0) (placing : PlaceBy) (F limit : ℕ) (s : Sketch) (p : Plan) (names : List Name) (at : Placed) (tol : Tolerance) where
+module _ (G : Type 0) (placing : Layout) (F limit : ℕ) (s : Sketch) (p : Plan) (names : List Name) (at : Placed) (tol : Tolerance) where
   pub found_least : IsAlternative G placing F limit s p names (Found at tol) → IsTolerance at (graph_of s) tol
   found_least (chosen, (boxes, placed, (lies, all, drawn, tolerance))) = subst (λ (here : Placed). IsTolerance here (graph_of s) tol) (sym lies) tolerance
 

@@ -13,14 +13,14 @@ use Rattle.sk_tree.specs.declared.Plan.{Plan}
 use Rattle.sk_tree.specs.declared.PlanStep.{PlanStep}
 use Rattle.sk_tree.specs.ByNumber.{by_number}
 use Rattle.sk_tree.specs.LegalPlan.{IsLegalPlan}
-use Rattle.sk_place.specs.declared.PlaceBy.{PlaceBy}
+use Rattle.sk_flips.specs.declared.placing.Layout.{Layout}
 use Rattle.sk_residual.specs.declared.Turned.{Turned as SignThere}
 use Rattle.sk_residual.specs.declared.Wanted.TheVariants.{Drawn, Chosen}
 use Rattle.sk_residual.specs.Telling.{HasCorners}
 use Rattle.sk_residual.specs.Turns.{choices, as_chosen, constraint_signs, signs_of_step, signs_of_steps, signs_wanted}
 use Rattle.sk_residual.proofs.Comparisons.{corners_of}
 use Rattle.sk_flips.specs.declared.placing.Placement.{Placement}
-use Rattle.sk_flips.specs.declared.placing.Placement.TheVariants.{Fault, Beyond, Turned, Holds}
+use Rattle.sk_flips.specs.declared.placing.Placement.TheVariants.{Fault, Uncarried, Beyond, Turned, Holds}
 use Rattle.sk_flips.specs.Alternatives.{alternative_of, IsAlternative}
 use Rattle.sk_flips.specs.Flipping.{flipped_step, flipped}
 use Rattle.sk_flips.specs.Placements.{midpoints, IsPlacement}
@@ -53,9 +53,10 @@ none_flipped (step ∷ steps) = ap (λ (more : List PlanStep). step ∷ more) (n
 pub flipped_by_none : (p : Plan) → flipped [] p ≡ p
 flipped_by_none p = ap (λ (steps : List PlanStep). let plan : Plan = record { leaves = p.leaves; steps = steps } in plan) (none_flipped p.steps)
 
-module _ (G : Type 0) (placing : PlaceBy) (F limit : ℕ) (s : Sketch) (p : Plan) (same : (at : Placed) → signs_wanted Chosen s at p ≡ signs_wanted Drawn s at p) where
+module _ (G : Type 0) (placing : Layout) (F limit : ℕ) (s : Sketch) (p : Plan) (same : (at : Placed) → signs_wanted Chosen s at p ≡ signs_wanted Drawn s at p) where
   as_chosen_too : (placement : Placement) → IsPlacement Drawn G placing F limit s p placement → IsPlacement Chosen G placing F limit s p placement
   as_chosen_too (Fault f) is = is
+  as_chosen_too (Uncarried f) is = is
   as_chosen_too (Beyond b) is = is
   as_chosen_too (Turned t) (boxes, placed, (all, first)) = (boxes, placed, (all, rw (same (midpoints F boxes)) first))
   as_chosen_too (Holds at t) (boxes, placed, (lies, all, drawn, tolerance)) = (boxes, placed, (lies, all, rw (same (midpoints F boxes)) drawn, tolerance))

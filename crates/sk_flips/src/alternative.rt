@@ -6,23 +6,24 @@ ghost use Rattle.sk_tree.specs.LegalPlan.{IsLegalPlan};
 ghost use Rattle.sk_flips.specs.Alternatives.{alternative_of, IsAlternative, AreAlternatives};
 
 use crate::flip::{FlipError, flip_plan};
-use crate::placing::{Placement, placed_on};
+use crate::placing::{Layout, Placement, placed_on};
 use sk_base::{Graph, List, Name, NoMemory, Placed, Sketch};
 use sk_interval::Grid;
-use sk_place::{PlaceBy, StepFault};
+use sk_place::{BoxFault, StepFault};
 use sk_residual::{Beyond, Tolerance, Turned, Wanted};
 use sk_tree::Plan;
 use std::alloc::Global;
 
 /// What comes of turning the choices of some steps: where the elements lie then, and within which
-/// tolerance all holds; or a step that has no choice, the first step with a fault, the first line or
-/// constraint beyond the limit, or the first sign that isn't placed as it is wanted: that of a step as
+/// tolerance all holds; or a step that has no choice, the first step with a fault, the first box that can't be carried to
+/// the drawing, the first line or constraint beyond the limit, or the first sign that isn't placed as it is wanted: that of a step as
 /// the turned plan chooses it, any other as it is drawn.
 #[derive(Drop)]
 pub enum Alternative {
     Found { at: Placed, tol: Tolerance },
     NoChoice(Name),
     Fault(StepFault),
+    Uncarried(BoxFault),
     Passed(Beyond),
     Turned(Turned),
 }
@@ -31,7 +32,7 @@ pub enum Alternative {
 /// in parts per 10^9 for angles and normals.
 pub fn alternatives<G: Grid>(
     alloc: Global,
-    placing: PlaceBy,
+    placing: Layout,
     s: &Sketch,
     g: &Graph,
     p: &Plan,
@@ -49,7 +50,7 @@ pub fn alternatives<G: Grid>(
 /// What comes of each list of steps, in order.
 fn each<G: Grid>(
     alloc: Global,
-    placing: PlaceBy,
+    placing: Layout,
     s: &Sketch,
     g: &Graph,
     p: &Plan,
@@ -71,7 +72,7 @@ fn each<G: Grid>(
 /// What comes of turning the choices of these steps.
 fn turning<G: Grid>(
     alloc: Global,
-    placing: PlaceBy,
+    placing: Layout,
     s: &Sketch,
     g: &Graph,
     p: &Plan,
@@ -104,6 +105,7 @@ fn alternative_of(placement: Placement) -> Alternative
 {
     match placement {
         Placement::Fault(fault) => Alternative::Fault(fault),
+        Placement::Uncarried(fault) => Alternative::Uncarried(fault),
         Placement::Beyond(beyond) => Alternative::Passed(beyond),
         Placement::Turned(turned) => Alternative::Turned(turned),
         Placement::Holds(at, tol) => Alternative::Found { at, tol },

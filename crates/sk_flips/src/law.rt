@@ -6,7 +6,7 @@ ghost use Rattle.sk_base.specs.declared.Sketch.{Sketch};
 ghost use Rattle.sk_base.specs.SoundSketch.{IsSoundSketch};
 ghost use Rattle.sk_choice.specs.DrawnChoice.{HasDrawnChoice};
 ghost use Rattle.sk_graph.specs.SketchGraph.{graph_of};
-ghost use Rattle.sk_place.specs.declared.PlaceBy.{PlaceBy};
+ghost use Rattle.sk_flips.specs.declared.placing.Layout.{Layout};
 ghost use Rattle.sk_residual.specs.declared.Tolerance.{Tolerance};
 ghost use Rattle.sk_residual.specs.declared.Wanted.TheVariants.{Drawn, Chosen};
 ghost use Rattle.sk_residual.specs.Tolerances.{AllHoldWithin};
@@ -39,8 +39,8 @@ pub fn untouched_plan_is_drawn()
 /// Where elements are found, each line, each constraint and each block holds within the tolerance that is
 /// told with them, and the tolerance is the least.
 pub fn found_is_met<G: Grid>()
-    ensures met { (placing : PlaceBy) (F limit : ℕ) (s : Sketch) (p : Plan) (names : Items Name) (at : Placed) (tol : Tolerance) → IsSoundSketch s → IsAlternative G placing F limit s p names (Found at tol) → AllHoldWithin at (graph_of s) tol.t tol.w }
-    ensures least { (placing : PlaceBy) (F limit : ℕ) (s : Sketch) (p : Plan) (names : Items Name) (at : Placed) (tol : Tolerance) → IsAlternative G placing F limit s p names (Found at tol) → IsTolerance at (graph_of s) tol }
+    ensures met { (placing : Layout) (F limit : ℕ) (s : Sketch) (p : Plan) (names : Items Name) (at : Placed) (tol : Tolerance) → IsSoundSketch s → IsAlternative G placing F limit s p names (Found at tol) → AllHoldWithin at (graph_of s) tol.t tol.w }
+    ensures least { (placing : Layout) (F limit : ℕ) (s : Sketch) (p : Plan) (names : Items Name) (at : Placed) (tol : Tolerance) → IsAlternative G placing F limit s p names (Found at tol) → IsTolerance at (graph_of s) tol }
 {
     sound_graph();
 }
@@ -48,7 +48,7 @@ pub fn found_is_met<G: Grid>()
 /// Where elements are found for two lists, each step that stands in one of them alone has another placed
 /// sign there than here.
 pub fn alternatives_differ<G: Grid>()
-    ensures { (placing : PlaceBy) (F limit : ℕ) (s : Sketch) (p : Plan) (names others : Items Name) (at there : Placed) (tol beside : Tolerance) → IsSoundSketch s → IsLegalPlan (graph_of s) p
+    ensures { (placing : Layout) (F limit : ℕ) (s : Sketch) (p : Plan) (names others : Items Name) (at there : Placed) (tol beside : Tolerance) → IsSoundSketch s → IsLegalPlan (graph_of s) p
         → IsAlternative G placing F limit s p names (Found at tol) → IsAlternative G placing F limit s p others (Found there beside)
         → (n : Name) → Contains names n → ¬ Contains others n
         → (step : PlanStep) × Contains p.steps step × (step.step ≡ n) × (placed_signs s at step ≢ placed_signs s there step) }
@@ -56,13 +56,13 @@ pub fn alternatives_differ<G: Grid>()
 
 /// For the empty list a plan with the choices of the drawing gives just what comes of placing it as drawn.
 pub fn untouched_plan_is_placed<G: Grid>()
-    ensures { (placing : PlaceBy) (F limit : ℕ) (s : Sketch) (p : Plan) (placement : Placement) → IsSoundSketch s → IsLegalPlan (graph_of s) p → All (λ step. HasDrawnChoice s step) p.steps
+    ensures { (placing : Layout) (F limit : ℕ) (s : Sketch) (p : Plan) (placement : Placement) → IsSoundSketch s → IsLegalPlan (graph_of s) p → All (λ step. HasDrawnChoice s step) p.steps
         → IsPlacement Drawn G placing F limit s p placement → IsAlternative G placing F limit s p [] (alternative_of placement) }
 {}
 
 /// Of a legal plan that has a tree, if it has a constraint, at most one alternative comes of each list
 /// of steps.
 pub fn one_alternative<G: Grid>()
-    ensures { (placing : PlaceBy) (F limit : ℕ) (s : Sketch) (p : Plan) (names : Items Name) (a b : Alternative) → IsLegalPlan (graph_of s) p → (¬ (p.leaves ≡ []) → (t : Tree) × IsPlanTree p t)
+    ensures { (placing : Layout) (F limit : ℕ) (s : Sketch) (p : Plan) (names : Items Name) (a b : Alternative) → IsLegalPlan (graph_of s) p → (¬ (p.leaves ≡ []) → (t : Tree) × IsPlanTree p t)
         → IsAlternative G placing F limit s p names a → IsAlternative G placing F limit s p names b → a ≡ b }
 {}

@@ -4,24 +4,38 @@ ghost use Rattle.sk_base.specs.SoundGraph.{IsSoundGraph};
 ghost use Rattle.sk_base.specs.SoundSketch.{IsSoundSketch};
 ghost use Rattle.sk_graph.specs.SketchGraph.{graph_of};
 ghost use Rattle.sk_tree.specs.LegalPlan.{IsLegalPlan};
+ghost use Rattle.sk_place.specs.declared.BoxFault.{BoxFault as FaultOfBox};
+ghost use Rattle.sk_place.specs.Clusters.{nodes_of};
+ghost use Rattle.sk_place.specs.Placing.{IsPlaced};
 ghost use Rattle.sk_residual.specs.Placing.{PlacesExactly};
-ghost use Rattle.sk_flips.specs.Placements.{IsMeasured, IsPlacement, LiesWithinBounds};
+ghost use Rattle.sk_flips.specs.Placements.{AnswersCarried, IsMeasured, IsPlacement, LiesWithinBounds};
 
 use sk_base::{Graph, NoMemory, Placed, Sketch};
+use sk_frame::{FrameBy, frame_motion, frame_of};
 use sk_graph::sound_graph;
 use sk_interval::Grid;
-use sk_place::{PlaceBy, PlaceError, StepFault, place, round};
+use sk_place::{
+    BoxFault, Boxes, MoveError, PlaceBy, PlaceError, StepFault, moved, place, round,
+};
 use sk_residual::{
     Beyond, Tolerance, Turned, Wanted, first_unlike, least, passed, placed_in_order,
 };
 use sk_tree::Plan;
 use std::alloc::Global;
 
+/// What the places of elements are while a plan is placed, and in which frame they are told.
+#[derive(Clone, Copy, PartialEq, Eq, Debug)]
+pub struct Layout {
+    pub by: PlaceBy,
+    pub frame: FrameBy,
+}
+
 /// How a plan is placed: what fails first, or else where the elements lie and within which tolerance
 /// all holds.
 #[derive(Drop)]
 pub enum Placement {
     Fault(StepFault),
+    Uncarried(BoxFault),
     Beyond(Beyond),
     Turned(Turned),
     Holds(Placed, Tolerance),
@@ -31,7 +45,7 @@ pub enum Placement {
 /// and the signs of the steps are to be as they are drawn, or as the plan chooses them.
 pub fn placed_on<G: Grid>(
     alloc: Global,
-    placing: PlaceBy,
+    placing: Layout,
     wanted: Wanted,
     limit: u64,
     s: &Sketch,
@@ -45,14 +59,74 @@ pub fn placed_on<G: Grid>(
     ensures bounded { IfOk result LiesWithinBounds }
 {
     sound_graph();
-    match place::<G>(alloc, placing, p, g) {
-        Ok(boxes) => {
-            let at = round(alloc, &boxes)?;
+    match place::<G>(alloc, placing.by, p, g) {
+        Ok(boxes) => placed_boxes(alloc, placing, wanted, limit, s, g, p, boxes),
+        Err(PlaceError::Fault(fault)) => Ok(Placement::Fault(fault)),
+        Err(PlaceError::NoMemory) => Err(NoMemory),
+    }
+}
+
+/// What comes of the plan's boxes in the frame of the base.
+fn placed_boxes<G: Grid>(
+    alloc: Global,
+    placing: Layout,
+    wanted: Wanted,
+    limit: u64,
+    s: &Sketch,
+    g: &Graph,
+    p: &Plan,
+    boxes: Boxes<G>,
+) -> Result<Placement, NoMemory>
+    requires sketch { IsSoundSketch s.now }
+    requires graph { g.now ≡ graph_of s.now }
+    requires sound { IsSoundGraph g.now }
+    requires legal { IsLegalPlan g.now p.now }
+    requires placed { IsPlaced placing.by G.BITS g.now p.now (Ok boxes) }
+    requires nodes { nodes_of boxes ≡ g.now.nodes }
+    ensures placement { IfOk result (IsPlacement wanted G placing G.BITS limit s.now p.now) }
+    ensures bounded { IfOk result LiesWithinBounds }
+{
+    match carried(alloc, placing, s, g, p, boxes) {
+        Ok(there) => {
+            let at = round(alloc, &there)?;
             placed_in_order();
             Ok(measured(wanted, limit, s, g, p, at))
         }
-        Err(PlaceError::Fault(fault)) => Ok(Placement::Fault(fault)),
-        Err(PlaceError::NoMemory) => Err(NoMemory),
+        Err(error) => uncarried(error),
+    }
+}
+
+/// That a box can't be carried, unless memory ran out.
+fn uncarried(error: MoveError) -> Result<Placement, NoMemory>
+    ensures { IfOk result (λ q. (f : FaultOfBox) × (error ≡ MoveError.Fault f) × (q ≡ Placement.Uncarried f)) }
+{
+    match error {
+        MoveError::Fault(fault) => Ok(Placement::Uncarried(fault)),
+        MoveError::NoMemory => Err(NoMemory),
+    }
+}
+
+/// The boxes in the frame that is wanted.
+fn carried<G: Grid>(
+    alloc: Global,
+    placing: Layout,
+    s: &Sketch,
+    g: &Graph,
+    p: &Plan,
+    boxes: Boxes<G>,
+) -> Result<Boxes<G>, MoveError>
+    requires sketch { IsSoundSketch s.now }
+    requires graph { g.now ≡ graph_of s.now }
+    requires sound { IsSoundGraph g.now }
+    ensures carried { AnswersCarried placing.frame placing.by G.BITS s.now p.now boxes result }
+    ensures nodes { IfOk result (λ there. nodes_of there ≡ nodes_of boxes) }
+{
+    match placing.frame {
+        FrameBy::Base => Ok(boxes),
+        FrameBy::Drawn => {
+            let motion = frame_motion(&frame_of(s, g, p));
+            moved(alloc, placing.by, &motion, &boxes)
+        }
     }
 }
 

@@ -1,4 +1,4 @@
--- The lines that name what failed: a step, a constraint or a line.
+-- The lines that name what failed: a step, a carried box, a constraint or a line.
 use Rattle.std.specs.Prelude.{ℕ, List, [], ◌∷◌, ◌++◌, Option, None, Some, codes}
 use Rattle.std.specs.Fmt.{decimal}
 use Rattle.sk_base.specs.declared.Constraint.{Constraint}
@@ -9,6 +9,7 @@ use Rattle.sk_base.specs.Spelling.{whole_text}
 use Rattle.sk_interval.specs.declared.Cause.{Cause}
 use Rattle.sk_steps.specs.Words.{word_of}
 use Rattle.sk_place.specs.declared.Phase.{Phase}
+use Rattle.sk_place.specs.declared.BoxFault.{BoxFault}
 use Rattle.sk_place.specs.declared.StepFault.{StepFault}
 use Rattle.sk_residual.specs.declared.Beyond.{Beyond}
 use Rattle.sk_residual.specs.declared.Spotted.{Spotted}
@@ -39,6 +40,10 @@ bits_words bits = codes " bits " ++ (decimal bits ++ codes "\n")
 -- the fault of a step on that grid
 abbrev pub fault_line : Sketch → StepFault → ℕ → List ℕ
 fault_line s f bits = ((fault_head f ++ 32 ∷ name_of s f.elem) ++ cause_words f.cause) ++ bits_words bits
+
+-- the fault of a box that is carried to the drawing, on that grid
+abbrev pub frame_fault_line : Sketch → BoxFault → ℕ → List ℕ
+frame_fault_line s f bits = (((codes "fault frame " ++ word_of f.what) ++ 32 ∷ name_of s f.elem) ++ cause_words f.cause) ++ bits_words bits
 
 -- lengths, heights and the places of blocks are told in nanometres, angles in parts per 10^9
 abbrev pub rule_unit : Rule → List ℕ

@@ -1,13 +1,13 @@
 // The lines that name what failed.
 ghost use Rattle.std.specs.Prelude.{◌≡◌, ◌++◌, IfOk, OnOk, string_bytes};
-ghost use Rattle.sk_report.specs.FaultLines.{phase_word, cause_words, fault_head, fault_line, rule_unit, spotted_unit, passed_line, turned_line};
+ghost use Rattle.sk_report.specs.FaultLines.{phase_word, cause_words, fault_head, fault_line, frame_fault_line, rule_unit, spotted_unit, passed_line, turned_line};
 ghost use Rattle.sk_report.specs.PlanReport.{sign_text};
 
 use crate::solve::{put_number, put_spotted};
 use sk_base::{NoMemory, Rule, Sign, Sketch, Text};
 use sk_interval::Cause;
 use sk_lang::constraint_of;
-use sk_place::{Phase, StepFault};
+use sk_place::{BoxFault, Phase, StepFault};
 use sk_residual::{Beyond, Spotted, Turned};
 use sk_text::{cluster_name, put_name};
 use std::alloc::Global;
@@ -33,6 +33,25 @@ fn fault_head(alloc: Global, f: &StepFault) -> Result<String, NoMemory>
     let phase = phase_word(f.phase);
     let what = f.what.word();
     Ok(format!(in alloc; "fault {step} {phase} {what}")?)
+}
+
+/// The one line that names the first box that can't be carried to the drawing on that grid, and its
+/// quantity that has no interval.
+pub fn frame_fault_text(
+    alloc: Global,
+    s: &Sketch,
+    f: &BoxFault,
+    bits: u32,
+) -> Result<Text, NoMemory>
+    ensures { IfOk result (λ text. text ≡ frame_fault_line s.now f.now bits) }
+{
+    let what = f.what.word();
+    let mut text = Text::new(alloc);
+    text.put(format!(in alloc; "fault frame {what}")?.as_bytes())?;
+    put_name(&mut text, s, f.elem)?;
+    put_cause(&mut text, f.cause)?;
+    text.put(format!(in alloc; " bits {bits}\n")?.as_bytes())?;
+    Ok(text)
 }
 
 fn phase_word(phase: Phase) -> &'static str

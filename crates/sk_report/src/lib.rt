@@ -12,7 +12,7 @@ mod solve;
 
 pub use answer::answer_text;
 pub use check::{check_text, part_text, parts_head_text};
-pub use fault::{fault_text, passed_text, turned_text};
+pub use fault::{fault_text, frame_fault_text, passed_text, turned_text};
 pub use grow::grow_text;
 pub use plan::plan_text;
 pub use refusal::refused_text;
