@@ -12,7 +12,7 @@ use Rattle.sk_report.specs.SolveReport.{places_report, solve_report}
 use Rattle.sk_residual.specs.declared.Tolerance.{Tolerance}
 use Rattle.sk_flips.specs.declared.Alternative.TheVariants.{Found}
 use Rattle.sk_flips.specs.declared.Placement.{Placement}
-use Rattle.sk_flips.specs.declared.Placement.TheVariants.{Fault, Beyond, Turned, Holds}
+use Rattle.sk_flips.specs.declared.Placement.TheVariants.{Fault, Uncarried, Beyond, Turned, Holds}
 use Rattle.sk_flips.specs.Alternatives.{IsAlternative}
 use Rattle.sk_flips.proofs.Untouched.{untouched_signs, placed_untouched}
 use Rattle.sk_cli.specs.declared.answer.Answer.{Answer}
@@ -49,6 +49,7 @@ module _ (request : Request) (s : Sketch) (text : List ℕ) (sound : IsSoundSket
 
   held_found : (p : ThePlan) (q : Placement) → IsPlacedPlan request s p q → Done ≡ status_of q → text ≡ placement_words Places (digits_of request.bits) s p q → IsFoundAgain
   held_found p (Fault f) placed same is = absurd (let clash : Done ≡ Status.StepFault = same in cc)
+  held_found p (Uncarried f) placed same is = absurd (let clash : Done ≡ Status.StepFault = same in cc)
   held_found p (Beyond b) placed same is = absurd (let clash : Done ≡ Status.Tolerance = same in cc)
   held_found p (Turned t) placed same is = absurd (let clash : Done ≡ Status.StepFault = same in cc)
   held_found p (Holds at tol) placed same is =

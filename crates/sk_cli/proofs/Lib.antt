@@ -35,3 +35,4 @@ pub mod SomeSpares
 pub mod Strides
 pub mod Telling
 pub mod WhyEnds
+pub mod WithinKeys

@@ -6,11 +6,13 @@ use Rattle.std.specs.Char.{digit_value}
 use Rattle.std.proofs.lemmas.Fmt.{decimal_injective, decimal_is_IsNumeral}
 use Rattle.sk_worklist.specs.declared.Order.{Order}
 use Rattle.sk_worklist.specs.declared.Order.TheVariants.{First, Last, Stride}
+use Rattle.sk_frame.specs.declared.FrameBy.{FrameBy}
+use Rattle.sk_frame.specs.declared.FrameBy.TheVariants.{Base, Drawn}
 use Rattle.sk_place.specs.declared.PlaceBy.{PlaceBy}
 use Rattle.sk_place.specs.declared.PlaceBy.TheVariants.{Boxes, Points}
 use Rattle.sk_cli.specs.declared.bits.Bits.{Bits}
 use Rattle.sk_cli.specs.declared.bits.Bits.TheVariants.{Sixteen, TwentySeven, ThirtyEight}
-use Rattle.sk_cli.specs.Asking.{IsNumber, IsOrder, IsBits, IsLimit, IsPlace, IsSize}
+use Rattle.sk_cli.specs.Asking.{IsNumber, IsOrder, IsBits, IsLimit, IsPlace, IsFrame, IsSize}
 use Rattle.sk_cli.proofs.CommandWords.{other_letter}
 
 pub one_number : (least most : ℕ) (value : List ℕ) (one other : ℕ) → most < 10000000 → IsNumber least most value one → IsNumber least most value other → one ≡ other
@@ -51,6 +53,12 @@ one_place value Boxes Boxes first second = refl
 one_place value Boxes Points first second = absurd (other_letter 98 112 _ _ (lit< tt) (sym first ∙ second))
 one_place value Points Boxes first second = absurd (other_letter 98 112 _ _ (lit< tt) (sym second ∙ first))
 one_place value Points Points first second = refl
+
+pub one_frame : (value : List ℕ) (one other : FrameBy) → IsFrame value one → IsFrame value other → one ≡ other
+one_frame value Base Base first second = refl
+one_frame value Base Drawn first second = absurd (other_letter 98 100 _ _ (lit< tt) (sym first ∙ second))
+one_frame value Drawn Base first second = absurd (other_letter 98 100 _ _ (lit< tt) (sym second ∙ first))
+one_frame value Drawn Drawn first second = refl
 
 pub one_limit : (value : List ℕ) (one other : ℕ) → IsLimit value one → IsLimit value other → one ≡ other
 one_limit value one other first second = one_number 1 1000000 value one other (omega arith) first second

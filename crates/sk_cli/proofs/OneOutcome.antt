@@ -10,6 +10,9 @@ use Rattle.sk_lang.specs.declared.Code.{Code}
 use Rattle.sk_lang.specs.declared.Code.TheVariants.{E20}
 use Rattle.sk_lang.specs.declared.Refusal.{Refusal}
 use Rattle.sk_lang.specs.Reading.{Reads, Refuses}
+use Rattle.sk_frame.specs.declared.FrameBy.{FrameBy}
+use Rattle.sk_frame.specs.declared.FrameBy.TheVariants.{Base}
+use Rattle.sk_flips.specs.declared.Layout.{Layout}
 use Rattle.sk_place.specs.declared.PlaceBy.{PlaceBy}
 use Rattle.sk_place.specs.declared.PlaceBy.TheVariants.{Boxes}
 use Rattle.sk_report.specs.CheckReport.{part_line, parts_head, check_report}
@@ -72,7 +75,7 @@ use Rattle.sk_cli.specs.declared.solving.Report.{Report}
 use Rattle.sk_cli.specs.declared.solving.Report.TheVariants.{Places, Drawing, Sums, Shape}
 use Rattle.sk_cli.proofs.Sizes.{HasFitSize, size_fits, some_injective}
 use Rattle.sk_gen.specs.DatumSketch.{datum_sketch}
-use Rattle.sk_cli.specs.Asking.{OrderKey, BitsKey, WithinKey, PlaceKey, SizeKey, values_of, IsOrder, IsBits, IsLimit, IsPlace, IsSize, Asks}
+use Rattle.sk_cli.specs.Asking.{OrderKey, BitsKey, WithinKey, PlaceKey, FrameKey, SizeKey, values_of, IsOrder, IsBits, IsLimit, IsPlace, IsFrame, IsSize, Asks}
 use Rattle.sk_cli.specs.Accounts.{IsAccount}
 use Rattle.sk_cli.specs.PartsReport.{IsShape, IsBelowPart, ArePartsTold}
 use Rattle.sk_parts.specs.OwnSketch.{part_sketch}
@@ -82,7 +85,7 @@ use Rattle.sk_cli.specs.Grids.{grid_of, digits_of}
 use Rattle.sk_cli.specs.Solving.{IsPlacement, status_of, placement_words}
 use Rattle.sk_cli.proofs.CommandWords.{one_command}
 use Rattle.sk_cli.proofs.KeyValues.{one_said, one_set}
-use Rattle.sk_cli.proofs.Numbers.{one_order, one_bits, one_limit, one_place, one_size}
+use Rattle.sk_cli.proofs.Numbers.{one_order, one_bits, one_limit, one_place, one_frame, one_size}
 use Rattle.sk_flips.proofs.OnePlacement.{same_placement, same_alternatives}
 use Rattle.sk_flips.proofs.FlipsSoFar.{same_flips, same_refusal as one_flips_refusal, read_or_refused}
 use Rattle.sk_plan.proofs.PlanTrees.{some_plan_tree}
@@ -97,9 +100,12 @@ same_request (command ∷ keys) one other first second =
     let order_is = one_said IsOrder one_order First (values_of OrderKey keys) one.order other.order first.1.order second.1.order in
     let bits_is = one_said IsBits one_bits ThirtyEight (values_of BitsKey keys) one.bits other.bits first.1.bits second.1.bits in
     let within_is = one_said IsLimit one_limit 1000 (values_of WithinKey keys) one.within other.within first.1.within second.1.within in
-    let place_is = one_said IsPlace one_place Boxes (values_of PlaceKey keys) one.place other.place first.1.place second.1.place in
+    let by_is = one_said IsPlace one_place Boxes (values_of PlaceKey keys) one.place.by other.place.by first.1.place second.1.place in
+    let frame_is = one_said IsFrame one_frame Base (values_of FrameKey keys) one.place.frame other.place.frame first.1.frame second.1.frame in
+    let lay : PlaceBy → FrameBy → Layout = λ b f. record { by = b; frame = f } in
+    let place_is : one.place ≡ other.place = ap (λ b. lay b one.place.frame) by_is ∙ ap (λ f. lay other.place.by f) frame_is in
     let size_is = one_set IsSize one_size (values_of SizeKey keys) one.size other.size first.1.size second.1.size in
-    let make : Command → Order → Bits → ℕ → PlaceBy → Option ℕ → Request = λ c o b w p n. record { command = c; order = o; bits = b; within = w; place = p; size = n } in
+    let make : Command → Order → Bits → ℕ → Layout → Option ℕ → Request = λ c o b w p n. record { command = c; order = o; bits = b; within = w; place = p; size = n } in
     ap (λ c. make c one.order one.bits one.within one.place one.size) command_is ∙ ap (λ o. make other.command o one.bits one.within one.place one.size) order_is
     ∙ ap (λ b. make other.command other.order b one.within one.place one.size) bits_is ∙ ap (λ w. make other.command other.order other.bits w one.place one.size) within_is
     ∙ ap (λ p. make other.command other.order other.bits other.within p one.size) place_is ∙ ap (λ n. make other.command other.order other.bits other.within other.place n) size_is

@@ -13,7 +13,7 @@ use Rattle.sk_verdict.specs.declared.Verdict.TheVariants.{Well}
 use Rattle.sk_verdict.proofs.Judgements.{same_judgement}
 use Rattle.sk_plan.specs.Judged.{IsTheJudgement, IsWell}
 use Rattle.sk_flips.specs.declared.Placement.{Placement}
-use Rattle.sk_flips.specs.declared.Placement.TheVariants.{Fault, Beyond, Turned, Holds}
+use Rattle.sk_flips.specs.declared.Placement.TheVariants.{Fault, Uncarried, Beyond, Turned, Holds}
 use Rattle.sk_parts.proofs.Sharing.{covered_judged, sole_judged, whole_judged, well_judged}
 use Rattle.sk_report.specs.CheckReport.{part_line, parts_head}
 use Rattle.sk_report.specs.SolveReport.{solve_counts, places_report}
@@ -33,6 +33,7 @@ shape_as_solved request s shape (p, placement, placed, is) = by_placement placem
 
     by_placement : (q : Placement) → IsPlacedPlan request s p q → shape ≡ placement_words Shape (digits_of request.bits) s p q → IsSolvedAs request s shape
     by_placement (Fault f) placed is = (status_of (Fault f), shape, inl (p, Fault f, placed, refl, is), inr ((λ same. cc), refl))
+    by_placement (Uncarried f) placed is = (status_of (Uncarried f), shape, inl (p, Uncarried f, placed, refl, is), inr ((λ same. cc), refl))
     by_placement (Beyond b) placed is = (status_of (Beyond b), shape, inl (p, Beyond b, placed, refl, is), inr ((λ same. cc), refl))
     by_placement (Turned t) placed is = (status_of (Turned t), shape, inl (p, Turned t, placed, refl, is), inr ((λ same. cc), refl))
     by_placement (Holds at t) placed is = (

@@ -1,9 +1,11 @@
 -- Where a plan's boxes have their midpoints, just the elements of the graph lie, each within the bounds.
-use Rattle.std.proofs.Common.{inl, inr, refl, ℕ, ◌≤◌, ◌<◌, ◌^◌, ◌*◌, ◌+ℤ◌, ◌*ℤ◌, ℤ, pos, neg_ℤ, unsigned_abs, Bool, true, false, List, subst, get_or, map, arith, lit≤}
-use Rattle.std.specs.Prelude.{All, int_lt, if◌then◌else◌, Ok}
+use Rattle.std.proofs.Common.{◌≡◌, inl, inr, refl, ℕ, ◌≤◌, ◌<◌, ◌^◌, ◌*◌, ◌+ℤ◌, ◌*ℤ◌, ℤ, pos, neg_ℤ, unsigned_abs, Bool, true, false, List, subst, get_or, map, ◌∙◌, arith, lit≤}
+use Rattle.std.specs.Prelude.{All, Result, int_lt, if◌then◌else◌, Ok}
 use Rattle.std.proofs.lemmas.Int.{ints}
 use Rattle.std.proofs.lemmas.List.Elements.{Contains-get_or}
 use Rattle.sk_base.specs.declared.Graph.{Graph}
+use Rattle.sk_base.specs.declared.Node.{Node}
+use Rattle.sk_base.specs.declared.Sketch.{Sketch}
 use Rattle.sk_base.specs.declared.Spot.{Spot}
 use Rattle.sk_base.specs.Bounds.{IsWithin as IsAtMost}
 use Rattle.sk_base.specs.Nearest.{nearest_size}
@@ -17,9 +19,16 @@ use Rattle.sk_steps.specs.declared.BoxOf.{BoxOf}
 use Rattle.sk_steps.specs.declared.BoxOf.TheVariants.{Point, Line}
 use Rattle.sk_tree.specs.declared.Plan.{Plan as ThePlan}
 use Rattle.sk_tree.specs.LegalPlan.{IsLegalPlan}
+use Rattle.sk_flips.specs.declared.Layout.{Layout}
 use Rattle.sk_place.specs.declared.PlaceBy.{PlaceBy}
 use Rattle.sk_plan.proofs.PlanTrees.{some_plan_tree}
 use Rattle.sk_place.specs.declared.BoxAt.{BoxAt}
+use Rattle.sk_place.specs.declared.BoxFault.{BoxFault}
+use Rattle.sk_place.specs.Clusters.{nodes_of}
+use Rattle.sk_graph.specs.SketchGraph.{graph_of}
+use Rattle.sk_frame.specs.declared.FrameBy.{FrameBy}
+use Rattle.sk_frame.specs.declared.FrameBy.TheVariants.{Base, Drawn}
+use Rattle.sk_flips.specs.Placements.{IsCarried, IsLaid}
 use Rattle.sk_place.specs.Placing.{IsPlaced}
 use Rattle.sk_place.specs.Rounding.{IsWithin, IsBoundedBox, AreBounded, midpoint, rounded, rounded_box}
 use Rattle.sk_place.proofs.Midpoints.{parts_within}
@@ -28,7 +37,8 @@ use Rattle.sk_residual.specs.Placing.{AreSpotsOf, PlacesExactly}
 use Rattle.sk_residual.proofs.InOrder.{exactly_in_order}
 use Rattle.sk_cli.specs.Solving.{midpoints}
 use Rattle.sk_flips.proofs.SpotsPlaced.{spots_made}
-use Rattle.sk_place.proofs.SomePlaces.{HasPlaces, some_places}
+use Rattle.sk_place.proofs.SomePlaces.{some_places}
+use Rattle.sk_place.proofs.Results.{each_nodes, each_bounded}
 
 signed_within : (b : Bool) (m most : ℕ) → m ≤ most → IsAtMost most (if b then neg_ℤ (pos m) else pos m)
 signed_within true m most few = (omega (arith, ints), omega (arith, ints))
@@ -56,20 +66,33 @@ some_unit : (F : ℕ) → 0 < 2 * 2 ^ F
 some_unit F = (let unit = power_below 0 F (omega arith) in omega (arith, unit))
 
 module _ (G : Type 0) (placing : PlaceBy) (F : ℕ) (g : Graph) (p : ThePlan) (sound : IsSoundGraph g) (legal : IsLegalPlan g p) where
-  spots_so : (has : HasPlaces G placing F g p sound legal) → AreSpotsOf g.nodes (map (rounded F) has.list)
-  spots_so has = spots_made F has.list g.nodes (map (rounded F) has.list) has.nodes refl (all_within F has.list (some_unit F) has.bounded)
-
-  pub exactly_so : (has : HasPlaces G placing F g p sound legal) → PlacesExactly g (midpoints F has.list)
-  exactly_so has = exactly_in_order g (midpoints F has.list) sound.nodes_rise (spots_so has)
-
-  -- the boxes are the ones that the plan has, and their midpoints are spots of the nodes, one by one
-  pub spots_there : (boxes : List (BoxAt G)) → IsPlaced placing F g p (Ok boxes) → AreSpotsOf g.nodes (map (rounded F) boxes)
-  spots_there boxes placed =
+  -- the boxes are of the graph's nodes, and within bounds
+  pub nodes_there : (boxes : List (BoxAt G)) → IsPlaced placing F g p (Ok boxes) → (nodes_of boxes ≡ g.nodes) × AreBounded F boxes
+  nodes_there boxes placed =
       let tree = some_plan_tree g p sound legal in
       elim (some_places G placing F g p sound legal) [
         | inr (f, failed) ↦ absurd (not_both G placing F g p legal tree boxes f placed failed)
-        | inl has ↦ subst (λ (bs : List (BoxAt G)). AreSpotsOf g.nodes (map (rounded F) bs)) (one_list G placing F g p legal tree has.list boxes has.placed placed) (spots_so has)
+        | inl has ↦ subst (λ (bs : List (BoxAt G)). (nodes_of bs ≡ g.nodes) × AreBounded F bs) (one_list G placing F g p legal tree has.list boxes has.placed placed) (has.nodes, has.bounded)
       ]
 
-  pub exactly_there : (boxes : List (BoxAt G)) → IsPlaced placing F g p (Ok boxes) → PlacesExactly g (midpoints F boxes)
-  exactly_there boxes placed = exactly_in_order g (midpoints F boxes) sound.nodes_rise (spots_there boxes placed)
+-- carried boxes are of the same nodes, and within bounds
+carried_there : {G : Type 0} (frame : FrameBy) (by : PlaceBy) (F : ℕ) (s : Sketch) (p : ThePlan) (nodes : List Node) (boxes there : List (BoxAt G)) → IsCarried frame by F s p boxes (Ok there)
+    → (nodes_of boxes ≡ nodes) × AreBounded F boxes → (nodes_of there ≡ nodes) × AreBounded F there
+carried_there {G} Base by F s p nodes boxes there stay like = subst (λ (bs : List (BoxAt G)). (nodes_of bs ≡ nodes) × AreBounded F bs) (same boxes there stay) like
+  where
+    same : (bs cs : List (BoxAt G)) → (let outcome : Result (List (BoxAt G)) BoxFault = Ok cs in outcome ≡ Ok bs) → bs ≡ cs
+    same bs cs is = cc
+carried_there Drawn by F s p nodes boxes there (m, m_is, each) like = (
+  each_nodes by F m boxes there each ∙ like.0,
+  λ k d below. each_bounded by F m boxes there each (get_or there k d) (Contains-get_or there k d below),
+)
+
+module _ (G : Type 0) (placing : Layout) (F : ℕ) (s : Sketch) (p : ThePlan) (sound : IsSoundGraph (graph_of s)) (legal : IsLegalPlan (graph_of s) p) where
+  -- where the boxes lie, their midpoints are spots of the nodes, one by one
+  pub laid_spots : (there : List (BoxAt G)) → IsLaid placing F s p there → AreSpotsOf (graph_of s).nodes (map (rounded F) there)
+  laid_spots there (boxes, placed, carried) =
+      let like = carried_there placing.frame placing.by F s p (graph_of s).nodes boxes there carried (nodes_there G placing.by F (graph_of s) p sound legal boxes placed) in
+      spots_made F there (graph_of s).nodes (map (rounded F) there) like.0 refl (all_within F there (some_unit F) like.1)
+
+  pub laid_exactly : (there : List (BoxAt G)) → IsLaid placing F s p there → PlacesExactly (graph_of s) (midpoints F there)
+  laid_exactly there laid = exactly_in_order (graph_of s) (midpoints F there) sound.nodes_rise (laid_spots there laid)

@@ -37,7 +37,7 @@ use Rattle.sk_residual.proofs.Worsts.{all_hold_within}
 use Rattle.sk_report.specs.PlanReport.{plan_report}
 use Rattle.sk_worklist.specs.declared.Order.{Order}
 use Rattle.sk_flips.specs.declared.Placement.{Placement}
-use Rattle.sk_flips.specs.declared.Placement.TheVariants.{Fault, Beyond, Turned, Holds}
+use Rattle.sk_flips.specs.declared.Placement.TheVariants.{Fault, Uncarried, Beyond, Turned, Holds}
 use Rattle.sk_cli.specs.declared.request.Request.{Request}
 use Rattle.sk_cli.specs.declared.solving.Report.{Report}
 use Rattle.sk_cli.specs.declared.status.Status.{Status}
@@ -48,7 +48,7 @@ use Rattle.sk_cli.specs.Headline.{TellsClusters, IsOneSoundPart, HoldsAt, NamesT
 use Rattle.sk_cli.specs.Outcome.{IsPlanBy, IsPlanOrReport, IsReportNotWell, IsSolved}
 use Rattle.sk_cli.specs.Solving.{midpoints, IsTolerance, status_of, report_words, placement_words}
 use Rattle.sk_cli.proofs.OneOutcome.{OneJudgement, still_well, same_judgement, told_planned}
-use Rattle.sk_cli.proofs.PlacedSpots.{exactly_there}
+use Rattle.sk_cli.proofs.PlacedSpots.{laid_exactly}
 use Rattle.sk_cli.proofs.WhyEnds.{IsPlacedSo, never_short}
 
 abbrev pub OneNormal : Type 0
@@ -201,6 +201,7 @@ planned_text order s status text answer same =
 -- only where all holds is the status that the command did its work
 held_placement : (q : Placement) → status_of q ≡ Done → (at : Placed) × (t : Tolerance) × (q ≡ Holds at t)
 held_placement (Fault f) same = cc
+held_placement (Uncarried f) same = cc
 held_placement (Beyond b) same = cc
 held_placement (Turned t) same = cc
 held_placement (Holds at t) same = (at, t, refl)
@@ -218,7 +219,7 @@ module _ (report : Report) (request : Request) (s : Sketch) (status : Status) (t
       let fit : HoldsAt request s p here t = record {
         plan = its;
         lie = lie;
-        exactly = subst (λ (z : Placed). PlacesExactly (graph_of s) z) (sym lie.2) (exactly_there G request.place F (graph_of s) p sound its.1.legal lie.0 lie.1);
+        exactly = subst (λ (z : Placed). PlacesExactly (graph_of s) z) (sym lie.2) (laid_exactly G request.place F s p sound its.1.legal lie.0 lie.1);
         holds = all_hold_within here (graph_of s) t.t t.w (has_blocks (graph_of s) sound) least.lengths.holds least.angles.holds;
         least = least;
         within = none;
@@ -239,8 +240,9 @@ module _ (report : Report) (request : Request) (s : Sketch) (status : Status) (t
 
   named_text : (p : ThePlan) → IsItsPlan request s p → (q : Placement) → IsPlacedSo request s p q → status_of q ≢ Done → text ≡ placement_words report (digits_of request.bits) s p q → NamesTheFirst request s text
   named_text p its (Fault f) placed other is = (p, its, inl (f, placed, is))
-  named_text p its (Beyond b) (boxes, lie, beyond) other is = (p, its, inr (inl (midpoints (digits_of request.bits) boxes, b, (boxes, lie, refl), beyond, is)))
-  named_text p its (Turned t) (boxes, lie, (none, first)) other is = (p, its, inr (inr (midpoints (digits_of request.bits) boxes, t, (boxes, lie, refl), none, first, is)))
+  named_text p its (Uncarried f) placed other is = (p, its, inr (inl (f, placed, is)))
+  named_text p its (Beyond b) (boxes, lie, beyond) other is = (p, its, inr (inr (inl (midpoints (digits_of request.bits) boxes, b, (boxes, lie, refl), beyond, is))))
+  named_text p its (Turned t) (boxes, lie, (none, first)) other is = (p, its, inr (inr (inr (midpoints (digits_of request.bits) boxes, t, (boxes, lie, refl), none, first, is))))
   named_text p its (Holds at t) placed other is = absurd (other refl)
 
   -- where all holds, the report is written of the places

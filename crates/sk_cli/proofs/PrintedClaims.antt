@@ -56,7 +56,7 @@ use Rattle.sk_cli.specs.Asking.{WithinKey, values_of, IsLimit, Says, Asks}
 use Rattle.sk_cli.specs.Grids.{grid_of, digits_of}
 use Rattle.sk_cli.specs.Headline.{HoldsAt}
 use Rattle.sk_cli.specs.PrintedClaim.{printed_text, printed_claim}
-use Rattle.sk_cli.proofs.PlacedSpots.{spots_there}
+use Rattle.sk_cli.proofs.PlacedSpots.{laid_spots}
 use Rattle.sk_cli.proofs.PrintedLines.{IsFound, text_of_claim}
 
 -- ---- the limit of tolerance
@@ -168,7 +168,7 @@ module _ (s : Sketch) (sound : IsSoundSketch s) (numbered : renumbered s ≡ s) 
       let lie = holds.lie in
       let spots : here.spots ≡ map (rounded (digits_of request.bits)) lie.0 = ap (λ (z : Placed). z.spots) lie.2 in
       subst (λ (xs : List Spot). AreSpotsOf (graph_of s).nodes xs) (sym spots)
-      (spots_there (grid_of request.bits) request.place (digits_of request.bits) (graph_of s) p graph legal lie.0 lie.1)
+      (laid_spots (grid_of request.bits) request.place (digits_of request.bits) s p graph legal lie.0 lie.1)
 
   apart : AllPairs (λ (x y : Spot). x.elem ≢ y.elem) here.spots
   apart i j d i_j j_len same =

@@ -136,6 +136,7 @@ IsSolveStatus status = ⊥
 
 placement_told : (placement : Placement) → IsSolveStatus (status_of placement)
 placement_told (Placement.Fault f) = tt
+placement_told (Placement.Uncarried f) = tt
 placement_told (Placement.Beyond b) = tt
 placement_told (Placement.Turned t) = tt
 placement_told (Placement.Holds at t) = tt

@@ -13,7 +13,7 @@ use Rattle.sk_session.specs.declared.Reply.TheVariants as reply
 use Rattle.sk_session.specs.State.{State, sketch_in}
 use Rattle.sk_session.specs.Replies.{Answers}
 use Rattle.sk_worklist.specs.declared.Order.{Order}
-use Rattle.sk_place.specs.declared.PlaceBy.{PlaceBy}
+use Rattle.sk_flips.specs.declared.Layout.{Layout}
 use Rattle.sk_cli.specs.declared.bits.Bits.{Bits}
 use Rattle.sk_cli.specs.declared.request.Request.{Request}
 use Rattle.sk_cli.specs.declared.status.Status.{Status}
@@ -23,7 +23,7 @@ use Rattle.sk_cli.specs.SessionEnding.{SessionEnds, IsStopped}
 use Rattle.sk_cli.specs.Told.{told}
 
 -- the text of a reply that is told
-pub told_is_text : (order : Order) (bits : Bits) (within : ℕ) (place : PlaceBy) (s : Sketch) (r : Reply) (text : List ℕ) → r ≢ reply.Solve → text ≡ told s r → IsReplyText order bits within place s r text
+pub told_is_text : (order : Order) (bits : Bits) (within : ℕ) (place : Layout) (s : Sketch) (r : Reply) (text : List ℕ) → r ≢ reply.Solve → text ≡ told s r → IsReplyText order bits within place s r text
 told_is_text order bits within place s reply.Blank text other is = is
 told_is_text order bits within place s reply.Done text other is = is
 told_is_text order bits within place s (reply.Declared e) text other is = is

@@ -1,13 +1,27 @@
 -- Each legal plan is placed somehow on a grid, and something comes of each list of steps.
-use Rattle.std.proofs.Common.{◌≡◌, inl, inr, refl, ℕ, List, [], ◌∷◌, Option, None, Some}
+use Rattle.std.proofs.Common.{◌≡◌, inl, inr, refl, ℕ, ◌≤◌, List, [], ◌∷◌, Option, None, Some, Result, Ok, Err, arith}
 use Rattle.sk_base.specs.declared.Name.{Name}
 use Rattle.sk_base.specs.declared.Placed.{Placed}
 use Rattle.sk_base.specs.declared.Sketch.{Sketch}
 use Rattle.sk_base.specs.SoundGraph.{IsSoundGraph}
+use Rattle.sk_base.specs.SoundSketch.{IsSoundSketch}
 use Rattle.sk_graph.specs.SketchGraph.{graph_of}
 use Rattle.sk_tree.specs.declared.Plan.{Plan as ThePlan}
 use Rattle.sk_tree.specs.LegalPlan.{IsLegalPlan}
+use Rattle.sk_flips.specs.declared.Layout.{Layout}
+use Rattle.sk_place.specs.declared.BoxAt.{BoxAt}
+use Rattle.sk_place.specs.declared.BoxFault.{BoxFault}
 use Rattle.sk_place.specs.declared.PlaceBy.{PlaceBy}
+use Rattle.sk_place.specs.Carrying.{carried_each}
+use Rattle.sk_place.specs.Placing.{IsPlaced}
+use Rattle.sk_frame.specs.declared.FrameBy.{FrameBy}
+use Rattle.sk_frame.specs.declared.FrameBy.TheVariants.{Base, Drawn}
+use Rattle.sk_frame.specs.Frames.{frame_of}
+use Rattle.sk_frame.proofs.FrameTurns.{motion_there}
+use Rattle.sk_frame.proofs.SoundFrames.{frame_is_sound}
+use Rattle.sk_cli.specs.declared.bits.Bits.{Bits}
+use Rattle.sk_cli.specs.declared.bits.Bits.TheVariants.{Sixteen, TwentySeven, ThirtyEight}
+use Rattle.sk_cli.specs.Grids.{digits_of}
 use Rattle.sk_residual.specs.declared.Wanted.{Wanted}
 use Rattle.sk_residual.specs.declared.Wanted.TheVariants.{Chosen}
 use Rattle.sk_residual.specs.Placing.{PlacesExactly}
@@ -18,14 +32,14 @@ use Rattle.sk_residual.proofs.Worsts.{worst_lengthwise_named}
 use Rattle.sk_flips.specs.declared.Alternative.{Alternative}
 use Rattle.sk_flips.specs.declared.Alternative.TheVariants.{NoChoice}
 use Rattle.sk_flips.specs.declared.Placement.{Placement}
-use Rattle.sk_flips.specs.declared.Placement.TheVariants.{Fault, Beyond, Turned, Holds}
+use Rattle.sk_flips.specs.declared.Placement.TheVariants.{Fault, Uncarried, Beyond, Turned, Holds}
 use Rattle.sk_flips.specs.Alternatives.{alternative_of, IsAlternative, AreAlternatives}
 use Rattle.sk_flips.specs.Flipping.{first_without_choice, flipped}
-use Rattle.sk_flips.specs.Placements.{midpoints, IsMeasured, IsPlacement}
+use Rattle.sk_flips.specs.Placements.{midpoints, IsCarried, IsLaid, IsMeasured, IsPlacement}
 use Rattle.sk_flips.proofs.FlippedPlans.{flipped_is_legal}
 use Rattle.sk_flips.proofs.InTurn.{is_alternative}
-use Rattle.sk_flips.proofs.SpotsPlaced.{placement_of}
-use Rattle.sk_cli.proofs.PlacedSpots.{exactly_so}
+use Rattle.sk_flips.proofs.SpotsPlaced.{measured_there}
+use Rattle.sk_cli.proofs.PlacedSpots.{laid_exactly}
 use Rattle.sk_residual.proofs.SomeMeasures.{own_everything, own_lengthwise, own_anglewise, some_told, searched, compared}
 use Rattle.sk_place.proofs.SomePlaces.{some_places}
 
@@ -55,24 +69,43 @@ some_measured wanted limit s p at sound exactly =
       ]
     ]
 
-pub some_placement : (wanted : Wanted) (G : Type 0) (placing : PlaceBy) (F limit : ℕ) (s : Sketch) (p : ThePlan) → IsSoundGraph (graph_of s) → IsLegalPlan (graph_of s) p → (q : Placement) × IsPlacement wanted G placing F limit s p q
-some_placement wanted G placing F limit s p sound legal =
-    elim (some_places G placing F (graph_of s) p sound legal) [
-      | inr (f, failed) ↦ (Fault f, failed)
-      | inl has ↦ (
-          let at : Placed = midpoints F has.list in
-          let measured = some_measured wanted limit s p at sound (exactly_so G placing F (graph_of s) p sound legal has) in
-          (measured.0, placement_of wanted G placing F limit s p (graph_of s) has.list at measured.0 refl has.placed refl measured.1))
-    ]
+-- each grid has digits enough for the motion of a frame
+pub enough_digits : (bits : Bits) → 8 ≤ digits_of bits
+enough_digits Sixteen = omega arith
+enough_digits TwentySeven = omega arith
+enough_digits ThirtyEight = omega arith
 
-module _ (G : Type 0) (placing : PlaceBy) (F limit : ℕ) (s : Sketch) (p : ThePlan) (sound : IsSoundGraph (graph_of s)) (legal : IsLegalPlan (graph_of s) p) where
+-- something comes of boxes
+some_carried : {G : Type 0} (frame : FrameBy) (by : PlaceBy) (F : ℕ) (s : Sketch) (p : ThePlan) → 8 ≤ F → IsSoundSketch s → IsSoundGraph (graph_of s) → (boxes : List (BoxAt G))
+    → (o : Result (List (BoxAt G)) BoxFault) × IsCarried frame by F s p boxes o
+some_carried Base by F s p enough sketch sound boxes = (Ok boxes, refl)
+some_carried {G} Drawn by F s p enough sketch sound boxes = (
+    let m = motion_there {G = G} F enough (frame_of s (graph_of s) p) (frame_is_sound s sketch (graph_of s) sound p) in
+    (carried_each by F m.0 boxes, (m.0, m.1, refl)))
+
+pub some_placement : (wanted : Wanted) (G : Type 0) (placing : Layout) (F limit : ℕ) (s : Sketch) (p : ThePlan) → 8 ≤ F → IsSoundSketch s → IsSoundGraph (graph_of s) → IsLegalPlan (graph_of s) p → (q : Placement) × IsPlacement wanted G placing F limit s p q
+some_placement wanted G placing F limit s p enough sketch sound legal =
+    elim (some_places G placing.by F (graph_of s) p sound legal) [
+      | inr (f, failed) ↦ (Fault f, failed)
+      | inl has ↦ (let outcome = some_carried placing.frame placing.by F s p enough sketch sound has.list in comes has.list has.placed outcome.0 outcome.1)
+    ]
+  where
+    comes : (boxes : List (BoxAt G)) → IsPlaced placing.by F (graph_of s) p (Ok boxes) → (o : Result (List (BoxAt G)) BoxFault) → IsCarried placing.frame placing.by F s p boxes o
+        → (q : Placement) × IsPlacement wanted G placing F limit s p q
+    comes boxes placed (Err f) carried = (Uncarried f, (boxes, placed, carried))
+    comes boxes placed (Ok there) carried = (
+        let laid : IsLaid placing F s p there = (boxes, placed, carried) in
+        let measured = some_measured wanted limit s p (midpoints F there) sound (laid_exactly G placing F s p sound legal there laid) in
+        (measured.0, measured_there wanted G placing F limit s p there measured.0 laid measured.1))
+
+module _ (G : Type 0) (placing : Layout) (F limit : ℕ) (s : Sketch) (p : ThePlan) (enough : 8 ≤ F) (sketch : IsSoundSketch s) (sound : IsSoundGraph (graph_of s)) (legal : IsLegalPlan (graph_of s) p) where
   some_alternative : (names : List Name) → (a : Alternative) × IsAlternative G placing F limit s p names a
   some_alternative names = by (first_without_choice p names) refl
     where
       by : (first : Option Name) → first_without_choice p names ≡ first → (a : Alternative) × IsAlternative G placing F limit s p names a
       by (Some n) is = (NoChoice n, is)
       by None is = (
-          let q = some_placement Chosen G placing F limit s (flipped names p) sound (flipped_is_legal (graph_of s) names p legal) in
+          let q = some_placement Chosen G placing F limit s (flipped names p) enough sketch sound (flipped_is_legal (graph_of s) names p legal) in
           (alternative_of q.0, is_alternative G placing F limit s p names q.0 (is, q.1)))
 
   pub some_alternatives : (lists : List (List Name)) → (found : List Alternative) × AreAlternatives G placing F limit s p lists found

@@ -6,6 +6,8 @@ use Rattle.std.proofs.lemmas.Bool.{cases_lt}
 use Rattle.sk_base.proofs.Members.{nat_settles, list_settles}
 use Rattle.sk_worklist.specs.declared.Order.{Order}
 use Rattle.sk_worklist.specs.declared.Order.TheVariants.{First, Last, Stride}
+use Rattle.sk_frame.specs.declared.FrameBy.{FrameBy}
+use Rattle.sk_frame.specs.declared.FrameBy.TheVariants.{Base, Drawn}
 use Rattle.sk_place.specs.declared.PlaceBy.{PlaceBy}
 use Rattle.sk_place.specs.declared.PlaceBy.TheVariants.{Boxes, Points}
 use Rattle.sk_cli.specs.declared.bits.Bits.{Bits}
@@ -14,7 +16,7 @@ use Rattle.sk_cli.specs.declared.command.Command.{Command}
 use Rattle.sk_cli.specs.declared.command.Command.TheVariants.{Check, Plan, Solve, Dxf, Offers, Session, Grow, Migrate, Verify, Spare, Flips, Derive, Parts}
 use Rattle.sk_cli.specs.declared.request.Request.{Request}
 use Rattle.sk_cli.specs.Commands.{command_word}
-use Rattle.sk_cli.specs.Asking.{Key, OrderKey, BitsKey, WithinKey, PlaceKey, SizeKey, key_name, takes, behind, values_of, IsKeyOf, IsNumber, IsOrder, IsBits, IsLimit, IsPlace, IsSize, Says, IsSet, HasSize, HasKeys, AreOfForm}
+use Rattle.sk_cli.specs.Asking.{Key, OrderKey, BitsKey, WithinKey, PlaceKey, FrameKey, SizeKey, key_name, takes, behind, values_of, IsKeyOf, IsNumber, IsOrder, IsBits, IsLimit, IsPlace, IsFrame, IsSize, Says, IsSet, HasSize, HasKeys, AreOfForm}
 use Rattle.sk_base.proofs.Deciding.{Decided, all_decided, both, either, moved, some_in}
 
 bool_decided : (b : Bool) → Decided (b ≡ true)
@@ -87,6 +89,17 @@ place_decided value = moved to from (either (bytes_decided value (codes "boxes")
     from (Boxes, e) = inl e
     from (Points, e) = inr e
 
+frame_decided : (value : List ℕ) → Decided ((frame : FrameBy) × IsFrame value frame)
+frame_decided value = moved to from (either (bytes_decided value (codes "base")) (bytes_decided value (codes "drawn")))
+  where
+    to : (value ≡ codes "base") ⊎ (value ≡ codes "drawn") → (frame : FrameBy) × IsFrame value frame
+    to (inl e) = (Base, e)
+    to (inr e) = (Drawn, e)
+
+    from : (frame : FrameBy) × IsFrame value frame → (value ≡ codes "base") ⊎ (value ≡ codes "drawn")
+    from (Base, e) = inl e
+    from (Drawn, e) = inr e
+
 module _ {X : Type 0} (Is : List ℕ → X → Type 0) (decide : (value : List ℕ) → Decided ((x : X) × Is value x)) where
   said_decided : (default : X) (values : List (List ℕ)) → Decided ((x : X) × Says Is default values x)
   said_decided default [] = inl (default, refl)
@@ -108,7 +121,7 @@ module _ {X : Type 0} (Is : List ℕ → X → Type 0) (decide : (value : List �
   set_decided Fits none some (v ∷ w ∷ more) = inr (λ h. h.1)
 
 all_keys : List Key
-all_keys = OrderKey ∷ BitsKey ∷ WithinKey ∷ PlaceKey ∷ SizeKey ∷ []
+all_keys = OrderKey ∷ BitsKey ∷ WithinKey ∷ PlaceKey ∷ FrameKey ∷ SizeKey ∷ []
 
 key_listed : (key : Key) → Contains all_keys key
 unfolding all_keys
@@ -116,7 +129,8 @@ key_listed OrderKey = (0, omega arith, refl)
 key_listed BitsKey = (1, omega arith, refl)
 key_listed WithinKey = (2, omega arith, refl)
 key_listed PlaceKey = (3, omega arith, refl)
-key_listed SizeKey = (4, omega arith, refl)
+key_listed FrameKey = (4, omega arith, refl)
+key_listed SizeKey = (5, omega arith, refl)
 
 key_decided : (command : Command) (word : List ℕ) → Decided (IsKeyOf command word)
 key_decided command word =
@@ -182,32 +196,35 @@ record HasParts (command : Command) (keys : List (List ℕ)) : Type 0 where
   bits : (x : Bits) × Says IsBits ThirtyEight (values_of BitsKey keys) x
   within : (x : ℕ) × Says IsLimit 1000 (values_of WithinKey keys) x
   place : (x : PlaceBy) × Says IsPlace Boxes (values_of PlaceKey keys) x
+  frame : (x : FrameBy) × Says IsFrame Base (values_of FrameKey keys) x
   size : (x : Option ℕ) × IsSet IsSize (values_of SizeKey keys) x × HasSize command x
 
 parts_decided : (command : Command) (keys : List (List ℕ)) → Decided (HasParts command keys)
 parts_decided command keys =
-    moved (λ h. record { known = h.0; order = h.1.0; bits = h.1.1.0; within = h.1.1.1.0; place = h.1.1.1.1.0; size = h.1.1.1.1.1 }) (λ (p : HasParts command keys). (p.known, (p.order, (p.bits, (p.within, (p.place, p.size))))))
+    moved (λ h. record { known = h.0; order = h.1.0; bits = h.1.1.0; within = h.1.1.1.0; place = h.1.1.1.1.0; frame = h.1.1.1.1.1.0; size = h.1.1.1.1.1.1 }) (λ (p : HasParts command keys). (p.known, (p.order, (p.bits, (p.within, (p.place, (p.frame, p.size)))))))
     (both (all_decided (λ word. IsKeyOf command word) (λ word. key_decided command word) keys)
     (both (said_decided IsOrder order_decided First (values_of OrderKey keys))
     (both (said_decided IsBits bits_decided ThirtyEight (values_of BitsKey keys))
     (both (said_decided IsLimit (λ value. number_decided 1 1000000 value) 1000 (values_of WithinKey keys))
     (both (said_decided IsPlace place_decided Boxes (values_of PlaceKey keys))
-    (set_decided IsSize (λ value. number_decided 3 1000 value) (λ size. HasSize command size) (unsized_decided command) (sized_by command) (values_of SizeKey keys)))))))
+    (both (said_decided IsFrame frame_decided Base (values_of FrameKey keys))
+    (set_decided IsSize (λ value. number_decided 3 1000 value) (λ size. HasSize command size) (unsized_decided command) (sized_by command) (values_of SizeKey keys))))))))
 
 ask_decided : (command : Command) (keys : List (List ℕ)) → Decided (AskOf command keys)
 ask_decided command keys =
     moved
     (λ (p : HasParts command keys). (
-      record { command = command; order = p.order.0; bits = p.bits.0; within = p.within.0; place = p.place.0; size = p.size.0 },
+      record { command = command; order = p.order.0; bits = p.bits.0; within = p.within.0; place = record { by = p.place.0; frame = p.frame.0 }; size = p.size.0 },
       refl,
-      record { known = p.known; order = p.order.1; bits = p.bits.1; within = p.within.1; place = p.place.1; size = p.size.1; sized = p.size.2 },
+      record { known = p.known; order = p.order.1; bits = p.bits.1; within = p.within.1; place = p.place.1; frame = p.frame.1; size = p.size.1; sized = p.size.2 },
     ))
     (λ (request, is, h). record {
       known = subst (λ c. All (λ word. IsKeyOf c word) keys) is h.known;
       order = (request.order, h.order);
       bits = (request.bits, h.bits);
       within = (request.within, h.within);
-      place = (request.place, h.place);
+      place = (request.place.by, h.place);
+      frame = (request.place.frame, h.frame);
       size = (request.size, h.size, subst (λ c. HasSize c request.size) is h.sized);
     })
     (parts_decided command keys)

@@ -7,7 +7,7 @@ use Rattle.sk_base.specs.declared.Sketch.{Sketch}
 use Rattle.sk_base.specs.SoundGraph.{IsSoundGraph}
 use Rattle.sk_base.specs.SoundSketch.{IsSoundSketch}
 use Rattle.sk_flips.specs.declared.Placement.{Placement}
-use Rattle.sk_flips.specs.declared.Placement.TheVariants.{Fault, Beyond, Turned, Holds}
+use Rattle.sk_flips.specs.declared.Placement.TheVariants.{Fault, Uncarried, Beyond, Turned, Holds}
 use Rattle.sk_graph.specs.SketchGraph.{graph_of}
 use Rattle.sk_graph.proofs.Soundness.{graph_is_sound}
 use Rattle.sk_lang.specs.declared.Front.{Front}
@@ -187,6 +187,7 @@ shape_tells request s text sound (p, placement, placed, is) = by_placement place
 
     by_placement : (q : Placement) → IsPlacedPlan request s p q → text ≡ placement_words Shape (digits_of request.bits) s p q → TellsPlaces request s text
     by_placement (Fault f) placed is = fails (Fault f) placed is (λ same. cc) (λ same. cc)
+    by_placement (Uncarried f) placed is = fails (Uncarried f) placed is (λ same. cc) (λ same. cc)
     by_placement (Beyond b) placed is = fails (Beyond b) placed is (λ same. cc) (λ same. cc)
     by_placement (Turned t) placed is = fails (Turned t) placed is (λ same. cc) (λ same. cc)
     by_placement (Holds at t) placed is = inl (solved_text Shape request s Done text sound (inl (p, Holds at t, placed, refl, is)) refl)

@@ -24,7 +24,7 @@ use Rattle.sk_cli.specs.declared.command.Command.TheVariants.{Check, Plan, Solve
 use Rattle.sk_lang.specs.declared.Front.{Front}
 use Rattle.sk_residual.specs.declared.Wanted.TheVariants.{Drawn}
 use Rattle.sk_flips.specs.declared.Placement.{Placement}
-use Rattle.sk_flips.specs.declared.Placement.TheVariants.{Fault, Beyond, Turned, Holds}
+use Rattle.sk_flips.specs.declared.Placement.TheVariants.{Fault, Uncarried, Beyond, Turned, Holds}
 use Rattle.sk_cli.specs.declared.request.Request.{Request}
 use Rattle.sk_cli.specs.FlipsReport.{IsFlipped, IsFlipsAnswer}
 use Rattle.sk_cli.specs.SessionAnswer.{IsSessionAnswer}
@@ -37,7 +37,7 @@ use Rattle.sk_cli.specs.Grids.{grid_of, digits_of}
 use Rattle.sk_cli.specs.Solving.{midpoints, status_of, IsMeasured, IsPlacement}
 use Rattle.sk_cli.specs.Outcome.{IsPlanBy, IsPlanOrReport, IsSolved, IsAnswer, IsAnswerOf, IsAccountAnswer, IsOutcome}
 use Rattle.sk_cli.specs.Causes.{plans, solves, IsReportOf, IsSketchOf, IsRefusedInput, IsItsPlan, HasFault, LieAt, NonePasses, SomePasses, SomeTurned}
-use Rattle.sk_flips.proofs.OnePlacement.{told_placed}
+use Rattle.sk_flips.proofs.OnePlacement.{laid_measured, same_placement}
 use Rattle.sk_cli.proofs.OneOutcome.{OneSketch, NotBoth, OneJudgement, LowerLaws, still_well, same_plan, same_request, told_account, told_plan, told_planned, told_solve, told_offers, told_session, told_claim, told_flips, told_flipped, not_read_and_refused, not_accepted_and_failing, not_claimed_and_refused, not_flips_and_refused}
 use Rattle.sk_cli.proofs.Runs.{solved_told}
 use Rattle.sk_cli.specs.VerifyAnswer.{HasClaim}
@@ -55,6 +55,7 @@ use Rattle.sk_cli.proofs.Sizes.{HasFitSize, some_injective}
 -- what is placed has the verdict well
 pub never_short : (q : Placement) → status_of q ≡ NotWell → ⊥
 never_short (Fault f) same = cc
+never_short (Uncarried f) same = cc
 never_short (Beyond b) same = cc
 never_short (Turned t) same = cc
 never_short (Holds at t) same = cc
@@ -74,7 +75,8 @@ module _ (request : Request) (s : Sketch) (p : ThePlan) where
   IsHeld = (at : Placed) × LieAt request s p at × NonePasses request s at × AllAsDrawn (signs s at p)
 
   pub why_fault : (q : Placement) → IsPlacedSo q → status_of q ≡ StepFault → IsFault
-  why_fault (Fault f) is same = inl (f, is)
+  why_fault (Fault f) is same = inl (inl (f, is))
+  why_fault (Uncarried f) is same = inl (inr (f, is))
   why_fault (Beyond b) is same = cc
   why_fault (Turned t) is same =
       inr (midpoints (digits_of request.bits) is.0, (is.0, is.1, refl), is.2.0, (t, first_inside IsTurned (signs s (midpoints (digits_of request.bits) is.0) p) t is.2.1, is.2.1.has))
@@ -82,6 +84,7 @@ module _ (request : Request) (s : Sketch) (p : ThePlan) where
 
   pub why_beyond : (q : Placement) → IsPlacedSo q → status_of q ≡ Tolerance → IsBeyond
   why_beyond (Fault f) is same = cc
+  why_beyond (Uncarried f) is same = cc
   why_beyond (Beyond b) is same =
       let at = midpoints (digits_of request.bits) is.0 in
       (at, (is.0, is.1, refl), (is.2.item, first_inside (IsAbove at request.within) (everything (graph_of s)) is.2.item is.2.first, is.2.first.has))
@@ -90,6 +93,7 @@ module _ (request : Request) (s : Sketch) (p : ThePlan) where
 
   pub why_held : (q : Placement) → IsPlacedSo q → status_of q ≡ Done → IsHeld
   why_held (Fault f) is same = cc
+  why_held (Uncarried f) is same = cc
   why_held (Beyond b) is same = cc
   why_held (Turned t) is same = cc
   why_held (Holds at t) is same = (midpoints (digits_of request.bits) is.0, (is.0, is.1, refl), is.2.1, is.2.2)
@@ -99,18 +103,21 @@ module _ (request : Request) (s : Sketch) (p : ThePlan) where
 
   held_fault : (at : Placed) (q : Placement) → IsMeasured request.within s p at q → NonePasses request s at → SomeTurned request s p at → status_of q ≡ StepFault
   held_fault at (Fault f) measured none turned = refl
+  held_fault at (Uncarried f) measured none turned = refl
   held_fault at (Beyond b) measured none turned = absurd (not_beyond at (everything (graph_of s)) request.within b none measured)
   held_fault at (Turned t) measured none turned = refl
   held_fault at (Holds here t) measured none (sign, inside, other) = absurd (other (measured.2 sign inside))
 
   held_beyond : (at : Placed) (q : Placement) → IsMeasured request.within s p at q → SomePasses request s at → status_of q ≡ Tolerance
   held_beyond at (Fault f) measured some = absurd measured
+  held_beyond at (Uncarried f) measured some = absurd measured
   held_beyond at (Beyond b) measured some = refl
   held_beyond at (Turned t) measured some = absurd (not_above at measured.0 some)
   held_beyond at (Holds here t) measured some = absurd (not_above at measured.1 some)
 
   held_done : (at : Placed) (q : Placement) → IsMeasured request.within s p at q → NonePasses request s at → AllAsDrawn (signs s at p) → status_of q ≡ Done
   held_done at (Fault f) measured none drawn = absurd measured
+  held_done at (Uncarried f) measured none drawn = absurd measured
   held_done at (Beyond b) measured none drawn = absurd (not_beyond at (everything (graph_of s)) request.within b none measured)
   held_done at (Turned t) measured none drawn = absurd (measured.1.has (drawn t (first_inside IsTurned (signs s at p) t measured.1)))
   held_done at (Holds here t) measured none drawn = refl
@@ -118,24 +125,17 @@ module _ (request : Request) (s : Sketch) (p : ThePlan) where
   module _ (sound : IsSoundGraph (graph_of s)) (by : IsPlanBy request.order s p) where
     -- elements that lie somewhere have no fault, and are measured there
     measured_at : (q : Placement) → IsPlacedSo q → (at : Placed) → LieAt request s p at → IsMeasured request.within s p at q
-    measured_at q placed at (boxes, lie, is) =
-        let F = digits_of request.bits in
-        let g = graph_of s in
-        let tree = some_plan_tree g p sound by.legal in
-        elim (told_placed Drawn (grid_of request.bits) request.place F request.within s p q placed) [
-          | inl (f, q_is, failed) ↦ absurd (not_both (grid_of request.bits) request.place F g p by.legal tree boxes f lie failed)
-          | inr (others, placed', measured) ↦
-              subst (λ here. IsMeasured request.within s p here q) (sym is)
-              (subst (λ bs. IsMeasured request.within s p (midpoints F bs) q) (one_list (grid_of request.bits) request.place F g p by.legal tree others boxes placed' lie) measured)
-        ]
+    measured_at q placed at (there, laid, is) =
+        subst (λ here. IsMeasured request.within s p here q) (sym is)
+        (laid_measured Drawn (grid_of request.bits) request.place (digits_of request.bits) request.within s p by.legal (some_plan_tree (graph_of s) p sound by.legal) q placed there laid)
+
+    -- a plan that is placed so is placed in no other way
+    only_so : (q r : Placement) → IsPlacedSo q → IsPlacedSo r → q ≡ r
+    only_so q r placed other = same_placement Drawn (grid_of request.bits) request.place (digits_of request.bits) request.within s p by.legal (some_plan_tree (graph_of s) p sound by.legal) q r placed other
 
     pub fault_told : (q : Placement) → IsPlacedSo q → IsFault → status_of q ≡ StepFault
-    fault_told q placed (inl (f, failed)) =
-        elim (told_placed Drawn (grid_of request.bits) request.place (digits_of request.bits) request.within s p q placed) [
-          | inl (e, q_is, failed') ↦ ap status_of q_is
-          | inr (boxes, placed', measured) ↦
-              absurd (not_both (grid_of request.bits) request.place (digits_of request.bits) (graph_of s) p by.legal (some_plan_tree (graph_of s) p sound by.legal) boxes f placed' failed)
-        ]
+    fault_told q placed (inl (inl (f, failed))) = ap status_of (only_so q (Fault f) placed failed)
+    fault_told q placed (inl (inr (f, off))) = ap status_of (only_so q (Uncarried f) placed off)
     fault_told q placed (inr (at, lie, none, turned)) = held_fault at q (measured_at q placed at lie) none turned
 
     pub beyond_told : (q : Placement) → IsPlacedSo q → IsBeyond → status_of q ≡ Tolerance

@@ -4,6 +4,8 @@ use Rattle.std.specs.List.{filter_map}
 use Rattle.std.specs.Fmt.{decimal}
 use Rattle.sk_worklist.specs.declared.Order.{Order}
 use Rattle.sk_worklist.specs.declared.Order.TheVariants.{First, Last, Stride}
+use Rattle.sk_frame.specs.declared.FrameBy.{FrameBy}
+use Rattle.sk_frame.specs.declared.FrameBy.TheVariants.{Base, Drawn}
 use Rattle.sk_place.specs.declared.PlaceBy.{PlaceBy}
 use Rattle.sk_place.specs.declared.PlaceBy.TheVariants.{Boxes, Points}
 use Rattle.sk_cli.specs.declared.bits.Bits.{Bits}
@@ -35,6 +37,10 @@ abbrev pub IsPlace : List ℕ → PlaceBy → Type 0
 IsPlace value Boxes = value ≡ codes "boxes"
 IsPlace value Points = value ≡ codes "points"
 
+abbrev pub IsFrame : List ℕ → FrameBy → Type 0
+IsFrame value Base = value ≡ codes "base"
+IsFrame value Drawn = value ≡ codes "drawn"
+
 -- the number of elements of a sketch that is made
 abbrev pub IsSize : List ℕ → ℕ → Type 0
 IsSize value n = IsNumber 3 1000 value n
@@ -48,6 +54,7 @@ pub data Key : Type 0 where
   BitsKey : Key
   WithinKey : Key
   PlaceKey : Key
+  FrameKey : Key
   SizeKey : Key
 
 abbrev pub key_name : Key → List ℕ
@@ -55,6 +62,7 @@ key_name OrderKey = codes "order="
 key_name BitsKey = codes "bits="
 key_name WithinKey = codes "within="
 key_name PlaceKey = codes "place="
+key_name FrameKey = codes "frame="
 key_name SizeKey = codes "n="
 
 -- it is told in which order to merge
@@ -105,12 +113,13 @@ makes Flips = false
 makes Derive = false
 makes Parts = false
 
--- the keys of a command: all but `migrate`, `verify` and `spare` take an order, those that place elements a grid, a limit and what places are, one that makes a sketch its size
+-- the keys of a command: all but `migrate`, `verify` and `spare` take an order, those that place elements a grid, a limit, what places are and their frame, one that makes a sketch its size
 abbrev pub takes : Command → Key → Bool
 takes command OrderKey = orders command
 takes command BitsKey = places command
 takes command WithinKey = places command
 takes command PlaceKey = places command
+takes command FrameKey = places command
 takes command SizeKey = makes command
 
 -- what stands behind the name that a word begins with
@@ -145,13 +154,14 @@ HasSize Grow None = ⊥
 HasSize command size = Unit {0}
 
 -- the words are keys of the command, in any order, and this is what they say. Without them the order is `first`, the
--- grid has 38 binary digits, the limit is 1000, and places are boxes
+-- grid has 38 binary digits, the limit is 1000, and places are boxes, told in the frame of the base
 pub record HasKeys (words : List (List ℕ)) (request : Request) : Type 0 where
   pub known : All (λ word. IsKeyOf request.command word) words
   pub order : Says IsOrder First (values_of OrderKey words) request.order
   pub bits : Says IsBits ThirtyEight (values_of BitsKey words) request.bits
   pub within : Says IsLimit 1000 (values_of WithinKey words) request.within
-  pub place : Says IsPlace Boxes (values_of PlaceKey words) request.place
+  pub place : Says IsPlace Boxes (values_of PlaceKey words) request.place.by
+  pub frame : Says IsFrame Base (values_of FrameKey words) request.place.frame
   pub size : IsSet IsSize (values_of SizeKey words) request.size
   pub sized : HasSize request.command request.size
 

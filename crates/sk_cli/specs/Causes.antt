@@ -1,5 +1,5 @@
 -- Why a call ends as it does: the sketch that it is about, its plan, and where the plan places the elements.
-use Rattle.std.specs.Prelude.{◌≡◌, ◌<◌, ℕ, List, length, Contains, Bool, true, false, Some, Ok, Err}
+use Rattle.std.specs.Prelude.{◌≡◌, ◌⊎◌, ◌<◌, ℕ, List, length, Contains, Bool, true, false, Some, Ok, Err}
 use Rattle.sk_base.specs.declared.Name.{Name}
 use Rattle.sk_base.specs.declared.Placed.{Placed}
 use Rattle.sk_base.specs.declared.Sketch.{Sketch}
@@ -12,7 +12,9 @@ use Rattle.sk_gen.specs.DatumSketch.{datum_sketch}
 use Rattle.sk_tree.specs.declared.Plan.{Plan as ThePlan}
 use Rattle.sk_plan.specs.Judged.{IsWell}
 use Rattle.sk_place.specs.declared.BoxAt.{BoxAt}
+use Rattle.sk_place.specs.declared.BoxFault.{BoxFault}
 use Rattle.sk_place.specs.declared.StepFault.{StepFault}
+use Rattle.sk_flips.specs.Placements.{IsCarried, IsLaid}
 use Rattle.sk_place.specs.declared.PlaceError.TheVariants as errors
 use Rattle.sk_place.specs.Placing.{IsPlaced}
 use Rattle.sk_residual.specs.declared.Turned.{Turned}
@@ -94,13 +96,21 @@ module _ (request : Request) (s : Sketch) where
   abbrev pub IsItsPlan : ThePlan → Type 0
   IsItsPlan p = IsWell (graph_of s) × IsPlanBy request.order s p
 
-  -- some step of the plan has no boxes on the grid
-  abbrev pub HasFault : ThePlan → Type 0
-  HasFault p = (f : StepFault) × IsPlaced {G = grid_of request.bits} request.place (digits_of request.bits) (graph_of s) p (Err (errors.Fault f))
+  -- this step of the plan has no boxes on the grid
+  abbrev pub IsFaultAt : ThePlan → StepFault → Type 0
+  IsFaultAt p f = IsPlaced {G = grid_of request.bits} request.place.by (digits_of request.bits) (graph_of s) p (Err (errors.Fault f))
 
-  -- each step has boxes on the grid, and there the elements lie
+  -- each step has boxes on the grid, and this is the first of them that can't be carried to the drawing
+  abbrev pub IsOff : ThePlan → BoxFault → Type 0
+  IsOff p f = (boxes : List (BoxAt (grid_of request.bits))) × IsPlaced request.place.by (digits_of request.bits) (graph_of s) p (Ok boxes) × IsCarried request.place.frame request.place.by (digits_of request.bits) s p boxes (Err f)
+
+  -- some step of the plan has no boxes on the grid, or some box can't be carried to the drawing
+  abbrev pub HasFault : ThePlan → Type 0
+  HasFault p = ((f : StepFault) × IsFaultAt p f) ⊎ ((f : BoxFault) × IsOff p f)
+
+  -- each step has boxes on the grid, and there the elements lie, in the frame that is asked for
   abbrev pub LieAt : ThePlan → Placed → Type 0
-  LieAt p at = (boxes : List (BoxAt (grid_of request.bits))) × IsPlaced request.place (digits_of request.bits) (graph_of s) p (Ok boxes) × (at ≡ midpoints (digits_of request.bits) boxes)
+  LieAt p at = (boxes : List (BoxAt (grid_of request.bits))) × IsLaid request.place (digits_of request.bits) s p boxes × (at ≡ midpoints (digits_of request.bits) boxes)
 
   -- no line and no constraint has a least number above the limit
   abbrev pub NonePasses : Placed → Type 0

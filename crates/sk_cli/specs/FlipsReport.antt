@@ -11,11 +11,11 @@ use Rattle.sk_lang.specs.Front.{ReadsFront}
 use Rattle.sk_tree.specs.declared.Plan.{Plan as ThePlan}
 use Rattle.sk_plan.specs.Judged.{IsWell}
 use Rattle.sk_text.specs.ClusterName.{cluster_name}
-use Rattle.sk_report.specs.FaultLines.{fault_line, passed_line, turned_line}
+use Rattle.sk_report.specs.FaultLines.{fault_line, frame_fault_line, passed_line, turned_line}
 use Rattle.sk_report.specs.RefusalLine.{refusal_line}
 use Rattle.sk_report.specs.SolveReport.{places_report}
 use Rattle.sk_flips.specs.declared.Alternative.{Alternative}
-use Rattle.sk_flips.specs.declared.Alternative.TheVariants.{Found, NoChoice, Fault, Passed, Turned}
+use Rattle.sk_flips.specs.declared.Alternative.TheVariants.{Found, NoChoice, Fault, Uncarried, Passed, Turned}
 use Rattle.sk_flips.specs.Alternatives.{AreAlternatives}
 use Rattle.sk_flips.specs.FlipReading.{ReadsFlips, RefusesFlips}
 use Rattle.sk_cli.specs.declared.request.Request.{Request}
@@ -30,6 +30,7 @@ abbrev pub found_words : Alternative → List ℕ
 found_words (Found at tol) = codes "ok"
 found_words (NoChoice n) = codes "no-choice " ++ cluster_name n
 found_words (Fault f) = codes "fault"
+found_words (Uncarried f) = codes "fault"
 found_words (Passed b) = codes "fault"
 found_words (Turned t) = codes "fault"
 
@@ -43,6 +44,7 @@ abbrev pub lines_below : Sketch → ℕ → Alternative → List ℕ
 lines_below s bits (Found at tol) = places_report s at tol
 lines_below s bits (NoChoice n) = []
 lines_below s bits (Fault f) = fault_line s f bits
+lines_below s bits (Uncarried f) = frame_fault_line s f bits
 lines_below s bits (Passed b) = passed_line s b
 lines_below s bits (Turned t) = turned_line t
 

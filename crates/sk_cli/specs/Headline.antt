@@ -18,9 +18,8 @@ use Rattle.sk_tree.specs.PlanTree.{IsPlanTree}
 use Rattle.sk_tree.specs.LegalPlan.{numbers_of}
 use Rattle.sk_plan.specs.Judged.{IsTheJudgement, IsWell}
 use Rattle.sk_plan.specs.Leaves.{HasLeaves}
+use Rattle.sk_place.specs.declared.BoxFault.{BoxFault}
 use Rattle.sk_place.specs.declared.StepFault.{StepFault}
-use Rattle.sk_place.specs.declared.PlaceError.TheVariants as errors
-use Rattle.sk_place.specs.Placing.{IsPlaced}
 use Rattle.sk_residual.specs.declared.Beyond.{Beyond}
 use Rattle.sk_residual.specs.declared.Tolerance.{Tolerance}
 use Rattle.sk_residual.specs.declared.Turned.{Turned}
@@ -29,7 +28,7 @@ use Rattle.sk_residual.specs.Placing.{PlacesExactly}
 use Rattle.sk_residual.specs.Tolerances.{AllHoldWithin, IsFirstBeyond, everything}
 use Rattle.sk_residual.specs.Turns.{signs, IsTurned, AllAsDrawn}
 use Rattle.sk_report.specs.CheckReport.{check_report, parts_head}
-use Rattle.sk_report.specs.FaultLines.{fault_line, passed_line, turned_line}
+use Rattle.sk_report.specs.FaultLines.{fault_line, frame_fault_line, passed_line, turned_line}
 use Rattle.sk_report.specs.PlanReport.{plan_report}
 use Rattle.sk_report.specs.SolveReport.{shape_report}
 use Rattle.sk_session.specs.declared.Reply.{Reply}
@@ -41,7 +40,7 @@ use Rattle.sk_cli.specs.declared.request.Request.{Request}
 use Rattle.sk_cli.specs.declared.solving.Report.{Report}
 use Rattle.sk_cli.specs.declared.status.Status.{Status}
 use Rattle.sk_cli.specs.declared.status.Status.TheVariants.{Done, NotWell}
-use Rattle.sk_cli.specs.Causes.{plans, solves, IsReportOf, IsItsPlan, LieAt, NonePasses}
+use Rattle.sk_cli.specs.Causes.{plans, solves, IsReportOf, IsItsPlan, IsFaultAt, IsOff, LieAt, NonePasses}
 use Rattle.sk_cli.specs.Grids.{grid_of, digits_of}
 use Rattle.sk_cli.specs.PartsReport.{EachStands}
 use Rattle.sk_cli.specs.SessionAnswer.{RepliesToFront, IsReplied}
@@ -100,14 +99,15 @@ pub record HoldsAt (request : Request) (s : Sketch) (p : ThePlan) (at : Placed) 
   pub within : NonePasses request s at
   pub drawn : AllAsDrawn (signs s at p)
 
--- the first faulty step of the plan is named; else, where its boxes have their midpoints, the first line or constraint above
--- the limit; else the first turned sign
+-- the first faulty step of the plan is named; else the first box that can't be carried to the drawing; else, where the boxes
+-- have their midpoints, the first line or constraint above the limit; else the first turned sign
 abbrev pub NamesTheFirst : Request → Sketch → List ℕ → Type 0
 NamesTheFirst request s text =
     (p : ThePlan) × IsItsPlan request s p
-    × (((f : StepFault) × IsPlaced {G = grid_of request.bits} request.place (digits_of request.bits) (graph_of s) p (Err (errors.Fault f)) × (text ≡ fault_line s f (digits_of request.bits)))
+    × (((f : StepFault) × IsFaultAt request s p f × (text ≡ fault_line s f (digits_of request.bits)))
+    ⊎ (((f : BoxFault) × IsOff request s p f × (text ≡ frame_fault_line s f (digits_of request.bits)))
     ⊎ (((at : Placed) × (b : Beyond) × LieAt request s p at × IsFirstBeyond at (everything (graph_of s)) request.within b × (text ≡ passed_line s b))
-    ⊎ ((at : Placed) × (sign : Turned) × LieAt request s p at × NonePasses request s at × IsFirst IsTurned (signs s at p) sign × (text ≡ turned_line sign))))
+    ⊎ ((at : Placed) × (sign : Turned) × LieAt request s p at × NonePasses request s at × IsFirst IsTurned (signs s at p) sign × (text ≡ turned_line sign)))))
 
 -- where the plan of the sketch places its elements, and they hold, they are written; else what fails first is named
 abbrev pub TellsPlaces : Request → Sketch → List ℕ → Type 0

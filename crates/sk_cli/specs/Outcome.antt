@@ -28,7 +28,7 @@ use Rattle.sk_cli.specs.VerifyAnswer.{IsVerifyAnswer}
 pub use Rattle.sk_cli.specs.Solved.{IsPlanBy, IsReportNotWell, IsPlacedPlan, IsSolved}
 
 abbrev pub usage_line : List ℕ
-usage_line = codes "usage: sketch check|plan|solve|dxf|offers|session|grow|migrate|verify|spare|flips|derive|parts [order=first|last|0..65535] [bits=16|27|38] [within=1..1000000] [place=boxes|points] [n=3..1000]\n"
+usage_line = codes "usage: sketch check|plan|solve|dxf|offers|session|grow|migrate|verify|spare|flips|derive|parts [order=first|last|0..65535] [bits=16|27|38] [within=1..1000000] [place=boxes|points] [frame=base|drawn] [n=3..1000]\n"
 
 -- what is told of the sketch that the text is read as
 abbrev pub IsAccountOf : Account → List ℕ → List ℕ → Type 0

@@ -6,7 +6,7 @@ use Rattle.sk_family.specs.Clusters.{initial_clusters}
 use Rattle.sk_graph.specs.SketchGraph.{graph_of}
 use Rattle.sk_lang.specs.Lines.{lines_in}
 use Rattle.sk_lang.specs.declared.Code.TheVariants.{E20}
-use Rattle.sk_place.specs.declared.PlaceBy.{PlaceBy}
+use Rattle.sk_flips.specs.declared.Layout.{Layout}
 use Rattle.sk_report.specs.RefusalLine.{refusal_line}
 use Rattle.sk_session.specs.declared.Closing.TheVariants.{InAnyOrder}
 use Rattle.sk_session.specs.declared.Reply.{Reply}
@@ -25,11 +25,11 @@ use Rattle.sk_cli.specs.Solved.{IsSolved}
 use Rattle.sk_cli.specs.Told.{told}
 
 -- `solve` with these settings
-abbrev pub solve_with : Order → Bits → ℕ → PlaceBy → Request
+abbrev pub solve_with : Order → Bits → ℕ → Layout → Request
 solve_with order bits within place = record { command = Solve; order = order; bits = bits; within = within; place = place; size = None }
 
 -- the text of a reply: to `solve` what the command writes for the sketch, whatever its status, else what is told
-abbrev pub IsReplyText : Order → Bits → ℕ → PlaceBy → Sketch → Reply → List ℕ → Type 0
+abbrev pub IsReplyText : Order → Bits → ℕ → Layout → Sketch → Reply → List ℕ → Type 0
 IsReplyText order bits within place s reply.Solve text = (status : Status) × IsSolved Places (solve_with order bits within place) s status text
 IsReplyText order bits within place s r text = text ≡ told s r
 

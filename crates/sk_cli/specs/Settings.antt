@@ -2,7 +2,7 @@
 use Rattle.std.specs.Prelude.{◌≡◌, ℕ, List, Option, None, Some, All}
 use Rattle.sk_cli.specs.declared.command.Command.{Command}
 use Rattle.sk_cli.specs.declared.settings.Settings.{Settings}
-use Rattle.sk_cli.specs.Asking.{OrderKey, BitsKey, WithinKey, PlaceKey, SizeKey, key_name, behind, IsKeyOf, values_of, IsOrder, IsBits, IsLimit, IsPlace, IsSize, IsSet}
+use Rattle.sk_cli.specs.Asking.{OrderKey, BitsKey, WithinKey, PlaceKey, FrameKey, SizeKey, key_name, behind, IsKeyOf, values_of, IsOrder, IsBits, IsLimit, IsPlace, IsFrame, IsSize, IsSet}
 
 -- the words are keys of the command, and this is what they set
 pub record AreSet (command : Command) (words : List (List ℕ)) (settings : Settings) : Type 0 where
@@ -11,6 +11,7 @@ pub record AreSet (command : Command) (words : List (List ℕ)) (settings : Sett
   pub bits : IsSet IsBits (values_of BitsKey words) settings.bits
   pub within : IsSet IsLimit (values_of WithinKey words) settings.within
   pub place : IsSet IsPlace (values_of PlaceKey words) settings.place
+  pub frame : IsSet IsFrame (values_of FrameKey words) settings.frame
   pub size : IsSet IsSize (values_of SizeKey words) settings.size
 
 -- a value sets what wasn't set; without one it stays
@@ -25,4 +26,5 @@ pub record Adds (command : Command) (word : List ℕ) (before after : Settings) 
   pub bits : Sets IsBits (behind (key_name BitsKey) word) before.bits after.bits
   pub within : Sets IsLimit (behind (key_name WithinKey) word) before.within after.within
   pub place : Sets IsPlace (behind (key_name PlaceKey) word) before.place after.place
+  pub frame : Sets IsFrame (behind (key_name FrameKey) word) before.frame after.frame
   pub size : Sets IsSize (behind (key_name SizeKey) word) before.size after.size

@@ -4,7 +4,7 @@ ghost use Rattle.sk_cli.specs.FlipsReport.{found_words, flip_line, lines_below, 
 
 use sk_base::{NoMemory, Sketch, Text};
 use sk_flips::Alternative;
-use sk_report::{fault_text, passed_text, places_text, turned_text};
+use sk_report::{fault_text, frame_fault_text, passed_text, places_text, turned_text};
 use sk_text::cluster_name;
 use std::alloc::Global;
 
@@ -45,9 +45,10 @@ fn found_words(alloc: Global, a: &Alternative) -> Result<String, NoMemory>
             let name = cluster_name(alloc, *name)?;
             Ok(format!(in alloc; "no-choice {name}")?)
         }
-        Alternative::Fault(_) | Alternative::Passed(_) | Alternative::Turned(_) => {
-            Ok(format!(in alloc; "fault")?)
-        }
+        Alternative::Fault(_)
+        | Alternative::Uncarried(_)
+        | Alternative::Passed(_)
+        | Alternative::Turned(_) => Ok(format!(in alloc; "fault")?),
     }
 }
 
@@ -59,6 +60,7 @@ fn lines_below(alloc: Global, s: &Sketch, bits: u32, a: &Alternative) -> Result<
         Alternative::Found { at, tol } => places_text(alloc, s, at, tol),
         Alternative::NoChoice(_) => Ok(Text::new(alloc)),
         Alternative::Fault(fault) => fault_text(alloc, s, fault, bits),
+        Alternative::Uncarried(fault) => frame_fault_text(alloc, s, fault, bits),
         Alternative::Passed(beyond) => passed_text(alloc, s, beyond),
         Alternative::Turned(turned) => turned_text(alloc, turned),
     }

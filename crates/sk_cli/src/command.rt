@@ -55,7 +55,7 @@ impl Command {
         }
     }
 
-    /// Whether it places elements, and so takes a grid, a limit and what places are.
+    /// Whether it places elements, and so takes a grid, a limit, what places are and their frame.
     pub(crate) fn places(self) -> bool
         ensures { result ≡ places self }
     {

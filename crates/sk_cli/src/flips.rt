@@ -14,10 +14,9 @@ use crate::planning::{Planning, planned_by};
 use crate::request::Request;
 use crate::status::Status;
 use sk_base::{Graph, List, Name, NoMemory, Sketch, Text};
-use sk_flips::{Alternative, alternatives, read_flips};
+use sk_flips::{Alternative, Layout, alternatives, read_flips};
 use sk_interval::{G16, G27, G38};
 use sk_lang::{ReadError, read_sketch_front};
-use sk_place::PlaceBy;
 use sk_tree::Plan;
 use std::alloc::Global;
 
@@ -77,7 +76,7 @@ fn flipped(
 /// more than the limit.
 fn alternatives_on(
     alloc: Global,
-    placing: PlaceBy,
+    placing: Layout,
     bits: Bits,
     limit: u64,
     s: &Sketch,

@@ -8,9 +8,8 @@ ghost use Rattle.sk_cli.specs.Solving.{IsPlacement, LiesWithinBounds};
 
 use crate::bits::Bits;
 use sk_base::{Graph, NoMemory, Sketch};
-use sk_flips::{Placement, placed_on};
+use sk_flips::{Layout, Placement, placed_on};
 use sk_interval::{G16, G27, G38};
-use sk_place::PlaceBy;
 use sk_residual::Wanted;
 use sk_tree::Plan;
 use std::alloc::Global;
@@ -19,7 +18,7 @@ use std::alloc::Global;
 /// be more than the limit.
 pub(crate) fn placed(
     alloc: Global,
-    placing: PlaceBy,
+    placing: Layout,
     bits: Bits,
     limit: u64,
     s: &Sketch,

@@ -10,8 +10,8 @@ use crate::command::Command;
 use crate::request::Request;
 use crate::solving::{Report, solved};
 use sk_base::{NoMemory, Sketch, Text};
+use sk_flips::Layout;
 use sk_lang::write_sketch;
-use sk_place::PlaceBy;
 use sk_report::{check_text, code_text, constrained_text, declared_text, done_text, plan_text};
 use sk_session::Reply;
 use sk_worklist::Order;
@@ -26,7 +26,7 @@ pub fn reply_text(
     order: Order,
     bits: Bits,
     within: u64,
-    place: PlaceBy,
+    place: Layout,
 ) -> Result<Text, NoMemory>
     requires sound { IsSoundSketch s.now }
     requires some { r.now ≡ a_reply.Solve → 0 < length s.now.elements }
@@ -45,7 +45,7 @@ fn solve_text(
     order: Order,
     bits: Bits,
     within: u64,
-    place: PlaceBy,
+    place: Layout,
 ) -> Result<Text, NoMemory>
     requires sound { IsSoundSketch s.now }
     requires some { 0 < length s.now.elements }

@@ -6,6 +6,8 @@ ghost use Rattle.sk_cli.specs.Asking.{Asks, HasSize};
 use crate::bits::Bits;
 use crate::command::{Command, command_of};
 use crate::settings::settings_of;
+use sk_flips::Layout;
+use sk_frame::FrameBy;
 use sk_place::PlaceBy;
 use sk_worklist::Order;
 
@@ -13,15 +15,15 @@ use sk_worklist::Order;
 const LIMIT: u64 = 1_000;
 
 /// A command, the order of merges, the grid, the most that a tolerance may be, in nanometres for
-/// lengths and heights and in parts per 10^9 for angles, what places are while the plan is placed, and for a
-/// sketch that is made how many elements it has.
+/// lengths and heights and in parts per 10^9 for angles, what places are while the plan is placed, and in
+/// which frame they are told, and for a sketch that is made how many elements it has.
 #[derive(Clone, Copy, Debug, PartialEq, Eq)]
 pub struct Request {
     pub command: Command,
     pub order: Order,
     pub bits: Bits,
     pub within: u64,
-    pub place: PlaceBy,
+    pub place: Layout,
     pub size: Option<u32>,
 }
 
@@ -41,7 +43,10 @@ pub fn request_of(words: &[String]) -> Option<Request>
         order: settings.order.unwrap_or(Order::First),
         bits: settings.bits.unwrap_or(Bits::ThirtyEight),
         within: settings.within.unwrap_or(LIMIT),
-        place: settings.place.unwrap_or(PlaceBy::Boxes),
+        place: Layout {
+            by: settings.place.unwrap_or(PlaceBy::Boxes),
+            frame: settings.frame.unwrap_or(FrameBy::Base),
+        },
         size: settings.size,
     })
 }

@@ -2,16 +2,18 @@
 ghost use Rattle.std.specs.Prelude.{◌≡◌, ◌≤◌, ◌<◌, ◌^◌, ◌≢◌, ℕ, map, string_bytes, None, Some, IfSome, IfNone, IsTrue, ◌↔◌};
 ghost use Rattle.std.specs.Fmt.{decimal};
 ghost use Rattle.sk_worklist.specs.declared.Order.{Order as AnyOrder};
+ghost use Rattle.sk_frame.specs.declared.FrameBy.{FrameBy as AnyFrame};
 ghost use Rattle.sk_place.specs.declared.PlaceBy.{PlaceBy as AnyPlace};
 ghost use Rattle.sk_cli.specs.declared.bits.Bits.{Bits as AnyBits};
 ghost use Rattle.sk_cli.specs.declared.request.Request.{Request as AnyRequest};
 ghost use Rattle.sk_cli.specs.declared.settings.Settings.{Settings as OtherSettings};
-ghost use Rattle.sk_cli.specs.Asking.{orders, makes, behind, HasKeys, IsNumber, IsOrder, IsBits, IsLimit, IsPlace, IsSize, LeadsWithZero};
+ghost use Rattle.sk_cli.specs.Asking.{orders, makes, behind, HasKeys, IsNumber, IsOrder, IsBits, IsLimit, IsPlace, IsFrame, IsSize, LeadsWithZero};
 ghost use Rattle.sk_cli.specs.Settings.{AreSet, Adds};
 
 use crate::bits::Bits;
 use crate::command::Command;
 use sk_base::digits_of;
+use sk_frame::FrameBy;
 use sk_place::PlaceBy;
 use sk_worklist::Order;
 
@@ -30,6 +32,7 @@ pub(crate) struct Settings {
     pub(crate) bits: Option<Bits>,
     pub(crate) within: Option<u64>,
     pub(crate) place: Option<PlaceBy>,
+    pub(crate) frame: Option<FrameBy>,
     pub(crate) size: Option<u32>,
 }
 
@@ -43,6 +46,7 @@ pub(crate) fn settings_of(command: Command, words: &[String]) -> Option<Settings
         bits: None,
         within: None,
         place: None,
+        frame: None,
         size: None,
     };
     for word in words {
@@ -72,7 +76,10 @@ impl Settings {
         if let Some(value) = behind(word, "within=") {
             return self.with_within(value);
         }
-        self.with_place(behind(word, "place=")?)
+        if let Some(value) = behind(word, "place=") {
+            return self.with_place(value);
+        }
+        self.with_frame(behind(word, "frame=")?)
     }
 
     fn with_order(self, command: Command, value: &[u8]) -> Option<Settings>
@@ -127,6 +134,20 @@ impl Settings {
         let place = place_named(value)?;
         Some(Settings {
             place: Some(place),
+            ..self
+        })
+    }
+
+    fn with_frame(self, value: &[u8]) -> Option<Settings>
+        ensures some { IfSome result (λ after. (frame : AnyFrame) × IsFrame value.now frame × (self.frame ≡ None) × (after ≡ record self { frame = Some frame })) }
+        ensures none { IfNone result ((frame : AnyFrame) → IsFrame value.now frame → self.frame ≡ None → ⊥) }
+    {
+        if self.frame.is_some() {
+            return None;
+        }
+        let frame = frame_named(value)?;
+        Some(Settings {
+            frame: Some(frame),
             ..self
         })
     }
@@ -190,6 +211,19 @@ fn place_named(value: &[u8]) -> Option<PlaceBy>
         Some(PlaceBy::Boxes)
     } else if value == b"points".as_slice() {
         Some(PlaceBy::Points)
+    } else {
+        None
+    }
+}
+
+fn frame_named(value: &[u8]) -> Option<FrameBy>
+    ensures some { IfSome result (IsFrame value.now) }
+    ensures none { IfNone result ((frame : AnyFrame) → IsFrame value.now frame → ⊥) }
+{
+    if value == b"base".as_slice() {
+        Some(FrameBy::Base)
+    } else if value == b"drawn".as_slice() {
+        Some(FrameBy::Drawn)
     } else {
         None
     }

@@ -13,7 +13,9 @@ use crate::status::Status;
 use sk_base::{NoMemory, Placed, Sketch, Text};
 use sk_dxf::dxf_text;
 use sk_flips::Placement;
-use sk_report::{fault_text, grow_text, passed_text, shape_text, solve_text, turned_text};
+use sk_report::{
+    fault_text, frame_fault_text, grow_text, passed_text, shape_text, solve_text, turned_text,
+};
 use sk_residual::Tolerance;
 use sk_tree::Plan;
 use std::alloc::Global;
@@ -69,7 +71,7 @@ fn status_of(placement: &Placement) -> Status
     ensures { result ≡ status_of placement.now }
 {
     match placement {
-        Placement::Fault(_) | Placement::Turned(_) => Status::StepFault,
+        Placement::Fault(_) | Placement::Uncarried(_) | Placement::Turned(_) => Status::StepFault,
         Placement::Beyond(_) => Status::Tolerance,
         Placement::Holds(_, _) => Status::Done,
     }
@@ -89,6 +91,7 @@ fn placement_text(
 {
     match placement {
         Placement::Fault(fault) => fault_text(alloc, s, fault, bits),
+        Placement::Uncarried(fault) => frame_fault_text(alloc, s, fault, bits),
         Placement::Beyond(beyond) => passed_text(alloc, s, beyond),
         Placement::Turned(turned) => turned_text(alloc, turned),
         Placement::Holds(at, tolerance) => report_text(alloc, report, bits, s, p, at, tolerance),

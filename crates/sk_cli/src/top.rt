@@ -26,7 +26,7 @@ use sk_lang::{Code, Refusal};
 use std::alloc::Global;
 
 const USAGE: &str =
-    "usage: sketch check|plan|solve|dxf|offers|session|grow|migrate|verify|spare|flips|derive|parts [order=first|last|0..65535] [bits=16|27|38] [within=1..1000000] [place=boxes|points] [n=3..1000]\n";
+    "usage: sketch check|plan|solve|dxf|offers|session|grow|migrate|verify|spare|flips|derive|parts [order=first|last|0..65535] [bits=16|27|38] [within=1..1000000] [place=boxes|points] [frame=base|drawn] [n=3..1000]\n";
 
 /// The most bytes of an input.
 const MOST_BYTES: usize = 1_048_576;

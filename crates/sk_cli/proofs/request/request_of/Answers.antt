@@ -28,11 +28,11 @@ returns-clause-some c =
       order = c.unwrap_or.result;
       bits = c.unwrap_or-2.result;
       within = c.unwrap_or-3.result;
-      place = c.unwrap_or-4.result;
+      place = record { by = c.unwrap_or-4.result; frame = c.unwrap_or-5.result };
       size = c.in_ok-settings.settings.size;
     } in
     subst (λ words. Asks words request) (sym (ap (map string_bytes) c.in_ok-first.ensures.cases.0)) (
       sym c.as_str.ensures.value ∙ c.in_ok-command.ensures.some,
-      keys_of c.in_ok-command.command _ c.in_ok-settings.settings c.unwrap_or.result c.unwrap_or-2.result c.unwrap_or-3.result c.unwrap_or-4.result c.in_ok-settings.ensures.some
-          c.unwrap_or.ensures c.unwrap_or-2.ensures c.unwrap_or-3.ensures c.unwrap_or-4.ensures (c.if-not-has_size.ensures.0 refl),
+      keys_of c.in_ok-command.command _ c.in_ok-settings.settings c.unwrap_or.result c.unwrap_or-2.result c.unwrap_or-3.result c.unwrap_or-4.result c.unwrap_or-5.result c.in_ok-settings.ensures.some
+          c.unwrap_or.ensures c.unwrap_or-2.ensures c.unwrap_or-3.ensures c.unwrap_or-4.ensures c.unwrap_or-5.ensures (c.if-not-has_size.ensures.0 refl),
     )
