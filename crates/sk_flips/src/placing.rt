@@ -14,9 +14,7 @@ use sk_base::{Graph, NoMemory, Placed, Sketch};
 use sk_frame::{FrameBy, frame_motion, frame_of};
 use sk_graph::sound_graph;
 use sk_interval::Grid;
-use sk_place::{
-    BoxFault, Boxes, MoveError, PlaceBy, PlaceError, StepFault, moved, place, round,
-};
+use sk_place::{BoxFault, Boxes, MoveError, PlaceBy, PlaceError, StepFault, moved, place, round};
 use sk_residual::{
     Beyond, Tolerance, Turned, Wanted, first_unlike, least, passed, placed_in_order,
 };

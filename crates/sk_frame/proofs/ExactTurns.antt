@@ -127,13 +127,17 @@ nothing_part F s some = ap (λ x. quotient F (exactly x) (exactly (pos s))) (not
 pub along : (F u t : ℕ) → 2 ^ F ≡ 256 * u → u ≡ 256 * t → 0 < u → (z : ℤ) → unsigned_abs z ≤ 2147483647 → 0 < unsigned_abs z
     → (size : Interval) × (evaluate {N = What} F (exactly (z *ℤ pos u) ∷ exactly (pos 0) ∷ []) unit_turn ≡ Ok (size ∷ whole F (placed_sign z) ∷ whole F (pos 0) ∷ []))
 along F u t unit finer u_some z few z_some =
-    let is = axis F u t unit finer u_some z few z_some in
-    (exactly (pos is.size), evaluated F (exactly (z *ℤ pos u)) (exactly (pos 0)) (exactly (pos is.square)) (exactly (pos 0)) (exactly (pos is.square)) (exactly (pos is.size)) (whole F (placed_sign z)) (whole F (pos 0))
-    is.square_is (nothing_square F) (sum_exact F is.square 0 is.square (omega arith) (omega (arith, is.small))) is.root_is is.part_is (nothing_part F is.size is.some))
+    let is = axis F u t unit finer u_some z few z_some in (
+      exactly (pos is.size),
+      evaluated F (exactly (z *ℤ pos u)) (exactly (pos 0)) (exactly (pos is.square)) (exactly (pos 0)) (exactly (pos is.square)) (exactly (pos is.size)) (whole F (placed_sign z)) (whole F (pos 0))
+          is.square_is (nothing_square F) (sum_exact F is.square 0 is.square (omega arith) (omega (arith, is.small))) is.root_is is.part_is (nothing_part F is.size is.some),
+    )
 
 pub across : (F u t : ℕ) → 2 ^ F ≡ 256 * u → u ≡ 256 * t → 0 < u → (z : ℤ) → unsigned_abs z ≤ 2147483647 → 0 < unsigned_abs z
     → (size : Interval) × (evaluate {N = What} F (exactly (pos 0) ∷ exactly (z *ℤ pos u) ∷ []) unit_turn ≡ Ok (size ∷ whole F (pos 0) ∷ whole F (placed_sign z) ∷ []))
 across F u t unit finer u_some z few z_some =
-    let is = axis F u t unit finer u_some z few z_some in
-    (exactly (pos is.size), evaluated F (exactly (pos 0)) (exactly (z *ℤ pos u)) (exactly (pos 0)) (exactly (pos is.square)) (exactly (pos is.square)) (exactly (pos is.size)) (whole F (pos 0)) (whole F (placed_sign z))
-    (nothing_square F) is.square_is (sum_exact F 0 is.square is.square (omega arith) (omega (arith, is.small))) is.root_is (nothing_part F is.size is.some) is.part_is)
+    let is = axis F u t unit finer u_some z few z_some in (
+      exactly (pos is.size),
+      evaluated F (exactly (pos 0)) (exactly (z *ℤ pos u)) (exactly (pos 0)) (exactly (pos is.square)) (exactly (pos is.square)) (exactly (pos is.size)) (whole F (pos 0)) (whole F (placed_sign z))
+          (nothing_square F) is.square_is (sum_exact F 0 is.square is.square (omega arith) (omega (arith, is.small))) is.root_is (nothing_part F is.size is.some) is.part_is,
+    )
