@@ -117,10 +117,10 @@ fn ends_alike(
     let mut wanted = Vec::new(alloc);
     for question in questions {
         put_step(&mut lines, question)?;
-        put_answer(alloc, &mut wanted, question, sketch.as_bytes())?;
+        put_answer(alloc, &mut wanted, &[question], sketch.as_bytes())?;
     }
     let mut found = Vec::new(alloc);
-    put_answer(alloc, &mut found, "session", lines.as_bytes())?;
+    put_answer(alloc, &mut found, &["session"], lines.as_bytes())?;
     assert!(rt; found.as_slice().ends_with(wanted.as_slice()), "{script}");
     Ok(())
 }
