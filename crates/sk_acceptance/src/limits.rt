@@ -110,7 +110,7 @@ fn a_strip_is_one_part(rt: HostRuntime) -> Result<(), Fail> {
 /// long it is: strips, with equal and with other sides, fans, with a hub far off too, a polyline of lengths and angles, a
 /// truss on a line, and a row of blocks.
 const CHAINS: &str = "
-$ 1 10 100 2000
+$ 1 10 100 1000
 point P1 1 0
 point P2 2 1
 ..

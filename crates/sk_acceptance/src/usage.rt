@@ -32,7 +32,13 @@ solve place=
 solve place=point
 solve place=points place=points
 check place=boxes
+plan place=points
+offers place=points
+migrate place=points
 verify place=boxes
+spare place=points
+derive place=points
+solve place=Points
 solve bits=38 within=5 bits=38
 solve order=first within=1000001
 grow
