@@ -249,7 +249,7 @@ length tolerance 0 nm at c2
 angle tolerance 0 ppb at line X
 $ check check
 > 2
-usage: sketch check|plan|solve|dxf|offers|session|grow|migrate|verify|spare|flips|derive|parts [order=first|last|0..65535] [bits=16|27|38] [within=1..1000000] [place=boxes|points] [n=3..1000]
+usage: sketch check|plan|solve|dxf|offers|session|grow|migrate|verify|spare|flips|derive|parts [order=first|last|0..65535] [bits=16|27|38] [within=1..1000000] [place=boxes|points] [frame=base|drawn] [n=3..1000]
 ";
 
 /// Calls with one byte a call of the source and of the sink, where one call of each fails, or none where its

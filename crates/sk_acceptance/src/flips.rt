@@ -4,7 +4,10 @@ use crate::row::{answers, few_bytes, lines_are_refused, put_each};
 use crate::tolerances::{placed, places_of};
 use sk_base::{List, Name, Sign, Sketch, Text};
 use sk_cli::alternative_text;
-use sk_flips::{Alternative, alternatives, first_off, flip_plan, read_flips, turned_plan_is_legal};
+use sk_flips::{
+    Alternative, Layout, alternatives, first_off, flip_plan, read_flips, turned_plan_is_legal,
+};
+use sk_frame::FrameBy;
 use sk_graph::reduce;
 use sk_interval::G38;
 use sk_lang::ReadError;
@@ -496,7 +499,11 @@ fn alternatives_told(alloc: Global, lines: &str) -> Result<Text, Fail> {
     let graph = reduce(alloc, &sketch)?;
     let plan = planned(alloc, &sketch)?;
     let lists = read_flips(alloc, few_bytes(lines)?, 8)?;
-    let found = alternatives::<G38>(alloc, PlaceBy::Boxes, &sketch, &graph, &plan, &lists, 1000)?;
+    let placing = Layout {
+        by: PlaceBy::Boxes,
+        frame: FrameBy::Base,
+    };
+    let found = alternatives::<G38>(alloc, placing, &sketch, &graph, &plan, &lists, 1000)?;
     let mut told = Text::new(alloc);
     for alternative in found.as_slice() {
         told.put(alternative_text(alloc, &sketch, 9, 38, alternative)?.as_bytes())?;

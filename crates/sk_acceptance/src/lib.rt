@@ -20,6 +20,7 @@ mod drawn;
 mod faults;
 #[cfg(test)]
 mod flips;
+mod framed;
 #[cfg(test)]
 mod grown;
 #[cfg(test)]

@@ -1,7 +1,7 @@
 // The tables of calls, each of which stands in the module of its subject.
 use crate::row::rows_pass;
 use crate::{
-    blocks, checks, damaged, derived, drawn, flips, grown, offers, parts, plans, refusals,
+    blocks, checks, damaged, derived, drawn, flips, framed, grown, offers, parts, plans, refusals,
     refused_claims, sessions, settled, solves, spares, verified, verified_signs, versions,
 };
 use std::test::Fail;
@@ -37,6 +37,7 @@ fn drawings_are_placed(rt: HostRuntime) -> Result<(), Fail> {
         solves::PLACELESS,
         solves::TILTED,
         solves::LATER_FAULTS,
+        framed::FRAMED,
         settled::SETTLED,
         drawn::DRAWN,
         flips::FLIPS,

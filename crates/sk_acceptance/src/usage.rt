@@ -5,7 +5,7 @@ use std::process::Abort;
 use std::test::Fail;
 
 const USAGE: &str =
-    "usage: sketch check|plan|solve|dxf|offers|session|grow|migrate|verify|spare|flips|derive|parts [order=first|last|0..65535] [bits=16|27|38] [within=1..1000000] [place=boxes|points] [n=3..1000]\n";
+    "usage: sketch check|plan|solve|dxf|offers|session|grow|migrate|verify|spare|flips|derive|parts [order=first|last|0..65535] [bits=16|27|38] [within=1..1000000] [place=boxes|points] [frame=base|drawn] [n=3..1000]\n";
 
 /// The words of a call on each line, between single spaces; the first line has one empty word.
 const NO_FORMS: &str = "
@@ -35,6 +35,11 @@ check place=boxes
 plan place=points
 offers place=points
 migrate place=points
+solve frame=
+solve frame=draw
+solve frame=drawn frame=drawn
+check frame=drawn
+spare frame=base
 verify place=boxes
 spare place=points
 derive place=points
