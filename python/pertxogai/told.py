@@ -12,6 +12,9 @@ from pertxogai.measure import Deviation, Solution, Unit, greatest
 from pertxogai.reports import Part, Solved
 from pertxogai.upright import upright
 
+MOST_ADVICE = 5
+"""So many pairs of pieces at most are told what to do with; JSON has all."""
+
 
 @dataclass(frozen=True)
 class JudgedDrawing:
@@ -124,10 +127,12 @@ def _missing_lines(judgement: Judgement) -> Iterator[str]:
         yield f"  lacks {lacks.count} dimension{'s' if lacks.count > 1 else ''} at least"
     for piece in lacks.pieces:
         yield f"  piece {piece.number}: {' '.join(piece.elements)}"
-    for joint in lacks.joints:
+    for joint in lacks.joints[:MOST_ADVICE]:
         shared = f" share {' '.join(joint.shared)};" if joint.shared else ""
         yield (f"  what to do: pieces {joint.first.number} and {joint.second.number}{shared} "
                f"{joint.tie.value}")
+    if len(lacks.joints) > MOST_ADVICE:
+        yield f"  and {len(lacks.joints) - MOST_ADVICE} more pairs of pieces"
 
 
 def _surplus_lines(judgement: Judgement) -> Iterator[str]:

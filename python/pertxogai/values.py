@@ -28,15 +28,20 @@ class Form:
         return Form({unknown: Fraction(1)})
 
     def __add__(self, other: Form) -> Form:
-        return Form(_sum(self.terms, other.terms, Fraction(1)), self.number + other.number)
+        return Form(_sum(self.terms, other.terms), self.number + other.number)
 
     def __sub__(self, other: Form) -> Form:
-        return Form(_sum(self.terms, other.terms, Fraction(-1)), self.number - other.number)
+        negative = {key: -value for key, value in other.terms.items()}
+        return Form(_sum(self.terms, negative), self.number - other.number)
 
     def times(self, factor: Fraction | int) -> Form:
         """The form times a number."""
         if not factor:
             return Form()
+        if factor == 1:
+            return self
+        if factor == -1:
+            return Form({key: -value for key, value in self.terms.items()}, -self.number)
         return Form({key: value * factor for key, value in self.terms.items()},
                     self.number * factor)
 
@@ -69,12 +74,12 @@ class LinearSystem:
     def __init__(self, rank: Callable[[Hashable], int] = lambda unknown: 0) -> None:
         """`rank`: of the unknowns of an equation one of the least rank is solved for."""
         self._rows: dict[Hashable, _Row] = {}
+        self._users: dict[Hashable, set[Hashable]] = {}
         self._rank = rank
 
     def add(self, form: Form, mark: int) -> Told | None:
         """Takes the equation form = 0; None where it says something new."""
-        rest, sources = self._reduced(form)
-        sources = _with(sources, {mark: 1}, 1)
+        rest, sources = self.reduced(form), _with(self._sources(form), {mark: 1}, 1)
         if not rest.terms:
             return Told(frozenset(sources), rest.number)
         pivot = min(rest.terms, key=self._rank)
@@ -83,32 +88,44 @@ class LinearSystem:
                       rest.number)
         row = _Row(others.times(-1 / factor),
                    _with({}, sources, _small(-1 / factor)))
-        self._rows = {key: _put(old, pivot, row) for key, old in self._rows.items()}
-        self._rows[pivot] = row
+        for user in self._users.pop(pivot, ()):
+            self._keep(user, _put(self._rows[user], pivot, row))
+        self._keep(pivot, row)
         return None
+
+    def _keep(self, pivot: Hashable, row: _Row) -> None:
+        """Takes a pivot's row, and notes in which free unknowns it is."""
+        self._rows[pivot] = row
+        for key in row.value.terms:
+            self._users.setdefault(key, set()).add(pivot)
 
     def reduced(self, form: Form) -> Form:
         """The form in what is free; a number where the equations fix it."""
-        return self._reduced(form)[0]
+        known = [(key, value) for key, value in form.terms.items() if key in self._rows]
+        if not known:
+            return form
+        rest = Form({key: value for key, value in form.terms.items() if key not in self._rows},
+                    form.number)
+        for key, value in known:
+            rest = rest + self._rows[key].value.times(value)
+        return rest
 
     def sources(self, form: Form) -> frozenset[int]:
         """The equations by which the form is reduced as it is."""
-        return frozenset(self._reduced(form)[1])
+        return frozenset(self._sources(form))
 
-    def _reduced(self, form: Form) -> tuple[Form, Sources]:
-        known = [(key, value) for key, value in form.terms.items() if key in self._rows]
-        rest = Form({key: value for key, value in form.terms.items() if key not in self._rows},
-                    form.number)
+    def _sources(self, form: Form) -> Sources:
+        """How often each equation goes into the form as it is reduced."""
         sources: Sources = {}
-        for key, value in known:
-            row = self._rows[key]
-            rest = rest + row.value.times(value)
-            sources = _with(sources, row.sources, _small(value))
-        return rest, sources
+        for key, value in form.terms.items():
+            if key in self._rows:
+                sources = _with(sources, self._rows[key].sources, _small(value))
+        return sources
 
 
 def _put(old: _Row, pivot: Hashable, row: _Row) -> _Row:
-    """A row with the pivot's value in the place of the pivot."""
+    """A row with the pivot's value in the place of the pivot; a row that no longer has it
+    stays."""
     factor = old.value.terms.get(pivot)
     if factor is None:
         return old
@@ -117,12 +134,13 @@ def _put(old: _Row, pivot: Hashable, row: _Row) -> _Row:
     return _Row(value + row.value.times(factor), _with(old.sources, row.sources, _small(factor)))
 
 
-def _sum(first: Mapping[Hashable, Fraction], second: Mapping[Hashable, Fraction],
-         factor: Fraction) -> dict[Hashable, Fraction]:
-    """first + factor · second, without what comes to 0."""
+def _sum(first: Mapping[Hashable, Fraction],
+         second: Mapping[Hashable, Fraction]) -> dict[Hashable, Fraction]:
+    """first + second, without what comes to 0."""
     total = dict(first)
     for key, value in second.items():
-        total[key] = total.get(key, Fraction(0)) + factor * value
+        old = total.get(key)
+        total[key] = value if old is None else old + value
         if not total[key]:
             del total[key]
     return total
@@ -130,6 +148,8 @@ def _sum(first: Mapping[Hashable, Fraction], second: Mapping[Hashable, Fraction]
 
 def _with(first: Sources, second: Sources, factor: int | Fraction) -> Sources:
     """first + factor · second, without what comes to 0; by whole numbers while they are whole."""
+    if not first:
+        return second if factor == 1 else {key: factor * value for key, value in second.items()}
     total = dict(first)
     for key, value in second.items():
         total[key] = total.get(key, 0) + factor * value

@@ -149,7 +149,7 @@ def _measured(judged: Judgement, drawing: Drawing) -> Judgement:
         return judged
     solution = solution_of(drawing, judged.asked, judged.asked.solved)
     return replace(judged, solution=solution, deviations=measure(drawing, solution),
-                   warnings=warnings(drawing, solution))
+                   warnings=warnings(drawing, solution, not judged.asked.spelled.tied()))
 
 
 def _greatest(judged: Judgement) -> int:

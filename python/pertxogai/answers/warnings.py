@@ -1,19 +1,20 @@
 """Where the placed shape departs from the drawn one: edges turned about, corners on the other
-side, crossings."""
+side, crossings.
+
+All is by whole numbers of nanometres. A drawing that isn't tied to the datum's directions is
+compared as it lies once it has been turned, as a whole, the way that fits best. """
 from __future__ import annotations
 
-from collections.abc import Callable, Iterator
+from collections.abc import Iterator
 from dataclasses import dataclass
 from enum import Enum
 from fractions import Fraction
-from functools import cache
 from itertools import combinations
 
-from pertxogai.drawing import Drawing, Meetings, PointRef, Segment, ShapeRef, Which
+from pertxogai.drawing import Drawing, PointRef, Segment, Which
 from pertxogai.measure import Solution
 
 Spot = tuple[int, int]
-At = Callable[[PointRef], Spot]
 
 
 class Departure(Enum):
@@ -40,23 +41,57 @@ class Warning:
                 return f"{' and '.join(self.shapes)} {self.departure.value}"
 
 
-def warnings(drawing: Drawing, solution: Solution) -> tuple[Warning, ...]:
-    """Every departure of a placed drawing, edge by edge."""
-    @cache
-    def drawn(ref: PointRef) -> Spot:
-        place = drawing.drawn(ref)
-        return _whole(place.x_um * 1000), _whole(place.y_um * 1000)
+@dataclass(frozen=True)
+class _Edge:
+    """A segment's two ends in one place of it, drawn or placed, in nm."""
 
-    @cache
-    def placed(ref: PointRef) -> Spot:
-        x, y = solution.spot(ref)
-        return _whole(x), _whole(y)
-    edges = [shape.name for shape in drawing.geometry if isinstance(shape, Segment)]
-    outline = [shape.name for shape in drawing.geometry if isinstance(shape, Segment)
-               and not shape.construction]
-    return (*_turned(edges, drawn, placed),
-            *_corners(drawing, outline, drawn, placed),
-            *_crossings(drawing, outline, drawn, placed))
+    start: Spot
+    end: Spot
+
+    @property
+    def way(self) -> Spot:
+        return self.end[0] - self.start[0], self.end[1] - self.start[1]
+
+    def box(self) -> tuple[int, int, int, int]:
+        """From where to where it goes in x, and in y."""
+        (x, y), (u, v) = self.start, self.end
+        return min(x, u), max(x, u), min(y, v), max(y, v)
+
+    def parts(self, other: _Edge) -> bool:
+        """Whether the ends of another edge lie on different sides of this one's line."""
+        (x, y), way = self.start, self.way
+        sides = [_cross(way, (u - x, v - y)) for u, v in (other.start, other.end)]
+        return sides[0] * sides[1] < 0
+
+    def crosses(self, other: _Edge) -> bool:
+        """Whether the two cut each other, and not in an end."""
+        return self.parts(other) and other.parts(self)
+
+
+@dataclass(frozen=True)
+class _Both:
+    """A segment as it is drawn, and as it is placed."""
+
+    name: str
+    drawn: _Edge
+    placed: _Edge
+    outline: bool
+
+
+def warnings(drawing: Drawing, solution: Solution, free: bool = False) -> tuple[Warning, ...]:
+    """Every departure of a placed drawing, edge by edge. `free`: whether nothing ties the
+    drawing to the datum's directions, so that all of it may have turned."""
+    edges = [_both(drawing, solution, shape) for shape in drawing.geometry
+             if isinstance(shape, Segment)]
+    outline = [edge for edge in edges if edge.outline]
+    return (*_turned(edges, free), *_corners(drawing, outline), *_crossings(drawing, outline))
+
+
+def _both(drawing: Drawing, solution: Solution, shape: Segment) -> _Both:
+    ends = [PointRef(shape.name, which) for which in (Which.START, Which.END)]
+    drawn = [(_whole(at.x_um * 1000), _whole(at.y_um * 1000)) for at in map(drawing.drawn, ends)]
+    placed = [(_whole(x), _whole(y)) for x, y in map(solution.spot, ends)]
+    return _Both(shape.name, _Edge(*drawn), _Edge(*placed), not shape.construction)
 
 
 def _whole(nm: Fraction) -> int:
@@ -64,58 +99,67 @@ def _whole(nm: Fraction) -> int:
     return nm.numerator // nm.denominator
 
 
-def _ends(name: str, at: At) -> tuple[Spot, Spot]:
-    return at(PointRef(name, Which.START)), at(PointRef(name, Which.END))
-
-
-def _way(name: str, at: At) -> Spot:
-    (x, y), (u, v) = _ends(name, at)
-    return u - x, v - y
-
-
 def _cross(first: Spot, second: Spot) -> int:
     return first[0] * second[1] - first[1] * second[0]
 
 
-def _turned(edges: list[str], drawn: At, placed: At) -> Iterator[Warning]:
-    for name in edges:
-        first, second = _way(name, drawn), _way(name, placed)
-        if first[0] * second[0] + first[1] * second[1] < 0:
-            yield Warning(Departure.TURNED, (name,))
+def _dot(first: Spot, second: Spot) -> int:
+    return first[0] * second[0] + first[1] * second[1]
 
 
-def _corners(drawing: Drawing, outline: list[str], drawn: At, placed: At) -> Iterator[Warning]:
-    meetings = Meetings(drawing)
-    for first, second in combinations(outline, 2):
-        before, after = (_cross(_way(first, at), _way(second, at)) for at in (drawn, placed))
-        if before * after < 0 and meetings.corner(ShapeRef(first), ShapeRef(second)) is not None:
-            yield Warning(Departure.OTHER_SIDE, (first, second))
+def _turned(edges: list[_Both], free: bool) -> Iterator[Warning]:
+    """The edges that run against their drawn way, once that is turned by the turn of all."""
+    cosine, sine = _turn(edges) if free else (1, 0)
+    for edge in edges:
+        first, second = edge.drawn.way, edge.placed.way
+        if cosine * _dot(first, second) + sine * _cross(first, second) < 0:
+            yield Warning(Departure.TURNED, (edge.name,))
 
 
-def _crossings(drawing: Drawing, outline: list[str], drawn: At, placed: At) -> Iterator[Warning]:
-    meetings = Meetings(drawing)
-    for first, second in combinations(outline, 2):
-        crosses = _cross_each_other(first, second, placed)
-        if crosses and not _cross_each_other(first, second, drawn):
-            if meetings.corner(ShapeRef(first), ShapeRef(second)) is None:
-                yield Warning(Departure.CROSSES, (first, second))
+def _turn(edges: list[_Both]) -> Spot:
+    """The turn after which the drawn edges are nearest to the placed ones, by least squares:
+    its cosine and sine, times one number above 0. No turn where none fits better than
+    another."""
+    ways = [(edge.drawn.way, edge.placed.way) for edge in edges]
+    turn = sum(_dot(*each) for each in ways), sum(_cross(*each) for each in ways)
+    return turn if any(turn) else (1, 0)
 
 
-def _cross_each_other(first: str, second: str, at: At) -> bool:
-    boxes = zip(*(_box(name, at) for name in (first, second)))
-    if any(one[1] < other[0] or other[1] < one[0] for one, other in boxes):
-        return False
-    return _parts(first, second, at) and _parts(second, first, at)
+def _corners(drawing: Drawing, outline: list[_Both]) -> Iterator[Warning]:
+    through: dict[PointRef, list[int]] = {}
+    for place, edge in enumerate(outline):
+        for leader in _leaders(drawing, edge):
+            through.setdefault(leader, []).append(place)
+    pairs = {pair for places in through.values() for pair in combinations(places, 2)}
+    for first, second in sorted(pairs):
+        one, other = outline[first], outline[second]
+        before = _cross(one.drawn.way, other.drawn.way)
+        if before * _cross(one.placed.way, other.placed.way) < 0:
+            yield Warning(Departure.OTHER_SIDE, (one.name, other.name))
 
 
-def _box(name: str, at: At) -> tuple[Spot, Spot]:
-    """From where to where an edge goes in x, and in y."""
-    (x, y), (u, v) = _ends(name, at)
-    return (min(x, u), max(x, u)), (min(y, v), max(y, v))
+def _leaders(drawing: Drawing, edge: _Both) -> set[PointRef]:
+    """The points that stand for all that are one with an edge's ends."""
+    return {drawing.meetings.leader(PointRef(edge.name, which))
+            for which in (Which.START, Which.END)}
 
 
-def _parts(line: str, edge: str, at: At) -> bool:
-    """Whether the ends of an edge lie on different sides of a line."""
-    (x, y), way = _ends(line, at)[0], _way(line, at)
-    sides = [_cross(way, (u - x, v - y)) for u, v in _ends(edge, at)]
-    return sides[0] * sides[1] < 0
+def _crossings(drawing: Drawing, outline: list[_Both]) -> Iterator[Warning]:
+    for first, second in sorted(_near(outline)):
+        one, other = outline[first], outline[second]
+        if one.placed.crosses(other.placed) and not one.drawn.crosses(other.drawn):
+            if not _leaders(drawing, one) & _leaders(drawing, other):
+                yield Warning(Departure.CROSSES, (one.name, other.name))
+
+
+def _near(outline: list[_Both]) -> Iterator[tuple[int, int]]:
+    """The places of each two edges of which the boxes meet, by a sweep along x."""
+    boxes = [edge.placed.box() for edge in outline]
+    passed: list[int] = []
+    for place in sorted(range(len(boxes)), key=lambda each: boxes[each][0]):
+        left, _, low, high = boxes[place]
+        passed = [each for each in passed if boxes[each][1] >= left]
+        for each in passed:
+            if boxes[each][2] <= high and low <= boxes[each][3]:
+                yield min(each, place), max(each, place)
+        passed.append(place)

@@ -6,7 +6,7 @@ from collections import Counter
 from copy import copy
 from dataclasses import dataclass, replace
 from fractions import Fraction
-from typing import Protocol
+from typing import NamedTuple, Protocol
 
 from pertxogai.drawing import X_AXIS
 from pertxogai.spelling.directions import Directions
@@ -21,8 +21,7 @@ DATUM = 0
 """The number of the datum's frame."""
 
 
-@dataclass(frozen=True)
-class Coordinate:
+class Coordinate(NamedTuple):
     """A point's coordinate in a frame, in micrometres: along its first line, or `upwards`, to that
     line's left."""
 
@@ -75,7 +74,10 @@ class Axes:
             pass
         self.frames: list[Frame] = []
         self._of_root: dict[Line, Frame] = {}
+        self._leans: dict[Line, Lean] = {}
         self._make_frames()
+        self._across = {(self.frame(line).number, self.fixed_axis(line))
+                        for line in self.lines.all()}
         self.system = LinearSystem()
         self.equations: list[Equation] = []
         self.told: list[tuple[Equation, Told]] = []
@@ -132,13 +134,11 @@ class Axes:
     def _merge_parallels(self) -> bool:
         """Makes the first two parallels that share a point one line; False where there are
         none."""
-        lines = self.lines.all()
-        for place, first in enumerate(lines):
-            for second in lines[place + 1:]:
-                lean = self.directions.between(first, second)
-                if lean is not None and lean.level() and self.lines.share(first, second):
-                    self.lines.join(first, second)
-                    return True
+        for first, second in self.lines.sharers():
+            lean = self.directions.between(first, second)
+            if lean is not None and lean.level():
+                self.lines.join(first, second)
+                return True
         return False
 
     def _make_frames(self) -> None:
@@ -163,9 +163,12 @@ class Axes:
 
     def lean(self, line: Line) -> Lean:
         """How a line leans against the first axis of its frame."""
-        found = self.directions.between(self.frame(line).line, line)
-        assert found is not None
-        return found
+        known = self._leans.get(line)
+        if known is None:
+            known = self.directions.between(self.frame(line).line, line)
+            assert known is not None
+            self._leans[line] = known
+        return known
 
     def fixed_axis(self, line: Line) -> bool | None:
         """Which coordinate all points of a line share: True for upwards; None where it leans."""
@@ -293,9 +296,7 @@ class Axes:
 
     def _has_rails(self, frame: Frame, upwards: bool) -> bool:
         """Whether distances along an axis of a frame are told from lines across it."""
-        return frame.number == DATUM or any(
-            self.fixed_axis(line) is upwards for line in self.lines.all()
-            if self.frame(line) == frame)
+        return frame.number == DATUM or (frame.number, upwards) in self._across
 
     def _is_mate(self, fact: Apart, frames: list[Frame]) -> bool:
         """Two equal distances that rise alike also run alike."""

@@ -25,12 +25,17 @@ class Directions:
 
     def __init__(self) -> None:
         self._bearings: dict[Line, Bearing] = {}
+        self._members: dict[Line, list[Line]] = {}
         self.told: list[Leans] = []
         self.joined: list[Leans] = []
 
     def bearing(self, line: Line) -> Bearing:
         """The line's class and its lean there."""
-        return self._bearings.setdefault(line, Bearing(line, Lean(), frozenset()))
+        known = self._bearings.get(line)
+        if known is None:
+            known = self._bearings[line] = Bearing(line, Lean(), frozenset())
+            self._members[line] = [line]
+        return known
 
     def tell(self, leans: Leans) -> bool:
         """Takes a lean; False where the two lines are in one class already."""
@@ -42,9 +47,11 @@ class Directions:
         self.joined.append(leans)
         turn = first.lean + leans.lean + -second.lean
         path = first.path ^ step ^ second.path
-        for line, old in self._bearings.items():
-            if old.root == second.root:
-                self._bearings[line] = Bearing(first.root, turn + old.lean, path ^ old.path)
+        joined = self._members.pop(second.root)
+        for line in joined:
+            old = self._bearings[line]
+            self._bearings[line] = Bearing(first.root, turn + old.lean, path ^ old.path)
+        self._members[first.root].extend(joined)
         return True
 
     def between(self, first: Line, second: Line) -> Lean | None:

@@ -7,6 +7,7 @@ from __future__ import annotations
 
 from dataclasses import dataclass, field
 from fractions import Fraction
+from typing import NamedTuple
 
 from pertxogai.drawing import Place, PointRef, ShapeRef
 from pertxogai.spelling.lean import Lean
@@ -22,8 +23,7 @@ class Owner:
     shape: bool = False
 
 
-@dataclass(frozen=True, order=True)
-class Knot:
+class Knot(NamedTuple):
     """All points that are told to be one, by a number from 0; 0 is the origin."""
 
     number: int

@@ -3,6 +3,7 @@ from __future__ import annotations
 
 from dataclasses import dataclass
 from fractions import Fraction
+from functools import lru_cache
 from math import atan2, gcd, pi, sin, tan
 
 from pertxogai.drawing import Degrees, Slope, Turn
@@ -58,13 +59,7 @@ class Lean:
     def halves(self) -> tuple[Lean, Lean] | None:
         """Two leans by ratios of which the sum is this within 10^-11 or so, where no ratio is
         this; else None."""
-        if self.exact():
-            return None
-        goal = self.radians()
-        tried = ((p, q) for q in range(1, 40) for p in range(-q, q + 1) if p and gcd(p, q) == 1)
-        pairs = (_pair(goal, p, q) for p, q in tried)
-        return min((pair for pair in pairs if pair is not None),
-                   key=lambda pair: abs(sin(goal - pair[0].radians() - pair[1].radians())))
+        return None if self.exact() else _halves(self)
 
     def exact(self) -> bool:
         """Whether `ratio` is the lean itself."""
@@ -86,13 +81,23 @@ class Lean:
         return float(self.degrees) * pi / 180 + atan2(self.left, self.ahead)
 
 
+@lru_cache(maxsize=256)
+def _halves(lean: Lean) -> tuple[Lean, Lean]:
+    """The two ratios that come nearest, of those of which the first is small."""
+    goal = lean.radians()
+    tried = ((p, q) for q in range(1, 40) for p in range(-q, q + 1) if p and gcd(p, q) == 1)
+    pairs = (_pair(goal, p, q) for p, q in tried)
+    return min((pair for pair in pairs if pair is not None),
+               key=lambda pair: abs(sin(goal - pair[0].radians() - pair[1].radians())))
+
+
 def _pair(goal: float, p: int, q: int) -> tuple[Lean, Lean] | None:
     """The lean of a small ratio, and that of the ratio nearest the rest."""
     first = _made(Fraction(0), q, p)
-    tangent = Fraction(tan(goal - first.radians()))
-    if abs(tangent) < Fraction(1, 100) or abs(tangent) > 100:
+    tangent = tan(goal - first.radians())
+    if not 0.01 <= abs(tangent) <= 100:
         return None
-    rest = nearest_ratio(tangent, 1)
+    rest = nearest_ratio(Fraction(tangent), 1)
     return first, _made(Fraction(0), rest[1], rest[0])
 
 

@@ -2,6 +2,7 @@
 points, are one."""
 from __future__ import annotations
 
+from collections.abc import Iterator
 from dataclasses import dataclass
 
 from pertxogai.drawing import X_AXIS, Y_AXIS
@@ -58,10 +59,18 @@ class Lines:
         """The points on a line, its own ends first."""
         return sorted(self._members[self.leader(line)], key=lambda each: each.owner is not None)
 
-    def share(self, first: Line, second: Line) -> bool:
-        """Whether two lines have a point in common."""
-        return bool({each.knot for each in self.members(first)}
-                    & {each.knot for each in self.members(second)})
+    def sharers(self) -> Iterator[tuple[Line, Line]]:
+        """Each two lines that have a point in common, in the order of the drawing."""
+        lines = self.all()
+        through: dict[Knot, list[int]] = {}
+        for place, line in enumerate(lines):
+            for member in self._members[line]:
+                through.setdefault(member.knot, []).append(place)
+        for place, line in enumerate(lines):
+            others = {other for member in self._members[line] for other in through[member.knot]}
+            for other in sorted(others):
+                if other > place:
+                    yield line, lines[other]
 
     def names(self, line: Line) -> list[Line]:
         """All lines that are one with this."""
@@ -92,12 +101,10 @@ class Lines:
 
     def _merge_sharers(self) -> bool:
         """Joins the first two lines that share two points; False where there are none."""
-        lines = self.all()
-        for place, first in enumerate(lines):
+        for first, second in self.sharers():
             knots = {each.knot for each in self._members[first]}
-            for second in lines[place + 1:]:
-                shared = knots & {each.knot for each in self._members[second]}
-                if len(shared) >= 2 and not {first, second} == {X_AXIS, Y_AXIS}:
-                    self.join(first, second)
-                    return True
+            shared = knots & {each.knot for each in self._members[second]}
+            if len(shared) >= 2 and not {first, second} == {X_AXIS, Y_AXIS}:
+                self.join(first, second)
+                return True
         return False

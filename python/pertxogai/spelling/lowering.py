@@ -32,6 +32,7 @@ class _Lowering:
     def __init__(self, drawing: Drawing) -> None:
         self.drawing = drawing
         self.facts = Facts()
+        self._lengths: set[LengthOf] = set()
         self.facts.refs, self.facts.repeats = knots_of(drawing)
         for ref, knot in self.facts.refs.items():
             place = drawing.drawn(ref)
@@ -106,8 +107,8 @@ class _Lowering:
         """A segment's length as an unknown, which is said to be that of its ends."""
         first, second = self._ends(segment.name)
         size = LengthOf(first, second)
-        if not any(isinstance(each, Apart) and each.value.key() == Form.of(size).key()
-                   for each in self.facts.facts):
+        if size not in self._lengths:
+            self._lengths.add(size)
             self._apart(first, second, Form.of(size), owner)
         return Form.of(size)
 
@@ -169,7 +170,7 @@ class _Lowering:
             return
         ends = (self._knot(of.first), self._knot(of.second))
         for line, own in self.facts.own.items():
-            if set(own) == set(ends) and ends[0] != ends[1]:
+            if own in (ends, ends[::-1]) and ends[0] != ends[1]:
                 self._say(Leans(X_AXIS, line, SQUARE if vertical else LEVEL, owner))
                 return
         self._say(Shift(*ends, not vertical, Form(), owner))

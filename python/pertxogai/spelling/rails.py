@@ -75,6 +75,8 @@ class Rails:
             rest = self._system.reduced(Form.of(coordinate))
             rail = Rail(coordinate.frame, coordinate.upwards, rest.key())
             self.members.setdefault(rail, {})[coordinate] = rest.number
+        self._rail_of = {coordinate: rail for rail, members in self.members.items()
+                         for coordinate in members}
         self._sizes: dict[Size, tuple[Hashable, Fraction]] = {}
         for size in self._all_sizes():
             rest = self._system.reduced(Form.of(size))
@@ -113,10 +115,7 @@ class Rails:
 
     def rail(self, coordinate: Coordinate) -> Rail | None:
         """The rail of a coordinate; None where nothing is said of it."""
-        for rail, members in self.members.items():
-            if coordinate in members:
-                return rail
-        return None
+        return self._rail_of.get(coordinate)
 
     def offset(self, rail: Rail) -> Fraction:
         """Where among its points a rail runs: at 0 for the datum, else where most of them are."""
@@ -204,5 +203,5 @@ def _coordinates(equations: Iterable[Equation]) -> list[Coordinate]:
 
 
 def _owners(equations: Iterable[Equation]) -> frozenset[Owner]:
-    return frozenset(owner for equation in equations for owner in equation.owners)
+    return frozenset[Owner]().union(*(equation.owners for equation in equations))
 

@@ -1,6 +1,7 @@
 """Rails, leaning lines, distances and angles as the elements and constraints of a sketch."""
 from __future__ import annotations
 
+from collections import Counter
 from collections.abc import Iterable
 from dataclasses import dataclass, replace
 from fractions import Fraction
@@ -59,6 +60,10 @@ class Spelled:
     headings: tuple[Heading, ...]
     left_out: frozenset[Owner]
     rounded: tuple[Rounded, ...]
+
+    def tied(self) -> bool:
+        """Whether a line of it is told against the datum's axes; else all of it may turn."""
+        return any(each.frame == DATUM for each in self.headings)
 
 
 def written(axes: Axes, rails: Rails, style: Style, care: Care = Care()) -> Spelled:
@@ -497,8 +502,9 @@ class _Writer:
         kept = {self.names[track] for track in list(self.names)[:2]
                 if self._frame(track).number == DATUM}
         while True:
+            uses = Counter(name for each in self.sheet.drafts for name in each.names())
             idle = next((name for name in self.sheet.lines if name not in kept
-                         and self._idle(name)), None)
+                         and uses[name] <= 2 and self._idle(name)), None)
             if idle is None:
                 return
             del self.sheet.lines[idle]
