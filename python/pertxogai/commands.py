@@ -1,4 +1,4 @@
-"""The commands `judge` and `draw`, as ./pertxogai calls them."""
+"""The commands `judge`, `draw` and `page`, as ./pertxogai calls them."""
 from __future__ import annotations
 
 import argparse
@@ -18,6 +18,7 @@ from .dxf import MissingLibrary, Release
 from .found import FileRefusal
 from .inputs import DesignerDrawing, Input, InputRefused, SketchText, kind_of, read_inputs
 from .judged import JudgedSketch, TextRefused, judge_sketch
+from .page.command import add_page
 from .program import Asks, Program, ProgramError
 from .saving import saving
 from .sketch_sheet import SketchSheet
@@ -91,6 +92,7 @@ def _parser() -> argparse.ArgumentParser:
     commands = parser.add_subparsers(dest="command", required=True, metavar="COMMAND")
     _add_judge(commands)
     _add_draw(commands)
+    add_page(commands)
     return parser
 
 

@@ -1,0 +1,185 @@
+"""The calls of the page: each takes an object of JSON and gives one."""
+from __future__ import annotations
+
+from collections.abc import Callable, Mapping
+from dataclasses import dataclass, field
+from fractions import Fraction
+from typing import TypeAlias
+
+from ..drawing import DrawingRefusal, DrawingUnsound, Place, WordFault, checked
+from ..drawing_sheet import DrawingSheet, NoPlaces
+from ..dxf import MissingLibrary, Release
+from ..found import FileRefusal
+from ..inputs import InputRefused
+from ..language import NotHeld, Refusal
+from ..picture.designed import Whereabouts
+from ..program import Asks, ProgramError
+from ..reports import Flipped, NoChoice
+from ..told import JudgedDrawing
+from .document import read_document, write_document
+from .edit_fields import read_edit
+from .edits import Move
+from .fields import FieldRefused, Fields
+from .judging import Judged, NotPlaced
+from .offers import offers
+from .opening import opened
+from .shown import drawing_shown, judgement_shown, places_shown
+
+Json: TypeAlias = dict[str, object]
+KEPT = 4
+"""So many judgements are kept, for the calls that follow one."""
+
+
+@dataclass
+class Desk:
+    """What answers the calls, with the last judgements by the texts of their drawings."""
+
+    program: Asks
+    kept: dict[str, Judged] = field(default_factory=dict)
+
+    def answer(self, name: str, given: object) -> Json:
+        """What a call gives: `refused` and `trouble` are told in it."""
+        call = CALLS.get(name)
+        if call is None:
+            return trouble("call", f"{name!r} is no call of the board")
+        try:
+            return call(self, Fields.of(given))
+        except DrawingRefusal as refusal:
+            return {"refused": {"line": refusal.line, "word": refusal.word, "what": refusal.what}}
+        except (WordFault, DrawingUnsound) as fault:
+            return trouble("edit", str(fault))
+        except (FieldRefused, InputRefused, FileRefusal, NotPlaced, NoPlaces) as error:
+            return trouble("call", str(error))
+        except (ProgramError, MissingLibrary) as error:
+            return trouble("program", str(error))
+        except (Refusal, NotHeld) as error:
+            return trouble("language", f"the program takes no such sketch: {error}")
+
+    def judged(self, text: str) -> Judged:
+        """The drawing of a text, with a program to ask. Raises DrawingRefusal."""
+        found = self.kept.pop(text, None) or Judged(read_document(text), self.program)
+        self.kept[text] = found
+        while len(self.kept) > KEPT:
+            del self.kept[next(iter(self.kept))]
+        return found
+
+
+def trouble(kind: str, message: str) -> Json:
+    """Why a call has no answer: what kind of trouble, and one line that says what to do."""
+    return {"trouble": {"kind": kind, "message": " ".join(message.split())}}
+
+
+def _judge(desk: Desk, given: Fields) -> Json:
+    """The drawing of a text, and the judgement on it."""
+    return _whole(desk, given.text("text"))
+
+
+def _whole(desk: Desk, text: str) -> Json:
+    judged = desk.judged(text)
+    answer: Json = {"text": text, "drawing": drawing_shown(judged.drawing), "judgement": None}
+    if not judged.drawing.geometry:
+        return answer
+    try:
+        answer["judgement"] = judgement_shown(judged.drawing, judged.judgement, judged.parts())
+    except ProgramError as error:
+        answer |= trouble("program", str(error))
+    except (Refusal, NotHeld) as error:
+        answer |= trouble("language", f"the program takes no such sketch: {error}")
+    return answer
+
+
+def _edit(desk: Desk, given: Fields) -> Json:
+    """The text that an edit makes of a text, and all that `judge` tells of it."""
+    drawing = read_document(given.text("text"))
+    edited = checked(read_edit(drawing, Fields.of(given.values.get("edit"))).on(drawing))
+    return _whole(desk, write_document(edited))
+
+
+def _offers(desk: Desk, given: Fields) -> Json:
+    """Which constraints fit some points and shapes."""
+    drawing = read_document(given.text("text"))
+    found = offers(drawing, given.texts("names"))
+    return {"offers": [{"words": list(each.words), "value": each.value} for each in found]}
+
+
+def _plan(desk: Desk, given: Fields) -> Json:
+    """The construction, step by step."""
+    return {"construction": desk.judged(given.text("text")).construction().shown()}
+
+
+def _flips(desk: Desk, given: Fields) -> Json:
+    """The other shape, in which the choices of some steps are turned over."""
+    judged = desk.judged(given.text("text"))
+    found = judged.flipped(given.wholes("steps"))
+    if isinstance(found, Flipped):
+        what = "has no choice" if isinstance(found.answer, NoChoice) else "has no places"
+        return trouble("flip", f"the other shape {what}: {found.text()}")
+    assert found.solution is not None
+    return {"placed": places_shown(Whereabouts(judged.drawing, found.solution))}
+
+
+def _redraw(desk: Desk, given: Fields) -> Json:
+    """The text with all points drawn where they are placed, or where they are in another
+    shape: `steps` are turned over."""
+    judged = desk.judged(given.text("text"))
+    steps = given.wholes("steps")
+    judged.solved()
+    found = judged.flipped(steps) if steps else judged.judgement
+    if isinstance(found, Flipped) or found.solution is None:
+        return trouble("flip", "the other shape has no places, so nothing is drawn so")
+    solution = found.solution
+    moves = tuple((ref, _place(solution.spot(ref))) for ref in judged.drawing.points())
+    radii = tuple((name, solution.radius(name) / 1000) for name in solution.radii)
+    edited = checked(Move(moves, radii).on(judged.drawing))
+    return _whole(desk, write_document(edited))
+
+
+def _place(spot: tuple[Fraction, Fraction]) -> Place:
+    """A place in nm, to the next micrometre."""
+    x, y = spot
+    return Place(Fraction(round(x / 1000)), Fraction(round(y / 1000)))
+
+
+def _verify(desk: Desk, given: Fields) -> Json:
+    """What the program says of the claim that is shown, and the claim."""
+    judged = desk.judged(given.text("text"))
+    return {"said": judged.verified().text().strip(), "claim": judged.claim().text()}
+
+
+def _dxf(desk: Desk, given: Fields) -> Json:
+    """The shapes as placed in DXF, by the version of `release`."""
+    try:
+        release = Release(given.text("release"))
+    except ValueError:
+        known = ", ".join(each.value for each in Release)
+        raise FieldRefused(f"'release' has to be one of {known}") from None
+    return {"dxf": _sheet(desk, given).dxf(release)}
+
+
+def _svg(desk: Desk, given: Fields) -> Json:
+    """A picture as SVG."""
+    return {"svg": _sheet(desk, given).picture().svg}
+
+
+def _sheet(desk: Desk, given: Fields) -> DrawingSheet:
+    judged = desk.judged(given.text("text"))
+    return DrawingSheet(JudgedDrawing(given.text("name"), judged.drawing, judged.judgement), False)
+
+
+def _program_dxf(desk: Desk, given: Fields) -> Json:
+    """What the program itself writes as DXF of the sketch, byte by byte."""
+    judged = desk.judged(given.text("text"))
+    words = ["dxf", f"place={judged.judgement.place.value}"]
+    return {"dxf": desk.program.ask(words, judged.text).text}
+
+
+def _open(desk: Desk, given: Fields) -> Json:
+    """The sketches of a file."""
+    return {"sketches": opened(given.text("name"), given.text("data"))}
+
+
+CALLS: Mapping[str, Callable[[Desk, Fields], Json]] = {
+    "judge": _judge, "edit": _edit, "offers": _offers, "plan": _plan, "flips": _flips,
+    "redraw": _redraw, "verify": _verify, "dxf": _dxf, "svg": _svg, "program-dxf": _program_dxf,
+    "open": _open,
+}

@@ -1,0 +1,93 @@
+"""What the program answers on a document: the judgement, its plan, its other shapes, its claim."""
+from __future__ import annotations
+
+from dataclasses import dataclass, replace
+from functools import cached_property
+
+from ..answers import Judgement, judge
+from ..answers.solution import solution_of
+from ..drawing import Drawing
+from ..language import Refusal
+from ..language.claim import Claim
+from ..language.flips import Flip, Flips
+from ..program import Asks, Status
+from ..reports import (
+    ClaimFails, Flipped, Plan, Refused, Shape, Solved, Verdict, Verified, read_answer, read_flips,
+    read_plan, read_verify)
+from .construction import Construction
+from .frame import elements_placed
+from .parts_laid import LaidPart, parts_laid
+
+
+class NotPlaced(Exception):
+    """What is asked for needs a drawing that is well and placed. The message is one line."""
+
+
+@dataclass(frozen=True)
+class Judged:
+    """A drawing and the judgement on it, by a program that is asked for more."""
+
+    drawing: Drawing
+    program: Asks
+
+    @cached_property
+    def judgement(self) -> Judgement:
+        """The judgement. Raises ProgramError, Refusal, NotHeld."""
+        return judge(self.drawing, self.program)
+
+    @property
+    def text(self) -> str:
+        """The drawing in the language."""
+        return self.judgement.asked.spelled.sketch.text()
+
+    def parts(self) -> tuple[LaidPart, ...]:
+        """Where the drawing is open, each part laid on it."""
+        if self.judgement.verdict is not Verdict.OPEN:
+            return ()
+        return parts_laid(self.judgement, self.program)
+
+    def solved(self) -> Solved:
+        """The places. Raises NotPlaced."""
+        solved = self.judgement.asked.solved
+        if not isinstance(solved, Solved) or self.judgement.solution is None:
+            raise NotPlaced("the drawing isn't well and placed, so there is nothing to show of it")
+        return solved
+
+    @cached_property
+    def plan(self) -> Plan:
+        """The plan of what is well. Raises NotPlaced."""
+        if self.judgement.verdict is not Verdict.WELL:
+            raise NotPlaced("the drawing isn't well, so there is no plan of it")
+        return read_plan(self.program.ask(["plan"], self.text).text)
+
+    def construction(self) -> Construction:
+        """The steps to be watched. Raises NotPlaced."""
+        return Construction(self.judgement, self.plan,
+                            elements_placed(self.judgement, self.solved()))
+
+    def flipped(self, steps: tuple[int, ...]) -> Judgement | Flipped:
+        """The judgement with the places of the other shape, in which the choices of these steps
+        are turned over; else what the program answers instead. Raises NotPlaced, Refusal."""
+        solved = self.solved()
+        text = Flips(self.judgement.asked.spelled.sketch, (Flip(steps),)).text()
+        report = self.program.ask(["flips", f"place={self.judgement.place.value}"], text)
+        if report.status is not Status.DONE:
+            refused = read_answer(("flips",), report)
+            raise Refusal(refused) if isinstance(refused, Refused) else NotPlaced(report.text)
+        (answer,) = read_flips(report.text)
+        if not isinstance(answer.answer, Shape):
+            return answer
+        other = Solved(answer.answer.places, answer.answer.tolerances, solved.steps, solved.bits)
+        asked = replace(self.judgement.asked, solved=other)
+        return replace(self.judgement, asked=asked,
+                       solution=solution_of(self.drawing, asked, other))
+
+    def claim(self) -> Claim:
+        """What is shown, as a claim. Raises NotPlaced."""
+        solved = self.solved()
+        return Claim(self.judgement.asked.spelled.sketch, self.plan.steps, solved.places,
+                     solved.length_tolerance_nm, solved.angle_tolerance_ppb)
+
+    def verified(self) -> Verified | ClaimFails:
+        """What the program says of that claim. Raises NotPlaced."""
+        return read_verify(self.program.ask(["verify"], self.claim().text()).text)

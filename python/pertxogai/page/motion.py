@@ -1,0 +1,50 @@
+"""Motions of the plane, for pictures, in floating point: nothing that is told as a number comes
+from here."""
+from __future__ import annotations
+
+import math
+from collections.abc import Sequence
+from dataclasses import dataclass
+
+Spot = tuple[float, float]
+
+
+@dataclass(frozen=True)
+class Motion:
+    """A turn, by its cosine and sine, and then a shift in millimetres."""
+
+    cos: float = 1.0
+    sin: float = 0.0
+    dx: float = 0.0
+    dy: float = 0.0
+
+    def of(self, spot: Spot) -> Spot:
+        """Where a place comes to lie."""
+        x, y = spot
+        return self.cos * x - self.sin * y + self.dx, self.sin * x + self.cos * y + self.dy
+
+    def numbers(self) -> list[float]:
+        """The four numbers, for the page."""
+        return [self.cos, self.sin, self.dx, self.dy]
+
+
+STILL = Motion()
+
+
+def laid(pairs: Sequence[tuple[Spot, Spot]]) -> Motion:
+    """The motion that brings the first of each pair nearest to the second, by the squares of
+    the distances; a shift alone where they have no direction."""
+    if not pairs:
+        return STILL
+    size = len(pairs)
+    (ax, ay), (bx, by) = (
+        (sum(pair[side][0] for pair in pairs) / size, sum(pair[side][1] for pair in pairs) / size)
+        for side in (0, 1)
+    )
+    dot = cross = 0.0
+    for (x, y), (u, v) in pairs:
+        dot += (x - ax) * (u - bx) + (y - ay) * (v - by)
+        cross += (x - ax) * (v - by) - (y - ay) * (u - bx)
+    length = math.hypot(dot, cross)
+    cos, sin = (dot / length, cross / length) if length > 1e-9 else (1.0, 0.0)
+    return Motion(cos, sin, bx - cos * ax + sin * ay, by - sin * ax - cos * ay)

@@ -1,0 +1,80 @@
+"""Each part of a drawing as the program places it by itself, laid on the drawing."""
+from __future__ import annotations
+
+from collections.abc import Iterator
+from dataclasses import dataclass
+
+from ..answers import Judgement
+from ..drawing import Circle, PointRef, points_of
+from ..drawing.geometry import Arc
+from ..language import PlacedPoint
+from ..program import Asks
+from ..reports import PlacedPart, Solved, read_parts
+from ..spelling.facts import RadiusOf
+from ..values import Form
+from .motion import Spot, laid
+
+
+@dataclass(frozen=True)
+class LaidPart:
+    """A part by its number: where its points come to lie, in millimetres, and the radii of its
+    rims."""
+
+    number: int
+    points: dict[PointRef, Spot]
+    radii: dict[str, float]
+
+
+def parts_laid(judgement: Judgement, program: Asks) -> tuple[LaidPart, ...]:
+    """The parts of which the designer knows a point, and which the program places."""
+    text = judgement.asked.spelled.sketch.text()
+    report = read_parts(program.ask(["parts"], text).text)
+    return tuple(_laid_parts(judgement, report.parts))
+
+
+def _laid_parts(judgement: Judgement, parts: tuple[PlacedPart, ...]) -> Iterator[LaidPart]:
+    refs = _refs(judgement)
+    for part in parts:
+        if isinstance(part.shape, Solved):
+            points = _points(judgement, part.shape, refs)
+            if points:
+                yield LaidPart(part.part.number, points, _radii(judgement, points))
+
+
+def _refs(judgement: Judgement) -> dict[str, list[PointRef]]:
+    """The designer's points behind each point of the sketch."""
+    names = judgement.names
+    found: dict[str, list[PointRef]] = {}
+    for ref, knot in names.refs.items():
+        if knot in names.spelled.points:
+            found.setdefault(names.spelled.points[knot], []).append(ref)
+    return found
+
+
+def _points(judgement: Judgement, shape: Solved,
+            refs: dict[str, list[PointRef]]) -> dict[PointRef, Spot]:
+    scale = judgement.asked.spelled.scale * 1e6
+    placed = {ref: (each.x_nm / scale, each.y_nm / scale) for each in shape.places
+              if isinstance(each, PlacedPoint) for ref in refs.get(each.name, ())}
+    pairs = [(spot, drawn(judgement, ref)) for ref, spot in placed.items()]
+    motion = laid(pairs)
+    return {ref: motion.of(spot) for ref, spot in placed.items()}
+
+
+def drawn(judgement: Judgement, ref: PointRef) -> Spot:
+    """Where a point is drawn, in millimetres."""
+    place = judgement.names.drawing.drawn(ref)
+    return float(place.x_um) / 1e3, float(place.y_um) / 1e3
+
+
+def _radii(judgement: Judgement, points: dict[PointRef, Spot]) -> dict[str, float]:
+    """The radii of the rims of which all points are there: as told, else as drawn."""
+    return {shape.name: _radius(judgement, shape.name)
+            for shape in judgement.names.drawing.geometry
+            if isinstance(shape, (Circle, Arc)) and all(ref in points for ref in points_of(shape))}
+
+
+def _radius(judgement: Judgement, name: str) -> float:
+    told = judgement.asked.rails.number(Form.of(RadiusOf(name)))
+    um = told if told is not None else judgement.names.drawing.drawn_radius_um(name)
+    return float(um) / 1e3

@@ -1,0 +1,37 @@
+"""Lines of the text that are read against a drawing that stands."""
+from __future__ import annotations
+
+from dataclasses import replace
+
+from ..drawing import Constraint, Drawing, Scene, Shape, WordFault, words_of
+from ..drawing.constraint_checks import check_constraint
+from ..drawing.constraint_lines import ConstraintWord, read_constraints
+from ..drawing.conveniences import Said
+from ..drawing.cursor import Cursor
+from ..drawing.shape_lines import ShapeWord, read_shape
+
+
+def asked(drawing: Drawing, words: list[str]) -> tuple[Constraint, ...]:
+    """The constraints of a line's words. Raises WordFault."""
+    scene = drawing.scene
+    try:
+        word = ConstraintWord(words[0])
+    except (ValueError, IndexError):
+        raise WordFault(" ".join(words[:1]), "is no word that asks") from None
+    found = read_constraints(word, Cursor(scene, words), None)
+    for constraint in found:
+        check_constraint(scene, constraint)
+    return found
+
+
+def valued(drawing: Drawing, constraint: Constraint, value: str) -> Constraint:
+    """A constraint with another value, as it is written. Raises WordFault."""
+    if not hasattr(constraint, "value_um") and not hasattr(constraint, "value"):
+        raise WordFault(words_of(constraint), "has no value that could be changed")
+    words = words_of(constraint).split()[:-1]
+    return replace(asked(drawing, [*words, *value.split()])[0], name=constraint.name)
+
+
+def drawn(shapes: tuple[Shape, ...], words: list[str]) -> Said:
+    """What a line draws behind the shapes that stand. Raises WordFault."""
+    return read_shape(ShapeWord(words[0]), frozenset(), Cursor(Scene(shapes), words))

@@ -1,0 +1,108 @@
+"""The page's own server."""
+from __future__ import annotations
+
+import json
+from collections.abc import Callable, Mapping
+from pathlib import Path
+from typing import Protocol
+
+from flask import Flask, Response, request, send_from_directory
+from werkzeug.exceptions import HTTPException
+
+from .calls import trouble
+from .guard import Guard
+from .opening import gallery
+from .workers import Busy
+
+STATIC = Path(__file__).resolve().parent / "static"
+GALLERY = Path(__file__).resolve().parents[2] / "tests" / "drawings"
+MOST_BYTES = 1 << 20
+HEADERS = {
+    "Content-Security-Policy": "default-src 'none'; script-src 'self'; style-src 'self'; "
+                               "img-src 'self' data: blob:; connect-src 'self'; base-uri 'none'; "
+                               "form-action 'none'; frame-ancestors 'none'",
+    "Cache-Control": "no-store",
+    "Cross-Origin-Resource-Policy": "same-origin",
+    "Cross-Origin-Opener-Policy": "same-origin",
+    "Referrer-Policy": "no-referrer",
+    "X-Content-Type-Options": "nosniff",
+    "X-Frame-Options": "DENY",
+}
+
+
+class Answers(Protocol):
+    """What answers a call by its name."""
+
+    def answer(self, call: str, given: object) -> Mapping[str, object]:
+        """What it gives. Raises Busy."""
+        ...
+
+
+def board(guard: Guard, answers: Answers) -> Flask:
+    """The application: the page, the gallery, and the calls, all below the token."""
+    app = Flask(__name__, static_folder=None)
+    app.config["MAX_CONTENT_LENGTH"] = MOST_BYTES
+    app.before_request(lambda: _turned_away(guard))
+    app.after_request(_with_headers)
+    app.register_error_handler(HTTPException, _told)
+    app.add_url_rule("/<token>/", "page", _page)
+    app.add_url_rule("/<token>/static/<name>", "static", _static)
+    app.add_url_rule("/<token>/gallery", "gallery", _gallery)
+    app.add_url_rule("/<token>/call/<name>", "call", _caller(answers), methods=["POST"])
+    return app
+
+
+def _turned_away(guard: Guard) -> Response | None:
+    """The answer to a request that isn't the page's own, before anything of it is read."""
+    headers = request.headers
+    token = (request.view_args or {}).get("token") or request.path.split("/")[1]
+    ground = guard.ground(headers.get("Host"), headers.get("Origin"),
+                          headers.get("Sec-Fetch-Site"), str(token))
+    return None if ground is None else _json(trouble("guard", ground.value), 403)
+
+
+def _with_headers(response: Response) -> Response:
+    response.headers.update(HEADERS)
+    return response
+
+
+def _told(error: HTTPException) -> Response:
+    """A refused request, as JSON."""
+    status = error.code or 500
+    message = {413: f"what was given has more than {MOST_BYTES} bytes: give less"}.get(
+        status, error.description or error.name)
+    return _json(trouble("request", message), status)
+
+
+def _page(token: str) -> Response:
+    return send_from_directory(STATIC, "index.html")
+
+
+def _static(token: str, name: str) -> Response:
+    return send_from_directory(STATIC, name)
+
+
+def _gallery(token: str) -> Response:
+    return _json({"drawings": list(gallery(GALLERY))})
+
+
+def _caller(answers: Answers) -> Callable[[str, str], Response]:
+    """What answers a call."""
+
+    def call(token: str, name: str) -> Response:
+        if request.mimetype != "application/json":
+            return _json(trouble("request", "give JSON, as application/json"), 415)
+        try:
+            given = json.loads(request.get_data())
+        except (ValueError, RecursionError):
+            return _json(trouble("request", "what was given is no JSON"), 400)
+        try:
+            return _json(answers.answer(name, given))
+        except Busy:
+            return _json(trouble("busy", "four calls are being answered: wait, and try again"), 503)
+
+    return call
+
+
+def _json(found: Mapping[str, object], status: int = 200) -> Response:
+    return Response(json.dumps(found), status, mimetype="application/json")

@@ -1,0 +1,132 @@
+"""A drawing and the judgement on it, as one object of JSON for the page. Lengths are millimetres
+to look at; what was measured stays in whole nanometres."""
+from __future__ import annotations
+
+from collections.abc import Iterable, Mapping
+
+from ..answers import Judgement
+from ..drawing import (
+    Arc, Circle, Constraint, Drawing, PointRef, Shape, points_of, words_of)
+from ..measure import Solution
+from ..picture.designed import Whereabouts
+from ..reports import Solved
+from ..shape_parts import parts_of_shapes
+from ..told import JudgedDrawing, drawing_json, told
+from .motion import Spot
+from .parts_laid import LaidPart
+from .removal import named
+from .signs import marks
+from .spots import leader_of
+
+Json = dict[str, object]
+
+
+def drawing_shown(drawing: Drawing) -> Json:
+    """The shapes where they are drawn, and the constraints."""
+    where = Whereabouts(drawing, None)
+    return {
+        "shapes": [_shape(where, shape) for shape in drawing.geometry],
+        "constraints": [_constraint(drawing, number, each)
+                        for number, each in enumerate(drawing.constraints, 1)],
+        "marks": list(marks(where)),
+    }
+
+
+def _shape(where: Whereabouts, shape: Shape) -> Json:
+    drawing = where.drawing
+    found: Json = {
+        "name": shape.name, "kind": type(shape).__name__.lower(),
+        "construction": shape.construction, "outer": shape.outer,
+        "points": {str(ref): _spot(where.at(ref)) for ref in points_of(shape)},
+        "leaders": {str(ref): str(leader_of(drawing, ref)) for ref in points_of(shape)},
+    }
+    if isinstance(shape, (Circle, Arc)):
+        found["radius"] = where.radius(shape.name)
+    return found
+
+
+def _constraint(drawing: Drawing, number: int, constraint: Constraint) -> Json:
+    words = words_of(constraint).split()
+    has_value = hasattr(constraint, "value_um") or hasattr(constraint, "value")
+    return {"number": number, "name": constraint.name, "called": drawing.called(number),
+            "words": " ".join(words), "word": words[0],
+            "value": words[-1] if has_value else None, "shapes": sorted(set(named(constraint)))}
+
+
+def judgement_shown(drawing: Drawing, judgement: Judgement, parts: Iterable[LaidPart]) -> Json:
+    """What is judged: all of `drawing_json`, and where it is shown."""
+    judged = JudgedDrawing("the drawing", drawing, judgement)
+    solution = judgement.solution
+    solved = judgement.asked.solved
+    return {
+        **drawing_json(judged),
+        "told": list(told(judged)),
+        "placed": _placed(drawing, solution) if solution is not None else None,
+        "marks": list(marks(Whereabouts(drawing, solution))) if solution is not None else None,
+        "laid": [_laid(part) for part in parts],
+        "colours": dict(parts_of_shapes(judgement)),
+        "missing": _missing(judgement),
+        "failure": _failure(judgement),
+        "grown": list(judgement.grown),
+        "warnings": [{"text": each.text(), "shapes": list(each.shapes)}
+                     for each in judgement.warnings],
+        "elements": judgement.asked.check.elements,
+        "constraints": judgement.asked.check.constraints,
+        "steps": solved.steps if isinstance(solved, Solved) else None,
+        "place": judgement.place.value,
+        "scale": judgement.asked.spelled.scale,
+        "language": judgement.asked.spelled.sketch.text(),
+    }
+
+
+def _placed(drawing: Drawing, solution: Solution) -> Json:
+    return places_shown(Whereabouts(drawing, solution))
+
+
+def places_shown(where: Whereabouts) -> Json:
+    """Where all points lie, and how large the rims are."""
+    drawing = where.drawing
+    rims = [shape.name for shape in drawing.geometry if isinstance(shape, (Circle, Arc))]
+    return {"part": None, "points": _points({ref: where.at(ref) for ref in drawing.points()}),
+            "radii": {name: where.radius(name) for name in rims}}
+
+
+def _laid(part: LaidPart) -> Json:
+    return {"part": part.number, "points": _points(part.points), "radii": part.radii}
+
+
+def _points(points: Mapping[PointRef, Spot]) -> Json:
+    return {str(ref): _spot(spot) for ref, spot in points.items()}
+
+
+def _missing(judgement: Judgement) -> Json | None:
+    found = judgement.missing
+    if found is None:
+        return None
+    return {
+        "count": found.count,
+        "pieces": [{"number": piece.number, "elements": list(piece.elements)}
+                   for piece in found.pieces],
+        "joints": [{"first": joint.first.number, "second": joint.second.number,
+                    "tie": joint.tie.name.lower(), "do": joint.tie.value,
+                    "shared": list(joint.shared)} for joint in found.joints],
+    }
+
+
+def _failure(judgement: Judgement) -> Json | None:
+    """A fault: the program's words, what is beneath it, where, and by how much it misses."""
+    found = judgement.failure
+    if found is None:
+        return None
+    amount = None
+    if found.amount is not None:
+        low, high = found.amount.low, found.amount.high
+        amount = {"low": float(low), "high": float(high), "unit": found.amount.unit.value}
+    return {"text": found.text.strip(), "dimensions": list(found.dimensions),
+            "at": list(found.at), "amount": amount}
+
+
+def _spot(spot: Spot) -> list[float]:
+    return [spot[0], spot[1]]
+
+

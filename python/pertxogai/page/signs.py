@@ -1,0 +1,79 @@
+"""What of each constraint is drawn on the board: its dimension, or a small sign at each thing
+that it speaks of."""
+from __future__ import annotations
+
+import math
+from collections.abc import Iterator, Mapping
+
+from ..drawing import Arc, Axis, Circle, Constraint, Pair, PointRef, ShapeRef, Which
+from ..measure.solution import MissingPlace
+from ..picture.designed import BAR, Whereabouts
+from ..picture.marks import LengthBar, Spot, Tag
+from ..picture.plane import between, sweep
+from .removal import refs_of
+
+Mark = Mapping[str, object]
+
+
+def marks(where: Whereabouts) -> Iterator[Mark]:
+    """The marks of all constraints, each with its constraint's place from 1."""
+    for number, constraint in enumerate(where.drawing.constraints, 1):
+        try:
+            yield from (_numbered(mark, number) for mark in _marks(where, constraint))
+        except MissingPlace:
+            continue
+
+
+def _numbered(mark: Mark, number: int) -> Mark:
+    return {"number": number, **mark}
+
+
+def _marks(where: Whereabouts, constraint: Constraint) -> Iterator[Mark]:
+    shown = list(where.dimensions(constraint, BAR))
+    for each in shown:
+        if isinstance(each, LengthBar):
+            yield {"bar": [_spot(each.start), _spot(each.end)], "text": each.text}
+        elif isinstance(each, Tag):
+            yield {"at": _spot(each.at), "radius": each.radius, "text": each.text}
+    if not shown:
+        yield from ({"sign": type(constraint).__name__.lower(), "at": _spot(at)}
+                    for at in _places(where, constraint))
+
+
+def _places(where: Whereabouts, constraint: Constraint) -> Iterator[Spot]:
+    """A place at each thing, each once."""
+    seen: list[Spot] = []
+    for ref in refs_of(constraint):
+        spot = _place(where, ref)
+        if spot is not None and spot not in seen:
+            seen.append(spot)
+    if isinstance(getattr(constraint, "of", None), Pair) or getattr(constraint, "at", None):
+        seen = seen[:1]
+    yield from seen
+
+
+def _place(where: Whereabouts, ref: PointRef | ShapeRef) -> Spot | None:
+    if isinstance(ref, PointRef):
+        return where.at(ref)
+    shape = where.drawing.shape(ref.name)
+    if isinstance(shape, Axis):
+        return None
+    if isinstance(shape, Circle):
+        (x, y), radius = where.at(PointRef(ref.name, Which.CENTRE)), where.radius(ref.name)
+        return x + radius * 0.7071, y + radius * 0.7071
+    if isinstance(shape, Arc):
+        return _middle(where, ref)
+    return between(*where.ends(ref.name), 0.5)
+
+
+def _middle(where: Whereabouts, ref: ShapeRef) -> Spot:
+    """The middle of an arc."""
+    centre = where.at(PointRef(ref.name, Which.CENTRE))
+    first, turn = sweep(centre, *where.ends(ref.name))
+    radius = where.radius(ref.name)
+    return (centre[0] + radius * math.cos(first + turn / 2),
+            centre[1] + radius * math.sin(first + turn / 2))
+
+
+def _spot(spot: Spot) -> list[float]:
+    return [spot[0], spot[1]]

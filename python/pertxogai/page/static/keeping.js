@@ -1,0 +1,64 @@
+/** What the browser keeps: the drawing until it is saved, those that were left unsaved, and whether another tab has it. */
+const KEY = 'pertxogai.drawing';
+const ASIDE = 'pertxogai.aside';
+const MOST_ASIDE = 12;
+
+/** Keeps the drawing in this browser. */
+export class Keeping {
+  constructor(paper, tell) {
+    Object.assign(this, { paper, tell });
+    this.name = `${Date.now()}.${Math.random()}`;
+    paper.addEventListener('text', () => this.keep());
+    this.channel = new BroadcastChannel('pertxogai');
+    this.channel.addEventListener('message', (event) => this.heard(event.data));
+    this.channel.postMessage({ here: this.name });
+  }
+
+  /** Keeps the text that stands. */
+  keep() {
+    const { text, name, saved } = this.paper;
+    this.store(KEY, { text, name, saved });
+  }
+
+  /** What was kept, or null. */
+  kept() {
+    return this.read(KEY);
+  }
+
+  /** Keeps an unsaved drawing aside, before another begins. */
+  aside() {
+    const { text, name, saved } = this.paper;
+    if (!text.trim() || text === saved) return;
+    const all = (this.read(ASIDE) ?? []).filter((each) => each.text !== text);
+    this.store(ASIDE, [{ text, name: `${name}, unsaved` }, ...all].slice(0, MOST_ASIDE));
+  }
+
+  /** The drawings that were left unsaved. */
+  unsaved() {
+    return this.read(ASIDE) ?? [];
+  }
+
+  /** Another tab tells that it is there: both say so. */
+  heard(message) {
+    if (message.here && message.here !== this.name) this.channel.postMessage({ also: this.name });
+    this.tell('The board is open in another tab too. Each tab has its own drawing; the one that was changed last is kept in this browser.');
+  }
+
+  /** Writes a value, if the browser lets it. */
+  store(key, value) {
+    try {
+      localStorage.setItem(key, JSON.stringify(value));
+    } catch {
+      this.tell('This browser keeps nothing: save the drawing before you close the page.');
+    }
+  }
+
+  /** Reads a value. */
+  read(key) {
+    try {
+      return JSON.parse(localStorage.getItem(key));
+    } catch {
+      return null;
+    }
+  }
+}

@@ -1,0 +1,129 @@
+/** The document: the drawing's text, its history, and what the server says of it. */
+import { History } from './history.js';
+import { Stopped } from './calls.js';
+
+/** A drawing that is worked on. Listeners hear 'answer', 'trouble', 'text'. */
+export class Paper extends EventTarget {
+  constructor(server) {
+    super();
+    this.server = server;
+    this.history = new History('');
+    this.name = 'drawing';
+    this.saved = '';
+    this.answer = null;
+    this.refused = null;
+    this.waiting = Promise.resolve();
+    this.live = null;
+    this.asked = 0;
+  }
+
+  /** The text as it stands. */
+  get text() {
+    return this.history.text;
+  }
+
+  /** Begins with a text, under a name. */
+  begin(text, name, saved = text) {
+    this.history = new History(text);
+    this.name = name;
+    this.saved = saved;
+    this.tell('text');
+    return this.judge();
+  }
+
+  /** Takes a text that was typed. */
+  type(text) {
+    if (text === this.text) return Promise.resolve();
+    this.history.push(text);
+    this.tell('text');
+    return this.judge();
+  }
+
+  /** Undoes (-1) or redoes (1). */
+  go(step) {
+    this.history.go(step);
+    this.tell('text');
+    return this.judge();
+  }
+
+  /** Has the text judged; of several that wait, the last counts. */
+  judge() {
+    const turn = this.asked += 1;
+    return this.queue(async () => {
+      if (turn !== this.asked) return;
+      const text = this.text;
+      const answer = await this.server.call('judge', { text });
+      if (turn === this.asked) this.take(text, answer);
+    });
+  }
+
+  /** Edits the text that stands by one edit of the server's. Gives whether it was taken. */
+  edit(edit) {
+    return this.change('edit', (text) => ({ text, edit }));
+  }
+
+  /** Changes the text by a call that answers another. Gives whether it was taken. */
+  change(call, given) {
+    return this.queue(async () => {
+      const answer = await this.server.call(call, given(this.text));
+      return this.takeChange(answer, true);
+    });
+  }
+
+  /** Shows what an edit would make, while a hand moves: only the last of several is asked for. */
+  preview(edit) {
+    const busy = this.live !== null;
+    this.live = { edit, base: this.text };
+    if (!busy) this.queue(() => this.previews());
+  }
+
+  /** Shows one preview after the other, until none waits. */
+  async previews() {
+    while (this.live) {
+      const { edit, base } = this.live;
+      const answer = await this.server.call('edit', { text: base, edit });
+      if (this.live && this.live.edit === edit) this.live = null;
+      if (answer.drawing && this.text === base) this.tell('answer', answer);
+    }
+  }
+
+  /** Takes the answer of a call that changes the text. */
+  takeChange(answer, pushes) {
+    if (answer.trouble || answer.refused) {
+      this.tell('trouble', answer.trouble ? answer.trouble.message : answer.refused.what);
+      if (!answer.text) {
+        if (this.answer) this.tell('answer', this.answer);
+        return false;
+      }
+    }
+    if (pushes) this.history.push(answer.text);
+    this.asked += 1;
+    this.tell('text');
+    this.take(answer.text, answer);
+    return true;
+  }
+
+  /** Takes what the server says of a text. */
+  take(text, answer) {
+    if (text !== this.text) return;
+    this.refused = answer.refused ?? null;
+    if (!this.refused) this.answer = answer;
+    this.tell('answer', this.refused ? { ...(this.answer ?? {}), refused: this.refused, judgement: null } : answer);
+  }
+
+  /** Does one thing after the other; what the stopped server kept from being done is told. */
+  queue(act) {
+    const done = this.waiting.then(act).catch((error) => {
+      if (!(error instanceof Stopped)) throw error;
+      this.live = null;
+      return false;
+    });
+    this.waiting = done.catch(() => {});
+    return done;
+  }
+
+  /** Tells the listeners. */
+  tell(what, detail = null) {
+    this.dispatchEvent(new CustomEvent(what, { detail }));
+  }
+}

@@ -1,0 +1,93 @@
+/** The texts beside the board: the drawing's, with its refused line, the constraints, the language. */
+import { html, byId } from './nodes.js';
+
+/** The panel of texts. */
+export class Texts {
+  constructor(paper, selection, offers) {
+    Object.assign(this, { paper, selection, offers });
+    this.area = byId('text');
+    this.lines = byId('lines');
+    this.waits = null;
+    this.area.addEventListener('input', () => this.typed());
+    this.area.addEventListener('scroll', () => { this.lines.scrollTop = this.area.scrollTop; });
+    this.area.addEventListener('blur', () => this.flush());
+    selection.addEventListener('change', () => this.list());
+    paper.addEventListener('text', () => this.write());
+    for (const tab of document.querySelectorAll('[role="tab"]')) tab.addEventListener('click', () => this.open(tab.id));
+    document.querySelector('[role="tablist"]').addEventListener('keydown', (event) => this.arrow(event));
+    this.open('tab-text');
+  }
+
+  /** Opens a tab. */
+  open(id) {
+    for (const tab of document.querySelectorAll('[role="tab"]')) {
+      const is = tab.id === id;
+      tab.setAttribute('aria-selected', String(is));
+      tab.tabIndex = is ? 0 : -1;
+      byId(tab.getAttribute('aria-controls')).hidden = !is;
+    }
+    document.dispatchEvent(new CustomEvent('tab', { detail: id }));
+  }
+
+  /** Arrows go from tab to tab. */
+  arrow(event) {
+    const step = { ArrowRight: 1, ArrowLeft: -1 }[event.key];
+    if (!step) return;
+    const tabs = [...document.querySelectorAll('[role="tab"]')];
+    const next = tabs[(tabs.indexOf(document.activeElement) + step + tabs.length) % tabs.length];
+    next.focus();
+    this.open(next.id);
+  }
+
+  /** A text is being typed: it counts a moment after the last letter. */
+  typed() {
+    this.number();
+    clearTimeout(this.waits);
+    this.waits = setTimeout(() => this.flush(), 250);
+  }
+
+  /** What was typed counts now. */
+  flush() {
+    clearTimeout(this.waits);
+    this.paper.type(this.area.value);
+  }
+
+  /** Shows the text that stands. */
+  write() {
+    if (this.area.value !== this.paper.text) this.area.value = this.paper.text;
+    this.number();
+  }
+
+  /** Numbers the lines, and marks the one that is refused. */
+  number() {
+    const count = this.area.value.split('\n').length;
+    const refused = this.paper.refused?.line;
+    this.lines.replaceChildren(...Array.from({ length: count }, (_, place) => html(place + 1 === refused ? 'b' : 'span', {}, `${place + 1}\n`)));
+    this.lines.scrollTop = this.area.scrollTop;
+  }
+
+  /** Shows an answer: the refused line, the constraints, the language. */
+  show(answer) {
+    this.number();
+    const { refused } = answer;
+    const told = byId('refused');
+    told.hidden = !refused;
+    told.textContent = refused ? `line ${refused.line}: ‘${refused.word}’ ${refused.what}` : '';
+    this.area.setAttribute('aria-invalid', String(Boolean(refused)));
+    byId('language').textContent = answer.judgement?.language ?? '';
+    this.list();
+  }
+
+  /** Lists the constraints. */
+  list() {
+    const answer = this.paper.answer;
+    const spare = new Set((answer?.judgement?.spare ?? []).map((each) => each.number));
+    const items = (answer?.drawing?.constraints ?? []).map((each) => {
+      const kind = `what ${spare.has(each.number) ? 'spare' : ''} ${this.selection.numbers.has(each.number) ? 'selected' : ''}`;
+      const text = `${each.number}  ${each.name ? `${each.name}: ` : ''}${each.words}`;
+      return html('li', {}, html('button', { class: kind, onclick: (event) => this.selection.take(this.selection.numbers, each.number, event.shiftKey), ondblclick: () => this.offers.change(each.number) }, text),
+        html('button', { 'aria-label': `take away ${each.called}`, title: 'take it away', onclick: () => this.paper.edit({ do: 'erase', constraints: [each.number] }) }, '×'));
+    });
+    byId('asked').replaceChildren(...(items.length ? items : [html('li', { class: 'quiet' }, 'Nothing is asked for yet: select something on the board.')]));
+  }
+}

@@ -1,0 +1,75 @@
+"""One worker: a process that answers calls, a line of JSON each, until its input ends.
+
+`python -m pertxogai.page.worker PROGRAM SECONDS MEMORY_MIB`
+"""
+from __future__ import annotations
+
+import json
+import resource
+import sys
+from collections.abc import Sequence
+from dataclasses import dataclass, replace
+from time import monotonic
+
+from ..program import Answer, Program, ProgramTimedOut
+from .calls import Desk, trouble
+
+MEBIBYTE = 1 << 20
+
+
+@dataclass
+class Hasty:
+    """The program, with one limit of time over all that a call asks of it."""
+
+    program: Program
+    seconds: float
+    ends: float = 0.0
+
+    def begin(self) -> None:
+        """A call begins now."""
+        self.ends = monotonic() + self.seconds
+
+    def ask(self, words: Sequence[str], text: str) -> Answer:
+        """Asks within what is left of the time. Raises ProgramError."""
+        left = self.ends - monotonic()
+        if left <= 0:
+            raise ProgramTimedOut(f"the call took over {self.seconds:g} s and was stopped: "
+                                  "draw less at once, or judge the file by ./pertxogai judge")
+        return replace(self.program, seconds=left).ask(words, text)
+
+
+def main(words: Sequence[str]) -> None:
+    """Answers calls from standard input on standard output."""
+    path, seconds, memory_mib = words
+    limit_memory(int(memory_mib))
+    program = Hasty(Program(path, memory_mib=int(memory_mib) or None), float(seconds))
+    desk = Desk(program)
+    for line in sys.stdin:
+        program.begin()
+        print(json.dumps(_answer(desk, line)), flush=True)
+
+
+def _answer(desk: Desk, line: str) -> dict[str, object]:
+    """The answer to a line; a fault of this side is told as one, and ends nothing."""
+    began = monotonic()
+    try:
+        call = json.loads(line)
+        found = desk.answer(call["call"], call["given"])
+        return {**found, "ms": round((monotonic() - began) * 1000)}
+    except MemoryError:
+        return trouble("memory", "the call took more memory than it may: draw less at once")
+    except RecursionError:
+        return trouble("call", "what was given is nested too deeply")
+    except Exception as error:  # pylint: disable=broad-except
+        return trouble("fault", f"a fault of the board, please tell it: {error!r}")
+
+
+def limit_memory(mib: int) -> None:
+    """Limits this process, and what it starts, where `mib` isn't 0."""
+    if mib:
+        _, hard = resource.getrlimit(resource.RLIMIT_AS)
+        resource.setrlimit(resource.RLIMIT_AS, (mib * MEBIBYTE, hard))
+
+
+if __name__ == "__main__":
+    main(sys.argv[1:])
