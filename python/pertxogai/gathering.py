@@ -30,7 +30,7 @@ class Gathering:
         self._constraints: list[Constraint] = []
         self._numbers: list[int] = []
         self._left_out: list[LeftOut] = []
-        self._names: set[str] = set()
+        self._names: dict[str, int] = {}
 
     def add_shape(self, shape: Shape) -> bool:
         """Adds a shape, or leaves it out where it is unsound; answers whether it was added."""
@@ -83,9 +83,8 @@ class Gathering:
         plain = "".join(letter if letter.isprintable() and letter not in ":#" else " "
                         for letter in name)
         fitted = short = " ".join(plain.split())[:MOST_CALLED - _ROOM].strip() or "Constraint"
-        count = 1
         while fitted in self._names:
-            count += 1
-            fitted = f"{short} ({count})"
-        self._names.add(fitted)
+            self._names[short] += 1
+            fitted = f"{short} ({self._names[short]})"
+        self._names[fitted] = 1
         return fitted

@@ -42,13 +42,15 @@ Input = SketchText | DesignerDrawing
 
 @dataclass(frozen=True)
 class Kind:
-    """A kind of file: the ending of its name, what it is, what reads it, and what copies it
-    with placed sketches."""
+    """A kind of file: the ending of its name, what it is, what reads it, what copies it with
+    placed sketches, and the most bytes that it may have (None where only some of it is read, and
+    what reads it has limits of its own)."""
 
     suffix: str
     what: str
     read: Callable[[Path], tuple[Input, ...]]
     write: Callable[[Path, Path, Mapping[str, Solution]], None] | None = None
+    most_bytes: int | None = MOST_BYTES
 
 
 def kind_of(path: Path) -> Kind | None:
@@ -66,9 +68,9 @@ def read_inputs(path: Path) -> tuple[Input, ...]:
             f" {known}"
         )
     try:
-        if path.stat().st_size > MOST_BYTES:
+        if kind.most_bytes is not None and path.stat().st_size > kind.most_bytes:
             raise InputRefused(
-                f"{path}: over {MOST_BYTES >> 20} MiB, which no sketch needs: look whether it is"
+                f"{path}: over {kind.most_bytes >> 20} MiB, which no sketch needs: look whether it is"
                 " the right file"
             )
         return kind.read(path)
@@ -135,7 +137,7 @@ def _write_solvespace(path: Path, out: Path, solutions: Mapping[str, Solution]) 
 KINDS = (
     Kind(".sketch", "the sketch language", _read_sketch),
     Kind(".drawing", "a designer's drawing", _read_drawing),
-    Kind(".FCStd", "FreeCAD", _read_freecad, _write_freecad),
+    Kind(".FCStd", "FreeCAD", _read_freecad, _write_freecad, None),
     Kind(".slvs", "SolveSpace", _read_solvespace, _write_solvespace),
     Kind(".dxf", "a DXF drawing", _read_outline),
 )

@@ -13,6 +13,7 @@ from pertxogai.drawing import (
 from pertxogai.drawing.soundness import faults
 from pertxogai.found import Apart, FileRefusal, FoundSketch
 from pertxogai.freecad import read_freecad
+from pertxogai.inputs import read_inputs
 from pertxogai.measure import Solution, Unit, greatest, measure
 
 FILES = Path(__file__).parent / "files"
@@ -254,7 +255,7 @@ def test_a_document_of_too_many_bytes_is_refused(tmp_path: Path) -> None:
             for _ in range(70):
                 member.write(b" " * (1 << 20))
     assert path.stat().st_size < 1 << 20
-    assert "has more than 64 MB" in refused(path)
+    assert "has more than 64 MiB" in refused(path)
 
 
 def test_a_sketch_of_too_many_shapes_is_refused(tmp_path: Path) -> None:
@@ -357,3 +358,68 @@ def test_a_damaged_shape_is_left_out(tmp_path: Path) -> None:
             archive.writestr("PartShape.brp", shape[:place] + b"7" + shape[place + 1:])
         one = read_freecad(path)[0]
         assert len(one.left_out) + len(one.drawing.geometry) == 1
+
+
+BOX = ('<Property name="ExternalGeometry"><LinkSubList count="1">'
+       '<Link obj="S" sub="Edge1"/><Link obj="S" sub="Edge1"/></LinkSubList></Property>'
+       '<Property name="Shape"><Part file="S.brp"/></Property>')
+BREP = """Locations {locations}
+Curves 1
+{curve}
+TShapes 1
+Ed
+ 1e-07 1 1 0
+1  1 0 0 10
+0
+
+0101100
+*
+
++1 0"""
+
+
+@pytest.mark.parametrize("locations,curve,what", [
+    ("0", "8 0 1 " * 5000 + "1 0 0 0 1 0 0", ""),
+    ("0", "6 0 -2 0 0 0 0", "its shape isn't stored as FreeCAD stores it"),
+    ("0", "7 0 0 3 -100 5 1 1 1", "its shape isn't stored as FreeCAD stores it"),
+    ("0", "1 1e999 0 0 1 0 0", "a number of it is too large"),
+    ("1 2 1", "1 0 0 0 1 0 0", "its shape isn't stored as FreeCAD stores it"),
+    ("1\n1 1 0 0", "1 0 0 0 1 0 0", "its shape isn't stored as FreeCAD stores it"),
+    ("0", "\n" * (33 << 20), "have more than 32 MiB"),
+])
+def test_a_hostile_shape_is_left_out(tmp_path: Path, locations: str, curve: str, what: str
+                                     ) -> None:
+    path = written(tmp_path / "a.FCStd", document(geometry(segment(0, 0, 1, 1)) + BOX))
+    with zipfile.ZipFile(path, "a", zipfile.ZIP_DEFLATED) as archive:
+        archive.writestr("S.brp", BREP.format(locations=locations, curve=curve))
+    (one,) = read_freecad(path)
+    told = [str(each) for each in one.left_out]
+    assert (len(told) == 2 and all(what in line for line in told)) if what else not told
+
+
+@pytest.mark.parametrize("properties", [
+    geometry(arc(1, 0).replace('Radius="', 'Radius="1.7e308" R="')),
+    geometry(segment(0, 0, 1, 0), segment(0, 0, 1, 1)) + constraints(
+        '<Constrain Name="" Type="9" Value="1e308" First="0" FirstPos="0" Second="1" '
+        'SecondPos="0" Third="-2000" ThirdPos="0"/>'),
+])
+def test_numbers_beyond_all_others_are_left_out(tmp_path: Path, properties: str) -> None:
+    (one,) = read_freecad(written(tmp_path / "a.FCStd", document(properties)))
+    assert len(one.left_out) == 1 and not faults(one.drawing)
+
+
+def test_a_file_of_any_size_is_read_where_its_document_is_small(tmp_path: Path) -> None:
+    path = written(tmp_path / "a.FCStd", document(geometry(segment(0, 0, 1, 1))))
+    with zipfile.ZipFile(path, "a") as archive:
+        archive.writestr("PartShape.brp", bytes(65 << 20))
+    assert path.stat().st_size > 64 << 20
+    assert len(read_inputs(path)) == 1
+    path.unlink()
+
+
+def test_a_zip_of_too_many_members_is_refused(tmp_path: Path) -> None:
+    path = tmp_path / "a.FCStd"
+    with zipfile.ZipFile(path, "w") as archive:
+        for number in range(70):
+            archive.writestr(f"{number}-" + "x" * 65_000, "")
+    assert "no sound zip" in refused(path)

@@ -2,10 +2,12 @@
 
 from __future__ import annotations
 
+import struct
 import zipfile
 import zlib
 from collections.abc import Iterator
-from contextlib import contextmanager
+from contextlib import ExitStack, contextmanager
+from io import FileIO
 from pathlib import Path, PurePosixPath
 from zipfile import ZipFile, ZipInfo
 
@@ -15,41 +17,83 @@ DOCUMENT = "Document.xml"
 """The member that has the sketches."""
 
 MOST_BYTES = 64 << 20
-"""The most bytes of a member that is read."""
+"""The most bytes, unpacked, of a member that is read whole; others may be of any size."""
 
-_DAMAGED = (zipfile.BadZipFile, zlib.error, EOFError, ValueError, NotImplementedError,
-            RuntimeError)
+PIECE = 1 << 20
+"""How many bytes are unpacked at once."""
+
+_MOST_LISTED = 4 << 20
+"""The most bytes of the zip's list of members: some 50,000 of them."""
+
+_DAMAGED = (zipfile.BadZipFile, zlib.error, struct.error, EOFError, ValueError, OverflowError,
+            NotImplementedError, RuntimeError)
+
+
+class _Guarded(FileIO):
+    """A file of which no more is read at once than the list of members may have."""
+
+    def read(self, size: int | None = -1, /) -> bytes:
+        """The next bytes. Raises BadZipFile where too many are asked for."""
+        if size is not None and size > _MOST_LISTED:
+            raise zipfile.BadZipFile("too long a list of members")
+        return super().read(-1 if size is None else size) or b""
 
 
 @contextmanager
 def open_archive(path: Path) -> Iterator[ZipFile]:
-    """The zip of a file. Raises FileRefusal where the file can't be read, is no zip or a damaged
-    one, or names a member twice or one that leads out of the zip."""
+    """The zip of a file, of whatever size. Raises FileRefusal where the file can't be read, is no
+    zip or a damaged one, or names a member twice or one that leads out of the zip."""
+    with ExitStack() as opened:
+        with _told(path):
+            archive = opened.enter_context(ZipFile(opened.enter_context(_Guarded(path))))
+        _check_names(path, archive)
+        yield archive
+
+
+def read_member(path: Path, archive: ZipFile, name: str) -> bytes:
+    """The bytes of a member. Raises FileRefusal where there is none of the name, it is packed
+    otherwise than FreeCAD does, or has more than `MOST_BYTES` unpacked, which is counted while it
+    is read."""
+    data = bytearray()
+    for piece in read_pieces(path, archive, name):
+        data += piece
+        if len(data) > MOST_BYTES:
+            raise FileRefusal(f"{path}: {name} has more than {MOST_BYTES >> 20} MiB: save the"
+                              " sketch in a file of its own")
+    return bytes(data)
+
+
+def read_pieces(path: Path, archive: ZipFile, name: str) -> Iterator[bytes]:
+    """The bytes of the member of that name, some at a time. Raises FileRefusal as `pieces_of`,
+    and where there is none of the name."""
     try:
-        with ZipFile(path) as archive:
-            _check_names(path, archive)
-            yield archive
+        info = archive.getinfo(name)
+    except KeyError:
+        raise FileRefusal(f"{path}: no FreeCAD file: it has no {name}") from None
+    yield from pieces_of(path, archive, info)
+
+
+def pieces_of(path: Path, archive: ZipFile, info: ZipInfo) -> Iterator[bytes]:
+    """The bytes of a member, some at a time. Raises FileRefusal where they can't be read, or are
+    packed otherwise than FreeCAD does."""
+    if info.compress_type not in (zipfile.ZIP_STORED, zipfile.ZIP_DEFLATED) or info.flag_bits & 1:
+        raise FileRefusal(f"{path}: {info.filename!a:.60} is packed or locked otherwise than"
+                          " FreeCAD does: save it by FreeCAD again")
+    with _told(path), archive.open(info) as member:
+        while piece := member.read(PIECE):
+            yield piece
+
+
+@contextmanager
+def _told(path: Path) -> Iterator[None]:
+    """Tells in one line what may go wrong while a zip is read. Raises FileRefusal."""
+    try:
+        yield
     except OSError as error:
         raise FileRefusal(f"{path}: can't be read: {error.strerror or error}") from None
     except _DAMAGED:
         raise FileRefusal(f"{path}: no sound zip, as a FreeCAD file is: save it by FreeCAD again"
                           ) from None
-
-
-def read_member(path: Path, archive: ZipFile, name: str) -> bytes:
-    """The bytes of a member. Raises FileRefusal where there is none of the name, it is packed
-    otherwise than FreeCAD does, or has more than `MOST_BYTES`, packed or not."""
-    try:
-        info = archive.getinfo(name)
-    except KeyError:
-        raise FileRefusal(f"{path}: no FreeCAD file: it has no {name}") from None
-    if info.compress_type not in (zipfile.ZIP_STORED, zipfile.ZIP_DEFLATED) or info.flag_bits & 1:
-        raise FileRefusal(f"{path}: {name} is packed or locked otherwise than FreeCAD does")
-    with archive.open(info) as member:
-        data = member.read(MOST_BYTES + 1)
-    if len(data) > MOST_BYTES or info.file_size > MOST_BYTES:
-        raise FileRefusal(f"{path}: {name} has more than {MOST_BYTES >> 20} MB")
-    return data
 
 
 def _check_names(path: Path, archive: ZipFile) -> None:

@@ -17,6 +17,8 @@ _SECTIONS = ("Locations", "Curve2ds", "Curves", "Polygon3D", "PolygonOnTriangula
              "Triangulations", "TShapes")
 _PARTS = frozenset({"Ve", "Ed", "Wi", "Fa", "Sh", "So", "CS", "Co"})
 _TRIMMED, _TRIMMED_LENGTH = "8", 3
+_AROUND = {_TRIMMED: _TRIMMED_LENGTH, "9": 5}
+_FIXED = {1: 7, 2: 14, 3: 15, 4: 14, 5: 15}
 _MOST_VISITS = 200_000
 _MOST_DEPTH = 50
 
@@ -82,7 +84,7 @@ def read_solid(text: str) -> Solid:
         motions = _motions(sections["Locations"])
         curves = tuple(_curves(" ".join(sections["Curves"]).split()))
         return _Walk(motions, curves, sections["TShapes"]).solid()
-    except (KeyError, IndexError, ValueError):
+    except (LookupError, ValueError, ArithmeticError, StopIteration):
         raise BadShape("its shape isn't stored as FreeCAD stores it") from None
 
 
@@ -132,18 +134,28 @@ def _curves(words: list[str]) -> Iterator[tuple[int, list[float]]]:
 
 
 def _length(words: list[str], place: int) -> int:
-    """How many words the curve has that begins at a place."""
-    fixed = {1: 7, 2: 14, 3: 15, 4: 14, 5: 15}
+    """How many words the curve has that begins at a place. Raises ValueError where its counts
+    are none."""
+    begin = place
+    while words[place] in _AROUND:
+        place += _AROUND[words[place]]
     kind = int(words[place])
-    if kind in fixed:
-        return fixed[kind]
+    if kind in _FIXED:
+        return place - begin + _FIXED[kind]
+    rational = _count(words[place + 1])
     if kind == 6:
-        return 3 + (int(words[place + 2]) + 1) * (3 + int(words[place + 1]))
+        return place - begin + 3 + (_count(words[place + 2]) + 1) * (3 + rational)
     if kind == 7:
-        poles, knots = int(words[place + 4]), int(words[place + 5])
-        return 6 + poles * (3 + int(words[place + 1])) + 2 * knots
-    within = {8: _TRIMMED_LENGTH, 9: 5}[kind]
-    return within + _length(words, place + within)
+        poles, knots = _count(words[place + 4]), _count(words[place + 5])
+        return place - begin + 6 + poles * (3 + rational) + 2 * knots
+    raise ValueError(kind)
+
+
+def _count(word: str) -> int:
+    """A count among the words of a curve. Raises ValueError where it is below 0."""
+    if not word.isdecimal():
+        raise ValueError(word)
+    return int(word)
 
 
 class _Walk:

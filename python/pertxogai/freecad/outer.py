@@ -6,34 +6,46 @@ from the sketch's plane, as FreeCAD does when it opens the file.
 
 from __future__ import annotations
 
-from collections.abc import Callable, Mapping
+from collections.abc import Callable, Iterator, Mapping
 
 from pertxogai.drawing import Arc, Circle, Place, Point, Segment, Shape
-from pertxogai.found import LeftOut, Unsaid
+from pertxogai.found import FileRefusal, LeftOut, Unsaid
 from pertxogai.freecad.brep import BadShape, Edge, Round, Solid, Straight, read_solid
 from pertxogai.freecad.markup import Kept, Node
 from pertxogai.freecad.shapes import FIRST_OUTER, Numbered
 from pertxogai.freecad.space import Motion, Vector, turned
 from pertxogai.freecad.values import length_um, number, place
 
+MOST_BYTES = 32 << 20
+"""The most bytes, unpacked, that are read of all the shapes of a file."""
+
 _NEAR_MM = 1e-7
 _LEVEL = 1 - 1e-12
 
 
 class Shelf:
-    """The stored shapes of a file's objects, each read once."""
+    """The stored shapes of a file's objects, each read once, whether it can be or not."""
 
-    def __init__(self, objects: Mapping[str, Kept], read: Callable[[str], bytes]) -> None:
-        """`read` gives the bytes of a member of the file; it raises FileRefusal."""
+    def __init__(self, objects: Mapping[str, Kept], read: Callable[[str], Iterator[bytes]]
+                 ) -> None:
+        """`read` gives the bytes of a member of the file, some at a time; it raises
+        FileRefusal."""
         self._objects = objects
         self._read = read
-        self._solids: dict[str, Solid] = {}
+        self._left = MOST_BYTES
+        self._solids: dict[str, Solid | Unsaid] = {}
 
     def solid(self, name: str) -> Solid:
         """The shape of an object. Raises Unsaid where the file doesn't have it."""
         if name not in self._solids:
-            self._solids[name] = self._solid(name)
-        return self._solids[name]
+            try:
+                self._solids[name] = self._solid(name)
+            except Unsaid as unsaid:
+                self._solids[name] = unsaid
+        found = self._solids[name]
+        if isinstance(found, Unsaid):
+            raise Unsaid(str(found))
+        return found
 
     def _solid(self, name: str) -> Solid:
         kept = self._objects.get(name)
@@ -43,9 +55,22 @@ class Shelf:
         if not member.endswith(".brp"):
             raise Unsaid(f"the shape of {name} isn't stored in the file as text")
         try:
-            return read_solid(self._read(member).decode("ascii", "replace"))
+            return read_solid(self._text(member))
         except BadShape as bad:
             raise Unsaid(f"{name}: {bad}") from None
+        except FileRefusal:
+            raise Unsaid(f"the shape of {name} can't be read from the file") from None
+
+    def _text(self, member: str) -> str:
+        """The text of a member; raises BadShape where too much would be read."""
+        data = bytearray()
+        for piece in self._read(member):
+            self._left -= len(piece)
+            if self._left < 0:
+                raise BadShape(f"its shape, and others of the file, have more than "
+                               f"{MOST_BYTES >> 20} MiB")
+            data += piece
+        return data.decode("ascii", "replace")
 
 
 def outer_shapes(kept: Kept, shelf: Shelf) -> tuple[list[Numbered], list[LeftOut]]:

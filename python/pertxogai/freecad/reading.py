@@ -7,7 +7,7 @@ from pathlib import Path
 
 from pertxogai.drawing import Constraint
 from pertxogai.found import Apart, Aside, FileRefusal, FoundSketch, Unsaid
-from pertxogai.freecad.archive import DOCUMENT, open_archive, read_member
+from pertxogai.freecad.archive import DOCUMENT, open_archive, read_member, read_pieces
 from pertxogai.freecad.markup import BadMarkup, Kept, Node, read_markup
 from pertxogai.freecad.outer import Shelf, outer_shapes
 from pertxogai.freecad.shapes import Numbered, read_outer, read_shapes
@@ -30,7 +30,7 @@ def read_freecad(path: Path) -> tuple[FoundSketch, ...]:
         objects = objects_of(path, read_member(path, archive, DOCUMENT))
         _check_size(path, objects)
         shelf = Shelf({kept.name: kept for kept in objects},
-                      lambda member: read_member(path, archive, member))
+                      lambda member: read_pieces(path, archive, member))
         found = tuple(_sketch(kept, shelf) for kept in objects if kept.kind == SKETCH)
     if not found:
         raise FileRefusal(f"{path}: no sketch in it: draw one by FreeCAD's Sketcher, and save")
@@ -40,7 +40,7 @@ def read_freecad(path: Path) -> tuple[FoundSketch, ...]:
 def _check_size(path: Path, objects: list[Kept]) -> None:
     """Refuses a file with a sketch of more than `MOST_ENTRIES`."""
     for kept in objects:
-        for word in ("Geometry", "Constraints"):
+        for word in ("Geometry", "Constraints", "ExternalGeometry", "ExternalGeo"):
             if len(kept.list_of(word)) > MOST_ENTRIES:
                 raise FileRefusal(f"{path}: {_label(kept)} has more than {MOST_ENTRIES} entries in "
                                   f"its list {word}: take a part of it")

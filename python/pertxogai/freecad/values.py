@@ -40,15 +40,24 @@ def whole(node: Node, name: str, default: str) -> int:
 
 
 def length_um(millimetres: float) -> Fraction:
-    """Micrometres of a stored length."""
+    """Micrometres of a stored length. Raises Unsaid where it is no finite number."""
+    _check_finite(millimetres)
     return um_of_mm(Decimal(repr(round(millimetres, _LENGTH_DIGITS))))
 
 
 def degrees(radians: float) -> Fraction:
-    """Degrees of a stored angle."""
-    return Fraction(Decimal(repr(round(math.degrees(radians), _ANGLE_DIGITS))))
+    """Degrees of a stored angle. Raises Unsaid where they are no finite number."""
+    turned = math.degrees(radians)
+    _check_finite(turned)
+    return Fraction(Decimal(repr(round(turned, _ANGLE_DIGITS))))
 
 
 def place(x: float, y: float) -> Place:
     """A stored place."""
     return Place(length_um(x), length_um(y))
+
+
+def _check_finite(value: float) -> None:
+    """Raises Unsaid where sums or products of stored numbers went beyond all numbers."""
+    if not math.isfinite(value):
+        raise Unsaid("a number of it is too large")

@@ -9,7 +9,6 @@ from __future__ import annotations
 import copy
 import math
 import re
-import shutil
 from collections.abc import Mapping
 from decimal import Decimal
 from fractions import Fraction
@@ -19,7 +18,7 @@ from zipfile import ZipFile
 
 from pertxogai.drawing import Arc, Circle, Point, PointRef, Segment, Shape, Which
 from pertxogai.found import FileRefusal
-from pertxogai.freecad.archive import DOCUMENT, open_archive, read_member
+from pertxogai.freecad.archive import DOCUMENT, open_archive, pieces_of, read_member
 from pertxogai.freecad.markup import Kept, Node
 from pertxogai.freecad.reading import SKETCH, objects_of
 from pertxogai.freecad.shapes import body_of, params_of, read_shapes
@@ -50,7 +49,7 @@ def write_freecad(path: Path, out: Path, solutions: Mapping[str, Solution]) -> N
             raise FileRefusal(f"{path}: has more than {MOST_WRITTEN >> 30} GB: too much to copy")
         changed = _changed(path, document, solutions)
         with saving(out, path) as stream:
-            _copy(archive, stream, changed)
+            _copy(path, archive, stream, changed)
 
 
 def _changed(path: Path, document: bytes, solutions: Mapping[str, Solution]) -> bytes:
@@ -136,7 +135,7 @@ def _rewritten(tag: bytes, values: Written) -> bytes:
     return tag
 
 
-def _copy(archive: ZipFile, stream: IO[bytes], document: bytes) -> None:
+def _copy(path: Path, archive: ZipFile, stream: IO[bytes], document: bytes) -> None:
     """Writes a zip with the members of another, and the document anew."""
     with ZipFile(stream, "w") as written:
         written.comment = archive.comment
@@ -145,5 +144,6 @@ def _copy(archive: ZipFile, stream: IO[bytes], document: bytes) -> None:
             if info.filename == DOCUMENT:
                 written.writestr(kept, document, info.compress_type)
                 continue
-            with archive.open(info) as source, written.open(kept, "w") as sink:
-                shutil.copyfileobj(source, sink)
+            with written.open(kept, "w") as sink:
+                for piece in pieces_of(path, archive, info):
+                    sink.write(piece)

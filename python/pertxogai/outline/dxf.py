@@ -22,6 +22,7 @@ MOST_BYTES = 16 << 20
 _DIGITS = 9
 _MM_OF_UNIT = {0: Fraction(1), 1: Fraction(254, 10), 2: Fraction(3048, 10), 4: Fraction(1),
                5: Fraction(10), 6: Fraction(1000), 13: Fraction(1, 1000), 14: Fraction(100)}
+_NO_DXF = "it is no DXF file: save it as DXF"
 _UNSOUND = (ValueError, LookupError, TypeError, AttributeError, ArithmeticError, AssertionError)
 """What ezdxf raises, beside its own errors, at numbers and words that it doesn't expect."""
 _POLYLINES = frozenset({"LWPOLYLINE", "POLYLINE"})
@@ -45,8 +46,7 @@ def read_entities(path: Path) -> list[Entity]:
     try:
         return list(_entities(path))
     except OSError as error:
-        raise FileRefusal(f"{path}: can't be read: {error.strerror or 'it is no DXF file'}"
-                          ) from None
+        raise FileRefusal(f"{path}: can't be read: {error.strerror or _NO_DXF}") from None
     except (DXFError, *_UNSOUND):
         raise FileRefusal(f"{path}: no sound DXF file: save it as DXF again") from None
 

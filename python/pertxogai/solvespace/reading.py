@@ -12,8 +12,9 @@ from pertxogai.solvespace.shapes import Drawn, drawn, shape
 from pertxogai.solvespace.ties import COMMENT, Plane, Touch, name_of, say
 from pertxogai.solvespace.touches import Entry, said, settled
 
-MOST_CONSTRAINTS = 8_000
-"""The most constraints of a file that is read: twice what the program takes."""
+MOST_RECORDS = 8_000
+"""The most groups, requests or constraints of a file that is read: some times what the program
+takes."""
 
 _PLANE_GROUPS = (5000, 5001)
 _REFERENCES = 1
@@ -22,12 +23,18 @@ _GROUND = 0x00010001
 
 @dataclass
 class Contents:
-    """The records of a file by their kinds, in order; numbers by their handles."""
+    """The records of a file by their kinds, in order; requests and constraints by the handles of
+    their groups, numbers by their own."""
 
     groups: list[Record] = field(default_factory=list)
-    requests: list[Record] = field(default_factory=list)
-    constraints: list[Record] = field(default_factory=list)
+    requests: dict[int, list[Record]] = field(default_factory=dict)
+    constraints: dict[int, list[Record]] = field(default_factory=dict)
     numbers: dict[int, float] = field(default_factory=dict)
+
+    def most(self) -> int:
+        """How many there are of the kind of record of which there are most, numbers aside."""
+        inner = (sum(map(len, kind.values())) for kind in (self.requests, self.constraints))
+        return max(len(self.groups), *inner)
 
 
 def read_solvespace(path: Path) -> tuple[FoundSketch, ...]:
@@ -51,30 +58,29 @@ def contents_of(path: Path, lines: list[bytes]) -> Contents:
                 case "Group":
                     contents.groups.append(record)
                 case "Request":
-                    contents.requests.append(record)
+                    contents.requests.setdefault(record.handle("group.v"), []).append(record)
                 case "Constraint":
-                    contents.constraints.append(record)
+                    contents.constraints.setdefault(record.handle("group.v"), []).append(record)
                 case "Param":
                     contents.numbers[record.handle("h.v")] = record.number("val")
     except Unsaid as unsaid:
         raise FileRefusal(f"{path}: no sound SolveSpace file: a Param is none: {unsaid}") from None
-    if len(contents.constraints) > MOST_CONSTRAINTS:
-        raise FileRefusal(f"{path}: has more than {MOST_CONSTRAINTS} constraints")
+    if contents.most() > MOST_RECORDS:
+        raise FileRefusal(f"{path}: has more than {MOST_RECORDS} groups, shapes or constraints: "
+                          "take a part of it")
     return contents
 
 
 def sketch_groups(contents: Contents) -> list[Record]:
     """The groups in which something is drawn, without that of the reference planes."""
-    drawn_in = {request.handle("group.v") for request in contents.requests}
     return [group for group in contents.groups
             if group.whole("type") in _PLANE_GROUPS and group.handle("h.v") != _REFERENCES
-            and group.handle("h.v") in drawn_in]
+            and group.handle("h.v") in contents.requests]
 
 
 def requests_of(group: Record, contents: Contents) -> list[Record]:
     """What was drawn in a group."""
-    return [request for request in contents.requests
-            if request.handle("group.v") == group.handle("h.v")]
+    return contents.requests.get(group.handle("h.v"), [])
 
 
 def name_of_group(group: Record) -> str:
@@ -137,8 +143,8 @@ def _entries(group: Record, contents: Contents, plane: Plane, gathering: Gatheri
     """What the constraints of a group say, and those that only measure."""
     entries: list[Entry] = []
     aside: list[Aside] = []
-    for record in contents.constraints:
-        if record.handle("group.v") != group.handle("h.v") or record.whole("type") == COMMENT:
+    for record in contents.constraints.get(group.handle("h.v"), []):
+        if record.whole("type") == COMMENT:
             continue
         number, name = record.handle("h.v"), name_of(record)
         try:
