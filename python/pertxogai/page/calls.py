@@ -6,6 +6,7 @@ from dataclasses import dataclass, field
 from fractions import Fraction
 from typing import TypeAlias
 
+from ..answers import DrawingRefused
 from ..drawing import DrawingRefusal, DrawingUnsound, Place, WordFault, checked
 from ..drawing_sheet import DrawingSheet, NoPlaces
 from ..dxf import MissingLibrary, Release
@@ -48,7 +49,8 @@ class Desk:
             return {"refused": {"line": refusal.line, "word": refusal.word, "what": refusal.what}}
         except (WordFault, DrawingUnsound) as fault:
             return trouble("edit", str(fault))
-        except (FieldRefused, InputRefused, FileRefusal, NotPlaced, NoPlaces) as error:
+        except (FieldRefused, InputRefused, FileRefusal, NotPlaced, NoPlaces,
+                DrawingRefused) as error:
             return trouble("call", str(error))
         except (ProgramError, MissingLibrary) as error:
             return trouble("program", str(error))
@@ -81,6 +83,8 @@ def _whole(desk: Desk, text: str) -> Json:
         return answer
     try:
         answer["judgement"] = judgement_shown(judged.drawing, judged.judgement, judged.parts())
+    except DrawingRefused as error:
+        answer |= trouble("language", str(error))
     except ProgramError as error:
         answer |= trouble("program", str(error))
     except (Refusal, NotHeld) as error:

@@ -1,7 +1,9 @@
 """The document of the board: a drawing's text, which may still be empty."""
 from __future__ import annotations
 
-from ..drawing import Drawing, DrawingRefusal, read_drawing, write_drawing
+from collections.abc import Iterator
+
+from ..drawing import Drawing, DrawingRefusal, Note, read_drawing, write_drawing
 from ..drawing.writing import HEADER
 
 
@@ -12,8 +14,16 @@ def read_document(text: str) -> Drawing:
         return read_drawing(text)
     except DrawingRefusal:
         if draws_nothing(text):
-            return Drawing()
+            return Drawing(notes=tuple(_notes(text)))
         raise
+
+
+def _notes(text: str) -> Iterator[Note]:
+    """The notes of a text that draws nothing."""
+    for line in text.splitlines():
+        _, mark, note = line.partition("#")
+        if mark:
+            yield Note(note.strip(), 0)
 
 
 def draws_nothing(text: str) -> bool:

@@ -36,7 +36,7 @@ class Draw:
         shapes = tuple(replace(shape, construction=self.construction) for shape in said.shapes)
         count = len(drawing.geometry)
         notes = tuple(replace(note, before=note.before + len(shapes))
-                      if note.before >= count else note for note in drawing.notes)
+                      if note.before >= count > 0 else note for note in drawing.notes)
         return Drawing((*drawing.geometry, *shapes),
                        (*drawing.constraints, *said.constraints), notes)
 

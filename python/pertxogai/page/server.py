@@ -17,6 +17,8 @@ from .workers import Busy
 STATIC = Path(__file__).resolve().parent / "static"
 GALLERY = Path(__file__).resolve().parents[2] / "tests" / "drawings"
 MOST_BYTES = 1 << 20
+MOST_PASSED_OVER = 16 << 20
+TOO_MUCH = f"what was given has more than {MOST_BYTES} bytes: give less"
 HEADERS = {
     "Content-Security-Policy": "default-src 'none'; script-src 'self'; style-src 'self'; "
                                "img-src 'self' data: blob:; connect-src 'self'; base-uri 'none'; "
@@ -41,7 +43,6 @@ class Answers(Protocol):
 def board(guard: Guard, answers: Answers) -> Flask:
     """The application: the page, the gallery, and the calls, all below the token."""
     app = Flask(__name__, static_folder=None)
-    app.config["MAX_CONTENT_LENGTH"] = MOST_BYTES
     app.before_request(lambda: _turned_away(guard))
     app.after_request(_with_headers)
     app.register_error_handler(HTTPException, _told)
@@ -58,7 +59,19 @@ def _turned_away(guard: Guard) -> Response | None:
     token = (request.view_args or {}).get("token") or request.path.split("/")[1]
     ground = guard.ground(headers.get("Host"), headers.get("Origin"),
                           headers.get("Sec-Fetch-Site"), str(token))
-    return None if ground is None else _json(trouble("guard", ground.value), 403)
+    if ground is not None:
+        return _json(trouble("guard", ground.value), 403)
+    if (request.content_length or 0) > MOST_BYTES:
+        _pass_over()
+        return _json(trouble("request", TOO_MUCH), 413)
+    return None
+
+
+def _pass_over() -> None:
+    """Reads some of what is too much, so that the browser hears the answer to it."""
+    for _ in range(MOST_PASSED_OVER >> 16):
+        if not request.stream.read(1 << 16):
+            return
 
 
 def _with_headers(response: Response) -> Response:
@@ -69,9 +82,7 @@ def _with_headers(response: Response) -> Response:
 def _told(error: HTTPException) -> Response:
     """A refused request, as JSON."""
     status = error.code or 500
-    message = {413: f"what was given has more than {MOST_BYTES} bytes: give less"}.get(
-        status, error.description or error.name)
-    return _json(trouble("request", message), status)
+    return _json(trouble("request", error.description or error.name), status)
 
 
 def _page(token: str) -> Response:

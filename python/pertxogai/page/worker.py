@@ -32,10 +32,13 @@ class Hasty:
     def ask(self, words: Sequence[str], text: str) -> Answer:
         """Asks within what is left of the time. Raises ProgramError."""
         left = self.ends - monotonic()
-        if left <= 0:
-            raise ProgramTimedOut(f"the call took over {self.seconds:g} s and was stopped: "
-                                  "draw less at once, or judge the file by ./pertxogai judge")
-        return replace(self.program, seconds=left).ask(words, text)
+        try:
+            if left > 0:
+                return replace(self.program, seconds=left).ask(words, text)
+        except ProgramTimedOut:
+            pass
+        raise ProgramTimedOut(f"the call took over {self.seconds:g} s and was stopped: draw less "
+                              "at once, or judge the file by ./pertxogai judge")
 
 
 def main(words: Sequence[str]) -> None:

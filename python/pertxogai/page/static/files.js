@@ -84,7 +84,7 @@ export class Files {
   /** What the server makes of the drawing. */
   asked(kind) {
     const call = kind === 'claim' ? 'verify' : kind;
-    return this.paper.queue(() => this.paper.server.call(call, { text: this.paper.text, name: this.paper.name, release: 'R12' }));
+    return this.paper.queue(() => this.paper.server.call(call, { text: this.paper.text, name: this.paper.name, release: 'R2010' }));
   }
 }
 

@@ -135,7 +135,7 @@ function start() {
     const number = event.target.closest('[data-constraint]')?.dataset.constraint;
     if (number) offers.change(Number(number));
   });
-  window.addEventListener('resize', () => board.draw());
+  new ResizeObserver(() => board.draw()).observe(byId('board'));
   window.addEventListener('beforeunload', () => keeping.keep());
   new Keys({ paper, files, offers, gestures, selection, board, help, take, escape });
   tools();

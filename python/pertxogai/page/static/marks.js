@@ -18,6 +18,7 @@ export class Marks {
     this.plane = plane;
     this.classes = classes;
     this.taken = [];
+    this.bars = [];
     this.places = new Map();
   }
 
@@ -34,20 +35,30 @@ export class Marks {
     const [start, end] = mark.bar.map((place) => this.plane.toScreen(place));
     const length = Math.hypot(end[0] - start[0], end[1] - start[1]) || 1;
     const normal = [-(end[1] - start[1]) / length, (end[0] - start[0]) / length];
-    let away = AWAY;
-    let middle = null;
-    for (let turn = 0; turn < 6; turn += 1) {
-      middle = [(start[0] + end[0]) / 2 + normal[0] * away, (start[1] + end[1]) / 2 + normal[1] * away];
-      if (this.isFree(middle, mark.text)) break;
-      away += away > 0 ? 19 : -19;
-    }
-    const [a, b] = [start, end].map((place) => [place[0] + normal[0] * away, place[1] + normal[1] * away]);
+    const beside = (away) => [start, end].map((place) => [place[0] + normal[0] * away, place[1] + normal[1] * away]);
+    const aways = [0, 1, 2, 3, 4, 5, 6].map((turn) => AWAY + 19 * turn);
+    const away = aways.find((each) => this.isOpen(...beside(each), mark.text)) ?? AWAY;
+    const [a, b] = beside(away);
+    this.bars.push([a, b]);
+    const middle = [(a[0] + b[0]) / 2, (a[1] + b[1]) / 2];
     const way = [(end[0] - start[0]) / length, (end[1] - start[1]) / length];
     group.append(
       svg('path', { class: 'mark', d: `M${start}L${a}M${end}L${b}M${a}L${b}` }),
       svg('path', { class: 'tip', d: tip(a, way) + tip(b, [-way[0], -way[1]]) }),
     );
     this.text(group, mark, middle);
+  }
+
+  /** Whether a bar between two places, and its text, lie over no other. */
+  isOpen(a, b, text) {
+    if (!this.isFree([(a[0] + b[0]) / 2, (a[1] + b[1]) / 2], text)) return false;
+    const length = Math.hypot(b[0] - a[0], b[1] - a[1]) || 1;
+    const [ux, uy] = [(b[0] - a[0]) / length, (b[1] - a[1]) / length];
+    return this.bars.every((bar) => {
+      const [p, q] = bar.map(([x, y]) => [(x - a[0]) * ux + (y - a[1]) * uy, (y - a[1]) * ux - (x - a[0]) * uy]);
+      const isApart = Math.min(Math.abs(p[1]), Math.abs(q[1])) > 9 || p[1] * q[1] < 0;
+      return isApart || Math.max(p[0], q[0]) < 1 || Math.min(p[0], q[0]) > length - 1;
+    });
   }
 
   /** A text or a sign near a place. */

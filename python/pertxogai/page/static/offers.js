@@ -9,6 +9,7 @@ export class Offers {
   constructor(node, paper, board, selection, field) {
     Object.assign(this, { node, paper, board, selection, field });
     this.turn = 0;
+    this.show();
     selection.addEventListener('change', () => this.show());
     paper.addEventListener('answer', () => { if (!selection.isEmpty) this.show(); });
   }
@@ -21,8 +22,7 @@ export class Offers {
     if (turn !== this.turn) return;
     const buttons = [...(found?.offers ?? []).map((offer, place) => this.button(offer, place)), ...this.others(names)];
     const had = this.node.contains(document.activeElement);
-    this.node.hidden = buttons.length === 0;
-    this.node.replaceChildren(...buttons);
+    this.node.replaceChildren(...(buttons.length ? buttons : [html('span', { class: 'quiet' }, 'Select points, shapes or dimensions: what fits them is offered here.')]));
     if (had) (buttons[0] ?? this.board.node).focus();
   }
 

@@ -162,14 +162,16 @@ export class Steps {
 
   /** The tree of merges, from the last step down. */
   tree() {
-    const most = this.plan.steps.length;
-    const branch = (step) => html('ul', {}, ...step.joins.map((each) => html('li', {}, each.name.startsWith('s') ? this.node1(Number(each.name.slice(1))) : html('span', { class: 'leaf' }, `${each.called}${each.kept ? ' (stays)' : ''}`))));
-    this.node1 = (number) => {
-      const step = this.plan.steps[number - 1];
-      const made = this.plan.elements[step.made].called ?? 'a line of help';
-      return html('div', {}, html('button', { 'data-step': number, onclick: () => this.slide(number) }, `step ${number}: ${made}${step.choice === 'none' ? '' : `, ${step.choice}`}`), branch(step));
-    };
-    return this.node1(most);
+    return this.branch(this.plan.steps.length);
+  }
+
+  /** A step of the tree, with all that it joins below it. */
+  branch(number) {
+    const step = this.plan.steps[number - 1];
+    const made = this.plan.elements[step.made].called ?? 'a line of help';
+    const title = `step ${number}: ${made}${step.choice === 'none' ? '' : `, ${step.choice}`}`;
+    const joined = step.joins.map((each) => html('li', {}, each.name.startsWith('s') ? this.branch(Number(each.name.slice(1))) : html('span', { class: 'leaf' }, `${each.called}${each.kept ? ' (stays)' : ''}`)));
+    return html('div', {}, html('button', { 'data-step': number, onclick: () => this.slide(number) }, title), html('ul', {}, ...joined));
   }
 
   /** A step on the board: its clusters on their way, the construction, and what stands already. */
