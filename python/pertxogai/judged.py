@@ -11,6 +11,7 @@ from .reports import (
     CheckReport,
     ConstraintFault,
     Fault,
+    FrameFault,
     NotAReport,
     NumberFault,
     PartsReport,
@@ -157,4 +158,6 @@ def what_to_do(fault: Fault) -> str:
         )
     if isinstance(fault, RangeFault):
         return "the proportions are beyond the grid: look for a slip in the lengths"
+    if isinstance(fault, FrameFault):
+        return "it is placed too far from 0 0: draw it nearer, or leave frame=drawn away"
     return "take a finer grid (bits=38) or a greater within="

@@ -10,12 +10,14 @@ import ctypes.util
 import os
 from collections.abc import Callable, Sequence
 from dataclasses import dataclass
+from pathlib import Path
 
 from .encoding import as_bytes
 from .errors import MissingProgram, ProgramCrashed, ProgramSpoke
 from .program import Answer, Asks, Program, Status
 
 VARIABLE = "PERTXOGAI_LIBRARY"
+BUILD = Path(__file__).resolve().parents[2] / "c" / "out" / "libsketch.so"
 _BYTES, _SIZE = ctypes.c_char_p, ctypes.c_size_t
 _Call = Callable[..., int]
 
@@ -30,11 +32,14 @@ class Library:
     @staticmethod
     def find(path: str | None = None) -> Library:
         """The library at `path`, else the one that the variable PERTXOGAI_LIBRARY names, else
-        the system's libsketch. Raises MissingProgram."""
-        named = path or os.environ.get(VARIABLE) or ctypes.util.find_library("sketch")
+        the repository's own build, else the system's libsketch. Raises MissingProgram."""
+        named = path or os.environ.get(VARIABLE)
+        if not named:
+            named = str(BUILD) if BUILD.is_file() else ctypes.util.find_library("sketch")
         if named is None:
             raise MissingProgram(
-                f"no library: name libsketch.so by {VARIABLE}, or use the program"
+                f"no library: {BUILD} isn't built; build it by c/build, name one by {VARIABLE}, or"
+                " use the program"
             )
         try:
             call = ctypes.CDLL(named).sketch_answer

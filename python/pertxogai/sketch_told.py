@@ -5,7 +5,7 @@ from collections.abc import Iterator, Sequence
 
 from .judged import JudgedSketch, concerned, what_to_do
 from .language import Placed, PlacedCircle, PlacedLine
-from .reports import AtConstraint, LineFault, Part, Solved
+from .reports import AtConstraint, FrameFault, LineFault, Part, Solved
 
 
 def sketch_told(judged: JudgedSketch) -> Iterator[str]:
@@ -97,6 +97,7 @@ def _fault(judged: JudgedSketch) -> dict[str, object] | None:
     if fault is None:
         return None
     at = [fault.name] if isinstance(fault, LineFault) else []
+    at += [fault.element] if isinstance(fault, FrameFault) else []
     return {
         "text": fault.text().strip(),
         "constraints": [it.text() for it in concerned(judged)],

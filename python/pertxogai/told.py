@@ -13,7 +13,7 @@ from pertxogai.reports import Part, Solved
 from pertxogai.upright import upright
 
 MOST_ADVICE = 5
-"""So many pairs of pieces at most are told what to do with; JSON has all."""
+"""So many pairs of pieces at most are told what to do with."""
 
 
 @dataclass(frozen=True)
@@ -55,17 +55,22 @@ def drawing_json(judged: JudgedDrawing) -> dict[str, object]:
         "spelled": judgement.style.value,
         "exact": not (judgement.frozen or judgement.rounded or judged.left_out()),
         "left_out": list(judged.left_out()),
+        "left_out_but_holds": [each.name for each in judgement.left_out_measured
+                               if each.holds()],
         "aside": list(judged.aside),
         "frozen": list(judgement.frozen),
+        "grown": list(judgement.grown),
         "rounded": list(judgement.rounded),
         "repeats": list(judgement.repeats),
         "undimensioned": list(judgement.undimensioned),
+        "lacks": judgement.missing.count if judgement.missing else 0,
         "spare": [_spare(each) for each in judgement.surplus],
         "places": _places(judged.drawing, judgement.solution) if judgement.solution else None,
         "length_tolerance_nm": solved.length_tolerance_nm if isinstance(solved, Solved) else None,
         "angle_tolerance_ppb": solved.angle_tolerance_ppb if isinstance(solved, Solved) else None,
         "fault": _fault(judgement) if not placed else None,
         "deviations": [_deviation(each, judged.drawing) for each in judged.worst()],
+        "warnings": [each.text() for each in judgement.warnings],
     }
 
 
@@ -77,7 +82,8 @@ def told(judged: JudgedDrawing) -> Iterator[str]:
            f"{check.elements}, constraints {check.constraints}, parts {len(check.parts)}")
     if not judged.drawing.geometry:
         yield "  nothing is drawn in it that could be judged"
-    yield from (f"  left out: {what}" for what in judged.left_out())
+    yield from (f"  left out: {what}" for what in judged.not_drawn)
+    yield from _left_out_lines(judgement)
     yield from (f"  not asked for: {what}" for what in judged.aside)
     yield from (f"  taken as drawn, and measured: {what}" for what in judgement.frozen)
     yield from (f"  told by a rounded value: {what}" for what in judgement.rounded)
@@ -89,6 +95,19 @@ def told(judged: JudgedDrawing) -> Iterator[str]:
     yield from _missing_lines(judgement)
     yield from _surplus_lines(judgement)
     yield from (f"  look: {warning.text()}" for warning in judgement.warnings)
+
+
+def _left_out_lines(judgement: Judgement) -> Iterator[str]:
+    """What couldn't be spelled, and whether it holds all the same."""
+    for each in judgement.left_out_measured:
+        if each.off is None:
+            yield f"  left out: {each.name}"
+        elif each.holds():
+            yield (f"  left out: {each.name}, and measured: it holds within {each.off.amount} "
+                   f"{each.off.unit.value}")
+        else:
+            yield (f"  left out: {each.name}, and measured: off by {each.off.amount} "
+                   f"{each.off.unit.value}")
 
 
 def _placed_lines(judged: JudgedDrawing) -> Iterator[str]:
@@ -113,7 +132,8 @@ def _failure_lines(judgement: Judgement) -> Iterator[str]:
         return
     yield f"  no places: {failure.text.strip()}"
     if failure.at:
-        yield f"    where {', '.join(failure.at)} meet"
+        at = ", ".join(failure.at)
+        yield f"    where {at} meet" if len(failure.at) > 1 else f"    at {at}"
     if failure.dimensions:
         yield f"  what to do: look at {', '.join(failure.dimensions)}"
 
@@ -124,7 +144,8 @@ def _missing_lines(judgement: Judgement) -> Iterator[str]:
     if lacks is None:
         return
     if lacks.count:
-        yield f"  lacks {lacks.count} dimension{'s' if lacks.count > 1 else ''} at least"
+        without = ", without what is left out" if judgement.left_out else ""
+        yield f"  lacks {lacks.count} dimension{'s' if lacks.count > 1 else ''} at least{without}"
     for piece in lacks.pieces:
         yield f"  piece {piece.number}: {' '.join(piece.elements)}"
     for joint in lacks.joints[:MOST_ADVICE]:

@@ -37,7 +37,18 @@ def read_row(path: Path) -> Row:
     return Row(path.stem, tuple(found[1].decode().split()), text, answer)
 
 
-ROWS = [read_row(path) for path in sorted((TESTS / "rows").glob("*.row"))]
+def read_rows(form: str) -> list[Row]:
+    """The rows of all files whose names have a form, in order."""
+    return [read_row(path) for path in sorted((TESTS / "rows").glob(form))]
+
+
+ROWS = read_rows("*.row")
+EXCERPTS = read_rows("*.excerpt")
+"""Rows of which some lines of the answer are told, in their order."""
+LARGE_ROWS = read_rows("large/*.row")
+"""Rows for which only the proved program is quick enough."""
+FRAME_ROWS = read_rows("frame/*.row")
+"""Rows of a program that has the key `frame`."""
 EXAMPLES = sorted((TOP / "examples").rglob("*.sketch"))
 
 

@@ -1,6 +1,7 @@
 """The program: how it is found, its statuses, and what is said where it gives no answer."""
 from __future__ import annotations
 
+import os
 import stat
 import subprocess
 import time
@@ -8,9 +9,10 @@ from collections.abc import Callable
 from pathlib import Path
 
 import pytest
-from conftest import ROWS, Row
+from conftest import EXCERPTS, FRAME_ROWS, LARGE_ROWS, ROWS, Row
 
-from pertxogai.library import Library, quickest
+from pertxogai.library import BUILD, Library, quickest
+from pertxogai.program import BUILD as PROGRAM
 from pertxogai.program import (
     Answer,
     MissingProgram,
@@ -40,6 +42,48 @@ def script(folder: Path, body: str) -> str:
 @pytest.mark.parametrize("row", ROWS, ids=lambda row: row.name)
 def test_a_row_is_answered(row: Row, program) -> None:
     assert program.ask(row.words, row.text) == row.answer
+
+
+@pytest.mark.parametrize("row", LARGE_ROWS, ids=lambda row: row.name)
+def test_a_large_row_is_answered(row: Row, program) -> None:
+    if Path(program.path) != PROGRAM:
+        pytest.skip("only the repository's build is quick enough for it")
+    assert program.ask(row.words, row.text) == row.answer
+
+
+@pytest.mark.parametrize("row", EXCERPTS, ids=lambda row: row.name)
+def test_an_excerpt_is_in_the_answer(row: Row, program) -> None:
+    answer = program.ask(row.words, row.text)
+    lines = iter(answer.text.splitlines())
+    assert answer.status is row.answer.status
+    assert all(line in lines for line in row.answer.text.splitlines())
+    read_answer(row.words, answer)
+
+
+@pytest.mark.parametrize("row", FRAME_ROWS, ids=lambda row: row.name)
+def test_a_row_of_the_drawn_frame_is_answered(row: Row, program) -> None:
+    if "frame=" not in program.ask([], "").text or row.answer.status is Status.USAGE:
+        pytest.skip("the program has no key frame yet, or others besides")
+    assert program.ask(row.words, row.text) == row.answer
+
+
+@pytest.mark.parametrize("command", ["check", "session"])
+def test_a_text_that_is_too_long(command: str, program) -> None:
+    answer = program.ask([command], " " * 1_048_577)
+    assert answer == Answer(Status.REFUSED, "refused line 0 E20 too-long\n")
+
+
+@pytest.fixture(scope="session")
+def built_library() -> Library:
+    """The library under test: that of PERTXOGAI_LIBRARY, or the repository's build."""
+    if not os.environ.get("PERTXOGAI_LIBRARY") and not BUILD.is_file():
+        pytest.skip("no libsketch.so is built: c/build makes it")
+    return Library.find()
+
+
+@pytest.mark.parametrize("row", ROWS + LARGE_ROWS, ids=lambda row: row.name)
+def test_the_library_answers_a_row_alike(row: Row, built_library: Library) -> None:
+    assert built_library.ask(row.words, row.text) == row.answer
 
 
 @pytest.mark.parametrize("status", list(Status), ids=lambda it: it.name)
@@ -235,11 +279,24 @@ def test_the_library_behind_the_same_call(library: str, monkeypatch) -> None:
     assert isinstance(quickest(), Library)
 
 
+def test_the_library_that_the_repository_builds(library: str, monkeypatch) -> None:
+    assert BUILD == Path(__file__).resolve().parents[2] / "c" / "out" / "libsketch.so"
+    monkeypatch.delenv("PERTXOGAI_LIBRARY", raising=False)
+    monkeypatch.setattr("pertxogai.library.BUILD", Path(library))
+    assert Library.find().path == library
+    monkeypatch.setenv("PERTXOGAI_LIBRARY", "gone.so")
+    with pytest.raises(MissingProgram, match="gone.so"):
+        Library.find()
+
+
 def test_a_library_that_is_none(monkeypatch, tmp_path) -> None:
     for path in ("libc.so.6", str(tmp_path / "gone.so")):
         with pytest.raises(MissingProgram, match="no libsketch"):
             Library.find(path)
     monkeypatch.delenv("PERTXOGAI_LIBRARY", raising=False)
+    monkeypatch.setattr("pertxogai.library.BUILD", tmp_path / "unbuilt")
     monkeypatch.setattr("ctypes.util.find_library", lambda name: None)
+    with pytest.raises(MissingProgram, match="c/build"):
+        Library.find()
     monkeypatch.setenv("PERTXOGAI_SKETCH", script(tmp_path, "echo"))
     assert isinstance(quickest(), Program)

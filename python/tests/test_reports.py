@@ -2,7 +2,7 @@
 from __future__ import annotations
 
 import pytest
-from conftest import EXAMPLES, ROWS, Row
+from conftest import EXAMPLES, FRAME_ROWS, LARGE_ROWS, ROWS, Row
 
 from pertxogai.language import (
     Choice,
@@ -29,6 +29,7 @@ from pertxogai.reports import (
     Code,
     ConstraintFault,
     Failing,
+    FrameFault,
     Idle,
     LineEntity,
     LineFault,
@@ -90,7 +91,7 @@ def written(words: tuple[str, ...], report: object) -> str:
     return report.text()
 
 
-@pytest.mark.parametrize("row", ROWS, ids=lambda row: row.name)
+@pytest.mark.parametrize("row", ROWS + LARGE_ROWS + FRAME_ROWS, ids=lambda row: row.name)
 def test_a_row_is_read_and_written_back(row: Row) -> None:
     assert written(row.words, read_answer(row.words, row.answer)) == row.answer.text
 
@@ -246,6 +247,7 @@ def test_a_spoilt_place_is_none(line: str) -> None:
                 StepAt(18, Phase.FIRST, "base", "P1"), Cause.FLAT, -395716241959, 2090124924219, 38
             ),
         ),
+        ("fault frame x B range bits 38", FrameFault("x", "B", 38)),
         ("fault s5 second fx L range bits 16", RangeFault(StepAt(5, Phase.SECOND, "fx", "L"), 16)),
         (
             "fault s2 build size L flat 0 0 bits 27",
@@ -280,6 +282,10 @@ def test_the_ends_of_a_fault_are_exact() -> None:
         "fault c1 tolerance 2 mm limit 1",
         "fault s1 build height C gap 1 1 bits 37",
         "fault s1 third height C range bits 38",
+        "fault frame x B range bits 39",
+        "fault frame width B range bits 38",
+        "fault frame build x B range bits 38",
+        "fault frame x B flat 0 0 bits 38",
         "fault line L tolerance 2 nm limit 1",
     ],
 )

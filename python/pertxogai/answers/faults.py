@@ -8,7 +8,8 @@ from fractions import Fraction
 
 from pertxogai.answers.naming import Names
 from pertxogai.reports import (
-    ConstraintFault, Fault, LineFault, NumberFault, Phase, Plan, RangeFault, StepAt, TurnedFault)
+    ConstraintFault, Fault, FrameFault, LineFault, NumberFault, Phase, Plan, RangeFault, StepAt,
+    TurnedFault)
 
 UNDER_A_ROOT = ("base", "height", "reach")
 """Roots of square millimetres."""
@@ -62,6 +63,8 @@ def failure(names: Names, fault: Fault, plan: Plan) -> Failure:
                             Amount(low / size, high / size, unit))
         case RangeFault():
             return _of_step(names, fault, plan, fault.at.step, None)
+        case FrameFault(_, element):
+            return Failure(fault, fault.text(), (), names.elements([element]), None)
         case ConstraintFault(number):
             return Failure(fault, fault.text(), names.constraint(number), (), None)
         case LineFault(name):

@@ -17,6 +17,7 @@ _QUANTITIES = (
 _AT = f"fault s({COUNT}) (build|first|second) ({_QUANTITIES}) ({NAME})"
 _NUMBER = re.compile(f"{_AT} (flat|gap) ({WHOLE}) ({WHOLE}) bits (16|27|38)")
 _RANGE = re.compile(f"{_AT} range bits (16|27|38)")
+_FRAME = re.compile(f"fault frame ({_QUANTITIES}) ({NAME}) range bits (16|27|38)")
 _CONSTRAINT = re.compile(f"fault c({COUNT}) tolerance ({COUNT}) (nm|ppb) limit ({COUNT})")
 _LINE = re.compile(f"fault line ({NAME}) tolerance ({COUNT}) ppb limit ({COUNT})")
 _TURNED = re.compile(f"fault ({CLUSTER}) turned drawn ([+-]) placed (-1|0|1)")
@@ -93,6 +94,20 @@ class RangeFault:
 
 
 @dataclass(frozen=True)
+class FrameFault:
+    """A number passes what the grid holds when the placed whole is carried to where it is drawn:
+    the name of the number, and the element. No step and no dimension is to blame."""
+
+    quantity: str
+    element: str
+    bits: int
+
+    def text(self) -> str:
+        """The line that the program writes."""
+        return f"fault frame {self.quantity} {self.element} range bits {self.bits}\n"
+
+
+@dataclass(frozen=True)
 class ConstraintFault:
     """The constraint of that number is met within `tolerance`, in nm or ppb, which is over the
     limit."""
@@ -142,7 +157,7 @@ class TurnedFault:
         )
 
 
-Fault = NumberFault | RangeFault | ConstraintFault | LineFault | TurnedFault
+Fault = NumberFault | RangeFault | FrameFault | ConstraintFault | LineFault | TurnedFault
 
 
 def read_fault(text: str) -> Fault:
@@ -160,6 +175,8 @@ def take_fault(rows: Rows) -> Fault:
         )
     if found := rows.take_if(_RANGE):
         return RangeFault(_at(found), int(found[5]))
+    if found := rows.take_if(_FRAME):
+        return FrameFault(found[1], found[2], int(found[3]))
     if found := rows.take_if(_CONSTRAINT):
         rows.claim(int(found[2]) > int(found[4]))
         return ConstraintFault(int(found[1]), int(found[2]), Unit(found[3]), int(found[4]))
