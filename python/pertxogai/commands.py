@@ -12,12 +12,13 @@ from enum import IntEnum
 from pathlib import Path
 from typing import TypeAlias
 
-from .answers import judge
+from .answers import DrawingRefused, Judgement, judge
 from .drawing_sheet import DrawingSheet, NoPlaces
 from .dxf import MissingLibrary, Release
 from .found import FileRefusal
 from .inputs import DesignerDrawing, Input, InputRefused, SketchText, kind_of, read_inputs
 from .judged import JudgedSketch, TextRefused, judge_sketch
+from .language import NotHeld, Refusal
 from .page.command import add_page
 from .program import Asks, Program, ProgramError
 from .saving import saving
@@ -159,10 +160,24 @@ def _judged_drawing(found: DesignerDrawing, program: Asks, freeze: bool) -> Judg
     return JudgedDrawing(
         found.name,
         found.drawing,
-        judge(found.drawing, program, freeze),
+        _judgement(found, program, freeze),
         found.left_out,
         found.aside,
     )
+
+
+def _judgement(found: DesignerDrawing, program: Asks, freeze: bool) -> Judgement:
+    """The judgement on a drawing. Raises CommandError where no sketch can be made of it, or the
+    program refuses the one that was made."""
+    try:
+        return judge(found.drawing, program, freeze)
+    except (DrawingRefused, NotHeld) as refused:
+        raise CommandError(f"{found.name}: {refused}") from None
+    except Refusal as refused:
+        raise CommandError(
+            f"{found.name}: the program takes no such sketch ({refused}): split the drawing, or"
+            " see 'How a text is refused' in docs/LANGUAGE.md"
+        ) from None
 
 
 def _json(judged: JudgedSketch | JudgedDrawing) -> dict[str, object]:

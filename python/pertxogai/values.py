@@ -11,6 +11,7 @@ from dataclasses import dataclass, field
 from fractions import Fraction
 
 Terms = Mapping[Hashable, Fraction]
+_ONE = Fraction(1)
 Sources = Mapping[int, int | Fraction]
 """How often each equation, by its mark, goes into a combination."""
 
@@ -25,7 +26,7 @@ class Form:
     @staticmethod
     def of(unknown: Hashable) -> Form:
         """The unknown itself."""
-        return Form({unknown: Fraction(1)})
+        return Form({unknown: _ONE})
 
     def __add__(self, other: Form) -> Form:
         return Form(_sum(self.terms, other.terms), self.number + other.number)

@@ -6,10 +6,11 @@ from fractions import Fraction
 
 import pytest
 
-from pertxogai.answers import Departure, Tie, judge
+from pertxogai.answers import Departure, DrawingRefused, Tie, judge
 from pertxogai.answers.faults import Unit as Measure
+from pertxogai.answers.warnings import warnings
 from pertxogai.drawing import PointRef, Which, read_drawing
-from pertxogai.measure import Unit
+from pertxogai.measure import Solution, Unit
 from pertxogai.reports import Verdict
 from pertxogai.spelling import Style
 
@@ -172,3 +173,67 @@ def test_radii_that_contradict_are_over(program):
 def test_a_circle_without_a_radius_is_told(program):
     found = judge(read_drawing(PLATE + "circle Hole 30 20 5\nx Hole 30\ny Hole 20\n"), program)
     assert found.verdict is Verdict.WELL and found.undimensioned == ("Hole",)
+
+
+TURNS_ABOUT = ("segment South 0 0 61 0\nsegment East South.end 82 34\nsegment North East.end 21 35\n"
+               "segment West North.end South.start\nparallel South North\nparallel East West\n"
+               "length South 60\ndistance South North 24\nlength East 30\n")
+
+
+def test_a_whole_that_turned_is_not_warned_of_without_a_datum(program):
+    found = judge(read_drawing(TURNS_ABOUT), program)
+    assert found.solution is not None and not found.asked.spelled.tied()
+    assert not found.warnings
+
+
+@pytest.mark.parametrize("third, warned", [(((-40, 0), (-40, 10)), []),
+                                           (((-40, 10), (-40, 0)), ["C"])])
+def test_one_edge_that_turned_is_warned_of_without_a_datum(third, warned):
+    """A quarter turn to the left of all, and the third edge with it or against it."""
+    drawing = read_drawing("segment A 0 0 40 0\nsegment B 0 20 40 20\nsegment C 0 40 10 40\n")
+    spots = [(0, 0), (0, 40), (-20, 0), (-20, 40), *third]
+    placed = Solution({ref: (x * 10 ** 6, y * 10 ** 6)
+                       for ref, (x, y) in zip(drawing.points(), spots)})
+    assert [name for each in warnings(drawing, placed, free=True) for name in each.shapes] == warned
+
+
+FREE_MIDDLE = ("point A 0 0\npoint B 10 0\npoint M 5 1\npoint C 3 8\n"
+               "Half: symmetric A B about M\n")
+
+
+def test_the_middle_of_free_points_is_told_along_the_line_through_them(program):
+    found = judge(read_drawing(FREE_MIDDLE + "distance A M 5\ndistance A C 8\ndistance B C 9\n"),
+                  program)
+    assert found.verdict is Verdict.WELL and not found.left_out
+    (a, b), (u, v), (x, y) = (found.solution.spot(PointRef(name)) for name in "ABM")
+    assert abs(a + u - 2 * x) <= 4 and abs(b + v - 2 * y) <= 4
+
+
+def test_a_middle_of_points_of_no_told_distance_is_left_out_by_name(program):
+    found = judge(read_drawing(FREE_MIDDLE + "distance A C 8\ndistance B C 9\ndistance M C 7\n"),
+                  program)
+    assert found.verdict is Verdict.OPEN and found.left_out == ("Half",)
+
+
+@pytest.mark.parametrize("to_middle, holds", [(5, True), (6, False)])
+def test_what_is_left_out_is_measured_on_the_places_of_the_rest(to_middle, holds, program):
+    text = ("point A 0 0\npoint B 10 0\npoint M 5 0\npoint C 5 12\nHalf: symmetric A B about M\n"
+            f"distance A C 13\ndistance B C 13\ndistance M C 12\ndistance A M {to_middle}\n"
+            f"distance B M {to_middle}\n")
+    found = judge(read_drawing(text), program)
+    left, = found.left_out_measured
+    assert found.verdict is Verdict.WELL and left.name == "Half"
+    assert left.holds() is holds
+
+
+def test_ends_that_become_one_are_named():
+    text = ("segment S 0 0 40 0\nsegment T 40 0 0 5\ncoincident S.end T.start\n"
+            "Shut: coincident S.start T.start\nlength T 30\n")
+    with pytest.raises(DrawingRefused, match="^Shut makes both ends of S one point: take"):
+        judge(read_drawing(text), None)
+
+
+def test_a_drawing_of_too_many_points_is_refused_before_the_program_is_asked():
+    text = "\n".join(f"segment S{each} {each} 0 {each} 5" for each in range(1001))
+    with pytest.raises(DrawingRefused, match="^2002 points are drawn, and the program takes 2000"):
+        judge(read_drawing(text), None)

@@ -2,11 +2,12 @@
 next."""
 from pertxogai.answers.asking import Asked, Place, ask_styles
 from pertxogai.answers.faults import Amount, Failure
-from pertxogai.answers.judgement import Judgement, Surplus, judge
+from pertxogai.answers.judgement import Judgement, LeftOut, Surplus, judge
+from pertxogai.answers.limits import DrawingRefused
 from pertxogai.answers.missing import Joint, Missing, Piece, Tie
 from pertxogai.answers.naming import Names
 from pertxogai.answers.warnings import Departure, Warning
 
-__all__ = ["Amount", "Asked", "Departure", "Failure", "Joint", "Judgement", "Missing", "Names",
-           "Piece", "Place",
-           "Surplus", "Tie", "Warning", "ask_styles", "judge"]
+__all__ = ["Amount", "Asked", "Departure", "DrawingRefused", "Failure", "Joint", "Judgement",
+           "LeftOut", "Missing", "Names", "Piece", "Place", "Surplus", "Tie", "Warning",
+           "ask_styles", "judge"]

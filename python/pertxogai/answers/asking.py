@@ -13,7 +13,7 @@ from pertxogai.drawing import Drawing
 from pertxogai.language import Refusal
 from pertxogai.program import Asks, Status
 from pertxogai.reports import (
-    CheckReport, Fault, Refused, Solved, Verdict, read_answer, read_fault, read_parts, read_solve)
+    CheckReport, Fault, NotAReport, Refused, Solved, Verdict, read_answer, read_parts)
 from pertxogai.spelling import READINGS, Axes, Care, Rails, Spelled, Style, axes_of, written
 from pertxogai.spelling.axes import Equation
 from pertxogai.spelling.facts import Owner
@@ -104,11 +104,22 @@ def ask(axes: Axes, style: Style, program: Asks, care: Care = Care()) -> Asked:
         check = _checked(program, text)
         more = None
         if check.verdict is Verdict.OPEN and len(equations) < ROUNDS:
-            more = grown(axes, rails, spelled, read_parts(program.ask(["parts"], text).text))
+            more = grown(axes, rails, spelled, read_parts(written_by(program, "parts", text)))
         if more is None:
             return Asked(spelled, axes, rails, check, tuple(equations))
         axes = more.axes
         equations.append(more.equation)
+
+
+def written_by(program: Asks, command: str, text: str) -> str:
+    """What a command wrote of a text that `check` has taken. Raises ProgramError, which says why
+    where there is no whole report."""
+    answer = program.ask([command], text)
+    if answer.status is not Status.DONE:
+        read_answer((command,), answer)
+        raise NotAReport(f"the program ended {command} with status {answer.status.value}, which "
+                         "doesn't fit what it was asked")
+    return answer.text
 
 
 def _checked(program: Asks, text: str) -> CheckReport:
@@ -117,7 +128,9 @@ def _checked(program: Asks, text: str) -> CheckReport:
     report = read_answer(("check",), program.ask(["check"], text))
     if isinstance(report, Refused):
         raise Refusal(report)
-    assert isinstance(report, CheckReport)
+    if not isinstance(report, CheckReport):
+        raise NotAReport("the program ended check with a status that doesn't fit what it was "
+                         "asked")
     return report
 
 
@@ -126,10 +139,14 @@ def placed(asked: Asked, program: Asks) -> Asked:
     if asked.check.verdict is not Verdict.WELL:
         return asked
     for place in Place:
-        answer = program.ask(["solve", f"place={place.value}"], asked.spelled.sketch.text())
-        if answer.status is Status.DONE:
-            return replace(asked, place=place, solved=read_solve(answer.text))
-        asked = replace(asked, place=place, solved=read_fault(answer.text))
+        words = ("solve", f"place={place.value}")
+        report = read_answer(words, program.ask(words, asked.spelled.sketch.text()))
+        if not isinstance(report, Solved | Fault):
+            raise NotAReport("the program ended solve with a status that doesn't fit what it was "
+                             "asked")
+        asked = replace(asked, place=place, solved=report)
+        if isinstance(report, Solved):
+            return asked
     return asked
 
 
@@ -150,7 +167,9 @@ def _frozen(asked: Asked, program: Asks) -> Asked:
     return asked
 
 
-def _worth(asked: Asked) -> tuple[int, bool, int]:
-    """What is well and placed before what is well, then what is over, then the fewer parts."""
+def _worth(asked: Asked) -> tuple[int, bool, int, int]:
+    """What is well and placed before what is well, then what is over, then what leaves less out,
+    then the fewer parts."""
     order = {Verdict.WELL: 2, Verdict.OVER: 1, Verdict.OPEN: 0}
-    return order[asked.check.verdict], isinstance(asked.solved, Solved), -len(asked.check.parts)
+    return (order[asked.check.verdict], isinstance(asked.solved, Solved),
+            -len(asked.spelled.left_out), -len(asked.check.parts))

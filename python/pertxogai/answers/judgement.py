@@ -4,8 +4,9 @@ from __future__ import annotations
 from collections.abc import Iterable, Sequence
 from dataclasses import dataclass, replace
 
-from pertxogai.answers.asking import Asked, Place, ask_styles, finer
+from pertxogai.answers.asking import Asked, Place, ask_styles, finer, written_by
 from pertxogai.answers.faults import Failure, failure
+from pertxogai.answers.limits import check_fits
 from pertxogai.answers.missing import Missing, missing
 from pertxogai.answers.naming import Names
 from pertxogai.answers.solution import solution_of
@@ -20,6 +21,8 @@ from pertxogai.spelling.style import Style
 WITHIN_NM = 2
 """A dimension that is off by no more, once it was left out, repeats the others."""
 WITHIN_PPB = 200
+HOLDS_NM = 1
+"""What was left out holds where it is off by no more."""
 TRIED = 12
 """So many dimensions at most are left out by turns."""
 
@@ -38,6 +41,19 @@ class Surplus:
         if self.off is None:
             return None
         return self.off.amount <= (WITHIN_NM if self.off.unit is Unit.NM else WITHIN_PPB)
+
+
+@dataclass(frozen=True)
+class LeftOut:
+    """What couldn't be spelled, by its name, and how far it is off on the places of the rest;
+    None where there are no places, or an arc's ends are meant."""
+
+    name: str
+    off: Deviation | None
+
+    def holds(self) -> bool:
+        """Whether it was measured, and holds within rounding."""
+        return self.off is not None and self.off.amount <= HOLDS_NM
 
 
 @dataclass(frozen=True)
@@ -75,7 +91,15 @@ class Judgement:
     @property
     def left_out(self) -> tuple[str, ...]:
         """What couldn't be spelled."""
-        return self.names.owners(self.asked.spelled.left_out)
+        return tuple(each.name for each in self.left_out_measured)
+
+    @property
+    def left_out_measured(self) -> tuple[LeftOut, ...]:
+        """What couldn't be spelled, as it was measured all the same."""
+        owners = sorted(each for each in self.asked.spelled.left_out if each.number)
+        return tuple(LeftOut(self.names.owner(each),
+                             None if each.shape else _worst(self.deviations, each.number))
+                     for each in owners)
 
     @property
     def frozen(self) -> tuple[str, ...]:
@@ -112,9 +136,11 @@ class Judgement:
 
 def judge(drawing: Drawing, program: Asks, freeze: bool = False) -> Judgement:
     """What the program says of a drawing. `freeze`: whether lengths and radii that nothing tells
-    may be taken as they are drawn. Raises ProgramError; Refusal where the program takes no such
-    sketch, as one of too many elements; NotHeld where a place or length is larger than the
-    language holds."""
+    may be taken as they are drawn. Raises ProgramError; DrawingRefused where the drawing has
+    more points or constraints than the program takes, or makes both ends of a shape one; Refusal
+    where the program refuses the spelled sketch; NotHeld where a place or length is larger than
+    the language holds."""
+    check_fits(drawing)
     asked = ask_styles(drawing, program, freeze)
     names = Names(drawing, asked.spelled, asked.axes.facts.refs)
     judged = Judgement(asked.check.verdict, asked, names)
@@ -139,7 +165,7 @@ def _placed(judged: Judgement, drawing: Drawing, program: Asks) -> Judgement:
         return min((judged, fine), key=_greatest)
     if solved is None:
         return judged
-    plan = read_plan(program.ask(["plan"], judged.asked.spelled.sketch.text()).text)
+    plan = read_plan(written_by(program, "plan", judged.asked.spelled.sketch.text()))
     return replace(judged, failure=failure(judged.names, solved, plan))
 
 
@@ -173,7 +199,7 @@ def _surplus(judged: Judgement, drawing: Drawing, program: Asks) -> tuple[Surplu
 def _spare(judged: Judgement, program: Asks) -> list[int]:
     """The places of the designer's constraints that the program calls spare, by number."""
     spelled = judged.asked.spelled
-    spare = read_spare(program.ask(["spare"], spelled.sketch.text()).text)
+    spare = read_spare(written_by(program, "spare", spelled.sketch.text()))
     owners = {owner for each in spare for owner in spelled.owners[each.number - 1]}
     return sorted(owner.number for owner in owners if owner.number and not owner.shape)
 

@@ -17,7 +17,7 @@ from pertxogai.drawing.references import (
 from pertxogai.drawing.senses import Slope, Touch, Turn, run_um, touch, turn, way
 from pertxogai.drawing.scene import Scene, points_of, spot_of
 from pertxogai.drawing.sketching import Drawing, Note
-from pertxogai.drawing.soundness import checked, faults
+from pertxogai.drawing.soundness import checked, ends_made_one, faults
 from pertxogai.drawing.wording import line_of, words_of
 from pertxogai.drawing.writing import write_drawing
 
@@ -29,7 +29,7 @@ __all__ = [
     "Perpendicular", "Place", "Point", "PointLineDistance", "PointOn", "PointRef", "Radius",
     "Ratio", "Said", "Scene", "Segment", "Sense", "Shape", "ShapeRef", "Slope", "Spot",
     "Symmetric", "Tangent", "Touch", "Turn", "Vertical", "Which", "WordFault", "XDistance",
-    "X_AXIS", "YDistance", "Y_AXIS", "checked", "faults", "line_of", "place_mm", "points_of",
+    "X_AXIS", "YDistance", "Y_AXIS", "checked", "ends_made_one", "faults", "line_of", "place_mm", "points_of",
     "polyline", "read_drawing", "rectangle", "run_um", "spot_of", "touch", "turn", "um_of_mm",
     "way", "words_of", "write_drawing",
 ]

@@ -27,6 +27,7 @@ def check_constraint(scene: Scene, constraint: Constraint) -> None:
     match constraint:
         case Coincident(first, second):
             _check_points(scene, first, second)
+            _check_not_both_ends(first, second)
         case PointOn(point, curve):
             _check_point_on(scene, point, curve)
         case Horizontal(Pair(first, second)) | Vertical(Pair(first, second)):
@@ -104,6 +105,12 @@ def _check_points(scene: Scene, first: PointRef, second: PointRef) -> None:
     check_point(scene, second)
     if first == second:
         raise WordFault(str(second), "stands twice: write two different points")
+
+
+def _check_not_both_ends(first: PointRef, second: PointRef) -> None:
+    if first.shape == second.shape and {first.which, second.which} == {Which.START, Which.END}:
+        raise WordFault(str(second), f"would leave {first.shape} without a length: write a point "
+                                     "of another shape, or draw a circle or a point instead")
 
 
 def _check_different(first: ShapeRef, second: ShapeRef) -> None:

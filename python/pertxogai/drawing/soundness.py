@@ -2,15 +2,18 @@
 
 from __future__ import annotations
 
+from bisect import bisect_left
 from collections.abc import Iterator
 from fractions import Fraction
 
 from pertxogai.drawing.constraint_checks import check_constraint
+from pertxogai.drawing.constraints import Constraint
 from pertxogai.drawing.geometry import Arc, Circle, Segment, Shape, Spot
 from pertxogai.drawing.kinds import MOST_UM, check_point, check_size
+from pertxogai.drawing.meetings import Meetings
 from pertxogai.drawing.names import check_constraint_name, check_shape_name
 from pertxogai.drawing.numbers import MOST_MM, mm_text
-from pertxogai.drawing.references import PointRef
+from pertxogai.drawing.references import PointRef, Which
 from pertxogai.drawing.refusal import DrawingUnsound, WordFault
 from pertxogai.drawing.scene import Scene, points_of, spot_of
 from pertxogai.drawing.sketching import Drawing
@@ -49,6 +52,24 @@ def _constraint_faults(drawing: Drawing) -> Iterator[DrawingUnsound]:
             check_constraint(drawing.scene, constraint)
         except WordFault as fault:
             yield DrawingUnsound(drawing.called(number), fault.word, fault.what)
+
+
+def ends_made_one(drawing: Drawing) -> tuple[int, str] | None:
+    """The number of the first constraint that leaves both ends of a segment or an arc one point,
+    with the shape's name; None where none does."""
+    def closed(constraints: tuple[Constraint, ...]) -> str | None:
+        meetings = Meetings(Drawing(drawing.geometry, constraints))
+        return next((shape.name for shape in drawing.geometry if isinstance(shape, Segment | Arc)
+                     and meetings.same(PointRef(shape.name, Which.START),
+                                       PointRef(shape.name, Which.END))), None)
+    said = drawing.constraints
+    if closed(said) is None:
+        return None
+    number = bisect_left(range(len(said)), True,
+                         key=lambda count: closed(said[:count + 1]) is not None) + 1
+    name = closed(said[:number])
+    assert name is not None
+    return number, name
 
 
 def check_name(name: str, taken: set[str]) -> None:

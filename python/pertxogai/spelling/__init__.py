@@ -9,6 +9,7 @@ from pertxogai.spelling.axes import Axes
 from pertxogai.spelling.facts import Facts
 from pertxogai.spelling.lines import Lines
 from pertxogai.spelling.lowering import lowered
+from pertxogai.spelling.middles import with_ways
 from pertxogai.spelling.mirrors import with_halves, with_implied
 from pertxogai.spelling.polygons import with_polygons
 from pertxogai.spelling.rails import Rails
@@ -26,19 +27,23 @@ def spell(drawing: Drawing, style: Style) -> Spelled:
 @dataclass(frozen=True)
 class Reading:
     """How a drawing's words are taken. slots: ways between centres along a line are told for
-    radii. middles: regular polygons are told by the middles of opposite corners."""
+    radii. middles: regular polygons are told by the middles of opposite corners. ways: a middle
+    of two points is told along the line through them."""
 
     slots: bool = True
     middles: bool = False
+    ways: bool = False
 
 
-READINGS = (Reading(), Reading(middles=True), Reading(slots=False))
+READINGS = (Reading(), Reading(middles=True), Reading(slots=False), Reading(ways=True))
 """The readings in the order in which they are tried."""
 
 
 def axes_of(drawing: Drawing, reading: Reading = READINGS[0]) -> Axes:
     """What a drawing says of x and y."""
     facts: Facts | None = with_polygons(lowered(drawing), reading.middles)
+    if reading.ways and facts is not None:
+        facts = with_ways(facts)
     if reading.slots and facts is not None:
         facts = with_slots(facts)
     while facts is not None:

@@ -70,11 +70,12 @@ class Axes:
         for leans in lines.leans:
             self.directions.tell(replace(
                 leans, first=lines.leader(leans.first), second=lines.leader(leans.second)))
-        while self._merge_parallels():
-            pass
+        self._merge_parallels()
         self.frames: list[Frame] = []
         self._of_root: dict[Line, Frame] = {}
         self._leans: dict[Line, Lean] = {}
+        self._signs: dict[tuple[int, bool, Knot, Knot], int] = {}
+        self._runs: dict[tuple[int, bool, Knot, Knot], Form] = {}
         self._make_frames()
         self._across = {(self.frame(line).number, self.fixed_axis(line))
                         for line in self.lines.all()}
@@ -131,15 +132,23 @@ class Axes:
 
     # -- frames
 
-    def _merge_parallels(self) -> bool:
-        """Makes the first two parallels that share a point one line; False where there are
-        none."""
-        for first, second in self.lines.sharers():
-            lean = self.directions.between(first, second)
-            if lean is not None and lean.level():
-                self.lines.join(first, second)
-                return True
-        return False
+    def _merge_parallels(self) -> None:
+        """Makes two parallels that share a point one line, the first such in turn."""
+        known: dict[tuple[Line, Line], bool] = {}
+        while True:
+            pair = next((pair for pair in self.lines.sharers()
+                         if self._parallel(known, pair)), None)
+            if pair is None:
+                return
+            self.lines.join(*pair)
+
+    def _parallel(self, known: dict[tuple[Line, Line], bool], pair: tuple[Line, Line]) -> bool:
+        """Whether two lines are parallel, by what is known from before."""
+        found = known.get(pair)
+        if found is None:
+            lean = self.directions.between(*pair)
+            found = known[pair] = lean is not None and lean.level()
+        return found
 
     def _make_frames(self) -> None:
         classes: dict[Line, list[Line]] = {}
@@ -277,8 +286,12 @@ class Axes:
 
     def _sign(self, frame: Frame, upwards: bool, first: Knot, second: Knot) -> int:
         """Which way along an axis the second point is drawn from the first."""
-        start, end = (frame.along(upwards, self.facts.drawn[knot]) for knot in (first, second))
-        return 1 if end >= start else -1
+        key = (frame.number, upwards, first, second)
+        known = self._signs.get(key)
+        if known is None:
+            start, end = (frame.along(upwards, self.facts.drawn[knot]) for knot in (first, second))
+            known = self._signs[key] = 1 if end >= start else -1
+        return known
 
     # -- distances along an axis
 
@@ -349,8 +362,12 @@ class Axes:
         return False
 
     def _run(self, frame: Frame, upwards: bool, fact: Apart) -> Form:
-        first = self.at(frame.number, upwards, fact.first)
-        return self.at(frame.number, upwards, fact.second) - first
+        key = (frame.number, upwards, fact.first, fact.second)
+        known = self._runs.get(key)
+        if known is None:
+            first = self.at(frame.number, upwards, fact.first)
+            known = self._runs[key] = self.at(frame.number, upwards, fact.second) - first
+        return known
 
 
 def _join(group: dict[Knot, Knot], first: Knot, second: Knot) -> bool:

@@ -15,17 +15,30 @@ from pertxogai.values import Form
 
 
 def with_implied(axes: Axes) -> Facts | None:
-    """The facts with the first line that follows to run along an axis of the datum; None where
-    none does."""
+    """The facts with the lines that follow to run so in the datum's frame, the first of each
+    class of lines; None where none does."""
+    found: dict[int, tuple[Line, tuple[Knot, Knot], Lean]] = {}
     for line in axes.lines.all():
-        if axes.frame(line).number == 0:
-            continue
-        for pair in combinations([each.knot for each in axes.lines.members(line)], 2):
-            lean = _lean_of(*map(axes.system.reduced, _way(axes, axes.frames[0], pair)))
-            if lean is not None and (lean.level() or lean.upright() or _has_company(axes, line)):
-                leans = Leans(axes.frames[0].line, line, lean, Owner(0))
-                implied = {**axes.facts.implied, line: pair}
-                return replace(axes.facts, facts=[*axes.facts.facts, leans], implied=implied)
+        frame = axes.frame(line).number
+        if frame and frame not in found:
+            follows = _follows(axes, line)
+            if follows is not None:
+                found[frame] = (line, *follows)
+    if not found:
+        return None
+    leans = [Leans(axes.frames[0].line, line, lean, Owner(0)) for line, _, lean in found.values()]
+    implied = {line: pair for line, pair, _ in found.values()}
+    return replace(axes.facts, facts=[*axes.facts.facts, *leans],
+                   implied={**axes.facts.implied, **implied})
+
+
+def _follows(axes: Axes, line: Line) -> tuple[tuple[Knot, Knot], Lean] | None:
+    """The first two points of a line by which its direction in the datum's frame follows, and
+    how it leans there; None where none do."""
+    for pair in combinations([each.knot for each in axes.lines.members(line)], 2):
+        lean = _lean_of(*map(axes.system.reduced, _way(axes, axes.frames[0], pair)))
+        if lean is not None and (lean.level() or lean.upright() or _has_company(axes, line)):
+            return pair, lean
     return None
 
 
