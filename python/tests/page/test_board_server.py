@@ -256,8 +256,9 @@ def test_a_claim_is_verified_and_exported(client) -> None:
 
 
 def undated(content: bytes) -> bytes:
-    """A DXF without its head, which has the time and a number by chance; anything else whole."""
-    return content[content.find(b"ENTITIES"):] if b"ENTITIES" in content else content
+    """The shapes of a DXF, without what has the time and numbers by chance; all of an SVG."""
+    begins = content.find(b"ENTITIES")
+    return content[begins:content.find(b"ENDSEC", begins)] if begins >= 0 else content
 
 
 def test_exports_are_those_of_the_commands(client, program, tmp_path, monkeypatch) -> None:

@@ -1,0 +1,175 @@
+"""The board in a real browser: Debian's Chromium, without a window."""
+from __future__ import annotations
+
+import json
+from collections.abc import Iterator
+from contextlib import contextmanager
+from dataclasses import dataclass
+from pathlib import Path
+
+from boards import CHROMIUM, DRIVER, Served, wait_for
+from selenium import webdriver
+from selenium.webdriver.chrome.options import Options
+from selenium.webdriver.chrome.service import Service
+from selenium.webdriver.common.action_chains import ActionChains
+from selenium.webdriver.common.by import By
+from selenium.webdriver.common.keys import Keys
+
+SIZE = "1360,860"
+WORDS = ("--headless=new", "--no-sandbox", "--disable-dev-shm-usage", "--disable-gpu",
+         f"--window-size={SIZE}", "--force-device-scale-factor=1", "--disable-extensions",
+         "--no-first-run", "--hide-scrollbars")
+
+
+@dataclass
+class Page:
+    """A tab with the board in it, and where its downloads go."""
+
+    driver: webdriver.Chrome
+    downloads: Path
+
+    # What is shown.
+
+    def open(self, board: Served) -> None:
+        """Opens the board anew, with nothing kept."""
+        self.driver.get(f"{board.guard.address}gallery")
+        self.driver.execute_script("localStorage.clear()")
+        self.driver.get(board.guard.address)
+        self.verdict("empty")
+
+    def verdict(self, kind: str) -> None:
+        """Waits until the verdict is of that kind."""
+        self.wait(f"verdict {kind}", "return document.getElementById('verdict').dataset.verdict"
+                                     f" === {json.dumps(kind)}")
+
+    def wait(self, what: str, script: str) -> object:
+        """Waits until a script gives something true."""
+        return wait_for(what, lambda: self.driver.execute_script(script))
+
+    def told(self, name: str = "verdict") -> str:
+        """What stands in a part of the page."""
+        return self.driver.find_element(By.ID, name).text
+
+    def text(self) -> str:
+        """The drawing's text."""
+        return str(self.driver.execute_script("return document.getElementById('text').value"))
+
+    def count(self, selector: str) -> int:
+        """How many nodes there are."""
+        return len(self.driver.find_elements(By.CSS_SELECTOR, selector))
+
+    def faults(self) -> list[str]:
+        """What the browser complained of, but for a server that is stopped."""
+        return [each["message"] for each in self.driver.get_log("browser")
+                if each["level"] == "SEVERE" and "ERR_CONNECTION" not in each["message"]]
+
+    # What a hand does.
+
+    def keys(self, *keys: str) -> None:
+        """Presses keys on the board."""
+        self.driver.execute_script("document.getElementById('board').focus()")
+        for key in keys:
+            self.driver.switch_to.active_element.send_keys(key)
+
+    def click(self, selector: str) -> None:
+        """Clicks a button."""
+        self.driver.find_element(By.CSS_SELECTOR, selector).click()
+
+    def press(self, x: float, y: float, shift: bool = False, to: tuple[float, float] | None = None
+              ) -> None:
+        """Presses the mouse on the board at a place in pixels, or drags it to another."""
+        board = self.driver.find_element(By.ID, "board")
+        half = board.size["width"] / 2, board.size["height"] / 2
+        chain = ActionChains(self.driver, duration=30)
+        if shift:
+            chain.key_down(Keys.SHIFT)
+        chain.move_to_element_with_offset(board, round(x - half[0]), round(y - half[1]))
+        if to is None:
+            chain.click()
+        else:
+            chain.click_and_hold()
+            for share in (0.3, 0.6, 1):
+                chain.move_to_element_with_offset(
+                    board, round(x + (to[0] - x) * share - half[0]),
+                    round(y + (to[1] - y) * share - half[1]))
+            chain.release()
+        if shift:
+            chain.key_up(Keys.SHIFT)
+        chain.perform()
+
+    def at(self, name: str) -> tuple[float, float]:
+        """Where a point is, or the middle of what a shape is hit by, in pixels of the board."""
+        found = self.driver.execute_script(
+            "const b = document.getElementById('board').getBoundingClientRect();"
+            "const n = document.querySelector(`[data-name='${arguments[0]}'] .dothit`);"
+            "if (n) { const r = n.getBoundingClientRect();"
+            "  return [r.x + r.width / 2 - b.x, r.y + r.height / 2 - b.y]; }"
+            "const p = document.querySelector(`[data-name='${arguments[0]}'] .hit`);"
+            "const m = p.getPointAtLength(p.getTotalLength() * 0.43); return [m.x, m.y];", name)
+        return found[0], found[1]
+
+    def select(self, *names: str) -> None:
+        """Selects points and shapes by the mouse."""
+        self.keys("v")
+        for place, name in enumerate(names):
+            self.press(*self.at(name), shift=place > 0)
+
+    def ask(self, word: str, value: str | None = None) -> None:
+        """Asks for a constraint of the bar, and types its value."""
+        before = self.text()
+        self.wait(word, f"return document.querySelector('#offers [data-word={word}]')")
+        self.click(f"#offers [data-word={word}]")
+        if value is not None:
+            field = self.driver.find_element(By.CSS_SELECTOR, "#value input")
+            field.send_keys(Keys.CONTROL, "a")
+            field.send_keys(value, Keys.ENTER)
+        wait_for(f"{word} in the text", lambda: self.text() != before)
+
+    def type(self, text: str) -> None:
+        """Writes the drawing's text."""
+        self.click("#tab-text")
+        area = self.driver.find_element(By.ID, "text")
+        area.click()
+        self.driver.execute_script(
+            "const t = document.getElementById('text'); t.value = arguments[0];"
+            "t.dispatchEvent(new Event('input'));", text)
+
+    def begin(self, text: str, verdict: str) -> None:
+        """Writes a text, waits for its verdict, and shows all of it."""
+        self.type(text)
+        self.verdict(verdict)
+        self.click("#fit")
+        self.settled()
+
+    def settled(self) -> None:
+        """Waits until the board is drawn."""
+        self.driver.execute_async_script(
+            "const done = arguments[0]; requestAnimationFrame(() => requestAnimationFrame("
+            "() => setTimeout(done, 30)));")
+
+    def downloaded(self, name: str) -> bytes:
+        """The bytes of a file that was downloaded."""
+        path = self.downloads / name
+        wait_for(name, lambda: path.exists() and path.stat().st_size)
+        return path.read_bytes()
+
+
+@contextmanager
+def browser(downloads: Path, dark: bool = False) -> Iterator[Page]:
+    """A browser, while it is used."""
+    options = Options()
+    for word in WORDS:
+        options.add_argument(word)
+    options.binary_location = CHROMIUM or ""
+    options.set_capability("goog:loggingPrefs", {"browser": "ALL"})
+    options.add_experimental_option("prefs", {"download.default_directory": str(downloads)})
+    driver = webdriver.Chrome(service=Service(DRIVER or ""), options=options)
+    if dark:
+        driver.execute_cdp_cmd("Emulation.setEmulatedMedia", {
+            "features": [{"name": "prefers-color-scheme", "value": "dark"}]})
+    driver.execute_cdp_cmd("Page.setDownloadBehavior", {
+        "behavior": "allow", "downloadPath": str(downloads)})
+    try:
+        yield Page(driver, downloads)
+    finally:
+        driver.quit()

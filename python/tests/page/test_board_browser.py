@@ -1,0 +1,248 @@
+"""The board in a real browser: what a designer's hand does, and what is shown."""
+from __future__ import annotations
+
+import os
+from pathlib import Path
+
+import pytest
+
+pytest.importorskip("flask", reason="the board needs Debian's python3-flask")
+pytest.importorskip("selenium", reason="the browser is driven by Debian's python3-selenium")
+
+from boards import CHROMIUM, DRAWINGS, DRIVER, Served, drawing, served  # noqa: E402
+from browsing import Page, browser  # noqa: E402
+from selenium.webdriver.common.by import By  # noqa: E402
+from selenium.webdriver.common.keys import Keys  # noqa: E402
+
+if not (CHROMIUM and DRIVER):
+    pytest.skip("Debian's chromium and chromium-driver aren't there", allow_module_level=True)
+
+PICTURES = os.environ.get("PERTXOGAI_PICTURES")
+"""Where pictures of the board are kept, if that is asked for."""
+
+TRIANGLE = """segment A 0 0 40 0
+segment B A.end 20 30
+segment C B.end A.start
+length A 40
+length B 36
+length C 35
+"""
+
+
+@pytest.fixture(scope="module")
+def board(program):
+    with served(program) as found:
+        yield found
+
+
+@pytest.fixture(scope="module")
+def window(tmp_path_factory):
+    with browser(tmp_path_factory.mktemp("downloads")) as found:
+        yield found
+
+
+@pytest.fixture
+def page(window: Page, board: Served):
+    window.open(board)
+    window.faults()
+    yield window
+    assert window.faults() == []
+
+
+def keep_picture(page: Page, name: str) -> None:
+    """Keeps a picture of the board, where that is asked for."""
+    page.settled()
+    if PICTURES:
+        page.driver.save_screenshot(str(Path(PICTURES) / f"board-{name}.png"))
+
+
+def test_a_triangle_is_drawn_and_dimensioned_until_it_is_well(page: Page) -> None:
+    page.keys("s")
+    page.press(260, 420)
+    page.press(620, 420)
+    page.wait("a segment", "return document.querySelectorAll('.edges [data-name]').length === 1")
+    page.press(500, 180)
+    page.wait("two", "return document.querySelectorAll('.edges [data-name]').length === 2")
+    page.press(260, 420)
+    page.wait("three", "return document.querySelectorAll('.edges [data-name]').length === 3")
+    page.verdict("open")
+    assert "Lacks 3 dimensions" in page.told()
+    page.keys("v")
+    for name, value in (("S1", "50"), ("S2", "40"), ("S3", "45")):
+        page.select(name)
+        page.ask("length", value)
+    page.verdict("well")
+    assert page.text().splitlines()[-3:] == ["length S1 50", "length S2 40", "length S3 45"]
+    assert page.count(".marks [data-constraint]") == 3
+    keep_picture(page, "well")
+
+
+def test_one_too_many_is_taken_away_again(page: Page) -> None:
+    page.begin(drawing("over-plate-contradiction"), "over")
+    assert "contradiction by 1 mm" in page.told()
+    assert page.count(".marks .spare") >= 2
+    keep_picture(page, "over")
+    spare = page.driver.find_elements(By.CSS_SELECTOR, "#verdict [data-spare]")
+    top = next(each for each in spare if "Top width" in each.text)
+    top.find_element(By.TAG_NAME, "button").click()
+    page.verdict("well")
+    assert "Top width:" not in page.text()
+
+
+def test_a_fault_is_shown_at_its_place(page: Page) -> None:
+    page.begin(TRIANGLE.replace("length C 35", "length C 3"), "fault")
+    assert "It misses by" in page.told() and "mm²" in page.told()
+    assert page.count(".faults path") == 3 and page.count(".marks .blamed") == 3
+    page.click("#tab-asked")
+    keep_picture(page, "fault")
+
+
+def test_open_parts_have_their_colours_and_joints(page: Page) -> None:
+    page.begin(drawing("open-hinge"), "open")
+    assert page.count(".joints circle") == 1
+    colours = {each.value_of_css_property("stroke")
+               for each in page.driver.find_elements(By.CSS_SELECTOR, ".edges .shape")}
+    assert len(colours) == 2
+    keep_picture(page, "open")
+
+
+def test_the_construction_is_watched_and_verified(page: Page) -> None:
+    page.begin(drawing("roof-truss"), "well")
+    page.click("#tab-steps")
+    page.wait("the slider", "return document.querySelector('#steps input')")
+    most = page.driver.execute_script("return Number(document.querySelector('#steps input').max)")
+    assert page.count("#steps .tree button") == most
+    page.driver.execute_script(
+        "const r = document.querySelector('#steps input'); r.value = r.max - 0.3;"
+        "r.dispatchEvent(new Event('input'));")
+    page.settled()
+    assert page.count(".construction-layer .cluster") >= 3
+    assert page.count(".construction-layer .locus") == 2
+    keep_picture(page, "construction")
+    page.driver.find_element(By.CSS_SELECTOR, "#steps input").send_keys(Keys.ARROW_LEFT)
+    page.settled()
+    assert f"Step {most - 1} of {most}" in page.told("steps")
+    page.click("#verify")
+    page.wait("verified", "return document.getElementById('verified').textContent")
+    assert page.told("verified").startswith("verified steps ")
+
+
+def test_the_other_shape_of_a_step(page: Page) -> None:
+    page.begin(drawing("arm"), "well")
+    page.click("#tab-steps")
+    page.wait("the switch", "return document.querySelector('#flip')")
+    page.click("#flip")
+    page.wait("the other shape", "return document.querySelector('.other .shape')")
+    before = page.text()
+    page.click("#redraw")
+    page.wait("drawn so", "return !document.querySelector('.other .shape')")
+    page.verdict("well")
+    assert page.text() != before
+
+
+def test_a_file_is_opened_and_its_dxf_is_the_commands(page: Page, program) -> None:
+    page.driver.find_element(By.ID, "file").send_keys(str(DRAWINGS / "bracket.drawing"))
+    page.wait("the text", "return document.getElementById('text').value.includes('circle H1')")
+    page.verdict("well")
+    page.click("#export summary")
+    page.click("[data-export='program-dxf']")
+    language = page.driver.execute_script("return document.getElementById('language').textContent")
+    own = program.ask(["dxf"], language).text
+    assert page.downloaded("bracket-program.dxf") == own.encode()
+    page.click("#export summary")
+    page.click("[data-export='dxf']")
+    assert page.downloaded("bracket.dxf").count(b"\nCIRCLE\n") == 2
+
+
+def test_undo_to_the_start_and_redo(page: Page) -> None:
+    page.keys("r")
+    page.press(200, 400)
+    page.press(500, 200)
+    page.wait("a rectangle", "return document.querySelectorAll('.edges [data-name]').length === 4")
+    page.keys("v")
+    page.select("R1Bottom")
+    page.ask("length", "60")
+    whole = page.text()
+    page.keys(Keys.CONTROL + "z")
+    page.wait("undone", "return !document.getElementById('text').value.includes('length')")
+    page.keys(Keys.CONTROL + "z")
+    page.verdict("empty")
+    assert page.text() == "" and page.count(".edges [data-name]") == 0
+    assert not page.driver.find_element(By.ID, "undo").is_enabled()
+    page.keys(Keys.CONTROL + "y", Keys.CONTROL + "y")
+    page.verdict("open")
+    assert page.text() == whole
+
+
+def test_a_refused_line_is_marked_with_what_to_do(page: Page) -> None:
+    page.begin(TRIANGLE, "well")
+    page.type(TRIANGLE.replace("length B", "lenght B"))
+    page.verdict("refused")
+    assert page.told("refused").startswith("line 5: ‘lenght’")
+    assert "do you mean length?" in page.told("refused")
+    marked = page.driver.find_elements(By.CSS_SELECTOR, "#lines b")
+    assert [each.text.strip() for each in marked] == ["5"]
+    assert page.count(".edges [data-name]") == 3
+    page.type(TRIANGLE)
+    page.verdict("well")
+
+
+def test_a_point_is_dragged_and_a_dimension_changed(page: Page) -> None:
+    page.begin("segment A 0 0 40 0\ncircle C 20 20 5\n", "open")
+    x, y = page.at("C.centre")
+    page.press(x, y, to=(x + 60, y - 40))
+    page.wait("moved", "return !document.getElementById('text').value.includes('circle C 20 20')")
+    page.select("C")
+    page.ask("diameter", "12")
+    mark = page.driver.find_element(By.CSS_SELECTOR, ".marks [data-constraint='1'] text")
+    page.driver.execute_script(
+        "arguments[0].dispatchEvent(new MouseEvent('dblclick', {bubbles: true}))", mark)
+    field = page.driver.find_element(By.CSS_SELECTOR, "#value input")
+    field.send_keys(Keys.CONTROL, "a")
+    field.send_keys("0.5in", Keys.ENTER)
+    page.wait("changed", "return document.getElementById('text').value.includes('diameter C 12.7')")
+
+
+def test_everything_by_the_keyboard(page: Page) -> None:
+    page.keys("s", *[Keys.ARROW_LEFT] * 6, Keys.ENTER, *[Keys.ARROW_RIGHT] * 12, Keys.ENTER)
+    page.wait("a segment", "return document.querySelectorAll('.edges [data-name]').length === 1")
+    page.keys(Keys.ESCAPE, Keys.ESCAPE, Keys.ESCAPE, "]")
+    page.wait("length", "return document.querySelector('#offers [data-word=length]')")
+    letter = page.driver.find_element(
+        By.CSS_SELECTOR, "#offers [data-word=length]").get_attribute("data-letter")
+    page.keys(Keys.ALT + letter)
+    page.driver.switch_to.active_element.send_keys("30", Keys.ENTER)
+    page.verdict("well")
+    assert page.text().splitlines()[-1] == "length S1 30"
+    page.keys(Keys.F2)
+    page.driver.switch_to.active_element.send_keys("Base", Keys.ENTER)
+    page.wait("named", "return document.getElementById('text').value.includes('length Base 30')")
+    page.keys(Keys.DELETE)
+    page.verdict("empty")
+
+
+def test_a_stopped_server_is_told_and_nothing_is_lost(page: Page, board: Served) -> None:
+    page.begin(TRIANGLE, "well")
+    board.stop()
+    try:
+        page.type(TRIANGLE + "horizontal A\n")
+        page.wait("told", "return document.body.dataset.server === 'stopped'")
+        assert "is kept in this browser" in page.told("banner")
+    finally:
+        board.start_again()
+    page.wait("there again", "return document.body.dataset.server === 'there'")
+    page.wait("judged", "return document.querySelectorAll('.marks [data-constraint]').length > 3")
+    page.driver.refresh()
+    page.verdict("well")
+    assert page.text() == TRIANGLE + "horizontal A\n"
+
+
+def test_a_second_tab_is_told(page: Page, board: Served) -> None:
+    first = page.driver.current_window_handle
+    page.driver.switch_to.new_window("tab")
+    page.driver.get(board.guard.address)
+    page.wait("told", "return !document.getElementById('banner').hidden")
+    assert "another tab" in page.told("banner")
+    page.driver.close()
+    page.driver.switch_to.window(first)
+    assert "another tab" in page.told("banner")
