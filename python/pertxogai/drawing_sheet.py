@@ -34,12 +34,11 @@ class DrawingSheet:
         return dxf_text(self._scene().marks, release)
 
     def _scene(self) -> Scene:
-        judged = self.judged
-        if self.as_drawn:
-            return scene_of_designed(judged.drawing, None, judged.name)
-        judgement = judged.judgement
-        if judgement.solution is not None:
-            return scene_of_designed(judged.drawing, judgement.solution, judged.name)
+        judged, judgement = self.judged, self.judged.judgement
+        if self.as_drawn or judgement.solution is not None:
+            solution = None if self.as_drawn else judgement.solution
+            lines = tuple((f"left out: {what}", Ink()) for what in judged.left_out())
+            return scene_of_designed(judged.drawing, solution, judged.name, Marking(legend=lines))
         spare = frozenset(each.number for each in judgement.surplus)
         marking = Marking(parts_of_shapes(judgement), spare, tuple(self._legend()))
         return scene_of_designed(judged.drawing, None, judged.name, marking)

@@ -1,6 +1,7 @@
 """A sketch and all that the program answers to it: one call for people who script CAD."""
 from __future__ import annotations
 
+from collections.abc import Iterator
 from dataclasses import dataclass
 
 from .language import ClusterName, Constraint, Refusal, Sketch
@@ -33,18 +34,23 @@ from .reports import (
 )
 
 
-class TextRefused(Exception):
-    """The program refuses a text. The message is one line: where, the code, and the line
-    itself."""
+MOST_SHOWN = 8
+"""The most constraints that a picture tells below it."""
 
-    def __init__(self, refused: Refused, text: str) -> None:
+
+class TextRefused(Exception):
+    """The program refuses a text. The message is one line: the name of the sketch, where, the
+    code, the line itself, and what to do."""
+
+    def __init__(self, name: str, refused: Refused, text: str) -> None:
         lines = text.split("\n")
         shown = (
             f": {lines[refused.line - 1].strip()[:60]!r}" if 0 < refused.line <= len(lines) else ""
         )
         super().__init__(
-            f"refused line {refused.line} {refused.code.name} {refused.code.word}{shown}; see"
-            " 'How a text is refused' in docs/LANGUAGE.md"
+            f"{name}: refused line {refused.line} {refused.code.name}"
+            f" {refused.code.word}{shown}: {refused.code.advice}; see 'How a text is refused' in"
+            " docs/LANGUAGE.md"
         )
         self.refused = refused
 
@@ -75,7 +81,14 @@ class JudgedSketch:
             return picture_of_shape(self.sketch, self.solved, self.name)
         if self.parts and not as_drawn:
             return picture_of_parts(self.sketch, self.parts, self.spare, self.name)
-        return picture_of_drawing(self.sketch, self.name)
+        return picture_of_drawing(self.sketch, self.name, tuple(self._below(as_drawn)))
+
+    def _below(self, as_drawn: bool) -> Iterator[str]:
+        """What a picture of it as it is drawn tells of its fault."""
+        if self.fault and not as_drawn:
+            yield f"as drawn, has no places: {self.fault.text().strip()}"
+            yield from (f"of {constraint.text()}" for constraint in concerned(self)[:MOST_SHOWN])
+            yield f"what to do: {what_to_do(self.fault)}"
 
     def _repr_svg_(self) -> str:
         return self.picture().svg
@@ -85,7 +98,7 @@ def judge_sketch(name: str, given: Sketch | str, asks: Asks) -> JudgedSketch:
     """Asks the program what there is to say of a sketch, or of a text. Raises TextRefused and
     ProgramError."""
     text = given if isinstance(given, str) else given.text()
-    check = read_check(_done(asks.ask(["check"], text), text).text)
+    check = read_check(_done(name, asks.ask(["check"], text), text).text)
     try:
         sketch = Sketch.parse(text)
     except Refusal as refusal:
@@ -95,26 +108,26 @@ def judge_sketch(name: str, given: Sketch | str, asks: Asks) -> JudgedSketch:
     if check.verdict is Verdict.WELL:
         return _placed(name, sketch, check, text, asks)
     spare = (
-        read_spare(_done(asks.ask(["spare"], text), text).text)
+        read_spare(_done(name, asks.ask(["spare"], text), text).text)
         if check.verdict is Verdict.OVER
         else ()
     )
-    parts = read_parts(_done(asks.ask(["parts"], text), text).text)
+    parts = read_parts(_done(name, asks.ask(["parts"], text), text).text)
     return JudgedSketch(name, sketch, check, spare=spare, parts=parts)
 
 
 def _placed(name: str, sketch: Sketch, check: CheckReport, text: str, asks: Asks) -> JudgedSketch:
     answer = asks.ask(["solve"], text)
     if answer.status in (Status.FAULT, Status.TOLERANCE):
-        plan = read_plan(_done(asks.ask(["plan"], text), text).text)
+        plan = read_plan(_done(name, asks.ask(["plan"], text), text).text)
         return JudgedSketch(name, sketch, check, fault=read_fault(answer.text), plan=plan)
-    return JudgedSketch(name, sketch, check, solved=read_solve(_done(answer, text).text))
+    return JudgedSketch(name, sketch, check, solved=read_solve(_done(name, answer, text).text))
 
 
-def _done(answer: Answer, text: str) -> Answer:
+def _done(name: str, answer: Answer, text: str) -> Answer:
     """The answer, where the command did its work. Raises TextRefused and NotAReport."""
     if answer.status is Status.REFUSED:
-        raise TextRefused(read_refusal(answer.text), text)
+        raise TextRefused(name, read_refusal(answer.text), text)
     if answer.status is not Status.DONE:
         read_answer(("check",), answer)
         raise NotAReport(

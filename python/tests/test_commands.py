@@ -194,6 +194,7 @@ def test_bad_files_are_refused_in_a_line(
         if name != "empty.drawing":
             assert (status, out, err.count("\n")) == (2, "", 1), err
             assert err.startswith("pertxogai: ") and inside in err
+            assert name.partition(".")[0] in err
             assert not (tmp_path / "out.svg").exists()
 
 
@@ -327,3 +328,11 @@ def test_names_that_are_no_text(tmp_path) -> None:
             env={**os.environ, "LC_ALL": "C", "PYTHONIOENCODING": "ascii"},
         )
         assert (done.returncode, done.stderr) == (0, b"")
+
+
+def test_a_picture_tells_what_is_left_out(capsys, tmp_path) -> None:
+    out = tmp_path / "out.svg"
+    file = Path(__file__).parent / "files" / "ellipse.FCStd"
+    for words in (["draw", str(file)], ["draw", "--as-drawn", str(file)]):
+        assert judged(capsys, *words, "-o", str(out))[0] == 0
+        assert "left out: Ellipse" in out.read_text()

@@ -309,3 +309,12 @@ def test_pieces_of_a_drawing_have_colours_and_what_may_go_is_marked() -> None:
     )
     assert {drawing.called(1), "60", "50", "piece 2: B"} <= set(texts_of(svg))
     assert max(map(len, texts_of(svg))) < 80  # what is long goes on in the next line
+
+
+def test_a_sketch_without_places_says_why_below_it(program) -> None:
+    text = TRIANGLE.text().replace("distance A C 5", "distance A C 9")
+    judged = judge_sketch("far", text, program)
+    told = texts_of(judged.picture().svg)
+    assert any(it.startswith("as drawn, has no places: fault s1 build height C gap") for it in told)
+    assert "of distance A C 9" in told and any(it.startswith("what to do:") for it in told)
+    assert "of distance A C 9" not in texts_of(judged.picture(as_drawn=True).svg)

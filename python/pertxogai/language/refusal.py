@@ -40,6 +40,35 @@ class Code(Enum):
         """The word behind the code."""
         return self.value
 
+    @property
+    def advice(self) -> str:
+        """What to do about a text that is refused so, in a few words."""
+        return _ADVICE.get(self, "look at that line")
+
+
+_ADVICE = {
+    Code.E1: "begin the text with `sketch 1` or `sketch 2`",
+    Code.E2: "look for a slip in the first word; comments and blocks take `sketch 2`",
+    Code.E3: "look for a word too many or too few",
+    Code.E4: "write a letter, and up to 15 letters, digits or _",
+    Code.E5: "take another name",
+    Code.E6: "declare that name in a line above",
+    Code.E7: "look which elements the word takes",
+    Code.E8: "write up to 1000000 with a point and three digits behind it at most",
+    Code.E9: "write points that coincide as one point, and a length above 0",
+    Code.E10: "name two elements",
+    Code.E11: "draw the line through two places",
+    Code.E12: "give the radius",
+    Code.E13: "split the sketch: it may have 2000 elements",
+    Code.E14: "split the sketch: it may have 4000 constraints",
+    Code.E15: "write 200 letters at most",
+    Code.E16: "write `end` behind the last line",
+    Code.E17: "take away what stands behind `end`",
+    Code.E18: "write an element: the text has none",
+    Code.E19: "write ASCII: is it a text of the language?",
+    Code.E20: "split the sketch: its text may have 1 MiB",
+}
+
 
 @dataclass(frozen=True)
 class Refused:

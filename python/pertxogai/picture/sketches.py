@@ -41,12 +41,14 @@ BAR = Ink(Manner.BAR)
 SPARE = Ink(Manner.SPARE)
 
 
-def picture_of_drawing(sketch: Sketch, title: str = "a sketch as drawn") -> Picture:
-    """The sketch as it is drawn, with its dimensions."""
+def picture_of_drawing(
+    sketch: Sketch, title: str = "a sketch as drawn", below: Sequence[str] = ()
+) -> Picture:
+    """The sketch as it is drawn, with its dimensions, and lines of text below it."""
     layout = _Layout(sketch, as_drawn(sketch.elements))
-    return picture_of(
-        Scene(title, tuple(layout.marks(Ink())), tuple(layout.dimensions(sketch.constraints, BAR)))
-    )
+    dimensions = tuple(layout.dimensions(sketch.constraints, BAR))
+    legend = tuple((line, Ink()) for line in below)
+    return picture_of(Scene(title, tuple(layout.marks(Ink())), dimensions, legend))
 
 
 def picture_of_shape(sketch: Sketch, shape: Shape, title: str = "a sketch as placed") -> Picture:
