@@ -1,6 +1,7 @@
 /* faults FILE COMMAND: lets the Nth request for memory of a call fail, for N from 1 on until none is reached.
  * Link with -Wl,--wrap=malloc,--wrap=realloc,--wrap=free. After each call all memory is given back, the text is a front
- * of the right one, and the status is the right one, or says that memory ran out. */
+ * of the right one, and the status is the right one, or says that memory ran out: then no text stands, or of a session
+ * whole replies, or where it ran out while the text was gathered some front. */
 #include <stdio.h>
 
 #include "sketch.h"
@@ -30,6 +31,7 @@ enum { MOST = 1 << 20 };
 static uint8_t input[MOST], text[MOST], output[MOST];
 static size_t length, whole;
 static int32_t right;
+static int is_session;
 
 static int32_t call(const char *command, uint8_t *to, size_t *size) {
     return sketch_answer((const uint8_t *)command, strlen(command), input, length, to, MOST, size);
@@ -38,7 +40,8 @@ static int32_t call(const char *command, uint8_t *to, size_t *size) {
 static int is_right(int32_t status, size_t size, long before) {
     if (live != before || size > whole || memcmp(output, text, size) != 0) return 0;
     if (status == right && size == whole) return 1;
-    return status == SKETCH_WRITE_FAULT || (status == SKETCH_NO_MEMORY && size == 0);
+    if (status == SKETCH_NO_MEMORY) return size == 0 || (is_session && output[size - 1] == '\n');
+    return status == SKETCH_WRITE_FAULT;
 }
 
 int main(int count, char **words) {
@@ -47,6 +50,7 @@ int main(int count, char **words) {
     if (file == NULL) return 3;
     length = fread(input, 1, MOST, file);
     fclose(file);
+    is_session = strncmp(words[2], "session", 7) == 0;
     right = call(words[2], text, &whole);
 
     long wrong = 0, requests = 0;
