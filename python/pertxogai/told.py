@@ -46,14 +46,26 @@ def drawing_json(judged: JudgedDrawing) -> dict[str, object]:
     """All of it as one object for JSON. Places are nm in the datum's frame, whole where they
     were printed in it."""
     judgement = judged.judgement
-    solved = judgement.asked.solved if judgement.solution is not None else None
-    placed = isinstance(solved, Solved)
     return {
         "name": judged.name,
         "verdict": judgement.verdict.value,
         "parts": [_part(judgement, part) for part in judgement.asked.check.parts],
+        **_spelled_json(judged),
+        "lacks": judgement.missing.count if judgement.missing else 0,
+        "spare": [_spare(each) for each in judgement.surplus],
+        **_placed_json(judged),
+        "warnings": [each.text() for each in judgement.warnings],
+    }
+
+
+def _spelled_json(judged: JudgedDrawing) -> dict[str, object]:
+    """How it was spelled, and what was not spelled as it is said; `exact` is whether there is
+    none of that."""
+    judgement = judged.judgement
+    return {
         "spelled": judgement.style.value,
-        "exact": not (judgement.frozen or judgement.rounded or judged.left_out()),
+        "exact": not (judgement.frozen or judgement.grown or judgement.rounded
+                      or judged.left_out()),
         "left_out": list(judged.left_out()),
         "left_out_but_holds": [each.name for each in judgement.left_out_measured
                                if each.holds()],
@@ -63,14 +75,20 @@ def drawing_json(judged: JudgedDrawing) -> dict[str, object]:
         "rounded": list(judgement.rounded),
         "repeats": list(judgement.repeats),
         "undimensioned": list(judgement.undimensioned),
-        "lacks": judgement.missing.count if judgement.missing else 0,
-        "spare": [_spare(each) for each in judgement.surplus],
+    }
+
+
+def _placed_json(judged: JudgedDrawing) -> dict[str, object]:
+    """Where it is placed and within what, or the program's fault."""
+    judgement = judged.judgement
+    solved = judgement.asked.solved if judgement.solution is not None else None
+    placed = isinstance(solved, Solved)
+    return {
         "places": _places(judged.drawing, judgement.solution) if judgement.solution else None,
         "length_tolerance_nm": solved.length_tolerance_nm if isinstance(solved, Solved) else None,
         "angle_tolerance_ppb": solved.angle_tolerance_ppb if isinstance(solved, Solved) else None,
         "fault": _fault(judgement) if not placed else None,
         "deviations": [_deviation(each, judged.drawing) for each in judged.worst()],
-        "warnings": [each.text() for each in judgement.warnings],
     }
 
 

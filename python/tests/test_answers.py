@@ -13,6 +13,7 @@ from pertxogai.drawing import PointRef, Which, read_drawing
 from pertxogai.measure import Solution, Unit
 from pertxogai.reports import Verdict
 from pertxogai.spelling import Style
+from pertxogai.told import JudgedDrawing, drawing_json, told
 
 PLATE = """rectangle Plate 0 0 61 39
 coincident PlateBottom.start Origin
@@ -237,3 +238,19 @@ def test_a_drawing_of_too_many_points_is_refused_before_the_program_is_asked():
     text = "\n".join(f"segment S{each} {each} 0 {each} 5" for each in range(1001))
     with pytest.raises(DrawingRefused, match="^2002 points are drawn, and the program takes 2000"):
         judge(read_drawing(text), None)
+
+
+def test_what_to_do_is_told_of_five_pairs_at_most(program):
+    drawing = read_drawing("\n".join(f"point P{each} {each} {each * each}" for each in range(9)))
+    lines = list(told(JudgedDrawing("loose", drawing, judge(drawing, program))))
+    assert sum(line.startswith("  what to do: pieces 1 and") for line in lines) == 5
+    assert lines[-1] == "  and 3 more pairs of pieces"
+
+
+def test_json_tells_what_is_left_out_and_what_of_it_holds(program):
+    drawing = read_drawing("point A 0 0\npoint B 10 0\npoint M 5 0\npoint C 5 12\n"
+                           "Half: symmetric A B about M\ndistance A C 13\ndistance B C 13\n"
+                           "distance M C 12\ndistance A M 5\ndistance B M 5\n")
+    found = drawing_json(JudgedDrawing("half", drawing, judge(drawing, program)))
+    assert found["left_out"] == found["left_out_but_holds"] == ["Half"]
+    assert found["exact"] is False and found["spelled"] == "values"

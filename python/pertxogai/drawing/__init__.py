@@ -29,7 +29,7 @@ __all__ = [
     "Perpendicular", "Place", "Point", "PointLineDistance", "PointOn", "PointRef", "Radius",
     "Ratio", "Said", "Scene", "Segment", "Sense", "Shape", "ShapeRef", "Slope", "Spot",
     "Symmetric", "Tangent", "Touch", "Turn", "Vertical", "Which", "WordFault", "XDistance",
-    "X_AXIS", "YDistance", "Y_AXIS", "checked", "ends_made_one", "faults", "line_of", "place_mm", "points_of",
-    "polyline", "read_drawing", "rectangle", "run_um", "spot_of", "touch", "turn", "um_of_mm",
+    "X_AXIS", "YDistance", "Y_AXIS", "checked", "ends_made_one", "faults", "line_of", "place_mm",
+    "points_of", "polyline", "read_drawing", "rectangle", "run_um", "spot_of", "touch", "turn", "um_of_mm",
     "way", "words_of", "write_drawing",
 ]
