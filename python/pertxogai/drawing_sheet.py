@@ -11,6 +11,10 @@ from pertxogai.shape_parts import parts_of_shapes
 from pertxogai.told import JudgedDrawing, told
 
 
+MOST_SHOWN = 8
+"""The most things left out that a picture tells below it."""
+
+
 class NoPlaces(Exception):
     """A drawing that has no places can't be drawn as placed. The message is one line."""
 
@@ -37,11 +41,18 @@ class DrawingSheet:
         judged, judgement = self.judged, self.judged.judgement
         if self.as_drawn or judgement.solution is not None:
             solution = None if self.as_drawn else judgement.solution
-            lines = tuple((f"left out: {what}", Ink()) for what in judged.left_out())
-            return scene_of_designed(judged.drawing, solution, judged.name, Marking(legend=lines))
+            marking = Marking(legend=tuple((line, Ink()) for line in self._left_out()))
+            return scene_of_designed(judged.drawing, solution, judged.name, marking)
         spare = frozenset(each.number for each in judgement.surplus)
         marking = Marking(parts_of_shapes(judgement), spare, tuple(self._legend()))
         return scene_of_designed(judged.drawing, None, judged.name, marking)
+
+    def _left_out(self) -> Iterator[str]:
+        """What the picture lacks; where that is much, how much more."""
+        left_out = self.judged.left_out()
+        yield from (f"left out: {what}" for what in left_out[:MOST_SHOWN])
+        if len(left_out) > MOST_SHOWN:
+            yield f"and {len(left_out) - MOST_SHOWN} more: see ./pertxogai judge"
 
     def _legend(self) -> Iterator[tuple[str, Ink]]:
         """What was judged, each piece in its colour."""

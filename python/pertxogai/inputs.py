@@ -112,14 +112,19 @@ def _read_outline(path: Path) -> tuple[Input, ...]:
 
 
 def _found(found: FoundSketch) -> DesignerDrawing:
-    aside = tuple(f"{each.name} ({each.why.value})" for each in found.aside)
+    aside = tuple(_printable(f"{each.name} ({each.why.value})") for each in found.aside)
     return DesignerDrawing(
-        found.label or found.name,
+        _printable(found.label or found.name),
         found.drawing,
-        tuple(map(str, found.left_out)),
+        tuple(_printable(str(each)) for each in found.left_out),
         found.name,
         aside,
     )
+
+
+def _printable(text: str) -> str:
+    """A text of a file without what would steer a terminal or break a picture."""
+    return "".join(letter if letter.isprintable() else "\ufffd" for letter in text)
 
 
 def _write_freecad(path: Path, out: Path, solutions: Mapping[str, Solution]) -> None:

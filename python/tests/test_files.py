@@ -3,6 +3,7 @@ from __future__ import annotations
 
 import json
 import math
+import xml.etree.ElementTree as ElementTree
 from pathlib import Path
 from typing import Any
 
@@ -141,3 +142,13 @@ def test_a_dxf_outline_is_dimensioned_by_nothing(capsys: pytest.CaptureFixture[s
     assert called(capsys, "draw", FILES / "plate.FCStd", "-o", out)[0] == 0
     sketch = sketch_of(capsys, out)
     assert sketch["verdict"] == "open" and sketch["places"] is None
+
+
+def test_names_do_not_steer_a_terminal(capsys: pytest.CaptureFixture[str], tmp_path: Path) -> None:
+    whole = (Path(__file__).parent / "files" / "slot.slvs").read_bytes()
+    path, out = tmp_path / "a.slvs", tmp_path / "a.svg"
+    path.write_bytes(whole.replace(b"Group.name=sketch-in-plane", b"Group.name=a\x01\x1b[31m<b>&"))
+    assert main(["draw", str(path), "-o", str(out)]) == 0
+    assert ElementTree.parse(out).getroot().tag.endswith("svg")
+    main(["judge", str(path)])
+    assert "\x1b" not in capsys.readouterr().out
