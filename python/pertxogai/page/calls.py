@@ -1,13 +1,14 @@
 """The calls of the page: each takes an object of JSON and gives one."""
 from __future__ import annotations
 
+import json
 from collections.abc import Callable, Mapping
 from dataclasses import dataclass, field
 from fractions import Fraction
 from typing import TypeAlias
 
 from ..answers import DrawingRefused
-from ..drawing import DrawingRefusal, DrawingUnsound, Place, WordFault, checked
+from ..drawing import Drawing, DrawingRefusal, DrawingUnsound, Place, WordFault, checked
 from ..drawing_sheet import DrawingSheet, NoPlaces
 from ..dxf import MissingLibrary, Release
 from ..found import FileRefusal
@@ -57,13 +58,29 @@ class Desk:
         except (Refusal, NotHeld) as error:
             return trouble("language", f"the program takes no such sketch: {error}")
 
+    def text(self, name: str, given: object) -> str:
+        """What a call gives, as JSON."""
+        return json.dumps(self.answer(name, given))
+
     def judged(self, text: str) -> Judged:
         """The drawing of a text, with a program to ask. Raises DrawingRefusal."""
-        found = self.kept.pop(text, None) or Judged(read_document(text), self.program)
-        self.kept[text] = found
+        return self.keep(text, self.kept.get(text) or Judged(read_document(text), self.program))
+
+    def keep(self, text: str, judged: Judged) -> Judged:
+        """Keeps a drawing by its text, as the latest; the one that was asked for longest ago
+        goes."""
+        self.kept.pop(text, None)
+        self.kept[text] = judged
         while len(self.kept) > KEPT:
             del self.kept[next(iter(self.kept))]
-        return found
+        return judged
+
+    def edited(self, drawing: Drawing) -> str:
+        """The text of a drawing that was edited, which is kept as what it reads as. Raises
+        DrawingUnsound."""
+        text = write_document(checked(drawing))
+        self.keep(text, Judged(drawing, self.program))
+        return text
 
 
 def trouble(kind: str, message: str) -> Json:
@@ -94,15 +111,14 @@ def _whole(desk: Desk, text: str) -> Json:
 
 def _edit(desk: Desk, given: Fields) -> Json:
     """The text that an edit makes of a text, and all that `judge` tells of it."""
-    drawing = read_document(given.text("text"))
-    edited = checked(read_edit(drawing, Fields.of(given.values.get("edit"))).on(drawing))
-    return _whole(desk, write_document(edited))
+    drawing = desk.judged(given.text("text")).drawing
+    edit = read_edit(drawing, Fields.of(given.values.get("edit")))
+    return _whole(desk, desk.edited(edit.on(drawing)))
 
 
 def _offers(desk: Desk, given: Fields) -> Json:
     """Which constraints fit some points and shapes."""
-    drawing = read_document(given.text("text"))
-    found = offers(drawing, given.texts("names"))
+    found = offers(desk.judged(given.text("text")).drawing, given.texts("names"))
     return {"offers": [{"words": list(each.words), "value": each.value} for each in found]}
 
 
@@ -134,8 +150,7 @@ def _redraw(desk: Desk, given: Fields) -> Json:
     solution = found.solution
     moves = tuple((ref, _place(solution.spot(ref))) for ref in judged.drawing.points())
     radii = tuple((name, solution.radius(name) / 1000) for name in solution.radii)
-    edited = checked(Move(moves, radii).on(judged.drawing))
-    return _whole(desk, write_document(edited))
+    return _whole(desk, desk.edited(Move(moves, radii).on(judged.drawing)))
 
 
 def _place(spot: tuple[Fraction, Fraction]) -> Place:

@@ -35,8 +35,8 @@ HEADERS = {
 class Answers(Protocol):
     """What answers a call by its name."""
 
-    def answer(self, call: str, given: object) -> Mapping[str, object]:
-        """What it gives. Raises Busy."""
+    def text(self, call: str, given: object) -> str:
+        """What it gives, as JSON. Raises Busy."""
         ...
 
 
@@ -108,7 +108,7 @@ def _caller(answers: Answers) -> Callable[[str, str], Response]:
         except (ValueError, RecursionError):
             return _json(trouble("request", "what was given is no JSON"), 400)
         try:
-            return _json(answers.answer(name, given))
+            return Response(answers.text(name, given), mimetype="application/json")
         except Busy:
             return _json(trouble("busy", "four calls are being answered: wait, and try again"), 503)
 

@@ -21,14 +21,15 @@ from .spots import leader_of
 Json = dict[str, object]
 
 
-def drawing_shown(drawing: Drawing) -> Json:
-    """The shapes where they are drawn, and the constraints."""
+def drawing_shown(drawing: Drawing, solution: Solution | None = None) -> Json:
+    """The shapes where they are drawn, the constraints, and their marks where all is placed, or
+    drawn."""
     where = Whereabouts(drawing, None)
     return {
         "shapes": [_shape(where, shape) for shape in drawing.geometry],
         "constraints": [_constraint(drawing, number, each)
                         for number, each in enumerate(drawing.constraints, 1)],
-        "marks": list(marks(where)),
+        "marks": list(marks(Whereabouts(drawing, solution))),
     }
 
 
@@ -62,7 +63,6 @@ def judgement_shown(drawing: Drawing, judgement: Judgement, parts: Iterable[Laid
         **drawing_json(judged),
         "told": list(told(judged)),
         "placed": _placed(drawing, solution) if solution is not None else None,
-        "marks": list(marks(Whereabouts(drawing, solution))) if solution is not None else None,
         "laid": [_laid(part) for part in parts],
         "colours": dict(parts_of_shapes(judgement)),
         "missing": _missing(judgement),

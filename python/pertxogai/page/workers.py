@@ -8,7 +8,6 @@ import selectors
 import signal
 import subprocess
 import sys
-from collections.abc import Mapping
 from contextlib import suppress
 from dataclasses import dataclass, field
 from pathlib import Path
@@ -59,8 +58,8 @@ class Worker:
             env={**os.environ, "PYTHONPATH": path}, bufsize=0)
         return Worker(process, bounds.seconds)
 
-    def answer(self, call: str, given: object) -> Mapping[str, object]:
-        """What the worker answers. Raises WorkerLost."""
+    def text(self, call: str, given: object) -> str:
+        """What the worker answers, as JSON. Raises WorkerLost."""
         line = json.dumps({"call": call, "given": given}).encode() + b"\n"
         ends = monotonic() + self.seconds + GRACE
         pipe = self.process.stdin
@@ -71,9 +70,7 @@ class Worker:
                 left = left[pipe.write(left):]
         except OSError:
             raise WorkerLost("the call ended before it was answered: try it again") from None
-        found: object = json.loads(self._line(ends))
-        assert isinstance(found, dict)
-        return found
+        return self._line(ends).decode("ascii")
 
     def _line(self, ends: float) -> bytes:
         pipe = self.process.stdout
@@ -117,15 +114,15 @@ class Workers:
         self._busy = 0
         self._lock = Lock()
 
-    def answer(self, call: str, given: object) -> Mapping[str, object]:
-        """What a free worker answers. Raises Busy."""
+    def text(self, call: str, given: object) -> str:
+        """What a free worker answers, as JSON. Raises Busy."""
         worker = self._taken()
         try:
-            found = worker.answer(call, given)
+            found = worker.text(call, given)
         except (WorkerLost, ValueError) as error:
             worker.stop()
             self._back(None)
-            return trouble("stopped", str(error))
+            return json.dumps(trouble("stopped", str(error)))
         except BaseException:
             worker.stop()
             self._back(None)

@@ -151,7 +151,7 @@ def test_of_ten_calls_at_once_four_are_answered(tmp_path, workers) -> None:
 def test_a_program_that_takes_too_long_is_stopped(tmp_path, workers) -> None:
     slow = workers(script(tmp_path / "slow", "exec sleep 60\n"), Bounds(0.5, 0))
     began = time.monotonic()
-    found = slow.answer("judge", SEGMENT)
+    found = json.loads(slow.text("judge", SEGMENT))
     assert "took over 0.5 s" in found["trouble"]["message"]
     assert time.monotonic() - began < 5
 
@@ -161,17 +161,17 @@ def test_a_worker_that_hangs_is_stopped_and_another_starts(tmp_path, workers) ->
     worker = hangs._taken()
     os.kill(worker.process.pid, signal.SIGSTOP)
     hangs._back(worker)
-    found = hangs.answer("judge", {"text": ""})
+    found = json.loads(hangs.text("judge", {"text": ""}))
     assert found["trouble"]["kind"] == "stopped"
     assert worker.process.poll() is not None
     later = Workers(str(tmp_path / "no"), Bounds(20, 0))
-    assert later.answer("judge", {"text": ""})["judgement"] is None
+    assert json.loads(later.text("judge", {"text": ""}))["judgement"] is None
     later.stop()
 
 
 def test_a_worker_has_a_limit_of_memory(tmp_path, workers) -> None:
     made = workers(script(tmp_path / "no", "exit 1\n"), Bounds(20, 321))
-    made.answer("judge", {"text": ""})
+    made.text("judge", {"text": ""})
     (worker,) = made._free
     limits = Path(f"/proc/{worker.process.pid}/limits").read_text(encoding="ascii")
     line = next(each for each in limits.splitlines() if each.startswith("Max address space"))
@@ -187,7 +187,7 @@ def test_a_drawing_that_is_well_is_placed(client) -> None:
     assert judgement["placed"]["points"]["Hole.centre"] == [45, 30]
     assert judgement["placed"]["radii"] == {"Hole": 6}
     assert judgement["language"].startswith("sketch 1\n")
-    assert [each["text"] for each in judgement["marks"] if "bar" in each][:2] == ["120", "80"]
+    assert [each["text"] for each in found["drawing"]["marks"] if "bar" in each][:2] == ["120", "80"]
 
 
 def test_an_over_drawing_names_what_may_go(client) -> None:

@@ -59,7 +59,7 @@ export class Board {
     const layers = views.length ? [this.faint(drawing)] : [];
     layers.push(this.edges(drawing, views));
     if (this.other) layers.push(this.shapes(drawing, this.other, { still: true, all: true, kind: 'other' }));
-    layers.push(this.marks(judgement?.marks ?? drawing.marks ?? [], judgement), this.dots(drawing, views), this.joints(judgement), this.faults(judgement));
+    layers.push(this.marks(drawing.marks, judgement), this.dots(drawing, views), this.joints(judgement), this.faults(judgement));
     return layers;
   }
 

@@ -89,17 +89,17 @@ export class VerdictPanel {
 function surplus(each) {
   if (each.off === null) return 'may go';
   if (each.repeats) return 'a repeat';
-  return `a contradiction by ${each.unit === 'nm' ? millimetres(each.off) : `${each.off} ${each.unit}`}`;
+  return `a contradiction by ${each.unit === 'nm' ? millimetres(each.off) : `${each.off}\u00a0${each.unit}`}`;
 }
 
 /** Nanometres as millimetres, whole. */
 function millimetres(nm) {
   const text = (BigInt(nm) + 0n).toString().padStart(7, '0');
-  return `${text.slice(0, -6)}.${text.slice(-6)}`.replace(/\.?0+$/, '') + ' mm';
+  return `${text.slice(0, -6)}.${text.slice(-6)}`.replace(/\.?0+$/, '') + '\u00a0mm';
 }
 
 /** By how much a number misses what it has to be. */
 function gap({ low, high, unit }) {
   const amount = Math.abs((low + high) / 2);
-  return `It misses by ${Number(amount.toPrecision(6))}${unit ? ` ${unit}` : ''}.`;
+  return `It misses by ${Number(amount.toPrecision(6))}${unit ? `\u00a0${unit}` : ''}.`;
 }

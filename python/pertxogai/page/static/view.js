@@ -40,7 +40,7 @@ export class View {
     const xs = places.map((place) => place[0]);
     const ys = places.map((place) => place[1]);
     const [left, right, low, high] = places.length ? [Math.min(...xs), Math.max(...xs), Math.min(...ys), Math.max(...ys)] : [-10, 110, -10, 70];
-    const room = 70;
+    const room = 84;
     const wide = Math.max(right - left, 1e-3);
     const tall = Math.max(high - low, 1e-3);
     this.scale = Math.min(40, MOST, Math.max(LEAST, Math.min((width - 2 * room) / wide, (height - 2 * room) / tall)));
