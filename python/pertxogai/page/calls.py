@@ -95,18 +95,20 @@ def _judge(desk: Desk, given: Fields) -> Json:
 
 def _whole(desk: Desk, text: str) -> Json:
     judged = desk.judged(text)
-    answer: Json = {"text": text, "drawing": drawing_shown(judged.drawing), "judgement": None}
-    if not judged.drawing.geometry:
-        return answer
+    answer: Json = {"text": text, "judgement": None}
+    solution = None
     try:
-        answer["judgement"] = judgement_shown(judged.drawing, judged.judgement, judged.parts())
+        if judged.drawing.geometry:
+            parts = judged.parts()
+            answer["judgement"] = judgement_shown(judged.drawing, judged.judgement, parts)
+            solution = judged.judgement.solution
     except DrawingRefused as error:
         answer |= trouble("language", str(error))
     except ProgramError as error:
         answer |= trouble("program", str(error))
     except (Refusal, NotHeld) as error:
         answer |= trouble("language", f"the program takes no such sketch: {error}")
-    return answer
+    return {**answer, "drawing": drawing_shown(judged.drawing, solution)}
 
 
 def _edit(desk: Desk, given: Fields) -> Json:

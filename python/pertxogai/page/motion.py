@@ -31,20 +31,26 @@ class Motion:
 STILL = Motion()
 
 
-def laid(pairs: Sequence[tuple[Spot, Spot]]) -> Motion:
+def laid(pairs: Sequence[tuple[Spot, Spot]], turn: Motion | None = None) -> Motion:
     """The motion that brings the first of each pair nearest to the second, by the squares of
-    the distances; a shift alone where they have no direction."""
+    the distances; a shift alone where they have no direction. `turn`: how it has to turn."""
     if not pairs:
-        return STILL
-    size = len(pairs)
-    (ax, ay), (bx, by) = (
-        (sum(pair[side][0] for pair in pairs) / size, sum(pair[side][1] for pair in pairs) / size)
-        for side in (0, 1)
-    )
+        return turn or STILL
+    (ax, ay), (bx, by) = _middle([first for first, _ in pairs]), _middle([it for _, it in pairs])
+    cos, sin = (turn.cos, turn.sin) if turn else _turn(pairs, (ax, ay), (bx, by))
+    return Motion(cos, sin, bx - cos * ax + sin * ay, by - sin * ax - cos * ay)
+
+
+def _middle(spots: Sequence[Spot]) -> Spot:
+    return sum(x for x, _ in spots) / len(spots), sum(y for _, y in spots) / len(spots)
+
+
+def _turn(pairs: Sequence[tuple[Spot, Spot]], first: Spot, second: Spot) -> Spot:
+    """The cosine and sine of the best turn about the two middles."""
+    (ax, ay), (bx, by) = first, second
     dot = cross = 0.0
     for (x, y), (u, v) in pairs:
         dot += (x - ax) * (u - bx) + (y - ay) * (v - by)
         cross += (x - ax) * (v - by) - (y - ay) * (u - bx)
     length = math.hypot(dot, cross)
-    cos, sin = (dot / length, cross / length) if length > 1e-9 else (1.0, 0.0)
-    return Motion(cos, sin, bx - cos * ax + sin * ay, by - sin * ax - cos * ay)
+    return (dot / length, cross / length) if length > 1e-9 else (1.0, 0.0)

@@ -5,14 +5,16 @@ from collections.abc import Iterator
 from dataclasses import dataclass
 
 from ..answers import Judgement
-from ..drawing import Circle, PointRef, points_of
+from ..answers.placing import Plate
+from ..drawing import ORIGIN, Circle, PointRef, points_of
 from ..drawing.geometry import Arc
 from ..language import PlacedPoint
 from ..program import Asks
 from ..reports import PlacedPart, Solved, read_parts
+from ..spelling.axes import DATUM
 from ..spelling.facts import RadiusOf
 from ..values import Form
-from .motion import Spot, laid
+from .motion import Motion, Spot, laid
 
 
 @dataclass(frozen=True)
@@ -56,9 +58,25 @@ def _points(judgement: Judgement, shape: Solved,
     scale = judgement.asked.spelled.scale * 1e6
     placed = {ref: (each.x_nm / scale, each.y_nm / scale) for each in shape.places
               if isinstance(each, PlacedPoint) for ref in refs.get(each.name, ())}
-    pairs = [(spot, drawn(judgement, ref)) for ref, spot in placed.items()]
-    motion = laid(pairs)
+    motion = laid(_pairs(judgement, placed), _level(judgement, shape))
     return {ref: motion.of(spot) for ref, spot in placed.items()}
+
+
+def _pairs(judgement: Judgement, placed: dict[PointRef, Spot]) -> list[tuple[Spot, Spot]]:
+    """What is laid on what: the origin on the datum's where it is there, else each point, as
+    placed, on where it is drawn."""
+    if ORIGIN in placed:
+        return [(placed[ORIGIN], (0.0, 0.0))]
+    meetings = judgement.names.drawing.meetings
+    return [(spot, drawn(judgement, ref)) for ref, spot in placed.items()
+            if meetings.leader(ref) == ref]
+
+
+def _level(judgement: Judgement, shape: Solved) -> Motion | None:
+    """How a part turns whose lines are told from the datum's axes; None where none is."""
+    spelled = judgement.asked.spelled
+    axis = Plate.of(shape.places, spelled.scale).axis(spelled.headings, DATUM)
+    return Motion(float(axis[0]), -float(axis[1])) if axis else None
 
 
 def drawn(judgement: Judgement, ref: PointRef) -> Spot:

@@ -15,7 +15,7 @@ from selenium.webdriver.common.action_chains import ActionChains
 from selenium.webdriver.common.by import By
 from selenium.webdriver.common.keys import Keys
 
-SIZE = "1360,860"
+SIZE = "1360,900"
 WORDS = ("--headless=new", "--no-sandbox", "--disable-dev-shm-usage", "--disable-gpu",
          f"--window-size={SIZE}", "--force-device-scale-factor=1", "--disable-extensions",
          "--no-first-run", "--hide-scrollbars")

@@ -56,6 +56,47 @@ def keep_picture(page: Page, name: str) -> None:
         page.driver.save_screenshot(str(Path(PICTURES) / f"board-{name}.png"))
 
 
+def test_the_trial_of_a_new_user(page: Page) -> None:
+    """The trial of docs/BOARD.md: a plate with a hole, from nothing to the DXF."""
+    page.keys("r")
+    page.press(250, 420)
+    page.press(650, 180)
+    page.wait("a plate", "return document.querySelectorAll('.edges [data-name]').length === 4")
+    page.keys("c")
+    page.press(370, 320)
+    page.press(405, 320)
+    page.wait("a hole", "return document.querySelectorAll('.edges [data-name]').length === 5")
+    page.verdict("open")
+    page.select("R1Bottom.start", "Origin")
+    page.ask("coincident")
+    page.select("R1Bottom")
+    page.ask("length", "100")
+    page.select("R1Right")
+    page.ask("length", "60")
+    page.wait("its pieces", "return document.querySelectorAll('#verdict .chip').length === 2")
+    keep_picture(page, "open")
+    page.select("C1")
+    page.ask("diameter", "20")
+    page.select("C1.centre")
+    page.ask("x", "40")
+    page.ask("y", "30")
+    page.verdict("well")
+    page.click("#fit")
+    keep_picture(page, "well")
+    page.select("C1.centre", "R1Right")
+    page.ask("distance", "55")
+    page.verdict("over")
+    assert "contradiction by 5" in page.told()
+    keep_picture(page, "over")
+    spare = page.driver.find_elements(By.CSS_SELECTOR, "#verdict [data-spare]")
+    last = next(each for each in spare if "R1Right 55" in each.text)
+    last.find_element(By.TAG_NAME, "button").click()
+    page.verdict("well")
+    page.click("#export summary")
+    page.click("[data-export='dxf']")
+    assert page.downloaded("drawing.dxf").count(b"\nLINE\n") == 4
+
+
 def test_a_triangle_is_drawn_and_dimensioned_until_it_is_well(page: Page) -> None:
     page.keys("s")
     page.press(260, 420)
@@ -74,14 +115,12 @@ def test_a_triangle_is_drawn_and_dimensioned_until_it_is_well(page: Page) -> Non
     page.verdict("well")
     assert page.text().splitlines()[-3:] == ["length S1 50", "length S2 40", "length S3 45"]
     assert page.count(".marks [data-constraint]") == 3
-    keep_picture(page, "well")
 
 
 def test_one_too_many_is_taken_away_again(page: Page) -> None:
     page.begin(drawing("over-plate-contradiction"), "over")
     assert "contradiction by 1 mm" in page.told()
     assert page.count(".marks .spare") >= 2
-    keep_picture(page, "over")
     spare = page.driver.find_elements(By.CSS_SELECTOR, "#verdict [data-spare]")
     top = next(each for each in spare if "Top width" in each.text)
     top.find_element(By.TAG_NAME, "button").click()
@@ -103,7 +142,6 @@ def test_open_parts_have_their_colours_and_joints(page: Page) -> None:
     colours = {each.value_of_css_property("stroke")
                for each in page.driver.find_elements(By.CSS_SELECTOR, ".edges .shape")}
     assert len(colours) == 2
-    keep_picture(page, "open")
 
 
 def test_the_construction_is_watched_and_verified(page: Page) -> None:
@@ -118,7 +156,6 @@ def test_the_construction_is_watched_and_verified(page: Page) -> None:
     page.settled()
     assert page.count(".construction-layer .cluster") >= 3
     assert page.count(".construction-layer .locus") == 2
-    keep_picture(page, "construction")
     page.driver.find_element(By.CSS_SELECTOR, "#steps input").send_keys(Keys.ARROW_LEFT)
     page.settled()
     assert f"Step {most - 1} of {most}" in page.told("steps")
@@ -131,6 +168,10 @@ def test_the_other_shape_of_a_step(page: Page) -> None:
     page.begin(drawing("arm"), "well")
     page.click("#tab-steps")
     page.wait("the switch", "return document.querySelector('#flip')")
+    page.driver.execute_script(
+        "const r = document.querySelector('#steps input'); r.value = r.max - 0.36;"
+        "r.dispatchEvent(new Event('input'));")
+    keep_picture(page, "construction")
     page.click("#flip")
     page.wait("the other shape", "return document.querySelector('.other .shape')")
     before = page.text()

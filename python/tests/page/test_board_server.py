@@ -187,7 +187,9 @@ def test_a_drawing_that_is_well_is_placed(client) -> None:
     assert judgement["placed"]["points"]["Hole.centre"] == [45, 30]
     assert judgement["placed"]["radii"] == {"Hole": 6}
     assert judgement["language"].startswith("sketch 1\n")
-    assert [each["text"] for each in found["drawing"]["marks"] if "bar" in each][:2] == ["120", "80"]
+    bars = [each for each in found["drawing"]["marks"] if "bar" in each]
+    assert [each["text"] for each in bars][:2] == ["120", "80"]
+    assert bars[0]["bar"] == [[0, 0], [120, 0]]
 
 
 def test_an_over_drawing_names_what_may_go(client) -> None:
