@@ -61,7 +61,8 @@ export class Files {
   /** Shows the drawings to begin from. */
   async gallery() {
     const drawings = await this.paper.queue(() => this.paper.server.gallery());
-    if (drawings) this.choose('Begin from', drawings, (each) => this.begin(each.text, each.name));
+    const all = [...this.keeping.unsaved(), ...(drawings ?? [])];
+    if (all.length) this.choose('Begin from', all, (each) => this.begin(each.text, each.name));
   }
 
   /** Saves the drawing's text. */
