@@ -248,7 +248,7 @@ point B 6926123 7911915
 point C -2922352 9646143
 length tolerance 1 nm at c1
 angle tolerance 0 ppb at none
-$ solve frame=drawn bits=16
+$ solve frame=drawn bits=16 place=boxes
 sketch 1
 point A 0.5 0.25
 point B 7 8
