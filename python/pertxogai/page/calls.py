@@ -25,6 +25,7 @@ from .fields import FieldRefused, Fields
 from .judging import Judged, NotPlaced
 from .offers import offers
 from .opening import opened
+from .parts_laid import shown_between
 from .shown import drawing_shown, judgement_shown, places_shown
 
 Json: TypeAlias = dict[str, object]
@@ -102,6 +103,8 @@ def _whole(desk: Desk, text: str) -> Json:
             parts = judged.parts()
             answer["judgement"] = judgement_shown(judged.drawing, judged.judgement, parts)
             solution = judged.judgement.solution
+            if solution is None and parts:
+                solution = shown_between(judged.drawing, parts)
     except DrawingRefused as error:
         answer |= trouble("language", str(error))
     except ProgramError as error:

@@ -19,7 +19,7 @@ def add_page(commands: Commands) -> None:
     """Adds the command."""
     parser = commands.add_parser("page", help=WHAT, description=WHAT)
     parser.set_defaults(act=_page)
-    parser.add_argument("--port", type=int, help="the port (default: your usual one, or a free one)")
+    parser.add_argument("--port", type=int, help="the port (default: your usual one, or any)")
     parser.add_argument("--no-browser", action="store_true", help="print the address alone")
     parser.add_argument("--program", metavar="PATH", help="the program `sketch`")
     parser.add_argument("--seconds", type=float, default=10.0, help=SECONDS)

@@ -1,14 +1,15 @@
 """Each part of a drawing as the program places it by itself, laid on the drawing."""
 from __future__ import annotations
 
-from collections.abc import Iterator
+from collections.abc import Iterator, Sequence
 from dataclasses import dataclass
 
 from ..answers import Judgement
 from ..answers.placing import Plate
-from ..drawing import ORIGIN, Circle, PointRef, points_of
+from ..drawing import ORIGIN, Circle, Drawing, PointRef, points_of
 from ..drawing.geometry import Arc
 from ..language import PlacedPoint
+from ..measure import Solution
 from ..program import Asks
 from ..reports import PlacedPart, Solved, read_parts
 from ..spelling.axes import DATUM
@@ -32,6 +33,24 @@ def parts_laid(judgement: Judgement, program: Asks) -> tuple[LaidPart, ...]:
     text = judgement.asked.spelled.sketch.text()
     report = read_parts(program.ask(["parts"], text).text)
     return tuple(_laid_parts(judgement, report.parts))
+
+
+def shown_between(drawing: Drawing, parts: Sequence[LaidPart]) -> Solution:
+    """Where each point is shown while the drawing is open: as the first part that has it is laid,
+    else as it is drawn; in nm, to look at."""
+    points = {ref: _nm(spot) for part in reversed(parts) for ref, spot in part.points.items()}
+    for ref in drawing.points():
+        place = drawing.drawn(ref)
+        points.setdefault(ref, (round(place.x_um * 1000), round(place.y_um * 1000)))
+    radii = {name: round(radius * 1e6) for part in parts for name, radius in part.radii.items()}
+    for shape in drawing.geometry:
+        if isinstance(shape, (Circle, Arc)):
+            radii.setdefault(shape.name, round(drawing.drawn_radius_um(shape.name) * 1000))
+    return Solution(points, radii)
+
+
+def _nm(spot: Spot) -> tuple[int, int]:
+    return round(spot[0] * 1e6), round(spot[1] * 1e6)
 
 
 def _laid_parts(judgement: Judgement, parts: tuple[PlacedPart, ...]) -> Iterator[LaidPart]:

@@ -110,7 +110,7 @@ def _caller(answers: Answers) -> Callable[[str, str], Response]:
         try:
             return Response(answers.text(name, given), mimetype="application/json")
         except Busy:
-            return _json(trouble("busy", "four calls are being answered: wait, and try again"), 503)
+            return _json(trouble("busy", "four calls are being answered: wait, try again"), 503)
 
     return call
 

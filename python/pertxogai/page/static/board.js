@@ -95,10 +95,10 @@ export class Board {
   /** The shapes as they are shown: placed, each part laid on the drawing, or as drawn. */
   edges(drawing, views) {
     const colours = this.answer.judgement?.verdict === 'well' ? {} : this.answer.judgement?.colours ?? {};
-    const drawn = drawnView(drawing);
+    const between = { part: null, points: Object.fromEntries(this.points), radii: {} };
     const selected = (name) => this.selection.names.has(name);
     const nodes = drawing.shapes.map((shape) => {
-      const view = views.find((each) => isIn(shape, each) && (each.part === null || each.part === colours[shape.name])) ?? views.find((each) => isIn(shape, each)) ?? drawn;
+      const view = views.find((each) => isIn(shape, each) && (each.part === null || each.part === colours[shape.name])) ?? views.find((each) => isIn(shape, each)) ?? between;
       return shapeNode(shape, view, this.plane, { selected, colour: colourOf(colours[shape.name] ?? (view.part || null)) });
     });
     return svg('g', { class: 'edges' }, ...nodes);
@@ -190,14 +190,20 @@ export class Board {
   /** Shows all that is drawn and placed. */
   fit() {
     const { width, height } = this.size();
-    const places = [...this.points.values()];
-    for (const shape of this.answer.drawing?.shapes ?? []) {
-      if (shape.kind !== 'circle') continue;
-      const [x, y] = this.points.get(`${shape.name}.centre`);
-      places.push([x - shape.radius, y - shape.radius], [x + shape.radius, y + shape.radius]);
-    }
+    const places = [...this.points.values(), ...(this.answer.drawing?.shapes ?? []).flatMap((shape) => this.rim(shape))];
     this.plane.fit(places.length > 1 ? places : [], width, height);
     this.draw();
+  }
+
+  /** Some places on a circle or an arc as it is shown. */
+  rim(shape) {
+    if (shape.radius === undefined) return [];
+    const [x, y] = this.points.get(`${shape.name}.centre`);
+    const angle = (which) => { const [u, v] = this.points.get(`${shape.name}.${which}`); return Math.atan2(v - y, u - x); };
+    const first = shape.kind === 'arc' ? angle('start') : 0;
+    const turn = shape.kind === 'arc' ? (angle('end') - first + 4 * Math.PI) % (2 * Math.PI) : 2 * Math.PI;
+    const radius = viewsOf(this.answer).map((view) => view.radii[shape.name]).find(Boolean) ?? shape.radius;
+    return Array.from({ length: 9 }, (_, place) => first + turn * place / 8).map((each) => [x + radius * Math.cos(each), y + radius * Math.sin(each)]);
   }
 
   /** The size of the board in pixels. */
