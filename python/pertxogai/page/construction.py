@@ -113,7 +113,7 @@ class Construction:
 
     def _locus(self, made: str, anchor: str) -> Iterator[Json]:
         """Where the constructed element may lie by one cluster: a circle about a point, a line
-        at a distance of a line; and a line that is constructed touches a circle, or is as it is."""
+        beside a line; a line that is constructed touches a circle, or is shown itself."""
         element, by = self.placed[made], self.placed[anchor]
         match element, by:
             case ElementPoint(at), ElementPoint(centre):

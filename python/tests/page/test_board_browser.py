@@ -241,7 +241,8 @@ def test_a_point_is_dragged_and_a_dimension_changed(page: Page) -> None:
     field = page.driver.find_element(By.CSS_SELECTOR, "#value input")
     field.send_keys(Keys.CONTROL, "a")
     field.send_keys("0.5in", Keys.ENTER)
-    page.wait("changed", "return document.getElementById('text').value.includes('diameter C 12.7')")
+    page.wait("changed",
+              "return document.getElementById('text').value.includes('diameter C 12.7')")
 
 
 def test_everything_by_the_keyboard(page: Page) -> None:

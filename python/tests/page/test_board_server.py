@@ -254,7 +254,8 @@ def test_a_claim_is_verified_and_exported(client) -> None:
     found = answer(client, "verify", text=drawing("arm"))
     assert found["said"].startswith("verified steps 3 ")
     assert "tolerance " in found["claim"]
-    assert "isn't well" in answer(client, "verify", text=drawing("open-hinge"))["trouble"]["message"]
+    hinge = answer(client, "verify", text=drawing("open-hinge"))
+    assert "isn't well" in hinge["trouble"]["message"]
 
 
 def undated(content: bytes) -> bytes:
