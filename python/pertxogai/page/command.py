@@ -2,6 +2,7 @@
 from __future__ import annotations
 
 import argparse
+from contextlib import suppress
 from typing import TYPE_CHECKING, TypeAlias
 
 from ..dxf import MissingLibrary
@@ -40,10 +41,10 @@ def _page(options: argparse.Namespace) -> Exit:
         raise CommandError("--seconds takes a number above 0")
     program = replace(Program.find(options.program), seconds=options.seconds)
     try:
-        serve(program, options.port, not options.no_browser)
+        with suppress(KeyboardInterrupt):
+            serve(program, options.port, not options.no_browser)
     except (OSError, OverflowError) as error:
         raise CommandError(f"the board can't have port {options.port}: {error}; choose another "
                            "by --port, or none") from None
-    except KeyboardInterrupt:
-        print("the board is stopped")
+    print("the board is stopped")
     return Exit.WELL

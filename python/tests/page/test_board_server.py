@@ -6,7 +6,10 @@ import json
 import os
 import signal
 import stat
+import subprocess
+import sys
 import time
+import urllib.request
 from concurrent.futures import ThreadPoolExecutor
 from pathlib import Path
 
@@ -319,3 +322,30 @@ def test_a_served_board_is_bound_to_this_machine(program) -> None:
     with served(program) as found:
         assert found.guard.address.startswith("http://127.0.0.1:")
         assert found.server.server_address[0] == "127.0.0.1"
+
+
+def _hears_interrupts() -> None:
+    signal.signal(signal.SIGINT, signal.default_int_handler)
+
+
+def test_the_command_serves_until_it_is_interrupted(program) -> None:
+    words = [sys.executable, "-m", "pertxogai", "page", "--no-browser", "--port", "0"]
+    path = str(DRAWINGS.parents[1])
+    environment = {**os.environ, "PYTHONPATH": path, "PERTXOGAI_SKETCH": program.path}
+    with subprocess.Popen(words, stdout=subprocess.PIPE, text=True, env=environment,
+                          preexec_fn=_hears_interrupts) as started:
+        assert started.stdout is not None
+        address = started.stdout.readline().split()[-1]
+        with urllib.request.urlopen(address) as page:
+            assert b"Pertxogai" in page.read()
+        started.send_signal(signal.SIGINT)
+        rest, _ = started.communicate(timeout=10)
+    assert started.returncode == 0 and "the board is stopped" in rest
+
+
+def test_a_port_that_is_taken_is_told(program, monkeypatch, capsys) -> None:
+    monkeypatch.setenv("PERTXOGAI_SKETCH", program.path)
+    with served(program) as found:
+        assert main(["page", "--no-browser", "--port", str(found.guard.port)]) == 2
+    assert "choose another by --port" in capsys.readouterr().err
+    assert main(["page", "--no-browser", "--port", "99999999"]) == 2
