@@ -11,8 +11,8 @@ use Rattle.sk_base.specs.declared.Sketch.{Sketch}
 use Rattle.sk_base.specs.Drawn.{shape_of, is_line}
 use Rattle.sk_base.specs.SoundGraph.{HasNode}
 use Rattle.sk_base.specs.SoundSketch.{IsSoundSketch}
-use Rattle.sk_choice.specs.DrawnChoice.{drawn_choice, shapes_of}
-use Rattle.sk_choice.proofs.DrawnKinds.{is_line_kind, graph_draws}
+use Rattle.sk_tree.specs.DrawnChoice.{drawn_choice, shapes_of}
+use Rattle.sk_tree.proofs.DrawnKinds.{is_line_kind, graph_draws}
 use Rattle.sk_graph.specs.SketchGraph.{drawn_as, graph_of}
 use Rattle.sk_tree.specs.declared.Choice.{Choice}
 use Rattle.sk_tree.specs.declared.Choice.TheVariants.{Turn, Advance, Nothing}

@@ -4,7 +4,7 @@ ghost use Rattle.sk_base.specs.declared.Name.{Name};
 ghost use Rattle.sk_base.specs.declared.Placed.{Placed};
 ghost use Rattle.sk_base.specs.declared.Sketch.{Sketch};
 ghost use Rattle.sk_base.specs.SoundSketch.{IsSoundSketch};
-ghost use Rattle.sk_choice.specs.DrawnChoice.{HasDrawnChoice};
+ghost use Rattle.sk_tree.specs.DrawnChoice.{HasDrawnChoice};
 ghost use Rattle.sk_graph.specs.SketchGraph.{graph_of};
 ghost use Rattle.sk_flips.specs.declared.placing.Layout.{Layout};
 ghost use Rattle.sk_residual.specs.declared.Tolerance.{Tolerance};

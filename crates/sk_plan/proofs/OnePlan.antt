@@ -23,7 +23,7 @@ use Rattle.sk_tree.specs.declared.Plan.{Plan}
 use Rattle.sk_tree.specs.Meeting.{JoinsOnce}
 use Rattle.sk_tree.specs.LegalPlan.{merge_told, taken_told, IsKept, IsPreferred, IsLegalStep, AreLegalSteps, IsLegalPlan}
 use Rattle.sk_tree.specs.ByNumber.{by_number}
-use Rattle.sk_choice.specs.DrawnChoice.{HasDrawnChoice, shapes_of, drawn_choice}
+use Rattle.sk_tree.specs.DrawnChoice.{HasDrawnChoice, shapes_of, drawn_choice}
 use Rattle.sk_plan.proofs.Legal.{step_taken}
 use Rattle.sk_plan.proofs.Joined.{sound_taken}
 

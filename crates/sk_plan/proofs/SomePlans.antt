@@ -31,8 +31,8 @@ use Rattle.sk_tree.specs.declared.PlanStep.{PlanStep}
 use Rattle.sk_tree.specs.ByNumber.{by_number}
 use Rattle.sk_tree.specs.LegalPlan.{merge_told, taken_told, numbers_of, IsPreferred, IsKept, IsWhole, AreLegalSteps, IsLegalPlan}
 use Rattle.sk_tree.proofs.Joins.{first_three, second_three, third_three}
-use Rattle.sk_choice.specs.DrawnChoice.{drawn_choice, shapes_of, HasDrawnChoice}
-use Rattle.sk_choice.proofs.DrawnKinds.{Draws, graph_draws}
+use Rattle.sk_tree.specs.DrawnChoice.{drawn_choice, shapes_of, HasDrawnChoice}
+use Rattle.sk_tree.proofs.DrawnKinds.{Draws, graph_draws}
 use Rattle.sk_verdict.specs.declared.Judgement.{Judgement}
 use Rattle.sk_verdict.specs.declared.Verdict.TheVariants.{Well}
 use Rattle.sk_plan.specs.Runs.{TakesOnce, EachTakesOnce}

@@ -22,12 +22,12 @@ use Rattle.sk_rules.specs.Taking.{IsTaken, Leads}
 use Rattle.sk_tree.specs.declared.PlanStep.{PlanStep}
 use Rattle.sk_tree.specs.Meeting.{JoinsOnce}
 use Rattle.sk_tree.specs.LegalPlan.{taken_told, FitsKinds, IsKept, IsLegalStep, IsWhole, AreLegalSteps}
-use Rattle.sk_choice.specs.DrawnChoice.{AreDrawn, HasDrawnChoice}
+use Rattle.sk_tree.specs.DrawnChoice.{AreDrawn, HasDrawnChoice}
 use Rattle.sk_plan.specs.Runs.{TakesOnce, EachTakesOnce}
 use Rattle.sk_plan.proofs.Joined.{sound_taken, reach_more}
 use Rattle.sk_verdict.specs.Parts.{elem_of}
 use Rattle.sk_plan.proofs.Finished.{reached_within}
-use Rattle.sk_choice.proofs.DrawnKinds.{Draws, IsDrawnNode, drawn_some, drawn_fits}
+use Rattle.sk_tree.proofs.DrawnKinds.{Draws, IsDrawnNode, drawn_some, drawn_fits}
 
 module _ (s : Sketch) (g : Graph) (sound : IsSoundGraph g) (draws : Draws s g) (f : Clusters) (reached : Reach g (initial_bodies g) (bodies f)) where
   -- what lies in a live cluster is a drawn node

@@ -16,7 +16,7 @@ ghost use Rattle.sk_tree.specs.declared.Tree.{Tree};
 ghost use Rattle.sk_tree.specs.Trees.{AreJoins};
 ghost use Rattle.sk_tree.specs.LegalPlan.{IsLegalPlan, merge_told};
 ghost use Rattle.sk_verdict.specs.Parts.{elem_of};
-ghost use Rattle.sk_choice.specs.DrawnChoice.{HasDrawnChoice};
+ghost use Rattle.sk_tree.specs.DrawnChoice.{HasDrawnChoice};
 ghost use Rattle.sk_plan.specs.Judged.{IsWell};
 ghost use Rattle.sk_plan.specs.Leaves.{HasLeaves};
 ghost use Rattle.sk_tree.specs.PlanTree.{IsPlanTree};

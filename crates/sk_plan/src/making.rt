@@ -9,7 +9,7 @@ ghost use Rattle.sk_worklist.specs.Run.{IsRun};
 ghost use Rattle.sk_tree.specs.LegalPlan.{numbers_of, merge_told, taken_told, AreLegalSteps, IsLegalPlan, IsWhole};
 ghost use Rattle.sk_tree.specs.declared.Tree.{Tree};
 ghost use Rattle.sk_tree.specs.PlanTree.{IsPlanTree};
-ghost use Rattle.sk_choice.specs.DrawnChoice.{HasDrawnChoice};
+ghost use Rattle.sk_tree.specs.DrawnChoice.{HasDrawnChoice};
 ghost use Rattle.sk_plan.specs.Judged.{IsWell, TellsWhy};
 ghost use Rattle.sk_plan.specs.Leaves.{HasLeaves};
 ghost use Rattle.sk_plan.specs.Runs.{EachTakesOnce};

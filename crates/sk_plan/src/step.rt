@@ -8,13 +8,12 @@ ghost use Rattle.sk_family.specs.Clusters.{IsLive, IsNamed};
 ghost use Rattle.sk_rules.specs.Taking.{IsTaken};
 ghost use Rattle.sk_tree.specs.LegalPlan.{taken_told, IsKept};
 ghost use Rattle.sk_plan.specs.Runs.{TakesOnce};
-ghost use Rattle.sk_choice.specs.DrawnChoice.{AreDrawn, HasDrawnChoice};
+ghost use Rattle.sk_tree.specs.DrawnChoice.{AreDrawn, HasDrawnChoice};
 
 use sk_base::{Name, Sketch};
-use sk_choice::choice_of;
 use sk_family::Family;
 use sk_rules::{Merge, Taken};
-use sk_tree::PlanStep;
+use sk_tree::{PlanStep, choice_of};
 
 /// The step for a merge that the family is to take.
 pub(crate) fn plan_step(sketch: &Sketch, family: &Family, taken: Taken) -> PlanStep

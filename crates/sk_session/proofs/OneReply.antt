@@ -31,7 +31,7 @@ use Rattle.sk_verdict.specs.declared.Verdict.TheVariants.{Well}
 use Rattle.sk_verdict.specs.Judging.{IsJudgement}
 use Rattle.sk_tree.specs.declared.Plan.{Plan}
 use Rattle.sk_tree.specs.LegalPlan.{IsLegalPlan, merge_told}
-use Rattle.sk_choice.specs.DrawnChoice.{HasDrawnChoice}
+use Rattle.sk_tree.specs.DrawnChoice.{HasDrawnChoice}
 use Rattle.sk_plan.specs.Judged.{IsTheJudgement}
 use Rattle.sk_session.specs.declared.closing.Closing.{Closing}
 use Rattle.sk_session.specs.declared.command.Command.{Command}

@@ -1,6 +1,7 @@
-//! Trees of triangle merges, and the plans that tell them.
+//! Trees of triangle merges, the plans that tell them, and what the drawing chooses at their steps.
 #![tactic(auto)]
 
+mod choice;
 mod joined;
 mod law;
 mod numbers;
@@ -8,8 +9,9 @@ mod order;
 mod plan;
 mod tree;
 
+pub use choice::choice_of;
 pub use joined::build;
-pub use law::{numbers_without_blocks, one_tree};
+pub use law::{fitting_choice, numbers_without_blocks, one_tree};
 pub use numbers::numbers_of;
 pub use order::in_order;
 pub use plan::{Choice, Plan, PlanStep};

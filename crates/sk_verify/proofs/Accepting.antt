@@ -12,7 +12,7 @@ use Rattle.sk_base.specs.declared.Node.{Node}
 use Rattle.sk_base.specs.declared.Sketch.{Sketch}
 use Rattle.sk_base.proofs.Members.{contains_none, contains_head, contains_later, contains_one, mapped_from}
 use Rattle.sk_base.proofs.Unions.{union_cases}
-use Rattle.sk_choice.specs.DrawnChoice.{HasDrawnChoice}
+use Rattle.sk_tree.specs.DrawnChoice.{HasDrawnChoice}
 use Rattle.sk_family.specs.Clusters.{Clusters, initial_clusters}
 use Rattle.sk_residual.specs.Tolerances.{Item, normal, constraint, block, number_of, normals, normal_of_kind, between, rigid, constraints, everything, AllHoldWithin}
 use Rattle.sk_residual.specs.Turns.{signs, AllAsDrawn}

@@ -10,7 +10,7 @@ use Rattle.sk_base.specs.declared.Sketch.{Sketch}
 use Rattle.sk_base.specs.SoundGraph.{IsSoundGraph, HasRisingBlocks, HasBlocksApart}
 use Rattle.sk_base.proofs.Members.{contains_head, contains_mapped}
 use Rattle.sk_base.proofs.Unions.{union_right}
-use Rattle.sk_choice.specs.DrawnChoice.{HasDrawnChoice}
+use Rattle.sk_tree.specs.DrawnChoice.{HasDrawnChoice}
 use Rattle.sk_family.specs.Clusters.{Clusters, initial_clusters}
 use Rattle.sk_graph.specs.SketchGraph.{graph_of}
 use Rattle.sk_residual.specs.Placing.{PlacesExactly}

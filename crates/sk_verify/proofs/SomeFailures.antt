@@ -19,7 +19,7 @@ use Rattle.sk_base.specs.Places.{place_of}
 use Rattle.sk_base.specs.SoundGraph.{IsSoundGraph, HasNode}
 use Rattle.sk_base.proofs.Members.{Settles, nat_settles}
 use Rattle.sk_base.proofs.Unions.{which}
-use Rattle.sk_choice.specs.DrawnChoice.{HasDrawnChoice, drawn_choice, shapes_of}
+use Rattle.sk_tree.specs.DrawnChoice.{HasDrawnChoice, drawn_choice, shapes_of}
 use Rattle.sk_family.specs.declared.Cluster.{Cluster}
 use Rattle.sk_family.specs.Clusters.{Clusters, IsNamed, initial_clusters}
 use Rattle.sk_base.proofs.Deciding.{elem_settles}

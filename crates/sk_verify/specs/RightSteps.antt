@@ -7,7 +7,7 @@ use Rattle.sk_base.specs.declared.Sketch.{Sketch}
 use Rattle.sk_family.specs.Clusters.{Clusters}
 use Rattle.sk_tree.specs.declared.PlanStep.{PlanStep}
 use Rattle.sk_tree.specs.LegalPlan.{IsLegalStep, next_after}
-use Rattle.sk_choice.specs.DrawnChoice.{HasDrawnChoice}
+use Rattle.sk_tree.specs.DrawnChoice.{HasDrawnChoice}
 
 -- the family may take the step, and its choice is that of the drawing
 pub record IsRightStep (s : Sketch) (g : Graph) (f : Clusters) (step : PlanStep) : Type 0 where

@@ -14,7 +14,7 @@ ghost use Rattle.sk_verify.specs.Printed.{HasPlainNumber};
 ghost use Rattle.sk_base.specs.declared.Graph.{Graph};
 ghost use Rattle.sk_base.specs.declared.Sketch.{Sketch};
 ghost use Rattle.sk_base.specs.SoundGraph.{IsSoundGraph, HasRisingBlocks, HasBlocksApart};
-ghost use Rattle.sk_choice.specs.DrawnChoice.{HasDrawnChoice};
+ghost use Rattle.sk_tree.specs.DrawnChoice.{HasDrawnChoice};
 ghost use Rattle.sk_graph.specs.SketchGraph.{graph_of};
 ghost use Rattle.sk_residual.specs.Placing.{PlacesExactly};
 ghost use Rattle.sk_residual.specs.Tolerances.{AllHoldWithin};

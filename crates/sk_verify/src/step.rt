@@ -3,7 +3,7 @@ ghost use Rattle.std.specs.Prelude.{◌≡◌, ◌↔◌, IsTrue};
 ghost use Rattle.sk_base.specs.declared.Kind.TheVariants as kinds;
 ghost use Rattle.sk_base.specs.SoundGraph.{HasNode};
 ghost use Rattle.sk_base.specs.SoundSketch.{IsSoundSketch};
-ghost use Rattle.sk_choice.specs.DrawnChoice.{HasDrawnChoice};
+ghost use Rattle.sk_tree.specs.DrawnChoice.{HasDrawnChoice};
 ghost use Rattle.sk_graph.specs.SketchGraph.{graph_of};
 ghost use Rattle.sk_residual.specs.Telling.{HasCorners};
 ghost use Rattle.sk_rules.specs.Merges.{Falls};
@@ -13,9 +13,8 @@ ghost use Rattle.sk_verify.specs.RightSteps.{IsRightStep};
 use crate::keeping::keeps_right;
 use crate::meeting::{has_node, joins_once};
 use sk_base::{Elem, Graph, Kind, Name, Sketch};
-use sk_choice::choice_of;
 use sk_family::Family;
-use sk_tree::{Choice, PlanStep};
+use sk_tree::{Choice, PlanStep, choice_of};
 
 /// Whether the family may take the step, and its choice is that of the drawing.
 pub(crate) fn is_right(s: &Sketch, g: &Graph, family: &Family, step: &PlanStep) -> bool

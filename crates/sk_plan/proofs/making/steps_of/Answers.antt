@@ -4,7 +4,7 @@ use Rattle.sk_base.specs.declared.Graph.{Graph}
 use Rattle.sk_family.proofs.GraphStarts.{starts_many}
 use Rattle.sk_plan.proofs.Joined.{taken_holds}
 use Rattle.sk_plan.proofs.Finished.{clusters_left}
-use Rattle.sk_choice.proofs.DrawnKinds.{Draws, graph_draws}
+use Rattle.sk_tree.proofs.DrawnKinds.{Draws, graph_draws}
 use Rattle.sk_plan.proofs.Stepping.{IsAt, at_start, taken_here, once_here, drawn_here, at_turn, legal_end, told_end}
 use Rattle.sk_plan.proofs.making.steps_of.Goals as goal
 

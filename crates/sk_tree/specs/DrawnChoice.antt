@@ -6,9 +6,9 @@ use Rattle.sk_base.specs.declared.Sketch.{Sketch}
 use Rattle.sk_base.specs.Drawn.{shape_of, is_line}
 use Rattle.sk_orient.specs.DrawnSigns.{turn_drawn, advance_drawn}
 use Rattle.sk_rules.specs.declared.Shared.{Shared}
-use Rattle.sk_tree.specs.declared.Choice.{Choice}
-use Rattle.sk_tree.specs.declared.Choice.TheVariants.{Turn, Advance, Nothing}
-use Rattle.sk_tree.specs.declared.PlanStep.{PlanStep}
+use Rattle.sk_tree.specs.declared.plan.Choice.{Choice}
+use Rattle.sk_tree.specs.declared.plan.Choice.TheVariants.{Turn, Advance, Nothing}
+use Rattle.sk_tree.specs.declared.plan.PlanStep.{PlanStep}
 use Rattle.sk_tree.specs.ByNumber.{by_number}
 
 -- how elements are drawn

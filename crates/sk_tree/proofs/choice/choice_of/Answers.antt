@@ -1,7 +1,7 @@
 use Rattle.std.specs.Prelude.{IsSome}
 use Rattle.sk_base.specs.Drawn.{shape_of}
 use Rattle.sk_tree.proofs.Ordering.{by_number_each}
-use Rattle.sk_choice.proofs.choice.choice_of.Goals as goal
+use Rattle.sk_tree.proofs.choice.choice_of.Goals as goal
 
 pub shape-requires-clause-drawn : goal.shape-requires-clause-drawn
 shape-requires-clause-drawn c =

@@ -16,13 +16,13 @@ use Rattle.sk_base.specs.SoundGraph.{HasNode}
 use Rattle.sk_base.specs.SoundSketch.{IsSoundSketch}
 use Rattle.sk_base.proofs.Members.{mapped_from}
 use Rattle.sk_base.proofs.Finding.{found_rising}
-use Rattle.sk_tree.specs.declared.Choice.{Choice}
-use Rattle.sk_tree.specs.declared.Choice.TheVariants.{Turn, Advance, Nothing}
+use Rattle.sk_tree.specs.declared.plan.Choice.{Choice}
+use Rattle.sk_tree.specs.declared.plan.Choice.TheVariants.{Turn, Advance, Nothing}
 use Rattle.sk_tree.specs.LegalPlan.{FitsKinds}
 use Rattle.sk_graph.specs.SketchGraph.{kind_of, node_of, graph_of}
 use Rattle.sk_base.specs.Drawn.{is_line}
 use Rattle.sk_tree.specs.ByNumber.{by_number}
-use Rattle.sk_choice.specs.DrawnChoice.{drawn_choice, shapes_of}
+use Rattle.sk_tree.specs.DrawnChoice.{drawn_choice, shapes_of}
 use Rattle.sk_tree.proofs.Ordering.{by_number_some}
 
 abbrev pub is_line_kind : Kind → Bool

@@ -4,12 +4,13 @@ ghost use Rattle.sk_base.specs.Drawn.{shape_of};
 ghost use Rattle.sk_base.specs.SoundSketch.{IsSoundSketch};
 ghost use Rattle.sk_orient.specs.DrawnSigns.{IsOnPaper};
 ghost use Rattle.sk_tree.specs.ByNumber.{by_number};
-ghost use Rattle.sk_choice.specs.DrawnChoice.{drawn_choice, shapes_of};
+ghost use Rattle.sk_tree.specs.DrawnChoice.{drawn_choice, shapes_of};
 
+use crate::order::in_order;
+use crate::plan::Choice;
 use sk_base::{Elem, Shape, Sketch};
 use sk_graph::shape;
 use sk_orient::{advance_drawn, turn_drawn};
-use sk_tree::{Choice, in_order};
 
 /// The choice of the drawing at three drawn elements: the turn of three points, the advance of two
 /// points along a line, both by rising number, or nothing.

@@ -1,6 +1,6 @@
 use Rattle.sk_graph.specs.SketchGraph.{graph_of}
-use Rattle.sk_choice.proofs.DrawnKinds.{graph_draws, drawn_fits}
-use Rattle.sk_choice.proofs.law.fitting_choice.Goals as goal
+use Rattle.sk_tree.proofs.DrawnKinds.{graph_draws, drawn_fits}
+use Rattle.sk_tree.proofs.law.fitting_choice.Goals as goal
 
 pub returns : goal.returns
 returns c s a b d of_a of_b of_d sound a_b b_d d_a a_node b_node d_node not_all =
