@@ -26,12 +26,12 @@ pub(crate) fn lists_in_order(
 fn put_list(lists: &mut List<List<Elem>>, list: List<Elem>) -> Result<(), NoMemory>
     ensures { OnOk result (lists.new ≡ with_list lists.old list) }
 {
-    let place = place_of(lists.as_slice(), list.as_slice());
+    let place = place_in_order(lists.as_slice(), list.as_slice());
     lists.insert(place, list)
 }
 
 /// The place of the list: before the first that doesn't come before it.
-fn place_of(lists: &[List<Elem>], list: &[Elem]) -> usize
+fn place_in_order(lists: &[List<Elem>], list: &[Elem]) -> usize
     ensures within { result ≤ length lists.now }
     ensures place { insert lists.now result list.now ≡ with_list lists.now list.now }
 {

@@ -1,6 +1,6 @@
 -- A search by halves for where a front of a list ends whose items pass a test.
 use Rattle.std.proofs.Common.{◌≡◌, ◌≢◌, inl, inr, refl, true, false, Bool, ℕ, suc, ◌+◌, ◌-◌, ◌<◌, ◌≤◌, List, ◌∷◌, length, length-drop, drop-cons, get_or, take, drop, ap, sym, subst, ◌∙◌, arith}
-use Rattle.std.specs.Prelude.{Contains, AllPairs, IsTrue, ◌↔◌}
+use Rattle.std.specs.Prelude.{Contains, AllPairs, IsTrue, ◌↔◌, nat_lt}
 use Rattle.std.specs.List.Sorted.{IsPartitionedBy, IsPartitionPoint}
 use Rattle.std.proofs.lemmas.Bool.Decides.{nat_tests}
 use Rattle.std.proofs.lemmas.List.{get_or-take, get_or-drop, length-take, take_all}
@@ -12,7 +12,6 @@ use Rattle.sk_base.proofs.Unions.{which}
 use Rattle.sk_base.proofs.Searches.{refused}
 use Rattle.sk_family.specs.declared.cluster.Cluster.{Cluster}
 use Rattle.sk_family.specs.Clusters.{ByName}
-use Rattle.sk_family.specs.Starting.{is_before}
 use Rattle.sk_family.proofs.Naming.{below_chain, below_differs}
 use Rattle.sk_base.proofs.Splits.{in_drop, in_either, pairs_drop}
 use Rattle.sk_base.proofs.Members.{contains_head, contains_cases}
@@ -39,6 +38,13 @@ module _ {X : Type 0} (p : X → Bool) (xs : List X) where
     rest_fails x (k, k_in, is) =
         let rest = length-drop place xs in
         subst (λ y. p y ≡ false) (sym (get_or-drop place xs k x) ∙ is) (point.1 (place + k) x (omega arith) (omega arith))
+
+-- whether the one name is below the other
+abbrev pub is_before : Name → Name → Bool
+is_before (Con j) (Con k) = nat_lt j k
+is_before (Con j) (Step k) = true
+is_before (Step j) (Con k) = false
+is_before (Step j) (Step k) = nat_lt j k
 
 pub before_below : (m n : Name) → is_before m n ≡ true → IsBelow m n
 before_below (Con j) (Con k) h = grind (arith, nat_tests)

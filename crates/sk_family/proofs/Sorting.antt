@@ -3,16 +3,17 @@ use Rattle.std.proofs.Common.{◌≡◌, ◌≢◌, ◌⊎◌, inl, inr, ℕ, ze
 use Rattle.std.specs.Prelude.{AllPairs}
 use Rattle.std.specs.List.{swap}
 use Rattle.std.specs.Cmp.{IsStrictWeakOrder}
-use Rattle.std.proofs.lemmas.Bool.Decides.{nat_tests}
+use Rattle.std.specs.Ordering.{is_lt}
 use Rattle.std.specs.List.Sorted.{IsPermutation, IsSortedBy}
 use Rattle.std.proofs.lemmas.List.Edits.{swapped_from_swap, length-swap}
-use Rattle.std.proofs.lemmas.List.Sorted.{IsPermutation-keeps}
+use Rattle.std.proofs.lemmas.List.Sorted.{IsPermutation-keeps, ranks_by}
+use Rattle.std.proofs.lemmas.Map.Keys.{ge_from_not_lt}
 use Rattle.sk_base.specs.declared.Name.{Name}
 use Rattle.sk_base.specs.declared.Name.TheVariants.{Con, Step}
 use Rattle.sk_base.specs.ClusterNames.{IsBelow}
+use Rattle.sk_base.specs.contracts.name.NameOrd.TheImpl as names
 use Rattle.sk_base.proofs.Unions.{which}
 use Rattle.sk_family.specs.declared.cluster.Cluster.{Cluster}
-use Rattle.sk_family.specs.Starting.{is_before}
 use Rattle.sk_family.proofs.Naming.{ByName, below_chain}
 
 module _ {X : Type 0} (R : X → X → Type 0) (back : (x y : X) → R x y → R y x) where
@@ -68,31 +69,17 @@ abbrev pub HaveOtherNames : Cluster → Cluster → Type 0
 HaveOtherNames a b = a.name ≢ b.name
 
 -- a name that isn't behind another one is below it, or is that one
-below_unless : (m n : Name) → is_before n m ≡ false → m ≢ n → IsBelow m n
-below_unless (Con j) (Con k) not differ = (let other : j ≢ k = λ e. differ (ap Con e) in grind (arith, nat_tests))
+below_unless : (m n : Name) → is_lt (names.ghosts.cmp n m) ≡ false → m ≢ n → IsBelow m n
+below_unless (Con j) (Con k) not differ = (let far = ge_from_not_lt k j not in let other : j ≢ k = λ e. differ (ap Con e) in omega arith)
 below_unless (Con j) (Step k) not differ = tt
 below_unless (Step j) (Con k) not differ = (let never : true ≡ false = not in absurd (cc))
-below_unless (Step j) (Step k) not differ = (let other : j ≢ k = λ e. differ (ap Step e) in grind (arith, nat_tests))
-
-before_one_way : (l m : Name) → is_before l m ≡ true → is_before m l ≡ false
-before_one_way (Con j) (Con k) before = grind (arith, nat_tests)
-before_one_way (Con j) (Step k) before = refl
-before_one_way (Step j) (Con k) before = cc
-before_one_way (Step j) (Step k) before = grind (arith, nat_tests)
-
-not_before_chain : (l m n : Name) → is_before l m ≡ false → is_before m n ≡ false → is_before l n ≡ false
-not_before_chain (Con i) (Con j) (Con k) h g = grind (arith, nat_tests)
-not_before_chain (Con i) (Con j) (Step k) h g = cc
-not_before_chain (Con i) (Step j) n h g = cc
-not_before_chain (Step i) m (Con k) h g = refl
-not_before_chain (Step i) (Con j) (Step k) h g = cc
-not_before_chain (Step i) (Step j) (Step k) h g = grind (arith, nat_tests)
+below_unless (Step j) (Step k) not differ = (let far = ge_from_not_lt k j not in let other : j ≢ k = λ e. differ (ap Step e) in omega arith)
 
 abbrev pub comes_before : Cluster → Cluster → Bool
-comes_before a b = is_before a.name b.name
+comes_before a b = is_lt (names.ghosts.cmp a.name b.name)
 
 pub before_orders : IsStrictWeakOrder comes_before
-before_orders = record { one_way = λ a b. before_one_way a.name b.name; chain = λ a b c. not_before_chain a.name b.name c.name }
+before_orders = ranks_by names.Laws.total-law (λ (c : Cluster). c.name)
 
 module _ (xs : List Cluster) (differ : AnyTwo HaveOtherNames (λ a b h e. h (sym e)) xs) (sorted : IsSortedBy comes_before xs) where
   next_behind : (k : ℕ) (d : Cluster) → k + 1 < length xs → ByName (get_or xs k d) (get_or xs (k + 1) d)

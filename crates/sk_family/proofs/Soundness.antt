@@ -1,6 +1,6 @@
 -- What is made from a sound family is sound.
 use Rattle.std.proofs.Common.{◌≡◌, inl, inr, ℕ, ◌<◌, true, false, List, [], ◌∷◌, length, get_or, refl, ap, sym, subst, ◌∙◌, arith, ◌≤◌, length-append}
-use Rattle.std.specs.Prelude.{Contains, map, not, All, AllPairs, ◌≢◌, ◌⊎◌}
+use Rattle.std.specs.Prelude.{Contains, map, not, All, AllPairs, ◌≢◌}
 use Rattle.std.proofs.lemmas.List.Elements.{Contains-push_cases, Contains-get_or, All-head, All-tail}
 use Rattle.std.proofs.lemmas.Bool.Decides.{nat_tests}
 use Rattle.std.proofs.lemmas.List.{length-map}
@@ -149,7 +149,7 @@ module _ (f : Clusters) (names : List Name) (sound : IsSound f) where
 
   -- two different clusters own two different constraints
   whole_owns_two : CanBeJoined f names → 1 < length (made_of names f.live).owned
-  whole_owns_two can = first_two names refl can.some can.all_live can.differ
+  whole_owns_two can = first_two names refl can.at_least_two can.all_live can.differ
     where
       first_two : (ns : List Name) → ns ≡ names → 1 < length ns → All (λ n. IsLive f n) ns → AllPairs (λ (m n : Name). m ≢ n) ns → 1 < length (made_of names f.live).owned
       first_two [] is many live differ = absurd (omega (arith, many))
@@ -169,7 +169,7 @@ module _ (f : Clusters) (names : List Name) (sound : IsSound f) where
 
   -- two of the names have two clusters
   two_named : CanBeJoined f names → 1 < length (named names f.live)
-  two_named can = first_two names refl can.some can.all_live can.differ
+  two_named can = first_two names refl can.at_least_two can.all_live can.differ
     where
       first_two : (ns : List Name) → ns ≡ names → 1 < length ns → All (λ n. IsLive f n) ns → AllPairs (λ (m n : Name). m ≢ n) ns → 1 < length (named names f.live)
       first_two [] is many live differ = absurd (omega (arith, many))
@@ -201,7 +201,7 @@ module _ (f : Clusters) (names : List Name) (sound : IsSound f) where
 
   pub sound_joined : CanBeJoined f names → IsSound (replaced f names)
   unfolding whole
-  sound_joined can = (let some : 0 < length names = omega (arith, can.some) in let live = can.all_live in record {
+  sound_joined can = (let some : 0 < length names = omega (arith, can.at_least_two) in let live = can.all_live in record {
     few = (let fewer = no_more some live in let few = sound.few in omega arith);
     names_rise = pairs_push (λ (a b : Cluster). IsBelow a.name b.name) (unnamed names f.live) whole
         (pairs_filter (λ (a b : Cluster). IsBelow a.name b.name) (λ (d : Cluster). not (is_named names d.name)) f.live sound.names_rise)
@@ -240,7 +240,7 @@ module _ (f : Clusters) (names : List Name) (sound : IsSound f) where
 
 pub joined_of : {f : Clusters} {names : List Name} → CanBeReplaced f names → CanBeJoined f names
 joined_of can = record {
-  some = elim can.two_or_three [ inl two ↦ omega arith | inr three ↦ omega arith ];
+  at_least_two = elim can.two_or_three [ inl two ↦ omega arith | inr three ↦ omega arith ];
   all_live = can.all_live;
   differ = can.differ;
 }

@@ -1,7 +1,5 @@
--- The starting clusters of some constraints of a graph, and which name comes first.
-use Rattle.std.specs.Prelude.{Bool, true, false, nat_lt, ◌==◌, not, List, [], map, filter, find, unwrap_or}
-use Rattle.sk_base.specs.declared.Name.{Name}
-use Rattle.sk_base.specs.declared.Name.TheVariants.{Con, Step}
+-- The starting clusters of some constraints of a graph.
+use Rattle.std.specs.Prelude.{◌==◌, not, List, [], map, filter, find, unwrap_or}
 use Rattle.sk_base.specs.declared.ConId.{ConId}
 use Rattle.sk_base.specs.declared.Graph.{Graph}
 use Rattle.sk_family.specs.declared.cluster.Cluster.{Cluster}
@@ -19,10 +17,3 @@ start_with g k = unwrap_or (find (λ (s : Start). s.number.0 == k.0) (starts g))
 -- the starting clusters of the constraints of these numbers but k
 abbrev pub starts_but : Graph → ConId → List ConId → List Cluster
 starts_but g k numbers = map (λ j. start_of (start_with g j)) (filter (λ (j : ConId). not (j.0 == k.0)) numbers)
-
--- whether the one name is below the other
-abbrev pub is_before : Name → Name → Bool
-is_before (Con j) (Con k) = nat_lt j k
-is_before (Con j) (Step k) = true
-is_before (Step j) (Con k) = false
-is_before (Step j) (Step k) = nat_lt j k

@@ -23,29 +23,32 @@ pub struct Overlap {
     pub second: Option<Elem>,
 }
 
+impl Cluster {
+    /// The same cluster once more.
+    pub fn copy(&self, alloc: Global) -> Result<Cluster, NoMemory>
+        ensures { IfOk result (λ copy. copy ≡ self.now) }
+    {
+        let mut elements = List::new(alloc);
+        elements.extend(self.elements.as_slice())?;
+        let mut owned = List::new(alloc);
+        owned.extend(self.owned.as_slice())?;
+        Ok(Cluster {
+            name: self.name,
+            elements,
+            owned,
+        })
+    }
+}
+
 /// The same clusters once more.
 pub(crate) fn copy_all(alloc: Global, clusters: &[Cluster]) -> Result<Vec<Cluster>, NoMemory>
     ensures { IfOk result (λ copies. copies.items ≡ clusters.now) }
 {
     let mut copies = Vec::new(alloc);
     for cluster in clusters {
-        copies.push(copy_of(alloc, cluster)?)?;
+        copies.push(cluster.copy(alloc)?)?;
     }
     Ok(copies)
-}
-
-fn copy_of(alloc: Global, cluster: &Cluster) -> Result<Cluster, NoMemory>
-    ensures { IfOk result (λ copy. copy ≡ cluster.now) }
-{
-    let mut elements = List::new(alloc);
-    elements.extend(cluster.elements.as_slice())?;
-    let mut owned = List::new(alloc);
-    owned.extend(cluster.owned.as_slice())?;
-    Ok(Cluster {
-        name: cluster.name,
-        elements,
-        owned,
-    })
 }
 
 /// What the two clusters share. The count stays at the greatest `u32` where more are shared, which no

@@ -12,8 +12,8 @@ ghost use Rattle.sk_family.specs.Starting.{starts_but};
 ghost use Rattle.sk_family.specs.Starts.{IsFree, HasStart, CanBeDissolved, IsDissolved};
 
 use crate::cluster::{Cluster, copy_all};
-use crate::order::place_of;
 use crate::row::Row;
+use crate::search::count_below;
 use crate::start::{all_starts, block_cluster, edge_cluster, exchange, starts_of};
 use crate::union::union_of;
 use sk_base::{Block, ConId, Edge, Graph, List, Name, NoMemory};
@@ -100,13 +100,13 @@ impl Family {
     }
 
     /// The live clusters but those below the name, by rising name.
-    pub fn from(&self, name: Name) -> &[Cluster]
+    pub fn not_below(&self, name: Name) -> &[Cluster]
         ensures live { (c : AnyCluster) → Contains result.now c ↔ (Contains self.now.live c × ¬ IsBelow c.name name) }
         ensures rise { AllPairs ByName result.now }
         ensures sound { IsSound self.now }
     {
         let clusters = self.clusters.as_slice();
-        &clusters[place_of(clusters, name)..]
+        &clusters[count_below(clusters, name)..]
     }
 
     /// The same family once more.
@@ -188,7 +188,7 @@ impl Family {
         ensures err { OnErr result (self.new ≡ self.old) }
         ensures sound { IsSound self.new }
     {
-        let place = place_of(self.clusters.as_slice(), start.name);
+        let place = count_below(self.clusters.as_slice(), start.name);
         self.clusters.insert(place, start)?;
         Ok(())
     }
@@ -229,7 +229,7 @@ fn find(clusters: &[Cluster], name: Name) -> Option<&Cluster>
     ensures lives { IfSome result (λ c. Contains clusters.now c.now) }
     ensures has_name { IfSome result (λ c. c.now.name ≡ name) }
 {
-    let place = place_of(clusters, name);
+    let place = count_below(clusters, name);
     let cluster = clusters.get(place)?;
     if has_name(cluster, name) {
         Some(cluster)
@@ -349,7 +349,7 @@ fn take_out(alloc: Global, clusters: &mut Row<Cluster>, name: Name)
     requires { AllPairs ByName clusters.old }
     ensures { clusters.new ≡ unnamed (name ∷ []) clusters.old }
 {
-    let place = place_of(clusters.as_slice(), name);
+    let place = count_below(clusters.as_slice(), name);
     if is_at(clusters.as_slice(), place, name) {
         clusters.remove(place, empty(alloc, name));
     }

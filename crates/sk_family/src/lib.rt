@@ -4,8 +4,8 @@
 mod cluster;
 mod family;
 mod law;
-mod order;
 mod row;
+mod search;
 mod start;
 mod union;
 

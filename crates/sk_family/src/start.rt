@@ -1,7 +1,6 @@
 // The clusters in which constraints start, and clusters in order.
 ghost use Rattle.std.specs.Prelude.{◌≡◌, ◌≢◌, ◌++◌, ◌∷◌, [], OnOk, OnErr, AllPairs, IfOk, map, Contains};
 ghost use Rattle.std.specs.List.Sorted.{IsPermutation};
-ghost use Rattle.std.specs.Ordering.{is_lt};
 ghost use Rattle.sk_base.specs.declared.ConId.{ConId as Number};
 ghost use Rattle.sk_base.specs.declared.Edge.{Edge as AnEdge};
 ghost use Rattle.sk_base.specs.declared.Block.{Block as ABlock};
@@ -13,14 +12,13 @@ ghost use Rattle.sk_base.specs.SoundGraph.{IsSoundGraph, HasRisingEdges, HasRisi
 ghost use Rattle.sk_family.specs.declared.cluster.Cluster.{Cluster as ACluster};
 ghost use Rattle.sk_family.specs.Body.{Start, starts, edge_start, block_start};
 ghost use Rattle.sk_family.specs.Clusters.{start_of, unnamed};
-ghost use Rattle.sk_family.specs.Starting.{start_with, starts_but, is_before};
+ghost use Rattle.sk_family.specs.Starting.{start_with, starts_but};
 
 use crate::cluster::Cluster;
 use crate::row::Row;
 use crate::union::union_of;
 use sk_base::{Block, ConId, Edge, Elem, Graph, List, Name, NoMemory, Pin};
 use std::alloc::Global;
-use std::cmp::Ordering;
 
 /// The cluster in which a constraint between two elements starts: with its two ends.
 pub(crate) fn edge_cluster(alloc: Global, edge: &Edge) -> Result<Cluster, NoMemory>
@@ -156,16 +154,5 @@ fn put_in_order(clusters: &mut Vec<Cluster>)
     ensures same { IsPermutation clusters.old.items clusters.new.items }
     ensures rise { AllPairs (λ (a b : ACluster). IsBelow a.name b.name) clusters.new.items }
 {
-    clusters.sort_unstable_by(|one, other| order(one.name, other.name));
-}
-
-/// How one name stands to another.
-fn order(one: Name, other: Name) -> Ordering
-    ensures { is_lt result ≡ is_before one other }
-{
-    match (one, other) {
-        (Name::Con(j), Name::Con(k)) | (Name::Step(j), Name::Step(k)) => j.cmp(&k),
-        (Name::Con(_), Name::Step(_)) => Ordering::Less,
-        (Name::Step(_), Name::Con(_)) => Ordering::Greater,
-    }
+    clusters.sort_unstable_by(|one, other| one.name.cmp(&other.name));
 }

@@ -5,12 +5,11 @@ use Rattle.sk_base.specs.declared.Graph.{Graph}
 use Rattle.sk_base.specs.declared.Name.{Name}
 use Rattle.sk_base.specs.ClusterNames.{is_named}
 use Rattle.sk_family.specs.Clusters.{Clusters, initial_clusters}
-use Rattle.sk_rules.specs.Merges.{merged}
 use Rattle.sk_tree.specs.declared.Choice.{Choice}
 use Rattle.sk_tree.specs.declared.Choice.TheVariants.{Turn, Advance, Nothing}
 use Rattle.sk_tree.specs.declared.Plan.{Plan}
 use Rattle.sk_tree.specs.declared.PlanStep.{PlanStep}
-use Rattle.sk_tree.specs.LegalPlan.{FitsKinds, IsLegalStep, AreLegalSteps, IsLegalPlan, merge_told}
+use Rattle.sk_tree.specs.LegalPlan.{FitsKinds, IsLegalStep, AreLegalSteps, IsLegalPlan, next_after}
 use Rattle.sk_flips.specs.Flipping.{turned, flipped_step, flipped}
 
 -- a choice turned over fits the same kinds
@@ -35,7 +34,7 @@ flipped_legal_step g f names step legal = record {
 flipped_steps_legal : (g : Graph) (f : Clusters) (names : List Name) (steps : List PlanStep) → AreLegalSteps g f steps → AreLegalSteps g f (map (flipped_step names) steps)
 flipped_steps_legal g f names [] legal = legal
 flipped_steps_legal g f names (step ∷ steps) legal =
-    (flipped_legal_step g f names step legal.0, flipped_steps_legal g (merged f (merge_told step)) names steps legal.1)
+    (flipped_legal_step g f names step legal.0, flipped_steps_legal g (next_after f step) names steps legal.1)
 
 pub flipped_is_legal : (g : Graph) (names : List Name) (p : Plan) → IsLegalPlan g p → IsLegalPlan g (flipped names p)
 flipped_is_legal g names p legal = record {

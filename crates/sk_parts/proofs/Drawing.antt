@@ -5,6 +5,7 @@ use Rattle.std.specs.List.{list_all}
 use Rattle.std.proofs.lemmas.Bool.Decides.{nat_tests}
 use Rattle.std.proofs.lemmas.List.Filters.{length-filter_both}
 use Rattle.std.proofs.lemmas.List.Elements.{All-contains, All-filter, Contains-get_or}
+use Rattle.std.proofs.lemmas.Bool.{and_parts}
 use Rattle.sk_base.specs.declared.Elem.{Elem}
 use Rattle.sk_base.specs.declared.Element.{Element}
 use Rattle.sk_base.specs.declared.Constraint.{Constraint}
@@ -18,7 +19,6 @@ use Rattle.sk_base.proofs.Pairs.{pairs_filter}
 use Rattle.sk_base.proofs.Members.{contains_none, contains_head, contains_later, contains_cases, filtered_from}
 use Rattle.sk_graph.specs.Naming.{named_by}
 use Rattle.sk_graph.proofs.Drawing.{rule_alike}
-use Rattle.sk_rules.proofs.SummedWeights.{both_true}
 use Rattle.sk_parts.specs.OwnSketch.{has_element, lies_among, part_sketch}
 
 -- what a test that lets an item pass keeps, is found as before
@@ -38,7 +38,7 @@ find_filtered p q passes (x ∷ xs) = told (q x) refl (find_filtered p q passes 
 pub all_among : (xs es : List Elem) → list_all (is_elem xs) es ≡ true → (e : Elem) → Contains es e → Contains xs e
 all_among xs [] passes e h = absurd (contains_none e h)
 all_among xs (d ∷ es) passes e h =
-    let both = both_true (is_elem xs d) (list_all (is_elem xs) es) passes in
+    let both = and_parts (is_elem xs d) (list_all (is_elem xs) es) passes in
     elim (contains_cases d es e h) [
       | inl here ↦ elem_found xs e (subst (λ z. is_elem xs z ≡ true) here both.0)
       | inr later ↦ all_among xs es both.1 e later

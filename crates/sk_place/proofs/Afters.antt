@@ -25,14 +25,14 @@ use Rattle.sk_place.specs.Rounding.{IsBoundedBox, AreBounded}
 use Rattle.sk_place.proofs.Slots.{there_along}
 use Rattle.sk_family.proofs.Soundness.{sound_initial, sound_replaced}
 use Rattle.sk_rules.specs.declared.Merge.TheVariants.{Three}
-use Rattle.sk_rules.specs.Merges.{Holds as MergeHolds, merged}
+use Rattle.sk_rules.specs.Merges.{Holds as MergeHolds}
 use Rattle.sk_rules.proofs.Merging.{can_be_replaced, named_three}
 use Rattle.sk_tree.specs.declared.Plan.{Plan}
 use Rattle.sk_tree.specs.declared.PlanStep.{PlanStep}
 use Rattle.sk_tree.specs.declared.Tree.{Tree}
 use Rattle.sk_tree.specs.declared.Tree.TheVariants.{Leaf, Join'}
 use Rattle.sk_tree.specs.Meeting.{JoinsOnce}
-use Rattle.sk_tree.specs.LegalPlan.{merge_told, IsLegalStep, AreLegalSteps, IsLegalPlan}
+use Rattle.sk_tree.specs.LegalPlan.{IsLegalStep, AreLegalSteps, IsLegalPlan, next_after}
 use Rattle.sk_place.specs.declared.boxes.BoxAt.{BoxAt}
 use Rattle.sk_place.specs.declared.settling.PlaceBy.{PlaceBy}
 use Rattle.sk_place.specs.declared.setting.Setting.{Setting}
@@ -147,7 +147,7 @@ module _ {G : Type 0} (placing : PlaceBy) (F : ℕ) (g : Graph) (p : Plan) (soun
   pub s_in : Contains p.steps s
   s_in = (i, inside, s_is)
 
-  pub here : IsLegalStep g after.family s × AreLegalSteps g (merged after.family (merge_told s)) (drop (suc i) p.steps)
+  pub here : IsLegalStep g after.family s × AreLegalSteps g (next_after after.family s) (drop (suc i) p.steps)
   here = subst (λ (ss : List PlanStep). AreLegalSteps g after.family ss) (drop-cons p.steps i s inside ∙ ap (λ (x : PlanStep). x ∷ drop (suc i) p.steps) s_is) after.legal
 
   pub joins : JoinsOnce g after.family s.one s.two s.three s.a s.b s.c
@@ -354,7 +354,7 @@ module _ {G : Type 0} (placing : PlaceBy) (F : ℕ) (g : Graph) (p : Plan) (soun
             record {
               family = replaced f ns;
               sound = sound_replaced f ns after.sound can;
-              legal = subst (λ (k : ℕ). AreLegalSteps g (merged f (merge_told s)) (drop k p.steps)) (sym (add-one i)) here.1;
+              legal = subst (λ (k : ℕ). AreLegalSteps g (next_after f s) (drop k p.steps)) (sym (add-one i)) here.1;
               next = ap (λ (k : ℕ). k + 1) after.next;
               first = λ h. absurd (omega arith);
               latest = λ h. (whole, record { lives = Contains-push (unnamed ns f.live) whole; has_name = ap Step after.next });

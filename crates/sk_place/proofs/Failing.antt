@@ -18,13 +18,13 @@ use Rattle.sk_family.proofs.Naming.{among_named}
 use Rattle.sk_base.proofs.Splits.{in_drop}
 use Rattle.sk_family.proofs.Soundness.{sound_replaced}
 use Rattle.sk_rules.specs.declared.Merge.TheVariants.{Three}
-use Rattle.sk_rules.specs.Merges.{Holds as MergeHolds, merged}
+use Rattle.sk_rules.specs.Merges.{Holds as MergeHolds}
 use Rattle.sk_rules.proofs.Merging.{can_be_replaced}
 use Rattle.sk_tree.specs.declared.Plan.{Plan}
 use Rattle.sk_tree.specs.declared.PlanStep.{PlanStep}
 use Rattle.sk_tree.specs.declared.Tree.{Tree}
 use Rattle.sk_tree.specs.declared.Tree.TheVariants.{Leaf, Join'}
-use Rattle.sk_tree.specs.LegalPlan.{merge_told, AreLegalSteps, IsLegalPlan}
+use Rattle.sk_tree.specs.LegalPlan.{AreLegalSteps, IsLegalPlan, next_after}
 use Rattle.sk_place.specs.declared.boxes.BoxAt.{BoxAt}
 use Rattle.sk_place.specs.declared.settling.PlaceBy.TheVariants.{Boxes, Points}
 use Rattle.sk_place.specs.declared.settling.PlaceBy.{PlaceBy}
@@ -51,13 +51,13 @@ use Rattle.std.proofs.Common.{drop-cons}
 -- after the steps the name is live
 abbrev pub EndsWith : List PlanStep → Clusters → Name → Type 0
 EndsWith [] f n = IsLive f n
-EndsWith (s ∷ ss) f n = EndsWith ss (merged f (merge_told s)) n
+EndsWith (s ∷ ss) f n = EndsWith ss (next_after f s) n
 
 pub ends_with_last : (g : Graph) (f : Clusters) (before : List PlanStep) (last : PlanStep) → AreLegalSteps g f (before ++ last ∷ []) → EndsWith (before ++ last ∷ []) f last.step
 ends_with_last g f [] last (legal, whole) =
     let ns : List Name = last.one ∷ last.two ∷ last.three ∷ [] in
     (whole_from (Step f.next_step) ns f.live, record { lives = Contains-push (unnamed ns f.live) (whole_from (Step f.next_step) ns f.live); has_name = sym legal.next })
-ends_with_last g f (b ∷ bs) last (legal, rest) = ends_with_last g (merged f (merge_told b)) bs last rest
+ends_with_last g f (b ∷ bs) last (legal, rest) = ends_with_last g (next_after f b) bs last rest
 
 -- the fault of the one is one of the other
 pub record IsPart (G : Type 0) (g : Graph) (steps : List PlanStep) (part whole : Tree) : Type 0 where
@@ -80,7 +80,7 @@ module _ (G : Type 0) (g : Graph) (p : Plan) (legal : IsLegalPlan g p) (some_sta
       let meets : MergeHolds g f (Three s.one s.two s.three) = (j.one, j.two, j.three, j.one_named, j.two_named, j.three_named, (s.a, s.b, s.c, j.meets.triangle)) in
       let can = can_be_replaced g f (Three s.one s.two s.three) step_legal.falls meets in
       let sound' = sound_replaced f ns sound can in
-      let later = parts ss (merged f (merge_told s)) sound' rest_legal (λ x h. within x (contains_later s ss x h)) ends in
+      let later = parts ss (next_after f s) sound' rest_legal (λ x h. within x (contains_later s ss x h)) ends in
       elim (cases_Bool (is_named ns c.name)) [
         | inr other ↦ later c (Contains-append_left (unnamed ns f.live) (whole_from (Step f.next_step) ns f.live ∷ []) c
             (contains_filtered (λ (d : Cluster). not (is_named ns d.name)) f.live c c_in (ap not other)))
@@ -197,7 +197,7 @@ module _ {G : Type 0} (placing : PlaceBy) (F : ℕ) (g : Graph) (p : Plan) (soun
       let whole : Cluster = whole_from (Step after.family.next_step) ns after.family.live in
       let within : (q : PlanStep) → Contains (drop (suc i) p.steps) q → Contains p.steps q = in_drop (suc i) p.steps in
       let part =
-      parts G g p legal starts_there top last.step top_is (drop (suc i) p.steps) (merged after.family (merge_told s))
+      parts G g p legal starts_there top last.step top_is (drop (suc i) p.steps) (next_after after.family s)
       (sound_replaced after.family ns after.sound can) now.1 within ends_later whole (Contains-push (unnamed ns after.family.live) whole) in
       (last.step, top_is, (part.0, subst (λ (n : Name). HasTree p n part.0) (sym now.0.next) part.1, part.2))
 

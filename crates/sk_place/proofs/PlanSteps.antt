@@ -13,11 +13,10 @@ use Rattle.sk_family.proofs.Naming.{name_eq_true, name_eq_same}
 use Rattle.sk_rules.specs.declared.Taken.{Taken}
 use Rattle.sk_rules.specs.declared.Shared.{Shared}
 use Rattle.sk_rules.specs.declared.Merge.TheVariants.{Three}
-use Rattle.sk_rules.specs.Merges.{merged}
 use Rattle.sk_tree.specs.declared.PlanStep.{PlanStep}
 use Rattle.sk_tree.specs.declared.Plan.{Plan}
 use Rattle.sk_tree.specs.declared.Tree.{Tree}
-use Rattle.sk_tree.specs.LegalPlan.{merge_told, taken_told, AreLegalSteps, IsLegalPlan}
+use Rattle.sk_tree.specs.LegalPlan.{taken_told, AreLegalSteps, IsLegalPlan, next_after}
 use Rattle.sk_place.specs.Trees.{step_of}
 use Rattle.sk_place.specs.Running.{HasTree}
 
@@ -37,7 +36,7 @@ steps_named g f [] legal k d below = absurd (omega arith)
 steps_named g f (s ∷ ss) (legal, rest) zero d below = (let same : f.next_step ≡ f.next_step + 0 = omega arith in legal.next ∙ ap Step same)
 steps_named g f (s ∷ ss) (legal, rest) (suc k) d below =
     let same : f.next_step + 1 + k ≡ f.next_step + suc k = omega arith in
-    steps_named g (merged f (merge_told s)) ss rest k d (omega arith) ∙ ap Step same
+    steps_named g (next_after f s) ss rest k d (omega arith) ∙ ap Step same
 
 module _ (g : Graph) (p : Plan) (legal : IsLegalPlan g p) where
   pub named_at : (k : ℕ) (d : PlanStep) → k < length p.steps → (get_or p.steps k d).step ≡ Step (1 + k)

@@ -8,13 +8,13 @@ use Rattle.sk_base.specs.declared.Kind.TheVariants.{Point, Line}
 use Rattle.sk_base.specs.SoundGraph.{HasNode}
 use Rattle.sk_base.proofs.Members.{contains_none, contains_one, contains_cases, contains_mapped}
 use Rattle.sk_family.specs.Clusters.{Clusters}
-use Rattle.sk_rules.specs.Merges.{ComesBefore, IsLeastTriangle, merged}
+use Rattle.sk_rules.specs.Merges.{ComesBefore, IsLeastTriangle}
 use Rattle.sk_rules.specs.Taking.{IsTaken, Leads}
 use Rattle.sk_tree.specs.declared.Choice.{Choice}
 use Rattle.sk_tree.specs.declared.Choice.TheVariants.{Turn, Advance, Nothing}
 use Rattle.sk_tree.specs.declared.PlanStep.{PlanStep}
 use Rattle.sk_tree.specs.Meeting.{MeetsOnce}
-use Rattle.sk_tree.specs.LegalPlan.{merge_told, taken_told, FitsKinds, IsLegalStep, IsWhole, AreLegalSteps}
+use Rattle.sk_tree.specs.LegalPlan.{taken_told, FitsKinds, IsLegalStep, IsWhole, AreLegalSteps, next_after}
 use Rattle.sk_verdict.specs.Parts.{elem_of}
 use Rattle.sk_plan.specs.Runs.{TakesOnce, EachTakesOnce}
 
@@ -60,7 +60,7 @@ pub record Arrives (g : Graph) (f : Clusters) (steps : List PlanStep) : Type 0 w
 
 pub arrives : (g : Graph) (f : Clusters) (steps : List PlanStep) → AreLegalSteps g f steps → Arrives g f steps
 arrives g f [] whole = record { end = f; leads = refl; once = tt; whole = whole }
-arrives g f (s ∷ ss) (legal, rest) = (let later = arrives g (merged f (merge_told s)) ss rest in record {
+arrives g f (s ∷ ss) (legal, rest) = (let later = arrives g (next_after f s) ss rest in record {
   end = later.end;
   leads = (step_taken g f s legal, later.leads);
   once = (step_takes g f s legal, later.once);
@@ -101,5 +101,5 @@ corners_of g f (t ∷ ss) (legal, rest) s s_in e e_in =
               | inr last ↦ subst (λ x. Contains (map elem_of g.nodes) x) (contains_one s.c e last) nodes.third
             ]
           ])
-      | inr later ↦ corners_of g (merged f (merge_told t)) ss rest s later e e_in
+      | inr later ↦ corners_of g (next_after f t) ss rest s later e e_in
     ]

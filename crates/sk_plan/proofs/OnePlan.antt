@@ -21,7 +21,7 @@ use Rattle.sk_tree.specs.declared.Choice.{Choice}
 use Rattle.sk_tree.specs.declared.PlanStep.{PlanStep}
 use Rattle.sk_tree.specs.declared.Plan.{Plan}
 use Rattle.sk_tree.specs.Meeting.{JoinsOnce}
-use Rattle.sk_tree.specs.LegalPlan.{merge_told, taken_told, IsKept, IsPreferred, IsLegalStep, AreLegalSteps, IsLegalPlan}
+use Rattle.sk_tree.specs.LegalPlan.{merge_told, taken_told, IsKept, IsPreferred, IsLegalStep, AreLegalSteps, IsLegalPlan, next_after}
 use Rattle.sk_tree.specs.ByNumber.{by_number}
 use Rattle.sk_tree.specs.DrawnChoice.{HasDrawnChoice, shapes_of, drawn_choice}
 use Rattle.sk_plan.proofs.Legal.{step_taken}
@@ -99,8 +99,8 @@ same_steps g f s (x ∷ xs) (y ∷ ys) sound (x_legal, xs_legal) (y_legal, ys_le
     let here : merge_told x ≡ merge_told y = cc same in
     let later : map merge_told xs ≡ map merge_told ys = cc same in
     let step_is : x ≡ y = same_step g f s x y sound x_legal y_legal here (All-head (λ z. HasDrawnChoice s z) x xs xs_drawn) (All-head (λ z. HasDrawnChoice s z) y ys ys_drawn) in
-    let sound_on : IsSound (merged f (merge_told x)) = sound_taken g f (taken_told x) sound (step_taken g f x x_legal) in
-    let rest : xs ≡ ys = same_steps g (merged f (merge_told x)) s xs ys sound_on xs_legal (subst (λ (m : Merge). AreLegalSteps g (merged f m) ys) (sym here) ys_legal) later
+    let sound_on : IsSound (next_after f x) = sound_taken g f (taken_told x) sound (step_taken g f x x_legal) in
+    let rest : xs ≡ ys = same_steps g (next_after f x) s xs ys sound_on xs_legal (subst (λ (m : Merge). AreLegalSteps g (merged f m) ys) (sym here) ys_legal) later
     (All-tail (λ z. HasDrawnChoice s z) x xs xs_drawn) (All-tail (λ z. HasDrawnChoice s z) y ys ys_drawn) in
     ap (λ z. z ∷ xs) step_is ∙ ap (λ zs. y ∷ zs) rest
 

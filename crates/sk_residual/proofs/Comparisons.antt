@@ -19,12 +19,11 @@ use Rattle.sk_base.proofs.Finding.{found_rising}
 use Rattle.sk_base.proofs.Members.{contains_none, contains_head, contains_cases, mapped_from}
 use Rattle.sk_family.specs.Clusters.{Clusters, initial_clusters}
 use Rattle.sk_graph.specs.SketchGraph.{node_of, graph_of}
-use Rattle.sk_rules.specs.Merges.{merged}
 use Rattle.sk_tree.specs.declared.Choice.{Choice}
 use Rattle.sk_tree.specs.declared.Choice.TheVariants.{Turn, Advance, Nothing}
 use Rattle.sk_tree.specs.declared.Plan.{Plan}
 use Rattle.sk_tree.specs.declared.PlanStep.{PlanStep}
-use Rattle.sk_tree.specs.LegalPlan.{FitsKinds, IsLegalStep, AreLegalSteps, IsLegalPlan, merge_told}
+use Rattle.sk_tree.specs.LegalPlan.{FitsKinds, IsLegalStep, AreLegalSteps, IsLegalPlan, next_after}
 use Rattle.sk_residual.specs.declared.turned.Turned.{Turned}
 use Rattle.sk_residual.specs.Least.{IsFirst}
 use Rattle.sk_residual.specs.Turns.{IsAsDrawn, IsTurned, AllAsDrawn}
@@ -67,7 +66,7 @@ legal_step g f [] legal step h = absurd (contains_none step h)
 legal_step g f (s ∷ ss) legal step h =
     elim (contains_cases s ss step h) [
       | inl here ↦ subst (λ x. (at : Clusters) × IsLegalStep g at x) here (f, legal.0)
-      | inr later ↦ legal_step g (merged f (merge_told s)) ss legal.1 step later
+      | inr later ↦ legal_step g (next_after f s) ss legal.1 step later
     ]
 
 abbrev IsSomeNode : Graph → Elem → Type 0

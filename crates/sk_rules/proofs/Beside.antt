@@ -4,6 +4,7 @@ use Rattle.std.proofs.Common.{◌≡◌, ◌≢◌, ◌⊎◌, inl, inr, Bool, t
 use Rattle.std.specs.Prelude.{Contains, ◌↔◌, ◌==◌, ◌&&◌}
 use Rattle.std.specs.List.{list_any}
 use Rattle.std.proofs.lemmas.List.Elements.{Contains-append_left, Contains-append_right, Contains-append_cases}
+use Rattle.std.proofs.lemmas.Bool.{and_parts}
 use Rattle.sk_base.specs.declared.Elem.{Elem}
 use Rattle.sk_base.specs.declared.ConId.{ConId}
 use Rattle.sk_base.specs.declared.Graph.{Graph}
@@ -24,7 +25,6 @@ use Rattle.sk_rules.proofs.JustSome.{in_part, sound_part, all_pass}
 use Rattle.sk_rules.proofs.Keeping.{others, reached_then, can_carry, kept_is_reached}
 use Rattle.sk_rules.proofs.KeptFamily.{each_owned}
 use Rattle.sk_rules.proofs.NormalForm.{one_around, normal_same}
-use Rattle.sk_rules.proofs.SummedWeights.{both_true}
 
 -- whether the constraint is one of these, and passes
 abbrev pub passes_among : List ConId → (ConId → Bool) → ConId → Bool
@@ -39,7 +39,7 @@ pub in_alone : (g : Graph) → IsSoundGraph g → (owned : List ConId) (passes :
 in_alone g sound owned passes s = (
   (λ h. (
       let was = (in_part g (passes_among owned passes) sound s).0 h in
-      let both = both_true (list_any (λ (j : ConId). j.0 == s.number.0) owned) (passes s.number) was.1 in
+      let both = and_parts (list_any (λ (j : ConId). j.0 == s.number.0) owned) (passes s.number) was.1 in
       (was.0, among_found con_number con_exact owned s.number both.0, both.1))),
   (λ h. (in_part g (passes_among owned passes) sound s).1 (h.0, rw (found_among con_number owned s.number h.1) h.2)),
 )

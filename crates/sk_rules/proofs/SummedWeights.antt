@@ -1,7 +1,8 @@
 -- What constraints weigh together.
 use Rattle.std.proofs.Common.{◌≡◌, ◌⊎◌, inl, inr, refl, ℕ, ◌+◌, ◌≤◌, Bool, true, false, cond, List, [], ◌∷◌, ap, sym, subst, ◌∙◌, arith}
-use Rattle.std.specs.Prelude.{Contains, filter, sum_by, ◌||◌, ◌&&◌}
+use Rattle.std.specs.Prelude.{Contains, filter, sum_by, ◌||◌}
 use Rattle.std.specs.List.{list_all}
+use Rattle.std.proofs.lemmas.Bool.{and_parts}
 use Rattle.std.proofs.lemmas.List.Sums.{sum_by-cons}
 use Rattle.sk_base.specs.declared.Elem.{Elem}
 use Rattle.sk_base.specs.declared.ConId.{ConId}
@@ -19,10 +20,6 @@ same_tests true b to from = sym (to refl)
 same_tests false true to from = from refl
 same_tests false false to from = refl
 
-pub both_true : (a b : Bool) → (a && b) ≡ true → (a ≡ true) × (b ≡ true)
-both_true true b h = (refl, h)
-both_true false b h = absurd (cc)
-
 -- a constraint is owned just where its number is one of them
 pub owned_found : (owned : List ConId) (s : Start) → is_owned owned s ≡ true → Contains owned s.number
 owned_found owned s passes = among_found con_number con_exact owned s.number passes
@@ -37,7 +34,7 @@ found_inside xs s = each s.elements
     each : (es : List Elem) → list_all (is_elem xs) es ≡ true → (e : Elem) → Contains es e → Contains xs e
     each [] passes e h = absurd (contains_none e h)
     each (d ∷ es) passes e h =
-        let both = both_true (is_elem xs d) (list_all (is_elem xs) es) passes in
+        let both = and_parts (is_elem xs d) (list_all (is_elem xs) es) passes in
         elim (contains_cases d es e h) [ inl here ↦ elem_found xs e (subst (λ z. is_elem xs z ≡ true) here both.0) | inr later ↦ each es both.1 e later ]
 
 pub inside_found : (xs : List Elem) (s : Start) → ((e : Elem) → Contains s.elements e → Contains xs e) → is_inside xs s ≡ true

@@ -4,6 +4,7 @@ use Rattle.std.specs.Prelude.{Contains, AllPairs, map, filter, sum_by, count_by,
 use Rattle.std.specs.List.{list_all}
 use Rattle.std.proofs.lemmas.List.{length-map}
 use Rattle.std.proofs.lemmas.List.Sums.{sum_by-cons}
+use Rattle.std.proofs.lemmas.Bool.{and_parts}
 use Rattle.sk_base.specs.declared.Elem.{Elem}
 use Rattle.sk_base.specs.declared.ConId.{ConId}
 use Rattle.sk_base.specs.declared.Edge.{Edge}
@@ -26,7 +27,7 @@ use Rattle.sk_family.proofs.GraphStarts.{among_start, from_start, both_ends, sta
 use Rattle.sk_rules.specs.Reach.{Reach}
 use Rattle.sk_rules.specs.Excess.{weight, weight_where, weight_of, is_inside, is_owned, held, has_ends_in, has_pins_in, block_weight, HasTwoEach}
 use Rattle.sk_rules.proofs.Counting.{reached_tight}
-use Rattle.sk_rules.proofs.SummedWeights.{weighs_one, weighs_more, weighs_by_one, none_weigh, weights_add, same_tests, both_true, owned_found, found_owned, found_inside, inside_found}
+use Rattle.sk_rules.proofs.SummedWeights.{weighs_one, weighs_more, weighs_by_one, none_weigh, weights_add, same_tests, owned_found, found_owned, found_inside, inside_found}
 
 module _ (w : Start → ℕ) where
   -- a start of a number that none has is put in
@@ -86,7 +87,7 @@ module _ (xs : List Elem) where
       rw (found_elem xs e.u (each e.u (among_start (e.u ∷ e.v ∷ []) e.u (contains_head e.u (e.v ∷ [])))))
       (found_elem xs e.v (each e.v (among_start (e.u ∷ e.v ∷ []) e.v (contains_later e.u (e.v ∷ []) e.v (contains_head e.v [])))))))
       (λ passes. (
-      let both = both_true (is_elem xs e.u) (is_elem xs e.v) passes in
+      let both = and_parts (is_elem xs e.u) (is_elem xs e.v) passes in
       inside_found xs (edge_start e) (λ d d_in. elim (contains_cases e.u (e.v ∷ []) d (from_start (e.u ∷ e.v ∷ []) d d_in)) [
         | inl left ↦ subst (λ z. Contains xs z) left (elem_found xs e.u both.0)
         | inr right ↦ subst (λ z. Contains xs z) (contains_one e.v d right) (elem_found xs e.v both.1)
@@ -121,7 +122,7 @@ module _ (xs : List Elem) where
       every : (pins : List Pin) → list_all (λ (pin : Pin). is_elem xs pin.elem) pins ≡ true → (pin : Pin) → Contains pins pin → Contains xs pin.elem
       every [] passes pin h = absurd (contains_none pin h)
       every (q ∷ pins) passes pin h =
-          let both = both_true (is_elem xs q.elem) (list_all (λ (r : Pin). is_elem xs r.elem) pins) passes in
+          let both = and_parts (is_elem xs q.elem) (list_all (λ (r : Pin). is_elem xs r.elem) pins) passes in
           elim (contains_cases q pins pin h) [
             | inl here ↦ subst (λ (r : Pin). Contains xs r.elem) here (elem_found xs q.elem both.0)
             | inr later ↦ every pins both.1 pin later

@@ -2,7 +2,7 @@
 use Rattle.std.proofs.Common.{◌≡◌, ◌⊎◌, inl, inr, ℕ, ◌+◌, ◌-◌, ◌<◌, ◌≤◌, Bool, true, false, List, [], ◌∷◌, ◌++◌, length, take, drop, get_or, refl, ap, sym, subst, ◌∙◌, arith}
 use Rattle.std.specs.Prelude.{Contains, ◌↔◌, ◌==◌, filter, map}
 use Rattle.std.specs.List.{list_any}
-use Rattle.std.proofs.lemmas.Bool.{or_cases, or_left, or_right, false_from_ne_true}
+use Rattle.std.proofs.lemmas.Bool.{and_parts, or_cases, or_left, or_right, false_from_ne_true}
 use Rattle.std.proofs.lemmas.List.{take_more, take_all, get_or_default, length-drop}
 use Rattle.std.proofs.lemmas.List.Elements.{filter_agree, Contains-get_or, Contains-push_cases, Contains-append_left, Contains-append_right}
 use Rattle.sk_base.specs.declared.Elem.{Elem}
@@ -29,7 +29,7 @@ use Rattle.sk_rules.specs.Reach.{Step, Reach, IsClosed, IsNormal, stays, goes}
 use Rattle.sk_rules.specs.Keeping.{HasOneMore}
 use Rattle.sk_rules.proofs.Keeping.{can_carry, contains_settles}
 use Rattle.sk_rules.proofs.KeptClusters.{adopted, owned_is_constraint}
-use Rattle.sk_rules.proofs.SummedWeights.{same_tests, both_true}
+use Rattle.sk_rules.proofs.SummedWeights.{same_tests}
 use Rattle.sk_worklist.proofs.Runs.{reach_on}
 use Rattle.sk_rules.specs.JustSome.{with_just}
 use Rattle.sk_spare.specs.Sparing.{differs_from}
@@ -75,7 +75,7 @@ module _ (g : Graph) (owned : List ConId) (k : ConId) (p : ConId → Bool) (f : 
       let is = (beside.exactly j).0 passes in
       rw (found_among con_number owned j is.0) (other_passes j.0 k.0 (λ same. is.1 (subst (λ i. Contains (k ∷ []) i) (sym (con_exact j k same)) (contains_head k []))))))
       (λ passes. (
-      let both = both_true (list_any (λ (i : ConId). i.0 == j.0) owned) (differs_from k j) passes in
+      let both = and_parts (list_any (λ (i : ConId). i.0 == j.0) owned) (differs_from k j) passes in
       (beside.exactly j).1 (
         among_found con_number con_exact owned j both.0,
         λ aside. passes_differ j.0 k.0 both.1 (ap con_number (sym (contains_one k j aside))),

@@ -30,7 +30,7 @@ fn tree_of(alloc: Global, taken: &[Taken], name: Name) -> Result<Tree, NoMemory>
     match name {
         Name::Con(number) => Ok(Tree::Leaf(ConId(number))),
         Name::Step(_) => {
-            let place = place_of(taken, name);
+            let place = place_of_step(taken, name);
             let Taken {
                 step,
                 merge,
@@ -61,7 +61,7 @@ fn tree_of(alloc: Global, taken: &[Taken], name: Name) -> Result<Tree, NoMemory>
 
 /// Where the step of that name stands. Where the steps' names don't rise, as they may, it is found by a
 /// scan.
-fn place_of(taken: &[Taken], name: Name) -> usize
+fn place_of_step(taken: &[Taken], name: Name) -> usize
     requires { (t : Merging) × Contains taken.now t × (t.step ≡ name) }
     ensures inside { result < length taken.now }
     ensures named { (t : Merging) × (slice_get taken.now result ≡ Some t) × (t.step ≡ name) }

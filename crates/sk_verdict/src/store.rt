@@ -14,12 +14,12 @@ pub(crate) fn put(parts: &mut List<Part>, part: Part) -> Result<(), NoMemory>
     ensures in_order { OnOk result (AreInOrder parts.new) }
     ensures has { OnOk result ((p : ThePart) → Contains parts.new p ↔ ((part ≡ p) ⊎ Contains parts.old p)) }
 {
-    let place = place_of(parts.as_slice(), part.elements.as_slice());
+    let place = count_before(parts.as_slice(), part.elements.as_slice());
     parts.insert(place, part)
 }
 
-/// The place of these elements: after all parts that come before them.
-fn place_of(parts: &[Part], elements: &[Elem]) -> usize
+/// How many parts come before one of these elements: its place among them.
+fn count_before(parts: &[Part], elements: &[Elem]) -> usize
     requires { AreInOrder parts.now }
     ensures within { result ≤ length parts.now }
     ensures before { (p : ThePart) → Contains (take result parts.now) p → ElementsBefore p.elements elements.now }

@@ -17,12 +17,12 @@ use Rattle.sk_family.specs.declared.Cluster.{Cluster}
 use Rattle.sk_family.specs.Body.{Start, starts}
 use Rattle.sk_family.specs.Clusters.{Clusters, IsNamed, initial_clusters, start_of, unnamed, whole_from}
 use Rattle.sk_graph.specs.SketchGraph.{graph_of, node_of}
-use Rattle.sk_rules.specs.Merges.{names_of, merged}
+use Rattle.sk_rules.specs.Merges.{names_of}
 use Rattle.sk_tree.specs.declared.Choice.{Choice}
 use Rattle.sk_tree.specs.declared.Choice.TheVariants.{Turn, Advance, Nothing}
 use Rattle.sk_tree.specs.declared.Plan.{Plan}
 use Rattle.sk_tree.specs.declared.PlanStep.{PlanStep}
-use Rattle.sk_tree.specs.LegalPlan.{numbers_of, merge_told, FitsKinds, IsLegalStep, AreLegalSteps, IsLegalPlan}
+use Rattle.sk_tree.specs.LegalPlan.{numbers_of, merge_told, FitsKinds, IsLegalStep, AreLegalSteps, IsLegalPlan, next_after}
 use Rattle.sk_verify.specs.ClaimText.{IsDeclared, CanBeSaid}
 use Rattle.sk_verify.specs.Printed.{HasPlainNumber}
 
@@ -35,7 +35,7 @@ record IsPlain (f : Clusters) (steps : ℕ) : Type 0 where
 next_plain : (f : Clusters) (steps : ℕ) → IsPlain f (1 + steps) → HasPlainNumber (Step f.next_step)
 next_plain f steps plain = (let room = plain.room in (plain.first, omega arith))
 
-plain_merged : (f : Clusters) (steps : ℕ) (x : PlanStep) → IsPlain f (1 + steps) → IsPlain (merged f (merge_told x)) steps
+plain_merged : (f : Clusters) (steps : ℕ) (x : PlanStep) → IsPlain f (1 + steps) → IsPlain (next_after f x) steps
 plain_merged f steps x plain = record {
   names = λ c there.
       let names = names_of (merge_told x) in
@@ -89,7 +89,7 @@ said_along s f (y ∷ steps) plain legal x there =
     let more : IsPlain f (1 + length steps) = record { names = plain.names; first = plain.first; room = (let room = plain.room in omega arith) } in
     elim (contains_cases y steps x there) [
       | inl same ↦ subst (λ (z : PlanStep). CanBeSaid s z) same (said_here s f (length steps) y more legal.0)
-      | inr later ↦ said_along s (merged f (merge_told y)) steps (plain_merged f (length steps) y more) legal.1 x later
+      | inr later ↦ said_along s (next_after f y) steps (plain_merged f (length steps) y more) legal.1 x later
     ]
 
 -- where the constraints have plain numbers, and there are no more steps than plain numbers

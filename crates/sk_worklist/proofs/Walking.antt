@@ -10,7 +10,7 @@ use Rattle.sk_base.proofs.Pairs.{pairs_head}
 use Rattle.sk_base.proofs.Unions.{which}
 use Rattle.std.proofs.lemmas.Option.{slice_get-get_or}
 use Rattle.sk_family.specs.declared.Cluster.{Cluster}
-use Rattle.sk_family.specs.Starting.{is_before}
+use Rattle.sk_family.proofs.Halving.{is_before}
 use Rattle.sk_family.proofs.Halving.{passing_front, before_below, below_before}
 use Rattle.sk_family.proofs.Naming.{below_chain, below_irreflexive, among_named, named_among}
 use Rattle.sk_base.proofs.Splits.{in_take, in_either, pairs_drop}

@@ -38,7 +38,7 @@ pub fn close_in_any_order(alloc: Global, family: &mut Family, graph: &Graph) -> 
     let mut index = Index::of(alloc, family, graph)?;
     let mut clear = Name::Con(0);
     loop {
-        let next = next_merge(alloc, &index, family.from(clear))?;
+        let next = next_merge(alloc, &index, family.not_below(clear))?;
         let Some(merge) = next else {
             return Ok(());
         };

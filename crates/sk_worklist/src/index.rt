@@ -10,7 +10,7 @@ ghost use Rattle.sk_base.specs.Rising.{IsRising};
 ghost use Rattle.sk_base.specs.declared.Kind.TheVariants.{Line};
 ghost use Rattle.sk_family.specs.declared.Cluster.{Cluster as AnyCluster};
 
-use sk_base::{Elem, Graph, Kind, List, Name, NoMemory, Node};
+use sk_base::{Elem, Graph, Kind, Name, NoMemory, Node};
 use sk_family::{Cluster, Family, Row};
 use slab::Slab;
 use std::alloc::Global;
@@ -66,7 +66,7 @@ impl Index {
         ensures held { OnOk result ((c : AnyCluster) → IsHeld self.new c ↔ (IsHeld self.old c ⊎ (c ≡ cluster.now))) }
         ensures lines { OnOk result (self.new.lines ≡ self.old.lines) }
     {
-        let copy = copy_of(self.alloc, cluster)?;
+        let copy = cluster.copy(self.alloc)?;
         let key = self.live.insert(copy)?;
         self.add_holders(cluster.elements.as_slice(), key)?;
         Ok(())
@@ -317,18 +317,4 @@ pub(crate) fn mark(lines: &mut Vec<bool>, elem: Elem) -> Result<(), NoMemory>
     }
     lines[at] = true;
     Ok(())
-}
-
-fn copy_of(alloc: Global, cluster: &Cluster) -> Result<Cluster, NoMemory>
-    ensures { IfOk result (λ copy. copy ≡ cluster.now) }
-{
-    let mut elements = List::new(alloc);
-    elements.extend(cluster.elements.as_slice())?;
-    let mut owned = List::new(alloc);
-    owned.extend(cluster.owned.as_slice())?;
-    Ok(Cluster {
-        name: cluster.name,
-        elements,
-        owned,
-    })
 }

@@ -126,7 +126,7 @@ impl Worklist {
         ensures none { IfNone result ((g : AnyGraph) → Follows self.old g family.now → Follows self.new g family.now × HasNoPair g family.now) }
         ensures some { IfSome result (λ pair. (g : AnyGraph) → Follows self.old g family.now → Follows self.new g family.now × IsFirstPair g family.now pair) }
     {
-        match first_with_partner(&self.index, family.from(self.clear)) {
+        match first_with_partner(&self.index, family.not_below(self.clear)) {
             Some((x, y)) => {
                 self.clear = x;
                 Some(Merge::Two(x, y))
@@ -159,7 +159,7 @@ impl Worklist {
         ensures sound { IsSound family.now }
     {
         let mut found = List::new(self.alloc);
-        add_triples_of_all(&self.index, family.from(self.covered), &mut found)?;
+        add_triples_of_all(&self.index, family.not_below(self.covered), &mut found)?;
         in_order(self.alloc, found.as_slice())
     }
 }

@@ -26,13 +26,13 @@ loop-index-init c = record {
 }
 
 pub next_merge-requires-clause-rise : goal.next_merge-requires-clause-rise
-next_merge-requires-clause-rise c x x_in = (c.from.ensures.sound.bodies_rise x ((c.from.ensures.live x).0 x_in).0).elements
+next_merge-requires-clause-rise c x x_in = (c.not_below.ensures.sound.bodies_rise x ((c.not_below.ensures.live x).0 x_in).0).elements
 
 pub returns-in_default-clause-closed : goal.returns-in_default-clause-closed
 returns-in_default-clause-closed c =
-    closed_without_next c.loop-index.index c.args.graph.now c.loop-index.family c.from.ensures.sound c.loop-index.invariant.represents c.loop-index.clear c.from.result.now c.from.ensures.live
+    closed_without_next c.loop-index.index c.args.graph.now c.loop-index.family c.not_below.ensures.sound c.loop-index.invariant.represents c.loop-index.clear c.not_below.result.now c.not_below.ensures.live
     c.loop-index.invariant.settled
-    (subst (λ (o : Option Merge). IsNext c.loop-index.index c.from.result.now o) c.in_default.is c.in_ok-next.ensures)
+    (subst (λ (o : Option Merge). IsNext c.loop-index.index c.not_below.result.now o) c.in_default.is c.in_ok-next.ensures)
 
 pub returns-in_default-clause-normal : goal.returns-in_default-clause-normal
 returns-in_default-clause-normal c before = record {
@@ -46,12 +46,12 @@ returns-in_default-clause-only c rises before other normal =
 
 pub take_in-requires-clause-can : goal.take_in-requires-clause-can
 take_in-requires-clause-can c =
-    next_can c.loop-index.index c.args.graph.now c.loop-index.family c.from.ensures.sound c.loop-index.invariant.represents c.loop-index.clear c.from.result.now c.from.ensures.live
-    c.in-Some.merge (subst (λ (o : Option Merge). IsNext c.loop-index.index c.from.result.now o) c.in-Some.is c.in_ok-next.ensures)
+    next_can c.loop-index.index c.args.graph.now c.loop-index.family c.not_below.ensures.sound c.loop-index.invariant.represents c.loop-index.clear c.not_below.result.now c.not_below.ensures.live
+    c.in-Some.merge (subst (λ (o : Option Merge). IsNext c.loop-index.index c.not_below.result.now o) c.in-Some.is c.in_ok-next.ensures)
 
 pub take_in-requires-clause-room : goal.take_in-requires-clause-room
 take_in-requires-clause-room c =
-    let two = two_live c.args.graph.now c.loop-index.family c.from.ensures.sound c.in-Some.merge (take_in-requires-clause-can c) in
+    let two = two_live c.args.graph.now c.loop-index.family c.not_below.ensures.sound c.in-Some.merge (take_in-requires-clause-can c) in
     omega (arith, two, c.loop-index.invariant.room, c.requires)
 
 pub loop-index-preserved : goal.loop-index-preserved
@@ -61,11 +61,11 @@ loop-index-preserved c =
     let f = c.loop-index.family in
     let ix = c.loop-index.index in
     let m = c.in-Some.merge in
-    let sound = c.from.ensures.sound in
-    let next : IsNextMerge ix c.from.result.now m = subst (λ (o : Option Merge). IsNext ix c.from.result.now o) c.in-Some.is c.in_ok-next.ensures in
+    let sound = c.not_below.ensures.sound in
+    let next : IsNextMerge ix c.not_below.result.now m = subst (λ (o : Option Merge). IsNext ix c.not_below.result.now o) c.in-Some.is c.in_ok-next.ensures in
     let (names, is) = c.in_ok-take_in.ensures.ok in
-    let within : IsWithin f (greatest_of m) = next_within ix g f sound was.represents c.loop-index.clear c.from.result.now c.from.ensures.live m next in
-    let settled : IsSettledBelow g f (greatest_of m) = settled_to_next ix g f sound was.represents c.loop-index.clear c.from.result.now c.from.ensures.live was.settled m next in
+    let within : IsWithin f (greatest_of m) = next_within ix g f sound was.represents c.loop-index.clear c.not_below.result.now c.not_below.ensures.live m next in
+    let settled : IsSettledBelow g f (greatest_of m) = settled_to_next ix g f sound was.represents c.loop-index.clear c.not_below.result.now c.not_below.ensures.live was.settled m next in
     record {
       room = (let room = c.take_in.ensures.room in omega (arith, room, was.room));
       no_more = (let no_more = c.take_in.ensures.no_more in omega (arith, no_more, was.no_more));

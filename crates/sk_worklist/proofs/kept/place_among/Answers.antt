@@ -2,7 +2,7 @@ use Rattle.std.proofs.Common.{rules, true, false, ◌≡◌}
 use Rattle.std.specs.List.Sorted.{IsPartitionPoint}
 use Rattle.std.proofs.lemmas.List.Sorted.{IsPartitionPoint-from_clause}
 use Rattle.sk_base.specs.declared.Name.{Name}
-use Rattle.sk_family.specs.Starting.{is_before}
+use Rattle.sk_family.proofs.Halving.{is_before}
 use Rattle.sk_family.proofs.Halving.{front_passes, rest_fails, before_below, not_below, tells_before}
 use Rattle.sk_worklist.proofs.Walking.{rising_partition}
 use Rattle.sk_worklist.proofs.kept.place_among.Goals as goal

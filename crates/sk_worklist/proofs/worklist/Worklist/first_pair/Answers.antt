@@ -7,7 +7,7 @@ use Rattle.sk_worklist.proofs.Turning.{no_pair_to, within_next, first_is}
 use Rattle.sk_worklist.proofs.worklist.Worklist.first_pair.Goals as goal
 
 pub first_with_partner-requires-clause-rise : goal.first_with_partner-requires-clause-rise
-first_with_partner-requires-clause-rise c x x_in = (c.from.ensures.sound.bodies_rise x ((c.from.ensures.live x).0 x_in).0).elements
+first_with_partner-requires-clause-rise c x x_in = (c.not_below.ensures.sound.bodies_rise x ((c.not_below.ensures.live x).0 x_in).0).elements
 
 pub returns-in-Some-clause-some : goal.returns-in-Some-clause-some
 returns-in-Some-clause-some c g follows =
@@ -18,13 +18,13 @@ returns-in-Some-clause-some c g follows =
       record {
         represents = r;
         knows = record {
-          clear_within = within_next w.index g f c.from.ensures.sound r w.clear c.from.result.now c.from.ensures.live c.in-Some.x c.in-Some.y p;
+          clear_within = within_next w.index g f c.not_below.ensures.sound r w.clear c.not_below.result.now c.not_below.ensures.live c.in-Some.x c.in-Some.y p;
           covered_within = follows.knows.covered_within;
-          no_pair = no_pair_to w.index g f c.from.ensures.sound r w.clear c.from.result.now c.from.ensures.live follows.knows.no_pair c.in-Some.x p.first;
+          no_pair = no_pair_to w.index g f c.not_below.ensures.sound r w.clear c.not_below.result.now c.not_below.ensures.live follows.knows.no_pair c.in-Some.x p.first;
           keeps = follows.knows.keeps;
         };
       },
-      first_is w.index g f c.from.ensures.sound r w.clear c.from.result.now c.from.ensures.live follows.knows.no_pair c.in-Some.x c.in-Some.y p,
+      first_is w.index g f c.not_below.ensures.sound r w.clear c.not_below.result.now c.not_below.ensures.live follows.knows.no_pair c.in-Some.x c.in-Some.y p,
     )
 
 pub returns-in-None-clause-none : goal.returns-in-None-clause-none
@@ -33,7 +33,7 @@ returns-in-None-clause-none c g follows =
     let f = c.args.family.now in
     let step : Step c.next_step.result ≡ Step f.next_step = ap Step c.next_step.ensures in
     let no_pair : NoPairBelow f (Step f.next_step) =
-    no_pair_to w.index g f c.from.ensures.sound follows.represents w.clear c.from.result.now c.from.ensures.live follows.knows.no_pair (Step f.next_step) (λ d n d_in below. c.in-None.ensures.none d n d_in) in (
+    no_pair_to w.index g f c.not_below.ensures.sound follows.represents w.clear c.not_below.result.now c.not_below.ensures.live follows.knows.no_pair (Step f.next_step) (λ d n d_in below. c.in-None.ensures.none d n d_in) in (
       record {
         represents = follows.represents;
         knows = record {
@@ -43,5 +43,5 @@ returns-in-None-clause-none c g follows =
           keeps = follows.knows.keeps;
         };
       },
-      no_pair_at_all g f c.from.ensures.sound no_pair,
+      no_pair_at_all g f c.not_below.ensures.sound no_pair,
     )

@@ -6,7 +6,7 @@ use Rattle.sk_base.specs.declared.Name.TheVariants.{Con}
 use Rattle.sk_rules.specs.declared.Taken.{Taken as Merging}
 use Rattle.sk_rules.specs.declared.Merge.TheVariants.{Two}
 use Rattle.sk_base.proofs.NameOrder.{same_name}
-use Rattle.sk_tree.proofs.joined.place_of.Goals as goal
+use Rattle.sk_tree.proofs.joined.place_of_step.Goals as goal
 
 any_merge : Merging
 any_merge = record { step = Con 0; merge = Two (Con 0) (Con 0); shared = record { a = record { 0 = 0 }; b = record { 0 = 0 }; c = None } }

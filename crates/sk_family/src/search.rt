@@ -7,8 +7,8 @@ ghost use Rattle.sk_family.specs.Clusters.{ByName};
 use crate::cluster::Cluster;
 use sk_base::Name;
 
-/// The place of the name: after all clusters below it.
-pub(crate) fn place_of(clusters: &[Cluster], name: Name) -> usize
+/// How many of the clusters are below the name: its place among them.
+pub(crate) fn count_below(clusters: &[Cluster], name: Name) -> usize
     requires { AllPairs ByName clusters.now }
     ensures within { result ≤ length clusters.now }
     ensures before { (c : AnyCluster) → Contains (take result clusters.now) c → IsBelow c.name name }

@@ -6,7 +6,7 @@ use Rattle.sk_verdict.specs.declared.part.Part.{Part}
 use Rattle.sk_base.specs.ElementOrder.{comes_before as is_before}
 use Rattle.sk_base.proofs.ListOrder.{computed_before, before_computed}
 use Rattle.sk_verdict.proofs.Placing.{parts_partition}
-use Rattle.sk_verdict.proofs.store.place_of.Goals as goal
+use Rattle.sk_verdict.proofs.store.count_before.Goals as goal
 
 point : (c : goal.After-partition_point) → IsPartitionPoint (λ (p : Part). is_before p.elements c.args.elements.now ≡ true) (λ (p : Part). is_before p.elements c.args.elements.now ≡ false) c.args.parts.now c.partition_point.result
 point c =
