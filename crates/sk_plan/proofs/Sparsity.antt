@@ -18,7 +18,7 @@ use Rattle.sk_rules.specs.Reach.{Reach, stays, goes, IsNormal}
 use Rattle.sk_rules.specs.Excess.{is_owned, HasTwoEach}
 use Rattle.sk_rules.proofs.NormalForm.{reach_covers, one_of_two}
 use Rattle.sk_rules.proofs.WeighedGraphs.{two_of}
-use Rattle.sk_rules.proofs.SummedWeights.{both_true, owned_found, found_owned}
+use Rattle.sk_rules.proofs.SummedWeights.{owned_found, found_owned}
 use Rattle.sk_base.proofs.Numbers.{elem_found, found_elem}
 use Rattle.sk_tree.specs.Meeting.{MeetsOnce}
 use Rattle.sk_plan.specs.Sparse.{weight_within, weight_among, angles_among, AreDistinct, AreIn, AreLines, AreThreeMeetingOnce, EachMeetsOnce, HoldsNoneTooMany, IsSparse, HasFewAngles, IsSparseAmong, HasFewAnglesAmong}
