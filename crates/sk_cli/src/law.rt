@@ -13,7 +13,7 @@ ghost use Rattle.sk_session.specs.declared.Reply.{Reply};
 ghost use Rattle.sk_report.specs.PlanReport.{plan_report};
 ghost use Rattle.sk_report.specs.SolveReport.{places_report, solve_report};
 ghost use Rattle.sk_choice.specs.DrawnChoice.{HasDrawnChoice};
-ghost use Rattle.sk_residual.specs.Placing.{PlacesExactly};
+ghost use Rattle.sk_holding.specs.Placing.{PlacesExactly};
 ghost use Rattle.sk_residual.specs.Tolerances.{AllHoldWithin};
 ghost use Rattle.sk_tree.specs.LegalPlan.{IsLegalPlan};
 ghost use Rattle.sk_verify.specs.Claims.{plan_claimed};

@@ -7,7 +7,7 @@ ghost use Rattle.sk_tree.specs.LegalPlan.{IsLegalPlan};
 ghost use Rattle.sk_place.specs.declared.BoxFault.{BoxFault as FaultOfBox};
 ghost use Rattle.sk_place.specs.Clusters.{nodes_of};
 ghost use Rattle.sk_place.specs.Placing.{IsPlaced};
-ghost use Rattle.sk_residual.specs.Placing.{PlacesExactly};
+ghost use Rattle.sk_holding.specs.Placing.{PlacesExactly};
 ghost use Rattle.sk_flips.specs.Placements.{AnswersCarried, IsMeasured, IsPlacement, LiesWithinBounds};
 
 use sk_base::{Graph, NoMemory, Placed, Sketch};
