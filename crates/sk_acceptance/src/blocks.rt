@@ -1,14 +1,15 @@
 // Rigid blocks: judged, planned and placed, and by the calls below the top call copied, measured and turned over.
 ghost use Rattle.std.specs.Prelude.{◌≤◌, ◌<◌, ◌^◌, length};
 ghost use Rattle.sk_base.specs.SoundGraph.{IsSoundGraph};
-ghost use Rattle.sk_residual.specs.Placing.{PlacesExactly};
+ghost use Rattle.sk_holding.specs.Placing.{PlacesExactly};
 
 use crate::calls::{planned, sketch_of};
 use crate::tolerances::{placed, places_of};
 use sk_base::{Constraint, Graph, Placed, Rule, Text, copy_constraint};
 use sk_graph::reduce;
 use sk_report::turned_text;
-use sk_residual::{first_turned, meets_block};
+use sk_holding::meets_block;
+use sk_residual::first_turned;
 use std::alloc::Global;
 use std::test::Fail;
 

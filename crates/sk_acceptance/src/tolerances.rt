@@ -6,14 +6,15 @@ ghost use Rattle.std.specs.Prelude.{◌<◌, ◌≤◌, ◌^◌, length, IsTrue,
 ghost use Rattle.sk_base.specs.Bounds.{IsWithin};
 ghost use Rattle.sk_base.specs.Places.{IsBounded};
 ghost use Rattle.sk_base.specs.SoundGraph.{IsSoundGraph};
-ghost use Rattle.sk_residual.specs.Placing.{HasKind, PlacesExactly, AreSpotsOf};
+ghost use Rattle.sk_holding.specs.Placing.{HasKind, PlacesExactly, AreSpotsOf};
 
 use crate::calls::{planned, sketch_of};
 use crate::row::words_of;
 use sk_base::{At, Graph, Kind, List, Placed, Spot, Text};
 use sk_graph::reduce;
 use sk_report::{passed_text, solve_text, turned_text};
-use sk_residual::{first_turned, least, meets, passed};
+use sk_holding::meets;
+use sk_residual::{first_turned, least, passed};
 use std::alloc::Global;
 use std::process::Abort;
 use std::test::Fail;

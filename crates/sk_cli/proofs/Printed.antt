@@ -30,7 +30,7 @@ use Rattle.sk_graph.specs.SketchGraph.{graph_of, node_of}
 use Rattle.sk_tree.specs.declared.Plan.{Plan as ThePlan}
 use Rattle.sk_plan.specs.Judged.{IsTheJudgement, IsWell}
 use Rattle.sk_residual.specs.declared.Tolerance.{Tolerance}
-use Rattle.sk_residual.specs.Placing.{PlacesExactly}
+use Rattle.sk_holding.specs.Placing.{PlacesExactly}
 use Rattle.sk_residual.specs.Turns.{signs, AllAsDrawn}
 use Rattle.sk_residual.proofs.Merging.{has_blocks}
 use Rattle.sk_residual.proofs.Worsts.{all_hold_within}

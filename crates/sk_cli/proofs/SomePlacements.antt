@@ -24,7 +24,7 @@ use Rattle.sk_cli.specs.declared.bits.Bits.TheVariants.{Sixteen, TwentySeven, Th
 use Rattle.sk_cli.specs.Grids.{digits_of}
 use Rattle.sk_residual.specs.declared.Wanted.{Wanted}
 use Rattle.sk_residual.specs.declared.Wanted.TheVariants.{Chosen}
-use Rattle.sk_residual.specs.Placing.{PlacesExactly}
+use Rattle.sk_holding.specs.Placing.{PlacesExactly}
 use Rattle.sk_residual.specs.Telling.{constraint_of}
 use Rattle.sk_residual.specs.Tolerances.{lengthwise, anglewise, everything}
 use Rattle.sk_residual.specs.Turns.{signs_wanted}

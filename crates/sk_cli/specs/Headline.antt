@@ -23,8 +23,8 @@ use Rattle.sk_place.specs.declared.StepFault.{StepFault}
 use Rattle.sk_residual.specs.declared.Beyond.{Beyond}
 use Rattle.sk_residual.specs.declared.Tolerance.{Tolerance}
 use Rattle.sk_residual.specs.declared.Turned.{Turned}
-use Rattle.sk_residual.specs.Least.{IsFirst}
-use Rattle.sk_residual.specs.Placing.{PlacesExactly}
+use Rattle.sk_residual.specs.First.{IsFirst}
+use Rattle.sk_holding.specs.Placing.{PlacesExactly}
 use Rattle.sk_residual.specs.Tolerances.{AllHoldWithin, IsFirstBeyond, everything}
 use Rattle.sk_residual.specs.Turns.{signs, IsTurned, AllAsDrawn}
 use Rattle.sk_report.specs.CheckReport.{check_report, parts_head}

@@ -26,7 +26,8 @@ use Rattle.sk_place.specs.Rounding.{rounded}
 use Rattle.sk_residual.specs.declared.Spotted.{Spotted}
 use Rattle.sk_residual.specs.declared.Tolerance.{Tolerance}
 use Rattle.sk_residual.specs.declared.Wanted.{Wanted}
-use Rattle.sk_residual.specs.Least.{IsLeast, IsFirst}
+use Rattle.sk_holding.specs.Least.{IsLeast}
+use Rattle.sk_residual.specs.First.{IsFirst}
 use Rattle.sk_residual.specs.Tolerances.{AllHold, IsWorstUnlessNone, IsFirstBeyond, lengthwise, anglewise, everything}
 use Rattle.sk_residual.specs.Turns.{signs_wanted, IsTurned, AllAsDrawn}
 use Rattle.sk_flips.specs.declared.placing.Placement.{Placement}

@@ -7,17 +7,16 @@ ghost use Rattle.sk_tree.specs.LegalPlan.{IsLegalPlan};
 ghost use Rattle.sk_place.specs.declared.BoxFault.{BoxFault as FaultOfBox};
 ghost use Rattle.sk_place.specs.Clusters.{nodes_of};
 ghost use Rattle.sk_place.specs.Placing.{IsPlaced};
-ghost use Rattle.sk_residual.specs.Placing.{PlacesExactly};
+ghost use Rattle.sk_holding.specs.Placing.{PlacesExactly};
 ghost use Rattle.sk_flips.specs.Placements.{AnswersCarried, IsMeasured, IsPlacement, LiesWithinBounds};
 
 use sk_base::{Graph, NoMemory, Placed, Sketch};
 use sk_frame::{FrameBy, frame_motion, frame_of};
 use sk_graph::sound_graph;
+use sk_holding::placed_in_order;
 use sk_interval::Grid;
 use sk_place::{BoxFault, Boxes, MoveError, PlaceBy, PlaceError, StepFault, moved, place, round};
-use sk_residual::{
-    Beyond, Tolerance, Turned, Wanted, first_unlike, least, passed, placed_in_order,
-};
+use sk_residual::{Beyond, Tolerance, Turned, Wanted, first_unlike, least, passed};
 use sk_tree::Plan;
 use std::alloc::Global;
 

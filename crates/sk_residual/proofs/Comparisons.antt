@@ -25,7 +25,7 @@ use Rattle.sk_tree.specs.declared.Plan.{Plan}
 use Rattle.sk_tree.specs.declared.PlanStep.{PlanStep}
 use Rattle.sk_tree.specs.LegalPlan.{FitsKinds, IsLegalStep, AreLegalSteps, IsLegalPlan, next_after}
 use Rattle.sk_residual.specs.declared.turned.Turned.{Turned}
-use Rattle.sk_residual.specs.Least.{IsFirst}
+use Rattle.sk_residual.specs.First.{IsFirst}
 use Rattle.sk_residual.specs.Turns.{IsAsDrawn, IsTurned, AllAsDrawn}
 use Rattle.sk_residual.specs.Telling.{HasCorners, IsCompared}
 use Rattle.sk_residual.proofs.Firsts.{behind, all_so_far, first_there}

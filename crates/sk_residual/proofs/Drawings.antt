@@ -17,7 +17,7 @@ use Rattle.sk_base.specs.SoundSketch.{IsCentred, IsSoundBlock}
 use Rattle.sk_base.proofs.Finding.{found_in}
 use Rattle.sk_base.proofs.Members.{contains_mapped}
 use Rattle.sk_graph.specs.SketchGraph.{kind_of, node_of, drawn_as, graph_of}
-use Rattle.sk_residual.specs.Placing.{IsPlacedAs, AreMeasurable, PlacesExactly}
+use Rattle.sk_holding.specs.Placing.{IsPlacedAs, AreMeasurable, PlacesExactly}
 use Rattle.sk_residual.specs.Telling.{IsDrawnPoint, IsDrawnLine}
 
 -- the element of the sketch that is drawn so

@@ -7,7 +7,7 @@ use Rattle.std.proofs.lemmas.List.{take_more, at_drop_more, take-append-drop}
 use Rattle.std.proofs.lemmas.List.Elements.{Contains-append_right, Contains-append_cases}
 use Rattle.sk_base.proofs.Members.{contains_none, contains_head, contains_later, contains_cases}
 use Rattle.sk_base.proofs.Deciding.{Decided}
-use Rattle.sk_residual.specs.Least.{IsFirst}
+use Rattle.sk_residual.specs.First.{IsFirst}
 
 pub appended : {X : Type 0} (P : X → Type 0) (xs ys : List X) (x : X) → IsFirst P xs x → IsFirst P (xs ++ ys) x
 appended P xs ys x first = record {

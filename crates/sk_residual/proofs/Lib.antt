@@ -1,16 +1,10 @@
-pub mod LengthLemmas
-pub mod OffsetLemmas
-pub mod Bounds
-pub mod Placings
 pub mod Worsts
 pub mod Firsts
 pub mod Passings
 pub mod Drawings
 pub mod Comparisons
-pub mod InOrder
 pub mod OneMeasured
 pub mod Rising
 pub mod Merging
-pub mod BlockLeast
 pub mod Threes
 pub mod SomeMeasures

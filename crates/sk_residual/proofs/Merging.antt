@@ -16,12 +16,14 @@ use Rattle.sk_base.proofs.Pairs.{pairs_map, pairs_tail, pairs_head}
 use Rattle.sk_base.proofs.Unions.{rising_none, rising_cons, rising_union, union_cases, union_right, union_of_apart}
 use Rattle.sk_residual.specs.declared.beyond.Beyond.{Beyond}
 use Rattle.sk_residual.specs.declared.spotted.Spotted.{Spotted}
-use Rattle.sk_residual.specs.Tolerances.{Item, AreMerged, constraint, block, number_in, number_of, IsOwnLeast, AllHold, IsAbove, IsFirstBeyond, rigid, between, distances, distance_of_measure, constraints, lengthwise}
+use Rattle.sk_holding.specs.Items.{Item, constraint, block, IsOwnLeast}
+use Rattle.sk_residual.specs.Tolerances.{AreMerged, number_in, number_of, AllHold, IsAbove, IsFirstBeyond, rigid, between, distances, distance_of_measure, constraints, lengthwise}
 use Rattle.sk_residual.specs.Telling.{IsTold, IsSearched, is_worse_at, earlier}
 use Rattle.sk_residual.proofs.Firsts.{first_inside}
 use Rattle.sk_residual.proofs.Rising.{first_rising, none_below}
 use Rattle.sk_residual.proofs.Passings.{excludes}
-use Rattle.sk_residual.proofs.Worsts.{holds_more, on_distance}
+use Rattle.sk_holding.proofs.Widening.{holds_more}
+use Rattle.sk_residual.proofs.Worsts.{on_distance}
 
 pub swapped : (xs ys all : List Item) → AreMerged xs ys all → AreMerged ys xs all
 swapped xs ys all merged = record {

@@ -6,9 +6,11 @@ use Rattle.sk_base.proofs.Members.{contains_head, contains_later, contains_none}
 use Rattle.sk_residual.specs.declared.beyond.Beyond.{Beyond}
 use Rattle.sk_residual.specs.declared.spotted.Spotted.{Spotted}
 use Rattle.sk_residual.specs.declared.turned.Turned.{Turned}
-use Rattle.sk_residual.specs.Least.{IsLeast, IsFirst}
+use Rattle.sk_holding.specs.Least.{IsLeast}
+use Rattle.sk_residual.specs.First.{IsFirst}
 pub use Rattle.sk_residual.proofs.Firsts.{first_inside}
-use Rattle.sk_residual.specs.Tolerances.{Item, name_of, Holds, IsOwnLeast, AllHold, IsWorstUnlessNone, IsAbove, IsFirstBeyond}
+use Rattle.sk_holding.specs.Items.{Item, Holds, IsOwnLeast}
+use Rattle.sk_residual.specs.Tolerances.{name_of, AllHold, IsWorstUnlessNone, IsAbove, IsFirstBeyond}
 use Rattle.sk_residual.specs.Turns.{IsTurned, AllAsDrawn}
 
 pub one_least : (P : ℕ → Type 0) (n m : ℕ) → IsLeast P n → IsLeast P m → n ≡ m

@@ -8,10 +8,11 @@ use Rattle.sk_base.specs.declared.Placed.{Placed}
 use Rattle.sk_base.proofs.Members.{contains_none, contains_head, contains_one}
 use Rattle.sk_residual.specs.declared.spotted.Spotted.{Spotted}
 use Rattle.sk_residual.specs.declared.beyond.Beyond.{Beyond}
-use Rattle.sk_residual.specs.Tolerances.{Item, name_of, Holds, IsOwnLeast, AllHold, IsAbove, IsFirstBeyond}
+use Rattle.sk_holding.specs.Items.{Item, Holds, IsOwnLeast}
+use Rattle.sk_residual.specs.Tolerances.{name_of, AllHold, IsAbove, IsFirstBeyond}
 use Rattle.sk_residual.specs.Telling.{IsSearched}
 use Rattle.sk_residual.proofs.Firsts.{appended, behind, all_so_far, first_there}
-use Rattle.sk_residual.proofs.Worsts.{holds_more}
+use Rattle.sk_holding.proofs.Widening.{holds_more}
 
 module _ (p : Placed) (limit : ℕ) where
   pub excludes : (item : Item) → Holds p item limit → ¬ IsAbove p limit item

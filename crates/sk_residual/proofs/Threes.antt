@@ -11,7 +11,7 @@ use Rattle.sk_base.specs.declared.Pin.{Pin}
 use Rattle.sk_base.specs.declared.Placed.{Placed}
 use Rattle.sk_base.specs.Pins.{IsOnSheet}
 use Rattle.sk_residual.specs.BlockTurns.{twos, threes, turn_given, is_turn, corners}
-use Rattle.sk_residual.specs.Placing.{IsPinPlaced, AreMeasurable}
+use Rattle.sk_holding.specs.Placing.{IsPinPlaced, AreMeasurable}
 
 module _ {X Y : Type 0} (f : X → Y) (p : Y → Bool) where
   find_mapped : (xs : List X) → find p (map f xs) ≡ option_map f (find (λ x. p (f x)) xs)

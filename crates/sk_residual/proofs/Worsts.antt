@@ -4,16 +4,12 @@ use Rattle.std.specs.Prelude.{Contains, Option, None, Some, is_none, ◌||◌, n
 use Rattle.std.proofs.lemmas.Bool.Decides.{nat_tests}
 use Rattle.std.specs.List.{flat_map}
 use Rattle.std.specs.Option.{option_map}
-use Rattle.std.proofs.lemmas.Nat.{mul-le}
 use Rattle.std.proofs.lemmas.List.Elements.{Contains-push_cases, Contains-push, Contains-append_left, Contains-append_right, Contains-append_cases}
-use Rattle.sk_base.specs.declared.At.{At}
-use Rattle.sk_base.specs.declared.At.TheVariants as places
 use Rattle.sk_base.specs.declared.Measure.{Measure}
 use Rattle.sk_base.specs.declared.Measure.TheVariants.{PointPoint, PointLine, LineLine}
 use Rattle.sk_base.specs.declared.Edge.{Edge}
 use Rattle.sk_base.specs.declared.Block.{Block}
 use Rattle.sk_base.specs.declared.ConId.{ConId}
-use Rattle.sk_base.specs.declared.Pin.{Pin}
 use Rattle.sk_base.specs.declared.Graph.{Graph}
 use Rattle.sk_base.specs.declared.Kind.TheVariants as kinds
 use Rattle.sk_base.specs.declared.Node.{Node}
@@ -22,54 +18,14 @@ use Rattle.sk_base.proofs.Members.{contains_none, contains_head, contains_later,
 use Rattle.sk_base.proofs.Unions.{union_cases, union_right}
 use Rattle.sk_residual.specs.declared.spotted.Spotted.{Spotted}
 use Rattle.sk_residual.specs.declared.spotted.Spotted.TheVariants.{Con, Line}
+use Rattle.sk_holding.proofs.Widening.{holds_more}
 use Rattle.sk_residual.proofs.Firsts.{appended, first_inside}
-use Rattle.sk_residual.specs.Holding.{IsLength, IsOffset, IsNormal, IsMet, AreAsGiven, tolerance_of}
-use Rattle.sk_residual.specs.Placing.{lies}
-use Rattle.sk_residual.specs.Tolerances.{Item, normal, constraint, block, name_of, number_of, IsPairMet, ArePinsMet, rigid, Holds, IsOwnLeast, AllHold, IsMissed, IsWorst, IsWorstUnlessNone, distances, distance_of_measure, lengthwise, anglewise, normals, angles, normal_of_kind, angle_of_measure, AllHoldWithin}
+use Rattle.sk_holding.specs.Holding.{tolerance_of}
+use Rattle.sk_holding.specs.Items.{Item, normal, constraint, block, Holds, IsOwnLeast}
+use Rattle.sk_residual.specs.Tolerances.{name_of, number_of, rigid, AllHold, IsMissed, IsWorst, IsWorstUnlessNone, distances, distance_of_measure, lengthwise, anglewise, normals, angles, normal_of_kind, angle_of_measure, AllHoldWithin}
 use Rattle.sk_residual.specs.Telling.{IsTold, constraint_of}
 
--- what holds within n holds within more
-longer : (shortest longest square n m : ℕ) → n ≤ m → IsLength shortest longest square n → IsLength shortest longest square m
-longer shortest longest square n m le h = record {
-  not_shorter = (let squares = mul-le (shortest - m) (shortest - m) (shortest - n) (shortest - n) (omega arith) (omega arith) in let was = h.not_shorter in omega (arith, squares, was));
-  not_longer = (let squares = mul-le (longest + n) (longest + n) (longest + m) (longest + m) (omega arith) (omega arith) in let was = h.not_longer in omega (arith, squares, was));
-}
-
-wider : (unit offset n m : ℕ) → n ≤ m → IsOffset unit offset n → IsOffset unit offset m
-wider unit offset n m le h = (let more = mul-le n unit m unit le (omega arith) in omega (arith, more, h))
-
-met_more : (measure : Measure) (u v : At) (n m : ℕ) → n ≤ m → IsMet measure u v n → IsMet measure u v m
-met_more (PointPoint len) (places.Point x y) (places.Point z r) n m le h = longer _ _ _ n m le h
-met_more (PointLine len side) (places.Point x y) (places.Line a b c) n m le h = wider _ _ n m le h
-met_more (LineLine ratio sense) (places.Line a b c) (places.Line d e f) n m le h = wider _ _ n m le h
-met_more (PointPoint len) (places.Point x y) (places.Line a b c) n m le h = absurd h
-met_more (PointPoint len) (places.Line a b c) v n m le h = absurd h
-met_more (PointLine len side) (places.Point x y) (places.Point z r) n m le h = absurd h
-met_more (PointLine len side) (places.Line a b c) v n m le h = absurd h
-met_more (LineLine ratio sense) (places.Point x y) v n m le h = absurd h
-met_more (LineLine ratio sense) (places.Line a b c) (places.Point x y) n m le h = absurd h
-
-given_more : (a b : Pin) (u v : At) (n m : ℕ) → n ≤ m → AreAsGiven a b u v n → AreAsGiven a b u v m
-given_more a b (places.Point x y) (places.Point z r) n m le h = longer _ _ _ n m le h
-given_more a b (places.Point x y) (places.Line d e f) n m le h = absurd h
-given_more a b (places.Line d e f) v n m le h = absurd h
-
-normal_more : (line : At) (n m : ℕ) → n ≤ m → IsNormal line n → IsNormal line m
-normal_more (places.Point x y) n m le h = absurd h
-normal_more (places.Line a b c) n m le h = wider _ _ n m le h
-
 module _ (p : Placed) where
-  pub pair_more : (a b : Pin) (n m : ℕ) → n ≤ m → IsPairMet p n a b → IsPairMet p m a b
-  pair_more a b n m le h = given_more a b (lies p a.elem) (lies p b.elem) n m le h
-
-  pub pins_more : (pins : List Pin) (n m : ℕ) → n ≤ m → ArePinsMet p pins n → ArePinsMet p pins m
-  pins_more pins n m le h i j d i_j j_in = pair_more (get_or pins i d) (get_or pins j d) n m le (h i j d i_j j_in)
-
-  pub holds_more : (item : Item) (n m : ℕ) → n ≤ m → Holds p item n → Holds p item m
-  holds_more (normal line) n m le h = normal_more (lies p line) n m le h
-  holds_more (constraint e) n m le h = met_more e.measure (lies p e.u) (lies p e.v) n m le h
-  holds_more (block b) n m le h = pins_more b.pins n m le h
-
   pub told_none : IsTold p [] (record { least = 0; at = None })
   told_none = record {
     least = record { holds = λ item h. absurd (contains_none item h); least = λ m h. omega arith };
@@ -100,7 +56,7 @@ module _ (p : Placed) where
       least = record {
         holds = λ y h. elim (Contains-push_cases items item y h) [
           | inl early ↦ told.least.holds y early
-          | inr last ↦ subst (λ z. Holds p z worst) last (holds_more item n worst le own.holds)
+          | inr last ↦ subst (λ z. Holds p z worst) last (holds_more p item n worst le own.holds)
         ];
         least = λ m h. told.least.least m (λ y y_in. h y (Contains-append_left items (item ∷ []) y y_in));
       };
@@ -112,7 +68,7 @@ module _ (p : Placed) where
     }
 
     below_all : (worst : ℕ) → AllHold p items worst → worst < n → (y : Item) → Contains items y → Holds p y n × ¬ IsOwnLeast p y n
-    below_all worst all lt y h = (holds_more y worst n (omega arith) (all y h), (λ is. (let never : n ≤ worst = is.least worst (all y h) in omega arith)))
+    below_all worst all lt y h = (holds_more p y worst n (omega arith) (all y h), (λ is. (let never : n ≤ worst = is.least worst (all y h) in omega arith)))
 
     pub told_then : (worst : ℕ) (so_far : Option Spotted) → (is_none so_far || nat_lt worst n) ≡ true → IsTold p items (record { least = worst; at = so_far }) → (at : Spotted) → name_of item ≡ at
         → IsTold p (items ++ item ∷ []) (record { least = n; at = Some at })

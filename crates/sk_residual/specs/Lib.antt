@@ -1,7 +1,4 @@
-pub mod Least
-pub mod Offsets
-pub mod Holding
-pub mod Placing
+pub mod First
 pub mod Tolerances
 pub mod BlockTurns
 pub mod Turns

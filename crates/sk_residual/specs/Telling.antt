@@ -2,7 +2,6 @@
 use Rattle.std.specs.Prelude.{◌≢◌, ◌==◌, ◌||◌, ◌&&◌, nat_lt, if◌then◌else◌, Bool, true, false, ℕ, List, Option, Some, None, IsSome, MatchOption, Contains}
 use Rattle.sk_base.specs.declared.ConId.{ConId}
 use Rattle.sk_base.specs.declared.Elem.{Elem}
-use Rattle.sk_base.specs.declared.Pin.{Pin}
 use Rattle.sk_base.specs.declared.Placed.{Placed}
 use Rattle.sk_base.specs.declared.Sketch.{Sketch}
 use Rattle.sk_base.specs.Drawn.{shape_of, IsLine, HasCentre}
@@ -13,18 +12,16 @@ use Rattle.sk_residual.specs.declared.spotted.Spotted.{Spotted}
 use Rattle.sk_residual.specs.declared.spotted.Spotted.TheVariants.{Con, Line}
 use Rattle.sk_residual.specs.declared.turned.Turned.{Turned}
 use Rattle.sk_residual.specs.declared.worst.Worst.{Worst}
-use Rattle.sk_residual.specs.Least.{IsLeast, IsFirst}
-use Rattle.sk_residual.specs.Tolerances.{Item, number_in, IsPairMet, AllHold, IsWorstUnlessNone, IsFirstBeyond}
+use Rattle.sk_holding.specs.Least.{IsLeast}
+use Rattle.sk_residual.specs.First.{IsFirst}
+use Rattle.sk_holding.specs.Items.{Item}
+use Rattle.sk_residual.specs.Tolerances.{number_in, AllHold, IsWorstUnlessNone, IsFirstBeyond}
 use Rattle.sk_residual.specs.Turns.{IsTurned, AllAsDrawn}
 
 -- the least number within which all items hold, and the worst of them
 pub record IsTold (p : Placed) (items : List Item) (worst : Worst) : Type 0 where
   pub least : IsLeast (AllHold p items) worst.least
   pub at : IsWorstUnlessNone p items worst.least worst.at
-
--- each of the pins and the further one lie as far apart as they are given, within t
-abbrev pub AreMetWith : Placed → List Pin → Pin → ℕ → Type 0
-AreMetWith p pins further t = (pin : Pin) → Contains pins pin → IsPairMet p t pin further
 
 -- the one has the greater least number or, where both are the same, the first name
 abbrev pub is_worse_at : ℕ → Option Spotted → ℕ → Option Spotted → Bool

@@ -1,5 +1,5 @@
 -- What has a tolerance: the normals of the lines, the constraints between two elements, and the blocks.
-use Rattle.std.specs.Prelude.{◌≡◌, ◌⊎◌, ℕ, ◌<◌, List, [], ◌∷◌, ◌++◌, map, AllPairs, Contains, Option, MatchOption}
+use Rattle.std.specs.Prelude.{◌≡◌, ◌⊎◌, ℕ, ◌<◌, List, [], ◌∷◌, ◌++◌, map, Contains, Option, MatchOption}
 use Rattle.std.specs.List.{flat_map}
 use Rattle.sk_base.specs.declared.Elem.{Elem}
 use Rattle.sk_base.specs.declared.Kind.{Kind}
@@ -9,7 +9,6 @@ use Rattle.sk_base.specs.declared.Measure.TheVariants.{PointPoint, PointLine, Li
 use Rattle.sk_base.specs.declared.Node.{Node}
 use Rattle.sk_base.specs.declared.Edge.{Edge}
 use Rattle.sk_base.specs.declared.Block.{Block}
-use Rattle.sk_base.specs.declared.Pin.{Pin}
 use Rattle.sk_base.specs.declared.Graph.{Graph}
 use Rattle.sk_base.specs.declared.Placed.{Placed}
 use Rattle.sk_base.specs.Rising.{IsRising, union}
@@ -17,14 +16,9 @@ use Rattle.sk_base.specs.SoundGraph.{HasNode}
 use Rattle.sk_residual.specs.declared.spotted.Spotted.{Spotted}
 use Rattle.sk_residual.specs.declared.spotted.Spotted.TheVariants.{Con, Line}
 use Rattle.sk_residual.specs.declared.beyond.Beyond.{Beyond}
-use Rattle.sk_residual.specs.Least.{IsLeast, IsFirst}
-use Rattle.sk_residual.specs.Holding.{IsNormal, IsMet, AreAsGiven, tolerance_of}
-use Rattle.sk_residual.specs.Placing.{lies}
-
-pub data Item : Type 0 where
-  normal : Elem → Item
-  constraint : Edge → Item
-  block : Block → Item
+use Rattle.sk_residual.specs.First.{IsFirst}
+use Rattle.sk_holding.specs.Holding.{tolerance_of}
+use Rattle.sk_holding.specs.Items.{Item, normal, constraint, block, Holds, IsOwnLeast}
 
 -- how the item is named
 abbrev pub name_of : Item → Spotted
@@ -39,24 +33,6 @@ number_in (Line e) = e.0
 
 abbrev pub number_of : Item → ℕ
 number_of item = number_in (name_of item)
-
--- the two pins lie as far apart as they are given, within t
-abbrev pub IsPairMet : Placed → ℕ → Pin → Pin → Type 0
-IsPairMet p t a b = AreAsGiven a b (lies p a.elem) (lies p b.elem) t
-
--- each two of the pins do
-abbrev pub ArePinsMet : Placed → List Pin → ℕ → Type 0
-ArePinsMet p pins t = AllPairs (IsPairMet p t) pins
-
--- where the elements are placed the item holds within n, which is a t or a w as the item asks
-abbrev pub Holds : Placed → Item → ℕ → Type 0
-Holds p (normal line) n = IsNormal (lies p line) n
-Holds p (constraint e) n = IsMet e.measure (lies p e.u) (lies p e.v) n
-Holds p (block b) n = ArePinsMet p b.pins n
-
--- n is the item's own least number
-abbrev pub IsOwnLeast : Placed → Item → ℕ → Type 0
-IsOwnLeast p item n = IsLeast (Holds p item) n
 
 -- each of the items holds within n
 abbrev pub AllHold : Placed → List Item → ℕ → Type 0

@@ -26,7 +26,7 @@ use Rattle.sk_residual.specs.declared.turned.Turned.{Turned}
 use Rattle.sk_residual.specs.declared.turned.Wanted.{Wanted}
 use Rattle.sk_residual.specs.declared.turned.Wanted.TheVariants.{Drawn, Chosen}
 use Rattle.sk_residual.specs.BlockTurns.{turn_given, corners}
-use Rattle.sk_residual.specs.Placing.{lies}
+use Rattle.sk_holding.specs.Placing.{lies}
 
 -- a block turns as its corners are given and as they are placed; where all its pins lie on one line it has no sign
 abbrev pub block_turns : Placed → ConId → Option (Pin × Pin × Pin) → List Turned

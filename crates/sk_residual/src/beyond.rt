@@ -5,13 +5,14 @@ ghost use Rattle.sk_base.specs.declared.Edge.{Edge as OfEdge};
 ghost use Rattle.sk_base.specs.declared.Node.{Node as OfNode};
 ghost use Rattle.sk_base.specs.declared.Placed.{Placed as OfPlaced};
 ghost use Rattle.sk_base.specs.SoundGraph.{IsSoundGraph};
-ghost use Rattle.sk_residual.specs.Placing.{IsPlacedAs, IsMeasurable, AreMeasurable, PlacesExactly};
-ghost use Rattle.sk_residual.specs.Tolerances.{Item, name_of, AllHold, IsOwnLeast, IsFirstBeyond, normal_of_kind, normals, between, rigid, constraints, everything};
+ghost use Rattle.sk_holding.specs.Placing.{IsPlacedAs, IsMeasurable, AreMeasurable, PlacesExactly};
+ghost use Rattle.sk_holding.specs.Items.{Item, IsOwnLeast};
+ghost use Rattle.sk_residual.specs.Tolerances.{name_of, AllHold, IsFirstBeyond, normal_of_kind, normals, between, rigid, constraints, everything};
 ghost use Rattle.sk_residual.specs.Telling.{IsSearched, earlier};
 
-use crate::holding::{own_least, own_least_of_block, own_least_of_normal};
 use crate::spotted::Spotted;
 use sk_base::{Block, Edge, Graph, Kind, Node, Placed};
+use sk_holding::{own_least, own_least_of_block, own_least_of_normal};
 
 /// A constraint, a block among them, or a line by its normal, whose own least number is above the limit.
 #[derive(Clone, Copy, Debug, PartialEq, Eq)]

@@ -5,9 +5,10 @@ ghost use Rattle.sk_base.specs.declared.Block.{Block as OfBlock};
 ghost use Rattle.sk_base.specs.declared.Edge.{Edge as OfEdge};
 ghost use Rattle.sk_base.specs.declared.Node.{Node as OfNode};
 ghost use Rattle.sk_base.specs.SoundGraph.{IsSoundGraph};
-ghost use Rattle.sk_residual.specs.Least.{IsLeast};
-ghost use Rattle.sk_residual.specs.Placing.{IsPlacedAs, IsMeasurable, AreMeasurable, PlacesExactly};
-ghost use Rattle.sk_residual.specs.Tolerances.{Item, AllHold, AllHoldWithin, IsMissed, IsWorstUnlessNone, normals, distances, rigid, angles, lengthwise, anglewise};
+ghost use Rattle.sk_holding.specs.Least.{IsLeast};
+ghost use Rattle.sk_holding.specs.Placing.{IsPlacedAs, IsMeasurable, AreMeasurable, PlacesExactly};
+ghost use Rattle.sk_holding.specs.Items.{Item};
+ghost use Rattle.sk_residual.specs.Tolerances.{AllHold, AllHoldWithin, IsMissed, IsWorstUnlessNone, normals, distances, rigid, angles, lengthwise, anglewise};
 ghost use Rattle.sk_residual.specs.Telling.{IsTold, constraint_of};
 
 use crate::spotted::Spotted;

@@ -8,16 +8,16 @@ ghost use Rattle.sk_orient.specs.DrawnSigns.{drawn_sign};
 ghost use Rattle.sk_graph.specs.SketchGraph.{graph_of, drawn_as};
 ghost use Rattle.sk_tree.specs.declared.PlanStep.{PlanStep as OfStep};
 ghost use Rattle.sk_tree.specs.LegalPlan.{IsLegalPlan};
-ghost use Rattle.sk_residual.specs.Least.{IsFirst};
-ghost use Rattle.sk_residual.specs.Placing.{IsPinPlaced, AreMeasurable, PlacesExactly};
+ghost use Rattle.sk_residual.specs.First.{IsFirst};
+ghost use Rattle.sk_holding.specs.Placing.{IsPinPlaced, AreMeasurable, PlacesExactly};
 ghost use Rattle.sk_residual.specs.BlockTurns.{corners};
 ghost use Rattle.sk_residual.specs.Turns.{block_turns, senses, turn, advance, choices, constraint_signs, signs, wanted_of, signs_of_step, signs_of_steps, signs_wanted, value_of, IsAsDrawn, IsTurned, AllAsDrawn};
 ghost use Rattle.sk_residual.specs.Telling.{IsDrawnPoint, IsDrawnLine, HasCorners, IsCompared};
 
 use crate::corners::{corners_of, turn_given};
-use crate::place::place;
 use sk_base::{ConId, Constraint, Elem, Name, Pin, Placed, Ratio, Rule, Sign, Sketch};
 use sk_graph::shape;
+use sk_holding::place;
 use sk_orient::{
     advance_drawn, advance_placed, sense_drawn, sense_placed, turn_drawn, turn_placed,
 };

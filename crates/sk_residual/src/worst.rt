@@ -1,13 +1,14 @@
 // The worst of several items, as it grows item by item.
 ghost use Rattle.std.specs.Prelude.{◌≡◌, ◌||◌, ◌++◌, [], ◌∷◌, List, nat_lt, is_none};
 ghost use Rattle.sk_base.specs.declared.Placed.{Placed as OfPlaced};
-ghost use Rattle.sk_residual.specs.Placing.{IsPlacedAs, IsMeasurable, AreMeasurable};
-ghost use Rattle.sk_residual.specs.Tolerances.{Item, name_of, block, AreMerged, IsOwnLeast, normal_of_kind, distance_of_measure, angle_of_measure};
+ghost use Rattle.sk_holding.specs.Placing.{IsPlacedAs, IsMeasurable, AreMeasurable};
+ghost use Rattle.sk_holding.specs.Items.{Item, block, IsOwnLeast};
+ghost use Rattle.sk_residual.specs.Tolerances.{name_of, AreMerged, normal_of_kind, distance_of_measure, angle_of_measure};
 ghost use Rattle.sk_residual.specs.Telling.{IsTold, is_worse};
 
-use crate::holding::{own_least, own_least_of_block, own_least_of_normal};
 use crate::spotted::Spotted;
 use sk_base::{Block, Edge, Kind, Measure, Node, Placed};
+use sk_holding::{own_least, own_least_of_block, own_least_of_normal};
 
 /// The least number within which some items hold, and the first of them whose own it is.
 #[derive(Clone, Copy)]

@@ -14,7 +14,8 @@ use Rattle.sk_base.proofs.Members.{contains_none, contains_head, contains_later,
 use Rattle.sk_base.proofs.Unions.{union_cases}
 use Rattle.sk_tree.specs.DrawnChoice.{HasDrawnChoice}
 use Rattle.sk_family.specs.Clusters.{Clusters, initial_clusters}
-use Rattle.sk_residual.specs.Tolerances.{Item, normal, constraint, block, number_of, normals, normal_of_kind, between, rigid, constraints, everything, AllHoldWithin}
+use Rattle.sk_holding.specs.Items.{Item, normal, constraint, block}
+use Rattle.sk_residual.specs.Tolerances.{number_of, normals, normal_of_kind, between, rigid, constraints, everything, AllHoldWithin}
 use Rattle.sk_residual.specs.Turns.{signs, AllAsDrawn}
 use Rattle.sk_tree.specs.declared.PlanStep.{PlanStep}
 use Rattle.sk_tree.specs.LegalPlan.{IsWhole, next_after, AreLegalSteps, IsLegalPlan}

@@ -12,7 +12,7 @@ use Rattle.sk_family.specs.Clusters.{Clusters, initial_clusters}
 use Rattle.sk_residual.specs.declared.Spotted.{Spotted}
 use Rattle.sk_residual.specs.declared.Spotted.TheVariants as spotted
 use Rattle.sk_residual.specs.declared.Turned.{Turned}
-use Rattle.sk_residual.specs.Least.{IsFirst}
+use Rattle.sk_residual.specs.First.{IsFirst}
 use Rattle.sk_residual.specs.Tolerances.{everything, name_of}
 use Rattle.sk_residual.specs.Turns.{signs, IsTurned}
 use Rattle.sk_tree.specs.declared.PlanStep.{PlanStep}

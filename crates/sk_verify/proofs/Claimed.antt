@@ -13,8 +13,9 @@ use Rattle.sk_base.proofs.Unions.{union_right}
 use Rattle.sk_tree.specs.DrawnChoice.{HasDrawnChoice}
 use Rattle.sk_family.specs.Clusters.{Clusters, initial_clusters}
 use Rattle.sk_graph.specs.SketchGraph.{graph_of}
-use Rattle.sk_residual.specs.Placing.{PlacesExactly}
-use Rattle.sk_residual.specs.Tolerances.{Item, normal, constraint, block, number_of, normals, normal_of_kind, between, rigid, constraints, AllHoldWithin}
+use Rattle.sk_holding.specs.Placing.{PlacesExactly}
+use Rattle.sk_holding.specs.Items.{Item, normal, constraint, block}
+use Rattle.sk_residual.specs.Tolerances.{number_of, normals, normal_of_kind, between, rigid, constraints, AllHoldWithin}
 use Rattle.sk_residual.proofs.Merging.{block_in}
 use Rattle.sk_residual.proofs.Worsts.{contains_flat}
 use Rattle.sk_tree.specs.declared.PlanStep.{PlanStep}

@@ -35,7 +35,7 @@ use Rattle.sk_lang.specs.Quantities.{not_negative}
 use Rattle.sk_lang.proofs.Amounts.{limited}
 use Rattle.sk_lang.proofs.FirstCodes.{none_behind}
 use Rattle.sk_lex.specs.Words.{words_in}
-use Rattle.sk_residual.specs.Placing.{HasKind, IsSpotOf}
+use Rattle.sk_holding.specs.Placing.{HasKind, IsSpotOf}
 use Rattle.sk_verify.specs.declared.claim.Claim.{Claim}
 use Rattle.sk_verify.specs.declared.claim.Radius.{Radius}
 use Rattle.sk_verify.specs.declared.claim_line.SoFar.{SoFar}

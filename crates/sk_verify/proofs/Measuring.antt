@@ -7,7 +7,8 @@ use Rattle.std.proofs.lemmas.List.Elements.{Contains-append_cases}
 use Rattle.std.proofs.lemmas.List.Concat.{flat_map_single}
 use Rattle.sk_base.proofs.Members.{contains_none, contains_one}
 use Rattle.sk_residual.specs.declared.Spotted.{Spotted}
-use Rattle.sk_residual.specs.Tolerances.{Item, AreMerged, name_of, number_in, number_of}
+use Rattle.sk_holding.specs.Items.{Item}
+use Rattle.sk_residual.specs.Tolerances.{AreMerged, name_of, number_in, number_of}
 use Rattle.sk_residual.proofs.Firsts.{appended, behind, all_so_far, first_inside, first_there}
 use Rattle.sk_residual.proofs.Merging.{swapped}
 use Rattle.sk_residual.proofs.Rising.{first_rising, none_below}

@@ -26,11 +26,12 @@ use Rattle.sk_base.proofs.Deciding.{elem_settles}
 use Rattle.sk_graph.specs.SketchGraph.{graph_of}
 use Rattle.sk_residual.specs.declared.Spotted.{Spotted}
 use Rattle.sk_residual.specs.declared.Spotted.TheVariants as spotted
-use Rattle.sk_residual.specs.Holding.{tolerance_of}
-use Rattle.sk_residual.specs.Least.{IsFirst}
-use Rattle.sk_residual.specs.Tolerances.{Item, normal, constraint, block, name_of, Holds, IsOwnLeast, everything}
+use Rattle.sk_holding.specs.Holding.{tolerance_of}
+use Rattle.sk_residual.specs.First.{IsFirst}
+use Rattle.sk_holding.specs.Items.{Item, normal, constraint, block, Holds, IsOwnLeast}
+use Rattle.sk_residual.specs.Tolerances.{name_of, everything}
 use Rattle.sk_residual.specs.Turns.{signs}
-use Rattle.sk_residual.proofs.Worsts.{holds_more}
+use Rattle.sk_holding.proofs.Widening.{holds_more}
 use Rattle.sk_tree.specs.declared.Choice.{Choice}
 use Rattle.sk_tree.specs.declared.Choice.TheVariants.{Turn, Advance, Nothing}
 use Rattle.sk_tree.specs.declared.PlanStep.{PlanStep}

@@ -23,7 +23,7 @@ use Rattle.sk_lang.specs.FirstCode.{first_code}
 use Rattle.sk_lang.specs.Lines.{lines_in}
 use Rattle.sk_lang.proofs.ReadBack.{IsLine, lines_in-ended}
 use Rattle.sk_lang.proofs.SolidLines.{IsLineOf, literal, solid, solid_line, words_in_line}
-use Rattle.sk_residual.specs.Placing.{HasKind}
+use Rattle.sk_holding.specs.Placing.{HasKind}
 use Rattle.sk_tree.specs.declared.PlanStep.{PlanStep}
 use Rattle.sk_verify.specs.declared.claim.Claim.{Claim}
 use Rattle.sk_verify.specs.declared.claim.Radius.{Radius}

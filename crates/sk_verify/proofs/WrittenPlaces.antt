@@ -26,7 +26,7 @@ use Rattle.sk_graph.specs.SketchGraph.{kind_of, drawn_as}
 use Rattle.sk_lang.specs.FirstCode.{first_code}
 use Rattle.sk_lang.specs.Named.{element_named, number_named}
 use Rattle.sk_lang.proofs.SolidLines.{IsSolidWord, IsLineOf, IsSpelled, solid, solid_line, literal, name_spelled}
-use Rattle.sk_residual.specs.Placing.{HasKind}
+use Rattle.sk_holding.specs.Placing.{HasKind}
 use Rattle.sk_tree.specs.declared.PlanStep.{PlanStep}
 use Rattle.sk_verify.specs.Claims.{radius_nm}
 use Rattle.sk_verify.specs.declared.claim.Radius.{Radius}

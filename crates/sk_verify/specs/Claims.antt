@@ -10,9 +10,9 @@ use Rattle.sk_base.specs.declared.Sketch.{Sketch}
 use Rattle.sk_base.specs.declared.Spot.{Spot}
 use Rattle.sk_base.specs.Places.{place_of}
 use Rattle.sk_lang.specs.Kinds.{is_circle}
-use Rattle.sk_residual.specs.Holding.{tolerance_of}
-use Rattle.sk_residual.specs.Placing.{IsSpotOf}
-use Rattle.sk_residual.specs.Tolerances.{Item, normal, constraint, block, Holds}
+use Rattle.sk_holding.specs.Holding.{tolerance_of}
+use Rattle.sk_holding.specs.Placing.{IsSpotOf}
+use Rattle.sk_holding.specs.Items.{Item, normal, constraint, block, Holds}
 use Rattle.sk_tree.specs.declared.Plan.{Plan}
 use Rattle.sk_tree.specs.LegalPlan.{numbers_of}
 use Rattle.sk_verify.specs.declared.claim.Claim.{Claim}

@@ -9,8 +9,9 @@ use Rattle.sk_family.specs.Clusters.{initial_clusters}
 use Rattle.sk_residual.specs.declared.Spotted.{Spotted}
 use Rattle.sk_residual.specs.declared.Spotted.TheVariants as spotted
 use Rattle.sk_residual.specs.declared.Turned.{Turned}
-use Rattle.sk_residual.specs.Least.{IsFirst}
-use Rattle.sk_residual.specs.Tolerances.{Item, name_of, everything}
+use Rattle.sk_residual.specs.First.{IsFirst}
+use Rattle.sk_holding.specs.Items.{Item}
+use Rattle.sk_residual.specs.Tolerances.{name_of, everything}
 use Rattle.sk_residual.specs.Turns.{signs, IsTurned, AllAsDrawn}
 use Rattle.sk_tree.specs.LegalPlan.{IsWhole}
 use Rattle.sk_verify.specs.declared.claim.Claim.{Claim}

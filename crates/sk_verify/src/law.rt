@@ -16,7 +16,7 @@ ghost use Rattle.sk_base.specs.declared.Sketch.{Sketch};
 ghost use Rattle.sk_base.specs.SoundGraph.{IsSoundGraph, HasRisingBlocks, HasBlocksApart};
 ghost use Rattle.sk_tree.specs.DrawnChoice.{HasDrawnChoice};
 ghost use Rattle.sk_graph.specs.SketchGraph.{graph_of};
-ghost use Rattle.sk_residual.specs.Placing.{PlacesExactly};
+ghost use Rattle.sk_holding.specs.Placing.{PlacesExactly};
 ghost use Rattle.sk_residual.specs.Tolerances.{AllHoldWithin};
 ghost use Rattle.sk_residual.specs.Turns.{signs, AllAsDrawn};
 ghost use Rattle.sk_tree.specs.declared.Plan.{Plan};

@@ -2,7 +2,7 @@ use Rattle.std.proofs.Common.{List, get_or, subst}
 use Rattle.std.specs.Prelude.{Contains}
 use Rattle.std.proofs.lemmas.List.Elements.{Contains-get_or}
 use Rattle.sk_base.specs.declared.Edge.{Edge}
-use Rattle.sk_residual.proofs.Placings.{any_edge, measurable}
+use Rattle.sk_holding.proofs.Placings.{any_edge, measurable}
 use Rattle.sk_acceptance.proofs.tolerances.edge_meets.Goals as goal
 
 edge_inside : (c : goal.After-as_slice) → Contains c.args.graph.now.edges (get_or c.as_slice.result.now c.args.i any_edge)

@@ -5,9 +5,9 @@ use Rattle.sk_base.specs.declared.At.{At}
 use Rattle.sk_base.specs.declared.At.TheVariants.{Point}
 use Rattle.sk_base.specs.declared.Node.{Node}
 use Rattle.sk_base.specs.declared.Spot.{Spot}
-use Rattle.sk_residual.specs.Placing.{AreSpotsOf}
-use Rattle.sk_residual.proofs.InOrder.{spots_more, exactly_in_order}
-use Rattle.sk_residual.proofs.Placings.{any_node}
+use Rattle.sk_holding.specs.Placing.{AreSpotsOf}
+use Rattle.sk_holding.proofs.InOrder.{spots_more, exactly_in_order}
+use Rattle.sk_holding.proofs.Placings.{any_node}
 use Rattle.sk_acceptance.proofs.tolerances.placed.Goals as goal
 
 pub loop-i-preserved : goal.loop-i-preserved

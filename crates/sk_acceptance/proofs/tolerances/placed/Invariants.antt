@@ -1,5 +1,5 @@
 use Rattle.std.specs.Prelude.{take}
-use Rattle.sk_residual.specs.Placing.{AreSpotsOf}
+use Rattle.sk_holding.specs.Placing.{AreSpotsOf}
 use Rattle.sk_acceptance.proofs.tolerances.placed.Given as goal
 
 -- the spots so far are those of the nodes so far

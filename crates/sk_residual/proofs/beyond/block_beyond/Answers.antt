@@ -3,7 +3,8 @@ use Rattle.std.proofs.lemmas.List.{take_all}
 use Rattle.std.proofs.lemmas.List.Elements.{Contains-get_or}
 use Rattle.std.specs.Prelude.{Contains, [], ◌∷◌}
 use Rattle.sk_base.specs.declared.Block.{Block}
-use Rattle.sk_residual.specs.Tolerances.{block, rigid, AllHold, IsFirstBeyond}
+use Rattle.sk_holding.specs.Items.{block}
+use Rattle.sk_residual.specs.Tolerances.{rigid, AllHold, IsFirstBeyond}
 use Rattle.sk_residual.proofs.Passings.{mapped_more, mapped_there}
 use Rattle.sk_residual.proofs.beyond.block_beyond.Goals as goal
 

@@ -4,7 +4,7 @@ use Rattle.sk_base.specs.declared.Block.{Block}
 use Rattle.sk_base.specs.declared.Edge.{Edge}
 use Rattle.sk_residual.specs.Tolerances.{rigid, between, constraints}
 use Rattle.sk_residual.proofs.Merging.{merged_constraints, searched_merged}
-use Rattle.sk_residual.proofs.Placings.{measurable, block_measurable}
+use Rattle.sk_holding.proofs.Placings.{measurable, block_measurable}
 use Rattle.sk_residual.proofs.beyond.constraint_beyond.Goals as goal
 
 pub block_beyond-requires : goal.block_beyond-requires

@@ -2,8 +2,9 @@ use Rattle.std.proofs.Common.{List, get_or, subst, refl, arith}
 use Rattle.std.proofs.lemmas.List.{take_all}
 use Rattle.std.proofs.lemmas.List.Elements.{Contains-get_or}
 use Rattle.sk_base.specs.declared.Edge.{Edge}
-use Rattle.sk_residual.specs.Tolerances.{constraint, between, AllHold}
-use Rattle.sk_residual.proofs.Placings.{any_edge}
+use Rattle.sk_holding.specs.Items.{constraint}
+use Rattle.sk_residual.specs.Tolerances.{between, AllHold}
+use Rattle.sk_holding.proofs.Placings.{any_edge}
 use Rattle.sk_residual.proofs.Passings.{mapped_more, mapped_there}
 use Rattle.sk_residual.proofs.beyond.edge_beyond.Goals as goal
 

@@ -3,7 +3,7 @@ use Rattle.std.proofs.lemmas.List.{take_all}
 use Rattle.std.proofs.lemmas.List.Elements.{Contains-get_or}
 use Rattle.sk_base.specs.declared.Node.{Node}
 use Rattle.sk_residual.specs.Tolerances.{AllHold, normals, normal_of_kind}
-use Rattle.sk_residual.proofs.Placings.{any_node}
+use Rattle.sk_holding.proofs.Placings.{any_node}
 use Rattle.sk_residual.proofs.Passings.{all_hold_more, beyond_there}
 use Rattle.sk_residual.proofs.beyond.line_beyond.Goals as goal
 

@@ -1,6 +1,6 @@
 use Rattle.std.proofs.Common.{sym, arith}
 use Rattle.sk_residual.specs.BlockTurns.{turn_given, is_turn}
-use Rattle.sk_residual.proofs.Placings.{any_pin}
+use Rattle.sk_holding.proofs.Placings.{any_pin}
 use Rattle.sk_residual.proofs.Threes.{slice_behind, three_found, three_further}
 use Rattle.sk_residual.proofs.corners.corners_of.Goals as goal
 

@@ -1,6 +1,6 @@
 use Rattle.std.proofs.Common.{sym, arith}
 use Rattle.sk_residual.specs.BlockTurns.{turn_given, is_turn}
-use Rattle.sk_residual.proofs.Placings.{any_pin}
+use Rattle.sk_holding.proofs.Placings.{any_pin}
 use Rattle.sk_residual.proofs.Threes.{slice_behind, two_found, two_further}
 use Rattle.sk_residual.proofs.corners.two_beside.Goals as goal
 

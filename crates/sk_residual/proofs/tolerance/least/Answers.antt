@@ -4,7 +4,7 @@ use Rattle.sk_base.specs.declared.Block.{Block}
 use Rattle.sk_base.specs.declared.Edge.{Edge}
 use Rattle.sk_base.specs.declared.Node.{Node}
 use Rattle.sk_residual.proofs.Merging.{merged_lengthwise, has_blocks}
-use Rattle.sk_residual.proofs.Placings.{measurable, block_measurable}
+use Rattle.sk_holding.proofs.Placings.{measurable, block_measurable}
 use Rattle.sk_residual.proofs.Worsts.{worst_lengthwise_named, all_hold_within, told_missed}
 use Rattle.sk_residual.specs.Telling.{IsTold}
 use Rattle.sk_residual.specs.Tolerances.{normals, rigid, distances, lengthwise}

@@ -2,9 +2,10 @@ use Rattle.std.proofs.Common.{◌≡◌, ◌+◌, ◌++◌, List, get_or, take, 
 use Rattle.std.proofs.lemmas.List.{take_more, take_all, flat_map_more}
 use Rattle.std.proofs.lemmas.List.Elements.{Contains-get_or}
 use Rattle.sk_base.specs.declared.Edge.{Edge}
-use Rattle.sk_residual.specs.Tolerances.{Item, angles, angle_of_measure}
+use Rattle.sk_holding.specs.Items.{Item}
+use Rattle.sk_residual.specs.Tolerances.{angles, angle_of_measure}
 use Rattle.sk_residual.specs.Telling.{IsTold}
-use Rattle.sk_residual.proofs.Placings.{any_edge}
+use Rattle.sk_holding.proofs.Placings.{any_edge}
 use Rattle.sk_residual.proofs.tolerance.worst_angle.Goals as goal
 
 pub loop-e-init : goal.loop-e-init

@@ -1,5 +1,6 @@
 use Rattle.std.specs.Prelude.{take, ◌++◌, List}
-use Rattle.sk_residual.specs.Tolerances.{Item, angles}
+use Rattle.sk_holding.specs.Items.{Item}
+use Rattle.sk_residual.specs.Tolerances.{angles}
 use Rattle.sk_residual.specs.Telling.{IsTold}
 use Rattle.sk_residual.proofs.tolerance.worst_angle.Given as goal
 

@@ -1,6 +1,6 @@
 use Rattle.std.proofs.Common.{get_or, arith}
 use Rattle.std.proofs.lemmas.List.Elements.{Contains-get_or}
-use Rattle.sk_residual.proofs.Placings.{any_edge}
+use Rattle.sk_holding.proofs.Placings.{any_edge}
 use Rattle.sk_residual.proofs.tolerance.worst_distance.Goals as goal
 
 pub loop-e-init : goal.loop-e-init

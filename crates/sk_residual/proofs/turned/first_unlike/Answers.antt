@@ -1,7 +1,7 @@
 use Rattle.std.proofs.Common.{List, subst}
 use Rattle.std.specs.Prelude.{Contains, Some}
 use Rattle.sk_tree.specs.declared.PlanStep.{PlanStep}
-use Rattle.sk_residual.specs.Least.{IsFirst}
+use Rattle.sk_residual.specs.First.{IsFirst}
 use Rattle.sk_residual.specs.Turns.{constraint_signs, signs_of_steps, signs_wanted, AllAsDrawn, IsTurned}
 use Rattle.sk_residual.specs.Telling.{IsCompared}
 use Rattle.sk_residual.proofs.Firsts.{appended}

@@ -3,7 +3,7 @@ use Rattle.std.specs.Prelude.{Contains}
 use Rattle.std.proofs.lemmas.List.{take_all}
 use Rattle.std.proofs.lemmas.List.Elements.{Contains-get_or}
 use Rattle.sk_base.specs.declared.Constraint.{Constraint}
-use Rattle.sk_residual.specs.Least.{IsFirst}
+use Rattle.sk_residual.specs.First.{IsFirst}
 use Rattle.sk_residual.specs.Turns.{senses, constraint_signs, AllAsDrawn, IsTurned}
 use Rattle.sk_residual.proofs.Comparisons.{as_drawn_more, turned_there}
 use Rattle.sk_residual.proofs.turned.turned_constraint.Goals as goal

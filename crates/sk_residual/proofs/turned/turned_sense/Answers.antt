@@ -1,7 +1,7 @@
 use Rattle.std.proofs.Common.{List, subst, sym}
 use Rattle.sk_base.specs.declared.Pin.{Pin}
 use Rattle.sk_base.specs.SoundSketch.{IsSoundRule}
-use Rattle.sk_residual.specs.Placing.{AreMeasurable}
+use Rattle.sk_holding.specs.Placing.{AreMeasurable}
 use Rattle.sk_residual.proofs.Drawings.{block_measurable}
 use Rattle.sk_residual.proofs.turned.turned_sense.Goals as goal
 

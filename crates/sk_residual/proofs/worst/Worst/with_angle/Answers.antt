@@ -1,5 +1,5 @@
 use Rattle.std.proofs.Common.{refl}
-use Rattle.sk_residual.specs.Tolerances.{constraint}
+use Rattle.sk_holding.specs.Items.{constraint}
 use Rattle.sk_residual.proofs.worst.Worst.with_angle.Goals as goal
 
 pub returns-in-LineLine : goal.returns-in-LineLine

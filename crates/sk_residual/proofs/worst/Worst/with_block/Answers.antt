@@ -1,5 +1,5 @@
 use Rattle.std.proofs.Common.{refl}
-use Rattle.sk_residual.specs.Tolerances.{block}
+use Rattle.sk_holding.specs.Items.{block}
 use Rattle.sk_residual.proofs.worst.Worst.with_block.Goals as goal
 
 pub returns : goal.returns

@@ -1,5 +1,5 @@
 use Rattle.std.proofs.Common.{refl}
-use Rattle.sk_residual.specs.Tolerances.{normal}
+use Rattle.sk_holding.specs.Items.{normal}
 use Rattle.sk_residual.proofs.worst.Worst.with_normal.Goals as goal
 
 pub returns-in-Line : goal.returns-in-Line

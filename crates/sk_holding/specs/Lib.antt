@@ -1,0 +1,5 @@
+pub mod Least
+pub mod Offsets
+pub mod Holding
+pub mod Placing
+pub mod Items
