@@ -3,3 +3,4 @@ pub mod Meeting
 pub mod LegalPlan
 pub mod PlanTree
 pub mod ByNumber
+pub mod LastName
