@@ -9,3 +9,4 @@ pub mod Meeting
 pub mod FlipsSoFar
 pub mod StepWords
 pub mod OnePlacement
+pub mod AnchorPlaces

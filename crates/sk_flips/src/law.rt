@@ -1,5 +1,17 @@
 // What holds of alternatives.
-ghost use Rattle.std.specs.Prelude.{◌≡◌, ◌≢◌, ℕ, [], All, Contains, List as Items};
+ghost use Rattle.std.specs.Prelude.{◌≡◌, ◌≢◌, ◌≤◌, ℕ, [], All, Contains, List as Items, Ok};
+ghost use Rattle.sk_base.specs.declared.At.{At};
+ghost use Rattle.sk_interval.specs.Operations.{of_micrometres};
+ghost use Rattle.sk_steps.specs.declared.BoxOf.{BoxOf};
+ghost use Rattle.sk_steps.specs.declared.BoxOf.TheVariants.{Point};
+ghost use Rattle.sk_motion.specs.declared.Motion.{Motion};
+ghost use Rattle.sk_motion.specs.Carried.{carried};
+ghost use Rattle.sk_place.specs.declared.PlaceBy.{PlaceBy};
+ghost use Rattle.sk_place.specs.Rounding.{rounded_box};
+ghost use Rattle.sk_place.specs.Settling.{settled_box};
+ghost use Rattle.sk_frame.specs.declared.Frame.{Frame};
+ghost use Rattle.sk_frame.specs.Frames.{IsSoundFrame};
+ghost use Rattle.sk_frame.specs.FrameMotions.{frame_motion};
 ghost use Rattle.sk_base.specs.declared.Name.{Name};
 ghost use Rattle.sk_base.specs.declared.Placed.{Placed};
 ghost use Rattle.sk_base.specs.declared.Sketch.{Sketch};
@@ -65,4 +77,10 @@ pub fn untouched_plan_is_placed<G: Grid>()
 pub fn one_alternative<G: Grid>()
     ensures { (placing : Layout) (F limit : ℕ) (s : Sketch) (p : Plan) (names : Items Name) (a b : Alternative) → IsLegalPlan (graph_of s) p → (¬ (p.leaves ≡ []) → (t : Tree) × IsPlanTree p t)
         → IsAlternative G placing F limit s p names a → IsAlternative G placing F limit s p names b → a ≡ b }
+{}
+
+/// The place of a frame that is taken to the drawing is printed exactly where it is drawn, on a grid of 21
+/// binary digits or more.
+pub fn place_is_printed<G: Grid>()
+    ensures { (by : PlaceBy) (F : ℕ) → 21 ≤ F → (f : Frame) → IsSoundFrame f → (m : Motion G) → frame_motion F f ≡ Ok m → (b : BoxOf G) → settled_box by F (carried F m (Point (of_micrometres F f.from.x) (of_micrometres F f.from.y))) ≡ Ok b → rounded_box F b ≡ At.Point f.to.x f.to.y }
 {}

@@ -1,16 +1,12 @@
 -- The base of a plan: the constraint that no step moves.
-use Rattle.std.specs.Prelude.{◌≡◌, ◌-◌, List, [], ◌∷◌, Option, Some, None, length, slice_get, if◌then◌else◌}
-use Rattle.std.specs.Option.{option_map, option_or}
+use Rattle.std.specs.Prelude.{List, [], ◌∷◌, Option, Some, None, if◌then◌else◌}
 use Rattle.sk_base.specs.declared.ConId.{ConId}
 use Rattle.sk_base.specs.declared.Name.{Name}
 use Rattle.sk_base.specs.declared.Name.TheVariants.{Con, Step}
 use Rattle.sk_base.specs.ClusterNames.{name_eq}
+use Rattle.sk_tree.specs.LastName.{last_name}
 use Rattle.sk_tree.specs.declared.Plan.{Plan}
 use Rattle.sk_tree.specs.declared.PlanStep.{PlanStep}
-
--- the last step's name; without a step that of the first constraint
-abbrev pub last_name : Plan → Option Name
-last_name p = option_or (option_map (λ (s : PlanStep). s.step) (slice_get p.steps (length p.steps - 1))) (option_map (λ (k : ConId). Con k.0) (slice_get p.leaves 0))
 
 -- the child that stays in its place in the cluster of that name, where it is the step's; else the cluster itself
 abbrev pub kept_by : PlanStep → Name → Name

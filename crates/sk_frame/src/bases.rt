@@ -1,9 +1,9 @@
 // The constraint that no step moves.
 ghost use Rattle.std.specs.Prelude.{◌≡◌};
-ghost use Rattle.sk_frame.specs.Bases.{last_name, kept_by, kept_from, base_of};
+ghost use Rattle.sk_frame.specs.Bases.{kept_by, kept_from, base_of};
 
 use sk_base::{ConId, Name};
-use sk_tree::{Plan, PlanStep};
+use sk_tree::{Plan, PlanStep, last_name};
 
 /// The constraint that the kept children lead to from the plan's last step. A plan without a constraint
 /// has none.
@@ -13,19 +13,6 @@ pub fn base_of(p: &Plan) -> Option<ConId>
     match kept_from(p.steps.as_slice(), last_name(p)?) {
         Name::Con(number) => Some(ConId(number)),
         Name::Step(_) => None,
-    }
-}
-
-/// The last step's name. Without a step it is that of the first constraint.
-fn last_name(p: &Plan) -> Option<Name>
-    ensures { result ≡ last_name p.now }
-{
-    match p.steps.as_slice().last() {
-        Some(step) => Some(step.step),
-        None => match p.leaves.as_slice().first() {
-            Some(constraint) => Some(Name::Con(constraint.0)),
-            None => None,
-        },
     }
 }
 

@@ -40,14 +40,19 @@ use Rattle.sk_interval.proofs.PowerLemmas.{power_below}
 use Rattle.sk_place.specs.Rounding.{IsWithin, IsBoundedBox, AreBounded}
 use Rattle.sk_place.specs.Trees.{HasBoxes}
 use Rattle.sk_tree.specs.PlanTree.{IsPlanTree}
+use Rattle.sk_tree.specs.LastName.{last_name}
+use Rattle.sk_tree.proofs.LastNames.{IsLastName, last_named as name_by_cases}
 use Rattle.sk_place.specs.Placing.{lone_box, lone_boxes}
-use Rattle.sk_place.specs.Running.{held, HasTree, IsThere, ArePlaced, IsAfter, IsRun, IsLastName}
+use Rattle.sk_place.specs.Running.{held, HasTree, IsThere, ArePlaced, IsAfter, IsRun}
 use Rattle.sk_place.proofs.Lookups.{held_box}
 use Rattle.sk_place.proofs.Fitting.{rise_of, one_kind}
 use Rattle.sk_place.proofs.PlanSteps.{named_at}
 use Rattle.sk_place.proofs.Failing.{no_starts_no_steps}
 
 -- ---- the last name
+
+pub last_is : (p : Plan) (o : Option Name) → o ≡ last_name p → IsLastName p o
+last_is p o is = subst (λ (n : Option Name). IsLastName p n) (sym is) (name_by_cases p)
 
 module _ (g : Graph) (p : Plan) (legal : IsLegalPlan g p) where
   -- the last step is named by how many there are

@@ -23,3 +23,4 @@ pub mod OnePlacing
 pub mod SomeFrames
 pub mod SomePlaces
 pub mod AllMoved
+pub mod Ranges

@@ -47,7 +47,7 @@ pub faulty_ok : {X : Type 0} (step : Name) (phase : Phase) (elem : Elem) (r : Re
 faulty_ok step phase elem (Ok y) x is = cc
 faulty_ok step phase elem (Err c) x is = cc
 
-box_ok : {X : Type 0} (elem : Elem) (r : Result X (What × Cause)) (x : X) → box_faulty elem r ≡ Ok x → r ≡ Ok x
+pub box_ok : {X : Type 0} (elem : Elem) (r : Result X (What × Cause)) (x : X) → box_faulty elem r ≡ Ok x → r ≡ Ok x
 box_ok elem (Ok y) x is = cc
 box_ok elem (Err c) x is = cc
 
@@ -55,7 +55,7 @@ told_ok : {X : Type 0} (step : Name) (phase : Phase) (r : Result X BoxFault) (x 
 told_ok step phase (Ok y) x is = cc
 told_ok step phase (Err f) x is = cc
 
-ok_inside : {X E : Type 0} (x y : X) → (let one : Result X E = Ok x in one ≡ Ok y) → x ≡ y
+pub ok_inside : {X E : Type 0} (x y : X) → (let one : Result X E = Ok x in one ≡ Ok y) → x ≡ y
 ok_inside x y e = cc
 
 if_ok : {X E : Type 0} (P : X → Type 0) (r : Result X E) (x : X) → IfOk r P → r ≡ Ok x → P x

@@ -9,6 +9,7 @@ use Rattle.sk_base.specs.SoundGraph.{IsSoundGraph}
 use Rattle.sk_tree.specs.declared.Plan.{Plan}
 use Rattle.sk_tree.specs.declared.PlanStep.{PlanStep}
 use Rattle.sk_tree.specs.LegalPlan.{IsLegalPlan}
+use Rattle.sk_tree.proofs.LastNames.{IsLastName}
 use Rattle.sk_place.specs.declared.boxes.BoxAt.{BoxAt}
 use Rattle.sk_place.specs.declared.settling.PlaceBy.{PlaceBy}
 use Rattle.sk_place.specs.declared.fault.StepFault.{StepFault}
@@ -16,7 +17,7 @@ use Rattle.sk_place.specs.declared.fault.PlaceError.TheVariants.{Fault}
 use Rattle.sk_place.specs.Clusters.{nodes_of}
 use Rattle.sk_place.specs.Placing.{IsPlaced, lone_boxes}
 use Rattle.sk_place.specs.Rounding.{AreBounded}
-use Rattle.sk_place.specs.Running.{held, IsThere, AreHeld, IsAfter, IsLastName}
+use Rattle.sk_place.specs.Running.{held, IsThere, AreHeld, IsAfter}
 use Rattle.sk_place.specs.Steps.{joined}
 use Rattle.sk_place.proofs.Afters.{at_start, at_next, can_join}
 use Rattle.sk_place.proofs.Ending.{no_tree, leaf_there, left_there, left_boxes, left_nodes, left_bounded, lone_nodes, lone_bounded}

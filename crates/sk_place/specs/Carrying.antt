@@ -3,6 +3,7 @@ use Rattle.std.specs.Prelude.{◌≡◌, ℕ, List, [], ◌∷◌, Result, Ok, E
 use Rattle.sk_base.specs.declared.Elem.{Elem}
 use Rattle.sk_base.specs.declared.Name.{Name}
 use Rattle.sk_interval.specs.declared.Cause.{Cause}
+use Rattle.sk_interval.specs.declared.Cause.TheVariants.{Range}
 use Rattle.sk_steps.specs.declared.What.{What}
 use Rattle.sk_motion.specs.declared.Pair.{Pair}
 use Rattle.sk_motion.specs.declared.Motion.{Motion}
@@ -89,3 +90,9 @@ abbrev pub AnswersMove : {X : Type 0} → Result X MoveError → Result X BoxFau
 AnswersMove (Ok x) defined = defined ≡ Ok x
 AnswersMove (Err (moving.Fault f)) defined = defined ≡ Err f
 AnswersMove (Err moving.NoMemory) defined = Unit {0}
+
+-- a box that can't be carried has a number that gets too great, and no other fault
+abbrev pub FailsByRange : {X : Type 0} → Result X MoveError → Type 0
+FailsByRange (Ok x) = Unit {0}
+FailsByRange (Err (moving.Fault f)) = f.cause ≡ Range
+FailsByRange (Err moving.NoMemory) = Unit {0}

@@ -98,10 +98,3 @@ abbrev pub IsRun : {G : Type 0} → PlaceBy → ℕ → Graph → Plan → Resul
 IsRun placing F g p (Ok live) = IsAfter placing F g p (length p.steps) live
 IsRun {G} placing F g p (Err (Fault f)) = (let refused : Result (List (BoxAt G)) PlaceError = Err (Fault f) in IsPlaced placing F g p refused × (placing ≡ Boxes → (k : ℕ) → IsKept F k g p refused))
 IsRun placing F g p (Err NoMemory) = Unit {0}
-
--- the last step's name; where there is none, that of the first constraint; and else nothing
-abbrev pub IsLastName : Plan → Option Name → Type 0
-IsLastName p (Some n) =
-    ((before : List PlanStep) × (last : PlanStep) × (p.steps ≡ before ++ last ∷ []) × (n ≡ last.step))
-    ⊎ ((k : ConId) × (rest : List ConId) × (p.steps ≡ []) × (p.leaves ≡ k ∷ rest) × (n ≡ Con k.0))
-IsLastName p None = (p.steps ≡ []) × (p.leaves ≡ [])

@@ -4,7 +4,7 @@ ghost use Rattle.sk_motion.specs.declared.Motion.{Motion as MotionOf};
 ghost use Rattle.sk_motion.specs.Nesting.{IsMotionInside};
 ghost use Rattle.sk_place.specs.declared.boxes.BoxAt.{BoxAt as BoxOfElement};
 ghost use Rattle.sk_place.specs.Clusters.{nodes_of};
-ghost use Rattle.sk_place.specs.Carrying.{carried_each, AnswersMove};
+ghost use Rattle.sk_place.specs.Carrying.{carried_each, AnswersMove, FailsByRange};
 ghost use Rattle.sk_place.specs.Nesting.{AreInside, KeepsMoved};
 
 use crate::boxes::Boxes;
@@ -24,6 +24,7 @@ pub fn moved<G: Grid>(
 ) -> Result<Boxes<G>, MoveError>
     ensures moved { AnswersMove result (carried_each placing G.BITS motion.now boxes.now) }
     ensures nodes { IfOk result (λ bs. nodes_of bs ≡ nodes_of boxes.now) }
+    ensures range { placing ≡ PlaceBy.Boxes → FailsByRange result }
     ensures nested { placing ≡ PlaceBy.Boxes → (k : ℕ) (fine : MotionOf G) (inside : Items (BoxOfElement G)) → IsMotionInside k fine motion.now → AreInside k inside boxes.now → KeepsMoved k (carried_each PlaceBy.Boxes (G.BITS + k) fine inside) result }
 {
     all_moved(alloc, placing, motion, boxes)

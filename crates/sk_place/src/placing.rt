@@ -1,11 +1,11 @@
 // The steps of a plan, one after another.
-ghost use Rattle.std.specs.Prelude.{ℕ, ◌≡◌, ◌≢◌, ◌<◌, length, IfOk, None, Some};
+ghost use Rattle.std.specs.Prelude.{ℕ, ◌≡◌, ◌≢◌, length, IfOk};
 ghost use Rattle.sk_base.specs.SoundGraph.{IsSoundGraph};
 ghost use Rattle.sk_tree.specs.LegalPlan.{IsLegalPlan};
 ghost use Rattle.sk_place.specs.Clusters.{nodes_of};
 ghost use Rattle.sk_place.specs.Placing.{lone_box, lone_boxes, IsPlaced};
 ghost use Rattle.sk_place.specs.Nesting.{IsKept};
-ghost use Rattle.sk_place.specs.Running.{held, CanJoin, IsStepOf, IsRun, IsLastName};
+ghost use Rattle.sk_place.specs.Running.{held, CanJoin, IsStepOf, IsRun};
 ghost use Rattle.sk_base.specs.declared.Name.{Name as OfName};
 
 use crate::boxes::{BoxAt, Boxes};
@@ -13,10 +13,10 @@ use crate::fault::PlaceError;
 use crate::joining::joined;
 use crate::live::{Live, taken};
 use crate::settling::PlaceBy;
-use sk_base::{Graph, Kind, List, Name, NoMemory};
+use sk_base::{Graph, Kind, List, NoMemory};
 use sk_interval::{Grid, Iv};
 use sk_steps::BoxOf;
-use sk_tree::{Plan, PlanStep};
+use sk_tree::{Plan, PlanStep, last_name};
 use std::alloc::Global;
 
 /// The boxes that the step makes of its three children, which are no longer live.
@@ -56,20 +56,6 @@ fn run<G: Grid>(
         live.push(boxes)?;
     }
     Ok(live)
-}
-
-/// The name of the cluster that is left: of the last step or else of the first constraint, if there
-/// is one.
-fn last_name(plan: &Plan) -> Option<Name>
-    ensures { IsLastName plan.now result }
-{
-    match plan.steps.as_slice().last() {
-        Some(step) => Some(step.step),
-        None => match plan.leaves.as_slice().first() {
-            Some(constraint) => Some(Name::Con(constraint.0)),
-            None => None,
-        },
-    }
 }
 
 /// The box of an element alone.

@@ -4,3 +4,4 @@ pub mod LegalPlan
 pub mod PlanTree
 pub mod ByNumber
 pub mod DrawnChoice
+pub mod LastName

@@ -14,5 +14,5 @@ pub use joined::build;
 pub use law::{fitting_choice, numbers_without_blocks, one_tree};
 pub use numbers::numbers_of;
 pub use order::in_order;
-pub use plan::{Choice, Plan, PlanStep};
+pub use plan::{Choice, Plan, PlanStep, last_name};
 pub use tree::{Joint, Tree, height, leaf_tree, leaves, steps};

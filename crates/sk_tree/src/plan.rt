@@ -1,4 +1,7 @@
 // How a drawing is made from its constraints, step by step.
+ghost use Rattle.std.specs.Prelude.{◌≡◌};
+ghost use Rattle.sk_tree.specs.LastName.{last_name};
+
 use sk_base::{ConId, Elem, List, Name, Sign};
 
 /// What a step leaves open: the turn of three points, the advance of two points along a line, or
@@ -31,4 +34,17 @@ pub struct PlanStep {
 pub struct Plan {
     pub leaves: List<ConId>,
     pub steps: List<PlanStep>,
+}
+
+/// The last step's name. Without a step it is that of the first constraint.
+pub fn last_name(p: &Plan) -> Option<Name>
+    ensures { result ≡ last_name p.now }
+{
+    match p.steps.as_slice().last() {
+        Some(step) => Some(step.step),
+        None => match p.leaves.as_slice().first() {
+            Some(constraint) => Some(Name::Con(constraint.0)),
+            None => None,
+        },
+    }
 }
