@@ -12,8 +12,8 @@ use Rattle.sk_residual.specs.Tolerances.{AreMerged, name_of, number_in, number_o
 use Rattle.sk_residual.proofs.Firsts.{appended, behind, all_so_far, first_inside, first_there}
 use Rattle.sk_residual.proofs.Merging.{swapped}
 use Rattle.sk_residual.proofs.Rising.{first_rising, none_below}
-use Rattle.sk_verify.specs.declared.claim.Claim.{Claim}
-use Rattle.sk_verify.specs.Claims.{HoldsAsClaimed}
+use Rattle.sk_claims.specs.declared.Claim.{Claim}
+use Rattle.sk_verify.specs.AsClaimed.{HoldsAsClaimed}
 use Rattle.sk_verify.specs.Failing.{AllHoldAsClaimed, IsFirstOff}
 use Rattle.sk_verify.specs.Stepping.{IsMeasured, earlier}
 

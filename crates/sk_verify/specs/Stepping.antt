@@ -9,7 +9,7 @@ use Rattle.sk_residual.specs.declared.Spotted.{Spotted}
 use Rattle.sk_holding.specs.Items.{Item}
 use Rattle.sk_residual.specs.Tolerances.{number_in}
 use Rattle.sk_tree.specs.declared.PlanStep.{PlanStep}
-use Rattle.sk_verify.specs.declared.claim.Claim.{Claim}
+use Rattle.sk_claims.specs.declared.Claim.{Claim}
 use Rattle.sk_verify.specs.declared.failure.Failure.{Failure}
 use Rattle.sk_verify.specs.declared.failure.Failure.TheVariants.{Step, Parts, Element as OfElement, Line, Con, Sign}
 use Rattle.sk_verify.specs.declared.failure.VerifyError.{VerifyError}

@@ -5,8 +5,8 @@ ghost use Rattle.sk_holding.specs.Placing.{IsPlacedAs, PlacesExactly};
 ghost use Rattle.sk_residual.specs.Tolerances.{normal_of_kind, normals, between, rigid, constraints, everything};
 ghost use Rattle.sk_verify.specs.Stepping.{IsMeasured, earlier};
 
-use crate::claim::Claim;
 use sk_base::{Graph, Kind, Node};
+use sk_claims::Claim;
 use sk_holding::{meets, meets_block, meets_normal};
 use sk_residual::Spotted;
 
