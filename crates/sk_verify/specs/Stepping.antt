@@ -47,9 +47,3 @@ IsTelling c elements untold = MatchOption untold (AllTold c elements) (IsFirstUn
 -- all hold as claimed, or the first that doesn't is named
 abbrev pub IsMeasured : Claim → List Item → Option Spotted → Type 0
 IsMeasured c items off = MatchOption off (AllHoldAsClaimed c items) (IsFirstOff c items)
-
--- the first of two by number
-abbrev pub earlier : Option Spotted → Option Spotted → Option Spotted
-earlier None other = other
-earlier (Some at) None = Some at
-earlier (Some at) (Some other) = if nat_lt (number_in at) (number_in other) then Some at else Some other
