@@ -1,15 +1,16 @@
 // Claims by the calls below the command, and each code of their lines.
 ghost use Rattle.sk_base.specs.SoundSketch.{IsSoundSketch};
 ghost use Rattle.sk_graph.specs.SketchGraph.{graph_of};
-ghost use Rattle.sk_verify.specs.Claims.{IsFitting};
+ghost use Rattle.sk_claims.specs.Claims.{IsFitting};
 
 use crate::calls::sketch_of;
 use crate::row::{few_bytes, lines_are_refused, put_each};
 use sk_base::{Sketch, Text};
+use sk_claims::{Claim, read_claim};
 use sk_graph::reduce;
 use sk_lang::ReadError;
 use sk_report::refused_text;
-use sk_verify::{Claim, VerifyError, failure_text, read_claim, verified_text, verify};
+use sk_verify::{VerifyError, failure_text, verified_text, verify};
 use std::alloc::Global;
 use std::test::Fail;
 

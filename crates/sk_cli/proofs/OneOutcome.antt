@@ -52,13 +52,13 @@ use Rattle.sk_cli.specs.OffersReport.{IsReportOnOffers, IsOffersReport, RefusesO
 use Rattle.sk_cli.proofs.OfferAnswers.{one_list, one_refusal as one_refusal_behind, not_both as not_both_behind}
 use Rattle.sk_cli.proofs.OneOffering.{same_lines}
 use Rattle.sk_session.proofs.Consistency.{empty_sound}
-use Rattle.sk_verify.specs.declared.claim.Claim.{Claim}
+use Rattle.sk_claims.specs.declared.claim.Claim.{Claim}
 use Rattle.sk_verify.specs.declared.failure.Failure.{Failure}
-use Rattle.sk_verify.specs.ClaimReading.{ReadsClaim}
+use Rattle.sk_claims.specs.ClaimReading.{ReadsClaim}
 use Rattle.sk_verify.specs.Failing.{IsAccepted, FailsFirst}
 use Rattle.sk_verify.specs.Texts.{failure_line, verified_line}
 use Rattle.sk_verify.proofs.Answering.{not_both as not_both_failing, one_failure}
-use Rattle.sk_verify.proofs.ClaimSoFar.{one_claim, one_refusal as one_claim_refusal, not_both as not_both_claims}
+use Rattle.sk_claims.proofs.ClaimSoFar.{one_claim, one_refusal as one_claim_refusal, not_both as not_both_claims}
 use Rattle.sk_cli.specs.VerifyAnswer.{HasClaim, IsVerified, IsNotVerified, RefusesClaimBehind, IsVerifyRefusal, IsVerifyAnswer}
 use Rattle.sk_worklist.specs.declared.Order.{Order}
 use Rattle.sk_worklist.specs.declared.Order.TheVariants.{First}

@@ -41,17 +41,18 @@ use Rattle.sk_holding.proofs.InOrder.{spots_rise}
 use Rattle.sk_residual.proofs.Worsts.{contains_flat, on_distance, on_angle}
 use Rattle.sk_tree.specs.declared.Plan.{Plan as ThePlan}
 use Rattle.sk_tree.specs.LegalPlan.{numbers_of, IsLegalPlan}
-use Rattle.sk_verify.specs.declared.claim.Radius.{Radius}
-use Rattle.sk_verify.specs.Claims.{IsFitting, HasItsRadius, radius_nm}
-use Rattle.sk_verify.specs.ClaimReading.{ReadsClaim}
-use Rattle.sk_verify.specs.ClaimText.{radius_drawn, radii_drawn}
+use Rattle.sk_claims.specs.declared.claim.Radius.{Radius}
+use Rattle.sk_claims.specs.Claims.{IsFitting, radius_nm}
+use Rattle.sk_verify.specs.AsClaimed.{HasItsRadius}
+use Rattle.sk_claims.specs.ClaimReading.{ReadsClaim}
+use Rattle.sk_claims.specs.ClaimText.{radius_drawn, radii_drawn}
 use Rattle.sk_verify.specs.Failing.{AllTold, IsAccepted}
-use Rattle.sk_verify.specs.Printed.{HasPlainNumber}
+use Rattle.sk_claims.specs.Printed.{HasPlainNumber}
 use Rattle.sk_verify.proofs.Accepting.{accepted_so}
-use Rattle.sk_verify.proofs.FittingClaims.{spot_of}
-use Rattle.sk_verify.proofs.SaidElements.{found_so, drawn_so}
-use Rattle.sk_verify.proofs.SaidSteps.{said_steps}
-use Rattle.sk_verify.proofs.WrittenClaims.{reads_written}
+use Rattle.sk_claims.proofs.FittingClaims.{spot_of}
+use Rattle.sk_claims.proofs.SaidElements.{found_so, drawn_so}
+use Rattle.sk_claims.proofs.SaidSteps.{said_steps}
+use Rattle.sk_claims.proofs.WrittenClaims.{reads_written}
 use Rattle.sk_cli.specs.declared.request.Request.{Request}
 use Rattle.sk_cli.specs.Asking.{WithinKey, values_of, IsLimit, Says, Asks}
 use Rattle.sk_cli.specs.Grids.{grid_of, digits_of}

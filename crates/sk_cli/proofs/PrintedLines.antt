@@ -28,8 +28,8 @@ use Rattle.sk_tree.specs.declared.Choice.{Choice}
 use Rattle.sk_tree.specs.declared.Choice.TheVariants.{Turn, Advance, Nothing}
 use Rattle.sk_tree.specs.declared.PlanStep.{PlanStep}
 use Rattle.sk_tree.specs.declared.Plan.{Plan as ThePlan}
-use Rattle.sk_verify.specs.Claims.{radius_nm}
-use Rattle.sk_verify.specs.ClaimText.{choice_words, step_words, lying_words, spot_words, tolerance_words, claim_text}
+use Rattle.sk_claims.specs.Claims.{radius_nm}
+use Rattle.sk_claims.specs.ClaimText.{choice_words, step_words, lying_words, spot_words, tolerance_words, claim_text}
 use Rattle.sk_cli.specs.PrintedClaim.{tolerance_line, printed_text, printed_claim}
 
 -- the line of the words

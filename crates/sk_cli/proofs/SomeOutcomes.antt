@@ -26,8 +26,8 @@ use Rattle.sk_report.specs.RefusalLine.{refusal_line}
 use Rattle.sk_spare.specs.SpareReport.{spare_report}
 use Rattle.sk_derive.specs.DerivedText.{derived_text}
 use Rattle.sk_verify.specs.Texts.{failure_line, verified_line}
-use Rattle.sk_verify.proofs.ClaimSoFar.{some_answer as claim_or_refused}
-use Rattle.sk_verify.proofs.FittingClaims.{read_claim_fits}
+use Rattle.sk_claims.proofs.ClaimSoFar.{some_answer as claim_or_refused}
+use Rattle.sk_claims.proofs.FittingClaims.{read_claim_fits}
 use Rattle.sk_verify.proofs.SomeFailures.{accepted_or_failing}
 use Rattle.sk_cli.specs.declared.accounts.Account.{Account}
 use Rattle.sk_cli.specs.declared.accounts.Account.TheVariants.{Judged, Spares, Derived, Migrated, Shapes}

@@ -13,10 +13,9 @@ use Rattle.sk_plan.specs.Judged.{IsWell}
 use Rattle.sk_plan.proofs.PlanTrees.{some_plan_tree}
 use Rattle.sk_place.proofs.OnePlacing.{one_list, not_both}
 use Rattle.sk_residual.specs.Tolerances.{AllHold, IsAbove, everything}
-use Rattle.sk_residual.specs.Turns.{signs, AllAsDrawn}
+use Rattle.sk_residual.specs.Turns.{signs, AllAsDrawn, IsTurned}
 use Rattle.sk_residual.proofs.Firsts.{first_inside}
 use Rattle.sk_residual.proofs.OneMeasured.{not_beyond}
-use Rattle.sk_residual.specs.Turns.{IsTurned}
 use Rattle.sk_cli.specs.declared.accounts.Account.{Account}
 use Rattle.sk_cli.specs.declared.accounts.Account.TheVariants.{Judged, Spares, Derived, Migrated, Shapes}
 use Rattle.sk_cli.specs.declared.command.Command.{Command}
@@ -45,7 +44,7 @@ use Rattle.sk_lang.specs.declared.Front.{Front}
 use Rattle.sk_lang.specs.declared.Refusal.{Refusal}
 use Rattle.sk_lang.specs.Reading.{Refuses}
 use Rattle.sk_report.specs.RefusalLine.{refusal_line}
-use Rattle.sk_verify.specs.declared.claim.Claim.{Claim}
+use Rattle.sk_claims.specs.declared.claim.Claim.{Claim}
 use Rattle.sk_verify.specs.declared.failure.Failure.{Failure}
 use Rattle.sk_verify.specs.Failing.{IsAccepted, FailsFirst}
 use Rattle.sk_verify.specs.Texts.{failure_line, verified_line}

@@ -9,8 +9,8 @@ use Rattle.sk_residual.specs.declared.Tolerance.{Tolerance}
 use Rattle.sk_report.specs.PlanReport.{step_line}
 use Rattle.sk_report.specs.SolveReport.{element_lines}
 use Rattle.sk_tree.specs.declared.Plan.{Plan as ThePlan}
-use Rattle.sk_verify.specs.declared.claim.Claim.{Claim}
-use Rattle.sk_verify.specs.ClaimText.{tolerance_words, radii_drawn}
+use Rattle.sk_claims.specs.declared.claim.Claim.{Claim}
+use Rattle.sk_claims.specs.ClaimText.{tolerance_words, radii_drawn}
 
 -- the two tolerances that are printed, on a line as a claim has it
 abbrev pub tolerance_line : Tolerance → List ℕ

@@ -7,9 +7,9 @@ use Rattle.sk_lang.specs.declared.Refusal.{Refusal}
 use Rattle.sk_lang.specs.Front.{ReadsFront}
 use Rattle.sk_graph.specs.SketchGraph.{graph_of}
 use Rattle.sk_report.specs.RefusalLine.{refusal_line}
-use Rattle.sk_verify.specs.declared.claim.Claim.{Claim}
+use Rattle.sk_claims.specs.declared.claim.Claim.{Claim}
 use Rattle.sk_verify.specs.declared.failure.Failure.{Failure}
-use Rattle.sk_verify.specs.ClaimReading.{ReadsClaim, RefusesClaim}
+use Rattle.sk_claims.specs.ClaimReading.{ReadsClaim, RefusesClaim}
 use Rattle.sk_verify.specs.Failing.{IsAccepted, FailsFirst}
 use Rattle.sk_verify.specs.Texts.{failure_line, verified_line}
 use Rattle.sk_cli.specs.declared.status.Status.{Status}

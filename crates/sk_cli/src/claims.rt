@@ -2,15 +2,16 @@
 ghost use Rattle.std.specs.Prelude.{IfOk};
 ghost use Rattle.sk_base.specs.SoundSketch.{IsSoundSketch};
 ghost use Rattle.sk_graph.specs.SketchGraph.{graph_of};
-ghost use Rattle.sk_verify.specs.Claims.{IsFitting};
+ghost use Rattle.sk_claims.specs.Claims.{IsFitting};
 ghost use Rattle.sk_cli.specs.VerifyAnswer.{IsVerifyAnswer, IsJudged};
 
 use crate::answer::{Answer, refused};
 use crate::status::Status;
 use sk_base::{NoMemory, Sketch};
+use sk_claims::{Claim, read_claim};
 use sk_graph::reduce;
 use sk_lang::{ReadError, read_sketch_front};
-use sk_verify::{Claim, VerifyError, failure_text, read_claim, verified_text, verify};
+use sk_verify::{VerifyError, failure_text, verified_text, verify};
 use std::alloc::Global;
 
 /// The answer of `verify` to an input.

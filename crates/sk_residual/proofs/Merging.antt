@@ -1,6 +1,6 @@
 -- What is told and what is searched of two lists, put together in order of number.
 use Rattle.std.proofs.Common.{◌≡◌, ◌≢◌, inl, inr, ℕ, ◌<◌, ◌≤◌, List, [], ◌∷◌, ◌++◌, refl, sym, subst, ap, ◌∙◌, arith}
-use Rattle.std.specs.Prelude.{Contains, Option, None, Some, Bool, true, false, nat_lt, if◌then◌else◌, AllPairs}
+use Rattle.std.specs.Prelude.{Contains, Option, None, Some, MatchOption, Bool, true, false, nat_lt, if◌then◌else◌, AllPairs}
 use Rattle.std.proofs.lemmas.Bool.Decides.{nat_tests}
 use Rattle.sk_base.specs.declared.Block.{Block}
 use Rattle.sk_base.specs.declared.Edge.{Edge}
@@ -16,9 +16,10 @@ use Rattle.sk_base.proofs.Pairs.{pairs_map, pairs_tail, pairs_head}
 use Rattle.sk_base.proofs.Unions.{rising_none, rising_cons, rising_union, union_cases, union_right, union_of_apart}
 use Rattle.sk_residual.specs.declared.beyond.Beyond.{Beyond}
 use Rattle.sk_residual.specs.declared.spotted.Spotted.{Spotted}
-use Rattle.sk_holding.specs.Items.{Item, constraint, block, IsOwnLeast}
-use Rattle.sk_residual.specs.Tolerances.{AreMerged, number_in, number_of, AllHold, IsAbove, IsFirstBeyond, rigid, between, distances, distance_of_measure, constraints, lengthwise}
-use Rattle.sk_residual.specs.Telling.{IsTold, IsSearched, is_worse_at, earlier}
+use Rattle.sk_holding.specs.Items.{Item, constraint, block, Holds, IsOwnLeast}
+use Rattle.sk_residual.specs.Tolerances.{AreMerged, name_of, number_in, number_of, AllHold, IsAbove, IsFirstBeyond, rigid, between, distances, distance_of_measure, constraints, lengthwise}
+use Rattle.sk_residual.specs.First.{IsFirst, earlier}
+use Rattle.sk_residual.specs.Telling.{IsTold, IsSearched, is_worse_at}
 use Rattle.sk_residual.proofs.Firsts.{first_inside}
 use Rattle.sk_residual.proofs.Rising.{first_rising, none_below}
 use Rattle.sk_residual.proofs.Passings.{excludes}
@@ -35,23 +36,53 @@ swapped xs ys all merged = record {
   no_others = λ item h. elim (merged.no_others item h) [ inl left ↦ inr left | inr right ↦ inl right ];
 }
 
+-- what is first in one list, and not behind anything in the other
+pub first_in : (P : Item → Type 0) (xs ys all : List Item) → AreMerged xs ys all → (x : Item) → IsFirst P xs x → ((z : Item) → Contains ys z → number_of z < number_of x → ¬ P z) → IsFirst P all x
+first_in P xs ys all merged x first rest = first_rising number_of P all merged.rises x (merged.first x (first_inside P xs x first)) first.has
+    (λ z z_in lt. elim (merged.no_others z z_in) [
+      | inl left ↦ none_below number_of P xs merged.first_rises x first z left lt
+      | inr right ↦ rest z right lt
+    ])
+
+-- what is found in both lists, each by the name of its first item with P; else all items have Q
+module _ {A : Type 0} (at : A → Spotted) (P Q : Item → Type 0) (excludes : (item : Item) → Q item → ¬ P item) (Finds : List Item → A → Type 0)
+    (found : (items : List Item) (a : A) → Finds items a → (x : Item) × IsFirst P items x × (name_of x ≡ at a))
+    (finds : (items others : List Item) (a : A) (f : Finds items a) → IsFirst P others (found items a f).0 → Finds others a) where
+  -- of two lists that are put together in order of number
+  module _ (xs ys all : List Item) (merged : AreMerged xs ys all) where
+    -- the first of one list, where nothing of the other is before it
+    in_front : (a : A) → Finds xs a → ((z : Item) → Contains ys z → number_of z < number_in (at a) → ¬ P z) → Finds all a
+    in_front a here rest =
+        let x = found xs a here in
+        finds xs all a here (first_in P xs ys all merged x.0 x.1 (λ z z_in lt. rest z z_in (subst (λ (n : ℕ). number_of z < n) (ap number_in x.2) lt)))
+
+    -- nothing of a list has P before what is found in it
+    none_before : (a : A) → Finds ys a → (z : Item) → Contains ys z → number_of z < number_in (at a) → ¬ P z
+    none_before a here z z_in lt =
+        let y = found ys a here in
+        none_below number_of P ys merged.second_rises y.0 y.1 z z_in (subst (λ (n : ℕ). number_of z < n) (sym (ap number_in y.2)) lt)
+
+  module _ (xs ys all : List Item) (merged : AreMerged xs ys all) where
+    one_of : (a b : A) (test : Bool) → nat_lt (number_in (at a)) (number_in (at b)) ≡ test → Finds xs a → Finds ys b → MatchOption (if test then Some a else Some b) ((item : Item) → Contains all item → Q item) (Finds all)
+    one_of a b true is left right =
+        in_front xs ys all merged a left (λ z z_in lt.
+        (let before : number_in (at a) < number_in (at b) = grind (arith, nat_tests) in
+        none_before xs ys all merged b right z z_in (omega arith)))
+    one_of a b false is left right =
+        in_front ys xs all (swapped xs ys all merged) b right (λ z z_in lt.
+        (let before : number_in (at b) ≤ number_in (at a) = grind (arith, nat_tests) in
+        none_before ys xs all (swapped xs ys all merged) a left z z_in (omega arith)))
+
+    pub found_in_both : (one other : Option A) → MatchOption one ((item : Item) → Contains xs item → Q item) (Finds xs) → MatchOption other ((item : Item) → Contains ys item → Q item) (Finds ys)
+        → MatchOption (earlier (λ a. number_in (at a)) one other) ((item : Item) → Contains all item → Q item) (Finds all)
+    found_in_both None None left right = λ item h. elim (merged.no_others item h) [ inl l ↦ left item l | inr r ↦ right item r ]
+    found_in_both None (Some b) left right = in_front ys xs all (swapped xs ys all merged) b right (λ z z_in lt. excludes z (left z z_in))
+    found_in_both (Some a) None left right = in_front xs ys all merged a left (λ z z_in lt. excludes z (right z z_in))
+    found_in_both (Some a) (Some b) left right = one_of a b (nat_lt (number_in (at a)) (number_in (at b))) refl left right
+
 module _ (p : Placed) (xs ys all : List Item) (merged : AreMerged xs ys all) where
   all_of_both : (n : ℕ) → AllHold p xs n → AllHold p ys n → AllHold p all n
   all_of_both n left right item h = elim (merged.no_others item h) [ inl l ↦ left item l | inr r ↦ right item r ]
-
-  -- what is first in one list, and not behind anything in the other
-  beyond_in : (limit : ℕ) (b : Beyond) → IsFirstBeyond p xs limit b → ((z : Item) → Contains ys z → number_of z < number_in b.at → ¬ IsAbove p limit z) → IsFirstBeyond p all limit b
-  beyond_in limit b beyond rest = record {
-    item = beyond.item;
-    first = first_rising number_of (IsAbove p limit) all merged.rises beyond.item (merged.first beyond.item (first_inside (IsAbove p limit) xs beyond.item beyond.first)) beyond.first.has
-        (λ z z_in lt. elim (merged.no_others z z_in) [
-          | inl left ↦ none_below number_of (IsAbove p limit) xs merged.first_rises beyond.item beyond.first z left lt
-          | inr right ↦ rest z right (subst (λ (n : ℕ). number_of z < n) (ap number_in beyond.named) lt)
-        ]);
-    named = beyond.named;
-    least = beyond.least;
-    limited = beyond.limited;
-  }
 
   told_in : (n : ℕ) (at : Spotted) → IsTold p xs (record { least = n; at = Some at }) → AllHold p ys n → ((z : Item) → Contains ys z → number_of z < number_in at → ¬ IsOwnLeast p z n) → IsTold p all (record { least = n; at = Some at })
   told_in n at told held rest = record {
@@ -61,11 +92,7 @@ module _ (p : Placed) (xs ys all : List Item) (merged : AreMerged xs ys all) whe
     };
     at = record {
       item = told.at.item;
-      first = first_rising number_of (λ i. IsOwnLeast p i n) all merged.rises told.at.item (merged.first told.at.item (first_inside (λ i. IsOwnLeast p i n) xs told.at.item told.at.first)) told.at.first.has
-          (λ z z_in lt. elim (merged.no_others z z_in) [
-            | inl left ↦ none_below number_of (λ i. IsOwnLeast p i n) xs merged.first_rises told.at.item told.at.first z left lt
-            | inr right ↦ rest z right (subst (λ (m : ℕ). number_of z < m) (ap number_in told.at.named) lt)
-          ]);
+      first = first_in (λ i. IsOwnLeast p i n) xs ys all merged told.at.item told.at.first (λ z z_in lt. rest z z_in (subst (λ (m : ℕ). number_of z < m) (ap number_in told.at.named) lt));
       named = told.at.named;
     };
   }
@@ -90,24 +117,11 @@ module _ (p : Placed) (xs ys all : List Item) (merged : AreMerged xs ys all) whe
 
 -- ---- what is searched
 
-module _ (p : Placed) (xs ys all : List Item) (merged : AreMerged xs ys all) (limit : ℕ) where
-  one_of : (b d : Beyond) (test : Bool) → nat_lt (number_in b.at) (number_in d.at) ≡ test → IsFirstBeyond p xs limit b → IsFirstBeyond p ys limit d → IsSearched p all limit (if test then Some b else Some d)
-  one_of b d true is left right =
-      beyond_in p xs ys all merged limit b left (λ z z_in lt.
-      (let named : number_of right.item ≡ number_in d.at = ap number_in right.named in
-      let before : number_in b.at < number_in d.at = grind (arith, nat_tests) in
-      none_below number_of (IsAbove p limit) ys merged.second_rises right.item right.first z z_in (omega arith)))
-  one_of b d false is left right =
-      beyond_in p ys xs all (swapped xs ys all merged) limit d right (λ z z_in lt.
-      (let named : number_of left.item ≡ number_in b.at = ap number_in left.named in
-      let before : number_in d.at ≤ number_in b.at = grind (arith, nat_tests) in
-      none_below number_of (IsAbove p limit) xs merged.first_rises left.item left.first z z_in (omega arith)))
-
-  pub searched_merged : (a b : Option Beyond) → IsSearched p xs limit a → IsSearched p ys limit b → IsSearched p all limit (earlier a b)
-  searched_merged None None left right = all_of_both p xs ys all merged limit left right
-  searched_merged None (Some d) left right = beyond_in p ys xs all (swapped xs ys all merged) limit d right (λ z z_in lt. excludes p limit z (left z z_in))
-  searched_merged (Some b) None left right = beyond_in p xs ys all merged limit b left (λ z z_in lt. excludes p limit z (right z z_in))
-  searched_merged (Some b) (Some d) left right = one_of b d (nat_lt (number_in b.at) (number_in d.at)) refl left right
+pub searched_merged : (p : Placed) (xs ys all : List Item) → AreMerged xs ys all → (limit : ℕ) (a b : Option Beyond) → IsSearched p xs limit a → IsSearched p ys limit b → IsSearched p all limit (earlier (λ (x : Beyond). number_in x.at) a b)
+searched_merged p xs ys all merged limit = found_in_both (λ (x : Beyond). x.at) (IsAbove p limit) (λ item. Holds p item limit) (excludes p limit) (λ items b. IsFirstBeyond p items limit b)
+    (λ items b beyond. (beyond.item, beyond.first, beyond.named))
+    (λ items others b beyond first. record { item = beyond.item; first = first; named = beyond.named; least = beyond.least; limited = beyond.limited })
+    xs ys all merged
 
 -- ---- what is told
 

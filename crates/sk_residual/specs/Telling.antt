@@ -32,12 +32,6 @@ is_worse_at n (Some at) m (Some beside) = nat_lt m n || ((n == m) && nat_lt (num
 abbrev pub is_worse : Worst → Worst → Bool
 is_worse one other = is_worse_at one.least one.at other.least other.at
 
--- the first of two by number
-abbrev pub earlier : Option Beyond → Option Beyond → Option Beyond
-earlier None other = other
-earlier (Some b) None = Some b
-earlier (Some b) (Some other) = if nat_lt (number_in b.at) (number_in other.at) then Some b else Some other
-
 -- the constraint of that name
 abbrev pub constraint_of : Option Spotted → Option ConId
 constraint_of None = None

@@ -8,9 +8,9 @@ ghost use Rattle.sk_base.specs.SoundGraph.{IsSoundGraph};
 ghost use Rattle.sk_holding.specs.Placing.{IsPlacedAs, IsMeasurable, AreMeasurable, PlacesExactly};
 ghost use Rattle.sk_holding.specs.Items.{Item, IsOwnLeast};
 ghost use Rattle.sk_residual.specs.Tolerances.{name_of, AllHold, IsFirstBeyond, normal_of_kind, normals, between, rigid, constraints, everything};
-ghost use Rattle.sk_residual.specs.Telling.{IsSearched, earlier};
+ghost use Rattle.sk_residual.specs.Telling.{IsSearched};
 
-use crate::spotted::Spotted;
+use crate::spotted::{Named, Spotted, earlier};
 use sk_base::{Block, Edge, Graph, Kind, Node, Placed};
 use sk_holding::{own_least, own_least_of_block, own_least_of_normal};
 
@@ -20,6 +20,14 @@ pub struct Beyond {
     pub at: Spotted,
     pub least: u64,
     pub limit: u64,
+}
+
+impl Named for Beyond {
+    ghost spot = { λ b. b.at };
+
+    fn spot(self) -> Spotted {
+        self.at
+    }
 }
 
 /// The first line, and else the first constraint, whose own least number is above the limit. The
@@ -59,23 +67,6 @@ fn constraint_beyond(p: &Placed, g: &Graph, limit: u64) -> Option<Beyond>
         block_beyond(p, g.blocks.as_slice(), limit),
         edge_beyond(p, g.edges.as_slice(), limit),
     )
-}
-
-/// The first of two by number.
-fn earlier(one: Option<Beyond>, other: Option<Beyond>) -> Option<Beyond>
-    ensures { result ≡ earlier one other }
-{
-    match (one, other) {
-        (None, _) => other,
-        (_, None) => one,
-        (Some(b), Some(beside)) => {
-            if b.at.number() < beside.at.number() {
-                one
-            } else {
-                other
-            }
-        }
-    }
 }
 
 /// The first block that passes the limit.

@@ -11,6 +11,6 @@ mod worst;
 
 pub use beyond::{Beyond, passed};
 pub use law::constraints_in_order;
-pub use spotted::Spotted;
+pub use spotted::{Named, Spotted, earlier};
 pub use tolerance::{Tolerance, least};
 pub use turned::{Turned, Wanted, first_off, first_turned, first_unlike};

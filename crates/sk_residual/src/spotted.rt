@@ -1,5 +1,6 @@
 // How what has a tolerance is named.
 ghost use Rattle.std.specs.Prelude.{◌≡◌};
+ghost use Rattle.sk_residual.specs.First.{earlier};
 ghost use Rattle.sk_residual.specs.Tolerances.{number_in};
 
 use sk_base::{ConId, Elem};
@@ -19,6 +20,41 @@ impl Spotted {
         match self {
             Spotted::Con(k) => k.0,
             Spotted::Line(e) => e.0,
+        }
+    }
+}
+
+/// What is named by a constraint or a line.
+pub trait Named: Copy {
+    ghost use Rattle.sk_residual.specs.declared.spotted.Spotted.{Spotted};
+
+    ghost spot: { Self → Spotted };
+
+    fn spot(self) -> Spotted
+        ensures { result ≡ spot self };
+}
+
+impl Named for Spotted {
+    ghost spot = { λ at. at };
+
+    fn spot(self) -> Spotted {
+        self
+    }
+}
+
+/// The one of two with the smaller number.
+pub fn earlier<T: Named>(one: Option<T>, other: Option<T>) -> Option<T>
+    ensures { result ≡ earlier (λ x. number_in (T.spot x)) one other }
+{
+    match (one, other) {
+        (None, _) => other,
+        (_, None) => one,
+        (Some(x), Some(y)) => {
+            if x.spot().number() < y.spot().number() {
+                one
+            } else {
+                other
+            }
         }
     }
 }

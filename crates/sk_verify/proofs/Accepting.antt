@@ -19,8 +19,8 @@ use Rattle.sk_residual.specs.Tolerances.{number_of, normals, normal_of_kind, bet
 use Rattle.sk_residual.specs.Turns.{signs, AllAsDrawn}
 use Rattle.sk_tree.specs.declared.PlanStep.{PlanStep}
 use Rattle.sk_tree.specs.LegalPlan.{IsWhole, next_after, AreLegalSteps, IsLegalPlan}
-use Rattle.sk_verify.specs.declared.claim.Claim.{Claim}
-use Rattle.sk_verify.specs.Claims.{HoldsAsClaimed, plan_claimed}
+use Rattle.sk_claims.specs.declared.Claim.{Claim}
+use Rattle.sk_verify.specs.AsClaimed.{HoldsAsClaimed, plan_claimed}
 use Rattle.sk_verify.specs.Failing.{AllTold, AllHoldAsClaimed, IsAccepted}
 use Rattle.sk_verify.specs.RightSteps.{AreRight, after}
 

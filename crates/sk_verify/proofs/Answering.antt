@@ -16,10 +16,10 @@ use Rattle.sk_residual.specs.First.{IsFirst}
 use Rattle.sk_residual.specs.Tolerances.{everything, name_of}
 use Rattle.sk_residual.specs.Turns.{signs, IsTurned}
 use Rattle.sk_tree.specs.declared.PlanStep.{PlanStep}
-use Rattle.sk_verify.specs.declared.claim.Claim.{Claim}
+use Rattle.sk_claims.specs.declared.Claim.{Claim}
 use Rattle.sk_verify.specs.declared.failure.Failure.{Failure}
 use Rattle.sk_verify.specs.declared.failure.Failure.TheVariants.{Step, Parts, Element as OfElement, Line, Con, Sign}
-use Rattle.sk_verify.specs.Claims.{IsTold, HoldsAsClaimed, plan_claimed}
+use Rattle.sk_verify.specs.AsClaimed.{IsTold, HoldsAsClaimed, plan_claimed}
 use Rattle.sk_verify.specs.Failing.{AllTold, AllHoldAsClaimed, HasDrawnSigns, IsAccepted, IsFirstUntold, IsFirstOff, IsFirstTurned, FailsFirst}
 use Rattle.sk_tree.specs.LegalPlan.{next_after}
 use Rattle.sk_verify.specs.RightSteps.{AreRight, IsFirstWrong}

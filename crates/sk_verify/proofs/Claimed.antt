@@ -20,8 +20,9 @@ use Rattle.sk_residual.proofs.Merging.{block_in}
 use Rattle.sk_residual.proofs.Worsts.{contains_flat}
 use Rattle.sk_tree.specs.declared.PlanStep.{PlanStep}
 use Rattle.sk_tree.specs.LegalPlan.{IsWhole, next_after, AreLegalSteps, IsLegalPlan}
-use Rattle.sk_verify.specs.declared.claim.Claim.{Claim}
-use Rattle.sk_verify.specs.Claims.{IsFitting, HoldsAsClaimed, plan_claimed}
+use Rattle.sk_claims.specs.declared.Claim.{Claim}
+use Rattle.sk_claims.specs.Claims.{IsFitting}
+use Rattle.sk_verify.specs.AsClaimed.{HoldsAsClaimed, plan_claimed}
 use Rattle.sk_verify.specs.Failing.{IsJoined, IsAccepted}
 use Rattle.sk_verify.specs.RightSteps.{AreRight, after}
 use Rattle.sk_verify.proofs.Complete.{told_exactly}

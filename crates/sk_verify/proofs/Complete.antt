@@ -18,14 +18,10 @@ use Rattle.sk_base.proofs.Members.{mapped_from}
 use Rattle.sk_base.proofs.Pairs.{pairs_tell}
 use Rattle.sk_graph.specs.SketchGraph.{node_of, graph_of}
 use Rattle.sk_holding.specs.Placing.{lies, HasKind, IsPlacedAs, IsSpotOf, PlacesExactly}
-use Rattle.sk_verify.specs.declared.claim.Claim.{Claim}
-use Rattle.sk_verify.specs.Claims.{IsFitting}
+use Rattle.sk_claims.specs.declared.Claim.{Claim}
+use Rattle.sk_claims.specs.Claims.{IsFitting}
 use Rattle.sk_verify.specs.Failing.{AllTold}
-
--- what is found, where something is
-pub found_spot : (o : Option Spot) → IsSome (option_map (λ (x : Spot). x.at) o) → (spot : Spot) × (o ≡ Some spot)
-found_spot None is = absurd (cc)
-found_spot (Some spot) is = (spot, refl)
+use Rattle.sk_claims.proofs.FittingClaims.{found_spot}
 
 module _ (g : Graph) (sound : IsSoundGraph g) (c : Claim) (fits : IsFitting g c) where
   -- two nodes of one element are the same

@@ -1,9 +1,4 @@
-pub mod ClaimExamples
-pub mod ClaimSoFar
-pub mod PrintedWords
-pub mod FittingClaims
 pub mod Fronts
-pub mod StepWords
 pub mod Tests
 pub mod Corners
 pub mod Leading
@@ -11,11 +6,5 @@ pub mod Measuring
 pub mod Complete
 pub mod Claimed
 pub mod Answering
-pub mod SaidElements
-pub mod SpelledNumbers
-pub mod WrittenSteps
-pub mod WrittenPlaces
-pub mod WrittenClaims
 pub mod Accepting
-pub mod SaidSteps
 pub mod SomeFailures

@@ -22,7 +22,7 @@ use Rattle.sk_base.proofs.Unions.{which}
 use Rattle.sk_tree.specs.DrawnChoice.{HasDrawnChoice, drawn_choice, shapes_of}
 use Rattle.sk_family.specs.declared.Cluster.{Cluster}
 use Rattle.sk_family.specs.Clusters.{Clusters, IsNamed, initial_clusters}
-use Rattle.sk_base.proofs.Deciding.{elem_settles}
+use Rattle.sk_base.proofs.Deciding.{elem_settles, Decided, both, either, three, moved, denied, implied, is_in, each_decided, node_settles, below_decided, name_below, name_settles}
 use Rattle.sk_graph.specs.SketchGraph.{graph_of}
 use Rattle.sk_residual.specs.declared.Spotted.{Spotted}
 use Rattle.sk_residual.specs.declared.Spotted.TheVariants as spotted
@@ -38,15 +38,15 @@ use Rattle.sk_tree.specs.declared.PlanStep.{PlanStep}
 use Rattle.sk_tree.specs.ByNumber.{by_number}
 use Rattle.sk_tree.specs.LegalPlan.{IsPreferred, IsKept, IsLineWithPoints, IsPointWithLines, FitsKinds, IsLegalStep, HasNodes, IsWhole, next_after}
 use Rattle.sk_tree.specs.Meeting.{SharesNoOther, MeetsOnce, JoinsOnce}
-use Rattle.sk_verify.specs.declared.claim.Claim.{Claim}
-use Rattle.sk_verify.specs.declared.claim.Radius.{Radius}
+use Rattle.sk_claims.specs.declared.Claim.{Claim}
+use Rattle.sk_claims.specs.declared.Radius.{Radius}
 use Rattle.sk_verify.specs.declared.failure.Failure.{Failure}
 use Rattle.sk_verify.specs.declared.failure.Failure.TheVariants.{Step, Parts, Element as OfElement, Line as OfLine, Con as OfCon, Sign as OfSign}
-use Rattle.sk_verify.specs.Claims.{IsFitting, HasItsRadius, IsTold, HoldsAsClaimed, plan_claimed}
+use Rattle.sk_claims.specs.Claims.{IsFitting}
+use Rattle.sk_verify.specs.AsClaimed.{HasItsRadius, IsTold, HoldsAsClaimed, plan_claimed}
 use Rattle.sk_verify.specs.Failing.{IsComplete, IsAccepted, IsFirstOff, FailsFirst}
 use Rattle.sk_verify.specs.RightSteps.{IsRightStep, AreRight, IsFirstWrong, after}
 use Rattle.sk_verify.proofs.Complete.{told_exactly}
-use Rattle.sk_base.proofs.Deciding.{Decided, both, either, three, moved, denied, implied, is_in, each_decided, node_settles, below_decided, name_below, name_settles}
 use Rattle.sk_residual.proofs.Firsts.{all_or_first}
 use Rattle.sk_rules.proofs.SettledRules.{triangle_decided, some_named}
 use Rattle.sk_residual.proofs.SomeMeasures.{int_settles, own_everything, compared}

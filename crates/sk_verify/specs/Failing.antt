@@ -14,13 +14,13 @@ use Rattle.sk_holding.specs.Items.{Item}
 use Rattle.sk_residual.specs.Tolerances.{name_of, everything}
 use Rattle.sk_residual.specs.Turns.{signs, IsTurned, AllAsDrawn}
 use Rattle.sk_tree.specs.LegalPlan.{IsWhole}
-use Rattle.sk_verify.specs.declared.claim.Claim.{Claim}
+use Rattle.sk_claims.specs.declared.Claim.{Claim}
 use Rattle.sk_verify.specs.declared.failure.Failure.{Failure}
 use Rattle.sk_verify.specs.declared.failure.Failure.TheVariants.{Step, Parts, Element as OfElement, Line, Con, Sign}
 use Rattle.sk_verify.specs.declared.failure.VerifyError.{VerifyError}
 use Rattle.sk_verify.specs.declared.failure.VerifyError.TheVariants.{Fails, NoMemory}
 use Rattle.sk_verify.specs.RightSteps.{AreRight, IsFirstWrong, after}
-use Rattle.sk_verify.specs.Claims.{IsTold, HoldsAsClaimed, plan_claimed}
+use Rattle.sk_verify.specs.AsClaimed.{IsTold, HoldsAsClaimed, plan_claimed}
 
 -- from the starting clusters on each step is right
 abbrev pub HasRightSteps : Sketch → Graph → Claim → Type 0

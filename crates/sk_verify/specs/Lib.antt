@@ -1,9 +1,5 @@
 pub mod RightSteps
-pub mod Claims
+pub mod AsClaimed
 pub mod Failing
 pub mod Stepping
 pub mod Texts
-pub mod ClaimLines
-pub mod ClaimReading
-pub mod Printed
-pub mod ClaimText

@@ -9,7 +9,7 @@ use Rattle.sk_residual.specs.declared.Spotted.{Spotted}
 use Rattle.sk_holding.specs.Items.{Item}
 use Rattle.sk_residual.specs.Tolerances.{number_in}
 use Rattle.sk_tree.specs.declared.PlanStep.{PlanStep}
-use Rattle.sk_verify.specs.declared.claim.Claim.{Claim}
+use Rattle.sk_claims.specs.declared.Claim.{Claim}
 use Rattle.sk_verify.specs.declared.failure.Failure.{Failure}
 use Rattle.sk_verify.specs.declared.failure.Failure.TheVariants.{Step, Parts, Element as OfElement, Line, Con, Sign}
 use Rattle.sk_verify.specs.declared.failure.VerifyError.{VerifyError}
@@ -47,9 +47,3 @@ IsTelling c elements untold = MatchOption untold (AllTold c elements) (IsFirstUn
 -- all hold as claimed, or the first that doesn't is named
 abbrev pub IsMeasured : Claim → List Item → Option Spotted → Type 0
 IsMeasured c items off = MatchOption off (AllHoldAsClaimed c items) (IsFirstOff c items)
-
--- the first of two by number
-abbrev pub earlier : Option Spotted → Option Spotted → Option Spotted
-earlier None other = other
-earlier (Some at) None = Some at
-earlier (Some at) (Some other) = if nat_lt (number_in at) (number_in other) then Some at else Some other

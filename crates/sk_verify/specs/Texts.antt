@@ -5,7 +5,7 @@ use Rattle.sk_base.specs.declared.Name.TheVariants as names
 use Rattle.sk_base.specs.declared.Sketch.{Sketch}
 use Rattle.sk_base.specs.ElementNames.{name_of}
 use Rattle.sk_text.specs.ClusterName.{cluster_name}
-use Rattle.sk_verify.specs.declared.claim.Claim.{Claim}
+use Rattle.sk_claims.specs.declared.Claim.{Claim}
 use Rattle.sk_verify.specs.declared.failure.Failure.{Failure}
 use Rattle.sk_verify.specs.declared.failure.Failure.TheVariants.{Step, Parts, Element, Line, Con, Sign}
 

@@ -3,12 +3,12 @@ ghost use Rattle.std.specs.Prelude.{◌≡◌, ◌≤◌, ◌^◌};
 ghost use Rattle.sk_base.specs.SoundGraph.{IsSoundGraph};
 ghost use Rattle.sk_holding.specs.Placing.{IsPlacedAs, PlacesExactly};
 ghost use Rattle.sk_residual.specs.Tolerances.{normal_of_kind, normals, between, rigid, constraints, everything};
-ghost use Rattle.sk_verify.specs.Stepping.{IsMeasured, earlier};
+ghost use Rattle.sk_verify.specs.Stepping.{IsMeasured};
 
-use crate::claim::Claim;
 use sk_base::{Graph, Kind, Node};
+use sk_claims::Claim;
 use sk_holding::{meets, meets_block, meets_normal};
-use sk_residual::Spotted;
+use sk_residual::{Spotted, earlier};
 
 /// The first line, and else the first constraint, that doesn't hold within the claimed tolerance.
 pub(crate) fn first_unmet(g: &Graph, claim: &Claim) -> Option<Spotted>
@@ -63,23 +63,6 @@ fn constraint_off(g: &Graph, claim: &Claim) -> Option<Spotted>
     ensures { IsMeasured claim.now (constraints g.now) result }
 {
     earlier(block_off(g, claim), edge_off(g, claim))
-}
-
-/// The first of two by number.
-fn earlier(one: Option<Spotted>, other: Option<Spotted>) -> Option<Spotted>
-    ensures { result ≡ earlier one other }
-{
-    match (one, other) {
-        (None, _) => other,
-        (_, None) => one,
-        (Some(at), Some(beside)) => {
-            if at.number() < beside.number() {
-                one
-            } else {
-                other
-            }
-        }
-    }
 }
 
 /// The first block that doesn't hold.

@@ -3,9 +3,9 @@ ghost use Rattle.std.specs.Prelude.{◌≡◌, ◌++◌, IfOk, OnOk};
 ghost use Rattle.sk_text.specs.ClusterName.{cluster_name};
 ghost use Rattle.sk_verify.specs.Texts.{failing_words, failure_line, verified_line};
 
-use crate::claim::Claim;
 use crate::failure::Failure;
 use sk_base::{Name, NoMemory, Sketch, Text};
+use sk_claims::Claim;
 use sk_text::{cluster_name, put_label};
 use std::alloc::Global;
 

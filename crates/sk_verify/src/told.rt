@@ -3,11 +3,12 @@ ghost use Rattle.std.specs.Prelude.{◌↔◌, IsTrue, IsSome, Contains};
 ghost use Rattle.sk_base.specs.declared.Element.{Element as AnyElement};
 ghost use Rattle.sk_base.specs.Places.{place_of};
 ghost use Rattle.sk_base.specs.SoundSketch.{IsSoundShape, IsLength};
-ghost use Rattle.sk_verify.specs.Claims.{radius_nm, HasItsRadius, IsTold};
+ghost use Rattle.sk_claims.specs.Claims.{radius_nm};
+ghost use Rattle.sk_verify.specs.AsClaimed.{HasItsRadius, IsTold};
 ghost use Rattle.sk_verify.specs.Stepping.{IsTelling};
 
-use crate::claim::{Claim, Radius};
 use sk_base::{Elem, Element, Shape, Um};
+use sk_claims::{Claim, Radius};
 
 /// The first element that isn't told.
 pub(crate) fn first_untold(claim: &Claim, elements: &[Element]) -> Option<Elem>

@@ -2,7 +2,7 @@ use Rattle.std.proofs.Common.{inl, refl, sym, subst, List, ℕ, drop}
 use Rattle.sk_base.specs.declared.Sketch.{Sketch}
 use Rattle.sk_graph.specs.SketchGraph.{graph_of}
 use Rattle.sk_graph.proofs.Soundness.{graph_is_sound}
-use Rattle.sk_verify.specs.ClaimReading.{ReadsClaim}
+use Rattle.sk_claims.specs.ClaimReading.{ReadsClaim}
 use Rattle.sk_verify.specs.Failing.{IsAccepted}
 use Rattle.sk_verify.specs.Texts.{verified_line}
 use Rattle.sk_cli.specs.declared.command.Command.{Command}

@@ -9,7 +9,7 @@ use Rattle.sk_holding.specs.Items.{block}
 use Rattle.sk_residual.specs.Tolerances.{rigid}
 use Rattle.sk_residual.specs.declared.Spotted.TheVariants.{Con}
 use Rattle.sk_holding.proofs.Placings.{block_measurable}
-use Rattle.sk_verify.specs.Claims.{HoldsAsClaimed}
+use Rattle.sk_verify.specs.AsClaimed.{HoldsAsClaimed}
 use Rattle.sk_verify.specs.Failing.{AllHoldAsClaimed, IsFirstOff}
 use Rattle.sk_verify.proofs.Measuring.{mapped_more, mapped_there}
 use Rattle.sk_verify.proofs.holding.block_off.Goals as goal

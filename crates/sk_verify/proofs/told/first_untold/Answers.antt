@@ -3,7 +3,7 @@ use Rattle.std.proofs.lemmas.List.Elements.{Contains-get_or}
 use Rattle.sk_base.specs.declared.Element.{Element}
 use Rattle.sk_base.specs.SoundSketch.{IsSoundShape}
 use Rattle.sk_base.proofs.Searches.{refused}
-use Rattle.sk_verify.specs.Claims.{IsTold}
+use Rattle.sk_verify.specs.AsClaimed.{IsTold}
 use Rattle.sk_verify.proofs.Fronts.{all_more, all_there, first_here}
 use Rattle.sk_verify.proofs.told.first_untold.Goals as goal
 

@@ -1,0 +1,11 @@
+pub mod ClaimExamples
+pub mod ClaimSoFar
+pub mod PrintedWords
+pub mod FittingClaims
+pub mod StepWords
+pub mod SaidElements
+pub mod SpelledNumbers
+pub mod WrittenSteps
+pub mod WrittenPlaces
+pub mod WrittenClaims
+pub mod SaidSteps

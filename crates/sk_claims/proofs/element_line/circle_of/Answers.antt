@@ -1,0 +1,14 @@
+use Rattle.std.proofs.Common.{[], ◌≡◌, map, length, refl, arith}
+use Rattle.std.proofs.lemmas.List.{length-map}
+use Rattle.sk_lex.specs.Words.{bytes_of}
+use Rattle.sk_base.proofs.Rests.{rest_four}
+use Rattle.sk_claims.proofs.StepWords.{both_said}
+use Rattle.sk_claims.proofs.element_line.circle_of.Goals as goal
+
+pub returns : goal.returns
+returns c =
+    let ws = map (bytes_of c.args.line.now) c.args.words.now in
+    let same = length-map c.args.words.now (bytes_of c.args.line.now) in
+    let count : length ws ≡ 5 = omega (arith, same) in
+    let rest = rest_four [] ws c.word-name.result.now c.word-x.result.now c.word-y.result.now c.word-r.result.now count c.word-name.ensures c.word-x.ensures c.word-y.ensures c.word-r.ensures in
+    rw c.circle_said.ensures (rw rest (both_said _ _ _ _ _ refl refl))

@@ -1,0 +1,5 @@
+pub mod Claims
+pub mod ClaimLines
+pub mod ClaimReading
+pub mod Printed
+pub mod ClaimText

@@ -1,0 +1,53 @@
+// The first words of the lines of a claim.
+ghost use Rattle.std.specs.Prelude.{◌≡◌};
+ghost use Rattle.sk_claims.specs.ClaimLines.{first_of, fits_shape};
+
+use sk_base::Shape;
+use sk_lang::is_word;
+
+/// What an element line places.
+#[derive(Clone, Copy, Debug, PartialEq, Eq)]
+pub(crate) enum Figure {
+    Point,
+    Circle,
+    Line,
+}
+
+/// What a line tells: a step, the place of an element, or the tolerances.
+#[derive(Clone, Copy, Debug, PartialEq, Eq)]
+pub(crate) enum First {
+    Step,
+    Element(Figure),
+    Tolerance,
+}
+
+/// What a line tells by its first word.
+pub(crate) fn first_of(word: &[u8]) -> Option<First>
+    ensures { result ≡ first_of word.now }
+{
+    if is_word(word, "step") {
+        Some(First::Step)
+    } else if is_word(word, "point") {
+        Some(First::Element(Figure::Point))
+    } else if is_word(word, "circle") {
+        Some(First::Element(Figure::Circle))
+    } else if is_word(word, "line") {
+        Some(First::Element(Figure::Line))
+    } else if is_word(word, "tolerance") {
+        Some(First::Tolerance)
+    } else {
+        None
+    }
+}
+
+/// Whether an element of that shape is placed so.
+pub(crate) fn fits_shape(figure: Figure, shape: &Shape) -> bool
+    ensures { result ≡ fits_shape figure shape.now }
+{
+    match (figure, shape) {
+        (Figure::Point, Shape::Point { .. }) => true,
+        (Figure::Circle, Shape::Circle { .. }) => true,
+        (Figure::Line, Shape::Line { .. }) => true,
+        _ => false,
+    }
+}

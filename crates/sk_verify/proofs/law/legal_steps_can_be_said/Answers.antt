@@ -1,5 +1,0 @@
-use Rattle.sk_verify.proofs.SaidSteps.{said_steps}
-use Rattle.sk_verify.proofs.law.legal_steps_can_be_said.Goals as goal
-
-pub returns : goal.returns
-returns c = said_steps
