@@ -13,10 +13,9 @@ use Rattle.sk_plan.specs.Judged.{IsWell}
 use Rattle.sk_plan.proofs.PlanTrees.{some_plan_tree}
 use Rattle.sk_place.proofs.OnePlacing.{one_list, not_both}
 use Rattle.sk_residual.specs.Tolerances.{AllHold, IsAbove, everything}
-use Rattle.sk_residual.specs.Turns.{signs, AllAsDrawn}
+use Rattle.sk_residual.specs.Turns.{signs, AllAsDrawn, IsTurned}
 use Rattle.sk_residual.proofs.Firsts.{first_inside}
 use Rattle.sk_residual.proofs.OneMeasured.{not_beyond}
-use Rattle.sk_residual.specs.Turns.{IsTurned}
 use Rattle.sk_cli.specs.declared.accounts.Account.{Account}
 use Rattle.sk_cli.specs.declared.accounts.Account.TheVariants.{Judged, Spares, Derived, Migrated, Shapes}
 use Rattle.sk_cli.specs.declared.command.Command.{Command}
@@ -41,8 +40,7 @@ use Rattle.sk_flips.proofs.OnePlacement.{laid_measured, same_placement}
 use Rattle.sk_cli.proofs.OneOutcome.{OneSketch, NotBoth, OneJudgement, LowerLaws, still_well, same_plan, same_request, told_account, told_plan, told_planned, told_solve, told_offers, told_session, told_claim, told_flips, told_flipped, not_read_and_refused, not_accepted_and_failing, not_claimed_and_refused, not_flips_and_refused}
 use Rattle.sk_cli.proofs.Runs.{solved_told}
 use Rattle.sk_cli.specs.VerifyAnswer.{HasClaim}
-use Rattle.sk_lang.specs.declared.Front.{Front}
-use Rattle.sk_lang.specs.declared.Refusal.{Refusal}
+use Rattle.sk_lines.specs.declared.Refusal.{Refusal}
 use Rattle.sk_lang.specs.Reading.{Refuses}
 use Rattle.sk_report.specs.RefusalLine.{refusal_line}
 use Rattle.sk_verify.specs.declared.claim.Claim.{Claim}

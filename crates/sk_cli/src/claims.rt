@@ -9,7 +9,8 @@ use crate::answer::{Answer, refused};
 use crate::status::Status;
 use sk_base::{NoMemory, Sketch};
 use sk_graph::reduce;
-use sk_lang::{ReadError, read_sketch_front};
+use sk_lang::read_sketch_front;
+use sk_lines::ReadError;
 use sk_verify::{Claim, VerifyError, failure_text, read_claim, verified_text, verify};
 use std::alloc::Global;
 

@@ -6,12 +6,12 @@ use Rattle.std.proofs.lemmas.Bool.Decides.{nat_tests}
 use Rattle.std.proofs.lemmas.List.{drop_all}
 use Rattle.sk_base.specs.declared.Placed.{Placed}
 use Rattle.sk_base.specs.declared.Sketch.{Sketch}
-use Rattle.sk_lang.specs.declared.Code.{Code}
-use Rattle.sk_lang.specs.declared.Code.TheVariants.{E4, E5, E8}
-use Rattle.sk_lang.specs.ClusterWords.{is_bad_name}
-use Rattle.sk_lang.specs.FirstCode.{first_code, unless}
-use Rattle.sk_lang.proofs.Ends.{err_is}
-use Rattle.sk_lang.proofs.FirstCodes.{code_front, code_behind}
+use Rattle.sk_lines.specs.declared.Code.{Code}
+use Rattle.sk_lines.specs.declared.Code.TheVariants.{E4, E5, E8}
+use Rattle.sk_lines.specs.ClusterWords.{is_bad_name}
+use Rattle.sk_lines.specs.FirstCode.{first_code, unless}
+use Rattle.sk_entry.proofs.Ends.{err_is}
+use Rattle.sk_lines.proofs.FirstCodes.{code_front, code_behind}
 use Rattle.sk_verify.specs.declared.first_word.Figure.{Figure}
 use Rattle.sk_verify.specs.ClaimLines.{choice_of, are_fixed, is_choice_long, corner_rows, step_rows, limits_of, is_bad_whole, is_placed, name_rows, element_rows}
 

@@ -9,7 +9,7 @@ use Rattle.sk_base.specs.declared.Shape.TheVariants.{Point, Line, Circle}
 use Rattle.sk_base.specs.declared.Sketch.{Sketch}
 use Rattle.sk_base.specs.declared.Spot.{Spot}
 use Rattle.sk_base.specs.Places.{place_of}
-use Rattle.sk_lang.specs.Kinds.{is_circle}
+use Rattle.sk_entry.specs.Kinds.{is_circle}
 use Rattle.sk_residual.specs.Holding.{tolerance_of}
 use Rattle.sk_residual.specs.Placing.{IsSpotOf}
 use Rattle.sk_residual.specs.Tolerances.{Item, normal, constraint, block, Holds}

@@ -1,8 +1,8 @@
 use Rattle.std.proofs.Common.{◌≡◌, List, [], ℕ, subst, arith}
 use Rattle.std.proofs.lemmas.Bool.Decides.{nat_tests}
 use Rattle.std.proofs.lemmas.List.{nil_from_length}
-use Rattle.sk_lang.specs.Lines.{lines_in}
-use Rattle.sk_lang.proofs.LineFaults.{stands_next}
+use Rattle.sk_lines.specs.Lines.{lines_in}
+use Rattle.sk_lines.proofs.LineFaults.{stands_next}
 use Rattle.sk_verify.specs.ClaimLines.{code_of}
 use Rattle.sk_verify.specs.ClaimReading.{nothing_yet, claimed_after}
 use Rattle.sk_verify.proofs.ClaimSoFar.{Stands, refused_here, unended_here, reads_here}

@@ -2,7 +2,7 @@ use Rattle.std.proofs.Common.{◌≡◌, ◌⊎◌, inl, inr, ◌<◌, ◌∙◌
 use Rattle.std.proofs.lemmas.Bool.Decides.{nat_tests}
 use Rattle.std.proofs.lemmas.List.{length-map}
 use Rattle.sk_lex.specs.Words.{bytes_of}
-use Rattle.sk_lang.proofs.Ends.{err_is}
+use Rattle.sk_entry.proofs.Ends.{err_is}
 use Rattle.sk_verify.specs.ClaimLines.{are_fixed, choice_of}
 use Rattle.sk_verify.proofs.StepWords.{behind_step, long_choice, bad_names, bad_corners, no_code, made, stopped}
 use Rattle.sk_verify.proofs.step_line.step_of.Goals.{else-words-ne13-via-then-words-ne13+else-words-ne14, else-words-ne13-via-else-words-ne13}
