@@ -6,8 +6,9 @@ ghost use Rattle.sk_graph.specs.SketchGraph.{graph_of};
 ghost use Rattle.sk_tree.specs.LegalPlan.{IsLegalPlan};
 
 use sk_base::Sketch;
+use sk_entry::constraint_text;
 use sk_graph::reduce;
-use sk_lang::{constraint_text, read_sketch, write_sketch};
+use sk_lang::{read_sketch, write_sketch};
 use sk_plan::plan_of;
 use sk_tree::Plan;
 use sk_worklist::{Chosen, Order};

@@ -8,7 +8,7 @@ use crate::row::{few_bytes, lines_are_refused, put_each};
 use sk_base::{Sketch, Text};
 use sk_claims::{Claim, read_claim};
 use sk_graph::reduce;
-use sk_lang::ReadError;
+use sk_lines::ReadError;
 use sk_report::refused_text;
 use sk_verify::{VerifyError, failure_text, verified_text, verify};
 use std::alloc::Global;
@@ -45,7 +45,7 @@ Radius { elem: Elem(1), nm: 1000000 }
 ";
 
 /// What the lines are read as, behind the eight of the wheel.
-#[tactic(auto, using(sk_lang::proofs::LineCounts::few_lines))]
+#[tactic(auto, using(sk_lines::proofs::LineCounts::few_lines))]
 fn read_as(alloc: Global, lines: &str) -> Result<Text, Fail> {
     let sketch = sketch_of(alloc, WHEEL)?;
     let claim = read_claim(alloc, &sketch, few_bytes(lines)?, 8)?;
@@ -58,7 +58,7 @@ fn read_as(alloc: Global, lines: &str) -> Result<Text, Fail> {
 }
 
 /// What a check of the claim in the lines tells, or the refusal of a line.
-#[tactic(auto, using(sk_lang::proofs::LineCounts::few_lines))]
+#[tactic(auto, using(sk_lines::proofs::LineCounts::few_lines))]
 fn told(alloc: Global, lines: &str) -> Result<Text, Fail> {
     let sketch = sketch_of(alloc, WHEEL)?;
     match read_claim(alloc, &sketch, few_bytes(lines)?, 8) {

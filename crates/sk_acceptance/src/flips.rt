@@ -10,7 +10,7 @@ use sk_flips::{
 use sk_frame::FrameBy;
 use sk_graph::reduce;
 use sk_interval::G38;
-use sk_lang::ReadError;
+use sk_lines::ReadError;
 use sk_place::PlaceBy;
 use sk_report::{refused_text, turned_text};
 use sk_residual::Turned;
@@ -474,7 +474,7 @@ fn sixty_four_lines_of_flips_may_stand(rt: HostRuntime) -> Result<(), Fail> {
 }
 
 /// The lists of steps that the lines are read as, behind three others, or the refusal of a line.
-#[tactic(auto, using(sk_lang::proofs::LineCounts::few_lines))]
+#[tactic(auto, using(sk_lines::proofs::LineCounts::few_lines))]
 fn read_as(alloc: Global, lines: &str) -> Result<Text, Fail> {
     match read_flips(alloc, few_bytes(lines)?, 3) {
         Ok(lists) => lists_told(alloc, lists.as_slice()),
@@ -493,7 +493,7 @@ fn lists_told(alloc: Global, lists: &[List<Name>]) -> Result<Text, Fail> {
 }
 
 /// What comes of the triangle with these flips, each told as if it were the ninth.
-#[tactic(auto, using(sk_lang::proofs::LineCounts::few_lines))]
+#[tactic(auto, using(sk_lines::proofs::LineCounts::few_lines))]
 fn alternatives_told(alloc: Global, lines: &str) -> Result<Text, Fail> {
     let sketch = sketch_of(alloc, TRIANGLE)?;
     let graph = reduce(alloc, &sketch)?;

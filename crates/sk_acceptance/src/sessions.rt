@@ -1,6 +1,6 @@
 // Sessions, and the family that is kept across their lines.
 use sk_base::{Elem, Name};
-use sk_lang::Code;
+use sk_lines::Code;
 use sk_session::{Closing, Reply, Session};
 use sk_worklist::Order;
 use std::alloc::Global;

@@ -9,9 +9,9 @@ use Rattle.sk_base.specs.declared.Shape.TheVariants as shapes
 use Rattle.sk_base.specs.declared.Sign.TheVariants.{Plus}
 use Rattle.sk_base.specs.declared.Sketch.{Sketch}
 use Rattle.sk_base.specs.declared.Um.{Um}
-use Rattle.sk_lang.specs.declared.Code.{Code}
-use Rattle.sk_lang.specs.declared.Code.TheVariants.{E2, E3, E4, E5, E6, E7, E8, E15, E17, E19}
-use Rattle.sk_lang.specs.Lines.{lines_in}
+use Rattle.sk_lines.specs.declared.Code.{Code}
+use Rattle.sk_lines.specs.declared.Code.TheVariants.{E2, E3, E4, E5, E6, E7, E8, E15, E17, E19}
+use Rattle.sk_lines.specs.Lines.{lines_in}
 use Rattle.sk_tree.specs.declared.Choice.TheVariants.{Turn}
 use Rattle.sk_claims.specs.declared.claim_line.SoFar.{SoFar}
 use Rattle.sk_claims.specs.ClaimLines.{code_of}

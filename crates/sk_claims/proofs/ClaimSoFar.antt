@@ -2,13 +2,13 @@
 use Rattle.std.proofs.Common.{◌≡◌, ◌⊎◌, inl, inr, ℕ, ◌+◌, List, [], ◌∷◌, length, Option, Some, None, refl, sym, ap, subst, ◌∙◌, arith}
 use Rattle.sk_base.specs.declared.Placed.{Placed}
 use Rattle.sk_base.specs.declared.Sketch.{Sketch}
-use Rattle.sk_lang.specs.declared.Code.{Code}
-use Rattle.sk_lang.specs.declared.Code.TheVariants.{E16}
-use Rattle.sk_lang.specs.declared.EntryError.{EntryError}
-use Rattle.sk_lang.specs.declared.EntryError.TheVariants.{Refused, NoMemory}
-use Rattle.sk_lang.specs.Entry.{IsRefusal, error_at}
-use Rattle.sk_lang.specs.Lines.{lines_in}
-use Rattle.sk_lang.proofs.LineFaults.{StandsAt, IsClean, IsFault, faulty_here, all_read, clean_or_fault, no_fault, one_fault}
+use Rattle.sk_lines.specs.declared.Code.{Code}
+use Rattle.sk_lines.specs.declared.Code.TheVariants.{E16}
+use Rattle.sk_lines.specs.declared.EntryError.{EntryError}
+use Rattle.sk_lines.specs.declared.EntryError.TheVariants.{Refused, NoMemory}
+use Rattle.sk_lines.specs.Refusals.{IsRefusal, error_at}
+use Rattle.sk_lines.specs.Lines.{lines_in}
+use Rattle.sk_lines.proofs.LineFaults.{StandsAt, IsClean, IsFault, faulty_here, all_read, clean_or_fault, no_fault, one_fault}
 use Rattle.sk_tree.specs.declared.PlanStep.{PlanStep}
 use Rattle.sk_claims.specs.declared.claim.Claim.{Claim}
 use Rattle.sk_claims.specs.declared.claim.Radius.{Radius}

@@ -25,15 +25,15 @@ use Rattle.sk_base.proofs.Members.{contains_mapped, contains_none, contains_head
 use Rattle.sk_base.proofs.Pairs.{pairs_none, pairs_push, pairs_tell}
 use Rattle.sk_base.proofs.Tables.{passed}
 use Rattle.sk_graph.specs.SketchGraph.{kind_of, node_of, graph_of}
-use Rattle.sk_lang.specs.declared.Code.TheVariants.{E3, E4, E5, E6, E7, E8, E17}
-use Rattle.sk_lang.specs.Codes.{byte_rows}
-use Rattle.sk_lang.specs.FirstCode.{first_code}
-use Rattle.sk_lang.specs.Named.{element_named, number_named}
-use Rattle.sk_lang.specs.Kinds.{is_circle}
-use Rattle.sk_lang.specs.Lines.{lines_in}
-use Rattle.sk_lang.specs.Quantities.{not_negative}
-use Rattle.sk_lang.proofs.Amounts.{limited}
-use Rattle.sk_lang.proofs.FirstCodes.{none_behind}
+use Rattle.sk_lines.specs.declared.Code.TheVariants.{E3, E4, E5, E6, E7, E8, E17}
+use Rattle.sk_lines.specs.ByteCodes.{byte_rows}
+use Rattle.sk_lines.specs.FirstCode.{first_code}
+use Rattle.sk_entry.specs.Named.{element_named, number_named}
+use Rattle.sk_entry.specs.Kinds.{is_circle}
+use Rattle.sk_lines.specs.Lines.{lines_in}
+use Rattle.sk_lines.specs.Quantities.{not_negative}
+use Rattle.sk_lines.proofs.Amounts.{limited}
+use Rattle.sk_lines.proofs.FirstCodes.{none_behind}
 use Rattle.sk_lex.specs.Words.{words_in}
 use Rattle.sk_holding.specs.Placing.{HasKind, IsSpotOf}
 use Rattle.sk_claims.specs.declared.claim.Claim.{Claim}

@@ -10,8 +10,8 @@ use Rattle.sk_base.specs.declared.Name.TheVariants.{Con, Step}
 use Rattle.sk_base.specs.Bounds.{IsWithin}
 use Rattle.sk_base.specs.Millimetres.{digits_of, has_sign, without_sign}
 use Rattle.sk_base.specs.Spelling.{magnitude, whole_text}
-use Rattle.sk_lang.specs.ClusterWords.{begins_with_zero, plain_number, name_of}
-use Rattle.sk_lang.specs.Quantities.{not_negative}
+use Rattle.sk_lines.specs.ClusterWords.{begins_with_zero, plain_number, name_of}
+use Rattle.sk_lines.specs.Quantities.{not_negative}
 use Rattle.sk_text.specs.ClusterName.{cluster_name}
 use Rattle.sk_text.proofs.ReadBack.{digits_of-decimal, unsigned}
 use Rattle.sk_claims.specs.ClaimLines.{whole_of, count_of, tolerance_limit}

@@ -16,11 +16,10 @@ use Rattle.sk_base.proofs.Finding.{found_rising}
 use Rattle.sk_base.proofs.Members.{contains_none, contains_cases}
 use Rattle.sk_base.proofs.Pairs.{pairs_head, pairs_tail}
 use Rattle.sk_graph.specs.SketchGraph.{drawn_as}
-use Rattle.sk_lang.specs.Named.{element_named, number_named}
-use Rattle.sk_lang.proofs.Again.{different_bytes}
-use Rattle.sk_lang.proofs.Finding.{equal_bytes}
 use Rattle.sk_claims.specs.ClaimLines.{is_no_name, is_unknown}
 use Rattle.sk_claims.specs.ClaimText.{IsDeclared}
+use Rattle.sk_entry.specs.Named.{element_named, number_named}
+use Rattle.sk_lines.proofs.Finding.{different_bytes, equal_bytes}
 
 -- where labels differ, an element is the first that has its label
 found_by_label : (es : List Element) → AllPairs (λ (x y : Element). x.label ≢ y.label) es → (x : Element) → Contains es x → find (λ (y : Element). bytes_eq x.label y.label) es ≡ Some x

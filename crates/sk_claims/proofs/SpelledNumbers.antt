@@ -6,7 +6,7 @@ use Rattle.sk_base.specs.declared.Name.{Name}
 use Rattle.sk_base.specs.declared.Name.TheVariants.{Con, Step}
 use Rattle.sk_base.specs.Bounds.{IsWithin}
 use Rattle.sk_base.specs.Spelling.{whole_text}
-use Rattle.sk_lang.proofs.SolidLines.{IsSpelled, decimal_spelled}
+use Rattle.sk_lines.proofs.SolidLines.{IsSpelled, decimal_spelled}
 use Rattle.sk_text.specs.ClusterName.{cluster_name}
 use Rattle.sk_claims.specs.Printed.{HasPlainNumber}
 

@@ -6,14 +6,14 @@ use Rattle.std.proofs.lemmas.Bool.Decides.{nat_tests}
 use Rattle.std.proofs.lemmas.List.{drop_all}
 use Rattle.sk_base.specs.declared.Placed.{Placed}
 use Rattle.sk_base.specs.declared.Sketch.{Sketch}
-use Rattle.sk_lang.specs.declared.Code.{Code}
-use Rattle.sk_lang.specs.declared.Code.TheVariants.{E4, E5, E8}
-use Rattle.sk_lang.specs.ClusterWords.{is_bad_name}
-use Rattle.sk_lang.specs.FirstCode.{first_code, unless}
-use Rattle.sk_lang.proofs.Ends.{err_is}
-use Rattle.sk_lang.proofs.FirstCodes.{code_front, code_behind}
-use Rattle.sk_claims.specs.declared.first_word.Figure.{Figure}
 use Rattle.sk_claims.specs.ClaimLines.{choice_of, are_fixed, is_choice_long, corner_rows, step_rows, limits_of, is_bad_whole, is_placed, name_rows, element_rows}
+use Rattle.sk_claims.specs.declared.first_word.Figure.{Figure}
+use Rattle.sk_entry.proofs.Ends.{err_is}
+use Rattle.sk_lines.proofs.FirstCodes.{code_front, code_behind}
+use Rattle.sk_lines.specs.ClusterWords.{is_bad_name}
+use Rattle.sk_lines.specs.FirstCode.{first_code, unless}
+use Rattle.sk_lines.specs.declared.Code.{Code}
+use Rattle.sk_lines.specs.declared.Code.TheVariants.{E4, E5, E8}
 
 -- one word further
 take_one : (ws : List (List ℕ)) (i : ℕ) (w : List ℕ) (rest : List (List ℕ)) → i < length ws → w ≡ get_or ws i [] → drop (suc i) ws ≡ rest → drop i ws ≡ w ∷ rest

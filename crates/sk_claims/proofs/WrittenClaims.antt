@@ -18,12 +18,12 @@ use Rattle.sk_base.specs.Spelling.{spaced}
 use Rattle.sk_base.proofs.Members.{contains_none, contains_head, contains_cases, contains_later, mapped_from}
 use Rattle.sk_base.proofs.Pairs.{pairs_head, pairs_tail}
 use Rattle.sk_graph.specs.SketchGraph.{graph_of, node_of, kind_of, drawn_as}
-use Rattle.sk_lang.specs.declared.Code.{Code}
-use Rattle.sk_lang.specs.FirstCode.{first_code}
-use Rattle.sk_lang.specs.Lines.{lines_in}
-use Rattle.sk_lang.proofs.ReadBack.{IsLine, lines_in-ended}
-use Rattle.sk_lang.proofs.SolidLines.{IsLineOf, literal, solid, solid_line, words_in_line}
 use Rattle.sk_holding.specs.Placing.{HasKind}
+use Rattle.sk_lines.proofs.ReadBack.{IsLine, lines_in-ended}
+use Rattle.sk_lines.proofs.SolidLines.{IsLineOf, literal, solid, solid_line, words_in_line}
+use Rattle.sk_lines.specs.FirstCode.{first_code}
+use Rattle.sk_lines.specs.Lines.{lines_in}
+use Rattle.sk_lines.specs.declared.Code.{Code}
 use Rattle.sk_tree.specs.declared.PlanStep.{PlanStep}
 use Rattle.sk_claims.specs.declared.claim.Claim.{Claim}
 use Rattle.sk_claims.specs.declared.claim.Radius.{Radius}

@@ -9,12 +9,12 @@ use Rattle.sk_base.specs.declared.Spot.{Spot}
 use Rattle.sk_base.specs.ElementNames.{name_of as element_name}
 use Rattle.sk_base.specs.SoundSketch.{IsSoundSketch}
 use Rattle.sk_base.specs.Spelling.{spaced}
-use Rattle.sk_lang.specs.declared.Code.TheVariants.{E4}
-use Rattle.sk_lang.specs.ClusterWords.{name_of, is_bad_name}
-use Rattle.sk_lang.specs.FirstCode.{first_code}
-use Rattle.sk_lang.specs.Named.{number_named}
-use Rattle.sk_lang.proofs.LineWords.{extent}
-use Rattle.sk_lang.proofs.SolidLines.{IsSolidWord, AreSolidWords, IsLineOf, literal, solid, solid_line, name_spelled}
+use Rattle.sk_lines.specs.declared.Code.TheVariants.{E4}
+use Rattle.sk_lines.specs.ClusterWords.{name_of, is_bad_name}
+use Rattle.sk_lines.specs.FirstCode.{first_code}
+use Rattle.sk_entry.specs.Named.{number_named}
+use Rattle.sk_lines.proofs.LineWords.{extent}
+use Rattle.sk_lines.proofs.SolidLines.{IsSolidWord, AreSolidWords, IsLineOf, literal, solid, solid_line, name_spelled}
 use Rattle.sk_text.specs.ClusterName.{cluster_name}
 use Rattle.sk_tree.specs.declared.Choice.{Choice}
 use Rattle.sk_tree.specs.declared.Choice.TheVariants.{Turn, Advance, Nothing}

@@ -15,13 +15,13 @@ use Rattle.sk_base.specs.Labels.{is_name}
 use Rattle.sk_base.specs.Millimetres.{digits_of, at_most, has_sign, without_sign, with_sign}
 use Rattle.sk_base.specs.Places.{place_of}
 use Rattle.sk_lex.specs.Words.{words_in}
-use Rattle.sk_lang.specs.declared.Code.{Code}
-use Rattle.sk_lang.specs.declared.Code.TheVariants.{E2, E3, E4, E5, E6, E7, E8, E17}
-use Rattle.sk_lang.specs.ClusterWords.{named, is_bad_name}
-use Rattle.sk_lang.specs.Codes.{byte_rows}
-use Rattle.sk_lang.specs.FirstCode.{first_code}
-use Rattle.sk_lang.specs.Named.{element_named, number_named}
-use Rattle.sk_lang.specs.Quantities.{not_negative}
+use Rattle.sk_lines.specs.declared.Code.{Code}
+use Rattle.sk_lines.specs.declared.Code.TheVariants.{E2, E3, E4, E5, E6, E7, E8, E17}
+use Rattle.sk_lines.specs.ClusterWords.{named, is_bad_name}
+use Rattle.sk_lines.specs.ByteCodes.{byte_rows}
+use Rattle.sk_lines.specs.FirstCode.{first_code}
+use Rattle.sk_entry.specs.Named.{element_named, number_named}
+use Rattle.sk_lines.specs.Quantities.{not_negative}
 use Rattle.sk_tree.specs.declared.Choice.{Choice}
 use Rattle.sk_tree.specs.declared.Choice.TheVariants.{Turn, Advance, Nothing}
 use Rattle.sk_tree.specs.declared.PlanStep.{PlanStep}

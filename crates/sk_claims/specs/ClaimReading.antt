@@ -2,15 +2,15 @@
 use Rattle.std.specs.Prelude.{◌≡◌, ⊤, ℕ, ◌+◌, List, [], length, Some, None}
 use Rattle.sk_base.specs.declared.Sketch.{Sketch}
 use Rattle.sk_lex.specs.Words.{words_in}
-use Rattle.sk_lang.specs.LineCodes.{along, HaveNone, HasFirst}
-use Rattle.sk_lang.specs.Lines.{lines_in}
-use Rattle.sk_lang.specs.declared.Code.{Code}
-use Rattle.sk_lang.specs.declared.Code.TheVariants.{E16}
-use Rattle.sk_lang.specs.declared.ReadError.{ReadError}
-use Rattle.sk_lang.specs.declared.ReadError.TheVariants.{Refused, NoMemory}
+use Rattle.sk_claims.specs.ClaimLines.{code_of, with_line}
 use Rattle.sk_claims.specs.declared.claim.Claim.{Claim}
 use Rattle.sk_claims.specs.declared.claim_line.SoFar.{SoFar}
-use Rattle.sk_claims.specs.ClaimLines.{code_of, with_line}
+use Rattle.sk_lines.specs.LineCodes.{along, HaveNone, HasFirst}
+use Rattle.sk_lines.specs.Lines.{lines_in}
+use Rattle.sk_lines.specs.declared.Code.{Code}
+use Rattle.sk_lines.specs.declared.Code.TheVariants.{E16}
+use Rattle.sk_lines.specs.declared.ReadError.{ReadError}
+use Rattle.sk_lines.specs.declared.ReadError.TheVariants.{Refused, NoMemory}
 
 abbrev pub nothing_yet : SoFar
 nothing_yet = record { steps = []; at = record { spots = [] }; radii = []; tolerances = None }

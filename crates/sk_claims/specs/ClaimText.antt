@@ -14,7 +14,7 @@ use Rattle.sk_base.specs.declared.Spot.{Spot}
 use Rattle.sk_base.specs.ElementNames.{name_of}
 use Rattle.sk_base.specs.Spelling.{spaced, whole_text}
 use Rattle.sk_graph.specs.SketchGraph.{drawn_as}
-use Rattle.sk_lang.specs.Canonical.{ended_lines}
+use Rattle.sk_lines.specs.Lines.{ended_lines}
 use Rattle.sk_text.specs.ClusterName.{cluster_name}
 use Rattle.sk_tree.specs.declared.Choice.{Choice}
 use Rattle.sk_tree.specs.declared.Choice.TheVariants.{Turn, Advance, Nothing}

@@ -3,7 +3,7 @@ ghost use Rattle.std.specs.Prelude.{◌≡◌, [], ◌∷◌};
 ghost use Rattle.sk_claims.specs.ClaimLines.{choice_of, sign_of};
 
 use sk_base::Sign;
-use sk_lang::is_word;
+use sk_lines::is_word;
 use sk_tree::Choice;
 
 /// The choice that one word says.

@@ -1,12 +1,12 @@
 // One line of a claim.
 ghost use Rattle.std.specs.Prelude.{◌≡◌, ◌<◌, [], ◌∷◌, length, map, drop, Some, None, IfOk, IfErr, MatchResult};
 ghost use Rattle.sk_lex.specs.Words.{bytes_of, StandInOrder};
-ghost use Rattle.sk_lang.specs.Entry.{IsRefusal};
-ghost use Rattle.sk_lang.specs.FirstCode.{first_code, unless};
 ghost use Rattle.sk_claims.specs.declared.first_word.First.TheVariants as begins;
 ghost use Rattle.sk_claims.specs.declared.first_word.Figure.TheVariants as figure;
 ghost use Rattle.sk_claims.specs.ClaimLines.{tolerance, tolerance_rows, word_rows, rows_behind, code_of, tolerances_said, with_words, with_line};
 ghost use Rattle.sk_claims.specs.ClaimReading.{claimed_after};
+ghost use Rattle.sk_lines.specs.FirstCode.{first_code, unless};
+ghost use Rattle.sk_lines.specs.Refusals.{IsRefusal};
 
 use crate::claim::Radius;
 use crate::element_line::{circle_of, line_of, point_of};
@@ -14,8 +14,8 @@ use crate::first_word::{Figure, First, first_of};
 use crate::number::count_of;
 use crate::step_line::step_of;
 use sk_base::{List, Placed, Sketch};
-use sk_lang::{Code, EntryError, split_words, word};
 use sk_lex::Word;
+use sk_lines::{Code, EntryError, split_words, word};
 use sk_tree::PlanStep;
 use std::alloc::Global;
 

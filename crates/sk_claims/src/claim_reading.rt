@@ -1,9 +1,9 @@
 // The claim that stands behind a sketch.
 ghost use Rattle.std.specs.Prelude.{◌≡◌, ◌<◌, ◌+◌, ◌⊎◌, ℕ, List as Items, length, IfOk, IfErr};
 ghost use Rattle.sk_base.specs.declared.Sketch.{Sketch as ASketch};
-ghost use Rattle.sk_lang.specs.Lines.{lines_in};
-ghost use Rattle.sk_lang.specs.declared.Code.{Code as ACode};
 ghost use Rattle.sk_claims.specs.declared.claim.Claim.{Claim as AClaim};
+ghost use Rattle.sk_lines.specs.Lines.{lines_in};
+ghost use Rattle.sk_lines.specs.declared.Code.{Code as ACode};
 ghost use Rattle.sk_base.specs.SoundSketch.{IsSoundSketch};
 ghost use Rattle.sk_graph.specs.SketchGraph.{graph_of};
 ghost use Rattle.sk_claims.specs.Claims.{IsFitting, TellsCircles};
@@ -12,7 +12,7 @@ ghost use Rattle.sk_claims.specs.ClaimReading.{ReadsClaim, RefusesClaim, IsClaim
 use crate::claim::Claim;
 use crate::claim_line::{SoFar, after_line};
 use sk_base::{List, Placed, Sketch};
-use sk_lang::{Code, ReadError, split_line};
+use sk_lines::{Code, ReadError, split_line};
 use std::alloc::Global;
 
 /// Reads the claim that stands behind the `end` of a sketch, up to its tolerances. The lines are numbered

@@ -3,18 +3,19 @@ ghost use Rattle.std.specs.Prelude.{◌≡◌, ◌<◌, ◌≤◌, ◌^◌, [], 
 ghost use Rattle.sk_base.specs.declared.At.TheVariants as at;
 ghost use Rattle.sk_base.specs.Places.{place_of};
 ghost use Rattle.sk_lex.specs.Words.{bytes_of, StandInOrder};
-ghost use Rattle.sk_lang.specs.FirstCode.{first_code, unless};
-ghost use Rattle.sk_lang.specs.Named.{element_named, number_named};
-ghost use Rattle.sk_lang.specs.declared.Code.TheVariants.{E5, E7, E8};
 ghost use Rattle.sk_claims.specs.declared.first_word.Figure.TheVariants as figure;
 ghost use Rattle.sk_claims.specs.ClaimLines.{name_rows, fits_shape, whole_of, whole, length_limit, normal_limit, element_rows, spot_said, radius_said};
+ghost use Rattle.sk_entry.specs.Named.{element_named, number_named};
+ghost use Rattle.sk_lines.specs.FirstCode.{first_code, unless};
+ghost use Rattle.sk_lines.specs.declared.Code.TheVariants.{E5, E7, E8};
 
 use crate::claim::Radius;
 use crate::first_word::{Figure, fits_shape};
 use crate::number::whole_of;
 use sk_base::{At, Elem, Element, Placed, Sketch, Spot};
-use sk_lang::{Code, element_named, label, word};
+use sk_entry::{element_named, label};
 use sk_lex::Word;
+use sk_lines::{Code, word};
 
 /// The greatest length, in nanometres.
 const LENGTH_LIMIT: u64 = 1 << 60;

@@ -3,7 +3,7 @@ ghost use Rattle.std.specs.Prelude.{◌≡◌};
 ghost use Rattle.sk_claims.specs.ClaimLines.{first_of, fits_shape};
 
 use sk_base::Shape;
-use sk_lang::is_word;
+use sk_lines::is_word;
 
 /// What an element line places.
 #[derive(Clone, Copy, Debug, PartialEq, Eq)]

@@ -6,7 +6,7 @@ ghost use Rattle.sk_base.specs.Spelling.{whole_text};
 ghost use Rattle.sk_base.specs.declared.ConId.{ConId};
 ghost use Rattle.sk_base.specs.declared.Name.{Name};
 ghost use Rattle.sk_base.specs.declared.Name.TheVariants.{Con};
-ghost use Rattle.sk_lang.specs.ClusterWords.{name_of};
+ghost use Rattle.sk_lines.specs.ClusterWords.{name_of};
 ghost use Rattle.sk_text.specs.ClusterName.{cluster_name};
 ghost use Rattle.sk_claims.specs.ClaimLines.{whole_of, count_of, tolerance_limit};
 ghost use Rattle.sk_claims.specs.Printed.{HasPlainNumber};

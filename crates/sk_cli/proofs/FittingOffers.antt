@@ -7,7 +7,7 @@ use Rattle.std.proofs.lemmas.List.Elements.{All-nil, All-cons}
 use Rattle.std.proofs.lemmas.Bool.Decides.{nat_tests}
 use Rattle.sk_base.specs.Millimetres.{is_digits, at_most}
 use Rattle.sk_base.proofs.Decimals.{is_digits_all, digit_at}
-use Rattle.sk_lang.specs.Lines.{lines_in}
+use Rattle.sk_lines.specs.Lines.{lines_in}
 use Rattle.sk_cli.specs.declared.offer_line.OfferLine.{OfferLine}
 use Rattle.sk_cli.specs.OfferLines.{worker_of, IsOfferOf, AreOffersOf, offered}
 use Rattle.sk_cli.specs.OfferReading.{ReadsOffers}

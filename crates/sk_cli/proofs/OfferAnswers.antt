@@ -8,10 +8,10 @@ use Rattle.sk_base.specs.declared.Name.{Name}
 use Rattle.sk_rules.specs.declared.Merge.{Merge}
 use Rattle.sk_rules.specs.Merges.{IsMergeOf}
 use Rattle.sk_lex.specs.Words.{is_too_long, has_wrong_byte, words_in}
-use Rattle.sk_lang.specs.declared.Code.{Code}
-use Rattle.sk_lang.specs.declared.Code.TheVariants.{E3, E4, E8, E10, E15, E16, E19}
-use Rattle.sk_lang.specs.FirstCode.{first_code}
-use Rattle.sk_lang.specs.Lines.{lines_in}
+use Rattle.sk_lines.specs.declared.Code.{Code}
+use Rattle.sk_lines.specs.declared.Code.TheVariants.{E3, E4, E8, E10, E15, E16, E19}
+use Rattle.sk_lines.specs.FirstCode.{first_code}
+use Rattle.sk_lines.specs.Lines.{lines_in}
 use Rattle.sk_base.proofs.Tables.{passed}
 use Rattle.sk_cli.specs.declared.offer_line.OfferLine.{OfferLine}
 use Rattle.sk_cli.specs.declared.offer_line.Place.{Place}

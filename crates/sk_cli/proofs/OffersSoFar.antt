@@ -1,19 +1,19 @@
 -- What was read of the text behind a sketch, line by line.
 use Rattle.std.proofs.Common.{◌≡◌, ℕ, ◌+◌, ◌≤◌, List, [], ◌∷◌, ◌++◌, length, None, refl, sym, ap, subst, ◌∙◌, arith, append_assoc, append-nil, length-append}
 use Rattle.sk_lex.specs.Words.{words_in}
-use Rattle.sk_lang.specs.declared.Code.TheVariants.{E16}
-use Rattle.sk_lang.specs.declared.EntryError.{EntryError}
-use Rattle.sk_lang.specs.declared.EntryError.TheVariants.{Refused, NoMemory}
-use Rattle.sk_lang.specs.Codes.{byte_rows}
-use Rattle.sk_lang.specs.Lines.{lines_in}
-use Rattle.sk_lang.specs.Entry.{IsRefusal, error_at}
+use Rattle.sk_lines.specs.declared.Code.TheVariants.{E16}
+use Rattle.sk_lines.specs.declared.EntryError.{EntryError}
+use Rattle.sk_lines.specs.declared.EntryError.TheVariants.{Refused, NoMemory}
+use Rattle.sk_lines.specs.ByteCodes.{byte_rows}
+use Rattle.sk_lines.specs.Lines.{lines_in}
+use Rattle.sk_lines.specs.Refusals.{IsRefusal, error_at}
 use Rattle.sk_cli.specs.declared.offer_line.OfferLine.{OfferLine}
 use Rattle.sk_cli.specs.declared.offer_line.Place.{Place}
 use Rattle.sk_cli.specs.declared.offer_line.Place.TheVariants.{Among, Past}
 use Rattle.sk_cli.specs.declared.offer_line.SoFar.{SoFar}
 use Rattle.sk_cli.specs.OfferLines.{code_of, word_rows, place_after, behind_offer, offered, AreOffersOf}
 use Rattle.sk_cli.specs.OfferReading.{place_along, HaveNoCode, HasFirstCode, ReadsOffers, RefusesOffers, AtLine, NoEnd, IsOfferRefusal, Adds}
-use Rattle.sk_lang.proofs.FirstCodes.{code_behind}
+use Rattle.sk_lines.proofs.FirstCodes.{code_behind}
 
 -- the lines before the rest have no code, and their offers were read
 pub record StandsAt (lines rest : List (List ℕ)) (so_far : SoFar) (first number : ℕ) : Type 0 where

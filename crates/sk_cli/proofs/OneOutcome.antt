@@ -6,9 +6,9 @@ use Rattle.sk_base.specs.declared.Name.{Name}
 use Rattle.sk_base.specs.declared.Sketch.{Sketch}
 use Rattle.sk_base.specs.declared.Graph.{Graph}
 use Rattle.sk_family.specs.Body.{Body, SameBodies}
-use Rattle.sk_lang.specs.declared.Code.{Code}
-use Rattle.sk_lang.specs.declared.Code.TheVariants.{E20}
-use Rattle.sk_lang.specs.declared.Refusal.{Refusal}
+use Rattle.sk_lines.specs.declared.Code.{Code}
+use Rattle.sk_lines.specs.declared.Code.TheVariants.{E20}
+use Rattle.sk_lines.specs.declared.Refusal.{Refusal}
 use Rattle.sk_lang.specs.Reading.{Reads, Refuses}
 use Rattle.sk_frame.specs.declared.FrameBy.{FrameBy}
 use Rattle.sk_frame.specs.declared.FrameBy.TheVariants.{Base}

@@ -7,8 +7,8 @@ use Rattle.std.specs.Prelude.{IfSome, drop}
 use Rattle.std.specs.Io.KnownBytes.{Appends}
 use Rattle.sk_io.specs.Transfer.{TakesUpTo}
 use Rattle.sk_base.specs.declared.Sketch.{Sketch}
-use Rattle.sk_lang.specs.declared.Code.{Code}
-use Rattle.sk_lang.specs.declared.Refusal.{Refusal}
+use Rattle.sk_lines.specs.declared.Code.{Code}
+use Rattle.sk_lines.specs.declared.Refusal.{Refusal}
 use Rattle.sk_lang.specs.Reading.{Refuses, TooLong, Empty, AtLine, NoEnd}
 use Rattle.sk_lang.specs.Front.{RefusesFront}
 use Rattle.sk_lang.specs.declared.Front.{Front}

@@ -4,9 +4,9 @@ use Rattle.std.specs.Prelude.{drop, Contains}
 use Rattle.sk_base.specs.declared.Name.{Name}
 use Rattle.sk_base.specs.declared.Sketch.{Sketch}
 use Rattle.sk_base.specs.SoundSketch.{IsSoundSketch}
-use Rattle.sk_lang.specs.declared.Code.{Code}
+use Rattle.sk_lines.specs.declared.Code.{Code}
 use Rattle.sk_lang.specs.declared.Front.{Front}
-use Rattle.sk_lang.specs.declared.Refusal.{Refusal}
+use Rattle.sk_lines.specs.declared.Refusal.{Refusal}
 use Rattle.sk_lang.specs.Front.{ReadsFront, RefusesFront}
 use Rattle.sk_lang.specs.Canonical.{canonical_2}
 use Rattle.sk_lang.specs.Reading.{Reads, Refuses}

@@ -1,8 +1,8 @@
 -- A text whose sketch further lines follow.
 use Rattle.std.specs.Prelude.{◌⊎◌, ℕ, List, drop}
-use Rattle.sk_lang.specs.declared.Code.{Code}
+use Rattle.sk_lines.specs.declared.Code.{Code}
 use Rattle.sk_lang.specs.declared.Front.{Front}
-use Rattle.sk_lang.specs.declared.Refusal.{Refusal}
+use Rattle.sk_lines.specs.declared.Refusal.{Refusal}
 use Rattle.sk_lang.specs.Front.{ReadsFront, RefusesFront}
 
 -- the sketch is refused on a line up to its `end`, or else what stands behind it, by `RefusesBehind`

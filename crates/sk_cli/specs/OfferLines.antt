@@ -4,12 +4,12 @@ use Rattle.std.specs.List.{list_any}
 use Rattle.sk_base.specs.Millimetres.{at_most}
 use Rattle.sk_lex.specs.Words.{words_in}
 use Rattle.sk_rules.specs.Merges.{IsMergeOf}
-use Rattle.sk_lang.specs.declared.Code.{Code}
-use Rattle.sk_lang.specs.declared.Code.TheVariants.{E3, E4, E8, E10, E17}
-pub use Rattle.sk_lang.specs.ClusterWords.{begins_with_zero, plain_number, name_of, named, is_bad_name, has_twins}
-pub use Rattle.sk_lang.specs.EndLine.{end_rows}
-use Rattle.sk_lang.specs.Codes.{byte_rows}
-use Rattle.sk_lang.specs.FirstCode.{first_code}
+use Rattle.sk_lines.specs.declared.Code.{Code}
+use Rattle.sk_lines.specs.declared.Code.TheVariants.{E3, E4, E8, E10, E17}
+pub use Rattle.sk_lines.specs.ClusterWords.{begins_with_zero, plain_number, name_of, named, is_bad_name, has_twins}
+pub use Rattle.sk_lines.specs.EndLine.{end_rows}
+use Rattle.sk_lines.specs.ByteCodes.{byte_rows}
+use Rattle.sk_lines.specs.FirstCode.{first_code}
 use Rattle.sk_cli.specs.declared.offer_line.OfferLine.{OfferLine}
 use Rattle.sk_cli.specs.declared.offer_line.Place.{Place}
 use Rattle.sk_cli.specs.declared.offer_line.Place.TheVariants.{Among, Past}

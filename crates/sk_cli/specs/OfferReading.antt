@@ -1,18 +1,18 @@
 -- What the text behind a sketch is read as, and where it is refused.
 use Rattle.std.specs.Prelude.{◌≡◌, ⊤, ℕ, ◌+◌, List, [], ◌∷◌, ◌++◌, length, None}
 use Rattle.sk_lex.specs.Words.{words_in}
-use Rattle.sk_lang.specs.LineCodes.{along, HaveNone, HasFirst}
-use Rattle.sk_lang.specs.Lines.{lines_in}
-use Rattle.sk_lang.specs.declared.Code.{Code}
-use Rattle.sk_lang.specs.declared.Code.TheVariants.{E16}
-use Rattle.sk_lang.specs.declared.ReadError.{ReadError}
-use Rattle.sk_lang.specs.declared.ReadError.TheVariants.{Refused, NoMemory}
+use Rattle.sk_lines.specs.LineCodes.{along, HaveNone, HasFirst}
+use Rattle.sk_lines.specs.Lines.{lines_in}
+use Rattle.sk_lines.specs.declared.Code.{Code}
+use Rattle.sk_lines.specs.declared.Code.TheVariants.{E16}
+use Rattle.sk_lines.specs.declared.ReadError.{ReadError}
+use Rattle.sk_lines.specs.declared.ReadError.TheVariants.{Refused, NoMemory}
 use Rattle.sk_cli.specs.declared.offer_line.OfferLine.{OfferLine}
 use Rattle.sk_cli.specs.declared.offer_line.Place.{Place}
 use Rattle.sk_cli.specs.declared.offer_line.Place.TheVariants.{Among, Past}
 use Rattle.sk_cli.specs.declared.offer_line.SoFar.{SoFar}
-use Rattle.sk_lang.specs.Codes.{byte_rows}
-use Rattle.sk_lang.specs.FirstCode.{first_code}
+use Rattle.sk_lines.specs.ByteCodes.{byte_rows}
+use Rattle.sk_lines.specs.FirstCode.{first_code}
 use Rattle.sk_cli.specs.OfferLines.{offer_rows, IsOfferOf, word_rows, code_of, place_after_words, place_after, behind_offer, offered, AreOffersOf}
 
 -- where the lines lead

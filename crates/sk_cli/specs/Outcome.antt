@@ -1,7 +1,7 @@
 -- What a call answers and writes: a status and a text.
 use Rattle.std.specs.Prelude.{◌≡◌, ◌⊎◌, ℕ, List, Some, codes}
 use Rattle.sk_base.specs.declared.Sketch.{Sketch}
-use Rattle.sk_lang.specs.declared.Refusal.{Refusal as OneRefusal}
+use Rattle.sk_lines.specs.declared.Refusal.{Refusal as OneRefusal}
 use Rattle.sk_lang.specs.Reading.{Reads, Refuses}
 use Rattle.sk_graph.specs.SketchGraph.{graph_of}
 use Rattle.sk_worklist.specs.declared.Order.{Order}

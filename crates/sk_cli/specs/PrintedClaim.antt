@@ -4,7 +4,7 @@ use Rattle.std.specs.List.{flat_map}
 use Rattle.sk_base.specs.declared.Placed.{Placed}
 use Rattle.sk_base.specs.declared.Sketch.{Sketch}
 use Rattle.sk_base.specs.Spelling.{spaced}
-use Rattle.sk_lang.specs.Canonical.{ended_lines}
+use Rattle.sk_lines.specs.Lines.{ended_lines}
 use Rattle.sk_residual.specs.declared.Tolerance.{Tolerance}
 use Rattle.sk_report.specs.PlanReport.{step_line}
 use Rattle.sk_report.specs.SolveReport.{element_lines}

@@ -4,8 +4,8 @@ use Rattle.sk_base.specs.SoundSketch.{IsSoundSketch}
 use Rattle.sk_base.specs.declared.Sketch.{Sketch}
 use Rattle.sk_family.specs.Clusters.{initial_clusters}
 use Rattle.sk_graph.specs.SketchGraph.{graph_of}
-use Rattle.sk_lang.specs.Lines.{lines_in}
-use Rattle.sk_lang.specs.declared.Code.TheVariants.{E20}
+use Rattle.sk_lines.specs.Lines.{lines_in}
+use Rattle.sk_lines.specs.declared.Code.TheVariants.{E20}
 use Rattle.sk_flips.specs.declared.Layout.{Layout}
 use Rattle.sk_report.specs.RefusalLine.{refusal_line}
 use Rattle.sk_session.specs.declared.Closing.TheVariants.{InAnyOrder}

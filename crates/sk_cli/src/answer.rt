@@ -4,7 +4,7 @@ ghost use Rattle.sk_report.specs.RefusalLine.{refusal_line};
 
 use crate::status::Status;
 use sk_base::{NoMemory, Text};
-use sk_lang::Refusal;
+use sk_lines::Refusal;
 use sk_report::refused_text;
 use std::alloc::Global;
 

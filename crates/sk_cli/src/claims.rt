@@ -10,7 +10,8 @@ use crate::status::Status;
 use sk_base::{NoMemory, Sketch};
 use sk_claims::{Claim, read_claim};
 use sk_graph::reduce;
-use sk_lang::{ReadError, read_sketch_front};
+use sk_lang::read_sketch_front;
+use sk_lines::ReadError;
 use sk_verify::{VerifyError, failure_text, verified_text, verify};
 use std::alloc::Global;
 

@@ -16,7 +16,8 @@ use crate::status::Status;
 use sk_base::{Graph, List, Name, NoMemory, Sketch, Text};
 use sk_flips::{Alternative, Layout, alternatives, read_flips};
 use sk_interval::{G16, G27, G38};
-use sk_lang::{ReadError, read_sketch_front};
+use sk_lang::read_sketch_front;
+use sk_lines::ReadError;
 use sk_tree::Plan;
 use std::alloc::Global;
 

@@ -43,11 +43,10 @@ ghost use Rattle.sk_verify.specs.Failing.{IsAccepted, FailsFirst};
 ghost use Rattle.sk_cli.specs.VerifyAnswer.{HasClaim};
 
 use sk_derive::one_derived_text;
+use sk_entry::{entries_keep_soundness, one_entry, what_a_line_says};
 use sk_gen::datum_sketch_is_sound;
-use sk_lang::{
-    entries_keep_soundness, one_answer, one_entry, one_front, quantities_are_sound,
-    readable_is_sound, what_a_line_says, written_reads_back,
-};
+use sk_lang::{one_answer, one_front, readable_is_sound, written_reads_back};
+use sk_lines::quantities_are_sound;
 use sk_plan::{legal_plan, one_plan};
 use sk_rules::one_normal_form;
 use sk_session::{one_reply, some_to_solve};

@@ -1,16 +1,16 @@
 // One line among offers.
 ghost use Rattle.std.specs.Prelude.{◌≡◌, ◌<◌, [], ◌∷◌, length, map, drop, Some, None, IfOk, IfErr, MatchResult};
 ghost use Rattle.sk_lex.specs.Words.{bytes_of, StandInOrder};
-ghost use Rattle.sk_lang.specs.declared.Code.TheVariants.{E8};
-ghost use Rattle.sk_lang.specs.FirstCode.{first_code};
-ghost use Rattle.sk_lang.specs.Entry.{IsRefusal};
+ghost use Rattle.sk_lines.specs.declared.Code.TheVariants.{E8};
+ghost use Rattle.sk_lines.specs.FirstCode.{first_code};
+ghost use Rattle.sk_lines.specs.Refusals.{IsRefusal};
 ghost use Rattle.sk_cli.specs.OfferLines.{worker_of, offer_rows, word_rows, code_of, IsOfferOf};
 ghost use Rattle.sk_cli.specs.declared.offer_line.Place.TheVariants.{Among};
 ghost use Rattle.sk_cli.specs.OfferReading.{AddsWords, Adds, IsWithOffer};
 
 use sk_base::List;
-use sk_lang::{Code, EntryError, is_word, name_of, plain_number, split_words, word};
 use sk_lex::Word;
+use sk_lines::{Code, EntryError, is_word, name_of, plain_number, split_words, word};
 use sk_rules::Merge;
 use std::alloc::Global;
 

@@ -1,13 +1,13 @@
 // The offers that stand behind a sketch.
 ghost use Rattle.std.specs.Prelude.{◌≡◌, ◌<◌, ◌+◌, ◌⊎◌, ℕ, List as Items, length, IfOk, IfErr};
-ghost use Rattle.sk_lang.specs.Lines.{lines_in};
-ghost use Rattle.sk_lang.specs.declared.Code.{Code as AnyCode};
+ghost use Rattle.sk_lines.specs.Lines.{lines_in};
+ghost use Rattle.sk_lines.specs.declared.Code.{Code as AnyCode};
 ghost use Rattle.sk_cli.specs.declared.offer_line.OfferLine.{OfferLine as AnyOffer};
 ghost use Rattle.sk_cli.specs.OfferReading.{ReadsOffers, RefusesOffers, IsOfferRefusal};
 
 use crate::offer_line::{OfferLine, Place, SoFar, after_line};
 use sk_base::List;
-use sk_lang::{Code, ReadError, split_line};
+use sk_lines::{Code, ReadError, split_line};
 use std::alloc::Global;
 
 /// Reads the offers that stand behind the `end` of a sketch, up to their own `end`. The lines are numbered

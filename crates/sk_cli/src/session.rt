@@ -12,7 +12,7 @@ use crate::reply::reply_text;
 use crate::request::Request;
 use crate::status::Status;
 use sk_io::{Sink, write_all};
-use sk_lang::split_line;
+use sk_lines::split_line;
 use sk_session::{Closing, Reply, Session, some_to_solve};
 use std::alloc::Global;
 

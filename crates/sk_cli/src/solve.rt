@@ -6,7 +6,8 @@ use crate::answer::{Answer, refused};
 use crate::request::Request;
 use crate::solving::{Report, solved};
 use sk_base::NoMemory;
-use sk_lang::{ReadError, read_sketch};
+use sk_lang::read_sketch;
+use sk_lines::ReadError;
 use std::alloc::Global;
 
 /// The answer to an input whose sketch is placed, with this report.

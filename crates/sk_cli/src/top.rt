@@ -22,7 +22,7 @@ use crate::solving::Report;
 use crate::status::Status;
 use sk_base::{NoMemory, Text};
 use sk_io::{ReadEnd, Sink, Source, read_all, write_all};
-use sk_lang::{Code, Refusal};
+use sk_lines::{Code, Refusal};
 use std::alloc::Global;
 
 const USAGE: &str =

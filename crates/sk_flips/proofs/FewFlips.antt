@@ -5,15 +5,15 @@ use Rattle.std.specs.List.{list_any}
 use Rattle.std.proofs.lemmas.Bool.Decides.{nat_tests}
 use Rattle.sk_base.specs.declared.Name.{Name}
 use Rattle.sk_lex.specs.Words.{words_in}
-use Rattle.sk_lang.specs.declared.Code.TheVariants.{E3, E4, E10, E21}
-use Rattle.sk_lang.specs.ClusterWords.{has_twins}
-use Rattle.sk_lang.specs.Codes.{byte_rows}
-use Rattle.sk_lang.specs.EndLine.{end_rows}
-use Rattle.sk_lang.specs.FirstCode.{first_code}
-use Rattle.sk_lang.specs.LineCodes.{along, HaveNone}
-use Rattle.sk_lang.specs.Lines.{lines_in}
-use Rattle.sk_lang.proofs.FirstCodes.{none_behind}
-use Rattle.sk_lang.proofs.LineFaults.{all_read}
+use Rattle.sk_lines.specs.declared.Code.TheVariants.{E3, E4, E10, E21}
+use Rattle.sk_lines.specs.ClusterWords.{has_twins}
+use Rattle.sk_lines.specs.ByteCodes.{byte_rows}
+use Rattle.sk_lines.specs.EndLine.{end_rows}
+use Rattle.sk_lines.specs.FirstCode.{first_code}
+use Rattle.sk_lines.specs.LineCodes.{along, HaveNone}
+use Rattle.sk_lines.specs.Lines.{lines_in}
+use Rattle.sk_lines.proofs.FirstCodes.{none_behind}
+use Rattle.sk_lines.proofs.LineFaults.{all_read}
 use Rattle.sk_flips.specs.declared.flip_line.Place.{Place}
 use Rattle.sk_flips.specs.declared.flip_line.Place.TheVariants.{Among, Past}
 use Rattle.sk_flips.specs.declared.flip_line.SoFar.{SoFar}

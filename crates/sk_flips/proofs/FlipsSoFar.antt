@@ -2,15 +2,15 @@
 use Rattle.std.proofs.Common.{◌≡◌, ◌⊎◌, inl, inr, ℕ, ◌+◌, List, [], ◌∷◌, length, Option, None, Some, refl, sym, ap, subst, ◌∙◌, arith}
 use Rattle.sk_base.specs.declared.Name.{Name}
 use Rattle.sk_lex.specs.Words.{words_in}
-use Rattle.sk_lang.specs.declared.Code.{Code}
-use Rattle.sk_lang.specs.declared.Code.TheVariants.{E16}
-use Rattle.sk_lang.specs.declared.EntryError.{EntryError}
-use Rattle.sk_lang.specs.declared.EntryError.TheVariants.{Refused, NoMemory}
-use Rattle.sk_lang.specs.Codes.{byte_rows}
-use Rattle.sk_lang.specs.Entry.{IsRefusal, error_at}
-use Rattle.sk_lang.specs.Lines.{lines_in}
-use Rattle.sk_lang.proofs.FirstCodes.{code_behind}
-use Rattle.sk_lang.proofs.LineFaults.{StandsAt, IsClean, IsFault, stands_next, faulty_here, all_read, clean_or_fault, no_fault, one_fault}
+use Rattle.sk_lines.specs.declared.Code.{Code}
+use Rattle.sk_lines.specs.declared.Code.TheVariants.{E16}
+use Rattle.sk_lines.specs.declared.EntryError.{EntryError}
+use Rattle.sk_lines.specs.declared.EntryError.TheVariants.{Refused, NoMemory}
+use Rattle.sk_lines.specs.ByteCodes.{byte_rows}
+use Rattle.sk_lines.specs.Refusals.{IsRefusal, error_at}
+use Rattle.sk_lines.specs.Lines.{lines_in}
+use Rattle.sk_lines.proofs.FirstCodes.{code_behind}
+use Rattle.sk_lines.proofs.LineFaults.{StandsAt, IsClean, IsFault, stands_next, faulty_here, all_read, clean_or_fault, no_fault, one_fault}
 use Rattle.sk_flips.specs.declared.flip_line.Place.{Place}
 use Rattle.sk_flips.specs.declared.flip_line.Place.TheVariants.{Among, Past}
 use Rattle.sk_flips.specs.declared.flip_line.SoFar.{SoFar}

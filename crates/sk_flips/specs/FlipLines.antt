@@ -4,12 +4,12 @@ use Rattle.std.specs.List.{list_any}
 use Rattle.sk_base.specs.declared.Name.{Name}
 use Rattle.sk_base.specs.declared.Name.TheVariants.{Con, Step}
 use Rattle.sk_lex.specs.Words.{words_in}
-use Rattle.sk_lang.specs.declared.Code.{Code}
-use Rattle.sk_lang.specs.declared.Code.TheVariants.{E3, E4, E10, E17, E21}
-use Rattle.sk_lang.specs.ClusterWords.{name_of, has_twins}
-use Rattle.sk_lang.specs.Codes.{byte_rows}
-use Rattle.sk_lang.specs.FirstCode.{first_code}
-use Rattle.sk_lang.specs.EndLine.{end_rows}
+use Rattle.sk_lines.specs.declared.Code.{Code}
+use Rattle.sk_lines.specs.declared.Code.TheVariants.{E3, E4, E10, E17, E21}
+use Rattle.sk_lines.specs.ClusterWords.{name_of, has_twins}
+use Rattle.sk_lines.specs.ByteCodes.{byte_rows}
+use Rattle.sk_lines.specs.FirstCode.{first_code}
+use Rattle.sk_lines.specs.EndLine.{end_rows}
 use Rattle.sk_flips.specs.declared.flip_line.Place.{Place}
 use Rattle.sk_flips.specs.declared.flip_line.Place.TheVariants.{Among, Past}
 use Rattle.sk_flips.specs.declared.flip_line.SoFar.{SoFar}

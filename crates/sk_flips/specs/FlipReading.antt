@@ -2,16 +2,16 @@
 use Rattle.std.specs.Prelude.{◌≡◌, ⊤, ℕ, ◌+◌, Bool, true, List, [], length, None}
 use Rattle.sk_base.specs.declared.Name.{Name}
 use Rattle.sk_lex.specs.Words.{words_in}
-use Rattle.sk_lang.specs.declared.Code.{Code}
-use Rattle.sk_lang.specs.declared.Code.TheVariants.{E4, E16}
-use Rattle.sk_lang.specs.declared.EntryError.{EntryError}
-use Rattle.sk_lang.specs.declared.EntryError.TheVariants.{Refused, NoMemory}
-use Rattle.sk_lang.specs.declared.ReadError.{ReadError}
-use Rattle.sk_lang.specs.declared.ReadError.TheVariants as read
-use Rattle.sk_lang.specs.Codes.{byte_rows}
-use Rattle.sk_lang.specs.FirstCode.{first_code}
-use Rattle.sk_lang.specs.LineCodes.{along, HaveNone, HasFirst}
-use Rattle.sk_lang.specs.Lines.{lines_in}
+use Rattle.sk_lines.specs.declared.Code.{Code}
+use Rattle.sk_lines.specs.declared.Code.TheVariants.{E4, E16}
+use Rattle.sk_lines.specs.declared.EntryError.{EntryError}
+use Rattle.sk_lines.specs.declared.EntryError.TheVariants.{Refused, NoMemory}
+use Rattle.sk_lines.specs.declared.ReadError.{ReadError}
+use Rattle.sk_lines.specs.declared.ReadError.TheVariants as read
+use Rattle.sk_lines.specs.ByteCodes.{byte_rows}
+use Rattle.sk_lines.specs.FirstCode.{first_code}
+use Rattle.sk_lines.specs.LineCodes.{along, HaveNone, HasFirst}
+use Rattle.sk_lines.specs.Lines.{lines_in}
 use Rattle.sk_flips.specs.declared.flip_line.Place.TheVariants.{Among, Past}
 use Rattle.sk_flips.specs.declared.flip_line.SoFar.{SoFar}
 use Rattle.sk_flips.specs.FlipLines.{word_rows, code_of, with_words, with_line}

@@ -2,16 +2,16 @@
 ghost use Rattle.std.specs.Prelude.{◌≡◌, ◌<◌, [], ◌∷◌, ◌++◌, length, map, drop, Some, None, IfOk, IfErr, MatchResult, false};
 ghost use Rattle.std.specs.List.{list_any};
 ghost use Rattle.sk_lex.specs.Words.{bytes_of, StandInOrder};
-ghost use Rattle.sk_lang.specs.declared.Code.TheVariants.{E4};
-ghost use Rattle.sk_lang.specs.ClusterWords.{has_twins};
-ghost use Rattle.sk_lang.specs.FirstCode.{first_code};
-ghost use Rattle.sk_lang.specs.Entry.{IsRefusal};
+ghost use Rattle.sk_lines.specs.declared.Code.TheVariants.{E4};
+ghost use Rattle.sk_lines.specs.ClusterWords.{has_twins};
+ghost use Rattle.sk_lines.specs.FirstCode.{first_code};
+ghost use Rattle.sk_lines.specs.Refusals.{IsRefusal};
 ghost use Rattle.sk_flips.specs.FlipLines.{step_of, step_named, is_no_step, flip_rows, word_rows, code_of};
 ghost use Rattle.sk_flips.specs.FlipReading.{among, AddsWords, Adds, IsNameRefusal};
 
 use sk_base::{List, Name};
-use sk_lang::{Code, EntryError, is_word, name_of, split_words, word};
 use sk_lex::Word;
+use sk_lines::{Code, EntryError, is_word, name_of, split_words, word};
 use std::alloc::Global;
 
 /// The most lines of flips.

@@ -1,13 +1,13 @@
 // The flips that stand behind a sketch.
 ghost use Rattle.std.specs.Prelude.{◌≡◌, ◌<◌, ◌≤◌, ◌+◌, ◌⊎◌, ℕ, List as Items, length, IfOk, IfErr};
 ghost use Rattle.sk_base.specs.declared.Name.{Name as OfName};
-ghost use Rattle.sk_lang.specs.Lines.{lines_in};
-ghost use Rattle.sk_lang.specs.declared.Code.{Code as AnyCode};
+ghost use Rattle.sk_lines.specs.Lines.{lines_in};
+ghost use Rattle.sk_lines.specs.declared.Code.{Code as AnyCode};
 ghost use Rattle.sk_flips.specs.FlipReading.{ReadsFlips, RefusesFlips, IsFlipRefusal};
 
 use crate::flip_line::{Place, SoFar, after_line};
 use sk_base::{List, Name};
-use sk_lang::{Code, ReadError, split_line};
+use sk_lines::{Code, ReadError, split_line};
 use std::alloc::Global;
 
 /// Reads the flips that stand behind the `end` of a sketch, up to their own `end`: the steps that each

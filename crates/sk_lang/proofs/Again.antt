@@ -17,26 +17,26 @@ use Rattle.sk_base.specs.Millimetres.{mm_of}
 use Rattle.sk_base.specs.SoundSketch.{IsSoundShape, IsLength}
 use Rattle.sk_base.proofs.Members.{contains_head, contains_later}
 use Rattle.sk_base.proofs.Pairs.{pairs_head, pairs_tail}
-use Rattle.sk_base.specs.Spelling.{mm_text}
+use Rattle.sk_base.specs.Spelling.{mm_text, spaced}
 use Rattle.sk_text.proofs.ReadBack.{mm_of-mm_text}
-use Rattle.sk_lang.specs.declared.version.Version.{Version}
-use Rattle.sk_lang.specs.declared.version.Version.TheVariants.{One, Two}
-use Rattle.sk_lang.specs.declared.keyword.Keyword.{Keyword}
-use Rattle.sk_lang.specs.declared.keyword.Keyword.TheVariants.{Point, Line, Circle}
+use Rattle.sk_lines.specs.declared.Version.{Version}
+use Rattle.sk_lines.specs.declared.Version.TheVariants.{One, Two}
+use Rattle.sk_lines.specs.declared.Keyword.{Keyword}
+use Rattle.sk_lines.specs.declared.Keyword.TheVariants.{Point, Line, Circle}
 use Rattle.sk_lang.specs.declared.progress.Progress.TheVariants.{Within}
-use Rattle.sk_lang.specs.Quantities.{um, length_of, not_negative}
-use Rattle.sk_lang.specs.Conditions.{is_zero}
-use Rattle.sk_lang.specs.FirstCode.{first_code}
-use Rattle.sk_lang.specs.Codes.{code_of, entry_rows}
-use Rattle.sk_lang.specs.Keywords.{keyword_of}
-use Rattle.sk_lang.specs.Meaning.{entry_made, added, next_elem, next_con, progress_after, progress_after_words, progress_within}
-use Rattle.sk_lang.specs.Canonical.{shape_words}
-use Rattle.sk_base.specs.Spelling.{spaced}
+use Rattle.sk_lines.specs.Quantities.{um, length_of, not_negative, is_zero}
+use Rattle.sk_lines.specs.FirstCode.{first_code}
+use Rattle.sk_lang.specs.Codes.{code_of}
+use Rattle.sk_entry.specs.EntryCodes.{entry_rows}
+use Rattle.sk_lines.specs.Keywords.{keyword_of}
+use Rattle.sk_entry.specs.Meaning.{entry_made, added}
+use Rattle.sk_lang.specs.Progress.{next_elem, next_con, progress_after, progress_after_words, progress_within}
+use Rattle.sk_entry.specs.CanonicalLines.{shape_words}
 use Rattle.sk_lang.specs.Renumbered.{elements_from}
 use Rattle.sk_base.proofs.Finding.{found_in}
-use Rattle.sk_lang.proofs.Finding.{same_bytes, equal_bytes}
-use Rattle.sk_lang.proofs.Passing.{Passes, passes_to}
-use Rattle.sk_lang.proofs.SolidLines.{IsLineOf, literal, name_spelled}
+use Rattle.sk_lines.proofs.Finding.{equal_bytes, different_bytes}
+use Rattle.sk_entry.proofs.Passing.{Passes, passes_to}
+use Rattle.sk_lines.proofs.SolidLines.{IsLineOf, literal, name_spelled}
 use Rattle.sk_lang.proofs.Written.{AreWritten, mm_written, magnitude_within, short_line, written_line}
 
 -- a keyword of both versions
@@ -50,13 +50,6 @@ code_by_words v s line first rest k is keyword clean = rw (is.short, is.ascii, i
 
 pub progress_by_words : (v : Version) (s : Sketch) (line first : List ℕ) (rest : List (List ℕ)) (k : Keyword) → IsLineOf line (first ∷ rest) → keyword_of v first ≡ Some k → progress_after (Within v s) line ≡ Within v (added s (entry_made s k rest (next_elem s) (next_con s)))
 progress_by_words v s line first rest k is keyword = ap (progress_after_words (Within v s)) (is.words_are v) ∙ ap (λ (o : Option Keyword). progress_within v s o rest) keyword
-
-pub different_bytes : (a b : List ℕ) → a ≢ b → bytes_eq a b ≡ false
-different_bytes a b other = by (bytes_eq a b) refl
-  where
-    by : (t : Bool) → bytes_eq a b ≡ t → t ≡ false
-    by true same = absurd (other (same_bytes a b same))
-    by false is = refl
 
 -- a name that no element has
 pub fresh_name : (n : ℕ) (name : List ℕ) (done : List Element) → ((x : Element) → Contains done x → x.label ≢ name) → find (λ (x : Element). bytes_eq name x.label) (elements_from n done) ≡ None

@@ -3,19 +3,20 @@ use Rattle.std.proofs.Common.{◌≡◌, ℕ, ◌+◌, ◌≤◌, ◌⊎◌, inl
 use Rattle.std.specs.List.{list_all}
 use Rattle.std.proofs.lemmas.Bool.Decides.{nat_tests}
 use Rattle.sk_base.specs.declared.Sketch.{Sketch}
-use Rattle.sk_lang.specs.declared.code.Code.{Code}
-use Rattle.sk_lang.specs.declared.code.Code.TheVariants.{E15, E16, E18, E19, E20}
-use Rattle.sk_lang.specs.declared.version.Version.{Version}
+use Rattle.sk_lines.specs.declared.Code.{Code}
+use Rattle.sk_lines.specs.declared.Code.TheVariants.{E15, E16, E18, E19, E20}
+use Rattle.sk_lines.specs.declared.Version.{Version}
 use Rattle.sk_lang.specs.declared.progress.Progress.{Progress}
 use Rattle.sk_lang.specs.declared.progress.Progress.TheVariants.{Before, Within, After}
-use Rattle.sk_lang.specs.declared.keyword.Keyword.{Keyword}
+use Rattle.sk_lines.specs.declared.Keyword.{Keyword}
 use Rattle.sk_lang.specs.Header.{words_at}
-use Rattle.sk_lang.specs.Keywords.{keyword_of}
-use Rattle.sk_lang.specs.Codes.{code_of, word_rows, is_none_left}
-use Rattle.sk_lang.specs.FirstCode.{first_code}
-use Rattle.sk_lang.specs.Meaning.{progress_after, progress_after_words, progress_within, empty_sketch}
+use Rattle.sk_lines.specs.Keywords.{keyword_of}
+use Rattle.sk_lang.specs.Codes.{code_of, word_rows}
+use Rattle.sk_lines.specs.EndLine.{is_none_left}
+use Rattle.sk_lines.specs.FirstCode.{first_code}
+use Rattle.sk_lang.specs.Progress.{progress_after, progress_after_words, progress_within, empty_sketch}
 use Rattle.sk_lex.specs.Words.{is_too_long, has_wrong_byte, words_in}
-use Rattle.sk_lang.specs.Lines.{lines_in}
+use Rattle.sk_lines.specs.Lines.{lines_in}
 use Rattle.sk_lang.specs.Reading.{is_blank_line, progress_along, HaveNoCode, HasFirstCode, has_ended, Reads, Refuses, TooLong, Empty, AtLine, NoEnd}
 use Rattle.sk_lang.proofs.Computed.{Answer, or_code, at_end, read_from, reading}
 

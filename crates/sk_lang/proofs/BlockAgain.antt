@@ -22,20 +22,21 @@ use Rattle.sk_base.specs.SoundSketch.{IsSoundSketch, IsSoundBlock, IsCentred}
 use Rattle.sk_base.specs.Spelling.{mm_text, spaced}
 use Rattle.sk_base.proofs.Members.{contains_head, contains_later}
 use Rattle.sk_base.proofs.Pairs.{pairs_head, pairs_tail}
-use Rattle.sk_lang.specs.declared.keyword.Keyword.TheVariants.{Block}
-use Rattle.sk_lang.specs.declared.version.Version.TheVariants.{Two}
-use Rattle.sk_lang.specs.Conditions.{is_drawn_line, at_one_place, of_one_name}
-use Rattle.sk_lang.specs.Keywords.{pin_places, pin_count, places}
-use Rattle.sk_lang.specs.Meaning.{pin_asked}
-use Rattle.sk_lang.specs.Named.{element_named}
-use Rattle.sk_lang.specs.PinCodes.{lacks_name}
-use Rattle.sk_lang.specs.PinLines.{PinWords, pins_in, some_two}
+use Rattle.sk_lines.specs.declared.Keyword.TheVariants.{Block}
+use Rattle.sk_lines.specs.declared.Version.TheVariants.{Two}
+use Rattle.sk_entry.specs.Conditions.{is_drawn_line, at_one_place, of_one_name}
+use Rattle.sk_lines.specs.Keywords.{pin_places, pin_count, places}
+use Rattle.sk_entry.specs.Meaning.{pin_asked}
+use Rattle.sk_entry.specs.Named.{element_named}
+use Rattle.sk_entry.specs.PinCodes.{lacks_name}
+use Rattle.sk_entry.specs.PinLines.{PinWords, pins_in, some_two}
 use Rattle.sk_lang.specs.Renumbered.{place_of, pin_renumbered}
-use Rattle.sk_lang.proofs.Again.{code_by_words, progress_by_words, different_bytes, coordinate_back, flat_not}
-use Rattle.sk_lang.proofs.Passing.{Passes, passes_to}
-use Rattle.sk_lang.proofs.PinTests.{in_threes, places_length, tested}
+use Rattle.sk_lang.proofs.Again.{code_by_words, progress_by_words, coordinate_back, flat_not}
+use Rattle.sk_lines.proofs.Finding.{different_bytes}
+use Rattle.sk_entry.proofs.Passing.{Passes, passes_to}
+use Rattle.sk_entry.proofs.PinTests.{in_threes, places_length, tested}
 use Rattle.sk_lang.proofs.RulesAgain.{rules_so_far, among, labels_apart, again_named, ruled, room_left, IsRuleAgain}
-use Rattle.sk_lang.proofs.SolidLines.{IsLineOf, literal, name_spelled, fitting_line}
+use Rattle.sk_lines.proofs.SolidLines.{IsLineOf, literal, name_spelled, fitting_line}
 use Rattle.sk_lang.proofs.Written.{AreWritten, mm_written, magnitude_within, written_solid}
 
 -- a pin's words as they are written

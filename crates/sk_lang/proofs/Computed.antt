@@ -1,13 +1,13 @@
 -- What a text is read as, computed line by line.
 use Rattle.std.specs.Prelude.{ℕ, ◌+◌, List, [], ◌∷◌, length, Option, Some, None, Result, Ok, Err, if◌then◌else◌, nat_lt}
 use Rattle.sk_base.specs.declared.Sketch.{Sketch}
-use Rattle.sk_lang.specs.declared.code.Code.{Code}
-use Rattle.sk_lang.specs.declared.code.Code.TheVariants.{E16, E18, E20}
-use Rattle.sk_lang.specs.Lines.{lines_in}
+use Rattle.sk_lines.specs.declared.Code.{Code}
+use Rattle.sk_lines.specs.declared.Code.TheVariants.{E16, E18, E20}
+use Rattle.sk_lines.specs.Lines.{lines_in}
 use Rattle.sk_lang.specs.declared.progress.Progress.{Progress}
 use Rattle.sk_lang.specs.declared.progress.Progress.TheVariants.{Before, Within, After}
 use Rattle.sk_lang.specs.Codes.{code_of}
-use Rattle.sk_lang.specs.Meaning.{progress_after}
+use Rattle.sk_lang.specs.Progress.{progress_after}
 
 -- a sketch, or the line of a refusal and its code
 abbrev pub Answer : Type 0

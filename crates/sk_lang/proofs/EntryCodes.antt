@@ -1,22 +1,24 @@
--- The code of a line within a sketch, by that of an entry.
-use Rattle.std.proofs.Common.{◌≡◌, ℕ, Bool, true, false, List, [], ◌∷◌, map, Option, Some, None, Result, Ok, Err, IsErr, IsErrAnd, IfErr, MatchResult, refl, sym, subst}
+-- A line within a sketch, by what its entry says.
+use Rattle.std.proofs.Common.{◌≡◌, ℕ, Bool, true, false, List, [], ◌∷◌, map, Option, Some, None, Result, Ok, Err, IsErr, IsErrAnd, IfErr, MatchResult, refl, sym, ap, ◌∙◌, subst}
 use Rattle.sk_base.specs.declared.Sketch.{Sketch}
 use Rattle.sk_base.proofs.Tables.{passed}
 use Rattle.sk_lex.specs.declared.Words.{Words}
 use Rattle.sk_lex.specs.Words.{is_too_long, has_wrong_byte, bytes_of}
-use Rattle.sk_lang.specs.declared.code.Code.{Code}
-use Rattle.sk_lang.specs.declared.code.Code.TheVariants.{E15, E19}
-use Rattle.sk_lang.specs.declared.entry.EntryError.{EntryError}
-use Rattle.sk_lang.specs.declared.entry.EntryError.TheVariants.{Refused, NoMemory}
-use Rattle.sk_lang.specs.declared.keyword.Keyword.{Keyword}
-use Rattle.sk_lang.specs.declared.progress.Progress.TheVariants.{Within}
-use Rattle.sk_lang.specs.declared.version.Version.{Version}
+use Rattle.sk_lines.specs.declared.Code.{Code}
+use Rattle.sk_lines.specs.declared.Code.TheVariants.{E15, E19}
+use Rattle.sk_lines.specs.declared.EntryError.{EntryError}
+use Rattle.sk_lines.specs.declared.EntryError.TheVariants.{Refused, NoMemory}
+use Rattle.sk_lines.specs.declared.Keyword.{Keyword}
+use Rattle.sk_lang.specs.declared.progress.Progress.TheVariants.{Within, After}
+use Rattle.sk_lines.specs.declared.Version.{Version}
 use Rattle.sk_lang.specs.Codes.{code_of, word_rows, rows_within, other_rows}
-use Rattle.sk_lang.specs.Comments.{words_under}
-use Rattle.sk_lang.specs.Entry.{IsRefusal, keyword_rows, rows_of, entry_code}
-use Rattle.sk_lang.specs.FirstCode.{first_code}
-use Rattle.sk_lang.specs.Keywords.{keyword_of}
-use Rattle.sk_lang.proofs.Declaring.{SaysOther}
+use Rattle.sk_lines.specs.Comments.{words_under}
+use Rattle.sk_lines.specs.Refusals.{IsRefusal}
+use Rattle.sk_entry.specs.Entry.{keyword_rows, rows_of, entry_code}
+use Rattle.sk_lines.specs.FirstCode.{first_code}
+use Rattle.sk_lines.specs.Keywords.{keyword_of}
+use Rattle.sk_entry.proofs.Declaring.{SaysOther}
+use Rattle.sk_lang.specs.Progress.{progress_after, progress_after_words, progress_within}
 
 by_keyword : (s : Sketch) (k : Option Keyword) (first : List ℕ) (rest : List (List ℕ)) (e : EntryError) → IsRefusal (first_code (keyword_rows s k rest)) e → IsRefusal (first_code (rows_within s k (first ∷ rest))) e
 by_keyword s (Some k) first rest e is = is
@@ -44,3 +46,7 @@ other_code v s line words clean other =
 pub other_refused : {X : Type 0} (r : Result X EntryError) (fine : X → Type 0) (a b : Option Code) → MatchResult r fine (IsRefusal a) → a ≡ b → IfErr r (IsRefusal b)
 other_refused (Ok x) fine a b is same = tt
 other_refused (Err e) fine a b is same = subst (λ (code : Option Code). IsRefusal code e) same is
+
+-- such a line ends the sketch
+pub other_ends : (v : Version) (s : Sketch) (line : List ℕ) (words : Words) → SaysOther v line words → progress_after (Within v s) line ≡ After v s
+other_ends v s line words other = ap (progress_after_words (Within v s)) other.whole ∙ ap (λ (k : Option Keyword). progress_within v s k other.rest) other.keyword

@@ -2,10 +2,10 @@
 use Rattle.std.proofs.Common.{◌≡◌, ℕ, List, [], ◌∷◌, ◌++◌, Ok, Err, Some, codes, refl, pos, neg_ℤ, replicate}
 use Rattle.std.specs.List.{flat_map}
 use Rattle.sk_base.specs.declared.Shape.TheVariants.{Point}
-use Rattle.sk_lang.specs.declared.code.Code.TheVariants.{E1, E2, E3, E4, E5, E6, E7, E8, E9, E10, E11, E12, E13, E15, E16, E17, E18, E19}
+use Rattle.sk_lines.specs.declared.Code.TheVariants.{E1, E2, E3, E4, E5, E6, E7, E8, E9, E10, E11, E12, E13, E15, E16, E17, E18, E19}
 use Rattle.sk_lang.proofs.Computed.{reading}
 use Rattle.sk_lang.specs.Codes.{code_of}
-use Rattle.sk_lang.specs.declared.version.Version.TheVariants.{One}
+use Rattle.sk_lines.specs.declared.Version.TheVariants.{One}
 use Rattle.sk_lang.specs.declared.progress.Progress.TheVariants.{Within}
 
 -- each line with its line feed

@@ -6,21 +6,21 @@ use Rattle.std.proofs.Math.Seq.{take-append_seam, take-append-add}
 use Rattle.std.proofs.lemmas.Bool.{cases_lt}
 use Rattle.std.proofs.lemmas.List.{take_all, take-append-drop, length-take-le}
 use Rattle.sk_base.specs.declared.Sketch.{Sketch}
-use Rattle.sk_lang.specs.declared.code.Code.{Code}
+use Rattle.sk_lines.specs.declared.Code.{Code}
 use Rattle.sk_lang.specs.declared.front.Front.{Front}
-use Rattle.sk_lang.specs.declared.version.Version.{Version}
+use Rattle.sk_lines.specs.declared.Version.{Version}
 use Rattle.sk_lang.specs.declared.progress.Progress.{Progress}
 use Rattle.sk_lang.specs.declared.progress.Progress.TheVariants.{Before, After}
-use Rattle.sk_lang.specs.Lines.{is_line_feed, lines_in, EndsLine}
+use Rattle.sk_lines.specs.Lines.{is_line_feed, lines_in, EndsLine}
 use Rattle.sk_lang.specs.Codes.{code_of}
-use Rattle.sk_lang.specs.Comments.{words_under}
-use Rattle.sk_lang.specs.Meaning.{progress_after_words}
+use Rattle.sk_lines.specs.Comments.{words_under}
+use Rattle.sk_lang.specs.Progress.{progress_after_words}
 use Rattle.sk_lang.specs.Reading.{is_blank_line, progress_along, HaveNoCode, has_ended, Reads, Refuses, TooLong, Empty, AtLine, NoEnd}
 use Rattle.sk_lang.specs.Front.{has_ended_by, ReadsFront, RefusesFront}
 use Rattle.sk_lang.proofs.Answered.{all_blank, clean_at, both, one_sketch}
-use Rattle.sk_lang.proofs.LineByLine.{first_line, only_line}
+use Rattle.sk_lines.proofs.LineByLine.{first_line, only_line}
 use Rattle.sk_lang.proofs.Standing.{along_append}
-use Rattle.sk_lang.proofs.WholeLines.{lines_in-append}
+use Rattle.sk_lines.proofs.WholeLines.{lines_in-append}
 
 stays_by : (v : Version) (s : Sketch) (words : List (List ℕ)) → progress_after_words (After v s) words ≡ After v s
 stays_by v s [] = refl

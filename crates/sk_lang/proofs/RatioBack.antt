@@ -12,9 +12,8 @@ use Rattle.sk_base.specs.Millimetres.{has_sign, with_sign}
 use Rattle.sk_base.specs.SoundSketch.{IsSoundRatio}
 use Rattle.sk_base.specs.Spelling.{magnitude, whole_text}
 use Rattle.sk_text.proofs.ReadBack.{digits_of-decimal, unsigned, LacksDigits, found_behind, drop_behind}
-use Rattle.sk_lang.specs.Quantities.{is_slash, part_of_ratio, parts_round, unsigned_ratio, ratio_of, ratio}
-use Rattle.sk_lang.specs.Conditions.{is_zero}
-use Rattle.sk_lang.specs.Canonical.{ratio_text}
+use Rattle.sk_lines.specs.Quantities.{is_slash, part_of_ratio, parts_round, unsigned_ratio, ratio_of, ratio, is_zero}
+use Rattle.sk_entry.specs.CanonicalLines.{ratio_text}
 use Rattle.sk_lang.proofs.Written.{magnitude_within, IsWritten, ratio_written}
 
 slash_lacks_digits : LacksDigits is_slash

@@ -1,18 +1,16 @@
 -- The error of a line is a refusal of the text.
 use Rattle.std.proofs.Common.{◌≡◌, ℕ, ◌+◌, ◌<◌, ◌≤◌, false, List, [], length, refl}
 use Rattle.sk_base.specs.declared.Sketch.{Sketch}
-use Rattle.sk_lang.specs.declared.entry.EntryError.{EntryError}
-use Rattle.sk_lang.specs.declared.entry.EntryError.TheVariants.{Refused, NoMemory}
-use Rattle.sk_lang.specs.declared.version.Version.{Version}
+use Rattle.sk_lines.specs.declared.EntryError.{EntryError}
+use Rattle.sk_lines.specs.declared.EntryError.TheVariants.{Refused, NoMemory}
+use Rattle.sk_lines.specs.declared.Version.{Version}
 use Rattle.sk_lang.specs.declared.progress.Progress.{Progress}
 use Rattle.sk_lang.specs.declared.progress.Progress.TheVariants.{Before, Within, After}
-use Rattle.sk_lang.specs.Lines.{IsFirstLine}
+use Rattle.sk_lines.specs.Lines.{IsFirstLine}
 use Rattle.sk_lang.specs.Codes.{code_of}
-use Rattle.sk_lang.specs.Entry.{IsRefusal}
+use Rattle.sk_lines.specs.Refusals.{IsRefusal, error_at}
 use Rattle.sk_lang.specs.Reading.{IsRefusalOf, has_ended}
-use Rattle.sk_lang.specs.Front.{IsFrontRefusal}
-use Rattle.sk_lang.specs.Entry.{error_at}
-use Rattle.sk_lang.specs.Front.{without_end}
+use Rattle.sk_lang.specs.Front.{IsFrontRefusal, without_end}
 use Rattle.sk_lang.proofs.Standing.{StandsAt, refused_here, front_refused_here, front_empty_here, front_unended_here}
 
 pub refusal_at : (bytes rest line after : List ℕ) (progress : Progress) (count : ℕ) (error : EntryError) → length bytes ≤ 1048576 → StandsAt bytes rest progress count → 0 < length rest → IsFirstLine rest line after → IsRefusal (code_of progress line) error → IsRefusalOf bytes (error_at (count + 1) error)

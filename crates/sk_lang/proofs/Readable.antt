@@ -12,28 +12,31 @@ use Rattle.sk_base.specs.Labels.{is_name}
 use Rattle.sk_base.specs.SoundSketch.{IsSoundSketch, IsSoundShape, IsSoundRule}
 use Rattle.sk_base.proofs.Pairs.{pairs_none}
 use Rattle.sk_lex.specs.Words.{is_too_long, has_wrong_byte}
-use Rattle.sk_lang.specs.declared.code.Code.{Code}
-use Rattle.sk_lang.specs.declared.code.Code.TheVariants.{E2, E3, E15, E18, E19}
-use Rattle.sk_lang.specs.declared.version.Version.{Version}
-use Rattle.sk_lang.specs.declared.keyword.Keyword.{Keyword}
-use Rattle.sk_lang.specs.declared.entry.Entry.{Entry}
-use Rattle.sk_lang.specs.declared.entry.Entry.TheVariants as entry
+use Rattle.sk_lines.specs.declared.Code.{Code}
+use Rattle.sk_lines.specs.declared.Code.TheVariants.{E2, E3, E15, E18, E19}
+use Rattle.sk_lines.specs.declared.Version.{Version}
+use Rattle.sk_lines.specs.declared.Keyword.{Keyword}
+use Rattle.sk_entry.specs.declared.Entry.{Entry}
+use Rattle.sk_entry.specs.declared.Entry.TheVariants as entry
 use Rattle.sk_lang.specs.declared.progress.Progress.{Progress}
 use Rattle.sk_lang.specs.declared.progress.Progress.TheVariants.{Before, Within, After}
 use Rattle.sk_lang.specs.Header.{words_at}
-use Rattle.sk_lang.specs.Lines.{lines_in}
-use Rattle.sk_lang.specs.Keywords.{keyword_of, declares}
-use Rattle.sk_lang.specs.FirstCode.{first_code}
-use Rattle.sk_lang.specs.Codes.{code_of, rows_within, word_rows, is_none_left, entry_rows}
-use Rattle.sk_lang.specs.Meaning.{shape_drawn, rule_asked, element_with, constraint_with, entry_made, added, next_elem, next_con, empty_sketch, progress_within, progress_after_words, progress_after}
+use Rattle.sk_lines.specs.Lines.{lines_in}
+use Rattle.sk_lines.specs.Keywords.{keyword_of, declares}
+use Rattle.sk_lines.specs.FirstCode.{first_code}
+use Rattle.sk_lang.specs.Codes.{code_of, rows_within, word_rows}
+use Rattle.sk_lines.specs.EndLine.{is_none_left}
+use Rattle.sk_entry.specs.EntryCodes.{entry_rows}
+use Rattle.sk_entry.specs.Meaning.{shape_drawn, rule_asked, element_with, constraint_with, entry_made, added}
+use Rattle.sk_lang.specs.Progress.{next_elem, next_con, empty_sketch, progress_within, progress_after_words, progress_after}
 use Rattle.sk_lang.specs.Reading.{Reads, HaveNoCode, progress_along}
 use Rattle.sk_base.proofs.Tables.{passed}
 use Rattle.sk_lang.specs.Renumbered.{renumbered}
 use Rattle.sk_lang.proofs.SameNumbers.{CountOn, count_push, count_below, renumbered_same}
-use Rattle.sk_lang.proofs.LineWords.{BeginsLine, begins_line}
-use Rattle.sk_lang.proofs.Passing.{passes_from}
-use Rattle.sk_lang.proofs.Declaring.{no_element}
-use Rattle.sk_lang.proofs.Sound.{AreAbove, grows}
+use Rattle.sk_lines.proofs.LineWords.{BeginsLine, begins_line}
+use Rattle.sk_entry.proofs.Passing.{passes_from}
+use Rattle.sk_entry.proofs.Declaring.{no_element}
+use Rattle.sk_entry.proofs.Sound.{AreAbove, grows}
 
 -- a sound sketch so far, whose numbers are counts
 record IsCounted (s : Sketch) : Type 0 where

@@ -19,25 +19,25 @@ use Rattle.sk_base.specs.Labels.{is_name}
 use Rattle.sk_base.specs.Numbering.{elem_exact}
 use Rattle.sk_base.specs.SoundSketch.{IsSoundSketch, IsSoundRule, BothFit, MayJoin, MayBeApart, MayLieOn, MayBeTangent, AreCircles, AreLines, MayNest}
 use Rattle.sk_base.proofs.Pairs.{pairs_tell}
-use Rattle.sk_base.specs.Spelling.{mm_text}
-use Rattle.sk_lang.specs.declared.version.Version.{Version}
-use Rattle.sk_lang.specs.declared.keyword.Keyword.TheVariants.{Distance, On, Tangent, Outside, Inside, Angle}
+use Rattle.sk_base.specs.Spelling.{mm_text, spaced}
+use Rattle.sk_lines.specs.declared.Version.{Version}
+use Rattle.sk_lines.specs.declared.Keyword.TheVariants.{Distance, On, Tangent, Outside, Inside, Angle}
 use Rattle.sk_lang.specs.declared.progress.Progress.{Progress}
 use Rattle.sk_lang.specs.declared.progress.Progress.TheVariants.{Within}
-use Rattle.sk_lang.specs.Named.{element_named, number_named}
-use Rattle.sk_lang.specs.Quantities.{um, ratio}
+use Rattle.sk_entry.specs.Named.{element_named, number_named}
+use Rattle.sk_lines.specs.Quantities.{um, ratio}
 use Rattle.sk_lang.specs.Codes.{code_of}
-use Rattle.sk_lang.specs.Meaning.{progress_after}
-use Rattle.sk_lang.specs.Canonical.{rule_words, ratio_text}
-use Rattle.sk_base.specs.Spelling.{spaced}
+use Rattle.sk_lang.specs.Progress.{progress_after}
+use Rattle.sk_entry.specs.CanonicalLines.{rule_words, ratio_text}
 use Rattle.sk_lang.specs.Renumbered.{elements_from, place_of, rule_renumbered, constraints_from}
 use Rattle.sk_base.proofs.Finding.{found_in}
-use Rattle.sk_lang.proofs.Fitting.{takes_apart, takes_on, takes_tangent, takes_outside, takes_angle, takes_inside}
-use Rattle.sk_lang.proofs.Passing.{Passes, passes_to}
-use Rattle.sk_lang.proofs.SolidLines.{IsLineOf, literal, name_spelled}
+use Rattle.sk_entry.proofs.Fitting.{takes_apart, takes_on, takes_tangent, takes_outside, takes_angle, takes_inside}
+use Rattle.sk_entry.proofs.Passing.{Passes, passes_to}
+use Rattle.sk_lines.proofs.SolidLines.{IsLineOf, literal, name_spelled}
 use Rattle.sk_lang.proofs.Written.{mm_written, magnitude_within, written_line}
 use Rattle.sk_lang.proofs.RatioBack.{ratio_tests, ratio_back, ratio_text_written}
-use Rattle.sk_lang.proofs.Again.{shared, code_by_words, progress_by_words, different_bytes, found_again, coordinate_back, length_within, length_back, um_back}
+use Rattle.sk_lang.proofs.Again.{shared, code_by_words, progress_by_words, found_again, coordinate_back, length_within, length_back, um_back}
+use Rattle.sk_lines.proofs.Finding.{different_bytes}
 
 -- two elements that a rule joins
 record AreJoined (s : Sketch) (fits : Shape → Shape → Type 0) (u v : Elem) : Type 0 where

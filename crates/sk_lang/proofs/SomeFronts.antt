@@ -5,14 +5,14 @@ use Rattle.std.proofs.Math.Seq.{take-append_seam}
 use Rattle.std.proofs.lemmas.Bool.{cases_lt}
 use Rattle.std.proofs.lemmas.List.{take_all, take-append-drop, length-take-le}
 use Rattle.sk_base.specs.declared.Sketch.{Sketch}
-use Rattle.sk_lang.specs.declared.code.Code.{Code}
+use Rattle.sk_lines.specs.declared.Code.{Code}
 use Rattle.sk_lang.specs.declared.front.Front.{Front}
 use Rattle.sk_lang.specs.Front.{has_ended_by, ReadsFront, RefusesFront}
-use Rattle.sk_lang.specs.LineCodes.{along, HaveNone, HasFirst}
-use Rattle.sk_lang.specs.Lines.{is_line_feed, lines_in, EndsLine, IsFirstLine}
+use Rattle.sk_lines.specs.LineCodes.{along, HaveNone, HasFirst}
+use Rattle.sk_lines.specs.Lines.{is_line_feed, lines_in, EndsLine, IsFirstLine}
 use Rattle.sk_lang.specs.Reading.{has_ended, HasFirstCode, Reads, Refuses, TooLong, Empty, AtLine, NoEnd}
 use Rattle.sk_lang.proofs.Answered.{all_blank, some_answer}
-use Rattle.sk_lang.proofs.WholeLines.{last_line, line_of_many, lines_in-append}
+use Rattle.sk_lines.proofs.WholeLines.{last_line, line_of_many, lines_in-append}
 
 -- ---- the first lines of a text
 

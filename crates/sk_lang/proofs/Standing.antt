@@ -4,18 +4,18 @@ use Rattle.std.specs.List.{list_all}
 use Rattle.std.proofs.Math.Seq.{take-append_seam, take-length}
 use Rattle.std.proofs.lemmas.List.{drop_all, take-append-drop}
 use Rattle.sk_base.specs.declared.Sketch.{Sketch}
-use Rattle.sk_lang.specs.declared.code.Code.{Code}
-use Rattle.sk_lang.specs.declared.code.Code.TheVariants.{E16, E18}
+use Rattle.sk_lines.specs.declared.Code.{Code}
+use Rattle.sk_lines.specs.declared.Code.TheVariants.{E16, E18}
 use Rattle.sk_lang.specs.declared.front.Front.{Front}
-use Rattle.sk_lang.specs.declared.version.Version.{Version}
+use Rattle.sk_lines.specs.declared.Version.{Version}
 use Rattle.sk_lang.specs.declared.progress.Progress.{Progress}
 use Rattle.sk_lang.specs.declared.progress.Progress.TheVariants.{Before, Within, After}
-use Rattle.sk_lang.specs.Lines.{lines_in, EndsLine, IsFirstLine}
+use Rattle.sk_lines.specs.Lines.{lines_in, EndsLine, IsFirstLine}
 use Rattle.sk_lang.specs.Codes.{code_of}
-use Rattle.sk_lang.specs.Meaning.{progress_after}
+use Rattle.sk_lang.specs.Progress.{progress_after}
 use Rattle.sk_lang.specs.Reading.{is_blank_line, progress_along, HaveNoCode, HasFirstCode, has_ended, Reads, Refuses, Empty, AtLine, NoEnd}
 use Rattle.sk_lang.specs.Front.{has_ended_by, ReadsFront, RefusesFront}
-use Rattle.sk_lang.proofs.WholeLines.{lines_in-append}
+use Rattle.sk_lines.proofs.WholeLines.{lines_in-append}
 use Rattle.sk_lang.proofs.Answered.{all_blank, still_before, clean_at, no_true}
 
 -- so much was read, without a code, and the rest begins a line

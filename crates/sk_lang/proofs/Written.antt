@@ -5,8 +5,8 @@ use Rattle.std.proofs.lemmas.Bool.Decides.{nat_tests}
 use Rattle.std.proofs.lemmas.Int.{ints}
 use Rattle.sk_base.specs.Bounds.{IsWithin}
 use Rattle.sk_base.specs.Spelling.{magnitude, with_minus, fraction_text, whole_text, mm_text, spaced}
-use Rattle.sk_lang.proofs.LineWords.{extent, spaced_extent}
-use Rattle.sk_lang.proofs.SolidLines.{is_solid, AreSolid, solid_append, IsSpelled, decimal_spelled, AreSolidWords, solid, IsLineOf, fitting_line}
+use Rattle.sk_lines.proofs.LineWords.{extent, spaced_extent}
+use Rattle.sk_lines.proofs.SolidLines.{is_solid, AreSolid, solid_append, IsSpelled, decimal_spelled, AreSolidWords, solid, IsLineOf, fitting_line}
 
 -- a word of at most sixteen bytes
 abbrev pub IsWritten : List ℕ → Type 0

@@ -14,20 +14,22 @@ use Rattle.sk_base.specs.Labels.{is_name}
 use Rattle.sk_base.specs.SoundSketch.{IsSoundSketch, IsSoundShape, IsSoundRule}
 use Rattle.sk_base.proofs.Members.{contains_none, contains_head, contains_cases}
 use Rattle.sk_base.proofs.Pairs.{pairs_head, pairs_tail}
-use Rattle.sk_lang.specs.declared.version.Version.{Version}
-use Rattle.sk_lang.specs.declared.version.Version.TheVariants.{One, Two}
+use Rattle.sk_lines.specs.declared.Version.{Version}
+use Rattle.sk_lines.specs.declared.Version.TheVariants.{One, Two}
 use Rattle.sk_lang.specs.declared.progress.Progress.{Progress}
 use Rattle.sk_lang.specs.declared.progress.Progress.TheVariants.{Before, Within, After}
 use Rattle.sk_lang.specs.Blocks.{is_block, has_block}
-use Rattle.sk_lang.specs.Lines.{lines_in}
-use Rattle.sk_lang.specs.Codes.{code_of, is_none_left}
-use Rattle.sk_lang.specs.Meaning.{progress_after}
+use Rattle.sk_lines.specs.Lines.{lines_in, ended_lines}
+use Rattle.sk_lang.specs.Codes.{code_of}
+use Rattle.sk_lines.specs.EndLine.{is_none_left}
+use Rattle.sk_lang.specs.Progress.{progress_after}
 use Rattle.sk_lang.specs.Reading.{Reads, HaveNoCode, progress_along}
-use Rattle.sk_lang.specs.Canonical.{element_line, constraint_line, ended_lines, rule_words, header, text_under, canonical, canonical_2}
+use Rattle.sk_entry.specs.CanonicalLines.{element_line, constraint_line, rule_words}
+use Rattle.sk_lang.specs.Canonical.{header, text_under, canonical, canonical_2}
 use Rattle.sk_lang.specs.Renumbered.{elements_from, renumbered}
-use Rattle.sk_lang.proofs.ReadBack.{IsLine, lines_in-ended}
-use Rattle.sk_lang.proofs.Declaring.{first_of_two}
-use Rattle.sk_lang.proofs.SolidLines.{is_plain, plain_text}
+use Rattle.sk_lines.proofs.ReadBack.{IsLine, lines_in-ended}
+use Rattle.sk_entry.proofs.Declaring.{first_of_two}
+use Rattle.sk_lines.proofs.SolidLines.{is_plain, plain_text}
 use Rattle.sk_lang.proofs.Again.{elements_so_far, element_again, shape_written, shape_short, IsReadAgain, length_from}
 use Rattle.sk_lang.proofs.RulesAgain.{rules_so_far, IsRuleAgain, distance_again, on_again, tangent_again, outside_again, inside_again, angle_again}
 use Rattle.sk_lang.proofs.BlockAgain.{block_again}

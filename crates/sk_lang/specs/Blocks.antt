@@ -5,8 +5,8 @@ use Rattle.sk_base.specs.declared.Rule.{Rule}
 use Rattle.sk_base.specs.declared.Rule.TheVariants.{Block}
 use Rattle.sk_base.specs.declared.Constraint.{Constraint}
 use Rattle.sk_base.specs.declared.Sketch.{Sketch}
-use Rattle.sk_lang.specs.declared.version.Version.{Version}
-use Rattle.sk_lang.specs.declared.version.Version.TheVariants.{One, Two}
+use Rattle.sk_lines.specs.declared.Version.{Version}
+use Rattle.sk_lines.specs.declared.Version.TheVariants.{One, Two}
 
 abbrev pub is_block : Rule → Bool
 is_block (Block pins) = true

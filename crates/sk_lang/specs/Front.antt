@@ -1,13 +1,13 @@
 -- A text that is read up to the `end` of its sketch.
 use Rattle.std.specs.Prelude.{◌≡◌, ◌⊎◌, ◌≤◌, ◌+◌, ◌-◌, ℕ, ⊤, Bool, false, List, length, take}
-use Rattle.sk_lang.specs.declared.code.Code.{Code}
-use Rattle.sk_lang.specs.declared.code.ReadError.{ReadError}
-use Rattle.sk_lang.specs.declared.code.ReadError.TheVariants.{Refused, NoMemory}
+use Rattle.sk_lines.specs.declared.Code.{Code}
+use Rattle.sk_lines.specs.declared.ReadError.{ReadError}
+use Rattle.sk_lines.specs.declared.ReadError.TheVariants.{Refused, NoMemory}
 use Rattle.sk_lang.specs.declared.front.Front.{Front}
-use Rattle.sk_lang.specs.declared.code.Code.TheVariants.{E16, E18}
+use Rattle.sk_lines.specs.declared.Code.TheVariants.{E16, E18}
 use Rattle.sk_lang.specs.declared.progress.Progress.{Progress}
 use Rattle.sk_lang.specs.declared.progress.Progress.TheVariants.{Before}
-use Rattle.sk_lang.specs.Lines.{lines_in, EndsLine}
+use Rattle.sk_lines.specs.Lines.{lines_in, EndsLine}
 use Rattle.sk_lang.specs.Reading.{Reads, Refuses, has_ended, progress_along}
 
 -- whether the sketch has ended within the first lines

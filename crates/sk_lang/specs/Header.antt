@@ -1,10 +1,10 @@
 -- The header of a text, which names its version.
 use Rattle.std.specs.Prelude.{ℕ, List, [], ◌∷◌, Option, Some, None, codes, bytes_eq, if◌then◌else◌}
-use Rattle.sk_lang.specs.declared.version.Version.{Version}
-use Rattle.sk_lang.specs.declared.version.Version.TheVariants.{One, Two}
+use Rattle.sk_lines.specs.declared.Version.{Version}
+use Rattle.sk_lines.specs.declared.Version.TheVariants.{One, Two}
 use Rattle.sk_lang.specs.declared.progress.Progress.{Progress}
 use Rattle.sk_lang.specs.declared.progress.Progress.TheVariants.{Before, Within, After}
-use Rattle.sk_lang.specs.Comments.{words_under}
+use Rattle.sk_lines.specs.Comments.{words_under}
 
 abbrev pub version_of : List ℕ → Option Version
 version_of word =

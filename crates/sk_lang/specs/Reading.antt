@@ -3,17 +3,18 @@ use Rattle.std.specs.Prelude.{◌≡◌, ℕ, ◌+◌, ◌<◌, ◌≤◌, ⊤, 
 use Rattle.std.specs.List.{list_all}
 use Rattle.sk_base.specs.declared.Sketch.{Sketch}
 use Rattle.sk_lex.specs.Words.{is_too_long, has_wrong_byte, words_in}
-use Rattle.sk_lang.specs.declared.code.Code.{Code}
-use Rattle.sk_lang.specs.declared.code.ReadError.{ReadError}
-use Rattle.sk_lang.specs.declared.code.ReadError.TheVariants.{Refused, NoMemory}
-use Rattle.sk_lang.specs.declared.code.Code.TheVariants.{E16, E18, E20}
-use Rattle.sk_lang.specs.LineCodes.{along, HaveNone, HasFirst}
-use Rattle.sk_lang.specs.Lines.{lines_in}
-use Rattle.sk_lang.specs.declared.version.Version.{Version}
+use Rattle.sk_lines.specs.declared.Code.{Code}
+use Rattle.sk_lines.specs.declared.ReadError.{ReadError}
+use Rattle.sk_lines.specs.declared.ReadError.TheVariants.{Refused, NoMemory}
+use Rattle.sk_lines.specs.declared.Code.TheVariants.{E16, E18, E20}
+use Rattle.sk_lines.specs.LineCodes.{along, HaveNone, HasFirst}
+use Rattle.sk_lines.specs.Lines.{lines_in}
+use Rattle.sk_lines.specs.declared.Version.{Version}
 use Rattle.sk_lang.specs.declared.progress.Progress.{Progress}
 use Rattle.sk_lang.specs.declared.progress.Progress.TheVariants.{Before, After}
-use Rattle.sk_lang.specs.Codes.{code_of, is_none_left}
-use Rattle.sk_lang.specs.Meaning.{progress_after}
+use Rattle.sk_lang.specs.Codes.{code_of}
+use Rattle.sk_lines.specs.EndLine.{is_none_left}
+use Rattle.sk_lang.specs.Progress.{progress_after}
 
 -- a line without words; one with too many bytes or a wrong byte counts as having a word
 abbrev pub is_blank_line : List ℕ → Bool

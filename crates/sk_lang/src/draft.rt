@@ -1,11 +1,11 @@
 // A sketch that is being read. Beside it stands the list of its names, which finds a name by hash: the
 // name at a place is that of the element at the same place.
 ghost use Rattle.std.specs.Prelude.{◌≡◌, ◌++◌, [], ◌∷◌, None, IfOk};
-ghost use Rattle.sk_lang.specs.Named.{element_named};
+ghost use Rattle.sk_entry.specs.Named.{element_named};
 
-use crate::scope::Scope;
 use indexmap::IndexSet;
 use sk_base::{Constraint, Element, Label, List, NoMemory, Sketch};
+use sk_entry::Scope;
 use std::alloc::Global;
 use std::hash::{Hash, Hasher};
 use std::marker::Model;
@@ -68,7 +68,7 @@ impl Model for Draft {
 }
 
 impl Draft {
-    ghost use Rattle.sk_lang.specs.Meaning.{empty_sketch};
+    ghost use Rattle.sk_lang.specs.Progress.{empty_sketch};
 
     pub(crate) fn new(alloc: Global) -> Draft
         ensures { result ≡ empty_sketch }

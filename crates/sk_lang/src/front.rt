@@ -1,21 +1,18 @@
 ghost use Rattle.std.specs.Prelude.{◌≡◌, ◌+◌, ◌<◌, ◌≤◌, length, take, drop, None, Err, IfOk, IfErr};
 ghost use Rattle.sk_base.specs.SoundSketch.{IsSoundSketch};
-ghost use Rattle.sk_lang.specs.Lines.{lines_in};
+ghost use Rattle.sk_lines.specs.Lines.{lines_in};
 ghost use Rattle.sk_lang.specs.Codes.{code_of};
-ghost use Rattle.sk_lang.specs.Meaning.{progress_after, size_of};
-ghost use Rattle.sk_lang.specs.Entry.{IsRefusal};
+ghost use Rattle.sk_lang.specs.Progress.{progress_after, size_of};
+ghost use Rattle.sk_lines.specs.Refusals.{IsRefusal};
 ghost use Rattle.sk_lang.specs.declared.progress.Progress.TheVariants.{Before, After};
 ghost use Rattle.sk_lang.specs.Reading.{progress_along};
 ghost use Rattle.sk_lang.specs.Front.{without_end, ReadsFront, IsFrontRefusal};
 
-use crate::code::{Code, ReadError};
-use crate::entry::EntryError;
 use crate::header::{after_header, after_last};
-use crate::lines::split_line;
 use crate::progress::Progress;
-use crate::version::Version;
 use crate::within::after_entry;
 use sk_base::Sketch;
+use sk_lines::{Code, EntryError, ReadError, Version, split_line};
 use std::alloc::Global;
 
 /// The most bytes of a text.

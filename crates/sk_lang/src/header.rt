@@ -1,21 +1,18 @@
 ghost use Rattle.std.specs.Prelude.{◌≡◌, ◌+◌, ◌≤◌, ◌<◌, length, map, [], None, IfOk, IfErr};
 ghost use Rattle.sk_lex.specs.Words.{bytes_of, StandInOrder};
-ghost use Rattle.sk_lang.specs.Comments.{words_under};
+ghost use Rattle.sk_lines.specs.Comments.{words_under};
 ghost use Rattle.sk_lang.specs.Header.{version_in, version_of};
 ghost use Rattle.sk_lang.specs.declared.progress.Progress.TheVariants.{Before, After};
 ghost use Rattle.sk_base.specs.declared.Sketch.{Sketch};
 ghost use Rattle.sk_lang.specs.Codes.{code_of};
-ghost use Rattle.sk_lang.specs.Meaning.{progress_after, size_of};
-ghost use Rattle.sk_lang.specs.Entry.{IsRefusal};
+ghost use Rattle.sk_lang.specs.Progress.{progress_after, size_of};
+ghost use Rattle.sk_lines.specs.Refusals.{IsRefusal};
 
-use crate::code::Code;
 use crate::draft::Draft;
-use crate::entry::EntryError;
-use crate::lines::{is_word, split_words, word, words_under};
 use crate::progress::Progress;
-use crate::version::Version;
 use sk_base::Sketch;
 use sk_lex::Word;
+use sk_lines::{Code, EntryError, Version, is_word, split_words, word, words_under};
 use std::alloc::Global;
 
 /// How far the text has been read behind a line before which no line has a word.

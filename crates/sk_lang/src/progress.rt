@@ -1,6 +1,6 @@
 use crate::draft::Draft;
-use crate::version::Version;
 use sk_base::Sketch;
+use sk_lines::Version;
 
 /// How far a text has been read: not yet to its header, within a sketch so far,
 /// or past its end.

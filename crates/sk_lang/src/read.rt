@@ -2,14 +2,13 @@ ghost use Rattle.std.specs.Prelude.{◌≡◌, ◌<◌, ◌≤◌, length, take,
 ghost use Rattle.sk_base.specs.SoundSketch.{IsSoundSketch};
 ghost use Rattle.sk_lang.specs.Front.{ReadsFront};
 ghost use Rattle.sk_lang.specs.declared.progress.Progress.TheVariants.{Before, After};
-ghost use Rattle.sk_lang.specs.Lines.{lines_in};
+ghost use Rattle.sk_lines.specs.Lines.{lines_in};
 ghost use Rattle.sk_lang.specs.Reading.{progress_along, Reads, IsRefusalOf};
 
-use crate::code::ReadError;
 use crate::front::{Opened, read_front};
 use crate::header::behind_end;
-use crate::lines::split_line;
 use sk_base::Sketch;
+use sk_lines::{ReadError, split_line};
 use std::alloc::Global;
 
 /// The sketch that the text is read as: all bytes are read, and only blank lines follow its `end`.

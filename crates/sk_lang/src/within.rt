@@ -2,20 +2,16 @@ ghost use Rattle.std.specs.Prelude.{◌≡◌, ◌+◌, ◌≤◌, ◌<◌, leng
 ghost use Rattle.sk_lex.specs.Words.{StandInOrder, bytes_of};
 ghost use Rattle.sk_lang.specs.declared.progress.Progress.TheVariants.{Within, After};
 ghost use Rattle.sk_lang.specs.Codes.{code_of, other_rows};
-ghost use Rattle.sk_lang.specs.FirstCode.{first_code};
-ghost use Rattle.sk_lang.specs.Meaning.{progress_after, size_of};
-ghost use Rattle.sk_lang.specs.Entry.{IsRefusal};
+ghost use Rattle.sk_lines.specs.FirstCode.{first_code};
+ghost use Rattle.sk_lang.specs.Progress.{progress_after, size_of};
+ghost use Rattle.sk_lines.specs.Refusals.{IsRefusal};
 
-use crate::code::Code;
 use crate::draft::Draft;
-use crate::entry::{Entry, EntryError};
-use crate::line::entry_in;
-use crate::lines::{is_word, word};
 use crate::progress::Progress;
-use crate::scope::Scope;
-use crate::version::Version;
 use sk_base::{ConId, Elem, Sketch};
+use sk_entry::{Entry, Scope, entry_in};
 use sk_lex::Word;
+use sk_lines::{Code, EntryError, Version, is_word, word};
 use std::alloc::Global;
 
 /// How far the text has been read behind a line within the sketch.

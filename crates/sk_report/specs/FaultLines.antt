@@ -15,7 +15,7 @@ use Rattle.sk_residual.specs.declared.Beyond.{Beyond}
 use Rattle.sk_residual.specs.declared.Spotted.{Spotted}
 use Rattle.sk_residual.specs.declared.Turned.{Turned}
 use Rattle.sk_text.specs.ClusterName.{cluster_name}
-use Rattle.sk_lang.specs.NumberedConstraint.{constraint_of}
+use Rattle.sk_entry.specs.NumberedConstraint.{constraint_of}
 use Rattle.sk_report.specs.PlanReport.{sign_text}
 use Rattle.sk_report.specs.SolveReport.{numbers_text, spotted_words}
 

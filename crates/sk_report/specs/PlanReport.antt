@@ -6,7 +6,7 @@ use Rattle.sk_base.specs.declared.ConId.{ConId}
 use Rattle.sk_base.specs.declared.Sign.{Sign}
 use Rattle.sk_base.specs.declared.Sign.TheVariants.{Plus, Minus}
 use Rattle.sk_base.specs.declared.Sketch.{Sketch}
-use Rattle.sk_lang.specs.NumberedConstraint.{constraint_words}
+use Rattle.sk_entry.specs.NumberedConstraint.{constraint_words}
 use Rattle.sk_tree.specs.declared.Choice.{Choice}
 use Rattle.sk_tree.specs.declared.Choice.TheVariants.{Turn, Advance, Nothing}
 use Rattle.sk_tree.specs.declared.PlanStep.{PlanStep}

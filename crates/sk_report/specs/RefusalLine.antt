@@ -1,8 +1,8 @@
 -- The refusal of a line.
 use Rattle.std.specs.Prelude.{ℕ, List, ◌++◌, codes}
 use Rattle.std.specs.Fmt.{decimal}
-use Rattle.sk_lang.specs.declared.Refusal.{Refusal}
-use Rattle.sk_lang.specs.CodeTexts.{code_text, code_word}
+use Rattle.sk_lines.specs.declared.Refusal.{Refusal}
+use Rattle.sk_lines.specs.CodeTexts.{code_text, code_word}
 
 abbrev pub refusal_line : Refusal → List ℕ
 refusal_line r =

@@ -4,9 +4,9 @@ use Rattle.std.specs.Fmt.{decimal}
 use Rattle.sk_base.specs.declared.ConId.{ConId}
 use Rattle.sk_base.specs.declared.Elem.{Elem}
 use Rattle.sk_base.specs.declared.Sketch.{Sketch}
-use Rattle.sk_lang.specs.declared.Code.{Code}
+use Rattle.sk_lines.specs.declared.Code.{Code}
 use Rattle.sk_base.specs.ElementNames.{name_of}
-use Rattle.sk_lang.specs.CodeTexts.{code_text, code_word}
+use Rattle.sk_lines.specs.CodeTexts.{code_text, code_word}
 
 -- to a change or an undo
 abbrev pub done_line : List ℕ

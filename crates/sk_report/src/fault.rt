@@ -5,8 +5,8 @@ ghost use Rattle.sk_report.specs.PlanReport.{sign_text};
 
 use crate::solve::{put_number, put_spotted};
 use sk_base::{NoMemory, Rule, Sign, Sketch, Text};
+use sk_entry::constraint_of;
 use sk_interval::Cause;
-use sk_lang::constraint_of;
 use sk_place::{BoxFault, Phase, StepFault};
 use sk_residual::{Beyond, Spotted, Turned};
 use sk_text::{cluster_name, put_name};

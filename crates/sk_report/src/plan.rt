@@ -4,7 +4,7 @@ ghost use Rattle.std.specs.List.{flat_map};
 ghost use Rattle.sk_report.specs.PlanReport.{leaf_line, choice_words, joins_words, keeps_words, step_line, plan_counts, plan_report};
 
 use sk_base::{ConId, NoMemory, Sign, Sketch, Text};
-use sk_lang::put_constraint_words;
+use sk_entry::put_constraint_words;
 use sk_text::{cluster_name, put_names};
 use sk_tree::{Choice, Plan, PlanStep};
 use std::alloc::Global;

@@ -3,7 +3,7 @@ ghost use Rattle.std.specs.Prelude.{◌≡◌, IfOk};
 ghost use Rattle.sk_report.specs.RefusalLine.{refusal_line};
 
 use sk_base::{NoMemory, Text};
-use sk_lang::Refusal;
+use sk_lines::Refusal;
 use std::alloc::Global;
 
 /// The one line that says which line is refused, and why.

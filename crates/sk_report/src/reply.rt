@@ -3,7 +3,7 @@ ghost use Rattle.std.specs.Prelude.{◌≡◌, IfOk};
 ghost use Rattle.sk_report.specs.ReplyLines.{done_line, declared_line, constrained_line, refused_line};
 
 use sk_base::{ConId, Elem, NoMemory, Sketch, Text};
-use sk_lang::Code;
+use sk_lines::Code;
 use sk_text::put_name;
 use std::alloc::Global;
 

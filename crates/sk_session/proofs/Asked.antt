@@ -5,16 +5,17 @@ use Rattle.sk_base.specs.declared.ConId.{ConId}
 use Rattle.sk_base.specs.declared.Elem.{Elem}
 use Rattle.sk_base.specs.declared.Sketch.{Sketch}
 use Rattle.sk_graph.specs.SketchGraph.{graph_of}
-use Rattle.sk_lang.specs.declared.Version.TheVariants.{Two}
-use Rattle.sk_lang.specs.Comments.{words_under}
-use Rattle.sk_lang.specs.declared.Code.{Code}
-use Rattle.sk_lang.specs.declared.Code.TheVariants.{E3, E18}
-use Rattle.sk_lang.specs.declared.Entry.{Entry}
-use Rattle.sk_lang.specs.declared.Entry.TheVariants as entry
-use Rattle.sk_lang.specs.Codes.{byte_rows, is_none_left}
-use Rattle.sk_lang.specs.Entry.{rows_of, IsEntryOf}
-use Rattle.sk_lang.specs.FirstCode.{first_code}
-use Rattle.sk_lang.specs.Keywords.{keyword_of}
+use Rattle.sk_lines.specs.declared.Version.TheVariants.{Two}
+use Rattle.sk_lines.specs.Comments.{words_under}
+use Rattle.sk_lines.specs.declared.Code.{Code}
+use Rattle.sk_lines.specs.declared.Code.TheVariants.{E3, E18}
+use Rattle.sk_entry.specs.declared.Entry.{Entry}
+use Rattle.sk_entry.specs.declared.Entry.TheVariants as entry
+use Rattle.sk_lines.specs.ByteCodes.{byte_rows}
+use Rattle.sk_lines.specs.EndLine.{is_none_left}
+use Rattle.sk_entry.specs.Entry.{rows_of, IsEntryOf}
+use Rattle.sk_lines.specs.FirstCode.{first_code}
+use Rattle.sk_lines.specs.Keywords.{keyword_of}
 use Rattle.sk_lex.specs.declared.Words.{Words}
 use Rattle.sk_plan.specs.Judged.{IsTheJudgement}
 use Rattle.sk_verdict.specs.declared.Verdict.TheVariants.{Well}
@@ -29,7 +30,7 @@ use Rattle.sk_session.specs.Commands.{command_of, command_rows, own_rows, word_r
 use Rattle.sk_session.specs.Edits.{sketch_of}
 use Rattle.sk_session.specs.State.{State, sketch_in}
 use Rattle.sk_session.specs.Replies.{IsThePlan, Only, Stands, Obeys, ObeysWords, Enters, ByCode, Answers, next_elem, next_con}
-use Rattle.sk_lang.proofs.FirstCodes.{none_behind}
+use Rattle.sk_lines.proofs.FirstCodes.{none_behind}
 use Rattle.sk_session.proofs.ToSolve.{some_left}
 
 -- a line that says neither an element nor a constraint, and isn't blank, begins with another word than those lines do

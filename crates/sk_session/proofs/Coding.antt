@@ -1,16 +1,16 @@
 -- First codes of tables one behind the other, and answers by them.
 use Rattle.std.proofs.Common.{◌≡◌, ℕ, Bool, true, false, List, [], ◌∷◌, ◌++◌, Option, Some, None, refl, ap, sym, subst, ◌∙◌}
-use Rattle.sk_lang.specs.declared.Version.TheVariants.{Two}
-use Rattle.sk_lang.specs.Comments.{words_under}
-use Rattle.sk_lang.specs.declared.Code.{Code}
-use Rattle.sk_lang.specs.declared.Code.TheVariants.{S5}
+use Rattle.sk_lines.specs.declared.Version.TheVariants.{Two}
+use Rattle.sk_lines.specs.Comments.{words_under}
+use Rattle.sk_lines.specs.declared.Code.{Code}
+use Rattle.sk_lines.specs.declared.Code.TheVariants.{S5}
 use Rattle.sk_lex.specs.declared.Words.{Words}
-use Rattle.sk_lang.specs.declared.Entry.{Entry}
-use Rattle.sk_lang.specs.declared.Entry.TheVariants as entry
-use Rattle.sk_lang.specs.Codes.{byte_rows}
-use Rattle.sk_lang.specs.Entry.{rows_of, entry_code, IsEntryOf, Begins}
-use Rattle.sk_lang.specs.FirstCode.{first_code}
-use Rattle.sk_lang.proofs.FirstCodes.{code_front, code_behind}
+use Rattle.sk_entry.specs.declared.Entry.{Entry}
+use Rattle.sk_entry.specs.declared.Entry.TheVariants as entry
+use Rattle.sk_lines.specs.ByteCodes.{byte_rows}
+use Rattle.sk_entry.specs.Entry.{rows_of, entry_code, IsEntryOf, Begins}
+use Rattle.sk_lines.specs.FirstCode.{first_code}
+use Rattle.sk_lines.proofs.FirstCodes.{code_front, code_behind}
 use Rattle.sk_session.specs.declared.edit.Edit.{Edit}
 use Rattle.sk_session.specs.declared.reply.Reply.{Reply}
 use Rattle.sk_session.specs.declared.reply.Reply.TheVariants as reply

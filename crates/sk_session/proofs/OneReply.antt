@@ -12,15 +12,15 @@ use Rattle.sk_base.specs.SoundSketch.{IsSoundSketch}
 use Rattle.sk_family.specs.Body.{Body, SameBodies}
 use Rattle.sk_family.specs.Clusters.{Clusters, initial_clusters}
 use Rattle.sk_rules.specs.declared.Merge.{Merge}
-use Rattle.sk_lang.specs.declared.Version.TheVariants.{Two}
-use Rattle.sk_lang.specs.Comments.{words_under}
-use Rattle.sk_lang.specs.declared.Code.{Code}
-use Rattle.sk_lang.specs.declared.Entry.{Entry}
-use Rattle.sk_lang.specs.declared.Entry.TheVariants as entry
-use Rattle.sk_lang.specs.Codes.{byte_rows}
-use Rattle.sk_lang.specs.Entry.{rows_of, IsOther, IsEntryOf}
-use Rattle.sk_lang.specs.FirstCode.{first_code}
-use Rattle.sk_lang.specs.Keywords.{keyword_of}
+use Rattle.sk_lines.specs.declared.Version.TheVariants.{Two}
+use Rattle.sk_lines.specs.Comments.{words_under}
+use Rattle.sk_lines.specs.declared.Code.{Code}
+use Rattle.sk_entry.specs.declared.Entry.{Entry}
+use Rattle.sk_entry.specs.declared.Entry.TheVariants as entry
+use Rattle.sk_lines.specs.ByteCodes.{byte_rows}
+use Rattle.sk_entry.specs.Entry.{rows_of, IsOther, IsEntryOf}
+use Rattle.sk_lines.specs.FirstCode.{first_code}
+use Rattle.sk_lines.specs.Keywords.{keyword_of}
 use Rattle.sk_graph.specs.SketchGraph.{graph_of}
 use Rattle.sk_graph.proofs.Soundness.{graph_is_sound}
 use Rattle.sk_worklist.specs.declared.Order.{Order}

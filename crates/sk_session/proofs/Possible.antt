@@ -17,12 +17,11 @@ use Rattle.sk_base.specs.Numbering.{con_exact, is_elem}
 use Rattle.sk_base.specs.SoundSketch.{IsSoundSketch, IsSoundRule, IsLength, IsSoundRatio}
 use Rattle.sk_base.proofs.Finding.{found_in}
 use Rattle.sk_base.proofs.Members.{contains_none, contains_cases}
-use Rattle.sk_lang.specs.declared.Code.{Code}
-use Rattle.sk_lang.specs.declared.Code.TheVariants.{E4, E6, E8, E9, S1, S2}
-use Rattle.sk_lang.specs.Conditions.{is_zero}
-use Rattle.sk_lang.specs.FirstCode.{first_code}
-use Rattle.sk_lang.specs.Named.{element_named, number_named}
-use Rattle.sk_lang.specs.Quantities.{length_of, ratio_of, um, ratio}
+use Rattle.sk_lines.specs.declared.Code.{Code}
+use Rattle.sk_lines.specs.declared.Code.TheVariants.{E4, E6, E8, E9, S1, S2}
+use Rattle.sk_lines.specs.Quantities.{is_zero, length_of, ratio_of, um, ratio}
+use Rattle.sk_lines.specs.FirstCode.{first_code}
+use Rattle.sk_entry.specs.Named.{element_named, number_named}
 use Rattle.sk_base.proofs.Tables.{passed}
 use Rattle.sk_base.proofs.Numbers.{found_elem}
 use Rattle.sk_graph.specs.Naming.{named_by}

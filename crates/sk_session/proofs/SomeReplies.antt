@@ -19,16 +19,17 @@ use Rattle.sk_family.specs.Clusters.{Clusters, bodies, IsSound}
 use Rattle.sk_family.proofs.Soundness.{sound_replaced}
 use Rattle.sk_graph.specs.SketchGraph.{graph_of}
 use Rattle.sk_graph.proofs.Soundness.{graph_is_sound}
-use Rattle.sk_lang.specs.declared.Version.TheVariants.{Two}
-use Rattle.sk_lang.specs.Comments.{words_under}
-use Rattle.sk_lang.specs.declared.Code.{Code}
-use Rattle.sk_lang.specs.declared.Code.TheVariants.{E3, E18, S3, S5}
-use Rattle.sk_lang.specs.declared.Entry.{Entry}
-use Rattle.sk_lang.specs.declared.Entry.TheVariants as entry
-use Rattle.sk_lang.specs.Codes.{byte_rows, is_none_left}
-use Rattle.sk_lang.specs.Entry.{rows_of, entry_code, IsEntryOf, Begins, StandsOn, IsNumbered}
-use Rattle.sk_lang.specs.FirstCode.{first_code}
-use Rattle.sk_lang.specs.Meaning.{added}
+use Rattle.sk_lines.specs.declared.Version.TheVariants.{Two}
+use Rattle.sk_lines.specs.Comments.{words_under}
+use Rattle.sk_lines.specs.declared.Code.{Code}
+use Rattle.sk_lines.specs.declared.Code.TheVariants.{E3, E18, S3, S5}
+use Rattle.sk_entry.specs.declared.Entry.{Entry}
+use Rattle.sk_entry.specs.declared.Entry.TheVariants as entry
+use Rattle.sk_lines.specs.ByteCodes.{byte_rows}
+use Rattle.sk_lines.specs.EndLine.{is_none_left}
+use Rattle.sk_entry.specs.Entry.{rows_of, entry_code, IsEntryOf, Begins, StandsOn, IsNumbered}
+use Rattle.sk_lines.specs.FirstCode.{first_code}
+use Rattle.sk_entry.specs.Meaning.{added}
 use Rattle.sk_rules.specs.declared.Merge.{Merge}
 use Rattle.sk_rules.specs.Merges.{names_of, merged}
 use Rattle.sk_rules.specs.Reach.{Reach, IsNormal, stays, goes}
@@ -56,8 +57,8 @@ use Rattle.sk_session.specs.declared.reply.Reply.{Reply}
 use Rattle.sk_session.specs.declared.reply.Reply.TheVariants as reply
 use Rattle.sk_base.specs.declared.Rule.{Rule}
 use Rattle.sk_base.specs.declared.Rule.TheVariants as rule
-use Rattle.sk_lang.specs.Named.{number_named}
-use Rattle.sk_lang.specs.Quantities.{um, ratio}
+use Rattle.sk_entry.specs.Named.{number_named}
+use Rattle.sk_lines.specs.Quantities.{um, ratio}
 use Rattle.sk_session.specs.declared.command.Change.TheVariants.{Drop, Set, Erase}
 use Rattle.sk_session.specs.Commands.{id_of, rule_with, setting, command_of, edit_made, change_rows, command_rows, word_rows, code_in, is_spent}
 use Rattle.sk_session.specs.Edits.{empty, applied, sketch_of, next_element, next_constraint}
@@ -65,7 +66,7 @@ use Rattle.sk_session.specs.Making.{CanMake}
 use Rattle.sk_session.specs.Standing.{edits_of, Gives, IsConsistent, element_after, element_before}
 use Rattle.sk_session.specs.State.{State, sketch_in, graph_in, fresh, Accepts, TakesBack, EndsBy, Closes}
 use Rattle.sk_session.specs.Replies.{IsThePlan, Stands, Takes, Obeys, Enters, ByCode, Answers, next_elem, next_con}
-use Rattle.sk_lang.proofs.FirstCodes.{code_front, code_behind}
+use Rattle.sk_lines.proofs.FirstCodes.{code_front, code_behind}
 use Rattle.sk_session.proofs.Coding.{answers_entry, answers_command, answers_refused}
 use Rattle.sk_session.proofs.Consistency.{edits_push, consistent_made, consistent_undone, consistent_merged, last_led}
 use Rattle.sk_session.proofs.Numbers.{elements_below, constraints_below}

@@ -4,16 +4,17 @@ use Rattle.sk_base.specs.declared.ConId.{ConId}
 use Rattle.sk_base.specs.declared.Elem.{Elem}
 use Rattle.sk_base.specs.declared.Element.{Element}
 use Rattle.sk_base.specs.declared.Sketch.{Sketch}
-use Rattle.sk_lang.specs.declared.Version.TheVariants.{Two}
-use Rattle.sk_lang.specs.Comments.{words_under}
-use Rattle.sk_lang.specs.declared.Code.{Code}
-use Rattle.sk_lang.specs.declared.Code.TheVariants.{E18}
-use Rattle.sk_lang.specs.declared.Entry.{Entry}
-use Rattle.sk_lang.specs.declared.Entry.TheVariants as entry
-use Rattle.sk_lang.specs.Codes.{byte_rows, is_none_left}
-use Rattle.sk_lang.specs.Entry.{rows_of, IsEntryOf, StandsOn}
-use Rattle.sk_lang.specs.FirstCode.{first_code}
-use Rattle.sk_lang.proofs.FirstCodes.{none_behind}
+use Rattle.sk_lines.specs.declared.Version.TheVariants.{Two}
+use Rattle.sk_lines.specs.Comments.{words_under}
+use Rattle.sk_lines.specs.declared.Code.{Code}
+use Rattle.sk_lines.specs.declared.Code.TheVariants.{E18}
+use Rattle.sk_entry.specs.declared.Entry.{Entry}
+use Rattle.sk_entry.specs.declared.Entry.TheVariants as entry
+use Rattle.sk_lines.specs.ByteCodes.{byte_rows}
+use Rattle.sk_lines.specs.EndLine.{is_none_left}
+use Rattle.sk_entry.specs.Entry.{rows_of, IsEntryOf, StandsOn}
+use Rattle.sk_lines.specs.FirstCode.{first_code}
+use Rattle.sk_lines.proofs.FirstCodes.{none_behind}
 use Rattle.sk_session.specs.declared.command.Command.{Command}
 use Rattle.sk_session.specs.declared.command.Command.TheVariants.{Change, Undo, Check, Plan, Solve, Write, End}
 use Rattle.sk_session.specs.declared.edit.Edit.{Edit}

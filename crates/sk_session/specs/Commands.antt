@@ -9,18 +9,18 @@ use Rattle.sk_base.specs.declared.Rule.{Rule}
 use Rattle.sk_base.specs.declared.Rule.TheVariants as rule
 use Rattle.sk_base.specs.declared.Sketch.{Sketch}
 use Rattle.sk_base.specs.Labels.{is_name}
-use Rattle.sk_lang.specs.declared.Version.TheVariants.{Two}
-use Rattle.sk_lang.specs.Comments.{words_under}
-use Rattle.sk_lang.specs.declared.Code.{Code}
-use Rattle.sk_lang.specs.declared.Code.TheVariants.{E2, E3, E4, E6, E8, E9, E18, S1, S2, S3, S4, S5}
-use Rattle.sk_lang.specs.ClusterWords.{plain_number}
-use Rattle.sk_lang.specs.Codes.{byte_rows, is_none_left}
-use Rattle.sk_lang.specs.Entry.{rows_of}
-use Rattle.sk_lang.specs.Conditions.{is_zero}
-use Rattle.sk_lang.specs.FirstCode.{first_code}
-use Rattle.sk_lang.specs.Keywords.{keyword_of}
-use Rattle.sk_lang.specs.Named.{element_named, number_named}
-use Rattle.sk_lang.specs.Quantities.{length_of, ratio_of, um, ratio}
+use Rattle.sk_lines.specs.declared.Version.TheVariants.{Two}
+use Rattle.sk_lines.specs.Comments.{words_under}
+use Rattle.sk_lines.specs.declared.Code.{Code}
+use Rattle.sk_lines.specs.declared.Code.TheVariants.{E2, E3, E4, E6, E8, E9, E18, S1, S2, S3, S4, S5}
+use Rattle.sk_lines.specs.ClusterWords.{plain_number}
+use Rattle.sk_lines.specs.ByteCodes.{byte_rows}
+use Rattle.sk_lines.specs.EndLine.{is_none_left}
+use Rattle.sk_entry.specs.Entry.{rows_of}
+use Rattle.sk_lines.specs.Quantities.{is_zero, length_of, ratio_of, um, ratio}
+use Rattle.sk_lines.specs.FirstCode.{first_code}
+use Rattle.sk_lines.specs.Keywords.{keyword_of}
+use Rattle.sk_entry.specs.Named.{element_named, number_named}
 use Rattle.sk_base.specs.Numbering.{is_elem}
 use Rattle.sk_graph.specs.Naming.{named_by}
 use Rattle.sk_session.specs.declared.command.Command.{Command}

@@ -2,13 +2,13 @@
 use Rattle.std.specs.Prelude.{◌≡◌, ◌≢◌, ◌⊎◌, ℕ, Bool, true, false, All, List, [], ◌∷◌, map, Option, Some, None}
 use Rattle.sk_base.specs.declared.Elem.{Elem}
 use Rattle.sk_base.specs.declared.ConId.{ConId}
-use Rattle.sk_lang.specs.declared.Version.TheVariants.{Two}
-use Rattle.sk_lang.specs.Comments.{words_under}
-use Rattle.sk_lang.specs.declared.Code.{Code}
-use Rattle.sk_lang.specs.declared.Code.TheVariants.{S5}
-use Rattle.sk_lang.specs.declared.Entry.{Entry}
-use Rattle.sk_lang.specs.declared.Entry.TheVariants as entry
-use Rattle.sk_lang.specs.Entry.{IsEntryOf}
+use Rattle.sk_lines.specs.declared.Version.TheVariants.{Two}
+use Rattle.sk_lines.specs.Comments.{words_under}
+use Rattle.sk_lines.specs.declared.Code.{Code}
+use Rattle.sk_lines.specs.declared.Code.TheVariants.{S5}
+use Rattle.sk_entry.specs.declared.Entry.{Entry}
+use Rattle.sk_entry.specs.declared.Entry.TheVariants as entry
+use Rattle.sk_entry.specs.Entry.{IsEntryOf}
 use Rattle.sk_base.specs.declared.Sketch.{Sketch}
 use Rattle.sk_family.specs.Clusters.{Clusters, initial_clusters}
 use Rattle.sk_graph.specs.SketchGraph.{graph_of}

@@ -1,7 +1,7 @@
 ghost use Rattle.std.specs.Prelude.{◌≡◌};
 ghost use Rattle.sk_session.specs.Commands.{command_of};
 
-use sk_lang::is_word;
+use sk_lines::is_word;
 
 /// What a line asks of a session that neither declares an element nor adds a constraint.
 #[derive(Clone, Copy, Debug, PartialEq, Eq)]

@@ -1,6 +1,6 @@
 // Laws of edits and of replies.
 ghost use Rattle.std.specs.Prelude.{◌≡◌, ◌<◌, ◌↔◌, ℕ, List, Some, length, map};
-ghost use Rattle.sk_lang.specs.declared.Code.{Code};
+ghost use Rattle.sk_lines.specs.declared.Code.{Code};
 ghost use Rattle.sk_session.specs.declared.reply.Reply.{Reply as AReply};
 ghost use Rattle.sk_session.specs.declared.reply.Reply.TheVariants as a_reply;
 ghost use Rattle.sk_session.specs.Commands.{code_in};
@@ -22,7 +22,7 @@ ghost use Rattle.sk_session.specs.Edits.{applied};
 ghost use Rattle.sk_plan.specs.ConstraintStarts.{constraint_start};
 ghost use Rattle.sk_session.specs.Making.{CanMake, IsUnused, Follows, FollowsBack};
 
-use sk_lang::{one_entry, what_a_line_says};
+use sk_entry::{one_entry, what_a_line_says};
 use sk_plan::one_plan;
 use sk_verdict::one_judgement;
 use sk_worklist::{Chosen, one_run};

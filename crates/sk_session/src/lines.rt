@@ -3,13 +3,13 @@ ghost use Rattle.std.specs.Prelude.{◌≡◌, ◌⊎◌, ◌<◌, [], ◌∷◌
 ghost use Rattle.std.specs.List.{slice_index_or};
 ghost use Rattle.sk_base.specs.SoundSketch.{IsSoundSketch};
 ghost use Rattle.sk_lex.specs.Words.{bytes_of, StandInOrder};
-ghost use Rattle.sk_lang.specs.declared.Version.TheVariants.{Two};
-ghost use Rattle.sk_lang.specs.Comments.{words_under};
-ghost use Rattle.sk_lang.specs.Entry.{entry_code, IsEntryOf, StandsOn, IsNumbered};
-ghost use Rattle.sk_lang.specs.Meaning.{added};
-ghost use Rattle.sk_lang.specs.FirstCode.{first_code};
-ghost use Rattle.sk_lang.specs.declared.EntryError.TheVariants as an_error;
-ghost use Rattle.sk_lang.specs.declared.Code.{Code as ACode};
+ghost use Rattle.sk_lines.specs.declared.Version.TheVariants.{Two};
+ghost use Rattle.sk_lines.specs.Comments.{words_under};
+ghost use Rattle.sk_entry.specs.Entry.{entry_code, IsEntryOf, StandsOn, IsNumbered};
+ghost use Rattle.sk_entry.specs.Meaning.{added};
+ghost use Rattle.sk_lines.specs.FirstCode.{first_code};
+ghost use Rattle.sk_lines.specs.declared.EntryError.TheVariants as an_error;
+ghost use Rattle.sk_lines.specs.declared.Code.{Code as ACode};
 ghost use Rattle.sk_session.specs.declared.edit.Edit.TheVariants as an_edit;
 ghost use Rattle.sk_session.specs.declared.reply.Reply.TheVariants as a_reply;
 ghost use Rattle.sk_session.specs.Commands.{command_of, command_rows, is_spent};
@@ -18,8 +18,8 @@ ghost use Rattle.sk_session.specs.Making.{CanMake};
 ghost use Rattle.sk_session.specs.Standing.{Gives};
 ghost use Rattle.sk_session.specs.State.{sketch_in, TakesBack, IsHeldUp};
 ghost use Rattle.sk_session.specs.declared.command.Command.TheVariants as a_command;
-ghost use Rattle.sk_lang.specs.Codes.{is_none_left};
-ghost use Rattle.sk_lang.specs.declared.Code.TheVariants.{E2, E3, E18, S3, S5};
+ghost use Rattle.sk_lines.specs.EndLine.{is_none_left};
+ghost use Rattle.sk_lines.specs.declared.Code.TheVariants.{E2, E3, E18, S3, S5};
 ghost use Rattle.sk_session.specs.Replies.{Takes, Only, Checks, Plans, ByCode, Answers, Obeys, next_elem, next_con, IsHalted};
 
 use crate::command::{Change, Command, command_of};
@@ -28,8 +28,9 @@ use crate::reading::read_change;
 use crate::reply::Reply;
 use crate::session::Session;
 use sk_base::{ConId, Constraint, Elem, Element, NoMemory};
-use sk_lang::{Code, Entry, EntryError, Version, read_entry, word};
+use sk_entry::{Entry, read_entry};
 use sk_lex::Word;
+use sk_lines::{Code, EntryError, Version, word};
 
 /// The most edits and undos that a session accepts.
 const MOST_EDITS: u32 = 1_000_000;

@@ -2,12 +2,11 @@
 ghost use Rattle.std.specs.Prelude.{◌≡◌, ◌==◌, ◌<◌, [], ◌∷◌, length, map, drop, Some, None, Ok, Err, is_none, MatchResult, IfOk, option_copied};
 ghost use Rattle.sk_base.specs.Rising.{IsRising};
 ghost use Rattle.sk_lex.specs.Words.{bytes_of, StandInOrder};
-ghost use Rattle.sk_lang.specs.FirstCode.{first_code};
+ghost use Rattle.sk_lines.specs.FirstCode.{first_code};
 ghost use Rattle.std.specs.Option.{option_map};
 ghost use Rattle.std.specs.List.{list_any};
-ghost use Rattle.sk_lang.specs.Conditions.{is_zero};
-ghost use Rattle.sk_lang.specs.Quantities.{length_of, ratio_of, um, ratio};
-ghost use Rattle.sk_lang.specs.declared.Code.TheVariants.{E8, E9, S1, S2};
+ghost use Rattle.sk_lines.specs.Quantities.{is_zero, length_of, ratio_of, um, ratio};
+ghost use Rattle.sk_lines.specs.declared.Code.TheVariants.{E8, E9, S1, S2};
 ghost use Rattle.sk_session.specs.declared.edit.Edit.TheVariants as an_edit;
 ghost use Rattle.sk_session.specs.declared.command.Change.TheVariants as a_change;
 ghost use Rattle.sk_base.specs.declared.Pin.{Pin as APin};
@@ -21,8 +20,9 @@ use crate::command::Change;
 use crate::edit::Edit;
 use crate::numbered::item_of;
 use sk_base::{ConId, Constraint, Elem, Pin, Rule, Sketch};
-use sk_lang::{Code, element_named, label, length, not_zero, plain_number, slope, word};
+use sk_entry::{element_named, label, length, not_zero};
 use sk_lex::Word;
+use sk_lines::{Code, plain_number, slope, word};
 
 /// The number that a word is.
 fn number_of(word: &[u8]) -> Result<ConId, Code>

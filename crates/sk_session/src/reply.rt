@@ -1,5 +1,5 @@
 use sk_base::{ConId, Elem};
-use sk_lang::Code;
+use sk_lines::Code;
 use sk_tree::Plan;
 use sk_verdict::Judgement;
 

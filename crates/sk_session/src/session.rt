@@ -7,7 +7,7 @@ ghost use Rattle.sk_family.specs.Clusters.{initial_clusters};
 ghost use Rattle.sk_graph.specs.SketchGraph.{graph_of};
 ghost use Rattle.sk_session.specs.Edits.{empty, next_element, next_constraint};
 ghost use Rattle.sk_base.specs.SoundSketch.{IsSoundSketch};
-ghost use Rattle.sk_lang.specs.Codes.{is_none_left};
+ghost use Rattle.sk_lines.specs.EndLine.{is_none_left};
 ghost use Rattle.sk_session.specs.Making.{CanMake, IsReachedIn};
 ghost use Rattle.sk_session.specs.Standing.{Gives, element_after, constraint_after, element_before, constraint_before};
 ghost use Rattle.sk_session.specs.State.{sketch_in, Accepts, TakesBack, IsHeldUp};

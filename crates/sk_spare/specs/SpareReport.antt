@@ -4,7 +4,7 @@ use Rattle.std.specs.List.{flat_map}
 use Rattle.std.specs.Fmt.{decimal}
 use Rattle.sk_base.specs.declared.ConId.{ConId}
 use Rattle.sk_base.specs.declared.Sketch.{Sketch}
-use Rattle.sk_lang.specs.NumberedConstraint.{constraint_words}
+use Rattle.sk_entry.specs.NumberedConstraint.{constraint_words}
 
 abbrev pub spare_line : Sketch → ConId → List ℕ
 spare_line s k = codes "c" ++ (decimal k.0 ++ (codes " : " ++ (constraint_words s k ++ codes "\n")))

@@ -5,7 +5,7 @@ ghost use Rattle.std.specs.Fmt.{decimal};
 ghost use Rattle.sk_spare.specs.SpareReport.{spare_line, spare_report};
 
 use sk_base::{ConId, List, NoMemory, Sketch, Text};
-use sk_lang::put_constraint_words;
+use sk_entry::put_constraint_words;
 use std::alloc::Global;
 
 /// How many constraints may go, and a line for each.

@@ -1,13 +1,13 @@
 use Rattle.std.proofs.Common.{◌≡◌, List, [], ℕ, subst, arith}
 use Rattle.std.proofs.lemmas.Bool.Decides.{nat_tests}
 use Rattle.std.proofs.lemmas.List.{nil_from_length}
-use Rattle.sk_lang.specs.Lines.{lines_in}
-use Rattle.sk_lang.proofs.LineFaults.{stands_next}
-use Rattle.sk_claims.specs.ClaimLines.{code_of}
-use Rattle.sk_claims.specs.ClaimReading.{nothing_yet, claimed_after}
+use Rattle.sk_claims.proofs.claim_reading.read_claim.Goals as goal
 use Rattle.sk_claims.proofs.ClaimSoFar.{Stands, refused_here, unended_here, reads_here}
 use Rattle.sk_claims.proofs.FittingClaims.{read_claim_fits, read_claim_tells}
-use Rattle.sk_claims.proofs.claim_reading.read_claim.Goals as goal
+use Rattle.sk_claims.specs.ClaimLines.{code_of}
+use Rattle.sk_claims.specs.ClaimReading.{nothing_yet, claimed_after}
+use Rattle.sk_lines.proofs.LineFaults.{stands_next}
+use Rattle.sk_lines.specs.Lines.{lines_in}
 
 pub returns-in-Err-clause-refuses : goal.returns-in-Err-clause-refuses
 returns-in-Err-clause-refuses c =

@@ -2,11 +2,11 @@ use Rattle.std.proofs.Common.{◌≡◌, ◌⊎◌, inl, inr, ◌<◌, ◌∙◌
 use Rattle.std.proofs.lemmas.Bool.Decides.{nat_tests}
 use Rattle.std.proofs.lemmas.List.{length-map}
 use Rattle.sk_lex.specs.Words.{bytes_of}
-use Rattle.sk_lang.proofs.Ends.{err_is}
-use Rattle.sk_claims.specs.ClaimLines.{are_fixed, choice_of}
+use Rattle.sk_claims.proofs.step_line.step_of.Goals as goal
 use Rattle.sk_claims.proofs.StepWords.{behind_step, long_choice, bad_names, bad_corners, no_code, made, stopped}
 use Rattle.sk_claims.proofs.step_line.step_of.Goals.{else-words-ne13-via-then-words-ne13+else-words-ne14, else-words-ne13-via-else-words-ne13}
-use Rattle.sk_claims.proofs.step_line.step_of.Goals as goal
+use Rattle.sk_claims.specs.ClaimLines.{are_fixed, choice_of}
+use Rattle.sk_entry.proofs.Ends.{err_is}
 
 pub returns-in_err-joining : goal.returns-in_err-joining
 returns-in_err-joining c =

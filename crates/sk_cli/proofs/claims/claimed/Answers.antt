@@ -1,5 +1,5 @@
 use Rattle.std.proofs.Common.{◌+◌, ◌<◌, ℕ, List, sym, subst, length, arith}
-use Rattle.sk_lang.specs.Lines.{lines_in}
+use Rattle.sk_lines.specs.Lines.{lines_in}
 use Rattle.sk_cli.proofs.Behind.{rest_of}
 use Rattle.sk_cli.proofs.claims.claimed.Goals as goal
 

@@ -1,5 +1,5 @@
-use Rattle.sk_lang.specs.declared.Entry.TheVariants as entry
-use Rattle.sk_lang.specs.declared.Version.TheVariants.{Two}
+use Rattle.sk_entry.specs.declared.Entry.TheVariants as entry
+use Rattle.sk_lines.specs.declared.Version.TheVariants.{Two}
 use Rattle.sk_session.proofs.Asked.{OtherBegins}
 use Rattle.sk_cli.proofs.OneOutcome.{LowerLaws}
 use Rattle.sk_cli.proofs.Sizes.{size_fits}

@@ -1,4 +1,4 @@
-use Rattle.sk_lang.specs.declared.Version.TheVariants.{Two}
+use Rattle.sk_lines.specs.declared.Version.TheVariants.{Two}
 use Rattle.sk_cli.proofs.SomeOutcomes.{some_outcome}
 use Rattle.sk_cli.proofs.law.some_outcome.Goals as goal
 

@@ -1,7 +1,7 @@
 use Rattle.std.proofs.Common.{◌≡◌, List, [], ℕ, subst, arith}
 use Rattle.std.proofs.lemmas.Bool.Decides.{nat_tests}
 use Rattle.std.proofs.lemmas.List.{nil_from_length}
-use Rattle.sk_lang.specs.Lines.{lines_in}
+use Rattle.sk_lines.specs.Lines.{lines_in}
 use Rattle.sk_cli.proofs.OffersSoFar.{StandsAt, stands_next, refused_here, unended_here}
 use Rattle.sk_cli.proofs.offer_reading.read_offers.Goals as goal
 

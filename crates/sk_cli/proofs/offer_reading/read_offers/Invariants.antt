@@ -1,5 +1,5 @@
 use Rattle.std.proofs.Common.{length}
-use Rattle.sk_lang.specs.Lines.{lines_in}
+use Rattle.sk_lines.specs.Lines.{lines_in}
 use Rattle.sk_cli.proofs.OffersSoFar.{StandsAt}
 use Rattle.sk_cli.proofs.offer_reading.read_offers.Given as goal
 

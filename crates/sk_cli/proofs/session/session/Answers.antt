@@ -1,7 +1,7 @@
 use Rattle.std.proofs.Common.{◌≡◌, inl, inr, ℕ, List, [], refl, subst, ◌∙◌, arith}
 use Rattle.std.proofs.lemmas.Bool.Decides.{nat_tests}
 use Rattle.std.proofs.lemmas.List.{nil_from_length}
-use Rattle.sk_lang.specs.Lines.{lines_in}
+use Rattle.sk_lines.specs.Lines.{lines_in}
 use Rattle.sk_session.specs.declared.Reply.TheVariants as reply
 use Rattle.sk_cli.proofs.Sessions.{HasGained, ends_or_not, not_counted, gained_first, gained_next, fits_next, stopped_ends, ended_ends, spent_ends, begun_ends}
 use Rattle.sk_cli.proofs.session.session.Goals as goal

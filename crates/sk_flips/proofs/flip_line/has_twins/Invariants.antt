@@ -1,5 +1,5 @@
 use Rattle.std.specs.Prelude.{◌≡◌, drop}
-use Rattle.sk_lang.specs.ClusterWords.{has_twins}
+use Rattle.sk_lines.specs.ClusterWords.{has_twins}
 use Rattle.sk_flips.proofs.flip_line.has_twins.Given as goal
 
 abbrev pub invariant-loop-i : goal.invariant-loop-i

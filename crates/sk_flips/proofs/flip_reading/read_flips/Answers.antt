@@ -1,7 +1,7 @@
 use Rattle.std.proofs.Common.{◌≡◌, List, [], ℕ, subst, arith}
 use Rattle.std.proofs.lemmas.Bool.Decides.{nat_tests}
 use Rattle.std.proofs.lemmas.List.{nil_from_length}
-use Rattle.sk_lang.specs.Lines.{lines_in}
+use Rattle.sk_lines.specs.Lines.{lines_in}
 use Rattle.sk_flips.proofs.FewFlips.{few_read}
 use Rattle.sk_flips.proofs.FlipsSoFar.{HasRead, read_next, read_refused, read_unended}
 use Rattle.sk_flips.proofs.flip_reading.read_flips.Goals as goal

@@ -3,7 +3,7 @@ use Rattle.std.proofs.lemmas.Bool.Decides.{nat_tests}
 use Rattle.std.proofs.lemmas.List.{nil_from_length}
 use Rattle.sk_lang.specs.declared.progress.Progress.{Progress}
 use Rattle.sk_lang.specs.declared.progress.Progress.TheVariants.{After}
-use Rattle.sk_lang.specs.Meaning.{progress_after}
+use Rattle.sk_lang.specs.Progress.{progress_after}
 use Rattle.sk_lang.specs.Reading.{TooLong}
 use Rattle.sk_lang.proofs.ReadErrors.{front_refusal_at, front_unended, ended_no_more}
 use Rattle.sk_lang.proofs.Standing.{StandsAt, stands_next, front_read_here}

@@ -1,6 +1,6 @@
 use Rattle.std.proofs.Common.{◌≡◌, ◌+◌, ◌≤◌, false, length}
 use Rattle.sk_lang.specs.Reading.{has_ended}
-use Rattle.sk_lang.specs.Meaning.{size_of}
+use Rattle.sk_lang.specs.Progress.{size_of}
 use Rattle.sk_lang.proofs.Standing.{StandsAt}
 use Rattle.sk_lang.proofs.front.read_front.Given as goal
 

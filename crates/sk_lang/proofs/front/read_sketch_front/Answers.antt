@@ -1,4 +1,4 @@
-use Rattle.sk_lang.proofs.LineCounts.{few_behind}
+use Rattle.sk_lang.proofs.FrontLines.{few_behind}
 use Rattle.sk_lang.proofs.Readable.{readable_sound}
 use Rattle.sk_lang.proofs.front.read_sketch_front.Goals as goal
 

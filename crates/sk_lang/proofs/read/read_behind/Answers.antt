@@ -1,10 +1,9 @@
 use Rattle.std.proofs.Common.{◌≡◌, ◌+◌, ◌-◌, ℕ, List, [], length, drop, ap, subst, arith, length-drop}
 use Rattle.std.proofs.lemmas.Bool.Decides.{nat_tests}
-use Rattle.std.proofs.lemmas.List.{nil_from_length}
-use Rattle.std.proofs.lemmas.List.{take_all}
+use Rattle.std.proofs.lemmas.List.{nil_from_length, take_all}
 use Rattle.sk_lang.specs.declared.progress.Progress.{Progress}
 use Rattle.sk_lang.specs.declared.progress.Progress.TheVariants.{After}
-use Rattle.sk_lang.specs.Meaning.{progress_after, progress_after_words}
+use Rattle.sk_lang.specs.Progress.{progress_after, progress_after_words}
 use Rattle.sk_lang.proofs.ReadErrors.{refusal_at}
 use Rattle.sk_lang.proofs.Standing.{StandsAt, stands_next, stands_behind, reads_here}
 use Rattle.sk_lang.proofs.read.read_behind.Goals as goal

@@ -1,7 +1,7 @@
 use Rattle.std.proofs.Common.{◌<◌, ℕ, List, length, Result, Ok, Err, IfOk}
 use Rattle.sk_base.specs.declared.Sketch.{Sketch}
 use Rattle.sk_base.specs.SoundSketch.{IsSoundSketch}
-use Rattle.sk_lang.specs.declared.code.ReadError.{ReadError}
+use Rattle.sk_lines.specs.declared.ReadError.{ReadError}
 use Rattle.sk_lang.specs.Reading.{Reads}
 use Rattle.sk_lang.proofs.Readable.{readable_sound}
 use Rattle.sk_lang.proofs.read.read_sketch.Goals as goal

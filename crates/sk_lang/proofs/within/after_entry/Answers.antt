@@ -1,19 +1,19 @@
 use Rattle.std.proofs.Common.{◌≡◌, ◌+◌, ℕ, List, Result, Ok, Err, IfOk, MatchResult, map, sym, ap, ◌∙◌, subst}
 use Rattle.sk_base.specs.declared.Sketch.{Sketch}
 use Rattle.sk_lex.specs.Words.{bytes_of}
-use Rattle.sk_lang.specs.declared.version.Version.{Version}
+use Rattle.sk_lines.specs.declared.Version.{Version}
 use Rattle.sk_lang.specs.declared.progress.Progress.{Progress}
 use Rattle.sk_lang.specs.declared.progress.Progress.TheVariants.{Within, After}
 use Rattle.sk_base.specs.declared.Elem.{Elem}
 use Rattle.sk_base.specs.declared.ConId.{ConId}
-use Rattle.sk_lang.specs.declared.entry.Entry.TheVariants as entry
-use Rattle.sk_lang.specs.declared.entry.EntryError.{EntryError}
-use Rattle.sk_lang.specs.Meaning.{progress_after}
+use Rattle.sk_entry.specs.declared.Entry.TheVariants as entry
+use Rattle.sk_lines.specs.declared.EntryError.{EntryError}
+use Rattle.sk_lang.specs.Progress.{progress_after}
 use Rattle.sk_lang.specs.Codes.{code_of, other_rows}
-use Rattle.sk_lang.specs.FirstCode.{first_code}
-use Rattle.sk_lang.specs.Entry.{IsEntryOf}
-use Rattle.sk_lang.proofs.Declaring.{element_is_new, says_other, other_has_words, other_ends}
-use Rattle.sk_lang.proofs.EntryCodes.{entry_refused, other_code, other_refused}
+use Rattle.sk_lines.specs.FirstCode.{first_code}
+use Rattle.sk_entry.specs.Entry.{IsEntryOf}
+use Rattle.sk_entry.proofs.Declaring.{element_is_new, says_other, other_has_words}
+use Rattle.sk_lang.proofs.EntryCodes.{other_ends, entry_refused, other_code, other_refused}
 use Rattle.sk_lang.proofs.within.after_entry.Goals as goal
 
 ended : (v : Version) (s t : Sketch) (line : List ℕ) (A : Type 0) (E : EntryError → Type 0) (result : Result Progress EntryError) → t ≡ s → progress_after (Within v s) line ≡ After v s → MatchResult result (λ after. A × (after ≡ After v t)) E → IfOk result (λ after. after ≡ progress_after (Within v s) line)

@@ -1,5 +1,6 @@
 use Rattle.std.proofs.Common.{◌≡◌, ◌++◌, take, map}
-use Rattle.sk_lang.specs.Canonical.{ended_lines, element_line}
+use Rattle.sk_lines.specs.Lines.{ended_lines}
+use Rattle.sk_entry.specs.CanonicalLines.{element_line}
 use Rattle.sk_lang.proofs.write.put_elements.Given as goal
 
 abbrev pub invariant-loop-element : goal.invariant-loop-element

@@ -1,4 +1,4 @@
-use Rattle.sk_lang.specs.declared.Version.TheVariants.{Two}
+use Rattle.sk_lines.specs.declared.Version.TheVariants.{Two}
 use Rattle.sk_session.proofs.OneReply.{one_reply}
 use Rattle.sk_session.proofs.law.one_reply.Goals as goal
 

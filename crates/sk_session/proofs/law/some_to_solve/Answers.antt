@@ -1,4 +1,4 @@
-use Rattle.sk_lang.specs.declared.Version.TheVariants.{Two}
+use Rattle.sk_lines.specs.declared.Version.TheVariants.{Two}
 use Rattle.sk_session.proofs.ToSolve.{solve_has_some}
 use Rattle.sk_session.proofs.law.some_to_solve.Goals as goal
 

@@ -5,8 +5,8 @@ use Rattle.sk_base.specs.declared.ConId.{ConId}
 use Rattle.sk_base.specs.declared.Constraint.{Constraint}
 use Rattle.sk_base.specs.declared.Rule.{Rule}
 use Rattle.sk_base.specs.declared.Sketch.{Sketch}
-use Rattle.sk_lang.specs.FirstCode.{first_code}
-use Rattle.sk_lang.specs.declared.Code.TheVariants.{E8, S1}
+use Rattle.sk_lines.specs.FirstCode.{first_code}
+use Rattle.sk_lines.specs.declared.Code.TheVariants.{E8, S1}
 use Rattle.sk_session.specs.declared.command.Change.TheVariants as change
 use Rattle.sk_session.specs.Commands.{from_made, change_rows, edit_made, number_of, constraint_with, value_rows, setting}
 use Rattle.sk_session.proofs.reading.read_set.Goals as goal

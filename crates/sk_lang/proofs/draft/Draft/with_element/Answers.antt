@@ -2,7 +2,7 @@ use Rattle.std.proofs.Common.{◌≡◌, None, map, sym, ap, ◌∙◌}
 use Rattle.std.specs.List.{find}
 use Rattle.sk_base.specs.declared.Sketch.{Sketch}
 use Rattle.sk_lang.specs.Index.{key_of}
-use Rattle.sk_lang.specs.Named.{element_named}
+use Rattle.sk_entry.specs.Named.{element_named}
 use Rattle.sk_lang.proofs.ByHash.{has_name, keys_pushed}
 use Rattle.sk_lang.proofs.draft.Draft.with_element.Goals as goal
 

@@ -1,7 +1,7 @@
 use Rattle.std.proofs.Common.{◌≡◌, Some, None, sym, ap, ◌∙◌, position, map}
 use Rattle.sk_base.specs.declared.Sketch.{Sketch}
 use Rattle.std.specs.Option.{option_copied}
-use Rattle.sk_lang.specs.Named.{element_named}
+use Rattle.sk_entry.specs.Named.{element_named}
 use Rattle.sk_lang.specs.Index.{key_of}
 use Rattle.sk_lang.proofs.ByHash.{is_key, found_at, found_nowhere}
 use Rattle.sk_lang.proofs.draft.DraftScope.named.Goals as goal

@@ -5,9 +5,10 @@ use Rattle.std.proofs.lemmas.Result.{IfOk-weaker}
 use Rattle.sk_base.specs.declared.Element.{Element}
 use Rattle.sk_base.specs.declared.Constraint.{Constraint}
 use Rattle.sk_base.specs.declared.Sketch.{Sketch}
-use Rattle.sk_lang.specs.declared.Version.TheVariants.{Two}
-use Rattle.sk_lang.specs.declared.EntryError.{EntryError}
-use Rattle.sk_lang.specs.Entry.{entry_code, IsRefusal}
+use Rattle.sk_lines.specs.declared.Version.TheVariants.{Two}
+use Rattle.sk_lines.specs.declared.EntryError.{EntryError}
+use Rattle.sk_entry.specs.Entry.{entry_code}
+use Rattle.sk_lines.specs.Refusals.{IsRefusal}
 use Rattle.sk_session.specs.State.{sketch_in}
 use Rattle.sk_session.proofs.Coding.{answers_refused}
 use Rattle.sk_session.proofs.Numbers.{elements_below, constraints_below}

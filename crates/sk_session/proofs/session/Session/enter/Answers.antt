@@ -4,12 +4,12 @@ use Rattle.std.proofs.lemmas.Result.{IfOk-weaker}
 use Rattle.sk_base.specs.Numbering.{elem_number, con_number}
 use Rattle.sk_lex.specs.declared.Word.{Word}
 use Rattle.sk_lex.specs.Words.{bytes_of}
-use Rattle.sk_lang.specs.declared.Version.TheVariants.{Two}
-use Rattle.sk_lang.specs.Comments.{words_under}
-use Rattle.sk_lang.specs.declared.Entry.{Entry}
-use Rattle.sk_lang.specs.declared.Entry.TheVariants as entry
-use Rattle.sk_lang.specs.Entry.{IsEntryOf, StandsOn, IsNumbered}
-use Rattle.sk_lang.specs.FirstCode.{first_code}
+use Rattle.sk_lines.specs.declared.Version.TheVariants.{Two}
+use Rattle.sk_lines.specs.Comments.{words_under}
+use Rattle.sk_entry.specs.declared.Entry.{Entry}
+use Rattle.sk_entry.specs.declared.Entry.TheVariants as entry
+use Rattle.sk_entry.specs.Entry.{IsEntryOf, StandsOn, IsNumbered}
+use Rattle.sk_lines.specs.FirstCode.{first_code}
 use Rattle.sk_session.specs.declared.edit.Edit.TheVariants as edit
 use Rattle.sk_session.specs.declared.reply.Reply.TheVariants as reply
 use Rattle.sk_session.specs.Commands.{command_of, command_rows}

@@ -1,0 +1,16 @@
+pub mod BlockLines
+pub mod BlockRead
+pub mod BlockSound
+pub mod Declaring
+pub mod Ends
+pub mod Entries
+pub mod Fitting
+pub mod Growing
+pub mod Passing
+pub mod PinTests
+pub mod Pinned
+pub mod Said
+pub mod SameEntries
+pub mod Shorter
+pub mod SomeEntries
+pub mod Sound

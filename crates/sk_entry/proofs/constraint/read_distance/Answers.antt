@@ -1,0 +1,7 @@
+use Rattle.sk_lines.specs.declared.Keyword.TheVariants.{Distance}
+use Rattle.sk_entry.proofs.Ends.{refused_first}
+use Rattle.sk_entry.proofs.constraint.read_distance.Goals as goal
+
+pub returns-in_err-first : goal.returns-in_err-first
+returns-in_err-first g c =
+    refused_first (g.S.Scope.so_far c.args.s.now) Distance c.args.u.now c.args.v.now _ _ c.from_residual.result c.in_err-first.field-0.0 c.from_residual.ensures c.in_err-first.ensures

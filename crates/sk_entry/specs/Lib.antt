@@ -1,0 +1,11 @@
+pub mod CanonicalLines
+pub mod Conditions
+pub mod Ends
+pub mod Entry
+pub mod EntryCodes
+pub mod Kinds
+pub mod Meaning
+pub mod Named
+pub mod NumberedConstraint
+pub mod PinCodes
+pub mod PinLines

@@ -1,6 +1,0 @@
-use Rattle.sk_lang.specs.declared.code.Code.TheVariants.{E4}
-use Rattle.sk_lang.proofs.Pinned.{refused_by_first}
-use Rattle.sk_lang.proofs.block.read_block.Goals as goal
-
-pub returns-in_err-said : goal.returns-in_err-said
-returns-in_err-said g c = refused_by_first c.from_residual.result c.in_err-said.field-0.0 _ _ E4 _ c.from_residual.ensures c.in_err-said.ensures

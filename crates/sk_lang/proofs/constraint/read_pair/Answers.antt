@@ -1,6 +1,0 @@
-use Rattle.sk_lang.proofs.Ends.{refused_first}
-use Rattle.sk_lang.proofs.constraint.read_pair.Goals as goal
-
-pub returns-in_err-first : goal.returns-in_err-first
-returns-in_err-first g c =
-    refused_first (g.S.Scope.so_far c.args.s.now) c.args.keyword c.args.u.now c.args.v.now _ _ c.from_residual.result c.in_err-first.field-0.0 c.from_residual.ensures c.in_err-first.ensures

@@ -1,8 +1,0 @@
-use Rattle.sk_lang.proofs.Amounts.{length_from_to, ratio_sound}
-use Rattle.sk_lang.proofs.law.quantities_are_sound.Goals as goal
-
-pub returns-clause-length : goal.returns-clause-length
-returns-clause-length c = length_from_to
-
-pub returns-clause-ratio : goal.returns-clause-ratio
-returns-clause-ratio c = ratio_sound

@@ -1,8 +1,0 @@
-use Rattle.sk_lang.proofs.Said.{stands_on, is_numbered}
-use Rattle.sk_lang.proofs.law.what_a_line_says.Goals as goal
-
-pub returns-clause-stands_on : goal.returns-clause-stands_on
-returns-clause-stands_on c = stands_on
-
-pub returns-clause-numbered : goal.returns-clause-numbered
-returns-clause-numbered c = is_numbered

@@ -1,7 +1,0 @@
-use Rattle.std.proofs.Common.{arith}
-use Rattle.std.proofs.lemmas.Grind.{common_steps}
-use Rattle.sk_lang.proofs.BlockLines.{block_line}
-use Rattle.sk_lang.proofs.write.put_block.Goals as goal
-
-pub returns : goal.returns
-returns c = rw (block_line c.args.s.now c.args.pins.now) (grind (arith, common_steps))

@@ -1,0 +1,11 @@
+pub mod Amounts
+pub mod Finding
+pub mod FirstCodes
+pub mod LineByLine
+pub mod LineCounts
+pub mod LineFaults
+pub mod LineWords
+pub mod ReadBack
+pub mod SolidLines
+pub mod WholeLines
+pub mod WordPlaces

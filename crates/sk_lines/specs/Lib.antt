@@ -1,0 +1,11 @@
+pub mod ByteCodes
+pub mod ClusterWords
+pub mod CodeTexts
+pub mod Comments
+pub mod EndLine
+pub mod FirstCode
+pub mod Keywords
+pub mod LineCodes
+pub mod Lines
+pub mod Quantities
+pub mod Refusals

@@ -1,0 +1,20 @@
+//! The lines and the words of a text, and what single words say: keywords, versions, names of clusters and ratios.
+#![tactic(auto)]
+
+mod cluster_word;
+mod code;
+mod error;
+mod keyword;
+mod law;
+mod lines;
+mod ratio;
+mod version;
+
+pub use cluster_word::{name_of, plain_number};
+pub use code::{Code, ReadError, Refusal};
+pub use error::EntryError;
+pub use keyword::{Keyword, keyword_of};
+pub use law::quantities_are_sound;
+pub use lines::{bytes_at, is_word, split_line, split_words, word, words_under};
+pub use ratio::slope;
+pub use version::Version;
