@@ -191,10 +191,10 @@ same_nearest : (r X n : ℤ) (d : ℕ) → 2 * unsigned_abs ((r *ℤ pos d) -ℤ
 same_nearest r X n d near close =
     by_lt_z r X
     (λ lt. absurd (let step : ((r +ℤ pos 1) *ℤ pos d) ≤ℤ (X *ℤ pos d) = scaled (r +ℤ pos 1) X d (omega (arith, ints, lt)) in
-        let sum_is = scale-sum r (pos 1) d in omega (arith, ints, near, close, step, sum_is)))
+    let sum_is = scale-sum r (pos 1) d in omega (arith, ints, near, close, step, sum_is)))
     (λ le. by_lt_z X r
     (λ lt. absurd (let step : ((X +ℤ pos 1) *ℤ pos d) ≤ℤ (r *ℤ pos d) = scaled (X +ℤ pos 1) r d (omega (arith, ints, lt)) in
-        let sum_is = scale-sum X (pos 1) d in omega (arith, ints, near, close, step, sum_is)))
+    let sum_is = scale-sum X (pos 1) d in omega (arith, ints, near, close, step, sum_is)))
     (λ ge. same_z r X ge le))
 
 -- a sum of ends that is that of a number of nanometres, or one less
@@ -226,8 +226,8 @@ shifted_middle to there shifted =
     let two = pos-nonzero 2 (omega arith) in
     let below : (z *ℤ pos 2) ≤ℤ n = floor-at_most n (pos 2) two in
     let above : n ≤ℤ ((z *ℤ pos 2) +ℤ pos 1) = by_lt_z ((z *ℤ pos 2) +ℤ pos 1) n
-        (λ lt. absurd (let more : (z +ℤ pos 1) ≤ℤ z = at_most-floor (z +ℤ pos 1) n (pos 2) two (omega (arith, ints, lt)) in omega (arith, ints, more)))
-        (λ le. le) in
+    (λ lt. absurd (let more : (z +ℤ pos 1) ≤ℤ z = at_most-floor (z +ℤ pos 1) n (pos 2) two (omega (arith, ints, lt)) in omega (arith, ints, more)))
+    (λ le. le) in
     (omega (arith, ints, below, shifted.middle_same), omega (arith, ints, above, shifted.middle_same))
 
 -- ---- the frame's place

@@ -93,6 +93,15 @@ same_carried {G} Drawn by F s p bs a b (m, m_is, first) (n, n_is, second) = sym 
     one_motion : (m n : Motion G) → (let found : Result (Motion G) (What × Cause) = Ok m in found ≡ Ok n) → m ≡ n
     one_motion m n same = cc
 
+-- the plan's boxes lie in one way
+pub same_laid : (G : Type 0) (placing : Layout) (F : ℕ) (s : Sketch) (p : Plan) → IsLegalPlan (graph_of s) p → HasTree p → (one other : List (BoxAt G)) → IsLaid placing F s p one → IsLaid placing F s p other → one ≡ other
+same_laid G placing F s p legal tree one other (bs, placed, carried) (cs, placed', carried') =
+    let same : bs ≡ cs = one_list G placing.by F (graph_of s) p legal tree bs cs placed placed' in
+    all_same (same_carried placing.frame placing.by F s p cs (Ok one) (Ok other) (subst (λ (l : List (BoxAt G)). IsCarried placing.frame placing.by F s p l (Ok one)) same carried) carried')
+  where
+    all_same : (let there : Result (List (BoxAt G)) BoxFault = Ok one in there ≡ Ok other) → one ≡ other
+    all_same same = cc
+
 -- what comes of boxes, with where they lie then: the first that can't be carried, or what is measured
 abbrev Comes : Wanted → ℕ → Sketch → Plan → ℕ → (G : Type 0) → Placement → Result (List (BoxAt G)) BoxFault → Type 0
 Comes wanted limit s p F G q (Err f) = q ≡ Uncarried f
