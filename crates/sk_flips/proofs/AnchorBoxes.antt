@@ -32,7 +32,7 @@ use Rattle.sk_place.specs.Clusters.{Rise, Holds, number_of, box_of, with_box, wi
 use Rattle.sk_place.specs.Trees.{pin_at, pin_boxes}
 use Rattle.sk_place.proofs.Corners.{holds_new, box_new, rises_with_all}
 use Rattle.sk_frame.specs.Frames.{given_place}
-use Rattle.sk_frame.specs.Turns.{origin}
+use Rattle.sk_flips.proofs.AnchorPlaces.{floor_turned}
 
 -- ---- lengths
 
@@ -47,17 +47,13 @@ ceil_turned : (n d : ℤ) → ceil_of (neg_ℤ n) d ≡ neg_ℤ (floor_of n d)
 unfolding ceil_of
 ceil_turned n d = (let back : neg_ℤ (neg_ℤ n) ≡ n = omega (arith, ints) in ap (λ (z : ℤ). neg_ℤ (floor_of z d)) back)
 
-floor_back : (n d : ℤ) → floor_of (neg_ℤ n) d ≡ neg_ℤ (ceil_of n d)
-unfolding ceil_of
-floor_back n d = omega (arith, ints)
-
 -- a length on the other side is the negative one
 pub signed_is : (F : ℕ) (side : Sign) (v : ℤ) → with_sign side (of_micrometres F v) ≡ of_micrometres F (by_sign side v)
 signed_is F Plus v = refl
 signed_is F Minus v =
     let n : ℤ = v *ℤ pos (one F) in
     let turned : neg_ℤ v *ℤ pos (one F) ≡ neg_ℤ n = neg-product v (pos (one F)) in
-    ap (λ (z : ℤ). let made : Interval = record { lo = z; hi = neg_ℤ (floor_of n (pos 1000)) } in made) (sym (floor_back n (pos 1000)))
+    ap (λ (z : ℤ). let made : Interval = record { lo = z; hi = neg_ℤ (floor_of n (pos 1000)) } in made) (sym (floor_turned n (pos 1000)))
     ∙ ap (λ (z : ℤ). let made : Interval = record { lo = floor_of (neg_ℤ n) (pos 1000); hi = z } in made) (sym (ceil_turned n (pos 1000)))
     ∙ sym (ap (λ (z : ℤ). let made : Interval = record { lo = floor_of z (pos 1000); hi = ceil_of z (pos 1000) } in made) turned)
 

@@ -71,10 +71,7 @@ use Rattle.sk_flips.specs.Placements.{midpoints, IsLaid}
 use Rattle.sk_flips.proofs.AnchorBoxes.{nothing_is, signed_is, small_of, point_at, LiesAt, put_there, points_leaf, mixed_leaf, first_pin}
 use Rattle.sk_flips.proofs.AnchorPlaces.{place_printed}
 use Rattle.sk_flips.proofs.BaseBoxes.{Keeps}
-use Rattle.sk_flips.proofs.BasePlaces.{Based, based}
-
-some_same : {X : Type 0} (x y : X) → Some x ≡ Some y → x ≡ y
-some_same x y e = cc
+use Rattle.sk_flips.proofs.BasePlaces.{Based, based, some_same}
 
 same_number : (e : Elem) → (e.0 == e.0) ≡ true
 same_number e = grind (arith, nat_tests)

@@ -31,7 +31,7 @@ use Rattle.sk_frame.specs.Bases.{kept_from}
 use Rattle.sk_flips.proofs.BaseBoxes.{Keeps, keeps_all, keeps_more, joined_keeps}
 use Rattle.sk_flips.proofs.KeptPaths.{kept_on, kept_ends, keeps_one}
 
-some_same : {X : Type 0} (x y : X) → Some x ≡ Some y → x ≡ y
+pub some_same : {X : Type 0} (x y : X) → Some x ≡ Some y → x ≡ y
 some_same x y e = cc
 
 module _ {G : Type 0} (placing : PlaceBy) (F : ℕ) where

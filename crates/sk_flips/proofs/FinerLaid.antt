@@ -30,10 +30,8 @@ use Rattle.sk_frame.specs.Frames.{frame_of}
 use Rattle.sk_frame.proofs.MotionLaws.{finer_motion}
 use Rattle.sk_frame.proofs.SoundFrames.{frame_is_sound}
 use Rattle.sk_flips.specs.Placements.{IsCarried, IsLaid}
+use Rattle.sk_flips.proofs.BasePlaces.{some_same}
 use Rattle.sk_flips.proofs.OnePlacement.{same_laid}
-
-some_same : {X : Type 0} (x y : X) → Some x ≡ Some y → x ≡ y
-some_same x y e = cc
 
 module _ {G : Type 0} (F k : ℕ) (p : Plan) where
   -- the plan's boxes on the finer grid, in the frame of the base
