@@ -28,6 +28,7 @@ use Rattle.sk_place.specs.declared.PlaceBy.{PlaceBy}
 use Rattle.sk_place.specs.declared.PlaceBy.TheVariants.{Boxes, Points}
 use Rattle.sk_place.specs.Rounding.{midpoint, rounded_box}
 use Rattle.sk_place.specs.Settling.{settled_box}
+use Rattle.sk_place.proofs.Results.{ok_inside}
 use Rattle.sk_frame.specs.declared.Frame.{Frame}
 use Rattle.sk_frame.specs.Frames.{IsSoundFrame}
 use Rattle.sk_frame.specs.FrameMotions.{ratio, parts_motion, frame_motion}
@@ -79,7 +80,7 @@ pub record HasEvenProduct (F : ℕ) (c d : Interval) : Type 0 where
   pub is : product F c d ≡ Ok product_of
   pub about : IsAbout 2 product_of
 
-floor_turned : (n : ℤ) (d : ℤ) → floor_of (neg_ℤ n) d ≡ neg_ℤ (ceil_of n d)
+pub floor_turned : (n : ℤ) (d : ℤ) → floor_of (neg_ℤ n) d ≡ neg_ℤ (ceil_of n d)
 unfolding ceil_of
 floor_turned n d = omega (arith, ints)
 
@@ -191,10 +192,10 @@ same_nearest : (r X n : ℤ) (d : ℕ) → 2 * unsigned_abs ((r *ℤ pos d) -ℤ
 same_nearest r X n d near close =
     by_lt_z r X
     (λ lt. absurd (let step : ((r +ℤ pos 1) *ℤ pos d) ≤ℤ (X *ℤ pos d) = scaled (r +ℤ pos 1) X d (omega (arith, ints, lt)) in
-        let sum_is = scale-sum r (pos 1) d in omega (arith, ints, near, close, step, sum_is)))
+    let sum_is = scale-sum r (pos 1) d in omega (arith, ints, near, close, step, sum_is)))
     (λ le. by_lt_z X r
     (λ lt. absurd (let step : ((X +ℤ pos 1) *ℤ pos d) ≤ℤ (r *ℤ pos d) = scaled (X +ℤ pos 1) r d (omega (arith, ints, lt)) in
-        let sum_is = scale-sum X (pos 1) d in omega (arith, ints, near, close, step, sum_is)))
+    let sum_is = scale-sum X (pos 1) d in omega (arith, ints, near, close, step, sum_is)))
     (λ ge. same_z r X ge le))
 
 -- a sum of ends that is that of a number of nanometres, or one less
@@ -226,8 +227,8 @@ shifted_middle to there shifted =
     let two = pos-nonzero 2 (omega arith) in
     let below : (z *ℤ pos 2) ≤ℤ n = floor-at_most n (pos 2) two in
     let above : n ≤ℤ ((z *ℤ pos 2) +ℤ pos 1) = by_lt_z ((z *ℤ pos 2) +ℤ pos 1) n
-        (λ lt. absurd (let more : (z +ℤ pos 1) ≤ℤ z = at_most-floor (z +ℤ pos 1) n (pos 2) two (omega (arith, ints, lt)) in omega (arith, ints, more)))
-        (λ le. le) in
+    (λ lt. absurd (let more : (z +ℤ pos 1) ≤ℤ z = at_most-floor (z +ℤ pos 1) n (pos 2) two (omega (arith, ints, lt)) in omega (arith, ints, more)))
+    (λ le. le) in
     (omega (arith, ints, below, shifted.middle_same), omega (arith, ints, above, shifted.middle_same))
 
 -- ---- the frame's place
@@ -240,12 +241,6 @@ far_within F n within =
     let b = quotients_bounded top top 1000000 (2 ^ 20 * 2 ^ F) (omega arith) (≤ℤ_refl _) size size in
     (b.lo_within, b.hi_within)
 
-one_motion : {G : Type 0} (m n : Motion G) → (let found : Result (Motion G) (What × Cause) = Ok m in found ≡ Ok n) → m ≡ n
-one_motion m n same = cc
-
-one_box : {G : Type 0} (b c : BoxOf G) → (let found : Result (BoxOf G) (What × Cause) = Ok b in found ≡ Ok c) → b ≡ c
-one_box b c same = cc
-
 -- the motion of a frame carries its place there, and so it is printed, by boxes and by points
 pub place_printed : {G : Type 0} (by : PlaceBy) (F : ℕ) → 21 ≤ F → (f : Frame) → IsSoundFrame f → (m : Motion G) → frame_motion F f ≡ Ok m
     → (b : BoxOf G) → settled_box by F (carried F m (Point (of_micrometres F f.from.x) (of_micrometres F f.from.y))) ≡ Ok b → rounded_box F b ≡ At.Point f.to.x f.to.y
@@ -255,7 +250,7 @@ place_printed {G} by F fine f sound m is b b_is =
     let unit = unit_of F enough in
     let turn = turn_of_frame F enough f sound u unit in
     let parts : Motion G = with_turn (parts_motion F f) turn.cos turn.sin in
-    let m_is : m ≡ parts = one_motion m parts (sym is ∙ motion_is F enough f sound u unit turn) in
+    let m_is : m ≡ parts = ok_inside m parts (sym is ∙ motion_is F enough f sound u unit turn) in
     let tx = far_within F f.to.x sound.to.0 in
     let ty = far_within F f.to.y sound.to.1 in
     let there : IsCarriedTo {G = G} F parts (of_micrometres F f.from.x) (of_micrometres F f.from.y) =
@@ -266,12 +261,12 @@ place_printed {G} by F fine f sound m is b b_is =
   where
     by_way : (by : PlaceBy) (X Y : Interval) → IsShifted (ratio F 1000000 f.to.x) X → IsShifted (ratio F 1000000 f.to.y) Y → settled_box by F (Ok (Point X Y)) ≡ Ok b → rounded_box F b ≡ At.Point f.to.x f.to.y
     by_way Boxes X Y x_shifted y_shifted is =
-        let b_is : Point X Y ≡ b = one_box (Point X Y) b is in
+        let b_is : Point X Y ≡ b = ok_inside (Point X Y) b is in
         ap (rounded_box F) (sym b_is)
         ∙ ap (λ x. At.Point x (midpoint F 1000000 Y)) (printed F fine f.to.x X (omega (arith, ints, x_shifted.middle_same)) (omega (arith, ints, x_shifted.middle_same)))
         ∙ ap (λ y. At.Point f.to.x y) (printed F fine f.to.y Y (omega (arith, ints, y_shifted.middle_same)) (omega (arith, ints, y_shifted.middle_same)))
     by_way Points X Y x_shifted y_shifted is =
-        let b_is : Point (middle X) (middle Y) ≡ b = one_box (Point (middle X) (middle Y)) b is in
+        let b_is : Point (middle X) (middle Y) ≡ b = ok_inside (Point (middle X) (middle Y)) b is in
         let x_near = shifted_middle (ratio F 1000000 f.to.x) X x_shifted in
         let y_near = shifted_middle (ratio F 1000000 f.to.y) Y y_shifted in
         ap (rounded_box F) (sym b_is)

@@ -19,10 +19,7 @@ use Rattle.sk_place.specs.Settling.{settled_box}
 use Rattle.sk_place.specs.Steps.{setting, exchanged, ordered, given, joined, with_children}
 use Rattle.sk_place.proofs.Corners.{box_same, holds_with, rises_with_all}
 use Rattle.sk_place.proofs.Lookups.{rises_with}
-use Rattle.sk_place.proofs.Results.{then_ok}
-
-ok_same : {X E : Type 0} (x y : X) → (let one : Result X E = Ok x in one ≡ Ok y) → x ≡ y
-ok_same x y e = cc
+use Rattle.sk_place.proofs.Results.{then_ok, ok_inside}
 
 -- what is there stays as it is
 pub record Keeps {G : Type 0} (from to : List (BoxAt G)) : Type 0 where
@@ -68,9 +65,9 @@ module _ {G : Type 0} where
       let w = then_ok (faulty s.step Build t.w (settled_box placing F (third_element F (given s.choice t)))) (λ w. with_children placing F s.step t (with_box (record { elem = t.w; at = w }) t.kept)) bs is in
       let now : List (BoxAt G) = with_box (record { elem = t.w; at = w.0 }) t.kept in
       let xs = then_ok (carried_child placing F s.step First t.u t.w t.first now)
-        (λ xs. and_then (carried_child placing F s.step Second t.v t.w t.second now) (λ ys. Ok (with_boxes ys (with_boxes xs now)))) bs w.2 in
+      (λ xs. and_then (carried_child placing F s.step Second t.v t.w t.second now) (λ ys. Ok (with_boxes ys (with_boxes xs now)))) bs w.2 in
       let ys = then_ok (carried_child placing F s.step Second t.v t.w t.second now) (λ ys. Ok (with_boxes ys (with_boxes xs.0 now))) bs xs.2 in
-      let bs_is : with_boxes ys.0 (with_boxes xs.0 now) ≡ bs = ok_same (with_boxes ys.0 (with_boxes xs.0 now)) bs ys.2 in
+      let bs_is : with_boxes ys.0 (with_boxes xs.0 now) ≡ bs = ok_inside (with_boxes ys.0 (with_boxes xs.0 now)) bs ys.2 in
       let first = with_one (record { elem = t.w; at = w.0 }) t.kept there in
       let second = with_more xs.0 now first.rises in
       let third = with_more ys.0 (with_boxes xs.0 now) second.rises in

@@ -31,11 +31,8 @@ use Rattle.sk_frame.specs.Bases.{kept_from}
 use Rattle.sk_flips.proofs.BaseBoxes.{Keeps, keeps_all, keeps_more, joined_keeps}
 use Rattle.sk_flips.proofs.KeptPaths.{kept_on, kept_ends, keeps_one}
 
-some_same : {X : Type 0} (x y : X) → Some x ≡ Some y → x ≡ y
+pub some_same : {X : Type 0} (x y : X) → Some x ≡ Some y → x ≡ y
 some_same x y e = cc
-
-con_same : (j k : ℕ) → Con j ≡ Con k → j ≡ k
-con_same j k e = cc
 
 module _ {G : Type 0} (placing : PlaceBy) (F : ℕ) where
   boxes_ok : (r : Result (List (BoxAt G)) StepFault) (bs : List (BoxAt G)) → boxes_in (Some r) ≡ Some bs → r ≡ Ok bs
@@ -68,22 +65,24 @@ module _ {G : Type 0} (placing : PlaceBy) (F : ℕ) where
   leaf_rises None bs is = (let never : None ≡ Some bs = is in absurd (cc))
 
   module _ (g : Graph) (p : Plan) (legal : IsLegalPlan g p) where
-    -- they keep the boxes of that constraint or block in its own frame
-    pub record Based (k : ℕ) (bs : List (BoxAt G)) : Type 0 where
+    -- the kept children lead from the name to a constraint or block, and they keep its boxes in its own frame
+    pub record Based (n : Name) (bs : List (BoxAt G)) : Type 0 where
+      pub k : ℕ
+      pub leads : kept_from p.steps n ≡ Con k
       pub own : List (BoxAt G)
       pub own_is : frame_of F (framed_of g k) ≡ Some own
       pub keeps : Keeps own bs
 
-    pub based : (t : Tree) (n : Name) (k : ℕ) → HasTree p n t → kept_from p.steps n ≡ Con k → (bs : List (BoxAt G)) → boxes placing F g p.steps t ≡ Some bs → Based k bs
-    based (Leaf c) n k tree leads bs is =
-        let same : c.0 ≡ k = con_same c.0 k (sym (kept_ends g p legal c.0) ∙ ap (kept_from p.steps) (sym tree) ∙ leads) in
-        record {
-          own = bs;
-          own_is = subst (λ (i : ℕ). frame_of F (framed_of g i) ≡ Some bs) same is;
-          keeps = keeps_all bs (leaf_rises (framed_of g c.0) bs is);
-        }
-    based (Join' at step shared one two three) n k (n_is, (x, y, z, told, a, b, c)) leads bs is =
-        by_name (λ m a xs b. based one m k a xs b) (λ m a xs b. based two m k a xs b) (λ m a xs b. based three m k a xs b) (name_eq s.keeps s.one) refl (name_eq s.keeps s.two) refl
+    pub based : (t : Tree) (n : Name) → HasTree p n t → (bs : List (BoxAt G)) → boxes placing F g p.steps t ≡ Some bs → Based n bs
+    based (Leaf c) n tree bs is = record {
+      k = c.0;
+      leads = ap (kept_from p.steps) tree ∙ kept_ends g p legal c.0;
+      own = bs;
+      own_is = is;
+      keeps = keeps_all bs (leaf_rises (framed_of g c.0) bs is);
+    }
+    based (Join' at step shared one two three) n (n_is, (x, y, z, told, a, b, c)) bs is =
+        by_name (based one) (based two) (based three) (name_eq s.keeps s.one) refl (name_eq s.keeps s.two) refl
       where
         join : (s : PlanStep) × Contains p.steps s × IsJoinOf g p legal s step one two three
         join = join_of g p legal step shared one two three x y z told a b c
@@ -98,14 +97,14 @@ module _ {G : Type 0} (placing : PlaceBy) (F : ℕ) where
         made_is = made_from s (boxes placing F g p.steps one) (boxes placing F g p.steps two) (boxes placing F g p.steps three) bs
             (subst (λ (o : Option PlanStep). boxes_in (made placing F o (boxes placing F g p.steps one) (boxes placing F g p.steps two) (boxes placing F g p.steps three)) ≡ Some bs) found is)
 
-        leads_on : kept_from p.steps s.keeps ≡ Con k
-        leads_on = sym (kept_on g p legal s join.1) ∙ ap (kept_from p.steps) (join.2.step_is ∙ sym n_is) ∙ leads
+        leads_on : kept_from p.steps n ≡ kept_from p.steps s.keeps
+        leads_on = ap (kept_from p.steps) (n_is ∙ sym join.2.step_is) ∙ kept_on g p legal s join.1
 
-        from_kept : (kept : List (BoxAt G)) → (setting s made_is.x made_is.y made_is.z).kept ≡ kept → Based k kept → Based k bs
-        from_kept kept kept_is under =
+        from_kept : (kept : List (BoxAt G)) (m : Name) → s.keeps ≡ m → (setting s made_is.x made_is.y made_is.z).kept ≡ kept → Based m kept → Based n bs
+        from_kept kept m m_is kept_is under =
             let rises = subst Rise (sym kept_is) under.keeps.rises in
             let on = subst (λ (l : List (BoxAt G)). Keeps l bs) kept_is (joined_keeps placing F s made_is.x made_is.y made_is.z bs made_is.is rises) in
-            record { own = under.own; own_is = under.own_is; keeps = keeps_more under.own kept bs under.keeps on }
+            record { k = under.k; leads = leads_on ∙ ap (kept_from p.steps) m_is ∙ under.leads; own = under.own; own_is = under.own_is; keeps = keeps_more under.own kept bs under.keeps on }
 
         third : name_eq s.keeps s.one ≡ false → name_eq s.keeps s.two ≡ false → s.keeps ≡ s.three
         third not_one not_two =
@@ -120,11 +119,11 @@ module _ {G : Type 0} (placing : PlaceBy) (F : ℕ) where
               ]
             ]
 
-        by_name : ((m : Name) → HasTree p m one → kept_from p.steps m ≡ Con k → (xs : List (BoxAt G)) → boxes placing F g p.steps one ≡ Some xs → Based k xs) → ((m : Name) → HasTree p m two → kept_from p.steps m ≡ Con k → (xs : List (BoxAt G)) → boxes placing F g p.steps two ≡ Some xs → Based k xs) → ((m : Name) → HasTree p m three → kept_from p.steps m ≡ Con k → (xs : List (BoxAt G)) → boxes placing F g p.steps three ≡ Some xs → Based k xs)
-            → (i : Bool) → name_eq s.keeps s.one ≡ i → (j : Bool) → name_eq s.keeps s.two ≡ j → Based k bs
+        by_name : ((m : Name) → HasTree p m one → (xs : List (BoxAt G)) → boxes placing F g p.steps one ≡ Some xs → Based m xs) → ((m : Name) → HasTree p m two → (xs : List (BoxAt G)) → boxes placing F g p.steps two ≡ Some xs → Based m xs) → ((m : Name) → HasTree p m three → (xs : List (BoxAt G)) → boxes placing F g p.steps three ≡ Some xs → Based m xs)
+            → (i : Bool) → name_eq s.keeps s.one ≡ i → (j : Bool) → name_eq s.keeps s.two ≡ j → Based n bs
         by_name first second others true i_is j j_is =
-            from_kept made_is.x (rw i_is refl) (first s.one join.2.first (ap (kept_from p.steps) (sym (name_eq_true s.keeps s.one i_is)) ∙ leads_on) made_is.x made_is.x_is)
+            from_kept made_is.x s.one (name_eq_true s.keeps s.one i_is) (rw i_is refl) (first s.one join.2.first made_is.x made_is.x_is)
         by_name first second others false i_is true j_is =
-            from_kept made_is.y (rw (i_is, j_is) refl) (second s.two join.2.second (ap (kept_from p.steps) (sym (name_eq_true s.keeps s.two j_is)) ∙ leads_on) made_is.y made_is.y_is)
+            from_kept made_is.y s.two (name_eq_true s.keeps s.two j_is) (rw (i_is, j_is) refl) (second s.two join.2.second made_is.y made_is.y_is)
         by_name first second others false i_is false j_is =
-            from_kept made_is.z (rw (i_is, j_is) refl) (others s.three join.2.third (ap (kept_from p.steps) (sym (third i_is j_is)) ∙ leads_on) made_is.z made_is.z_is)
+            from_kept made_is.z s.three (third i_is j_is) (rw (i_is, j_is) refl) (others s.three join.2.third made_is.z made_is.z_is)

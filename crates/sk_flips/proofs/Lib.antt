@@ -10,3 +10,9 @@ pub mod FlipsSoFar
 pub mod StepWords
 pub mod OnePlacement
 pub mod AnchorPlaces
+pub mod KeptPaths
+pub mod BaseBoxes
+pub mod BasePlaces
+pub mod AnchorBoxes
+pub mod AnchorLaws
+pub mod FinerLaid

@@ -29,6 +29,7 @@ use Rattle.sk_place.specs.declared.StepFault.{StepFault}
 use Rattle.sk_place.specs.declared.PlaceError.TheVariants as errors
 use Rattle.sk_place.specs.Placing.{IsPlaced}
 use Rattle.sk_place.proofs.OnePlacing.{one_list, one_failure, not_both}
+use Rattle.sk_place.proofs.Results.{ok_inside}
 use Rattle.sk_residual.specs.declared.Spotted.{Spotted}
 use Rattle.sk_residual.specs.declared.Tolerance.{Tolerance}
 use Rattle.sk_residual.specs.Tolerances.{AllHold, IsWorstUnlessNone, lengthwise, anglewise, everything}
@@ -88,10 +89,13 @@ same_measured wanted limit s p at (Holds y t) (Holds z u) first second =
 -- what comes of carrying boxes is one
 same_carried : {G : Type 0} (frame : FrameBy) (by : PlaceBy) (F : ℕ) (s : Sketch) (p : Plan) (bs : List (BoxAt G)) (a b : Result (List (BoxAt G)) BoxFault) → IsCarried frame by F s p bs a → IsCarried frame by F s p bs b → a ≡ b
 same_carried Base by F s p bs a b first second = first ∙ sym second
-same_carried {G} Drawn by F s p bs a b (m, m_is, first) (n, n_is, second) = sym first ∙ ap (λ x. carried_each by F x bs) (one_motion m n (sym m_is ∙ n_is)) ∙ second
-  where
-    one_motion : (m n : Motion G) → (let found : Result (Motion G) (What × Cause) = Ok m in found ≡ Ok n) → m ≡ n
-    one_motion m n same = cc
+same_carried {G} Drawn by F s p bs a b (m, m_is, first) (n, n_is, second) = sym first ∙ ap (λ x. carried_each by F x bs) (ok_inside m n (sym m_is ∙ n_is)) ∙ second
+
+-- the plan's boxes lie in one way
+pub same_laid : (G : Type 0) (placing : Layout) (F : ℕ) (s : Sketch) (p : Plan) → IsLegalPlan (graph_of s) p → HasTree p → (one other : List (BoxAt G)) → IsLaid placing F s p one → IsLaid placing F s p other → one ≡ other
+same_laid G placing F s p legal tree one other (bs, placed, carried) (cs, placed', carried') =
+    let same : bs ≡ cs = one_list G placing.by F (graph_of s) p legal tree bs cs placed placed' in
+    ok_inside one other (same_carried placing.frame placing.by F s p cs (Ok one) (Ok other) (subst (λ (l : List (BoxAt G)). IsCarried placing.frame placing.by F s p l (Ok one)) same carried) carried')
 
 -- what comes of boxes, with where they lie then: the first that can't be carried, or what is measured
 abbrev Comes : Wanted → ℕ → Sketch → Plan → ℕ → (G : Type 0) → Placement → Result (List (BoxAt G)) BoxFault → Type 0

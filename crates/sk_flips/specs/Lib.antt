@@ -3,3 +3,4 @@ pub mod Placements
 pub mod Alternatives
 pub mod FlipLines
 pub mod FlipReading
+pub mod Anchors
