@@ -13,11 +13,10 @@ ghost use Rattle.sk_flips.specs.Placements.{AnswersCarried, IsMeasured, IsPlacem
 use sk_base::{Graph, NoMemory, Placed, Sketch};
 use sk_frame::{FrameBy, frame_motion, frame_of};
 use sk_graph::sound_graph;
+use sk_holding::placed_in_order;
 use sk_interval::Grid;
 use sk_place::{BoxFault, Boxes, MoveError, PlaceBy, PlaceError, StepFault, moved, place, round};
-use sk_residual::{
-    Beyond, Tolerance, Turned, Wanted, first_unlike, least, passed, placed_in_order,
-};
+use sk_residual::{Beyond, Tolerance, Turned, Wanted, first_unlike, least, passed};
 use sk_tree::Plan;
 use std::alloc::Global;
 
