@@ -15,10 +15,11 @@ use Rattle.sk_family.proofs.Naming.{one_of_name, unnamed_true, not_named}
 use Rattle.sk_rules.specs.declared.Merge.{Merge}
 use Rattle.sk_rules.specs.declared.Merge.TheVariants.{Two, Three}
 use Rattle.sk_rules.specs.Merges.{merged, names_of}
-use Rattle.sk_worklist.specs.declared.index.Index.{Index}
+use Rattle.sk_index.specs.declared.Index.{Index}
 use Rattle.sk_worklist.specs.Choices.{CanTake}
-use Rattle.sk_worklist.specs.Indexed.{HasElements, IsHeld, IsIndex, IsLast, Knows, Represents}
-use Rattle.sk_worklist.proofs.Growing.{some_inside}
+use Rattle.sk_index.specs.Indexed.{HasElements, IsHeld, IsIndex, KeepsLines, IsLast, Represents}
+use Rattle.sk_worklist.specs.Known.{Knows}
+use Rattle.sk_index.proofs.Growing.{some_inside}
 use Rattle.sk_worklist.proofs.Mending.{knows_after, live_below_next}
 
 -- the clusters of a merge that may be taken have elements
@@ -38,7 +39,7 @@ have_elements g f sound (Three x y z) (falls, (a, b, d, a_is, b_is, d_is, (p, q,
     ]
 
 module _ (ix new : Index) (g : Graph) (names : List Name) (live : List Cluster) (r : Represents ix g live) (index : IsIndex new)
-    (held : (c : Cluster) → IsHeld new c ↔ (IsHeld ix c × ¬ Contains names c.name)) (lines : new.lines ≡ ix.lines) where
+    (held : (c : Cluster) → IsHeld new c ↔ (IsHeld ix c × ¬ Contains names c.name)) (lines : KeepsLines ix new) where
   pub represents_left : Represents new g (unnamed names live)
   represents_left = record {
     index = index;
@@ -76,7 +77,7 @@ module _ (ix : Index) (g : Graph) (f : Clusters) (sound : IsSound f) (names : Li
       let was = (filtered_from (λ (e : Cluster). not (is_named names e.name)) f.live c ((r.held c).0 held)).0 in
       subst (λ (e : Cluster). IsBelow c.name e.name) (last_whole d last) (live_below_next g f sound c was)
 
-  module _ (new : Index) (index : IsIndex new) (held : (c : Cluster) → IsHeld new c ↔ (IsHeld ix c ⊎ IsLast after.live c)) (lines : new.lines ≡ ix.lines) where
+  module _ (new : Index) (index : IsIndex new) (held : (c : Cluster) → IsHeld new c ↔ (IsHeld ix c ⊎ IsLast after.live c)) (lines : KeepsLines ix new) where
     pub represents_entered : Represents new g after.live
     represents_entered = subst (λ (h : Clusters). Represents new g h.live) (sym after_is) (record {
       index = index;

@@ -10,11 +10,11 @@ use Rattle.sk_family.proofs.Naming.{one_of_name}
 use Rattle.sk_rules.specs.declared.Merge.{Merge}
 use Rattle.sk_rules.specs.declared.Merge.TheVariants.{Two, Three}
 use Rattle.sk_rules.specs.Rules.{SharesTwo}
-use Rattle.sk_worklist.specs.declared.index.Index.{Index}
+use Rattle.sk_index.specs.declared.Index.{Index}
 use Rattle.sk_worklist.specs.Choices.{CanTake}
-use Rattle.sk_worklist.specs.Indexed.{Represents}
+use Rattle.sk_index.specs.Indexed.{Represents}
 use Rattle.sk_worklist.specs.Gather.{TriplesOf, Partner, TakesFrom}
-use Rattle.sk_worklist.proofs.Growing.{some_inside}
+use Rattle.sk_index.proofs.Growing.{some_inside}
 
 module _ (ix : Index) (g : Graph) (f : Clusters) (sound : IsSound f) (r : Represents ix g f.live) (x : Cluster) (x_in : Contains f.live x) where
   pub found_can : (m : Merge) → TriplesOf ix x m → TakesFrom g f x m

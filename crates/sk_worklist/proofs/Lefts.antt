@@ -17,7 +17,7 @@ use Rattle.sk_rules.specs.declared.Merge.{Merge}
 use Rattle.sk_rules.specs.declared.Merge.TheVariants.{Two, Three}
 use Rattle.sk_rules.specs.Merges.{Holds}
 use Rattle.sk_worklist.specs.Choices.{CanTake, ComesFirst}
-use Rattle.sk_worklist.specs.Indexed.{IsLeft, Avoids, names_one_of, avoiding, AreKept, IsWithin, NoPairBelow}
+use Rattle.sk_worklist.specs.Known.{IsLeft, Avoids, names_one_of, avoiding, AreKept, IsWithin, NoPairBelow}
 
 pub is_false : (b : Bool) → not b ≡ true → b ≡ false
 is_false true h = absurd (cc)

@@ -16,7 +16,7 @@ use Rattle.sk_family.proofs.Soundness.{below_next}
 use Rattle.sk_rules.specs.declared.Merge.{Merge}
 use Rattle.sk_rules.specs.declared.Merge.TheVariants.{Two, Three}
 use Rattle.sk_worklist.specs.Choices.{CanTake, ComesFirst, AreTriples}
-use Rattle.sk_worklist.specs.Indexed.{AreKept, IsWithin, NoPairBelow, Knows, avoiding, names_one_of}
+use Rattle.sk_worklist.specs.Known.{AreKept, IsWithin, NoPairBelow, Knows, avoiding, names_one_of}
 use Rattle.sk_worklist.proofs.Lefts.{mended, no_pair_after, below_others, is_it_below}
 use Rattle.sk_worklist.specs.Gather.{TakesFrom, AreUncovered}
 

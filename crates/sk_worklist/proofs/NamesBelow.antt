@@ -8,26 +8,10 @@ use Rattle.sk_base.specs.ClusterNames.{IsBelow}
 use Rattle.sk_base.proofs.Members.{contains_none}
 use Rattle.sk_family.specs.declared.Cluster.{Cluster}
 use Rattle.sk_family.specs.Clusters.{Clusters}
-use Rattle.sk_worklist.specs.declared.index.Index.{Index}
-use Rattle.sk_worklist.specs.Gather.{FromSome, GrowsBy, HolderOf, HoldsSome}
-use Rattle.sk_worklist.specs.Indexed.{IsBelowAt, IsIndex, IsNamedAt, Represents, holders_of}
-use Rattle.sk_worklist.proofs.Growing.{some_inside}
-
-module _ (ix : Index) (index : IsIndex ix) (e : Elem) (bound : Name) (keys : List ℕ) (keys_are : (k : ℕ) → Contains keys k ↔ (Contains (holders_of ix e) k × IsBelowAt ix bound k)) where
-  -- the names at the keys of an element that are below a name are those of its holders below it
-  pub named_below : (n : Name) → FromSome (λ k m. IsNamedAt ix m k) keys n ↔ HolderOf ix bound e n
-  named_below n = (holds, named)
-    where
-      holds : FromSome (λ k m. IsNamedAt ix m k) keys n → HolderOf ix bound e n
-      holds (k, k_in, (c, is, c_named)) =
-          let (k_holds, (d, d_is, below)) = (keys_are k).0 k_in in
-          let (b, b_is, e_in) = index.leads e k k_holds in
-          let d_c : Some d ≡ Some c = sym d_is ∙ is in
-          let b_c : Some b ≡ Some c = sym b_is ∙ is in
-          (c, (k, is), subst (λ (x : Cluster). Contains x.elements e) (some_inside b_c) e_in, subst (λ (x : Cluster). IsBelow x.name bound) (some_inside d_c) below, c_named)
-
-      named : HolderOf ix bound e n → FromSome (λ k m. IsNamedAt ix m k) keys n
-      named (c, (k, is), e_in, below, c_named) = (k, (keys_are k).1 (index.finds e k c is e_in, (c, is, below)), (c, is, c_named))
+use Rattle.sk_index.specs.declared.Index.{Index}
+use Rattle.sk_index.specs.Walks.{FromSome, GrowsBy, HolderOf}
+use Rattle.sk_worklist.specs.Gather.{HoldsSome}
+use Rattle.sk_index.specs.Indexed.{Represents}
 
 -- the holders of some elements in the index of a family are its clusters that hold some
 pub holds_some : (ix : Index) (g : Graph) (f : Clusters) → Represents ix g f.live → (es : List Elem) (bound n : Name) → FromSome (HolderOf ix bound) es n ↔ HoldsSome f es bound n

@@ -17,7 +17,7 @@ use Rattle.sk_family.proofs.Soundness.{sound_replaced}
 use Rattle.sk_worklist.specs.Choices.{CanTake, AreChoices}
 use Rattle.sk_worklist.specs.Run.{PicksLead, merge_of}
 use Rattle.sk_worklist.specs.Turns.{Answers}
-use Rattle.sk_worklist.proofs.Holding.{in_list}
+use Rattle.sk_index.proofs.Holding.{in_list}
 
 pub on_err : {T E P : Type 0} (r : Result T E) → P → OnErr r P
 on_err (Ok x) h = tt

@@ -13,10 +13,12 @@ use Rattle.sk_rules.specs.declared.Merge.{Merge}
 use Rattle.sk_rules.specs.declared.Merge.TheVariants.{Two, Three}
 use Rattle.sk_rules.specs.Reach.{IsClosed}
 use Rattle.sk_rules.proofs.Merging.{closed_by_merges}
-use Rattle.sk_worklist.specs.declared.index.Index.{Index}
+use Rattle.sk_index.specs.declared.Index.{Index}
 use Rattle.sk_worklist.specs.Choices.{CanTake}
-use Rattle.sk_worklist.specs.Indexed.{IsWithin, Represents}
-use Rattle.sk_worklist.specs.Gather.{GrowsBy, Partner, TriplesOf}
+use Rattle.sk_worklist.specs.Known.{IsWithin}
+use Rattle.sk_index.specs.Indexed.{Represents}
+use Rattle.sk_index.specs.Walks.{GrowsBy}
+use Rattle.sk_worklist.specs.Gather.{Partner, TriplesOf}
 use Rattle.sk_worklist.specs.Settling.{IsAny, IsSettledBelow, IsNextMerge, MergesOf, greatest_of}
 use Rattle.sk_worklist.proofs.Gathered.{found_can, can_found, partner_can, can_partner}
 use Rattle.sk_worklist.proofs.Lefts.{below_others, is_it_below, left_three, named_before, not_next}

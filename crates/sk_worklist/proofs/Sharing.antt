@@ -5,7 +5,7 @@ use Rattle.sk_base.specs.declared.Elem.{Elem}
 use Rattle.sk_base.specs.Numbering.{elem_exact}
 use Rattle.sk_base.proofs.Members.{nat_settles}
 use Rattle.sk_rules.specs.Rules.{SharesTwo}
-use Rattle.sk_worklist.specs.Indexed.{IsOther}
+use Rattle.sk_worklist.specs.Gather.{IsOther}
 
 pub two_of_other : (xs ys : List Elem) (a : Elem) → Contains xs a → Contains ys a → (e : Elem) × Contains xs e × IsOther ys a e → SharesTwo xs ys
 two_of_other xs ys a a_xs a_ys (e, e_xs, (other, e_ys)) = (a, e, record { differ = λ same. other (sym same); a_shared = (a_xs, a_ys); b_shared = (e_xs, e_ys) })

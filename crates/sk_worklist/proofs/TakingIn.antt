@@ -20,11 +20,12 @@ use Rattle.sk_rules.specs.declared.Merge.{Merge}
 use Rattle.sk_rules.specs.declared.Merge.TheVariants.{Two, Three}
 use Rattle.sk_rules.specs.Merges.{names_of}
 use Rattle.sk_rules.proofs.Merging.{merge_steps, replaced_replaces}
-use Rattle.sk_worklist.specs.declared.index.Index.{Index}
+use Rattle.sk_index.specs.declared.Index.{Index}
 use Rattle.sk_worklist.specs.declared.growth.Joining.TheVariants.{One, Both}
-use Rattle.sk_worklist.specs.Grown.{IsMarked, IsMarkedIn, MarksTwo, Joins, HasGrown, IsGrown}
+use Rattle.sk_worklist.specs.Grown.{IsMarkedIn, MarksTwo, Joins, HasGrown, IsGrown}
+use Rattle.sk_index.specs.Marks.{IsMarked}
 use Rattle.sk_worklist.specs.Choices.{CanTake}
-use Rattle.sk_worklist.specs.Indexed.{HasElements, IsHeld, IsIndex, IsThird, Represents}
+use Rattle.sk_index.specs.Indexed.{HasElements, IsHeld, IsIndex, KeepsLines, IsThird, Represents}
 use Rattle.sk_worklist.proofs.Entering.{represents_left}
 use Rattle.sk_worklist.proofs.Runs.{reach_more}
 
@@ -218,7 +219,7 @@ module _ (ix : Index) (g : Graph) (f : Clusters) (sound : IsSound f) (names : Li
 
   -- one more is taken in
   module _ (new : Index) (n : Name) (c : Cluster) (c_is : IsNamed f n c) (apart : ¬ Contains names n) (index : IsIndex new)
-      (held : (d : Cluster) → IsHeld new d ↔ (IsHeld ix d × ¬ Contains (n ∷ []) d.name)) (lines : new.lines ≡ ix.lines)
+      (held : (d : Cluster) → IsHeld new d ↔ (IsHeld ix d × ¬ Contains (n ∷ []) d.name)) (lines : KeepsLines ix new)
       (marks' : List Bool) (marked : (e : Elem) → IsMarked marks' e ↔ (IsMarked marks e ⊎ Contains c.elements e)) where
     pub has_more : HasGrown new g f (names ++ n ∷ []) marks'
     has_more = record {

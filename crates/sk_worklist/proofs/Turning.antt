@@ -11,10 +11,12 @@ use Rattle.sk_family.specs.Clusters.{Clusters, IsSound}
 use Rattle.sk_family.proofs.Naming.{below_irreflexive, below_asymmetric}
 use Rattle.sk_rules.specs.declared.Merge.{Merge}
 use Rattle.sk_rules.specs.declared.Merge.TheVariants.{Two}
-use Rattle.sk_worklist.specs.declared.index.Index.{Index}
+use Rattle.sk_index.specs.declared.Index.{Index}
 use Rattle.sk_worklist.specs.Choices.{CanTake, ComesFirst, IsFirstPair, AreTriples}
-use Rattle.sk_worklist.specs.Gather.{GrowsBy, FromSome, TriplesOf, Partner, IsPartner, TakesFrom, AreUncovered}
-use Rattle.sk_worklist.specs.Indexed.{AreKept, IsTriple, IsWithin, Knows, NoPairBelow, Represents, avoiding}
+use Rattle.sk_index.specs.Walks.{GrowsBy, FromSome}
+use Rattle.sk_worklist.specs.Gather.{TriplesOf, Partner, IsPartner, TakesFrom, AreUncovered}
+use Rattle.sk_worklist.specs.Known.{AreKept, IsTriple, IsWithin, Knows, NoPairBelow, avoiding}
+use Rattle.sk_index.specs.Indexed.{Represents}
 use Rattle.sk_worklist.specs.Turns.{HasNoPair}
 use Rattle.sk_worklist.proofs.Gathered.{found_can, can_found, partner_can, can_partner}
 use Rattle.sk_worklist.proofs.Lefts.{is_it_below}

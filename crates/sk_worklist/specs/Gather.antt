@@ -1,6 +1,5 @@
 -- What a walk through the index from one cluster finds.
 use Rattle.std.specs.Prelude.{◌≡◌, ◌≢◌, ◌↔◌, ◌⊎◌, ℕ, List, Option, None, Some, Contains, AllPairs}
-use Rattle.slab.specs.Slab.{get}
 use Rattle.sk_base.specs.declared.Elem.{Elem}
 use Rattle.sk_base.specs.declared.Name.{Name}
 use Rattle.sk_base.specs.ClusterNames.{IsBelow}
@@ -8,25 +7,18 @@ use Rattle.sk_rules.specs.Rules.{SharesTwo}
 use Rattle.sk_family.specs.declared.Cluster.{Cluster}
 use Rattle.sk_rules.specs.declared.Merge.{Merge}
 use Rattle.sk_rules.specs.declared.Merge.TheVariants.{Three}
-use Rattle.sk_worklist.specs.declared.index.Index.{Index}
+use Rattle.sk_index.specs.declared.Index.{Index}
 use Rattle.sk_worklist.specs.Choices.{CanTake, ComesFirst}
-use Rattle.sk_worklist.specs.Indexed.{holders_of, IsHeld, IsThirdIn}
+use Rattle.sk_index.specs.Indexed.{cluster_at, holders_of, IsThirdIn}
+use Rattle.sk_index.specs.Walks.{FromSome}
 use Rattle.sk_base.specs.declared.Graph.{Graph}
 use Rattle.sk_family.specs.Clusters.{Clusters, IsNamed}
 
--- new has what old has and what is of that kind
-abbrev pub GrowsBy : {M : Type 0} → (M → Type 0) → List M → List M → Type 0
-GrowsBy {M} kind old new = (m : M) → Contains new m ↔ (Contains old m ⊎ kind m)
+-- e isn't a, and is one of these
+abbrev pub IsOther : List Elem → Elem → Elem → Type 0
+IsOther xs a e = (e ≢ a) × Contains xs e
 
--- what some item of the list gives
-abbrev pub FromSome : {X M : Type 0} → (X → M → Type 0) → List X → M → Type 0
-FromSome kind xs m = (x : _) × Contains xs x × kind x m
-
--- the name is that of a cluster that is below another and holds the element
-abbrev pub HolderOf : Index → Name → Elem → Name → Type 0
-HolderOf ix bound e n = (c : Cluster) × IsHeld ix c × Contains c.elements e × IsBelow c.name bound × (c.name ≡ n)
-
--- the same of a family, with some of these elements
+-- the name is that of a cluster of the family that is below another and holds some of these elements
 abbrev pub HoldsSome : Clusters → List Elem → Name → Name → Type 0
 HoldsSome f es bound n = (c : Cluster) × IsNamed f n c × IsBelow n bound × ((e : Elem) × Contains es e × Contains c.elements e)
 
@@ -36,7 +28,7 @@ IsThirdCluster ix x y z a b = IsBelow z.name y.name × (a ≢ b) × IsThirdIn ix
 
 -- the triple of x, y and the cluster of that key
 abbrev pub ThirdAt : Index → Cluster → Cluster → Elem → Elem → ℕ → Merge → Type 0
-ThirdAt ix x y a b k m = (z : Cluster) × (get ix.live k ≡ Some z) × IsThirdCluster ix x y z a b × (m ≡ Three x.name y.name z.name)
+ThirdAt ix x y a b k m = (z : Cluster) × (cluster_at ix k ≡ Some z) × IsThirdCluster ix x y z a b × (m ≡ Three x.name y.name z.name)
 
 -- the triples of x and y with a and b as corners, and with a as the corner between the two
 abbrev pub WithCorners : Index → Cluster → Cluster → Elem → Elem → Merge → Type 0
@@ -47,7 +39,7 @@ WithCorner ix x y a = FromSome (WithCorners ix x y a) y.elements
 
 -- the triples of x and the cluster of that key, as the second, with a between the two
 abbrev pub SecondAt : Index → Cluster → Elem → ℕ → Merge → Type 0
-SecondAt ix x a k m = (y : Cluster) × (get ix.live k ≡ Some y) × IsBelow y.name x.name × WithCorner ix x y a m
+SecondAt ix x a k m = (y : Cluster) × (cluster_at ix k ≡ Some y) × IsBelow y.name x.name × WithCorner ix x y a m
 
 -- all triples of x as the greatest, with a as a corner, and with any
 abbrev pub AtCorner : Index → Cluster → Elem → Merge → Type 0
@@ -58,7 +50,7 @@ TriplesOf ix x = FromSome (AtCorner ix x) x.elements
 
 -- the cluster of that key is below x and shares two elements with it, and is so named
 abbrev pub PartnerAt : Index → Cluster → ℕ → Name → Type 0
-PartnerAt ix x k n = (y : Cluster) × (get ix.live k ≡ Some y) × IsBelow y.name x.name × SharesTwo x.elements y.elements × (y.name ≡ n)
+PartnerAt ix x k n = (y : Cluster) × (cluster_at ix k ≡ Some y) × IsBelow y.name x.name × SharesTwo x.elements y.elements × (y.name ≡ n)
 
 abbrev pub PartnerOf : Index → Cluster → Elem → Name → Type 0
 PartnerOf ix x e n = (k : ℕ) × Contains (holders_of ix e) k × PartnerAt ix x k n

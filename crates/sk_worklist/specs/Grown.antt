@@ -1,18 +1,16 @@
 -- A cluster that grows: which clusters it has taken in, and what may merge with it.
-use Rattle.std.specs.Prelude.{◌≡◌, ◌≢◌, ◌↔◌, ◌<◌, Bool, true, List, Some, Contains, All, AllPairs, length, slice_get}
+use Rattle.std.specs.Prelude.{◌≡◌, ◌≢◌, ◌↔◌, ◌<◌, Bool, List, Contains, All, AllPairs, length}
 use Rattle.sk_base.specs.declared.Elem.{Elem}
 use Rattle.sk_base.specs.declared.Name.{Name}
 use Rattle.sk_base.specs.declared.Graph.{Graph}
 use Rattle.sk_family.specs.declared.Cluster.{Cluster}
 use Rattle.sk_family.specs.Clusters.{Clusters, IsLive, bodies, made_of, replaced, unnamed}
 use Rattle.sk_rules.specs.Reach.{Reach}
-use Rattle.sk_worklist.specs.declared.index.Index.{Index}
+use Rattle.sk_index.specs.declared.Index.{Index}
 use Rattle.sk_worklist.specs.declared.growth.Joining.{Joining}
 use Rattle.sk_worklist.specs.declared.growth.Joining.TheVariants.{One, Both}
-use Rattle.sk_worklist.specs.Indexed.{IsHeld, IsThird, Represents}
-
-abbrev pub IsMarked : List Bool → Elem → Type 0
-IsMarked marks e = slice_get marks e.0 ≡ Some true
+use Rattle.sk_index.specs.Indexed.{IsHeld, IsThird, Represents}
+use Rattle.sk_index.specs.Marks.{IsMarked}
 
 -- it is one of these, and marked
 abbrev pub IsMarkedIn : List Bool → List Elem → Elem → Type 0

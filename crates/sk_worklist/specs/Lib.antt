@@ -2,7 +2,7 @@ pub mod Choices
 pub mod Orders
 pub mod Run
 pub mod TrialGraphs
-pub mod Indexed
+pub mod Known
 pub mod Gather
 pub mod Turns
 pub mod Settling

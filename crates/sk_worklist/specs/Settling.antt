@@ -7,7 +7,7 @@ use Rattle.sk_family.specs.declared.Cluster.{Cluster}
 use Rattle.sk_family.specs.Clusters.{Clusters}
 use Rattle.sk_rules.specs.declared.Merge.{Merge}
 use Rattle.sk_rules.specs.declared.Merge.TheVariants.{Two, Three}
-use Rattle.sk_worklist.specs.declared.index.Index.{Index}
+use Rattle.sk_index.specs.declared.Index.{Index}
 use Rattle.sk_worklist.specs.Choices.{CanTake}
 use Rattle.sk_worklist.specs.Gather.{Partner, TriplesOf}
 

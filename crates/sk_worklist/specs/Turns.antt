@@ -8,7 +8,8 @@ use Rattle.sk_rules.specs.declared.Merge.TheVariants.{Two}
 use Rattle.sk_rules.specs.Merges.{names_of}
 use Rattle.sk_worklist.specs.declared.worklist.Worklist.{Worklist}
 use Rattle.sk_worklist.specs.Choices.{AreChoices, CanTake}
-use Rattle.sk_worklist.specs.Indexed.{Represents, Knows}
+use Rattle.sk_index.specs.Indexed.{Represents}
+use Rattle.sk_worklist.specs.Known.{Knows}
 
 -- what the worklist knows of the merges of the family
 abbrev pub KnowsOf : Worklist → Graph → Clusters → Type 0

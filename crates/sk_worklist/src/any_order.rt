@@ -10,15 +10,15 @@ ghost use Rattle.sk_family.specs.Body.{initial_bodies};
 ghost use Rattle.sk_family.specs.Clusters.{ByName, IsSound, bodies, replaced};
 ghost use Rattle.sk_rules.specs.Reach.{Reach, IsClosed, IsNormal, IsTheOnlyNormal};
 ghost use Rattle.sk_worklist.specs.Choices.{CanTake};
-ghost use Rattle.sk_worklist.specs.Indexed.{AllRise, IsIndex, Represents};
+ghost use Rattle.sk_index.specs.Indexed.{AllRise, IsIndex, Represents};
 ghost use Rattle.sk_worklist.specs.Settling.{IsAny, IsNext, MergesOf, greatest_of};
 
 use crate::growth::Growth;
-use crate::index::Index;
 use crate::partner::least_partner;
 use crate::triples::add_triples_of;
 use sk_base::{Graph, List, Name, NoMemory};
 use sk_family::{Cluster, Family};
+use sk_index::Index;
 use sk_rules::Merge;
 use std::alloc::Global;
 

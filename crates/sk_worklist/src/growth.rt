@@ -6,13 +6,13 @@ ghost use Rattle.sk_base.specs.Numbering.{elem_number};
 ghost use Rattle.sk_base.specs.Rising.{IsRising};
 ghost use Rattle.sk_family.specs.Clusters.{IsLive, IsSound};
 ghost use Rattle.sk_worklist.specs.Choices.{CanTake};
-ghost use Rattle.sk_worklist.specs.Grown.{IsMarked, IsMarkedIn, MarksTwo, MakesThird, MeetsAt, Joins, HasGrown, IsGrown};
-ghost use Rattle.sk_worklist.specs.Indexed.{HasElements, IsHeld, IsIndex, IsThird, Represents};
+ghost use Rattle.sk_index.specs.Marks.{IsMarked};
+ghost use Rattle.sk_worklist.specs.Grown.{IsMarkedIn, MarksTwo, MakesThird, MeetsAt, Joins, HasGrown, IsGrown};
+ghost use Rattle.sk_index.specs.Indexed.{HasElements, IsHeld, IsIndex, IsThird, Represents};
 
-use crate::index::{Index, mark};
-use crate::meets::{is_in_rising, is_third};
 use sk_base::{Elem, Graph, List, Name, NoMemory};
 use sk_family::{Cluster, Family};
+use sk_index::{Index, is_in_rising, is_marked, is_third, mark};
 use sk_rules::Merge;
 use std::alloc::Global;
 
@@ -185,10 +185,7 @@ impl Growth {
     fn has(&self, elem: Elem) -> bool
         ensures { IsTrue result ↔ IsMarked self.now.marks.items elem }
     {
-        match self.marks.as_slice().get(elem.0 as usize) {
-            Some(marked) => *marked,
-            None => false,
-        }
+        is_marked(self.marks.as_slice(), elem)
     }
 
     /// What may merge with it by the cluster of that key.

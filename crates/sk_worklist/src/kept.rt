@@ -1,10 +1,10 @@
 // The triples that are kept from one turn to the next.
-ghost use Rattle.std.specs.Prelude.{◌≡◌, ◌↔◌, IfOk, Contains, AllPairs, IsTrue, Some, slice_get, take, drop};
+ghost use Rattle.std.specs.Prelude.{◌≡◌, ◌↔◌, IfOk, Contains, AllPairs};
 ghost use Rattle.sk_base.specs.declared.Name.{Name as AnyName};
 ghost use Rattle.sk_base.specs.ClusterNames.{IsBelow, is_named};
 ghost use Rattle.sk_rules.specs.declared.Merge.{Merge as AnyMerge};
 ghost use Rattle.sk_worklist.specs.Choices.{ComesFirst};
-ghost use Rattle.sk_worklist.specs.Indexed.{IsTriple, names_one_of, avoiding};
+ghost use Rattle.sk_worklist.specs.Known.{IsTriple, names_one_of, avoiding};
 
 use sk_base::{Name, NoMemory};
 use sk_rules::Merge;
@@ -55,23 +55,5 @@ fn is_among(name: Name, names: &[Name]) -> bool
     requires { AllPairs IsBelow names.now }
     ensures { result ≡ is_named names.now name }
 {
-    is_at(name, place_among(name, names), names)
-}
-
-fn is_at(name: Name, place: usize, names: &[Name]) -> bool
-    ensures { IsTrue result ↔ (slice_get names.now place ≡ Some name) }
-{
-    match names.get(place) {
-        Some(found) => *found == name,
-        None => false,
-    }
-}
-
-/// The place of the name among these, which stand in order: after all that are below it.
-fn place_among(name: Name, names: &[Name]) -> usize
-    requires { AllPairs IsBelow names.now }
-    ensures before { (n : AnyName) → Contains (take result names.now) n → IsBelow n name }
-    ensures after { (n : AnyName) → Contains (drop result names.now) n → ¬ IsBelow n name }
-{
-    names.partition_point(|found| found.is_below(name))
+    names.binary_search(&name).is_ok()
 }

@@ -1,12 +1,11 @@
-//! Closing a family: merges are taken until none holds, in the order that a picker answers.
+//! Closing a family: merges are taken until none holds, in the order that a picker answers or in any
+//! order.
 #![tactic(auto)]
 
 mod any_order;
 mod chosen;
 mod close;
 mod growth;
-mod holders;
-mod index;
 mod kept;
 mod law;
 mod meets;

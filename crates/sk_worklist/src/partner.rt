@@ -6,13 +6,13 @@ ghost use Rattle.sk_base.specs.declared.Name.{Name as ClusterName};
 ghost use Rattle.sk_family.specs.Clusters.{ByName};
 ghost use Rattle.sk_family.specs.declared.Cluster.{Cluster as AnyCluster};
 ghost use Rattle.sk_rules.specs.Rules.{SharesTwo};
-ghost use Rattle.sk_worklist.specs.Indexed.{AllRise, IsIndex};
+ghost use Rattle.sk_index.specs.Indexed.{AllRise, IsIndex};
 ghost use Rattle.sk_worklist.specs.Gather.{IsLeast, IsLesser, IsPartner, Partner, PartnerAt, PartnerOf};
 
-use crate::index::Index;
 use crate::meets::shares_two;
 use sk_base::{Elem, Name};
 use sk_family::Cluster;
+use sk_index::Index;
 
 /// The first of these clusters that has a partner, and the least one.
 pub(crate) fn first_with_partner(index: &Index, clusters: &[Cluster]) -> Option<(Name, Name)>

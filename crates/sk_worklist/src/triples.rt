@@ -1,13 +1,13 @@
 ghost use Rattle.std.specs.Prelude.{◌↔◌, IsTrue, OnOk};
 ghost use Rattle.sk_base.specs.Numbering.{elem_number};
 ghost use Rattle.sk_base.specs.Rising.{IsRising};
-ghost use Rattle.sk_worklist.specs.Indexed.{AllRise, IsIndex};
-ghost use Rattle.sk_worklist.specs.Gather.{FromSome, GrowsBy, IsThirdCluster, ThirdAt, WithCorners, WithCorner, SecondAt, AtCorner, TriplesOf};
+ghost use Rattle.sk_index.specs.Indexed.{AllRise, IsIndex};
+ghost use Rattle.sk_index.specs.Walks.{FromSome, GrowsBy};
+ghost use Rattle.sk_worklist.specs.Gather.{IsThirdCluster, ThirdAt, WithCorners, WithCorner, SecondAt, AtCorner, TriplesOf};
 
-use crate::index::Index;
-use crate::meets::has_third;
 use sk_base::{Elem, List, NoMemory};
 use sk_family::Cluster;
+use sk_index::{Index, has_third};
 use sk_rules::Merge;
 
 /// Adds the triples with one of these clusters as the greatest that may merge.

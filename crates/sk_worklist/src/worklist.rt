@@ -8,17 +8,16 @@ ghost use Rattle.sk_family.specs.Clusters.{Clusters, IsSound};
 ghost use Rattle.sk_rules.specs.Merges.{merged, names_of};
 ghost use Rattle.sk_worklist.specs.Choices.{AreTriples, IsFirstPair};
 ghost use Rattle.sk_worklist.specs.Gather.{AreUncovered, HoldsSome};
-ghost use Rattle.sk_worklist.specs.Indexed.{HasElements, IsIndex, Represents};
+ghost use Rattle.sk_index.specs.Indexed.{HasElements, IsIndex, Represents};
 ghost use Rattle.sk_worklist.specs.Turns.{Answers, Follows, HasLeft, HasNoPair};
 
-use crate::holders::add_holders_of_all;
-use crate::index::Index;
 use crate::kept::{drop_naming, in_order, names_in_order};
 use crate::partner::first_with_partner;
 use crate::picker::Picker;
 use crate::triples::add_triples_of_all;
 use sk_base::{Elem, Graph, List, Name, NoMemory};
 use sk_family::Family;
+use sk_index::{Index, add_holders_of_all};
 use sk_rules::Merge;
 use std::alloc::Global;
 

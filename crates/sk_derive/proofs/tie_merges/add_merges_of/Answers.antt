@@ -1,5 +1,5 @@
 use Rattle.sk_base.specs.declared.Name.TheVariants.{Con}
-use Rattle.sk_worklist.proofs.Growing.{grows_start, grows_end}
+use Rattle.sk_index.proofs.Growing.{grows_start, grows_end}
 use Rattle.sk_derive.specs.TieMerges.{TieWith}
 use Rattle.sk_derive.proofs.Finding.{found_step, order_step}
 use Rattle.sk_derive.proofs.tie_merges.add_merges_of.Goals as goal

@@ -2,8 +2,8 @@ use Rattle.std.proofs.Common.{◌≡◌, List, [], refl, sym, subst}
 use Rattle.sk_base.specs.declared.Elem.{Elem}
 use Rattle.sk_base.specs.declared.Kind.TheVariants.{Point}
 use Rattle.sk_base.specs.SoundGraph.{HasNode}
-use Rattle.sk_worklist.specs.Gather.{GrowsBy, FromSome}
-use Rattle.sk_worklist.proofs.Growing.{grows_start, grows_step, grows_end}
+use Rattle.sk_index.specs.Walks.{GrowsBy, FromSome}
+use Rattle.sk_index.proofs.Growing.{grows_start, grows_step, grows_end}
 use Rattle.sk_derive.proofs.Finding.{adds_grows, points_told}
 use Rattle.sk_derive.proofs.tie_merges.points_among.Goals as goal
 

@@ -5,7 +5,7 @@ use Rattle.sk_family.specs.Clusters.{Clusters, bodies}
 use Rattle.sk_rules.specs.declared.Merge.{Merge}
 use Rattle.sk_rules.specs.Reach.{stays}
 use Rattle.sk_rules.proofs.NormalForm.{normal_same}
-use Rattle.sk_worklist.specs.Indexed.{IsWithin}
+use Rattle.sk_worklist.specs.Known.{IsWithin}
 use Rattle.sk_worklist.specs.Settling.{IsNext, IsNextMerge, IsSettledBelow, greatest_of}
 use Rattle.sk_worklist.proofs.Runs.{reach_on, two_live}
 use Rattle.sk_worklist.proofs.Settled.{settled_at_first, within_at_first, settled_after, within_after, next_can, next_within, settled_to_next, closed_without_next}

@@ -1,4 +1,4 @@
-use Rattle.sk_worklist.specs.Indexed.{IsOther}
+use Rattle.sk_worklist.specs.Gather.{IsOther}
 use Rattle.sk_base.specs.declared.Elem.{Elem}
 use Rattle.sk_base.proofs.Searches.{NoneBefore}
 use Rattle.sk_worklist.proofs.meets.has_other_in.Given as goal

@@ -1,8 +1,10 @@
 use Rattle.std.proofs.Common.{sym, subst, refl, List}
 use Rattle.sk_rules.specs.declared.Merge.{Merge}
 use Rattle.sk_rules.specs.declared.Merge.TheVariants.{Three}
-use Rattle.sk_worklist.specs.Gather.{GrowsBy, ThirdAt}
-use Rattle.sk_worklist.proofs.Growing.{grows_one, third_only}
+use Rattle.sk_index.specs.Walks.{GrowsBy}
+use Rattle.sk_worklist.specs.Gather.{ThirdAt}
+use Rattle.sk_index.proofs.Growing.{grows_one}
+use Rattle.sk_worklist.proofs.Walking.{third_only}
 use Rattle.sk_worklist.proofs.triples.add_third.Goals as goal
 
 pub returns-in_ok-push-in-Some : goal.returns-in_ok-push-in-Some

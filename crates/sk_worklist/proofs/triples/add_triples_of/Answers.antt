@@ -1,7 +1,8 @@
 use Rattle.std.proofs.Common.{subst, List}
 use Rattle.sk_base.specs.declared.Elem.{Elem}
-use Rattle.sk_worklist.specs.Gather.{GrowsBy, FromSome, AtCorner}
-use Rattle.sk_worklist.proofs.Growing.{grows_start, grows_step, grows_end}
+use Rattle.sk_index.specs.Walks.{GrowsBy, FromSome}
+use Rattle.sk_worklist.specs.Gather.{AtCorner}
+use Rattle.sk_index.proofs.Growing.{grows_start, grows_step, grows_end}
 use Rattle.sk_worklist.proofs.triples.add_triples_of.Goals as goal
 
 pub loop-a-init : goal.loop-a-init

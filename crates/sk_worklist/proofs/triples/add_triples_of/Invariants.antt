@@ -1,5 +1,6 @@
 use Rattle.std.proofs.Common.{take}
-use Rattle.sk_worklist.specs.Gather.{GrowsBy, FromSome, AtCorner}
+use Rattle.sk_index.specs.Walks.{GrowsBy, FromSome}
+use Rattle.sk_worklist.specs.Gather.{AtCorner}
 use Rattle.sk_worklist.proofs.triples.add_triples_of.Given as goal
 
 abbrev pub invariant-loop-a : goal.invariant-loop-a

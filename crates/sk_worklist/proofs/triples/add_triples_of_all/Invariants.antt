@@ -1,5 +1,6 @@
 use Rattle.std.proofs.Common.{take}
-use Rattle.sk_worklist.specs.Gather.{GrowsBy, FromSome, TriplesOf}
+use Rattle.sk_index.specs.Walks.{GrowsBy, FromSome}
+use Rattle.sk_worklist.specs.Gather.{TriplesOf}
 use Rattle.sk_worklist.proofs.triples.add_triples_of_all.Given as goal
 
 abbrev pub invariant-loop-x : goal.invariant-loop-x

@@ -1,7 +1,8 @@
 use Rattle.std.proofs.Common.{subst, List}
 use Rattle.sk_base.specs.declared.Elem.{Elem}
-use Rattle.sk_worklist.specs.Gather.{GrowsBy, FromSome, WithCorners}
-use Rattle.sk_worklist.proofs.Growing.{grows_start, grows_step, grows_end}
+use Rattle.sk_index.specs.Walks.{GrowsBy, FromSome}
+use Rattle.sk_worklist.specs.Gather.{WithCorners}
+use Rattle.sk_index.proofs.Growing.{grows_start, grows_step, grows_end}
 use Rattle.sk_worklist.proofs.triples.add_with_corner.Goals as goal
 
 pub loop-b-init : goal.loop-b-init

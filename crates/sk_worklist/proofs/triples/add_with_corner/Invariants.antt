@@ -1,5 +1,6 @@
 use Rattle.std.proofs.Common.{take}
-use Rattle.sk_worklist.specs.Gather.{GrowsBy, FromSome, WithCorners}
+use Rattle.sk_index.specs.Walks.{GrowsBy, FromSome}
+use Rattle.sk_worklist.specs.Gather.{WithCorners}
 use Rattle.sk_worklist.proofs.triples.add_with_corner.Given as goal
 
 abbrev pub invariant-loop-b : goal.invariant-loop-b

@@ -1,7 +1,8 @@
-use Rattle.sk_worklist.specs.Gather.{FromSome, ThirdAt}
-use Rattle.sk_worklist.proofs.Growing.{grows_start, grows_step, grows_end, grows_same}
-use Rattle.sk_worklist.specs.Indexed.{IsBelowAt, holders_of}
-use Rattle.sk_worklist.proofs.Walking.{some_same}
+use Rattle.sk_index.specs.Walks.{FromSome}
+use Rattle.sk_worklist.specs.Gather.{ThirdAt}
+use Rattle.sk_index.proofs.Growing.{grows_start, grows_step, grows_end, grows_same}
+use Rattle.sk_index.specs.Indexed.{IsBelowAt, holders_of}
+use Rattle.sk_index.proofs.Walking.{some_same}
 use Rattle.sk_worklist.proofs.triples.add_with_corners.Goals as goal
 
 pub loop-key-init : goal.loop-key-init

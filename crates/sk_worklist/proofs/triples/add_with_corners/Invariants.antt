@@ -1,5 +1,6 @@
 use Rattle.std.proofs.Common.{take}
-use Rattle.sk_worklist.specs.Gather.{GrowsBy, FromSome, ThirdAt}
+use Rattle.sk_index.specs.Walks.{GrowsBy, FromSome}
+use Rattle.sk_worklist.specs.Gather.{ThirdAt}
 use Rattle.sk_worklist.proofs.triples.add_with_corners.Given as goal
 
 abbrev pub invariant-loop-key : goal.invariant-loop-key

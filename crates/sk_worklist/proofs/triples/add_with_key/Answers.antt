@@ -1,6 +1,7 @@
 use Rattle.std.proofs.Common.{sym}
 use Rattle.sk_worklist.specs.Gather.{WithCorner, SecondAt}
-use Rattle.sk_worklist.proofs.Growing.{grows_same, second_same}
+use Rattle.sk_index.proofs.Growing.{grows_same}
+use Rattle.sk_worklist.proofs.Walking.{second_same}
 use Rattle.sk_worklist.proofs.triples.add_with_key.Goals as goal
 
 pub returns-in_ok-add_with_corner-in-Some : goal.returns-in_ok-add_with_corner-in-Some

@@ -4,7 +4,7 @@ use Rattle.sk_base.proofs.Searches.{on_ok}
 use Rattle.sk_family.specs.declared.Cluster.{Cluster}
 use Rattle.sk_rules.specs.declared.Merge.{Merge}
 use Rattle.sk_rules.specs.Merges.{names_of}
-use Rattle.sk_worklist.specs.Indexed.{IsLast}
+use Rattle.sk_index.specs.Indexed.{IsLast}
 use Rattle.sk_worklist.proofs.Entering.{whole_is_greatest, represents_entered, knows_entered}
 use Rattle.sk_worklist.proofs.worklist.Worklist.enter.Goals as goal
 

@@ -1,7 +1,7 @@
 use Rattle.std.proofs.Common.{◌≡◌, sym, subst, ap}
 use Rattle.sk_base.specs.declared.Name.TheVariants.{Step}
 use Rattle.sk_family.proofs.Naming.{below_irreflexive}
-use Rattle.sk_worklist.specs.Indexed.{IsWithin, NoPairBelow}
+use Rattle.sk_worklist.specs.Known.{IsWithin, NoPairBelow}
 use Rattle.sk_worklist.proofs.Mending.{no_pair_at_all}
 use Rattle.sk_worklist.proofs.Turning.{no_pair_to, within_next, first_is}
 use Rattle.sk_worklist.proofs.worklist.Worklist.first_pair.Goals as goal

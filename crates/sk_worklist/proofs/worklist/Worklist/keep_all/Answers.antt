@@ -2,7 +2,7 @@ use Rattle.std.proofs.Common.{◌≡◌, ◌∙◌, ◌++◌, sym, subst, ap, Li
 use Rattle.sk_base.specs.declared.Name.{Name}
 use Rattle.sk_base.specs.declared.Name.TheVariants.{Step}
 use Rattle.sk_rules.specs.declared.Merge.{Merge}
-use Rattle.sk_worklist.specs.Indexed.{Knows, avoiding}
+use Rattle.sk_worklist.specs.Known.{Knows, avoiding}
 use Rattle.sk_worklist.proofs.Mending.{avoiding_same}
 use Rattle.sk_worklist.proofs.Turning.{knows_all, all_are_choices}
 use Rattle.sk_worklist.proofs.worklist.Worklist.keep_all.Goals as goal

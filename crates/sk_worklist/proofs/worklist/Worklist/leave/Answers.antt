@@ -3,7 +3,7 @@ use Rattle.std.specs.Prelude.{Contains}
 use Rattle.sk_family.specs.Clusters.{unnamed}
 use Rattle.sk_rules.specs.declared.Merge.{Merge}
 use Rattle.sk_rules.specs.Merges.{names_of}
-use Rattle.sk_worklist.specs.Indexed.{Represents}
+use Rattle.sk_index.specs.Indexed.{Represents}
 use Rattle.sk_worklist.proofs.Entering.{represents_left}
 use Rattle.sk_worklist.proofs.worklist.Worklist.leave.Goals as goal
 

@@ -1,6 +1,7 @@
 use Rattle.std.proofs.Common.{sym, subst, List, []}
 use Rattle.sk_rules.specs.declared.Merge.{Merge}
-use Rattle.sk_worklist.specs.Gather.{GrowsBy, FromSome, TriplesOf}
+use Rattle.sk_index.specs.Walks.{GrowsBy, FromSome}
+use Rattle.sk_worklist.specs.Gather.{TriplesOf}
 use Rattle.sk_worklist.proofs.Turning.{both_ok, uncovered}
 use Rattle.sk_worklist.proofs.worklist.Worklist.uncovered.Goals as goal
 

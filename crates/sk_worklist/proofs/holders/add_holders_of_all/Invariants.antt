@@ -1,6 +1,0 @@
-use Rattle.std.proofs.Common.{take}
-use Rattle.sk_worklist.specs.Gather.{GrowsBy, FromSome, HolderOf}
-use Rattle.sk_worklist.proofs.holders.add_holders_of_all.Given as goal
-
-abbrev pub invariant-loop-elem : goal.invariant-loop-elem
-invariant-loop-elem l = GrowsBy (FromSome (HolderOf l.index l.below) (take l.elem-index l.elements)) l.fn.all l.all

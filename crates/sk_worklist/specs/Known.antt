@@ -1,0 +1,59 @@
+-- What is known of the merges of a family, and which triples are kept.
+use Rattle.std.specs.Prelude.{◌≡◌, ◌≢◌, ◌↔◌, ◌⊎◌, ◌++◌, ℕ, Bool, true, false, not, ◌||◌, List, [], ◌∷◌, Option, None, Some, Contains, AllPairs, filter, length, ◌-◌, slice_get}
+use Rattle.sk_base.specs.declared.Name.{Name}
+use Rattle.sk_base.specs.declared.Name.TheVariants.{Step}
+use Rattle.sk_base.specs.declared.Elem.{Elem}
+use Rattle.sk_base.specs.declared.Graph.{Graph}
+use Rattle.sk_base.specs.ClusterNames.{IsBelow, is_named}
+use Rattle.sk_base.specs.Numbering.{elem_number}
+use Rattle.sk_family.specs.declared.Cluster.{Cluster}
+use Rattle.sk_base.specs.Rising.{IsRising}
+use Rattle.sk_family.specs.Clusters.{Clusters, IsNamed}
+use Rattle.sk_rules.specs.declared.Merge.{Merge}
+use Rattle.sk_rules.specs.declared.Merge.TheVariants.{Two, Three}
+use Rattle.sk_rules.specs.Rules.{SharesTwo, IsLine}
+use Rattle.sk_rules.specs.Merges.{names_of}
+use Rattle.sk_worklist.specs.Choices.{CanTake, ComesFirst}
+
+-- the name is that of a cluster that a merge of those leaves as it is
+pub record IsLeft (f : Clusters) (gone : List Name) (n : Name) : Type 0 where
+  pub not_gone : is_named gone n ≡ false
+  pub not_new : n ≢ Step f.next_step
+
+-- each name of the merge is
+abbrev pub Avoids : Clusters → List Name → Merge → Type 0
+Avoids f gone m = (n : Name) → Contains (names_of m) n → IsLeft f gone n
+
+-- whether the merge names one of these
+abbrev pub names_one_of : List Name → Merge → Bool
+names_one_of gone (Two x y) = is_named gone x || is_named gone y
+names_one_of gone (Three x y z) = is_named gone x || (is_named gone y || is_named gone z)
+
+-- the merges that name none of these
+abbrev pub avoiding : List Name → List Merge → List Merge
+avoiding gone merges = filter (λ (m : Merge). not (names_one_of gone m)) merges
+
+abbrev pub IsTriple : Merge → Type 0
+IsTriple m = (x : Name) × (y : Name) × (z : Name) × (m ≡ Three x y z)
+
+-- just the triples that may merge and whose greatest cluster is of that kind, in order
+pub record AreKept (g : Graph) (f : Clusters) (kind : Name → Type 0) (kept : List Merge) : Type 0 where
+  pub in_order : AllPairs ComesFirst kept
+  pub right : (m : Merge) → Contains kept m → CanTake g f m × ((x : Name) × (y : Name) × (z : Name) × (m ≡ Three x y z) × kind x)
+  pub all : (x y z : Name) → kind x → CanTake g f (Three x y z) → Contains kept (Three x y z)
+
+-- no pair whose greater cluster is below the name may merge
+abbrev pub NoPairBelow : Clusters → Name → Type 0
+NoPairBelow f bound = (x y : Cluster) → Contains f.live x → Contains f.live y → IsBelow x.name bound → IsBelow y.name x.name → ¬ SharesTwo x.elements y.elements
+
+-- the name isn't above that of the next step
+abbrev pub IsWithin : Clusters → Name → Type 0
+IsWithin f bound = ¬ IsBelow (Step f.next_step) bound
+
+-- what is known of the merges of a family: no pair below one name may merge, and just the triples below
+-- another are kept, in order, beside some that name a cluster that is gone
+pub record Knows (clear covered : Name) (kept : List Merge) (gone : List Name) (g : Graph) (f : Clusters) : Type 0 where
+  pub clear_within : IsWithin f clear
+  pub covered_within : IsWithin f covered
+  pub no_pair : NoPairBelow f clear
+  pub keeps : AreKept g f (λ x. IsBelow x covered) (avoiding gone kept)
