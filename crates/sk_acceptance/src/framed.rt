@@ -1,8 +1,9 @@
 // Drawings told in their own frame.
 
 /// A block, two lines that cross and two that are drawn parallel, a drawing far away, a session, elements alone, a point and
-/// a line, a triangle that is drawn upright, a turn that is no multiple of a right angle on fine and coarse grids; a box
-/// that can't be carried; and two of them in the frame of the base.
+/// a line, a triangle that is drawn upright, also on 27 digits and with its choice turned over, one triangle that is drawn in
+/// four directions, lines that meet near, a kilometre away and further, the datum sketch, a turn that is no multiple of a
+/// right angle on fine and coarse grids; a box that can't be carried; and two of them in the frame of the base.
 pub const FRAMED: &str = "
 $ solve frame=drawn
 sketch 2
@@ -230,6 +231,185 @@ point B 10000000 24000000
 point C 7000000 24000000
 length tolerance 0 nm at c1
 angle tolerance 0 ppb at none
+$ solve frame=drawn bits=27
+sketch 1
+point A 10 20
+point B 10 24
+point C 7 24
+distance A B 4
+distance A C 5
+distance B C 3
+end
+> 0
+verdict well
+steps 1
+bits 27
+point A 10000000 20000000
+point B 10000000 24000000
+point C 7000000 24000000
+length tolerance 0 nm at c1
+angle tolerance 0 ppb at none
+$ solve frame=drawn
+sketch 1
+point A 1 2
+point B 11 2
+point C 6 10
+distance A B 10
+distance A C 10
+distance B C 10
+end
+> 0
+verdict well
+steps 1
+bits 38
+point A 1000000 2000000
+point B 11000000 2000000
+point C 6000000 10660254
+length tolerance 1 nm at c2
+angle tolerance 0 ppb at none
+$ solve frame=drawn
+sketch 1
+point A 1 2
+point B 1 12
+point C -7 7
+distance A B 10
+distance A C 10
+distance B C 10
+end
+> 0
+verdict well
+steps 1
+bits 38
+point A 1000000 2000000
+point B 1000000 12000000
+point C -7660254 7000000
+length tolerance 1 nm at c2
+angle tolerance 0 ppb at none
+$ solve frame=drawn
+sketch 1
+point A 1 2
+point B -9 2
+point C -4 -6
+distance A B 10
+distance A C 10
+distance B C 10
+end
+> 0
+verdict well
+steps 1
+bits 38
+point A 1000000 2000000
+point B -9000000 2000000
+point C -4000000 -6660254
+length tolerance 1 nm at c2
+angle tolerance 0 ppb at none
+$ solve frame=drawn
+sketch 1
+point A 1 2
+point B 1 -8
+point C 9 -3
+distance A B 10
+distance A C 10
+distance B C 10
+end
+> 0
+verdict well
+steps 1
+bits 38
+point A 1000000 2000000
+point B 1000000 -8000000
+point C 9660254 -3000000
+length tolerance 1 nm at c2
+angle tolerance 0 ppb at none
+$ solve frame=drawn
+sketch 1
+line X 2 5 12 5
+line Y 0 0 1000 1
+angle X Y 3/4
+end
+> 0
+verdict well
+steps 0
+bits 38
+line X 0 1000000000 5000000
+line Y -600000000 800000000 -2996000000
+length tolerance 0 nm at none
+angle tolerance 0 ppb at line X
+$ solve frame=drawn
+sketch 1
+line X 2 5 12 5
+line Y 0 0 1000000 5
+angle X Y 1/0
+end
+> 0
+verdict well
+steps 0
+bits 38
+line X 0 1000000000 5000000
+line Y -1000000000 0 -1000000000000
+length tolerance 0 nm at none
+angle tolerance 0 ppb at line X
+$ solve frame=drawn
+sketch 1
+line X 2 5 12 5
+line Y 0 0 1000000 4.999
+angle X Y 1/0
+end
+> 0
+verdict well
+steps 0
+bits 38
+line X 0 1000000000 5000000
+line Y -1000000000 0 -2000000
+length tolerance 0 nm at none
+angle tolerance 0 ppb at line X
+$ solve frame=drawn
+sketch 1
+point A 3.5 -2
+end
+> 0
+verdict well
+steps 0
+bits 38
+point A 3500000 -2000000
+length tolerance 0 nm at none
+angle tolerance 0 ppb at none
+$ flips frame=drawn
+sketch 1
+point A 10 20
+point B 10 24
+point C 7 24
+distance A B 4
+distance A C 5
+distance B C 3
+end
+flip s1
+flip
+end
+> 0
+flip 1 ok
+point A 10000000 20000000
+point B 10000000 24000000
+point C 13000000 24000000
+length tolerance 0 nm at c1
+angle tolerance 0 ppb at none
+flip 2 ok
+point A 10000000 20000000
+point B 10000000 24000000
+point C 7000000 24000000
+length tolerance 0 nm at c1
+angle tolerance 0 ppb at none
+$ grow frame=drawn n=3
+> 0
+grow 3
+elements 3
+constraints 3
+verdict well
+steps 1
+sum x 18000000 nm
+sum y 32000000 nm
+length tolerance 0 nm at c2
+angle tolerance 0 ppb at line X
 $ solve frame=drawn
 sketch 1
 point A 0.5 0.25

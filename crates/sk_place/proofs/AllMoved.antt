@@ -1,5 +1,5 @@
 -- All boxes, carried by one motion.
-use Rattle.std.proofs.Common.{◌≡◌, ℕ, ◌+◌, List, Result, Ok, Err, refl, sym, subst}
+use Rattle.std.proofs.Common.{◌≡◌, ℕ, ◌+◌, List, Result, Ok, Err, subst}
 use Rattle.std.specs.Prelude.{IfOk}
 use Rattle.sk_motion.specs.declared.Motion.{Motion}
 use Rattle.sk_motion.specs.Nesting.{IsMotionInside}

@@ -7,10 +7,8 @@ use Rattle.sk_base.specs.declared.Graph.{Graph}
 use Rattle.sk_interval.specs.declared.Cause.{Cause}
 use Rattle.sk_steps.specs.declared.What.{What}
 use Rattle.sk_steps.specs.ThirdElement.{third_element}
-use Rattle.sk_motion.specs.declared.Motion.{Motion}
 use Rattle.sk_motion.specs.declared.Pair.{Pair}
 use Rattle.sk_motion.specs.Motions.{motion}
-use Rattle.sk_motion.specs.Carried.{carried}
 use Rattle.sk_rules.specs.declared.Shared.{Shared}
 use Rattle.sk_tree.specs.declared.PlanStep.{PlanStep}
 use Rattle.sk_tree.specs.declared.Tree.{Tree}

@@ -1,6 +1,5 @@
 -- Where the placement stands between two steps.
-use Rattle.sk_base.specs.declared.ConId.{ConId}
-use Rattle.std.specs.Prelude.{◌≡◌, ◌≢◌, ◌⊎◌, IsSome, ◌<◌, ◌+◌, ℕ, List, [], ◌∷◌, ◌++◌, map, take, drop, length, slice_index_or, Option, Some, None, Result, Ok, Err, Contains}
+use Rattle.std.specs.Prelude.{◌≡◌, ◌≢◌, IsSome, ◌<◌, ◌+◌, ℕ, List, map, take, drop, length, slice_index_or, Option, Some, None, Result, Ok, Err, Contains}
 use Rattle.sk_base.specs.declared.Graph.{Graph}
 use Rattle.sk_base.specs.declared.Name.{Name}
 use Rattle.sk_base.specs.declared.Name.TheVariants.{Con, Step}
