@@ -1,5 +1,5 @@
 -- Where the elements of a graph are placed, each line's normal, each constraint and each block has its own least number.
-use Rattle.std.proofs.Common.{◌≡◌, ◌≢◌, refl, ℕ, zero, suc, ◌+◌, ◌*◌, ◌<◌, ◌≤◌, ℤ, pos, negsuc, unsigned_abs, List, length, get_or, take, subst, add-one, arith}
+use Rattle.std.proofs.Common.{◌≢◌, refl, ℕ, zero, suc, ◌+◌, ◌*◌, ◌<◌, ◌≤◌, ℤ, pos, negsuc, unsigned_abs, List, length, get_or, take, subst, add-one, arith}
 use Rattle.std.specs.Prelude.{All, Contains, max}
 use Rattle.std.specs.Int.{div_ceil}
 use Rattle.std.proofs.lemmas.Int.{ints}

@@ -1,9 +1,9 @@
 -- The first item with a property, where items rise by number.
-use Rattle.std.proofs.Common.{◌≡◌, ◌≢◌, inl, inr, ℕ, ◌<◌, List, [], ◌∷◌, ◌++◌, subst, ap, arith}
+use Rattle.std.proofs.Common.{◌≡◌, inl, inr, ℕ, ◌<◌, List, [], ◌∷◌, ◌++◌, subst, ap, arith}
 use Rattle.std.specs.Prelude.{Contains}
-use Rattle.sk_base.specs.Rising.{IsRising, put, union}
+use Rattle.sk_base.specs.Rising.{IsRising}
 use Rattle.sk_base.proofs.Members.{contains_none, contains_head, contains_later, contains_cases}
-use Rattle.sk_base.proofs.Unions.{which, put_first, put_later, contains_put_other, rising_tail, rising_below, union_cases}
+use Rattle.sk_base.proofs.Unions.{rising_tail, rising_below}
 use Rattle.sk_residual.specs.First.{IsFirst}
 
 module _ {X : Type 0} (number : X → ℕ) where

@@ -1,7 +1,7 @@
 -- Where the elements of a graph are placed, each item has its own least number, and so there is a worst one, and a first
 -- that is above a limit or none.
-use Rattle.std.proofs.Common.{◌≡◌, ◌≢◌, ◌⊎◌, inl, inr, refl, ℕ, zero, suc, ◌+◌, ◌*◌, ◌<◌, ◌≤◌, ℤ, pos, negsuc, unsigned_abs, Bool, true, false, List, [], ◌∷◌, ◌++◌, length, get_or, take, ap, sym, subst, append_assoc, add-one, Option, None, Some, arith}
-use Rattle.std.specs.Prelude.{All, Contains, max, is_none, ◌||◌, nat_lt}
+use Rattle.std.proofs.Common.{◌≡◌, ◌≢◌, ◌⊎◌, inl, inr, refl, ℕ, ℤ, pos, negsuc, Bool, true, false, List, [], ◌∷◌, ◌++◌, ap, sym, subst, append_assoc, Option, None, Some, arith}
+use Rattle.std.specs.Prelude.{Contains, is_none, ◌||◌, nat_lt}
 use Rattle.std.specs.List.{flat_map}
 use Rattle.std.proofs.lemmas.List.{append-nil}
 use Rattle.std.proofs.lemmas.List.Elements.{Contains-append_cases}

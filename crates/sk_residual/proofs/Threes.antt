@@ -1,5 +1,5 @@
 -- The first three pins of a block that don't lie on one line, as they are looked for pin by pin.
-use Rattle.std.proofs.Common.{◌≡◌, inl, inr, ℕ, ◌+◌, ◌<◌, List, [], ◌∷◌, ◌-◌, length, length-drop, get_or, take, drop, true, false, Bool, refl, ap, subst, ◌∙◌, add-one, drop-cons, arith}
+use Rattle.std.proofs.Common.{◌≡◌, inl, inr, ℕ, ◌+◌, ◌<◌, List, [], ◌∷◌, ◌-◌, length, length-drop, get_or, take, drop, true, false, Bool, refl, ap, subst, ◌∙◌, arith}
 use Rattle.std.specs.Prelude.{Contains, Option, Some, None, map, find, cond}
 use Rattle.std.specs.Option.{option_map, option_or}
 use Rattle.std.proofs.lemmas.List.{take_all, drop_more}

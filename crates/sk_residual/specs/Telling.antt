@@ -1,5 +1,5 @@
 -- What the functions of this crate tell each other on the way.
-use Rattle.std.specs.Prelude.{◌≢◌, ◌==◌, ◌||◌, ◌&&◌, nat_lt, if◌then◌else◌, Bool, true, false, ℕ, List, Option, Some, None, IsSome, MatchOption, Contains}
+use Rattle.std.specs.Prelude.{◌≢◌, ◌==◌, ◌||◌, ◌&&◌, nat_lt, Bool, true, false, ℕ, List, Option, Some, None, IsSome, MatchOption}
 use Rattle.sk_base.specs.declared.ConId.{ConId}
 use Rattle.sk_base.specs.declared.Elem.{Elem}
 use Rattle.sk_base.specs.declared.Placed.{Placed}
