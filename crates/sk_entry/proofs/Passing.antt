@@ -5,7 +5,7 @@ use Rattle.sk_base.specs.declared.Sketch.{Sketch}
 use Rattle.sk_base.proofs.Tables.{passed}
 use Rattle.sk_lines.specs.declared.Keyword.{Keyword}
 use Rattle.sk_lines.specs.Keywords.{places, declares}
-use Rattle.sk_entry.specs.Conditions.{is_bad_name, is_taken, is_unknown, has_wrong_kinds, is_bad_number, is_zero_number, has_equals, has_same_names, is_drawn_flat, lacks_radius}
+use Rattle.sk_entry.specs.Conditions.{has_bad_name, is_taken, is_unknown, has_wrong_kinds, is_bad_number, is_zero_number, has_equals, has_same_names, is_drawn_flat, lacks_radius}
 use Rattle.sk_lines.specs.FirstCode.{first_code}
 use Rattle.sk_entry.specs.EntryCodes.{entry_rows}
 
@@ -13,7 +13,7 @@ use Rattle.sk_entry.specs.EntryCodes.{entry_rows}
 pub record Passes (s : Sketch) (k : Keyword) (rest : List (List ℕ)) : Type 0 where
   pub radius : lacks_radius k (length rest) ≡ false
   pub count : not (nat_eq (length rest) (length (places k (length rest)))) ≡ false
-  pub names : list_any is_bad_name (zip (places k (length rest)) rest) ≡ false
+  pub names : list_any has_bad_name (zip (places k (length rest)) rest) ≡ false
   pub free : list_any (is_taken s) (zip (places k (length rest)) rest) ≡ false
   pub known : list_any (is_unknown s) (zip (places k (length rest)) rest) ≡ false
   pub kinds : has_wrong_kinds s k rest ≡ false

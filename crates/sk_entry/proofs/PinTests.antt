@@ -12,7 +12,7 @@ use Rattle.sk_base.specs.declared.Sketch.{Sketch}
 use Rattle.sk_base.specs.Millimetres.{mm_of}
 use Rattle.sk_lines.specs.declared.Keyword.TheVariants.{Block}
 use Rattle.sk_entry.specs.EntryCodes.{entry_rows}
-use Rattle.sk_entry.specs.Conditions.{Field, is_bad_name, is_taken, is_unknown, is_bad_number, is_zero_number, is_drawn_line, at_one_place, of_one_name}
+use Rattle.sk_entry.specs.Conditions.{Field, has_bad_name, is_taken, is_unknown, is_bad_number, is_zero_number, is_drawn_line, at_one_place, of_one_name}
 use Rattle.sk_lines.specs.FirstCode.{first_code}
 use Rattle.sk_lines.specs.Keywords.{UsedName, Coordinate, pin_places, pin_count, places}
 use Rattle.sk_entry.specs.Meaning.{pin_asked}
@@ -93,7 +93,7 @@ block_same s number pins = ap (λ (ps : List Pin). let block : Constraint = reco
 
 -- each test of the table is one of the pins
 pub record AreTested (s : Sketch) (rest : List (List ℕ)) : Type 0 where
-  pub names : list_any is_bad_name (zip (places Block (length rest)) rest) ≡ list_any lacks_name (pins_in rest)
+  pub names : list_any has_bad_name (zip (places Block (length rest)) rest) ≡ list_any lacks_name (pins_in rest)
   pub free : list_any (is_taken s) (zip (places Block (length rest)) rest) ≡ false
   pub known : list_any (is_unknown s) (zip (places Block (length rest)) rest) ≡ list_any (λ (pin : PinWords). is_none (element_named s pin.name)) (pins_in rest)
   pub numbers : list_any is_bad_number (zip (places Block (length rest)) rest) ≡ list_any (λ (pin : PinWords). is_none (mm_of pin.x) || is_none (mm_of pin.y)) (pins_in rest)
@@ -103,7 +103,7 @@ pub tested : (s : Sketch) (rest : List (List ℕ)) → length rest ≡ 3 * pin_c
 tested s rest count =
     let n = pin_count (length rest) in
     record {
-      names = any_fields is_bad_name n rest count ∙ any_same _ lacks_name (pins_in rest) (λ pin. or_none (lacks_name pin));
+      names = any_fields has_bad_name n rest count ∙ any_same _ lacks_name (pins_in rest) (λ pin. or_none (lacks_name pin));
       free = any_fields (is_taken s) n rest count ∙ never (pins_in rest);
       known = any_fields (is_unknown s) n rest count ∙ any_same _ (λ (pin : PinWords). is_none (element_named s pin.name)) (pins_in rest) (λ pin. or_none (is_none (element_named s pin.name)));
       numbers = any_fields is_bad_number n rest count;

@@ -10,7 +10,7 @@ use Rattle.sk_base.specs.declared.Element.{Element}
 use Rattle.sk_base.specs.declared.Sketch.{Sketch}
 use Rattle.sk_lines.specs.declared.Keyword.{Keyword}
 use Rattle.sk_lines.specs.declared.Keyword.TheVariants.{Line, Circle, Inside, Block}
-use Rattle.sk_lines.specs.Keywords.{Place, NewName, UsedName, Coordinate, Length, Slope, declares}
+use Rattle.sk_lines.specs.Keywords.{Place, NewName, UsedName, Coordinate, Length, Ratio, declares}
 use Rattle.sk_entry.specs.Kinds.{takes}
 use Rattle.sk_entry.specs.Named.{element_named}
 use Rattle.sk_entry.specs.PinLines.{PinWords, pins_in, some_two}
@@ -21,10 +21,10 @@ abbrev pub Field : Type 0
 Field = Place × List ℕ
 
 -- E4: a word in a name's place isn't a name
-abbrev pub is_bad_name : Field → Bool
-is_bad_name (NewName, word) = not (is_name word)
-is_bad_name (UsedName, word) = not (is_name word)
-is_bad_name _ = false
+abbrev pub has_bad_name : Field → Bool
+has_bad_name (NewName, word) = not (is_name word)
+has_bad_name (UsedName, word) = not (is_name word)
+has_bad_name _ = false
 
 -- E5: a declared name is in use
 abbrev pub is_taken : Sketch → Field → Bool
@@ -54,13 +54,13 @@ has_wrong_kinds s k _ = false
 abbrev pub is_bad_number : Field → Bool
 is_bad_number (Coordinate, word) = is_none (mm_of word)
 is_bad_number (Length, word) = is_none (length_of word)
-is_bad_number (Slope, word) = is_none (ratio_of word)
+is_bad_number (Ratio, word) = is_none (ratio_of word)
 is_bad_number _ = false
 
 -- E9: a length or radius is 0, p is 0, `inside` has equal radii, or a block has two equal places
 abbrev pub is_zero_number : Field → Bool
 is_zero_number (Length, word) = is_zero (length_of word)
-is_zero_number (Slope, word) = is_zero (option_map (λ parts. parts.0) (ratio_of word))
+is_zero_number (Ratio, word) = is_zero (option_map (λ parts. parts.0) (ratio_of word))
 is_zero_number _ = false
 
 abbrev pub radii_equal : Option Element → Option Element → Bool

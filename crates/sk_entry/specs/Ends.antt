@@ -14,16 +14,16 @@ use Rattle.sk_lines.specs.declared.Code.TheVariants.{E4, E6, E7, E10, E14}
 use Rattle.sk_lines.specs.Keywords.{UsedName}
 use Rattle.sk_entry.specs.Kinds.{takes}
 use Rattle.sk_entry.specs.Named.{element_named}
-use Rattle.sk_entry.specs.Conditions.{Field, is_bad_name, is_unknown, kinds_fit}
+use Rattle.sk_entry.specs.Conditions.{Field, has_bad_name, is_unknown, kinds_fit}
 
 -- both names, each in its place
 abbrev pub both_names : List ℕ → List ℕ → List Field
 both_names u v = (UsedName, u) ∷ (UsedName, v) ∷ []
 
 -- the codes of both names and of the kinds of their elements, in their order
-abbrev pub end_rows : Sketch → Keyword → List ℕ → List ℕ → List (Bool × Code)
-end_rows s k u v =
-    (list_any is_bad_name (both_names u v), E4) ∷
+abbrev pub names_and_kinds_rows : Sketch → Keyword → List ℕ → List ℕ → List (Bool × Code)
+names_and_kinds_rows s k u v =
+    (list_any has_bad_name (both_names u v), E4) ∷
     (list_any (is_unknown s) (both_names u v), E6) ∷
     (not (kinds_fit k (element_named s u) (element_named s v)), E7) ∷ []
 
@@ -44,7 +44,7 @@ IsWithoutValue _ = ⊥
 
 -- the codes of such a constraint, in their order
 abbrev pub pair_rows : Sketch → Keyword → List ℕ → List ℕ → List (Bool × Code)
-pair_rows s k u v = end_rows s k u v ++ (bytes_eq u v, E10) ∷ (nat_le 4000 (length s.constraints), E14) ∷ []
+pair_rows s k u v = names_and_kinds_rows s k u v ++ (bytes_eq u v, E10) ∷ (nat_le 4000 (length s.constraints), E14) ∷ []
 
 -- what such a constraint asks of the two elements
 abbrev pub pair_rule : Keyword → Elem → Elem → Rule

@@ -11,7 +11,7 @@ ghost use Rattle.sk_entry.specs.PinLines.{pins_in, some_two};
 
 use crate::field::{label, room_for_constraint};
 use crate::scope::Scope;
-use sk_base::{ConId, Constraint, Elem, Label, List, Pin, Rule, Um, parse_mm};
+use sk_base::{ConId, Constraint, Label, List, Pin, Rule, Um, parse_mm};
 use sk_lex::Word;
 use sk_lines::{Code, EntryError, bytes_at};
 use std::alloc::Global;
@@ -117,8 +117,9 @@ fn has_line<S: Scope>(s: &S, said: &[PinSaid]) -> bool
     })
 }
 
-/// The pins that were said, each with a place.
+/// The pins that were said, each of an element that is declared, and with a place.
 fn pins_of<S: Scope>(alloc: Global, s: &S, said: &[PinSaid]) -> Result<List<Pin>, EntryError>
+    requires { list_any (lacks_element (S.so_far s.now)) said.now ≡ false }
     ensures { MatchResult result
         (λ pins. (list_any lacks_place said.now ≡ false) × (pins ≡ map (pin_told (S.so_far s.now)) said.now))
         (IsRefusal (coded (list_any lacks_place said.now) E8)) }
@@ -130,8 +131,9 @@ fn pins_of<S: Scope>(alloc: Global, s: &S, said: &[PinSaid]) -> Result<List<Pin>
     Ok(pins)
 }
 
-/// The pin that was said.
+/// The pin that was said, of an element that is declared.
 fn pin_of<S: Scope>(s: &S, said: &PinSaid) -> Result<Pin, Code>
+    requires { lacks_element (S.so_far s.now) said.now ≡ false }
     ensures { MatchResult result
         (λ pin. (lacks_place said.now ≡ false) × (pin ≡ pin_told (S.so_far s.now) said.now))
         (λ code. (lacks_place said.now ≡ true) × (code ≡ E8)) }
@@ -142,11 +144,14 @@ fn pin_of<S: Scope>(s: &S, said: &PinSaid) -> Result<Pin, Code>
     let Some(y) = said.y else {
         return Err(Code::E8);
     };
-    let elem = match s.named(said.name) {
-        Some(element) => element.number,
-        None => Elem(0),
-    };
-    Ok(Pin { elem, x, y })
+    match s.named(said.name) {
+        Some(element) => Ok(Pin {
+            elem: element.number,
+            x,
+            y,
+        }),
+        None => unreachable!(),
+    }
 }
 
 /// Whether two pins are at one place.

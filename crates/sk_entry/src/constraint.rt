@@ -4,13 +4,13 @@ ghost use Rattle.sk_lines.specs.declared.Keyword.TheVariants.{Distance, Inside, 
 ghost use Rattle.sk_lines.specs.Quantities.{um, ratio};
 ghost use Rattle.sk_entry.specs.Named.{number_named};
 ghost use Rattle.sk_entry.specs.EntryCodes.{entry_rows};
-ghost use Rattle.sk_entry.specs.Ends.{end_rows, pair_rows, pair_rule, IsWithoutValue, AreEnds};
+ghost use Rattle.sk_entry.specs.Ends.{names_and_kinds_rows, pair_rows, pair_rule, IsWithoutValue, AreEnds};
 ghost use Rattle.sk_lines.specs.FirstCode.{first_code, unless};
 
 use crate::field::{declared, different, kinds, label, length, not_zero, room_for_constraint};
 use crate::scope::Scope;
 use sk_base::{ConId, Constraint, Elem, Element, Rule};
-use sk_lines::{Code, Keyword, slope};
+use sk_lines::{Code, Keyword, angle_ratio};
 
 /// A distance, by the words of its line.
 pub(crate) fn read_distance<S: Scope>(
@@ -81,7 +81,7 @@ fn ends<'a, S: Scope>(
 ) -> Result<(&'a Element, &'a Element), Code>
     ensures { MatchResult result
         (λ ends. AreEnds (S.so_far s.now) keyword u.now v.now ends.0.now ends.1.now)
-        (λ code. first_code (end_rows (S.so_far s.now) keyword u.now v.now) ≡ Some code) }
+        (λ code. first_code (names_and_kinds_rows (S.so_far s.now) keyword u.now v.now) ≡ Some code) }
 {
     let u = label(u)?;
     let v = label(v)?;
@@ -128,7 +128,7 @@ pub(crate) fn read_angle<S: Scope>(
         (record { number = number; rule = rule.Angle (number_named (S.so_far s.now) l.now) (number_named (S.so_far s.now) m.now) (ratio word.now) }) }
 {
     let (first, second) = ends(s, Keyword::Angle, l, m)?;
-    let ratio = slope(word)?;
+    let ratio = angle_ratio(word)?;
     if ratio.p == 0 {
         return Err(Code::E9);
     }

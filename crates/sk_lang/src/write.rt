@@ -1,8 +1,11 @@
-ghost use Rattle.std.specs.Prelude.{◌≡◌, ◌++◌, [], ◌∷◌, map, IfOk, OnOk};
+ghost use Rattle.std.specs.Prelude.{◌≡◌, ◌<◌, ◌++◌, [], ◌∷◌, length, map, IfOk, OnOk};
+ghost use Rattle.sk_base.specs.SoundSketch.{IsSoundSketch};
 ghost use Rattle.sk_lang.specs.Blocks.{is_block, has_block, version_for};
 ghost use Rattle.sk_entry.specs.CanonicalLines.{element_line, constraint_line};
 ghost use Rattle.sk_lines.specs.Lines.{ended_lines};
 ghost use Rattle.sk_lang.specs.Canonical.{header, text_under, canonical, canonical_2};
+ghost use Rattle.sk_lang.specs.Reading.{Reads};
+ghost use Rattle.sk_lang.specs.Renumbered.{renumbered};
 
 use sk_base::{NoMemory, Rule, Sketch, Text};
 use sk_entry::{put_constraint, put_element};
@@ -11,14 +14,16 @@ use std::alloc::Global;
 
 /// The canonical text of the sketch, under the header of version 1 exactly where it has no block.
 pub fn write_sketch(alloc: Global, s: &Sketch) -> Result<Text, NoMemory>
-    ensures { IfOk result (λ text. text ≡ canonical s.now) }
+    ensures canonical { IfOk result (λ text. text ≡ canonical s.now) }
+    ensures reads_back { IsSoundSketch s.now → 0 < length s.now.elements → IfOk result (λ text. Reads text (renumbered s.now)) }
 {
     write_under(alloc, version_for(s), s)
 }
 
 /// The canonical text of the sketch under the header of version 2.
 pub fn write_sketch_2(alloc: Global, s: &Sketch) -> Result<Text, NoMemory>
-    ensures { IfOk result (λ text. text ≡ canonical_2 s.now) }
+    ensures canonical { IfOk result (λ text. text ≡ canonical_2 s.now) }
+    ensures reads_back { IsSoundSketch s.now → 0 < length s.now.elements → IfOk result (λ text. Reads text (renumbered s.now)) }
 {
     write_under(alloc, Version::Two, s)
 }

@@ -10,7 +10,7 @@ use Rattle.sk_lex.specs.Words.{is_blank, is_empty, is_too_long}
 use Rattle.sk_lines.specs.declared.keyword.Keyword.{Keyword}
 use Rattle.sk_lines.specs.declared.version.Version.{Version}
 use Rattle.sk_lines.specs.declared.version.Version.TheVariants.{One, Two}
-use Rattle.sk_lines.specs.Comments.{is_hash, said_in, words_under}
+use Rattle.sk_lines.specs.Comments.{is_hash, before_comment, words_under}
 use Rattle.sk_lines.specs.Keywords.{keyword_of}
 
 -- each word with a byte before it
@@ -46,18 +46,18 @@ kept_extent keep (part ∷ parts) = by (keep part) (kept_extent keep parts)
     by true rest = omega (arith, rest)
     by false rest = omega (arith, rest)
 
-said_length : (v : Version) (line : List ℕ) → length (said_in v line) ≤ length line
-said_length One line = omega arith
-said_length Two line =
+before_comment_length : (v : Version) (line : List ℕ) → length (before_comment v line) ≤ length line
+before_comment_length One line = omega arith
+before_comment_length Two line =
     let short = prefix_len-le-length (λ b. not (is_hash b)) line in
     let count = length-take-le (position_or_len is_hash line) line short in omega (arith, short, count)
 
 words_extent : (v : Version) (line : List ℕ) → extent (words_under v line) ≤ length line + 1
 words_extent v line =
-    let said = said_in v line in
+    let said = before_comment v line in
     let kept = kept_extent (λ part. not (is_empty part)) (slice_split is_blank said) in
     let split = split_extent said in
-    let short = said_length v line in omega (arith, kept, split, short)
+    let short = before_comment_length v line in omega (arith, kept, split, short)
 
 -- the words of a line that begins with a keyword
 pub record BeginsLine (v : Version) (k : Keyword) (rest : List (List ℕ)) : Type 0 where

@@ -13,7 +13,7 @@ use Rattle.sk_base.proofs.Decimals.{both}
 use Rattle.sk_lex.specs.Words.{is_too_long, is_text_byte, has_wrong_byte, is_blank, is_empty, words_in}
 use Rattle.sk_lines.specs.declared.version.Version.{Version}
 use Rattle.sk_lines.specs.declared.version.Version.TheVariants.{One, Two}
-use Rattle.sk_lines.specs.Comments.{is_hash, said_in, words_under}
+use Rattle.sk_lines.specs.Comments.{is_hash, before_comment, words_under}
 use Rattle.sk_lines.specs.Lines.{is_line_feed}
 use Rattle.sk_lines.proofs.LineWords.{extent, spaced_extent}
 use Rattle.sk_lines.proofs.ReadBack.{IsWord, IsLine, words_in-spaced}
@@ -173,7 +173,7 @@ plain_uncut : (bytes : List ℕ) → ArePlain bytes → before_first is_hash byt
 plain_uncut [] all = refl
 plain_uncut (b ∷ bytes) all = uncut_by (is_hash b) (position_or_len is_hash bytes) b bytes (plain_hash b all.0) (plain_uncut bytes all.1)
 
-plain_said : (v : Version) (bytes : List ℕ) → ArePlain bytes → said_in v bytes ≡ bytes
+plain_said : (v : Version) (bytes : List ℕ) → ArePlain bytes → before_comment v bytes ≡ bytes
 plain_said One bytes all = refl
 plain_said Two bytes all = plain_uncut bytes all
 

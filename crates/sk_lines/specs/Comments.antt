@@ -9,10 +9,10 @@ abbrev pub is_hash : ℕ → Bool
 is_hash b = b == 35
 
 -- the line without its comment, which in version 2 is a `#` and all behind it
-abbrev pub said_in : Version → List ℕ → List ℕ
-said_in One line = line
-said_in Two line = before_first is_hash line
+abbrev pub before_comment : Version → List ℕ → List ℕ
+before_comment One line = line
+before_comment Two line = before_first is_hash line
 
 -- the words of a line
 abbrev pub words_under : Version → List ℕ → List (List ℕ)
-words_under version line = words_in (said_in version line)
+words_under version line = words_in (before_comment version line)

@@ -11,7 +11,7 @@ pub data Place : Type 0 where
   UsedName : Place
   Coordinate : Place
   Length : Place
-  Slope : Place
+  Ratio : Place
 
 -- the keyword that a word is in each version
 abbrev pub shared_keyword : List ℕ → Option Keyword
@@ -50,7 +50,7 @@ places On count = UsedName ∷ UsedName ∷ []
 places Tangent count = UsedName ∷ UsedName ∷ []
 places Outside count = UsedName ∷ UsedName ∷ []
 places Inside count = UsedName ∷ UsedName ∷ []
-places Angle count = UsedName ∷ UsedName ∷ Slope ∷ []
+places Angle count = UsedName ∷ UsedName ∷ Ratio ∷ []
 places Block count = pin_places (pin_count count)
 
 -- whether the line declares an element

@@ -16,5 +16,5 @@ pub use error::EntryError;
 pub use keyword::{Keyword, keyword_of};
 pub use law::quantities_are_sound;
 pub use lines::{bytes_at, is_word, split_line, split_words, word, words_under};
-pub use ratio::slope;
+pub use ratio::angle_ratio;
 pub use version::Version;

@@ -11,7 +11,7 @@ ghost use Rattle.sk_lines.specs.Refusals.{IsRefusal};
 
 use crate::code::Code;
 use crate::error::EntryError;
-use crate::version::{Version, said_len};
+use crate::version::{Version, len_before_comment};
 use sk_lex::{LexFault, Word, Words, words_before};
 use std::alloc::Global;
 
@@ -63,7 +63,7 @@ pub fn words_under(alloc: Global, version: Version, line: &[u8]) -> Result<Words
     ensures fine { IfOk result (λ _. first_code (byte_rows line.now) ≡ None) }
     ensures refused { IfErr result (IsRefusal (first_code (byte_rows line.now))) }
 {
-    match words_before(alloc, line, said_len(version, line)) {
+    match words_before(alloc, line, len_before_comment(version, line)) {
         Ok(words) => Ok(words),
         Err(LexFault::LineTooLong) => Err(EntryError::Refused(Code::E15)),
         Err(LexFault::NotAscii) => Err(EntryError::Refused(Code::E19)),

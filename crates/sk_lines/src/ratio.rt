@@ -11,13 +11,13 @@ use sk_base::{Ratio, digits_of, split_sign};
 /// The most that a part of a ratio is.
 const MOST_PART: u64 = 10_000;
 
-/// The ratio of an angle, which is its slope.
-pub fn slope(word: &[u8]) -> Result<Ratio, Code>
+/// The ratio of an angle.
+pub fn angle_ratio(word: &[u8]) -> Result<Ratio, Code>
     ensures read { MatchResult result
-        (λ slope. (slope ≡ ratio word.now) × (is_none (ratio_of word.now) ≡ false)
-        × (is_zero (option_map (λ parts. parts.0) (ratio_of word.now)) ≡ int_eq slope.p (pos 0)))
+        (λ angle. (angle ≡ ratio word.now) × (is_none (ratio_of word.now) ≡ false)
+        × (is_zero (option_map (λ parts. parts.0) (ratio_of word.now)) ≡ int_eq angle.p (pos 0)))
         (λ code. (ratio_of word.now ≡ None) × (code ≡ E8)) }
-    ensures limits { IfOk result (λ slope. IsWithin 10000 slope.p × IsFromTo 0 10000 slope.q) }
+    ensures limits { IfOk result (λ angle. IsWithin 10000 angle.p × IsFromTo 0 10000 angle.q) }
 {
     let (negative, bytes) = split_sign(word);
     let Some((p, q)) = unsigned_ratio(bytes) else {

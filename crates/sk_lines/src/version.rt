@@ -1,6 +1,6 @@
 ghost use Rattle.std.specs.Prelude.{◌≡◌, ◌≤◌, length, take};
 ghost use Rattle.std.specs.List.{position};
-ghost use Rattle.sk_lines.specs.Comments.{is_hash, said_in};
+ghost use Rattle.sk_lines.specs.Comments.{is_hash, before_comment};
 
 /// The version of a text. Version 2 has comments and blocks.
 #[derive(Clone, Copy, Debug, PartialEq, Eq)]
@@ -10,8 +10,8 @@ pub enum Version {
 }
 
 /// How many bytes of a line stand before its comment.
-pub(crate) fn said_len(version: Version, line: &[u8]) -> usize
-    ensures said { take result line.now ≡ said_in version line.now }
+pub(crate) fn len_before_comment(version: Version, line: &[u8]) -> usize
+    ensures said { take result line.now ≡ before_comment version line.now }
     ensures within { result ≤ length line.now }
 {
     match version {

@@ -22,7 +22,7 @@ use crate::numbered::item_of;
 use sk_base::{ConId, Constraint, Elem, Pin, Rule, Sketch};
 use sk_entry::{element_named, label, length, not_zero};
 use sk_lex::Word;
-use sk_lines::{Code, plain_number, slope, word};
+use sk_lines::{Code, angle_ratio, plain_number, word};
 
 /// The number that a word is.
 fn number_of(word: &[u8]) -> Result<ConId, Code>
@@ -135,7 +135,7 @@ fn new_ratio(number: ConId, value: &[u8]) -> Result<Edit, Code>
     ensures made { result ≡ from_made (first_code ((is_none (ratio_of value.now), E8) ∷ (is_zero (option_map (λ parts. parts.0) (ratio_of value.now)), E9) ∷ [])) (Some (an_edit.Turned number (ratio value.now))) }
     ensures value { IfOk result HasSoundValue }
 {
-    let ratio = slope(value)?;
+    let ratio = angle_ratio(value)?;
     if ratio.p == 0 {
         return Err(Code::E9);
     }

@@ -3,4 +3,4 @@ use Rattle.sk_lex.proofs.Splitting.{StandInOrder-wider}
 use Rattle.sk_lines.proofs.lines.words_under.Goals as goal
 
 pub returns-in-Ok-clause-order : goal.returns-in-Ok-clause-order
-returns-in-Ok-clause-order c = StandInOrder-wider 0 c.in-Ok.words.items c.said_len.result (length c.args.line.now) c.in-Ok.ensures.order c.said_len.ensures.within
+returns-in-Ok-clause-order c = StandInOrder-wider 0 c.in-Ok.words.items c.len_before_comment.result (length c.args.line.now) c.in-Ok.ensures.order c.len_before_comment.ensures.within
