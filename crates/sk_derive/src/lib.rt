@@ -5,8 +5,10 @@ mod classes;
 mod closing;
 mod law;
 mod lists;
+mod pairs;
 mod text;
 mod tie_merges;
+mod ties;
 
 pub use closing::derive;
 pub use law::{
