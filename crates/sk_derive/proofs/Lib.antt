@@ -6,3 +6,5 @@ pub mod WideRuns
 pub mod OneText
 pub mod OneWideRun
 pub mod SomeWide
+pub mod Following
+pub mod Pairing

@@ -169,6 +169,15 @@ module _ (g : Graph) (sound : IsSoundGraph g) where
   in_order f family normal =
       all_put (map elements_of f.live) [] (pairs_none ElementsBefore) (pairs_map Differ elements_of f.live (clusters_differ g f sound family normal)) (λ zs zs_in h. contains_none zs h)
 
+  pub lists_rise : (f : Clusters) → IsSound f → IsWideNormal g (bodies f) → AllPairs ElementsBefore (lists_in_order f.live)
+  lists_rise f family normal = (in_order f family normal).rise
+
+  pub just_lists : (f : Clusters) → IsSound f → IsWideNormal g (bodies f) → (es : List Elem) → Contains (lists_in_order f.live) es ↔ ((c : Cluster) × Contains f.live c × (c.elements ≡ es))
+  just_lists f family normal es = (
+    (λ h. elim (((in_order f family normal).has es).0 h) [ inl none ↦ absurd (contains_none es none) | inr among ↦ mapped_from elements_of f.live es among ]),
+    (λ (c, c_in, is). ((in_order f family normal).has es).1 (inr (subst (λ w. Contains (map elements_of f.live) w) is (contains_mapped elements_of f.live c c_in)))),
+  )
+
   list_moves : (one other : Clusters) → IsSound one → IsSound other → IsWideNormal g (bodies one) → IsWideNormal g (bodies other)
       → (zs : List Elem) → Contains (lists_in_order one.live) zs → Contains (lists_in_order other.live) zs
   list_moves one other one_sound other_sound p q zs h =

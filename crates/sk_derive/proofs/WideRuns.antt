@@ -29,6 +29,7 @@ use Rattle.sk_derive.specs.Ties.{SharesPoint, MeetsByTie, CanMergeByTie}
 use Rattle.sk_derive.specs.WideReach.{WideStep, IsWideClosed}
 use Rattle.sk_derive.specs.WideChoices.{CanTakeByTie, AreTieMerges}
 use Rattle.sk_derive.specs.WideRun.{WidePicksLead}
+use Rattle.sk_derive.specs.FollowedTies.{Takes}
 use Rattle.sk_derive.proofs.Tying.{tied_back}
 
 pub reach_by_on : (rule : List Body → List Body → Type 0) (f m n : List Body) → ReachBy rule f m → ReachBy rule m n → ReachBy rule f n
@@ -57,9 +58,21 @@ module _ {P : Type 0} (answer : P → ℕ → ℕ) (after : P → ℕ → P) (g 
       (choices, are, picked, picks_on (merged f m) (after p (length choices)) ms mid q rest ns end last more)
 
   -- one merge by the tie rule, where no other may be taken
-  pub picks_tie : (f : Clusters) (p : P) (merges : List Merge) → AreChoices g f [] → AreTieMerges g f merges → (m : Merge) → slice_get merges (answer p (length merges)) ≡ Some m
+  picks_tie : (f : Clusters) (p : P) (merges : List Merge) → AreChoices g f [] → AreTieMerges g f merges → (m : Merge) → slice_get merges (answer p (length merges)) ≡ Some m
       → WidePicksLead answer after g f p (m ∷ []) (merged f m) (after p (length merges))
   picks_tie f p merges none are m picked = (merges, inr (none, are), picked, (refl, refl))
+
+  -- and behind it those of a run by the first two rules
+  pub picks_by_tie : (start : Clusters) (p : P) (ms : List Merge) (f : Clusters) (q : P) → WidePicksLead answer after g start p ms f q → AreChoices g f []
+      → (merges : List Merge) → AreTieMerges g f merges → (m : Merge) (r : P) → Takes answer after merges q (Some m) r
+      → (mid : Clusters) → mid ≡ merged f m → (ns : List Merge) (end : Clusters) (last : P) → PicksLead answer after g mid r ns end last
+      → (all : List Merge) × WidePicksLead answer after g start p all end last
+  picks_by_tie start p ms f q picks none merges are m r (picked, r_is) mid mid_is ns end last more =
+      let to_mid = picks_on start p ms f q picks (m ∷ []) (merged f m) (after q (length merges)) (picks_tie f q merges none are m picked) in
+      let rest = subst (λ (h : Clusters). WidePicksLead answer after g h r ns end last) mid_is (picks_widen mid r ns end last more) in (
+        (ms ++ m ∷ []) ++ ns,
+        picks_on start p (ms ++ m ∷ []) (merged f m) (after q (length merges)) to_mid ns end last (subst (λ (s : P). WidePicksLead answer after g (merged f m) s ns end last) r_is rest),
+      )
 
 shares_point_back : (g : Graph) (xs ys : List Elem) → SharesPoint g xs ys → SharesPoint g ys xs
 shares_point_back g xs ys (p, point, both) = (p, point, (both.1, both.0))
@@ -140,8 +153,8 @@ module _ (g : Graph) (f : Clusters) (sound : IsSound f) where
   wide_closed closed none (p ∷ q ∷ r ∷ rest) among (inr can) = can
 
 -- what was picked of all merges by the tie rule may be taken
-pub picked_can : (g : Graph) (f : Clusters) (merges : List Merge) → AreTieMerges g f merges → (slice : List Merge) → slice ≡ merges → (n : ℕ) (m : Merge) → slice_get slice n ≡ Some m → CanTakeByTie g f m
-picked_can g f merges are slice is n m picked = (are.exactly m).0 (subst (λ ms. Contains ms m) is (in_list slice n m picked))
+pub picked_can : (g : Graph) (f : Clusters) (merges : List Merge) → AreTieMerges g f merges → (n : ℕ) (m : Merge) → slice_get merges n ≡ Some m → CanTakeByTie g f m
+picked_can g f merges are n m picked = (are.exactly m).0 (in_list merges n m picked)
 
 length_told : (n : ℕ) → (n == 0) ≡ true → n ≡ 0
 length_told n h = grind (arith, nat_tests)

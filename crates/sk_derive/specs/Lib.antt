@@ -4,4 +4,6 @@ pub mod WideReach
 pub mod WideChoices
 pub mod WideRun
 pub mod TieMerges
+pub mod PairMerges
+pub mod FollowedTies
 pub mod DerivedText

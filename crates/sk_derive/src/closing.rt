@@ -9,7 +9,7 @@ ghost use Rattle.sk_derive.specs.WideReach.{IsWideNormal, IsTheOnlyWideNormal};
 ghost use Rattle.sk_derive.specs.WideChoices.{CanTakeByTie};
 ghost use Rattle.sk_derive.specs.WideRun.{IsWideRun};
 
-use crate::tie_merges::tie_merges;
+use crate::ties::Ties;
 use sk_base::{Graph, Name, NoMemory};
 use sk_family::{Family, initial};
 use sk_rules::Merge;
@@ -26,27 +26,16 @@ pub fn derive<P: Picker>(alloc: Global, graph: &Graph, picker: &mut P) -> Result
 {
     let mut family = initial(alloc, graph)?;
     let mut work = Worklist::of(alloc, &family, graph)?;
-    loop {
-        let _taken = close_with(alloc, &mut work, &mut family, graph, picker)?;
-        let merges = tie_merges(alloc, &family, graph, &work)?;
-        if merges.is_empty() {
-            return Ok(family);
-        }
-        let merge = picked(merges.as_slice(), picker);
+    let _taken = close_with(alloc, &mut work, &mut family, graph, picker)?;
+    let mut ties = Ties::of(alloc, &family, graph, &work)?;
+    while let Some(merge) = ties.picked(picker) {
         work.leave(&family, merge);
         let _name = take_by_tie(&mut family, merge)?;
         work.enter(&family, merge)?;
+        let taken = close_with(alloc, &mut work, &mut family, graph, picker)?;
+        ties.follow(alloc, &family, graph, &work, merge, taken.is_empty())?;
     }
-}
-
-/// The one of these merges that the picker answers.
-fn picked<P: Picker>(merges: &[Merge], picker: &mut P) -> Merge
-    requires { 0 < length merges.now }
-    ensures picked { slice_get merges.now (P.answer picker.old (length merges.now)) ≡ Some result }
-    ensures after { picker.new ≡ P.after picker.old (length merges.now) }
-{
-    let place = picker.pick(merges.len() as u64);
-    merges[place as usize]
+    Ok(family)
 }
 
 /// Does a merge by the tie rule.

@@ -1,16 +1,19 @@
 // The laws on wide normal families and wide runs.
-ghost use Rattle.std.specs.Prelude.{◌≡◌, List, Contains};
+ghost use Rattle.std.specs.Prelude.{◌≡◌, ◌↔◌, List, Contains, AllPairs};
+ghost use Rattle.sk_base.specs.declared.Elem.{Elem};
 ghost use Rattle.sk_base.specs.declared.Graph.{Graph};
 ghost use Rattle.sk_base.specs.declared.Sketch.{Sketch};
+ghost use Rattle.sk_base.specs.ElementOrder.{ElementsBefore};
 ghost use Rattle.sk_base.specs.SoundGraph.{HasRisingEdges, IsSoundGraph};
 ghost use Rattle.sk_family.specs.Body.{Body, SameBodies};
+ghost use Rattle.sk_family.specs.declared.Cluster.{Cluster};
 ghost use Rattle.sk_family.specs.Clusters.{Clusters, bodies, IsSound};
 ghost use Rattle.sk_rules.specs.declared.Merge.{Merge};
 ghost use Rattle.sk_rules.specs.Reach.{IsNormal};
 ghost use Rattle.sk_derive.specs.WideReach.{IsWideNormal, LiesIn};
 ghost use Rattle.sk_derive.specs.WideChoices.{AreWideChoices};
 ghost use Rattle.sk_derive.specs.WideRun.{IsWideRun};
-ghost use Rattle.sk_derive.specs.DerivedText.{derived_text};
+ghost use Rattle.sk_derive.specs.DerivedText.{derived_text, lists_in_order};
 
 use sk_worklist::Picker;
 
@@ -40,4 +43,11 @@ pub fn one_wide_run<P: Picker>()
 pub fn one_derived_text()
     ensures { (g : Graph) (s : Sketch) (one other : Clusters) → IsSoundGraph g → IsSound one → IsSound other → IsWideNormal g (bodies one) → IsWideNormal g (bodies other)
         → derived_text s one ≡ derived_text s other }
+{}
+
+/// The lists of elements in the text of a wide normal family stand in rising order, and are just those
+/// of its clusters.
+pub fn derived_lists_rise()
+    ensures rise { (g : Graph) (f : Clusters) → IsSoundGraph g → IsSound f → IsWideNormal g (bodies f) → AllPairs ElementsBefore (lists_in_order f.live) }
+    ensures just { (g : Graph) (f : Clusters) → IsSoundGraph g → IsSound f → IsWideNormal g (bodies f) → (es : List Elem) → Contains (lists_in_order f.live) es ↔ ((c : Cluster) × Contains f.live c × (c.elements ≡ es)) }
 {}

@@ -5,12 +5,14 @@ mod classes;
 mod closing;
 mod law;
 mod lists;
+mod pairs;
 mod text;
 mod tie_merges;
+mod ties;
 
 pub use closing::derive;
 pub use law::{
-    normal_lies_in_wide, one_derived_text, one_list_of_wide_choices, one_wide_normal_form,
-    one_wide_run,
+    derived_lists_rise, normal_lies_in_wide, one_derived_text, one_list_of_wide_choices,
+    one_wide_normal_form, one_wide_run,
 };
 pub use text::derive_text;

@@ -7,17 +7,19 @@ ghost use Rattle.sk_base.specs.ClusterNames.{IsBelow};
 ghost use Rattle.sk_base.specs.SoundGraph.{HasNode, HasRisingNodes};
 ghost use Rattle.sk_family.specs.Body.{Body};
 ghost use Rattle.sk_family.specs.Clusters.{bodies, IsSound};
+ghost use Rattle.sk_rules.specs.declared.Merge.TheVariants.{Two};
 ghost use Rattle.sk_worklist.specs.Choices.{ComesFirst};
 ghost use Rattle.sk_worklist.specs.Turns.{Follows};
 ghost use Rattle.sk_derive.specs.Ties.{HaveTiedLines};
 ghost use Rattle.sk_derive.specs.Classes.{AreClasses};
-ghost use Rattle.sk_derive.specs.TieMerges.{AreBelow, FindsAmong, AddsWhere, IsTiedTo};
+ghost use Rattle.sk_derive.specs.TieMerges.{AreBelow, FindsAmong, FindsOf, AddsWhere, IsTiedTo};
+ghost use Rattle.sk_derive.specs.FollowedTies.{FindsOfLast};
 ghost use Rattle.sk_derive.specs.WideChoices.{AreTieMerges};
 
-use crate::classes::{class_among, classes_of};
+use crate::classes::class_among;
+use crate::pairs::Pairs;
 use sk_base::{Elem, Graph, Kind, List, Name, NoMemory, Node};
 use sk_family::{Cluster, Family};
-use sk_rules::Merge;
 use sk_worklist::Worklist;
 use std::alloc::Global;
 
@@ -27,26 +29,63 @@ pub(crate) fn tie_merges(
     family: &Family,
     graph: &Graph,
     work: &Worklist,
-) -> Result<List<Merge>, NoMemory>
+    classes: &[usize],
+) -> Result<Pairs, NoMemory>
     requires rise { HasRisingNodes graph.now }
     requires follows { Follows work.now graph.now family.now }
+    requires classes { AreClasses graph.now (bodies family.now) classes.now }
     ensures merges { IfOk result (AreTieMerges graph.now family.now) }
     ensures sound { OnOk result (IsSound family.now) }
 {
-    let classes = classes_of(alloc, family, graph)?;
-    let mut found = List::new(alloc);
+    let mut found = Pairs::new(alloc);
     for cluster in family.clusters() {
-        let points = points_among(alloc, cluster.elements.as_slice(), graph)?;
-        let others = work.holding(points.as_slice(), cluster.name)?;
-        add_merges_of(
-            &mut found,
-            cluster,
-            others.as_slice(),
-            family,
-            classes.as_slice(),
-        )?;
+        add_merges_with(alloc, &mut found, cluster, family, graph, work, classes)?;
     }
     Ok(found)
+}
+
+/// Adds the merges by the tie rule of the cluster with those below it.
+fn add_merges_with(
+    alloc: Global,
+    found: &mut Pairs,
+    cluster: &Cluster,
+    family: &Family,
+    graph: &Graph,
+    work: &Worklist,
+    classes: &[usize],
+) -> Result<(), NoMemory>
+    requires rise { HasRisingNodes graph.now }
+    requires follows { Follows work.now graph.now family.now }
+    requires classes { AreClasses graph.now (bodies family.now) classes.now }
+    requires sound { IsSound family.now }
+    requires lives { Contains family.now.live cluster.now }
+    ensures found { OnOk result (FindsOf graph.now family.now cluster.now family.now.live found.old found.new) }
+    ensures in_order { OnOk result (AllPairs ComesFirst found.old → AreBelow found.old cluster.now.name → AllPairs ComesFirst found.new) }
+{
+    let points = points_among(alloc, cluster.elements.as_slice(), graph)?;
+    let others = work.holding(points.as_slice(), cluster.name)?;
+    add_merges_of(found, cluster, others.as_slice(), family, classes)
+}
+
+/// Adds the merges by the tie rule of the last cluster.
+pub(crate) fn add_merges_of_last(
+    alloc: Global,
+    found: &mut Pairs,
+    family: &Family,
+    graph: &Graph,
+    work: &Worklist,
+    classes: &[usize],
+) -> Result<(), NoMemory>
+    requires rise { HasRisingNodes graph.now }
+    requires follows { Follows work.now graph.now family.now }
+    requires classes { AreClasses graph.now (bodies family.now) classes.now }
+    ensures found { OnOk result (FindsOfLast graph.now family.now found.old found.new) }
+    ensures sound { IsSound family.now }
+{
+    match family.clusters().last() {
+        Some(last) => add_merges_with(alloc, found, last, family, graph, work, classes),
+        None => Ok(()),
+    }
 }
 
 /// The points among the elements.
@@ -94,7 +133,7 @@ fn is_point_node(node: &Node) -> bool
 
 /// Adds the merges of the cluster with those of the others that are tied to it.
 fn add_merges_of(
-    found: &mut List<Merge>,
+    found: &mut Pairs,
     cluster: &Cluster,
     others: &[Name],
     family: &Family,
@@ -113,7 +152,7 @@ fn add_merges_of(
 
 /// Adds the merge with the other cluster where that is tied to this one.
 fn add_if_tied(
-    found: &mut List<Merge>,
+    found: &mut Pairs,
     cluster: &Cluster,
     other: Name,
     family: &Family,
@@ -121,10 +160,10 @@ fn add_if_tied(
 ) -> Result<(), NoMemory>
     requires { Contains family.now.live cluster.now }
     ensures { OnOk result ((g : AnyGraph) → AreClasses g (bodies family.now) classes.now
-        → AddsWhere (IsTiedTo g family.now cluster.now other) found.old found.new (Merge.Two cluster.now.name other)) }
+        → AddsWhere (IsTiedTo g family.now cluster.now other) found.old found.new (Two cluster.now.name other)) }
 {
     if is_tied_to(cluster, other, family, classes) {
-        found.push(Merge::Two(cluster.name, other))
+        found.push(cluster.name, other)
     } else {
         Ok(())
     }

@@ -1,11 +1,6 @@
-use Rattle.std.proofs.Common.{ℕ, ◌≡◌, ◌<◌, ◌≤◌, List, sym, subst, length, get_or}
-use Rattle.std.specs.Prelude.{AllPairs}
-use Rattle.sk_base.specs.declared.Name.{Name}
-use Rattle.sk_base.specs.ClusterNames.{IsBelow}
+use Rattle.std.proofs.Common.{◌≡◌, ◌<◌, ◌≤◌, List, subst, length, get_or}
 use Rattle.sk_family.specs.declared.Cluster.{Cluster}
-use Rattle.sk_family.specs.Clusters.{bodies}
-use Rattle.sk_derive.specs.Classes.{AreClasses}
-use Rattle.sk_derive.proofs.Finding.{found_next, all_below, found_by_all, all_found, found_read}
+use Rattle.sk_derive.proofs.Finding.{found_next, all_below, found_by_all, all_found}
 use Rattle.sk_derive.proofs.tie_merges.tie_merges.Goals as goal
 
 pub loop-cluster-preserved : goal.loop-cluster-preserved
@@ -21,15 +16,10 @@ loop-cluster-preserved c =
     let family = c.args.family.now in
     let sound = c.clusters-cluster-items.ensures.sound in
     let mid = c.loop-cluster.found in
-    let new = c.add_merges_of.new.found in
-    let are = subst (λ (ks : List ℕ). AreClasses graph (bodies family) ks) (sym c.as_slice-in-loop-cluster-3.ensures.value) c.in_ok-classes.ensures in
-    let finds = c.in_ok-add_merges_of.ensures.found graph are in
-    let found = found_read graph family sound here c.as_slice.result.now c.as_slice.ensures c.in_ok-points.points c.in_ok-points.ensures c.as_slice-in-loop-cluster.result.now c.as_slice-in-loop-cluster.ensures
-    c.in_ok-others.others.items (c.in_ok-others.ensures.exactly graph family c.requires.follows) c.as_slice-in-loop-cluster-2.result.now c.as_slice-in-loop-cluster-2.ensures.value mid new finds in
+    let new = c.add_merges_with.new.found in
     record {
-      found = found_next graph family live i here i_in here_is mid new so_far.found found;
-      in_order = c.in_ok-add_merges_of.ensures.in_order (subst (λ (ns : List Name). AllPairs IsBelow ns) (sym c.as_slice-in-loop-cluster-2.ensures.value) c.in_ok-others.ensures.in_order) so_far.in_order
-          (all_below graph family live i here i_in here_is mid new so_far.found sound.names_rise);
+      found = found_next graph family live i here i_in here_is mid new so_far.found c.in_ok-add_merges_with.ensures.found;
+      in_order = c.in_ok-add_merges_with.ensures.in_order so_far.in_order (all_below graph family live i here i_in here_is mid new so_far.found sound.names_rise);
     }
 
 pub returns-clause-merges : goal.returns-clause-merges

@@ -1,0 +1,77 @@
+// Merges of two clusters, in order.
+ghost use Rattle.std.specs.Prelude.{◌≡◌, ◌++◌, ◌∷◌, ◌<◌, [], OnOk, Some, length, slice_get};
+ghost use Rattle.sk_rules.specs.declared.Merge.TheVariants.{Two};
+ghost use Rattle.sk_worklist.specs.Indexed.{avoiding, names_one_of};
+
+use sk_base::{Name, NoMemory};
+use sk_rules::Merge;
+use std::alloc::Global;
+use std::marker::Model;
+
+/// The names of two clusters.
+#[derive(Clone, Copy)]
+struct Pair {
+    greater: Name,
+    lesser: Name,
+}
+
+/// Merges of two clusters, which contracts see as a list of merges.
+#[derive(Drop)]
+pub(crate) struct Pairs {
+    pairs: Vec<Pair>,
+}
+
+impl Model for Pairs {
+    ghost use Rattle.std.specs.Prelude.{List as Items, map};
+    ghost use Rattle.sk_rules.specs.declared.Merge.{Merge};
+    ghost use Rattle.sk_derive.specs.PairMerges.{merge_of_pair};
+
+    ghost Value = { Items Merge };
+
+    ghost view = { λ p. map merge_of_pair p.pairs.items };
+}
+
+impl Pairs {
+    pub fn new(alloc: Global) -> Self
+        ensures { result ≡ [] }
+    {
+        Pairs {
+            pairs: Vec::new(alloc),
+        }
+    }
+
+    pub fn len(&self) -> usize
+        ensures { result ≡ length self.now }
+    {
+        self.pairs.len()
+    }
+
+    pub fn get(&self, place: usize) -> Merge
+        requires { place < length self.now }
+        ensures { slice_get self.now place ≡ Some result }
+    {
+        let pair = self.pairs[place];
+        Merge::Two(pair.greater, pair.lesser)
+    }
+
+    /// Appends a merge.
+    pub fn push(&mut self, greater: Name, lesser: Name) -> Result<(), NoMemory>
+        ensures { OnOk result (self.new ≡ self.old ++ Two greater lesser ∷ []) }
+    {
+        self.pairs.push(Pair { greater, lesser })?;
+        Ok(())
+    }
+
+    /// Drops the merges that name one of these.
+    pub fn drop_naming(&mut self, names: &[Name])
+        ensures { self.new ≡ avoiding names.now self.old }
+    {
+        self.pairs.retain(|pair| !names_any(*pair, names));
+    }
+}
+
+fn names_any(pair: Pair, names: &[Name]) -> bool
+    ensures { result ≡ names_one_of names.now (Two pair.greater pair.lesser) }
+{
+    pair.greater.is_among(names) || pair.lesser.is_among(names)
+}
