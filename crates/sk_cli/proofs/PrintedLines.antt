@@ -19,7 +19,7 @@ use Rattle.sk_base.specs.Spelling.{spaced, whole_text}
 use Rattle.sk_base.proofs.Members.{contains_head, contains_later}
 use Rattle.sk_graph.specs.SketchGraph.{node_of, kind_of, drawn_as}
 use Rattle.sk_lines.specs.Lines.{ended_lines}
-use Rattle.sk_report.specs.PlanReport.{step_line, choice_words as printed_choice}
+use Rattle.sk_report.specs.PlanReport.{step_line, choice_text as printed_choice}
 use Rattle.sk_report.specs.SolveReport.{lying_line, element_line, element_lines}
 use Rattle.sk_residual.specs.declared.Tolerance.{Tolerance}
 use Rattle.sk_holding.specs.Placing.{HasKind, AreSpotsOf}

@@ -21,10 +21,10 @@ abbrev pub sign_text : Sign → List ℕ
 sign_text Plus = codes "+"
 sign_text Minus = codes "-"
 
-abbrev pub choice_words : Choice → List ℕ
-choice_words (Turn sign) = codes "turn " ++ sign_text sign
-choice_words (Advance sign) = codes "advance " ++ sign_text sign
-choice_words Nothing = codes "none"
+abbrev pub choice_text : Choice → List ℕ
+choice_text (Turn sign) = codes "turn " ++ sign_text sign
+choice_text (Advance sign) = codes "advance " ++ sign_text sign
+choice_text Nothing = codes "none"
 
 -- the step, and the clusters that it joins
 abbrev pub joins_words : PlanStep → List ℕ
@@ -34,7 +34,7 @@ joins_words x =
 
 -- the cluster that is kept, and what the drawing chooses
 abbrev pub keeps_words : PlanStep → List ℕ
-keeps_words x = codes " keeps " ++ (cluster_name x.keeps ++ (codes " " ++ (choice_words x.choice ++ codes "\n")))
+keeps_words x = codes " keeps " ++ (cluster_name x.keeps ++ (codes " " ++ (choice_text x.choice ++ codes "\n")))
 
 abbrev pub step_line : Sketch → PlanStep → List ℕ
 step_line s x = (joins_words x ++ names_of s (x.a ∷ x.b ∷ x.c ∷ [])) ++ keeps_words x

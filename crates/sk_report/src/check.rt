@@ -103,9 +103,5 @@ fn verdict_word(verdict: Verdict) -> &'static str
 fn part_word(part: &Part) -> &'static str
     ensures { result.now ≡ part_word part.now }
 {
-    if part.held > part.due {
-        "over"
-    } else {
-        "sound"
-    }
+    if part.is_over() { "over" } else { "sound" }
 }

@@ -1,7 +1,7 @@
 // The plan report.
 ghost use Rattle.std.specs.Prelude.{◌≡◌, ◌++◌, IfOk, OnOk, string_bytes};
 ghost use Rattle.std.specs.List.{flat_map};
-ghost use Rattle.sk_report.specs.PlanReport.{leaf_line, choice_words, joins_words, keeps_words, step_line, plan_counts, plan_report};
+ghost use Rattle.sk_report.specs.PlanReport.{leaf_line, choice_text, joins_words, keeps_words, step_line, plan_counts, plan_report};
 
 use sk_base::{ConId, NoMemory, Sign, Sketch, Text};
 use sk_entry::put_constraint_words;
@@ -86,12 +86,12 @@ fn keeps_words(alloc: Global, step: &PlanStep) -> Result<String, NoMemory>
     ensures { IfOk result (λ words. string_bytes words ≡ keeps_words step.now) }
 {
     let kept = cluster_name(alloc, step.keeps)?;
-    let choice = choice_words(step.choice);
+    let choice = choice_text(step.choice);
     Ok(format!(in alloc; " keeps {kept} {choice}\n")?)
 }
 
-fn choice_words(choice: Choice) -> &'static str
-    ensures { result.now ≡ choice_words choice }
+fn choice_text(choice: Choice) -> &'static str
+    ensures { result.now ≡ choice_text choice }
 {
     match choice {
         Choice::Turn(Sign::Plus) => "turn +",

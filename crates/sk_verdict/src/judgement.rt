@@ -130,5 +130,5 @@ fn verdict_of(parts: &[Part]) -> Verdict
 fn is_some_over(parts: &[Part]) -> bool
     ensures { result ≡ some_over parts.now }
 {
-    parts.iter().any(|part| part.held > part.due)
+    parts.iter().any(|part| part.is_over())
 }

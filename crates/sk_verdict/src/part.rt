@@ -18,6 +18,19 @@ pub struct Part {
     pub due: u32,
 }
 
+impl Part {
+    ghost use Rattle.std.specs.Prelude.{◌↔◌, nat_lt, IsTrue};
+    ghost use Rattle.sk_verdict.specs.Judging.{IsOver};
+
+    /// Whether the part holds more than is due.
+    pub fn is_over(&self) -> bool
+        ensures computed { result ≡ nat_lt self.now.due self.now.held }
+        ensures over { IsTrue result ↔ IsOver self.now }
+    {
+        self.held > self.due
+    }
+}
+
 /// The part of a cluster that owns what it holds.
 pub(crate) fn part_of(alloc: Global, graph: &Graph, cluster: &Cluster) -> Result<Part, NoMemory>
     requires sound { IsSoundGraph graph.now }
