@@ -1,13 +1,13 @@
 -- What the test of clusters for a list of elements tells.
 use Rattle.std.proofs.Common.{◌≡◌, inl, inr, Bool, true, false, List, [], ◌∷◌, refl, sym, subst}
 use Rattle.std.specs.Prelude.{Contains, IsTrue, map, ◌↔◌, ◌||◌}
+use Rattle.std.proofs.lemmas.Bool.{and_parts}
 use Rattle.sk_base.specs.declared.Elem.{Elem}
 use Rattle.sk_base.proofs.Members.{contains_none, contains_head, contains_later, contains_cases, contains_mapped}
 use Rattle.sk_family.specs.declared.Cluster.{Cluster}
 use Rattle.sk_family.specs.Body.{Body}
 use Rattle.sk_family.specs.Clusters.{body_of}
 use Rattle.sk_base.specs.Numbering.{is_elem}
-use Rattle.sk_rules.proofs.SummedWeights.{both_true}
 use Rattle.sk_base.proofs.Numbers.{elem_found, found_elem}
 use Rattle.sk_spare.specs.Sparing.{HoldsAll}
 use Rattle.sk_spare.specs.Trying.{holds_all, some_holds}
@@ -15,7 +15,7 @@ use Rattle.sk_spare.specs.Trying.{holds_all, some_holds}
 all_held : (held elements : List Elem) → holds_all held elements ≡ true → (e : Elem) → Contains elements e → Contains held e
 all_held held [] passes e h = absurd (contains_none e h)
 all_held held (x ∷ rest) passes e h =
-    let both = both_true (is_elem held x) (holds_all held rest) passes in
+    let both = and_parts (is_elem held x) (holds_all held rest) passes in
     elim (contains_cases x rest e h) [
       | inl here ↦ elem_found held e (subst (λ z. is_elem held z ≡ true) here both.0)
       | inr later ↦ all_held held rest both.1 e later
