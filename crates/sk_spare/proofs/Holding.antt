@@ -1,6 +1,7 @@
 -- What the test of clusters for a list of elements tells.
 use Rattle.std.proofs.Common.{◌≡◌, inl, inr, Bool, true, false, List, [], ◌∷◌, refl, sym, subst}
 use Rattle.std.specs.Prelude.{Contains, IsTrue, map, ◌↔◌, ◌||◌}
+use Rattle.std.proofs.lemmas.Bool.{and_parts}
 use Rattle.sk_base.specs.declared.Elem.{Elem}
 use Rattle.sk_base.proofs.Members.{contains_none, contains_head, contains_later, contains_cases, contains_mapped}
 use Rattle.sk_family.specs.declared.Cluster.{Cluster}
