@@ -1,7 +1,7 @@
 -- What constraints weigh where one of them is left out.
 use Rattle.std.proofs.Common.{◌≡◌, ◌≢◌, refl, ◌+◌, ◌≤◌, Bool, true, false, cond, List, [], ◌∷◌, length, ap, sym, ◌∙◌, arith}
 use Rattle.std.specs.Prelude.{Contains, filter, not, ◌&&◌, ◌||◌}
-use Rattle.std.proofs.lemmas.Bool.{and_from, not_from_false, false_from_ne_true}
+use Rattle.std.proofs.lemmas.Bool.{and_parts, and_from, not_from_false, false_from_ne_true}
 use Rattle.sk_base.specs.declared.Elem.{Elem}
 use Rattle.sk_base.specs.declared.ConId.{ConId}
 use Rattle.sk_base.specs.declared.Graph.{Graph}
@@ -12,7 +12,7 @@ use Rattle.sk_base.proofs.Numbers.{other_passes}
 use Rattle.sk_family.specs.Body.{Start, starts}
 use Rattle.sk_rules.specs.Excess.{weight, weight_where, weight_of, is_owned}
 use Rattle.sk_rules.proofs.WeighedGraphs.{sound_two_each}
-use Rattle.sk_rules.proofs.SummedWeights.{weighs_one, weighs_more, weights_add, weighs_at_least, both_true, owned_found, found_owned}
+use Rattle.sk_rules.proofs.SummedWeights.{weighs_one, weighs_more, weights_add, weighs_at_least, owned_found, found_owned}
 use Rattle.sk_spare.specs.Sparing.{differs_from, without}
 use Rattle.sk_rules.proofs.JustSome.{starts_of_part}
 
@@ -41,7 +41,7 @@ weighs_one_more g s s_in few many within left_out there =
     let added = weights_add (is_owned few) besides (is_owned many) (starts g)
     (λ t t_in. parted (is_owned few t) (is_owned many t) (λ passes. found_owned many t (within t.number (owned_found few t passes))))
     (λ t t_in passes other. (
-    let both = both_true (is_owned many t) (not (is_owned few t)) other in
+    let both = and_parts (is_owned many t) (not (is_owned few t)) other in
     let never : true ≡ false = sym both.1 ∙ ap not passes in absurd (cc))) in
     let least = weighs_at_least besides (starts g) s s_in (and_from (is_owned many s) (not (is_owned few s)) (found_owned many s there)
     (not_from_false (is_owned few s) (false_from_ne_true (is_owned few s) (λ passes. left_out (owned_found few s passes))))) in
