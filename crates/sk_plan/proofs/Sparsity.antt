@@ -2,6 +2,7 @@
 use Rattle.std.proofs.Common.{◌≡◌, ◌≢◌, ◌⊎◌, inl, inr, ℕ, zero, suc, ◌+◌, ◌-◌, ◌*◌, ◌≤◌, true, cond, List, [], ◌∷◌, length, refl, ap, sym, subst, arith}
 use Rattle.std.specs.Prelude.{Contains, AllPairs, count_by, sum_by, filter, ◌&&◌}
 use Rattle.std.proofs.lemmas.List.Sums.{count_by-le-length, length-filter}
+use Rattle.std.proofs.lemmas.Bool.{and_parts}
 use Rattle.sk_base.specs.declared.Elem.{Elem}
 use Rattle.sk_base.specs.declared.Graph.{Graph}
 use Rattle.sk_base.specs.SoundGraph.{HasRisingEdges}
@@ -121,7 +122,7 @@ module _ (g : Graph) (a b c : Body) (p q r : Elem) (once : MeetsOnce g a.element
   shared_few : (x y : Body) (z : Elem) → ((e : Elem) → Contains x.elements e × Contains y.elements e → e ≡ z) → (count_by (λ e. is_elem x.elements e && is_elem y.elements e) xs ≡ 0) ⊎ ((count_by (λ e. is_elem x.elements e && is_elem y.elements e) xs ≡ 1) × Contains xs z × ((is_elem x.elements z && is_elem y.elements z) ≡ true))
   shared_few x y z only =
       count_single (λ e. is_elem x.elements e && is_elem y.elements e) z xs distinct
-      (λ e e_in passes. (let parts = both_true (is_elem x.elements e) (is_elem y.elements e) passes in
+      (λ e e_in passes. (let parts = and_parts (is_elem x.elements e) (is_elem y.elements e) passes in
       only e (elem_found x.elements e parts.0, elem_found y.elements e parts.1)))
 
   shared_at_most : (x y : Body) (z : Elem) → ((e : Elem) → Contains x.elements e × Contains y.elements e → e ≡ z) → count_by (λ e. is_elem x.elements e && is_elem y.elements e) xs ≤ 1
