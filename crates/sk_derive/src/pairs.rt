@@ -1,7 +1,7 @@
 // Merges of two clusters, in order.
 ghost use Rattle.std.specs.Prelude.{◌≡◌, ◌++◌, ◌∷◌, ◌<◌, [], OnOk, Some, length, slice_get};
 ghost use Rattle.sk_rules.specs.declared.Merge.TheVariants.{Two};
-ghost use Rattle.sk_worklist.specs.Indexed.{avoiding, names_one_of};
+ghost use Rattle.sk_worklist.specs.Known.{avoiding, names_one_of};
 
 use sk_base::{Name, NoMemory};
 use sk_rules::Merge;

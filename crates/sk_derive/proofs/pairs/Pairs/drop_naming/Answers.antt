@@ -2,7 +2,7 @@ use Rattle.std.proofs.Common.{rules, ap, ◌∙◌}
 use Rattle.std.specs.Prelude.{map, not}
 use Rattle.std.proofs.lemmas.Fn.{filter_same}
 use Rattle.sk_rules.specs.declared.Merge.{Merge}
-use Rattle.sk_worklist.specs.Indexed.{avoiding, names_one_of}
+use Rattle.sk_worklist.specs.Known.{avoiding, names_one_of}
 use Rattle.sk_derive.specs.PairMerges.{merge_of_pair}
 use Rattle.sk_derive.proofs.Pairing.{filter_pairs}
 use Rattle.sk_derive.proofs.pairs.Pairs.drop_naming.Goals as goal
