@@ -1,5 +1,6 @@
 // Merges of two clusters, in order.
 ghost use Rattle.std.specs.Prelude.{◌≡◌, ◌++◌, ◌∷◌, ◌<◌, [], OnOk, Some, length, slice_get};
+ghost use Rattle.sk_base.specs.ClusterNames.{is_named};
 ghost use Rattle.sk_rules.specs.declared.Merge.TheVariants.{Two};
 ghost use Rattle.sk_worklist.specs.Known.{avoiding, names_one_of};
 
@@ -62,16 +63,22 @@ impl Pairs {
         Ok(())
     }
 
-    /// Drops the merges that name one of these.
-    pub fn drop_naming(&mut self, names: &[Name])
-        ensures { self.new ≡ avoiding names.now self.old }
+    /// Drops the merges that name one of the two.
+    pub fn drop_naming(&mut self, x: Name, y: Name)
+        ensures { self.new ≡ avoiding (x ∷ y ∷ []) self.old }
     {
-        self.pairs.retain(|pair| !names_any(*pair, names));
+        self.pairs.retain(|pair| !names_any(*pair, x, y));
     }
 }
 
-fn names_any(pair: Pair, names: &[Name]) -> bool
-    ensures { result ≡ names_one_of names.now (Two pair.greater pair.lesser) }
+fn names_any(pair: Pair, x: Name, y: Name) -> bool
+    ensures { result ≡ names_one_of (x ∷ y ∷ []) (Two pair.greater pair.lesser) }
 {
-    pair.greater.is_among(names) || pair.lesser.is_among(names)
+    is_either(pair.greater, x, y) || is_either(pair.lesser, x, y)
+}
+
+fn is_either(name: Name, x: Name, y: Name) -> bool
+    ensures { result ≡ is_named (x ∷ y ∷ []) name }
+{
+    x == name || y == name
 }

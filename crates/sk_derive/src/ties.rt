@@ -109,7 +109,7 @@ impl Ties {
         ensures ties { OnOk result (AreTies graph.now family.now self.new.classes.items self.new.merges) }
         ensures sound { OnOk result (IsSound family.now) }
     {
-        self.merges.drop_naming(&[x, y]);
+        self.merges.drop_naming(x, y);
         let classes = self.classes.as_slice();
         add_merges_of_last(alloc, &mut self.merges, family, graph, work, classes)?;
         Ok(())
