@@ -9,10 +9,10 @@ ghost use Rattle.sk_cli.specs.SessionAnswer.{IsReplied, RepliesToFront};
 ghost use Rattle.sk_cli.specs.SessionEnding.{SessionEnds, IsStopped};
 
 use crate::reply::reply_text;
-use crate::request::Request;
 use crate::status::Status;
 use sk_io::{Sink, write_all};
 use sk_lang::split_line;
+use sk_request::Request;
 use sk_session::{Closing, Reply, Session, some_to_solve};
 use std::alloc::Global;
 
@@ -77,7 +77,7 @@ fn reply_to<K: Sink>(
         request.order,
         request.bits,
         request.within,
-        request.place,
+        request.layout,
     )?;
     match write_all(sink, text.as_bytes()) {
         Ok(()) => Ok(goes_on(&reply)),

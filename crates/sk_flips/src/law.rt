@@ -6,7 +6,7 @@ ghost use Rattle.sk_base.specs.declared.Sketch.{Sketch};
 ghost use Rattle.sk_base.specs.SoundSketch.{IsSoundSketch};
 ghost use Rattle.sk_choice.specs.DrawnChoice.{HasDrawnChoice};
 ghost use Rattle.sk_graph.specs.SketchGraph.{graph_of};
-ghost use Rattle.sk_flips.specs.declared.placing.Layout.{Layout};
+ghost use Rattle.sk_place.specs.declared.Layout.{Layout};
 ghost use Rattle.sk_residual.specs.declared.Tolerance.{Tolerance};
 ghost use Rattle.sk_residual.specs.declared.Wanted.TheVariants.{Drawn, Chosen};
 ghost use Rattle.sk_residual.specs.Tolerances.{AllHoldWithin};

@@ -15,5 +15,5 @@ pub use law::{
     alternatives_differ, found_is_met, one_alternative, turned_plan_is_legal,
     untouched_plan_is_drawn, untouched_plan_is_placed,
 };
-pub use placing::{Layout, Placement, placed_on};
+pub use placing::{Placement, placed_on};
 pub use sk_residual::first_off;
