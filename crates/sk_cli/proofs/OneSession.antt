@@ -3,10 +3,10 @@ use Rattle.std.proofs.Common.{◌≡◌, ◌≢◌, ℕ, ◌+◌, List, [], ◌�
 use Rattle.std.proofs.lemmas.List.{append-nil, nil_from_length}
 use Rattle.sk_base.specs.declared.Sketch.{Sketch}
 use Rattle.sk_base.specs.SoundSketch.{IsSoundSketch}
-use Rattle.sk_session.specs.declared.Edit.{Edit}
+use Rattle.sk_edits.specs.declared.Edit.{Edit}
 use Rattle.sk_session.specs.declared.Reply.{Reply}
 use Rattle.sk_session.specs.declared.Reply.TheVariants as reply
-use Rattle.sk_session.specs.Edits.{sketch_of}
+use Rattle.sk_edits.specs.Edits.{sketch_of}
 use Rattle.sk_session.specs.State.{State, sketch_in, IsSameElse}
 use Rattle.sk_session.specs.Replies.{Answers}
 use Rattle.sk_request.specs.declared.Request.{Request}

@@ -12,7 +12,7 @@ use Rattle.sk_worklist.specs.declared.Order.TheVariants as order
 use Rattle.sk_worklist.specs.Orders.{place_of, next_call, place_below}
 use Rattle.sk_session.specs.declared.Reply.{Reply}
 use Rattle.sk_session.specs.declared.Reply.TheVariants as reply
-use Rattle.sk_session.specs.Edits.{empty}
+use Rattle.sk_edits.specs.Edits.{empty}
 use Rattle.sk_session.specs.Replies.{Answers}
 use Rattle.sk_session.specs.State.{State, sketch_in, fresh}
 use Rattle.sk_session.proofs.Consistency.{consistent_new}

@@ -11,7 +11,7 @@ use Rattle.sk_report.specs.RefusalLine.{refusal_line}
 use Rattle.sk_session.specs.declared.Closing.TheVariants.{InAnyOrder}
 use Rattle.sk_session.specs.declared.Reply.{Reply}
 use Rattle.sk_session.specs.declared.Reply.TheVariants as reply
-use Rattle.sk_session.specs.Edits.{empty}
+use Rattle.sk_edits.specs.Edits.{empty}
 use Rattle.sk_session.specs.State.{State, sketch_in}
 use Rattle.sk_session.specs.Replies.{Answers}
 use Rattle.sk_worklist.specs.declared.Order.{Order}

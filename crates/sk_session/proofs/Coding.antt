@@ -11,11 +11,12 @@ use Rattle.sk_lang.specs.Codes.{byte_rows}
 use Rattle.sk_lang.specs.Entry.{rows_of, entry_code, IsEntryOf, Begins}
 use Rattle.sk_lang.specs.FirstCode.{first_code}
 use Rattle.sk_lang.proofs.FirstCodes.{code_front, code_behind}
-use Rattle.sk_session.specs.declared.edit.Edit.{Edit}
+use Rattle.sk_edits.specs.declared.Edit.{Edit}
 use Rattle.sk_session.specs.declared.reply.Reply.{Reply}
 use Rattle.sk_session.specs.declared.reply.Reply.TheVariants as reply
 use Rattle.sk_session.specs.State.{State, sketch_in}
-use Rattle.sk_session.specs.Commands.{is_spent, own_rows, word_rows, command_rows, command_of, code_in}
+use Rattle.sk_edits.specs.Commands.{command_of}
+use Rattle.sk_session.specs.LineCodes.{is_spent, own_rows, word_rows, command_rows, code_in}
 use Rattle.sk_session.specs.Replies.{Takes, Stands, Enters, Obeys, ObeysWords, ByCode, Answers, next_elem, next_con}
 
 -- an edit is accepted by the last row of its table

@@ -16,12 +16,13 @@ use Rattle.sk_rules.specs.Reach.{Reach, stays}
 use Rattle.sk_worklist.proofs.Runs.{reach_on}
 use Rattle.sk_graph.specs.SketchGraph.{graph_of}
 use Rattle.sk_graph.proofs.Soundness.{graph_is_sound}
-use Rattle.sk_session.specs.declared.edit.Edit.{Edit}
-use Rattle.sk_session.specs.declared.edit.Edit.TheVariants as edit
-use Rattle.sk_session.specs.declared.edit.Done.{Done}
-use Rattle.sk_session.specs.Edits.{empty, applied, sketch_of, element_given, constraint_given, next_element, next_constraint}
+use Rattle.sk_edits.specs.declared.Edit.{Edit}
+use Rattle.sk_edits.specs.declared.Edit.TheVariants as edit
+use Rattle.sk_session.specs.declared.done.Done.{Done}
+use Rattle.sk_edits.specs.Edits.{empty, applied, sketch_of, element_given, constraint_given, next_element, next_constraint}
 use Rattle.sk_session.specs.Former.{IsFormer, LeadsTo}
-use Rattle.sk_session.specs.Making.{CanMake, Follows, FollowsBack, IsReachedIn}
+use Rattle.sk_edits.specs.Making.{CanMake}
+use Rattle.sk_session.specs.Following.{Follows, FollowsBack, IsReachedIn}
 use Rattle.sk_session.specs.Standing.{edit_of, edits_of, Gives, element_after, constraint_after, element_before, constraint_before, IsMade, AllMade, IsConsistent}
 use Rattle.sk_session.proofs.Following.{follows_edit, follows_undo}
 

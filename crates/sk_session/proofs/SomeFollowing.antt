@@ -31,13 +31,14 @@ use Rattle.sk_graph.specs.Naming.{named_by}
 use Rattle.sk_graph.specs.SketchGraph.{graph_of}
 use Rattle.sk_rules.proofs.KeptClusters.{owned_is_constraint}
 use Rattle.sk_worklist.proofs.OneRun.{below_tells}
-use Rattle.sk_session.specs.declared.edit.Edit.{Edit}
-use Rattle.sk_session.specs.declared.edit.Edit.TheVariants as edit
-use Rattle.sk_session.specs.declared.edit.Former.{Former}
-use Rattle.sk_session.specs.declared.edit.Former.TheVariants as former
+use Rattle.sk_edits.specs.declared.Edit.{Edit}
+use Rattle.sk_edits.specs.declared.Edit.TheVariants as edit
+use Rattle.sk_session.specs.declared.done.Former.{Former}
+use Rattle.sk_session.specs.declared.done.Former.TheVariants as former
 use Rattle.sk_session.specs.Former.{IsFormer, LeadsTo}
 use Rattle.sk_plan.specs.ConstraintStarts.{constraint_start}
-use Rattle.sk_session.specs.Making.{CanMake, HasConstraint, DissolvesOwner, Follows, FollowsBack, IsReachedIn}
+use Rattle.sk_edits.specs.Making.{CanMake, HasConstraint}
+use Rattle.sk_session.specs.Following.{DissolvesOwner, Follows, FollowsBack, IsReachedIn}
 use Rattle.sk_plan.proofs.Starts.{rises}
 use Rattle.sk_session.proofs.Owners.{free_number, owner_of, few_owned}
 use Rattle.sk_session.proofs.Undoing.{owner_back, none_dropped, start_back}

@@ -46,30 +46,31 @@ use Rattle.sk_verdict.specs.declared.Verdict.TheVariants.{Well, Over, Several}
 use Rattle.sk_plan.specs.Judged.{IsTheJudgement}
 use Rattle.sk_session.specs.declared.closing.Closing.{Closing}
 use Rattle.sk_session.specs.declared.closing.Closing.TheVariants.{ByRun, InAnyOrder}
-use Rattle.sk_session.specs.declared.command.Command.{Command}
-use Rattle.sk_session.specs.declared.command.Command.TheVariants as command
-use Rattle.sk_session.specs.declared.command.Change.{Change as Changing}
-use Rattle.sk_session.specs.declared.edit.Done.{Done}
-use Rattle.sk_session.specs.declared.edit.Edit.{Edit}
-use Rattle.sk_session.specs.declared.edit.Edit.TheVariants as edit
+use Rattle.sk_edits.specs.declared.Command.{Command}
+use Rattle.sk_edits.specs.declared.Command.TheVariants as command
+use Rattle.sk_edits.specs.declared.Change.{Change as Changing}
+use Rattle.sk_session.specs.declared.done.Done.{Done}
+use Rattle.sk_edits.specs.declared.Edit.{Edit}
+use Rattle.sk_edits.specs.declared.Edit.TheVariants as edit
 use Rattle.sk_session.specs.declared.reply.Reply.{Reply}
 use Rattle.sk_session.specs.declared.reply.Reply.TheVariants as reply
 use Rattle.sk_base.specs.declared.Rule.{Rule}
 use Rattle.sk_base.specs.declared.Rule.TheVariants as rule
 use Rattle.sk_lang.specs.Named.{number_named}
 use Rattle.sk_lang.specs.Quantities.{um, ratio}
-use Rattle.sk_session.specs.declared.command.Change.TheVariants.{Drop, Set, Erase}
-use Rattle.sk_session.specs.Commands.{id_of, rule_with, setting, command_of, edit_made, change_rows, command_rows, word_rows, code_in, is_spent}
-use Rattle.sk_session.specs.Edits.{empty, applied, sketch_of, next_element, next_constraint}
-use Rattle.sk_session.specs.Making.{CanMake}
+use Rattle.sk_edits.specs.declared.Change.TheVariants.{Drop, Set, Erase}
+use Rattle.sk_edits.specs.Commands.{id_of, rule_with, setting, command_of, edit_made, change_rows}
+use Rattle.sk_session.specs.LineCodes.{command_rows, word_rows, code_in, is_spent}
+use Rattle.sk_edits.specs.Edits.{empty, applied, sketch_of, next_element, next_constraint}
+use Rattle.sk_edits.specs.Making.{CanMake}
 use Rattle.sk_session.specs.Standing.{edits_of, Gives, IsConsistent, element_after, element_before}
 use Rattle.sk_session.specs.State.{State, sketch_in, graph_in, fresh, Accepts, TakesBack, EndsBy, Closes}
 use Rattle.sk_session.specs.Replies.{IsThePlan, Stands, Takes, Obeys, Enters, ByCode, Answers, next_elem, next_con}
 use Rattle.sk_lang.proofs.FirstCodes.{code_front, code_behind}
 use Rattle.sk_session.proofs.Coding.{answers_entry, answers_command, answers_refused}
 use Rattle.sk_session.proofs.Consistency.{edits_push, consistent_made, consistent_undone, consistent_merged, last_led}
-use Rattle.sk_session.proofs.Numbers.{elements_below, constraints_below}
-use Rattle.sk_session.proofs.Possible.{SoundQuantities, sound_value, can_declare, can_constrain, can_change}
+use Rattle.sk_edits.proofs.Numbers.{elements_below, constraints_below}
+use Rattle.sk_edits.proofs.Possible.{SoundQuantities, sound_value, can_declare, can_constrain, can_change}
 use Rattle.sk_session.proofs.ToSolve.{EachStandsOn, some_left}
 use Rattle.sk_session.proofs.SomeFollowing.{followed, followed_back, some_former}
 

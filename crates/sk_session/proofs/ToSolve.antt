@@ -14,13 +14,14 @@ use Rattle.sk_lang.specs.Codes.{byte_rows, is_none_left}
 use Rattle.sk_lang.specs.Entry.{rows_of, IsEntryOf, StandsOn}
 use Rattle.sk_lang.specs.FirstCode.{first_code}
 use Rattle.sk_lang.proofs.FirstCodes.{none_behind}
-use Rattle.sk_session.specs.declared.command.Command.{Command}
-use Rattle.sk_session.specs.declared.command.Command.TheVariants.{Change, Undo, Check, Plan, Solve, Write, End}
-use Rattle.sk_session.specs.declared.edit.Edit.{Edit}
-use Rattle.sk_session.specs.declared.edit.Edit.TheVariants as edit
+use Rattle.sk_edits.specs.declared.Command.{Command}
+use Rattle.sk_edits.specs.declared.Command.TheVariants.{Change, Undo, Check, Plan, Solve, Write, End}
+use Rattle.sk_edits.specs.declared.Edit.{Edit}
+use Rattle.sk_edits.specs.declared.Edit.TheVariants as edit
 use Rattle.sk_session.specs.declared.reply.Reply.{Reply}
 use Rattle.sk_session.specs.declared.reply.Reply.TheVariants as reply
-use Rattle.sk_session.specs.Commands.{command_of, command_rows, word_rows, edit_made, code_in}
+use Rattle.sk_edits.specs.Commands.{command_of, edit_made}
+use Rattle.sk_session.specs.LineCodes.{command_rows, word_rows, code_in}
 use Rattle.sk_session.specs.State.{State, sketch_in}
 use Rattle.sk_session.specs.Replies.{Stands, Obeys, ObeysWords, Enters, ByCode, Answers, next_elem, next_con}
 use Rattle.sk_session.proofs.Coding.{code_of_command}

@@ -17,20 +17,20 @@ use Rattle.sk_base.proofs.Members.{contains_mapped, filtered_from}
 use Rattle.sk_family.specs.Clusters.{Clusters}
 use Rattle.sk_family.specs.Starts.{HasStart}
 use Rattle.sk_graph.specs.SketchGraph.{graph_of}
-use Rattle.sk_session.specs.declared.edit.Edit.{Edit}
-use Rattle.sk_session.specs.declared.edit.Edit.TheVariants as edit
-use Rattle.sk_session.specs.declared.edit.Former.{Former}
-use Rattle.sk_session.specs.declared.edit.Former.TheVariants as former
-use Rattle.sk_session.specs.Changes.{HasItem, without, with_item}
-use Rattle.sk_session.specs.Edits.{applied, changed, with_length, with_ratio, element_number, constraint_number}
+use Rattle.sk_edits.specs.declared.Edit.{Edit}
+use Rattle.sk_edits.specs.declared.Edit.TheVariants as edit
+use Rattle.sk_session.specs.declared.done.Former.{Former}
+use Rattle.sk_session.specs.declared.done.Former.TheVariants as former
+use Rattle.sk_edits.specs.Changes.{HasItem, without, with_item}
+use Rattle.sk_edits.specs.Edits.{applied, changed, with_length, with_ratio, element_number, constraint_number}
 use Rattle.sk_session.specs.Former.{LeadsTo}
 use Rattle.sk_plan.specs.ConstraintStarts.{constraint_start}
-use Rattle.sk_session.specs.Making.{DissolvesOwner, FollowsBack}
-use Rattle.sk_session.proofs.Places.{put_back, last_taken}
+use Rattle.sk_session.specs.Following.{DissolvesOwner, FollowsBack}
+use Rattle.sk_edits.proofs.Places.{put_back, last_taken}
 use Rattle.sk_base.proofs.Numbers.{passes_differ}
-use Rattle.sk_session.proofs.Setting.{set_back}
+use Rattle.sk_edits.proofs.Setting.{set_back}
 use Rattle.sk_graph.proofs.Drawing.{rule_alike}
-use Rattle.sk_session.proofs.Drawing.{drawn_same}
+use Rattle.sk_edits.proofs.Drawing.{drawn_same}
 use Rattle.sk_session.proofs.Graphs.{all_but_new}
 use Rattle.sk_session.proofs.Following.{dissolved_in}
 

@@ -1,12 +1,12 @@
 -- What an edit took away or changed, as it stood before.
 use Rattle.std.specs.Prelude.{◌≡◌, Contains}
 use Rattle.sk_base.specs.declared.Sketch.{Sketch}
-use Rattle.sk_session.specs.declared.edit.Edit.{Edit}
-use Rattle.sk_session.specs.declared.edit.Edit.TheVariants as edit
-use Rattle.sk_session.specs.declared.edit.Former.{Former}
-use Rattle.sk_session.specs.declared.edit.Former.TheVariants as former
-use Rattle.sk_session.specs.Edits.{applied}
-use Rattle.sk_session.specs.Making.{CanMake}
+use Rattle.sk_edits.specs.declared.Edit.{Edit}
+use Rattle.sk_edits.specs.declared.Edit.TheVariants as edit
+use Rattle.sk_session.specs.declared.done.Former.{Former}
+use Rattle.sk_session.specs.declared.done.Former.TheVariants as former
+use Rattle.sk_edits.specs.Edits.{applied}
+use Rattle.sk_edits.specs.Making.{CanMake}
 
 abbrev pub IsFormer : Edit → Sketch → Former → Type 0
 IsFormer (edit.Element e) s f = f ≡ former.Nothing

@@ -3,12 +3,13 @@ use Rattle.std.specs.Prelude.{◌≡◌, ℕ, ◌+◌, ◌-◌, ◌*◌, ◌≤�
 use Rattle.sk_base.specs.declared.Sketch.{Sketch}
 use Rattle.sk_base.specs.SoundSketch.{IsSoundSketch}
 use Rattle.sk_family.specs.Clusters.{Clusters, IsSound}
-use Rattle.sk_session.specs.declared.edit.Edit.{Edit}
-use Rattle.sk_session.specs.declared.edit.Edit.TheVariants as edit
-use Rattle.sk_session.specs.declared.edit.Done.{Done}
-use Rattle.sk_session.specs.Edits.{sketch_of, next_element, next_constraint}
+use Rattle.sk_edits.specs.declared.Edit.{Edit}
+use Rattle.sk_edits.specs.declared.Edit.TheVariants as edit
+use Rattle.sk_session.specs.declared.done.Done.{Done}
+use Rattle.sk_edits.specs.Edits.{sketch_of, next_element, next_constraint}
 use Rattle.sk_session.specs.Former.{IsFormer}
-use Rattle.sk_session.specs.Making.{CanMake, IsReachedIn}
+use Rattle.sk_edits.specs.Making.{CanMake}
+use Rattle.sk_session.specs.Following.{IsReachedIn}
 
 abbrev pub edit_of : Done → Edit
 edit_of d = d.edit

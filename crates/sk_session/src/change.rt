@@ -8,21 +8,22 @@ ghost use Rattle.sk_family.specs.declared.Cluster.{Cluster as ACluster};
 ghost use Rattle.sk_family.specs.Clusters.{IsSound, IsNamed};
 ghost use Rattle.sk_family.specs.Starts.{HasStart};
 ghost use Rattle.sk_graph.specs.SketchGraph.{graph_of};
-ghost use Rattle.sk_session.specs.Changes.{HasItem};
-ghost use Rattle.sk_session.specs.Edits.{applied, constraint_number, with_length, with_ratio};
+ghost use Rattle.sk_edits.specs.Changes.{HasItem};
+ghost use Rattle.sk_edits.specs.Edits.{applied, constraint_number, with_length, with_ratio};
 ghost use Rattle.sk_session.specs.Former.{IsFormer, LeadsTo};
 ghost use Rattle.sk_plan.specs.ConstraintStarts.{constraint_start};
-ghost use Rattle.sk_session.specs.Making.{CanMake, Follows, FollowsBack, DissolvesOwner, HasConstraint, IsReachedIn};
-ghost use Rattle.sk_session.specs.declared.edit.Edit.TheVariants as an_edit;
-ghost use Rattle.sk_session.specs.declared.edit.Former.TheVariants as a_former;
+ghost use Rattle.sk_edits.specs.Making.{CanMake, HasConstraint};
+ghost use Rattle.sk_session.specs.Following.{Follows, FollowsBack, DissolvesOwner, IsReachedIn};
+ghost use Rattle.sk_edits.specs.declared.Edit.TheVariants as an_edit;
+ghost use Rattle.sk_session.specs.declared.done.Former.TheVariants as a_former;
 ghost use Rattle.sk_base.specs.declared.Element.{Element as AnElement};
 
-use crate::edit::{Edit, Former};
-use crate::numbered::{exchange, get, put, take};
+use crate::done::Former;
 use crate::origin::{adopt, origin_of};
 use sk_base::{
     ConId, Constraint, Element, Name, NoMemory, Ratio, Rule, Sketch, Um, copy_constraint,
 };
+use sk_edits::{Edit, exchange, get, put, take};
 use sk_family::{Cluster, Family};
 use sk_graph::reduce;
 use std::alloc::Global;

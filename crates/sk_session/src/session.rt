@@ -5,19 +5,21 @@ ghost use Rattle.std.specs.Prelude.{◌≡◌, ◌+◌, ◌<◌, ◌≤◌, ◌+
 ghost use Rattle.std.specs.Vec.{vec_len, vec_capacity};
 ghost use Rattle.sk_family.specs.Clusters.{initial_clusters};
 ghost use Rattle.sk_graph.specs.SketchGraph.{graph_of};
-ghost use Rattle.sk_session.specs.Edits.{empty, next_element, next_constraint};
+ghost use Rattle.sk_edits.specs.Edits.{empty, next_element, next_constraint};
 ghost use Rattle.sk_base.specs.SoundSketch.{IsSoundSketch};
 ghost use Rattle.sk_lang.specs.Codes.{is_none_left};
-ghost use Rattle.sk_session.specs.Making.{CanMake, IsReachedIn};
+ghost use Rattle.sk_edits.specs.Making.{CanMake};
+ghost use Rattle.sk_session.specs.Following.{IsReachedIn};
 ghost use Rattle.sk_session.specs.Standing.{Gives, element_after, constraint_after, element_before, constraint_before};
 ghost use Rattle.sk_session.specs.State.{sketch_in, Accepts, TakesBack, IsHeldUp};
 ghost use Rattle.sk_session.specs.Replies.{Checks, Plans};
 
 use crate::change::{change, change_back};
 use crate::closing::{Closing, close};
-use crate::edit::{Done, Edit, Former};
+use crate::done::{Done, Former};
 use crate::reply::Reply;
 use sk_base::{List, NoMemory, Sketch};
+use sk_edits::Edit;
 use sk_family::{Family, initial};
 use sk_graph::reduce;
 use sk_plan::{PlanError, plan_of};

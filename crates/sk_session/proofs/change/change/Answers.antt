@@ -1,11 +1,11 @@
 use Rattle.std.proofs.Common.{◌≡◌, ◌<◌, ◌++◌, ◌∷◌, [], ap, sym, subst, ◌∙◌, List, arith}
 use Rattle.sk_base.specs.declared.Element.{Element}
 use Rattle.sk_base.specs.declared.Constraint.{Constraint}
-use Rattle.sk_session.specs.declared.edit.Edit.{Edit}
-use Rattle.sk_session.specs.declared.edit.Edit.TheVariants as edit
-use Rattle.sk_session.specs.Edits.{applied, element_number, constraint_number}
-use Rattle.sk_session.specs.Making.{IsPossible}
-use Rattle.sk_session.proofs.Places.{put_last}
+use Rattle.sk_edits.specs.declared.Edit.{Edit}
+use Rattle.sk_edits.specs.declared.Edit.TheVariants as edit
+use Rattle.sk_edits.specs.Edits.{applied, element_number, constraint_number}
+use Rattle.sk_edits.specs.Making.{IsPossible}
+use Rattle.sk_edits.proofs.Places.{put_last}
 use Rattle.sk_session.proofs.change.change.Goals as goal
 
 pub put-requires-clause-other : goal.put-requires-clause-other

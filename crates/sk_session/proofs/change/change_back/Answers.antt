@@ -1,8 +1,8 @@
 use Rattle.std.proofs.Common.{inl, inr, sym, subst, ◌∙◌, refl}
 use Rattle.sk_base.specs.declared.Sketch.{Sketch}
 use Rattle.sk_base.specs.SoundSketch.{IsSoundSketch}
-use Rattle.sk_session.specs.declared.edit.Edit.{Edit}
-use Rattle.sk_session.specs.Making.{FollowsBack}
+use Rattle.sk_edits.specs.declared.Edit.{Edit}
+use Rattle.sk_session.specs.Following.{FollowsBack}
 use Rattle.sk_session.proofs.Undoing.{retold, copied, rule_back, element_back, constraint_back, owner_back, none_dropped, dropped_back, start_back, length_in, ratio_in, length_back, ratio_back, none_erased, erased_back}
 use Rattle.sk_session.proofs.change.change_back.Goals as goal
 

@@ -3,9 +3,9 @@ use Rattle.std.specs.Prelude.{Contains, map}
 use Rattle.sk_base.specs.declared.Constraint.{Constraint}
 use Rattle.sk_base.specs.declared.Rule.{Rule}
 use Rattle.sk_base.specs.Numbering.{con_exact}
-use Rattle.sk_session.specs.Changes.{with_item}
-use Rattle.sk_session.specs.Edits.{changed, constraint_number, with_length}
-use Rattle.sk_session.proofs.Setting.{set_one}
+use Rattle.sk_edits.specs.Changes.{with_item}
+use Rattle.sk_edits.specs.Edits.{changed, constraint_number, with_length}
+use Rattle.sk_edits.proofs.Setting.{set_one}
 use Rattle.sk_session.proofs.change.set_length.Goals as goal
 
 pub returns-clause-ok : goal.returns-clause-ok

@@ -10,7 +10,7 @@ use Rattle.sk_lang.specs.declared.EntryError.{EntryError}
 use Rattle.sk_lang.specs.Entry.{entry_code, IsRefusal}
 use Rattle.sk_session.specs.State.{sketch_in}
 use Rattle.sk_session.proofs.Coding.{answers_refused}
-use Rattle.sk_session.proofs.Numbers.{elements_below, constraints_below}
+use Rattle.sk_edits.proofs.Numbers.{elements_below, constraints_below}
 use Rattle.sk_session.proofs.session.Session.command.Goals as goal
 
 pub read_entry-requires-clause-elem_above : goal.read_entry-requires-clause-elem_above

@@ -10,9 +10,10 @@ use Rattle.sk_lang.specs.declared.Entry.{Entry}
 use Rattle.sk_lang.specs.declared.Entry.TheVariants as entry
 use Rattle.sk_lang.specs.Entry.{IsEntryOf, StandsOn, IsNumbered}
 use Rattle.sk_lang.specs.FirstCode.{first_code}
-use Rattle.sk_session.specs.declared.edit.Edit.TheVariants as edit
+use Rattle.sk_edits.specs.declared.Edit.TheVariants as edit
 use Rattle.sk_session.specs.declared.reply.Reply.TheVariants as reply
-use Rattle.sk_session.specs.Commands.{command_of, command_rows}
+use Rattle.sk_edits.specs.Commands.{command_of}
+use Rattle.sk_session.specs.LineCodes.{command_rows}
 use Rattle.sk_session.specs.State.{sketch_in}
 use Rattle.sk_session.specs.Replies.{Obeys, ByCode, IsHalted, next_elem, next_con}
 use Rattle.sk_session.proofs.Coding.{answers_entry, answers_command}

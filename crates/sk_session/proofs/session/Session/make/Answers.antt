@@ -1,6 +1,6 @@
 use Rattle.std.proofs.Common.{◌<◌, sym, subst}
-use Rattle.sk_session.specs.Edits.{sketch_of}
-use Rattle.sk_session.specs.Making.{CanMake}
+use Rattle.sk_edits.specs.Edits.{sketch_of}
+use Rattle.sk_edits.specs.Making.{CanMake}
 use Rattle.sk_session.specs.Standing.{Gives}
 use Rattle.sk_session.specs.State.{State}
 use Rattle.sk_session.proofs.Consistency.{consistent_made}

@@ -2,7 +2,7 @@ use Rattle.std.proofs.Common.{◌≡◌, ◌∙◌, ap}
 use Rattle.sk_base.specs.declared.Sketch.{Sketch}
 use Rattle.sk_family.specs.Clusters.{initial_clusters}
 use Rattle.sk_graph.specs.SketchGraph.{graph_of}
-use Rattle.sk_session.specs.Edits.{empty}
+use Rattle.sk_edits.specs.Edits.{empty}
 use Rattle.sk_session.proofs.Consistency.{consistent_new}
 use Rattle.sk_session.proofs.session.Session.new.Goals as goal
 

@@ -1,6 +1,6 @@
 use Rattle.std.proofs.Common.{rules, ◌≡◌, ◌+◌, ◌-◌, ◌<◌, ◌∙◌, ◌++◌, ◌∷◌, [], ℕ, ap, sym, subst, refl, length, take, arith}
 use Rattle.std.proofs.lemmas.List.{length-map}
-use Rattle.sk_session.specs.Edits.{sketch_of}
+use Rattle.sk_edits.specs.Edits.{sketch_of}
 use Rattle.sk_session.specs.Standing.{edits_of}
 use Rattle.sk_session.specs.State.{State, TakesBack}
 use Rattle.sk_session.proofs.Consistency.{last_split, last_led, consistent_undone, edits_push}
