@@ -1,12 +1,8 @@
 pub mod Answering
 pub mod Behind
-pub mod FallingMerges
-pub mod FittingOffers
 pub mod FlipsAnswered
 pub mod FlipsTold
 pub mod Migrating
-pub mod OfferAnswers
-pub mod OffersSoFar
 pub mod OneOffering
 pub mod OneOutcome
 pub mod OneSession

@@ -44,12 +44,12 @@ use Rattle.sk_residual.specs.declared.Wanted.TheVariants.{Drawn}
 use Rattle.sk_lang.specs.declared.Front.{Front}
 use Rattle.sk_lang.specs.Front.{ReadsFront, RefusesFront}
 use Rattle.sk_offers.specs.Offering.{starting_table}
-use Rattle.sk_cli.specs.declared.offer_line.OfferLine.{OfferLine}
-use Rattle.sk_cli.specs.OfferReading.{ReadsOffers}
+use Rattle.sk_offers.specs.declared.OfferLine.{OfferLine}
+use Rattle.sk_offers.specs.OfferReading.{ReadsOffers}
 use Rattle.sk_cli.specs.FlipsReport.{alternatives_from, IsReportOnFlips, IsFlipped, ReadsSketchAndFlips, RefusesFlipsBehind, IsFlipsRefusal, IsFlipsAnswer}
 use Rattle.sk_cli.specs.Fronts.{IsRefusedAt}
 use Rattle.sk_cli.specs.OffersReport.{IsReportOnOffers, IsOffersReport, RefusesOffersBehind, IsOffersRefusal, IsOffersAnswer}
-use Rattle.sk_cli.proofs.OfferAnswers.{one_list, one_refusal as one_refusal_behind, not_both as not_both_behind}
+use Rattle.sk_offers.proofs.OfferAnswers.{one_list, one_refusal as one_refusal_behind, not_both as not_both_behind}
 use Rattle.sk_cli.proofs.OneOffering.{same_lines}
 use Rattle.sk_session.proofs.Consistency.{empty_sound}
 use Rattle.sk_verify.specs.declared.claim.Claim.{Claim}

@@ -46,10 +46,10 @@ use Rattle.sk_cli.specs.FlipsReport.{alternatives_from, IsFlipped}
 use Rattle.sk_request.specs.Grids.{grid_of, digits_of}
 use Rattle.sk_cli.specs.Outcome.{usage_line, IsPlanBy, IsReportNotWell, IsSolved, IsSolveAnswer, IsAnswerOf, IsAccountAnswer, IsOutcome}
 use Rattle.sk_cli.specs.Solving.{status_of, placement_words}
-use Rattle.sk_cli.proofs.FittingOffers.{read_fit}
+use Rattle.sk_offers.proofs.FittingOffers.{read_fit}
 use Rattle.sk_cli.proofs.FlipsAnswered.{answers_flips}
 use Rattle.sk_flips.proofs.FlipsSoFar.{some_reading}
-use Rattle.sk_cli.proofs.OfferAnswers.{some_answer as read_or_refused}
+use Rattle.sk_offers.proofs.OfferAnswers.{some_answer as read_or_refused}
 use Rattle.sk_request.proofs.Sizes.{grow_size}
 use Rattle.sk_cli.proofs.SomeAnswers.{some_answers}
 use Rattle.sk_cli.proofs.SomePlacements.{enough_digits, some_placement, some_alternatives}

@@ -5,8 +5,6 @@ pub mod FlipsReport
 pub mod Fronts
 pub mod Headline
 pub mod Migration
-pub mod OfferLines
-pub mod OfferReading
 pub mod OffersReport
 pub mod Outcome
 pub mod PartsReport

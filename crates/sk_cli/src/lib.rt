@@ -8,8 +8,6 @@ mod claims;
 mod flips;
 mod grow;
 mod law;
-mod offer_line;
-mod offer_reading;
 mod offers;
 mod parts;
 mod placing;
@@ -29,8 +27,6 @@ pub use law::{
     printed_claims_are_accepted, shapes_are_as_solved, solved_places_are_found, some_outcome,
     verified_drawings_are_right,
 };
-pub use offer_line::OfferLine;
-pub use offer_reading::{one_reading_of_offers, read_offers};
 pub use reply::reply_text;
 pub use solving::Report;
 pub use status::Status;

@@ -2,8 +2,8 @@
 ghost use Rattle.std.specs.Prelude.{◌≡◌, ◌<◌, ◌+◌, ◌⊎◌, ℕ, List as Items, length, IfOk, IfErr};
 ghost use Rattle.sk_lang.specs.Lines.{lines_in};
 ghost use Rattle.sk_lang.specs.declared.Code.{Code as AnyCode};
-ghost use Rattle.sk_cli.specs.declared.offer_line.OfferLine.{OfferLine as AnyOffer};
-ghost use Rattle.sk_cli.specs.OfferReading.{ReadsOffers, RefusesOffers, IsOfferRefusal};
+ghost use Rattle.sk_offers.specs.declared.offer_line.OfferLine.{OfferLine as AnyOffer};
+ghost use Rattle.sk_offers.specs.OfferReading.{ReadsOffers, RefusesOffers, IsOfferRefusal};
 
 use crate::offer_line::{OfferLine, Place, SoFar, after_line};
 use sk_base::List;

@@ -11,7 +11,7 @@ use Rattle.sk_rules.specs.declared.Merge.{Merge}
 use Rattle.sk_rules.specs.declared.Merge.TheVariants.{Two, Three}
 use Rattle.sk_rules.specs.Merges.{names_of, Falls, IsMergeOf}
 use Rattle.sk_rules.proofs.Ordering.{AreInOrder, merge_of_three}
-use Rattle.sk_cli.specs.OfferLines.{has_twins}
+use Rattle.sk_offers.specs.OfferLines.{has_twins}
 
 -- each name is above all that follow
 abbrev AllFall : List Name → Type 0

@@ -8,10 +8,10 @@ use Rattle.std.proofs.lemmas.Bool.Decides.{nat_tests}
 use Rattle.sk_base.specs.Millimetres.{is_digits, at_most}
 use Rattle.sk_base.proofs.Decimals.{is_digits_all, digit_at}
 use Rattle.sk_lang.specs.Lines.{lines_in}
-use Rattle.sk_cli.specs.declared.offer_line.OfferLine.{OfferLine}
-use Rattle.sk_cli.specs.OfferLines.{worker_of, IsOfferOf, AreOffersOf, offered}
-use Rattle.sk_cli.specs.OfferReading.{ReadsOffers}
-use Rattle.sk_cli.specs.OffersReport.{FitsBoard}
+use Rattle.sk_offers.specs.declared.offer_line.OfferLine.{OfferLine}
+use Rattle.sk_offers.specs.OfferLines.{worker_of, IsOfferOf, AreOffersOf, offered}
+use Rattle.sk_offers.specs.OfferReading.{ReadsOffers}
+use Rattle.sk_offers.specs.OfferLines.{FitsBoard}
 
 some_after : (n : ℕ) (cs : List ℕ) → 1 ≤ n → 1 ≤ digits_value_after 10 n cs
 some_after n [] some = some

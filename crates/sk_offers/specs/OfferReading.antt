@@ -7,13 +7,13 @@ use Rattle.sk_lang.specs.declared.Code.{Code}
 use Rattle.sk_lang.specs.declared.Code.TheVariants.{E16}
 use Rattle.sk_lang.specs.declared.ReadError.{ReadError}
 use Rattle.sk_lang.specs.declared.ReadError.TheVariants.{Refused, NoMemory}
-use Rattle.sk_cli.specs.declared.offer_line.OfferLine.{OfferLine}
-use Rattle.sk_cli.specs.declared.offer_line.Place.{Place}
-use Rattle.sk_cli.specs.declared.offer_line.Place.TheVariants.{Among, Past}
-use Rattle.sk_cli.specs.declared.offer_line.SoFar.{SoFar}
+use Rattle.sk_offers.specs.declared.offer_line.OfferLine.{OfferLine}
+use Rattle.sk_offers.specs.declared.offer_line.Place.{Place}
+use Rattle.sk_offers.specs.declared.offer_line.Place.TheVariants.{Among, Past}
+use Rattle.sk_offers.specs.declared.offer_line.SoFar.{SoFar}
 use Rattle.sk_lang.specs.Codes.{byte_rows}
 use Rattle.sk_lang.specs.FirstCode.{first_code}
-use Rattle.sk_cli.specs.OfferLines.{offer_rows, IsOfferOf, word_rows, code_of, place_after_words, place_after, behind_offer, offered, AreOffersOf}
+use Rattle.sk_offers.specs.OfferLines.{offer_rows, IsOfferOf, word_rows, code_of, place_after_words, place_after, behind_offer, offered, AreOffersOf}
 
 -- where the lines lead
 abbrev pub place_along : Place → List (List ℕ) → Place

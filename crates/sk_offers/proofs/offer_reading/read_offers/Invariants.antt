@@ -1,7 +1,7 @@
 use Rattle.std.proofs.Common.{length}
 use Rattle.sk_lang.specs.Lines.{lines_in}
-use Rattle.sk_cli.proofs.OffersSoFar.{StandsAt}
-use Rattle.sk_cli.proofs.offer_reading.read_offers.Given as goal
+use Rattle.sk_offers.proofs.OffersSoFar.{StandsAt}
+use Rattle.sk_offers.proofs.offer_reading.read_offers.Given as goal
 
 abbrev pub invariant-loop-rest : goal.invariant-loop-rest
 invariant-loop-rest l = StandsAt (lines_in l.bytes) (lines_in l.rest) l.so_far l.first l.number

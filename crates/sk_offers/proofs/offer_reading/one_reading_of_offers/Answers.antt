@@ -1,5 +1,5 @@
-use Rattle.sk_cli.proofs.OfferAnswers.{some_answer, one_list as one_list_lem, one_refusal as one_refusal_lem, not_both as not_both_lem}
-use Rattle.sk_cli.proofs.offer_reading.one_reading_of_offers.Goals as goal
+use Rattle.sk_offers.proofs.OfferAnswers.{some_answer, one_list as one_list_lem, one_refusal as one_refusal_lem, not_both as not_both_lem}
+use Rattle.sk_offers.proofs.offer_reading.one_reading_of_offers.Goals as goal
 
 pub returns-clause-some : goal.returns-clause-some
 returns-clause-some c = some_answer

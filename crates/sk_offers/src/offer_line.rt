@@ -4,9 +4,9 @@ ghost use Rattle.sk_lex.specs.Words.{bytes_of, StandInOrder};
 ghost use Rattle.sk_lang.specs.declared.Code.TheVariants.{E8};
 ghost use Rattle.sk_lang.specs.FirstCode.{first_code};
 ghost use Rattle.sk_lang.specs.Entry.{IsRefusal};
-ghost use Rattle.sk_cli.specs.OfferLines.{worker_of, offer_rows, word_rows, code_of, IsOfferOf};
-ghost use Rattle.sk_cli.specs.declared.offer_line.Place.TheVariants.{Among};
-ghost use Rattle.sk_cli.specs.OfferReading.{AddsWords, Adds, IsWithOffer};
+ghost use Rattle.sk_offers.specs.OfferLines.{worker_of, offer_rows, word_rows, code_of, IsOfferOf};
+ghost use Rattle.sk_offers.specs.declared.offer_line.Place.TheVariants.{Among};
+ghost use Rattle.sk_offers.specs.OfferReading.{AddsWords, Adds, IsWithOffer};
 
 use sk_base::List;
 use sk_lang::{Code, EntryError, is_word, name_of, plain_number, split_words, word};

@@ -7,12 +7,12 @@ use Rattle.sk_lang.specs.declared.EntryError.TheVariants.{Refused, NoMemory}
 use Rattle.sk_lang.specs.Codes.{byte_rows}
 use Rattle.sk_lang.specs.Lines.{lines_in}
 use Rattle.sk_lang.specs.Entry.{IsRefusal, error_at}
-use Rattle.sk_cli.specs.declared.offer_line.OfferLine.{OfferLine}
-use Rattle.sk_cli.specs.declared.offer_line.Place.{Place}
-use Rattle.sk_cli.specs.declared.offer_line.Place.TheVariants.{Among, Past}
-use Rattle.sk_cli.specs.declared.offer_line.SoFar.{SoFar}
-use Rattle.sk_cli.specs.OfferLines.{code_of, word_rows, place_after, behind_offer, offered, AreOffersOf}
-use Rattle.sk_cli.specs.OfferReading.{place_along, HaveNoCode, HasFirstCode, ReadsOffers, RefusesOffers, AtLine, NoEnd, IsOfferRefusal, Adds}
+use Rattle.sk_offers.specs.declared.offer_line.OfferLine.{OfferLine}
+use Rattle.sk_offers.specs.declared.offer_line.Place.{Place}
+use Rattle.sk_offers.specs.declared.offer_line.Place.TheVariants.{Among, Past}
+use Rattle.sk_offers.specs.declared.offer_line.SoFar.{SoFar}
+use Rattle.sk_offers.specs.OfferLines.{code_of, word_rows, place_after, behind_offer, offered, AreOffersOf}
+use Rattle.sk_offers.specs.OfferReading.{place_along, HaveNoCode, HasFirstCode, ReadsOffers, RefusesOffers, AtLine, NoEnd, IsOfferRefusal, Adds}
 use Rattle.sk_lang.proofs.FirstCodes.{code_behind}
 
 -- the lines before the rest have no code, and their offers were read

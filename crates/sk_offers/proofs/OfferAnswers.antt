@@ -13,13 +13,13 @@ use Rattle.sk_lang.specs.declared.Code.TheVariants.{E3, E4, E8, E10, E15, E16, E
 use Rattle.sk_lang.specs.FirstCode.{first_code}
 use Rattle.sk_lang.specs.Lines.{lines_in}
 use Rattle.sk_base.proofs.Tables.{passed}
-use Rattle.sk_cli.specs.declared.offer_line.OfferLine.{OfferLine}
-use Rattle.sk_cli.specs.declared.offer_line.Place.{Place}
-use Rattle.sk_cli.specs.declared.offer_line.Place.TheVariants.{Among, Past}
-use Rattle.sk_cli.specs.OfferLines.{worker_of, named, is_bad_name, has_twins, offer_rows, end_rows, word_rows, code_of, place_after, behind_offer, offered, IsOfferOf, AreOffersOf}
-use Rattle.sk_cli.specs.OfferReading.{place_along, HaveNoCode, HasFirstCode, ReadsOffers, RefusesOffers, AtLine, NoEnd}
-use Rattle.sk_cli.proofs.OffersSoFar.{offers_append}
-use Rattle.sk_cli.proofs.FallingMerges.{one_merge, some_pair, some_three}
+use Rattle.sk_offers.specs.declared.offer_line.OfferLine.{OfferLine}
+use Rattle.sk_offers.specs.declared.offer_line.Place.{Place}
+use Rattle.sk_offers.specs.declared.offer_line.Place.TheVariants.{Among, Past}
+use Rattle.sk_offers.specs.OfferLines.{worker_of, named, is_bad_name, has_twins, offer_rows, end_rows, word_rows, code_of, place_after, behind_offer, offered, IsOfferOf, AreOffersOf}
+use Rattle.sk_offers.specs.OfferReading.{place_along, HaveNoCode, HasFirstCode, ReadsOffers, RefusesOffers, AtLine, NoEnd}
+use Rattle.sk_offers.proofs.OffersSoFar.{offers_append}
+use Rattle.sk_offers.proofs.FallingMerges.{one_merge, some_pair, some_three}
 
 -- the line of the refusal and its code, if the lines from number n on are refused
 abbrev Fault : Type 0

@@ -1,18 +1,18 @@
 -- What a line behind a sketch says, and its codes.
-use Rattle.std.specs.Prelude.{◌≡◌, ⊤, ℕ, Bool, true, ◌&&◌, not, ◌==◌, List, [], ◌∷◌, ◌++◌, length, map, Option, Some, is_none, codes, bytes_eq, if◌then◌else◌}
+use Rattle.std.specs.Prelude.{◌≡◌, ◌≤◌, ⊤, ℕ, Bool, true, ◌&&◌, not, ◌==◌, List, [], ◌∷◌, ◌++◌, length, map, Option, Some, is_none, codes, bytes_eq, if◌then◌else◌}
 use Rattle.std.specs.List.{list_any}
 use Rattle.sk_base.specs.Millimetres.{at_most}
 use Rattle.sk_lex.specs.Words.{words_in}
-use Rattle.sk_rules.specs.Merges.{IsMergeOf}
+use Rattle.sk_rules.specs.Merges.{Falls, IsMergeOf}
 use Rattle.sk_lang.specs.declared.Code.{Code}
 use Rattle.sk_lang.specs.declared.Code.TheVariants.{E3, E4, E8, E10, E17}
 pub use Rattle.sk_lang.specs.ClusterWords.{begins_with_zero, plain_number, name_of, named, is_bad_name, has_twins}
 pub use Rattle.sk_lang.specs.EndLine.{end_rows}
 use Rattle.sk_lang.specs.Codes.{byte_rows}
 use Rattle.sk_lang.specs.FirstCode.{first_code}
-use Rattle.sk_cli.specs.declared.offer_line.OfferLine.{OfferLine}
-use Rattle.sk_cli.specs.declared.offer_line.Place.{Place}
-use Rattle.sk_cli.specs.declared.offer_line.Place.TheVariants.{Among, Past}
+use Rattle.sk_offers.specs.declared.offer_line.OfferLine.{OfferLine}
+use Rattle.sk_offers.specs.declared.offer_line.Place.{Place}
+use Rattle.sk_offers.specs.declared.offer_line.Place.TheVariants.{Among, Past}
 
 -- the worker that a word is, from 1 to 64
 abbrev pub worker_of : List ℕ → Option ℕ
@@ -51,7 +51,11 @@ abbrev pub IsOfferOf : List (List ℕ) → OfferLine → Type 0
 IsOfferOf [] offer = ⊥
 IsOfferOf (worker ∷ names) offer = (worker_of worker ≡ Some offer.worker) × IsMergeOf (map named names) offer.merge
 
--- the same, one by one
+-- the worker and the merge are such as a board takes
+abbrev pub FitsBoard : OfferLine → Type 0
+FitsBoard o = (1 ≤ o.worker) × (o.worker ≤ 64) × Falls o.merge
+
+-- the same as `IsOfferOf`, one by one
 abbrev pub AreOffersOf : List (List (List ℕ)) → List OfferLine → Type 0
 AreOffersOf [] [] = ⊤
 AreOffersOf [] (offer ∷ offers) = ⊥

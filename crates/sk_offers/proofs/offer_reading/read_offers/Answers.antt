@@ -2,8 +2,8 @@ use Rattle.std.proofs.Common.{◌≡◌, List, [], ℕ, subst, arith}
 use Rattle.std.proofs.lemmas.Bool.Decides.{nat_tests}
 use Rattle.std.proofs.lemmas.List.{nil_from_length}
 use Rattle.sk_lang.specs.Lines.{lines_in}
-use Rattle.sk_cli.proofs.OffersSoFar.{StandsAt, stands_next, refused_here, unended_here}
-use Rattle.sk_cli.proofs.offer_reading.read_offers.Goals as goal
+use Rattle.sk_offers.proofs.OffersSoFar.{StandsAt, stands_next, refused_here, unended_here}
+use Rattle.sk_offers.proofs.offer_reading.read_offers.Goals as goal
 
 pub returns-in-Err-clause-refuses : goal.returns-in-Err-clause-refuses
 returns-in-Err-clause-refuses c =
