@@ -13,7 +13,7 @@ use crate::status::Status;
 use sk_io::{Sink, write_all};
 use sk_lang::split_line;
 use sk_request::Request;
-use sk_session::{Closing, Reply, Session, some_to_solve};
+use sk_session::{Closing, Reply, Session};
 use std::alloc::Global;
 
 /// Answers the lines of an input that isn't too long, up to the end of the session, and writes the
@@ -69,7 +69,6 @@ fn reply_to<K: Sink>(
         → (K.faults sink.new ≡ K.faults sink.old) × (IsErrOf result Status.WriteFault → ⊥) }
 {
     let reply = session.command(line)?;
-    some_to_solve();
     let text = reply_text(
         alloc,
         session.sketch(),

@@ -1,6 +1,6 @@
 pub mod Origins
 pub mod Following
-pub mod Former
+pub mod Past
 pub mod Standing
 pub mod State
 pub mod LineCodes

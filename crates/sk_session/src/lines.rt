@@ -128,7 +128,7 @@ impl Session {
     }
 
     fn answer_plan(&self, alone: bool) -> Result<Reply, NoMemory>
-        ensures { IfOk result (λ said. ByCode (first_code ((not alone, E3) ∷ (is_none_left (sketch_in self.now).elements, E18) ∷ [])) self.now (Plans self.now said × (self.now ≡ self.now)) said self.now) }
+        ensures { IfOk result (λ said. ByCode (first_code ((not alone, E3) ∷ (is_none_left (sketch_in self.now).elements, E18) ∷ [])) self.now (Plans self.now said) said self.now) }
     {
         match self.query_code(alone) {
             Some(code) => Ok(Reply::Refused(code)),
@@ -172,6 +172,7 @@ impl Session {
         requires order { StandInOrder 0 words.now (length line.now) }
         ensures ok { let ws = map (bytes_of line.now) words.now in let command = command_of (slice_index_or ws 0 []) in IfOk result (λ said.
             ByCode (first_code (command_rows self.old command (drop 1 ws))) self.old (Obeys self.old command (drop 1 ws) said self.new) said self.new) }
+        ensures solve { IfOk result (λ said. said ≡ a_reply.Solve → 0 < length (sketch_in self.new).elements) }
         ensures err { OnErr result (IsHalted self.old (map (bytes_of line.now) words.now) self.new) }
     {
         match command_of(word(line, words, 0)) {
@@ -189,6 +190,7 @@ impl Session {
         requires was_sound { IsSoundSketch (sketch_in self.old) }
         requires sound { IsSoundSketch (added (sketch_in self.old) (Some entry)) }
         ensures ok { IfOk result (λ said. Answers self.old line.now said self.new) }
+        ensures solve { IfOk result (λ said. said ≡ a_reply.Solve → 0 < length (sketch_in self.new).elements) }
         ensures err { OnErr result (IsHalted self.old (words_under Two line.now) self.new) }
     {
         match entry {
@@ -202,6 +204,7 @@ impl Session {
     /// Does one command. The line is one of version 2, and comes without its line end.
     pub fn command(&mut self, line: &[u8]) -> Result<Reply, NoMemory>
         ensures answer { IfOk result (λ said. Answers self.old line.now said self.new) }
+        ensures solve { IfOk result (λ said. said ≡ a_reply.Solve → 0 < length (sketch_in self.new).elements) }
         ensures err { OnErr result (IsHalted self.old (words_under Two line.now) self.new) }
     {
         let elem = Elem(self.next_elem());

@@ -1,4 +1,4 @@
-use Rattle.std.proofs.Common.{◌≡◌, ◌<◌, Some, get_or, sym, subst, arith}
+use Rattle.std.proofs.Common.{◌≡◌, ◌<◌, Some, get_or, sym, subst, ◌∙◌, arith}
 use Rattle.std.specs.Prelude.{All}
 use Rattle.std.proofs.lemmas.List.Elements.{Contains-get_or}
 use Rattle.std.proofs.lemmas.Result.{IfOk-weaker}
@@ -8,6 +8,7 @@ use Rattle.sk_base.specs.declared.Sketch.{Sketch}
 use Rattle.sk_lang.specs.declared.Version.TheVariants.{Two}
 use Rattle.sk_lang.specs.declared.EntryError.{EntryError}
 use Rattle.sk_lang.specs.Entry.{entry_code, IsRefusal}
+use Rattle.sk_session.specs.declared.reply.Reply.TheVariants as reply
 use Rattle.sk_session.specs.State.{sketch_in}
 use Rattle.sk_session.proofs.Coding.{answers_refused}
 use Rattle.sk_edits.proofs.Numbers.{elements_below, constraints_below}
@@ -38,3 +39,7 @@ returns-in-Err-clause-answer c =
     let (code, error_is, said_is) = told in
     let is : entry_code Two s line ≡ Some code = subst (λ (e : EntryError). IsRefusal (entry_code Two s line) e) error_is refused in
     answers_refused old line code said is said_is) c.refusal.ensures
+
+pub returns-in-Err-clause-solve : goal.returns-in-Err-clause-solve
+returns-in-Err-clause-solve c =
+    IfOk-weaker c.refusal.result _ _ (λ said told is. (let (code, error_is, said_is) = told in let clash : reply.Solve ≡ reply.Refused code = sym is ∙ said_is in cc)) c.refusal.ensures

@@ -17,6 +17,7 @@ use Rattle.sk_session.specs.LineCodes.{command_rows}
 use Rattle.sk_session.specs.State.{sketch_in}
 use Rattle.sk_session.specs.Replies.{Obeys, ByCode, IsHalted, next_elem, next_con}
 use Rattle.sk_session.proofs.Coding.{answers_entry, answers_command}
+use Rattle.sk_session.proofs.ToSolve.{taken_otherwise}
 use Rattle.sk_session.proofs.session.Session.enter.Goals as goal
 
 pub declare-requires-clause-number : goal.declare-requires-clause-number
@@ -69,3 +70,11 @@ returns-in-Other-clause-err c =
     let told = subst (StandsOn Two line) c.in-Other.is c.requires.stands_on in
     let same : map (bytes_of line) c.as_slice.result.now ≡ words_under Two line = ap (λ (xs : List Word). map (bytes_of line) xs) c.as_slice.ensures ∙ told.1.0 in
     subst (λ (ws : List (List ℕ)). OnErr c.other.result (IsHalted old ws c.other.new.self)) same c.other.ensures.err
+
+pub returns-in-Element-clause-solve : goal.returns-in-Element-clause-solve
+returns-in-Element-clause-solve c =
+    IfOk-weaker c.declare.result _ _ (λ said takes is. absurd (taken_otherwise _ _ _ _ _ _ (λ e. cc) takes is)) c.declare.ensures.ok
+
+pub returns-in-Constraint-clause-solve : goal.returns-in-Constraint-clause-solve
+returns-in-Constraint-clause-solve c =
+    IfOk-weaker c.constrain.result _ _ (λ said takes is. absurd (taken_otherwise _ _ _ _ _ _ (λ e. cc) takes is)) c.constrain.ensures.ok

@@ -12,4 +12,4 @@ invariant_of-result c =
     let is : sketch ≡ empty = (let first = c.new.ensures in let second = c.new-2.ensures in cc) in
     let family : c.in_ok-family.family ≡ initial_clusters (graph_of empty) =
     c.in_ok-family.ensures.clusters ∙ ap initial_clusters (c.in_ok-reduce.ensures.graph ∙ ap graph_of is) in
-    rw (c.new-3.ensures.items, is) (consistent_new c.in_ok-family.family family)
+    rw (c.new-3.ensures, is) (consistent_new c.in_ok-family.family family)
