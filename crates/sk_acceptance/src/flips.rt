@@ -5,13 +5,12 @@ use crate::tolerances::{placed, places_of};
 use sk_base::{List, Name, Sign, Sketch, Text};
 use sk_cli::alternative_text;
 use sk_flips::{
-    Alternative, Layout, alternatives, first_off, flip_plan, read_flips, turned_plan_is_legal,
+    Alternative, alternatives, first_off, flip_plan, read_flips, turned_plan_is_legal,
 };
-use sk_frame::FrameBy;
 use sk_graph::reduce;
 use sk_interval::G38;
 use sk_lines::ReadError;
-use sk_place::PlaceBy;
+use sk_place::{FrameBy, Layout, PlaceBy};
 use sk_report::{refused_text, turned_text};
 use sk_residual::Turned;
 use std::alloc::Global;

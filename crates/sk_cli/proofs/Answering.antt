@@ -5,7 +5,7 @@ use Rattle.sk_offers.specs.declared.Answer.{Answer}
 use Rattle.sk_offers.specs.declared.Answer.TheVariants.{Taken, Stale, Idle}
 use Rattle.sk_offers.specs.Offering.{Table, IsAnswer, Follows}
 use Rattle.sk_report.specs.AnswerLine.{answer_line}
-use Rattle.sk_cli.specs.declared.offer_line.OfferLine.{OfferLine}
+use Rattle.sk_offers.specs.declared.OfferLine.{OfferLine}
 use Rattle.sk_cli.specs.OffersReport.{AreAnswered}
 
 -- one more offer behind those that are answered

@@ -16,13 +16,13 @@ use Rattle.sk_flips.specs.declared.Placement.TheVariants.{Fault, Uncarried, Beyo
 use Rattle.sk_flips.specs.Alternatives.{IsAlternative}
 use Rattle.sk_flips.proofs.Untouched.{untouched_signs, placed_untouched}
 use Rattle.sk_cli.specs.declared.answer.Answer.{Answer}
-use Rattle.sk_cli.specs.declared.request.Request.{Request}
+use Rattle.sk_request.specs.declared.Request.{Request}
 use Rattle.sk_cli.specs.declared.solving.Report.TheVariants.{Places}
 use Rattle.sk_cli.specs.declared.status.Status.{Status}
 use Rattle.sk_cli.specs.declared.status.Status.TheVariants.{Done, Refused, NotWell}
 use Rattle.sk_cli.specs.Causes.{IsItsPlan}
 use Rattle.sk_cli.specs.FlipsReport.{IsReportOnFlips, IsFlipped, ReadsSketchAndFlips, IsFlipsAnswer}
-use Rattle.sk_cli.specs.Grids.{grid_of, digits_of}
+use Rattle.sk_request.specs.Grids.{grid_of, digits_of}
 use Rattle.sk_cli.specs.Solved.{IsPlacedPlan, IsSolved}
 use Rattle.sk_cli.specs.Solving.{status_of, placement_words}
 
@@ -44,7 +44,7 @@ module _ (request : Request) (s : Sketch) (text : List ℕ) (sound : IsSoundSket
   abbrev IsFoundAgain : Type 0
   IsFoundAgain =
       (p : ThePlan) × (at : Placed) × (tol : Tolerance) × (text ≡ solve_report s p (digits_of request.bits) at tol) × IsItsPlan request s p
-      × IsAlternative (grid_of request.bits) request.place (digits_of request.bits) request.within s p [] (Found at tol)
+      × IsAlternative (grid_of request.bits) request.layout (digits_of request.bits) request.within s p [] (Found at tol)
       × IsReportOnFlips request s ([] ∷ []) (codes "flip 1 ok\n" ++ places_report s at tol)
 
   held_found : (p : ThePlan) (q : Placement) → IsPlacedPlan request s p q → Done ≡ status_of q → text ≡ placement_words Places (digits_of request.bits) s p q → IsFoundAgain
@@ -53,8 +53,8 @@ module _ (request : Request) (s : Sketch) (text : List ℕ) (sound : IsSoundSket
   held_found p (Beyond b) placed same is = absurd (let clash : Done ≡ Status.Tolerance = same in cc)
   held_found p (Turned t) placed same is = absurd (let clash : Done ≡ Status.StepFault = same in cc)
   held_found p (Holds at tol) placed same is =
-      let found : IsAlternative (grid_of request.bits) request.place (digits_of request.bits) request.within s p [] (Found at tol) =
-      placed_untouched (grid_of request.bits) request.place (digits_of request.bits) request.within s p (λ there. untouched_signs s there p sound placed.plan.legal placed.plan.drawn) (Holds at tol) placed.placed in (
+      let found : IsAlternative (grid_of request.bits) request.layout (digits_of request.bits) request.within s p [] (Found at tol) =
+      placed_untouched (grid_of request.bits) request.layout (digits_of request.bits) request.within s p (λ there. untouched_signs s there p sound placed.plan.legal placed.plan.drawn) (Holds at tol) placed.placed in (
         p,
         at,
         tol,

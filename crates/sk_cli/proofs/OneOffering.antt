@@ -12,7 +12,7 @@ use Rattle.sk_offers.specs.declared.Answer.{Answer}
 use Rattle.sk_offers.specs.declared.Answer.TheVariants.{Taken, Stale, Idle}
 use Rattle.sk_offers.specs.Offering.{Table, IsFirstStale, IsAnswer, Follows}
 use Rattle.sk_report.specs.AnswerLine.{answer_line}
-use Rattle.sk_cli.specs.declared.offer_line.OfferLine.{OfferLine}
+use Rattle.sk_offers.specs.declared.OfferLine.{OfferLine}
 use Rattle.sk_cli.specs.OffersReport.{AreAnswered}
 
 all_at : {X : Type 0} (P : X → Type 0) (before : List X) (x : X) (after : List X) → All P (before ++ x ∷ after) → P x

@@ -1,4 +1,4 @@
--- Words ask for one thing at most, and with an input they have one outcome at most.
+-- Words and an input have one outcome at most.
 use Rattle.std.proofs.Common.{◌≡◌, ◌⊎◌, inl, inr, ℕ, ◌+◌, ◌<◌, ◌≤◌, List, [], ◌∷◌, ◌++◌, length, refl, sym, ap, ◌∙◌, subst, Option, arith}
 use Rattle.std.specs.Prelude.{All, map, take, drop}
 use Rattle.sk_base.specs.declared.ConId.{ConId}
@@ -10,9 +10,9 @@ use Rattle.sk_lines.specs.declared.Code.{Code}
 use Rattle.sk_lines.specs.declared.Code.TheVariants.{E20}
 use Rattle.sk_lines.specs.declared.Refusal.{Refusal}
 use Rattle.sk_lang.specs.Reading.{Reads, Refuses}
-use Rattle.sk_frame.specs.declared.FrameBy.{FrameBy}
-use Rattle.sk_frame.specs.declared.FrameBy.TheVariants.{Base}
-use Rattle.sk_flips.specs.declared.Layout.{Layout}
+use Rattle.sk_place.specs.declared.FrameBy.{FrameBy}
+use Rattle.sk_place.specs.declared.FrameBy.TheVariants.{Base}
+use Rattle.sk_place.specs.declared.Layout.{Layout}
 use Rattle.sk_place.specs.declared.PlaceBy.{PlaceBy}
 use Rattle.sk_place.specs.declared.PlaceBy.TheVariants.{Boxes}
 use Rattle.sk_report.specs.CheckReport.{part_line, parts_head, check_report}
@@ -44,12 +44,12 @@ use Rattle.sk_residual.specs.declared.Wanted.TheVariants.{Drawn}
 use Rattle.sk_lang.specs.declared.Front.{Front}
 use Rattle.sk_lang.specs.Front.{ReadsFront, RefusesFront}
 use Rattle.sk_offers.specs.Offering.{starting_table}
-use Rattle.sk_cli.specs.declared.offer_line.OfferLine.{OfferLine}
-use Rattle.sk_cli.specs.OfferReading.{ReadsOffers}
+use Rattle.sk_offers.specs.declared.OfferLine.{OfferLine}
+use Rattle.sk_offers.specs.OfferReading.{ReadsOffers}
 use Rattle.sk_cli.specs.FlipsReport.{alternatives_from, IsReportOnFlips, IsFlipped, ReadsSketchAndFlips, RefusesFlipsBehind, IsFlipsRefusal, IsFlipsAnswer}
 use Rattle.sk_cli.specs.Fronts.{IsRefusedAt}
 use Rattle.sk_cli.specs.OffersReport.{IsReportOnOffers, IsOffersReport, RefusesOffersBehind, IsOffersRefusal, IsOffersAnswer}
-use Rattle.sk_cli.proofs.OfferAnswers.{one_list, one_refusal as one_refusal_behind, not_both as not_both_behind}
+use Rattle.sk_offers.proofs.OfferAnswers.{one_list, one_refusal as one_refusal_behind, not_both as not_both_behind}
 use Rattle.sk_cli.proofs.OneOffering.{same_lines}
 use Rattle.sk_session.proofs.Consistency.{empty_sound}
 use Rattle.sk_claims.specs.declared.claim.Claim.{Claim}
@@ -64,51 +64,32 @@ use Rattle.sk_worklist.specs.declared.Order.{Order}
 use Rattle.sk_worklist.specs.declared.Order.TheVariants.{First}
 use Rattle.sk_cli.specs.declared.accounts.Account.{Account}
 use Rattle.sk_cli.specs.declared.accounts.Account.TheVariants.{Judged, Spares, Derived, Migrated, Shapes}
-use Rattle.sk_cli.specs.declared.command.Command.{Command}
-use Rattle.sk_cli.specs.declared.command.Command.TheVariants.{Check, Plan, Solve, Dxf, Offers, Session, Grow, Migrate, Verify, Spare, Flips, Derive, Parts}
-use Rattle.sk_cli.specs.declared.request.Request.{Request}
+use Rattle.sk_request.specs.declared.Command.{Command}
+use Rattle.sk_request.specs.declared.Command.TheVariants.{Check, Plan, Solve, Dxf, Offers, Session, Grow, Migrate, Verify, Spare, Flips, Derive, Parts}
+use Rattle.sk_request.specs.declared.Request.{Request}
 use Rattle.sk_cli.specs.declared.status.Status.{Status}
 use Rattle.sk_cli.specs.declared.status.Status.TheVariants.{Done, Refused, NotWell, NotVerified}
-use Rattle.sk_cli.specs.declared.bits.Bits.{Bits}
-use Rattle.sk_cli.specs.declared.bits.Bits.TheVariants.{ThirtyEight}
+use Rattle.sk_request.specs.declared.Bits.{Bits}
+use Rattle.sk_request.specs.declared.Bits.TheVariants.{ThirtyEight}
 use Rattle.sk_cli.specs.declared.solving.Report.{Report}
 use Rattle.sk_cli.specs.declared.solving.Report.TheVariants.{Places, Drawing, Sums, Shape}
-use Rattle.sk_cli.proofs.Sizes.{HasFitSize, size_fits, some_injective}
+use Rattle.sk_request.proofs.Sizes.{HasFitSize, size_fits, some_injective}
 use Rattle.sk_gen.specs.DatumSketch.{datum_sketch}
-use Rattle.sk_cli.specs.Asking.{OrderKey, BitsKey, WithinKey, PlaceKey, FrameKey, SizeKey, values_of, IsOrder, IsBits, IsLimit, IsPlace, IsFrame, IsSize, Asks}
+use Rattle.sk_request.specs.Asking.{OrderKey, BitsKey, WithinKey, PlaceKey, FrameKey, SizeKey, values_of, IsOrder, IsBits, IsLimit, IsPlace, IsFrame, IsSize, Asks}
 use Rattle.sk_cli.specs.Accounts.{IsAccount}
 use Rattle.sk_cli.specs.PartsReport.{IsShape, IsBelowPart, ArePartsTold}
 use Rattle.sk_parts.specs.OwnSketch.{part_sketch}
 use Rattle.sk_parts.proofs.Drawing.{part_is_sound}
 use Rattle.sk_verdict.specs.declared.Part.{Part}
-use Rattle.sk_cli.specs.Grids.{grid_of, digits_of}
+use Rattle.sk_request.specs.Grids.{grid_of, digits_of}
 use Rattle.sk_cli.specs.Solving.{IsPlacement, status_of, placement_words}
-use Rattle.sk_cli.proofs.CommandWords.{one_command}
-use Rattle.sk_cli.proofs.KeyValues.{one_said, one_set}
-use Rattle.sk_cli.proofs.Numbers.{one_order, one_bits, one_limit, one_place, one_frame, one_size}
+use Rattle.sk_request.proofs.OneRequest.{same_request}
 use Rattle.sk_flips.proofs.OnePlacement.{same_placement, same_alternatives}
 use Rattle.sk_flips.proofs.FlipsSoFar.{same_flips, same_refusal as one_flips_refusal, read_or_refused}
 use Rattle.sk_plan.proofs.PlanTrees.{some_plan_tree}
 use Rattle.sk_cli.specs.Outcome.{IsAccountOf, IsRefusalText, IsAccountAnswer, IsPlanBy, IsPlanReport, IsReportNotWell, IsPlanAnswer, IsPlanOrReport, IsSolved, IsSolveAnswer, IsGrowAnswer, IsAnswer, IsAnswerOf, IsOutcome, AreFirstReplies}
 use Rattle.sk_cli.proofs.OneSession.{OneReply, same_replies, front_replies}
 use Rattle.sk_cli.specs.SessionAnswer.{IsSessionAnswer, RepliesToFront, HasEnded, at_start}
-
-pub same_request : (words : List (List ℕ)) (one other : Request) → Asks words one → Asks words other → one ≡ other
-same_request [] one other first second = absurd first
-same_request (command ∷ keys) one other first second =
-    let command_is = one_command one.command other.command (sym first.0 ∙ second.0) in
-    let order_is = one_said IsOrder one_order First (values_of OrderKey keys) one.order other.order first.1.order second.1.order in
-    let bits_is = one_said IsBits one_bits ThirtyEight (values_of BitsKey keys) one.bits other.bits first.1.bits second.1.bits in
-    let within_is = one_said IsLimit one_limit 1000 (values_of WithinKey keys) one.within other.within first.1.within second.1.within in
-    let by_is = one_said IsPlace one_place Boxes (values_of PlaceKey keys) one.place.by other.place.by first.1.place second.1.place in
-    let frame_is = one_said IsFrame one_frame Base (values_of FrameKey keys) one.place.frame other.place.frame first.1.frame second.1.frame in
-    let lay : PlaceBy → FrameBy → Layout = λ b f. record { by = b; frame = f } in
-    let place_is : one.place ≡ other.place = ap (λ b. lay b one.place.frame) by_is ∙ ap (λ f. lay other.place.by f) frame_is in
-    let size_is = one_set IsSize one_size (values_of SizeKey keys) one.size other.size first.1.size second.1.size in
-    let make : Command → Order → Bits → ℕ → Layout → Option ℕ → Request = λ c o b w p n. record { command = c; order = o; bits = b; within = w; place = p; size = n } in
-    ap (λ c. make c one.order one.bits one.within one.place one.size) command_is ∙ ap (λ o. make other.command o one.bits one.within one.place one.size) order_is
-    ∙ ap (λ b. make other.command other.order b one.within one.place one.size) bits_is ∙ ap (λ w. make other.command other.order other.bits w one.place one.size) within_is
-    ∙ ap (λ p. make other.command other.order other.bits other.within p one.size) place_is ∙ ap (λ n. make other.command other.order other.bits other.within other.place n) size_is
 
 -- the laws of the layers below
 abbrev pub OneSketch : Type 0
@@ -234,8 +215,8 @@ same_solved : OneJudgement → LowerLaws → (report : Report) (request : Reques
     → IsSolved report request s status text → IsSolved report request s other another → (status ≡ other) × (text ≡ another)
 same_solved law laws report request s sound status other text another (inl (p, q, placed, is, text_is)) (inl (p', q', placed', is', text_is')) =
     let plan_is = same_plan laws request.order s sound p p' placed.plan placed'.plan in
-    let placement_is : q ≡ q' = same_placement Drawn (grid_of request.bits) request.place (digits_of request.bits) request.within s p' placed'.plan.legal (some_plan_tree (graph_of s) p' sound placed'.plan.legal) q q'
-    (subst (λ (z : ThePlan). IsPlacement (grid_of request.bits) request.place (digits_of request.bits) request.within s z q) plan_is placed.placed) placed'.placed in (
+    let placement_is : q ≡ q' = same_placement Drawn (grid_of request.bits) request.layout (digits_of request.bits) request.within s p' placed'.plan.legal (some_plan_tree (graph_of s) p' sound placed'.plan.legal) q q'
+    (subst (λ (z : ThePlan). IsPlacement (grid_of request.bits) request.layout (digits_of request.bits) request.within s z q) plan_is placed.placed) placed'.placed in (
       is ∙ ap status_of placement_is ∙ sym is',
       text_is ∙ ap (λ z. placement_words report (digits_of request.bits) s z q) plan_is
           ∙ ap (λ z. placement_words report (digits_of request.bits) s p' z) placement_is ∙ sym text_is',
@@ -363,10 +344,10 @@ same_report_on_flips : LowerLaws → (request : Request) (s : Sketch) → IsSoun
 same_report_on_flips laws request s sound lists text another one other =
     let F = digits_of request.bits in
     let plan_is : one.plan ≡ other.plan = same_plan laws request.order s sound one.plan other.plan one.by other.by in
-    let moved : AreAlternatives (grid_of request.bits) request.place F request.within s other.plan lists one.found =
-    subst (λ (p : ThePlan). AreAlternatives (grid_of request.bits) request.place F request.within s p lists one.found) plan_is one.are in
+    let moved : AreAlternatives (grid_of request.bits) request.layout F request.within s other.plan lists one.found =
+    subst (λ (p : ThePlan). AreAlternatives (grid_of request.bits) request.layout F request.within s p lists one.found) plan_is one.are in
     let tree = some_plan_tree (graph_of s) other.plan sound other.by.legal in
-    let found_is = same_alternatives (grid_of request.bits) request.place F request.within s other.plan other.by.legal tree lists one.found other.found moved other.are in
+    let found_is = same_alternatives (grid_of request.bits) request.layout F request.within s other.plan other.by.legal tree lists one.found other.found moved other.are in
     one.is ∙ ap (λ (found : List Alternative). alternatives_from s F 1 found) found_is ∙ sym other.is
 
 same_flipped : OneJudgement → LowerLaws → (request : Request) (s : Sketch) → IsSoundGraph (graph_of s) → (lists : List (List Name)) (status other : Status) (text another : List ℕ)

@@ -3,13 +3,13 @@ use Rattle.std.proofs.Common.{◌≡◌, ◌≢◌, ℕ, ◌+◌, List, [], ◌�
 use Rattle.std.proofs.lemmas.List.{append-nil, nil_from_length}
 use Rattle.sk_base.specs.declared.Sketch.{Sketch}
 use Rattle.sk_base.specs.SoundSketch.{IsSoundSketch}
-use Rattle.sk_session.specs.declared.Edit.{Edit}
+use Rattle.sk_edits.specs.declared.Edit.{Edit}
 use Rattle.sk_session.specs.declared.Reply.{Reply}
 use Rattle.sk_session.specs.declared.Reply.TheVariants as reply
-use Rattle.sk_session.specs.Edits.{sketch_of}
+use Rattle.sk_edits.specs.Edits.{sketch_of}
 use Rattle.sk_session.specs.State.{State, sketch_in, IsSameElse}
 use Rattle.sk_session.specs.Replies.{Answers}
-use Rattle.sk_cli.specs.declared.request.Request.{Request}
+use Rattle.sk_request.specs.declared.Request.{Request}
 use Rattle.sk_cli.specs.declared.solving.Report.TheVariants.{Places}
 use Rattle.sk_cli.specs.declared.status.Status.{Status}
 use Rattle.sk_cli.specs.SessionAnswer.{IsReplyText, IsReplied, AreReplied, HasEnded, solve_with}
@@ -35,7 +35,7 @@ each_a_front xs ys more less longer shorter =
 
 module _ (one_reply : OneReply) (one_solved : OneSolved) (request : Request) where
   same_text : (s : Sketch) → IsSoundSketch s → (r : Reply) (text another : List ℕ)
-      → IsReplyText request.order request.bits request.within request.place s r text → IsReplyText request.order request.bits request.within request.place s r another → text ≡ another
+      → IsReplyText request.order request.bits request.within request.layout s r text → IsReplyText request.order request.bits request.within request.layout s r another → text ≡ another
   same_text s sound reply.Blank text another first second = first ∙ sym second
   same_text s sound reply.Done text another first second = first ∙ sym second
   same_text s sound (reply.Declared e) text another first second = first ∙ sym second
@@ -45,7 +45,7 @@ module _ (one_reply : OneReply) (one_solved : OneSolved) (request : Request) whe
   same_text s sound (reply.Planned p) text another first second = first ∙ sym second
   same_text s sound (reply.NotWell j) text another first second = first ∙ sym second
   same_text s sound reply.Solve text another (status, first) (other, second) =
-      one_solved (solve_with request.order request.bits request.within request.place) s sound status other text another first second
+      one_solved (solve_with request.order request.bits request.within request.layout) s sound status other text another first second
   same_text s sound reply.Write text another first second = first ∙ sym second
   same_text s sound reply.End text another first second = first ∙ sym second
 
@@ -73,9 +73,9 @@ module _ (one_reply : OneReply) (one_solved : OneSolved) (request : Request) whe
       let rest_is : before ++ after ≡ before' ++ after' = cc in
       let answers' : Answers old' line r' next' = subst (λ (z : List ℕ). Answers old' z r' next') (sym line_is) here'.answers in
       let one = one_reply old old' next next' line r r' sound same here.answers answers' in
-      let said : IsReplyText request.order request.bits request.within request.place (sketch_in next) r first' =
-      subst (λ (z : Reply). IsReplyText request.order request.bits request.within request.place (sketch_in next) z first') (sym one.0)
-      (subst (λ (edits : List Edit). IsReplyText request.order request.bits request.within request.place (sketch_of edits) r' first') one.1.edits here'.says) in
+      let said : IsReplyText request.order request.bits request.within request.layout (sketch_in next) r first' =
+      subst (λ (z : Reply). IsReplyText request.order request.bits request.within request.layout (sketch_in next) z first') (sym one.0)
+      (subst (λ (edits : List Edit). IsReplyText request.order request.bits request.within request.layout (sketch_of edits) r' first') one.1.edits here'.says) in
       let text_is = same_text (sketch_in next) here.sound r first first' here.says said in
       let rests = front_replies before after before' after' next next' here.sound one.1 rest_is end end' rest rest' further further' over' in
       (rests.0, is' ∙ ap (λ z. first' ++ z) rests.1 ∙ sym (append_assoc first' rest rests.0) ∙ ap (λ z. z ++ rests.0) (sym (is ∙ ap (λ z. z ++ rest) text_is)))

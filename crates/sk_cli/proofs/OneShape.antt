@@ -17,9 +17,9 @@ use Rattle.sk_flips.specs.declared.Placement.TheVariants.{Fault, Uncarried, Beyo
 use Rattle.sk_parts.proofs.Sharing.{covered_judged, sole_judged, whole_judged, well_judged}
 use Rattle.sk_report.specs.CheckReport.{part_line, parts_head}
 use Rattle.sk_report.specs.SolveReport.{solve_counts, places_report}
-use Rattle.sk_cli.specs.declared.request.Request.{Request}
+use Rattle.sk_request.specs.declared.Request.{Request}
 use Rattle.sk_cli.specs.declared.solving.Report.TheVariants.{Places, Shape}
-use Rattle.sk_cli.specs.Grids.{digits_of}
+use Rattle.sk_request.specs.Grids.{digits_of}
 use Rattle.sk_cli.specs.PartsReport.{IsShape, ArePartsTold, IsPartsReport, IsSolvedAs, IsOneShape}
 use Rattle.sk_cli.specs.Solved.{IsPlacedPlan}
 use Rattle.sk_cli.specs.Solving.{status_of, placement_words}

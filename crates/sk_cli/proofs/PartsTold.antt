@@ -17,7 +17,7 @@ use Rattle.sk_plan.specs.Judged.{IsTheJudgement, IsWell}
 use Rattle.sk_parts.specs.OwnSketch.{part_sketch}
 use Rattle.sk_parts.proofs.Sharing.{well_judged}
 use Rattle.sk_report.specs.CheckReport.{part_line}
-use Rattle.sk_cli.specs.declared.request.Request.{Request}
+use Rattle.sk_request.specs.declared.Request.{Request}
 use Rattle.sk_cli.specs.declared.solving.Report.TheVariants.{Shape}
 use Rattle.sk_cli.specs.declared.status.Status.{Status}
 use Rattle.sk_cli.specs.PartsReport.{IsShape, IsBelowPart, ArePartsTold}

@@ -19,15 +19,15 @@ use Rattle.sk_steps.specs.declared.BoxOf.{BoxOf}
 use Rattle.sk_steps.specs.declared.BoxOf.TheVariants.{Point, Line}
 use Rattle.sk_tree.specs.declared.Plan.{Plan as ThePlan}
 use Rattle.sk_tree.specs.LegalPlan.{IsLegalPlan}
-use Rattle.sk_flips.specs.declared.Layout.{Layout}
+use Rattle.sk_place.specs.declared.Layout.{Layout}
 use Rattle.sk_place.specs.declared.PlaceBy.{PlaceBy}
 use Rattle.sk_plan.proofs.PlanTrees.{some_plan_tree}
 use Rattle.sk_place.specs.declared.BoxAt.{BoxAt}
 use Rattle.sk_place.specs.declared.BoxFault.{BoxFault}
 use Rattle.sk_place.specs.Clusters.{nodes_of}
 use Rattle.sk_graph.specs.SketchGraph.{graph_of}
-use Rattle.sk_frame.specs.declared.FrameBy.{FrameBy}
-use Rattle.sk_frame.specs.declared.FrameBy.TheVariants.{Base, Drawn}
+use Rattle.sk_place.specs.declared.FrameBy.{FrameBy}
+use Rattle.sk_place.specs.declared.FrameBy.TheVariants.{Base, Drawn}
 use Rattle.sk_flips.specs.Placements.{IsCarried, IsLaid}
 use Rattle.sk_place.specs.Placing.{IsPlaced}
 use Rattle.sk_place.specs.Rounding.{IsWithin, IsBoundedBox, AreBounded, midpoint, rounded, rounded_box}

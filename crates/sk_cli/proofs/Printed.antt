@@ -38,12 +38,12 @@ use Rattle.sk_report.specs.PlanReport.{plan_report}
 use Rattle.sk_worklist.specs.declared.Order.{Order}
 use Rattle.sk_flips.specs.declared.Placement.{Placement}
 use Rattle.sk_flips.specs.declared.Placement.TheVariants.{Fault, Uncarried, Beyond, Turned, Holds}
-use Rattle.sk_cli.specs.declared.request.Request.{Request}
+use Rattle.sk_request.specs.declared.Request.{Request}
 use Rattle.sk_cli.specs.declared.solving.Report.{Report}
 use Rattle.sk_cli.specs.declared.status.Status.{Status}
 use Rattle.sk_cli.specs.declared.status.Status.TheVariants.{Done, NotWell}
 use Rattle.sk_cli.specs.Causes.{IsItsPlan, LieAt, NonePasses}
-use Rattle.sk_cli.specs.Grids.{grid_of, digits_of}
+use Rattle.sk_request.specs.Grids.{grid_of, digits_of}
 use Rattle.sk_cli.specs.Headline.{TellsClusters, IsOneSoundPart, HoldsAt, NamesTheFirst}
 use Rattle.sk_cli.specs.Outcome.{IsPlanBy, IsPlanOrReport, IsReportNotWell, IsSolved}
 use Rattle.sk_cli.specs.Solving.{midpoints, IsTolerance, status_of, report_words, placement_words}
@@ -219,7 +219,7 @@ module _ (report : Report) (request : Request) (s : Sketch) (status : Status) (t
       let fit : HoldsAt request s p here t = record {
         plan = its;
         lie = lie;
-        exactly = subst (λ (z : Placed). PlacesExactly (graph_of s) z) (sym lie.2) (laid_exactly G request.place F s p sound its.1.legal lie.0 lie.1);
+        exactly = subst (λ (z : Placed). PlacesExactly (graph_of s) z) (sym lie.2) (laid_exactly G request.layout F s p sound its.1.legal lie.0 lie.1);
         holds = all_hold_within here (graph_of s) t.t t.w (has_blocks (graph_of s) sound) least.lengths.holds least.angles.holds;
         least = least;
         within = none;

@@ -53,9 +53,9 @@ use Rattle.sk_claims.proofs.FittingClaims.{spot_of}
 use Rattle.sk_claims.proofs.SaidElements.{found_so, drawn_so}
 use Rattle.sk_claims.proofs.SaidSteps.{said_steps}
 use Rattle.sk_claims.proofs.WrittenClaims.{reads_written}
-use Rattle.sk_cli.specs.declared.request.Request.{Request}
-use Rattle.sk_cli.specs.Asking.{WithinKey, values_of, IsLimit, Says, Asks}
-use Rattle.sk_cli.specs.Grids.{grid_of, digits_of}
+use Rattle.sk_request.specs.Asking.{WithinKey, values_of, IsLimit, Says, Asks}
+use Rattle.sk_request.specs.Grids.{grid_of, digits_of}
+use Rattle.sk_request.specs.declared.Request.{Request}
 use Rattle.sk_cli.specs.Headline.{HoldsAt}
 use Rattle.sk_cli.specs.PrintedClaim.{printed_text, printed_claim}
 use Rattle.sk_cli.proofs.PlacedSpots.{laid_spots}
@@ -170,7 +170,7 @@ module _ (s : Sketch) (sound : IsSoundSketch s) (numbered : renumbered s ≡ s) 
       let lie = holds.lie in
       let spots : here.spots ≡ map (rounded (digits_of request.bits)) lie.0 = ap (λ (z : Placed). z.spots) lie.2 in
       subst (λ (xs : List Spot). AreSpotsOf (graph_of s).nodes xs) (sym spots)
-      (laid_spots (grid_of request.bits) request.place (digits_of request.bits) s p graph legal lie.0 lie.1)
+      (laid_spots (grid_of request.bits) request.layout (digits_of request.bits) s p graph legal lie.0 lie.1)
 
   apart : AllPairs (λ (x y : Spot). x.elem ≢ y.elem) here.spots
   apart i j d i_j j_len same =

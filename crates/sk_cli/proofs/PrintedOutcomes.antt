@@ -8,11 +8,11 @@ use Rattle.sk_report.specs.PlanReport.{plan_report}
 use Rattle.sk_report.specs.SolveReport.{solve_report}
 use Rattle.sk_residual.specs.declared.Tolerance.{Tolerance}
 use Rattle.sk_tree.specs.declared.Plan.{Plan as ThePlan}
-use Rattle.sk_cli.specs.declared.request.Request.{Request}
+use Rattle.sk_request.specs.declared.Request.{Request}
 use Rattle.sk_cli.specs.declared.solving.Report.TheVariants.{Places}
 use Rattle.sk_cli.specs.declared.status.Status.{Status}
 use Rattle.sk_cli.specs.declared.status.Status.TheVariants.{Done, Refused}
-use Rattle.sk_cli.specs.Grids.{digits_of}
+use Rattle.sk_request.specs.Grids.{digits_of}
 use Rattle.sk_cli.specs.Headline.{HoldsAt}
 use Rattle.sk_cli.specs.Outcome.{IsPlanAnswer, IsPlanBy, IsPlanOrReport, IsSolveAnswer}
 use Rattle.sk_cli.proofs.OneOutcome.{OneSketch, NotBoth, OneJudgement, LowerLaws, same_plan, told_plan, told_planned, told_solve}

@@ -10,12 +10,12 @@ use Rattle.sk_session.specs.State.{State, sketch_in}
 use Rattle.sk_session.proofs.Asked.{OtherBegins, TellsOf, answers_told}
 use Rattle.sk_tree.specs.declared.Plan.{Plan as ThePlan}
 use Rattle.sk_worklist.specs.declared.Order.{Order}
-use Rattle.sk_cli.specs.declared.command.Command.TheVariants.{Check, Plan, Solve, Session}
-use Rattle.sk_cli.specs.declared.request.Request.{Request}
+use Rattle.sk_request.specs.declared.Command.TheVariants.{Check, Plan, Solve, Session}
+use Rattle.sk_request.specs.declared.Request.{Request}
 use Rattle.sk_cli.specs.declared.solving.Report.TheVariants.{Places}
 use Rattle.sk_cli.specs.declared.status.Status.{Status}
 use Rattle.sk_cli.specs.declared.status.Status.TheVariants.{Done, NotWell}
-use Rattle.sk_cli.specs.Asking.{Asks}
+use Rattle.sk_request.specs.Asking.{Asks}
 use Rattle.sk_cli.specs.Headline.{TellsAsAsked, RepliesNext}
 use Rattle.sk_cli.specs.Outcome.{IsOutcome, IsPlanBy, IsSolved}
 use Rattle.sk_cli.specs.SessionAnswer.{IsReplyText, AreReplied, solve_with, at_start}
@@ -34,12 +34,12 @@ plan_by : (order : Order) (s : Sketch) (p : ThePlan) → IsThePlan order s p →
 plan_by order s p plan = record { legal = plan.legal; end = plan.run.0; last = plan.run.1.0; run = plan.run.1.1; drawn = plan.drawn }
 
 -- what is solved depends on no more than the order, the grid, the limit and what places are
-solved_as : (request : Request) (s : Sketch) (status : Status) (text : List ℕ) → IsSolved Places (solve_with request.order request.bits request.within request.place) s status text → IsSolved Places request s status text
+solved_as : (request : Request) (s : Sketch) (status : Status) (text : List ℕ) → IsSolved Places (solve_with request.order request.bits request.within request.layout) s status text → IsSolved Places request s status text
 solved_as request s status text (inl (p, q, placed, status_is, text_is)) = inl (p, q, record { well = placed.well; plan = placed.plan; placed = placed.placed }, status_is, text_is)
 solved_as request s status text (inr short) = inr short
 
 module _ (normal : OneNormal) (plans : LegalPlans) (law : OneJudgement) (laws : LowerLaws) (begins : OtherBegins) (request : Request) where
-  tells_asked : (s : Sketch) → IsSoundSketch s → (r : Reply) (text : List ℕ) → TellsOf request.order s r → IsReplyText request.order request.bits request.within request.place s r text → TellsAsAsked request s r text
+  tells_asked : (s : Sketch) → IsSoundSketch s → (r : Reply) (text : List ℕ) → TellsOf request.order s r → IsReplyText request.order request.bits request.within request.layout s r text → TellsAsAsked request s r text
   tells_asked s sound (reply.Checked j) text (some, judged) says = (some, tells normal plans law laws request s Done text (graph_is_sound s sound) Check (j, judged, says))
   tells_asked s sound (reply.Planned p) text (some, plan) says =
       (some, tells normal plans law laws request s Done text (graph_is_sound s sound) Plan (some, (p, plan.well, plan_by request.order s p plan, says)))

@@ -13,9 +13,9 @@ use Rattle.sk_session.specs.declared.Reply.TheVariants as reply
 use Rattle.sk_session.specs.State.{State, sketch_in}
 use Rattle.sk_session.specs.Replies.{Answers}
 use Rattle.sk_worklist.specs.declared.Order.{Order}
-use Rattle.sk_flips.specs.declared.Layout.{Layout}
-use Rattle.sk_cli.specs.declared.bits.Bits.{Bits}
-use Rattle.sk_cli.specs.declared.request.Request.{Request}
+use Rattle.sk_place.specs.declared.Layout.{Layout}
+use Rattle.sk_request.specs.declared.Bits.{Bits}
+use Rattle.sk_request.specs.declared.Request.{Request}
 use Rattle.sk_cli.specs.declared.status.Status.{Status}
 use Rattle.sk_cli.specs.declared.status.Status.TheVariants.{Done, WriteFault, NoMemory}
 use Rattle.sk_cli.specs.SessionAnswer.{IsReplyText, IsReplied, AreReplied, at_start, RepliesToFront}
@@ -60,7 +60,7 @@ not_counted answered before now fault none =
 
 -- the reply that ends the session has no text
 pub end_has_none : (request : Request) (old : State) (line : List ℕ) (new : State) (r : Reply) (text : List ℕ) → IsReplied request old line new r text → r ≡ reply.End → text ≡ []
-end_has_none request old line new r text replied is = subst (λ (z : Reply). IsReplyText request.order request.bits request.within request.place (sketch_in new) z text) is replied.says
+end_has_none request old line new r text replied is = subst (λ (z : Reply). IsReplyText request.order request.bits request.within request.layout (sketch_in new) z text) is replied.says
 
 -- one more line is answered
 pub replied_more : (request : Request) (old : State) (before : List (List ℕ)) (mid : State) (text : List ℕ) → AreReplied request old before mid text

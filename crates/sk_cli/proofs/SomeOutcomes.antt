@@ -31,30 +31,30 @@ use Rattle.sk_claims.proofs.FittingClaims.{read_claim_fits}
 use Rattle.sk_verify.proofs.SomeFailures.{accepted_or_failing}
 use Rattle.sk_cli.specs.declared.accounts.Account.{Account}
 use Rattle.sk_cli.specs.declared.accounts.Account.TheVariants.{Judged, Spares, Derived, Migrated, Shapes}
-use Rattle.sk_cli.specs.declared.command.Command.{Command}
-use Rattle.sk_cli.specs.declared.command.Command.TheVariants.{Check, Plan, Solve, Dxf, Offers, Session, Grow, Migrate, Verify, Spare, Flips, Derive, Parts}
+use Rattle.sk_request.specs.declared.Command.{Command}
+use Rattle.sk_request.specs.declared.Command.TheVariants.{Check, Plan, Solve, Dxf, Offers, Session, Grow, Migrate, Verify, Spare, Flips, Derive, Parts}
 use Rattle.sk_residual.specs.declared.Wanted.TheVariants.{Drawn}
 use Rattle.sk_flips.specs.declared.Placement.{Placement}
 use Rattle.sk_flips.specs.declared.Placement.TheVariants.{Fault, Uncarried, Beyond, Turned, Holds}
-use Rattle.sk_cli.specs.declared.request.Request.{Request}
+use Rattle.sk_request.specs.declared.Request.{Request}
 use Rattle.sk_cli.specs.declared.solving.Report.{Report}
 use Rattle.sk_cli.specs.declared.solving.Report.TheVariants.{Places, Drawing, Sums, Shape}
 use Rattle.sk_cli.specs.declared.status.Status.{Status}
 use Rattle.sk_cli.specs.declared.status.Status.TheVariants.{Done, Refused, Usage, NotWell, NotVerified}
 use Rattle.sk_cli.specs.Accounts.{IsAccount}
 use Rattle.sk_cli.specs.FlipsReport.{alternatives_from, IsFlipped}
-use Rattle.sk_cli.specs.Grids.{grid_of, digits_of}
+use Rattle.sk_request.specs.Grids.{grid_of, digits_of}
 use Rattle.sk_cli.specs.Outcome.{usage_line, IsPlanBy, IsReportNotWell, IsSolved, IsSolveAnswer, IsAnswerOf, IsAccountAnswer, IsOutcome}
 use Rattle.sk_cli.specs.Solving.{status_of, placement_words}
-use Rattle.sk_cli.proofs.FittingOffers.{read_fit}
+use Rattle.sk_offers.proofs.FittingOffers.{read_fit}
 use Rattle.sk_cli.proofs.FlipsAnswered.{answers_flips}
 use Rattle.sk_flips.proofs.FlipsSoFar.{some_reading}
-use Rattle.sk_cli.proofs.OfferAnswers.{some_answer as read_or_refused}
-use Rattle.sk_cli.proofs.Sizes.{grow_size}
+use Rattle.sk_offers.proofs.OfferAnswers.{some_answer as read_or_refused}
+use Rattle.sk_request.proofs.Sizes.{grow_size}
 use Rattle.sk_cli.proofs.SomeAnswers.{some_answers}
 use Rattle.sk_cli.proofs.SomePlacements.{enough_digits, some_placement, some_alternatives}
 use Rattle.sk_plan.proofs.SomePlans.{judgement_there, some_plan}
-use Rattle.sk_cli.proofs.SomeRequests.{form_decided}
+use Rattle.sk_request.proofs.SomeRequests.{form_decided}
 use Rattle.sk_cli.proofs.SomeSpares.{some_spares}
 use Rattle.sk_derive.proofs.SomeWide.{some_wide}
 use Rattle.sk_session.proofs.SomeReplies.{GivenByLanguage, well_or_not}
@@ -100,7 +100,7 @@ solved report request s sketch some =
     elim (planned request.order s sketch some) [
       | inr (text, never) ↦ (NotWell, text, (λ e. cc), inr (refl, never))
       | inl (well, (p, by)) ↦ (
-          let q = some_placement Drawn (grid_of request.bits) request.place (digits_of request.bits) request.within s p (enough_digits request.bits) sketch (graph_is_sound s sketch) by.legal in
+          let q = some_placement Drawn (grid_of request.bits) request.layout (digits_of request.bits) request.within s p (enough_digits request.bits) sketch (graph_is_sound s sketch) by.legal in
           (status_of q.0, placement_words report (digits_of request.bits) s p q.0, no_refusal q.0, inl (p, q.0, record { well = well; plan = by; placed = q.1 }, refl, refl)))
     ]
   where
@@ -228,7 +228,7 @@ flips_answer laws request bytes =
           | inr (text, never) ↦ (NotWell, text, never)
           | inl (well, (p, by)) ↦ (
               let F = digits_of request.bits in
-              let found = some_alternatives (grid_of request.bits) request.place F request.within s p (enough_digits request.bits) sketch (graph_is_sound s sketch) by.legal lists in (
+              let found = some_alternatives (grid_of request.bits) request.layout F request.within s p (enough_digits request.bits) sketch (graph_is_sound s sketch) by.legal lists in (
                 Done,
                 alternatives_from s F 1 found.0,
                 record {

@@ -8,20 +8,20 @@ use Rattle.sk_base.specs.SoundSketch.{IsSoundSketch}
 use Rattle.sk_graph.specs.SketchGraph.{graph_of}
 use Rattle.sk_tree.specs.declared.Plan.{Plan as ThePlan}
 use Rattle.sk_tree.specs.LegalPlan.{IsLegalPlan}
-use Rattle.sk_flips.specs.declared.Layout.{Layout}
+use Rattle.sk_place.specs.declared.Layout.{Layout}
 use Rattle.sk_place.specs.declared.BoxAt.{BoxAt}
 use Rattle.sk_place.specs.declared.BoxFault.{BoxFault}
 use Rattle.sk_place.specs.declared.PlaceBy.{PlaceBy}
 use Rattle.sk_place.specs.Carrying.{carried_each}
 use Rattle.sk_place.specs.Placing.{IsPlaced}
-use Rattle.sk_frame.specs.declared.FrameBy.{FrameBy}
-use Rattle.sk_frame.specs.declared.FrameBy.TheVariants.{Base, Drawn}
+use Rattle.sk_place.specs.declared.FrameBy.{FrameBy}
+use Rattle.sk_place.specs.declared.FrameBy.TheVariants.{Base, Drawn}
 use Rattle.sk_frame.specs.Frames.{frame_of}
 use Rattle.sk_frame.proofs.FrameTurns.{motion_there}
 use Rattle.sk_frame.proofs.SoundFrames.{frame_is_sound}
-use Rattle.sk_cli.specs.declared.bits.Bits.{Bits}
-use Rattle.sk_cli.specs.declared.bits.Bits.TheVariants.{Sixteen, TwentySeven, ThirtyEight}
-use Rattle.sk_cli.specs.Grids.{digits_of}
+use Rattle.sk_request.specs.declared.Bits.{Bits}
+use Rattle.sk_request.specs.declared.Bits.TheVariants.{Sixteen, TwentySeven, ThirtyEight}
+use Rattle.sk_request.specs.Grids.{digits_of}
 use Rattle.sk_residual.specs.declared.Wanted.{Wanted}
 use Rattle.sk_residual.specs.declared.Wanted.TheVariants.{Chosen}
 use Rattle.sk_holding.specs.Placing.{PlacesExactly}

@@ -12,12 +12,12 @@ use Rattle.sk_worklist.specs.declared.Order.TheVariants as order
 use Rattle.sk_worklist.specs.Orders.{place_of, next_call, place_below}
 use Rattle.sk_session.specs.declared.Reply.{Reply}
 use Rattle.sk_session.specs.declared.Reply.TheVariants as reply
-use Rattle.sk_session.specs.Edits.{empty}
+use Rattle.sk_edits.specs.Edits.{empty}
 use Rattle.sk_session.specs.Replies.{Answers}
 use Rattle.sk_session.specs.State.{State, sketch_in, fresh}
 use Rattle.sk_session.proofs.Consistency.{consistent_new}
 use Rattle.sk_session.proofs.SomeReplies.{IsKept, GivenByLanguage, GivenBelow, some_reply}
-use Rattle.sk_cli.specs.declared.request.Request.{Request}
+use Rattle.sk_request.specs.declared.Request.{Request}
 use Rattle.sk_cli.specs.declared.solving.Report.TheVariants.{Places}
 use Rattle.sk_cli.specs.declared.status.Status.{Status}
 use Rattle.sk_cli.specs.declared.status.Status.TheVariants.{Done, Refused}
@@ -61,13 +61,13 @@ solve_or_not reply.End = inr (λ same. cc)
 
 module _ (language : GivenByLanguage) (some_to_solve : SomeToSolve) (solved : SomeSolved) (request : Request) (bytes : List ℕ) where
   -- the text of a reply
-  said : (s : Sketch) (r : Reply) → IsSoundSketch s → (r ≡ reply.Solve → 0 < length s.elements) → (text : List ℕ) × IsReplyText request.order request.bits request.within request.place s r text
+  said : (s : Sketch) (r : Reply) → IsSoundSketch s → (r ≡ reply.Solve → 0 < length s.elements) → (text : List ℕ) × IsReplyText request.order request.bits request.within request.layout s r text
   said s r sound some =
       elim (solve_or_not r) [
-        | inr other ↦ (told s r, told_is_text request.order request.bits request.within request.place s r (told s r) other refl)
+        | inr other ↦ (told s r, told_is_text request.order request.bits request.within request.layout s r (told s r) other refl)
         | inl is ↦ (
-            let found = solved (solve_with request.order request.bits request.within request.place) s sound (some is) in
-            (found.1, subst (λ z. IsReplyText request.order request.bits request.within request.place s z found.1) (sym is) (found.0, found.2)))
+            let found = solved (solve_with request.order request.bits request.within request.layout) s sound (some is) in
+            (found.1, subst (λ z. IsReplyText request.order request.bits request.within request.layout s z found.1) (sym is) (found.0, found.2)))
       ]
 
   -- from a state on the lines are answered up to the end

@@ -26,9 +26,9 @@ use Rattle.sk_plan.specs.Leaves.{HasLeaves}
 use Rattle.sk_report.specs.CheckReport.{check_report}
 use Rattle.sk_worklist.specs.declared.Order.{Order}
 use Rattle.sk_cli.specs.declared.accounts.Account.TheVariants.{Judged, Shapes}
-use Rattle.sk_cli.specs.declared.command.Command.{Command}
-use Rattle.sk_cli.specs.declared.command.Command.TheVariants.{Check, Plan, Solve, Dxf, Offers, Session, Grow, Migrate, Verify, Spare, Flips, Derive, Parts}
-use Rattle.sk_cli.specs.declared.request.Request.{Request}
+use Rattle.sk_request.specs.declared.Command.{Command}
+use Rattle.sk_request.specs.declared.Command.TheVariants.{Check, Plan, Solve, Dxf, Offers, Session, Grow, Migrate, Verify, Spare, Flips, Derive, Parts}
+use Rattle.sk_request.specs.declared.Request.{Request}
 use Rattle.sk_cli.specs.declared.solving.Report.{Report}
 use Rattle.sk_cli.specs.declared.solving.Report.TheVariants.{Shape}
 use Rattle.sk_cli.specs.declared.status.Status.{Status}
@@ -36,7 +36,7 @@ use Rattle.sk_cli.specs.declared.status.Status.TheVariants.{Done, NotWell}
 use Rattle.sk_cli.specs.Accounts.{IsAccount}
 use Rattle.sk_cli.specs.Causes.{plans, solves, IsReportOf, IsSketchOf}
 use Rattle.sk_cli.specs.FlipsReport.{IsFlipped}
-use Rattle.sk_cli.specs.Grids.{digits_of}
+use Rattle.sk_request.specs.Grids.{digits_of}
 use Rattle.sk_cli.specs.Headline.{WritesCheckReport, MayStandBefore, UsesEachOnce, TellsPlaces, TellsParts, Tells}
 use Rattle.sk_cli.specs.OffersReport.{IsOffersReport, IsOffersAnswer}
 use Rattle.sk_cli.specs.Outcome.{IsAccountOf, IsRefusalText, IsPlanOrReport, IsReportNotWell, IsSolved, IsAnswerOf}

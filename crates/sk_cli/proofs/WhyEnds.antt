@@ -18,21 +18,21 @@ use Rattle.sk_residual.proofs.Firsts.{first_inside}
 use Rattle.sk_residual.proofs.OneMeasured.{not_beyond}
 use Rattle.sk_cli.specs.declared.accounts.Account.{Account}
 use Rattle.sk_cli.specs.declared.accounts.Account.TheVariants.{Judged, Spares, Derived, Migrated, Shapes}
-use Rattle.sk_cli.specs.declared.command.Command.{Command}
-use Rattle.sk_cli.specs.declared.command.Command.TheVariants.{Check, Plan, Solve, Dxf, Offers, Session, Grow, Migrate, Verify, Spare, Flips, Derive, Parts}
+use Rattle.sk_request.specs.declared.Command.{Command}
+use Rattle.sk_request.specs.declared.Command.TheVariants.{Check, Plan, Solve, Dxf, Offers, Session, Grow, Migrate, Verify, Spare, Flips, Derive, Parts}
 use Rattle.sk_lang.specs.declared.Front.{Front}
 use Rattle.sk_residual.specs.declared.Wanted.TheVariants.{Drawn}
 use Rattle.sk_flips.specs.declared.Placement.{Placement}
 use Rattle.sk_flips.specs.declared.Placement.TheVariants.{Fault, Uncarried, Beyond, Turned, Holds}
-use Rattle.sk_cli.specs.declared.request.Request.{Request}
+use Rattle.sk_request.specs.declared.Request.{Request}
 use Rattle.sk_cli.specs.FlipsReport.{IsFlipped, IsFlipsAnswer}
 use Rattle.sk_cli.specs.SessionAnswer.{IsSessionAnswer}
 use Rattle.sk_cli.specs.declared.solving.Report.{Report}
 use Rattle.sk_cli.specs.declared.solving.Report.TheVariants.{Places, Drawing, Sums}
 use Rattle.sk_cli.specs.declared.status.Status.{Status}
 use Rattle.sk_cli.specs.declared.status.Status.TheVariants.{Done, Refused, Usage, NotWell, StepFault, Tolerance, NotVerified}
-use Rattle.sk_cli.specs.Asking.{Asks, AreOfForm}
-use Rattle.sk_cli.specs.Grids.{grid_of, digits_of}
+use Rattle.sk_request.specs.Asking.{Asks, AreOfForm}
+use Rattle.sk_request.specs.Grids.{grid_of, digits_of}
 use Rattle.sk_cli.specs.Solving.{midpoints, status_of, IsMeasured, IsPlacement}
 use Rattle.sk_cli.specs.Outcome.{IsPlanBy, IsPlanOrReport, IsSolved, IsAnswer, IsAnswerOf, IsAccountAnswer, IsOutcome}
 use Rattle.sk_cli.specs.Causes.{plans, solves, IsReportOf, IsSketchOf, IsRefusedInput, IsItsPlan, HasFault, LieAt, NonePasses, SomePasses, SomeTurned}
@@ -48,7 +48,7 @@ use Rattle.sk_verify.specs.declared.failure.Failure.{Failure}
 use Rattle.sk_verify.specs.Failing.{IsAccepted, FailsFirst}
 use Rattle.sk_verify.specs.Texts.{failure_line, verified_line}
 use Rattle.sk_worklist.specs.declared.Order.{Order}
-use Rattle.sk_cli.proofs.Sizes.{HasFitSize, some_injective}
+use Rattle.sk_request.proofs.Sizes.{HasFitSize, some_injective}
 
 -- what is placed has the verdict well
 pub never_short : (q : Placement) → status_of q ≡ NotWell → ⊥
@@ -61,7 +61,7 @@ never_short (Holds at t) same = cc
 -- a plan and where it places the elements, by the status that tells of it
 module _ (request : Request) (s : Sketch) (p : ThePlan) where
   abbrev pub IsPlacedSo : Placement → Type 0
-  IsPlacedSo q = IsPlacement (grid_of request.bits) request.place (digits_of request.bits) request.within s p q
+  IsPlacedSo q = IsPlacement (grid_of request.bits) request.layout (digits_of request.bits) request.within s p q
 
   abbrev pub IsFault : Type 0
   IsFault = HasFault request s p ⊎ ((at : Placed) × LieAt request s p at × NonePasses request s at × SomeTurned request s p at)
@@ -125,11 +125,11 @@ module _ (request : Request) (s : Sketch) (p : ThePlan) where
     measured_at : (q : Placement) → IsPlacedSo q → (at : Placed) → LieAt request s p at → IsMeasured request.within s p at q
     measured_at q placed at (there, laid, is) =
         subst (λ here. IsMeasured request.within s p here q) (sym is)
-        (laid_measured Drawn (grid_of request.bits) request.place (digits_of request.bits) request.within s p by.legal (some_plan_tree (graph_of s) p sound by.legal) q placed there laid)
+        (laid_measured Drawn (grid_of request.bits) request.layout (digits_of request.bits) request.within s p by.legal (some_plan_tree (graph_of s) p sound by.legal) q placed there laid)
 
     -- a plan that is placed so is placed in no other way
     only_so : (q r : Placement) → IsPlacedSo q → IsPlacedSo r → q ≡ r
-    only_so q r placed other = same_placement Drawn (grid_of request.bits) request.place (digits_of request.bits) request.within s p by.legal (some_plan_tree (graph_of s) p sound by.legal) q r placed other
+    only_so q r placed other = same_placement Drawn (grid_of request.bits) request.layout (digits_of request.bits) request.within s p by.legal (some_plan_tree (graph_of s) p sound by.legal) q r placed other
 
     pub fault_told : (q : Placement) → IsPlacedSo q → IsFault → status_of q ≡ StepFault
     fault_told q placed (inl (inl (f, failed))) = ap status_of (only_so q (Fault f) placed failed)

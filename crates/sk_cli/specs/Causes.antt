@@ -21,12 +21,12 @@ use Rattle.sk_residual.specs.declared.Turned.{Turned}
 use Rattle.sk_holding.specs.Items.{Item}
 use Rattle.sk_residual.specs.Tolerances.{AllHold, IsAbove, everything}
 use Rattle.sk_residual.specs.Turns.{signs, IsTurned}
-use Rattle.sk_cli.specs.declared.command.Command.{Command}
-use Rattle.sk_cli.specs.declared.command.Command.TheVariants.{Check, Plan, Solve, Dxf, Offers, Session, Grow, Migrate, Verify, Spare, Flips, Derive, Parts}
-use Rattle.sk_cli.specs.declared.request.Request.{Request}
+use Rattle.sk_request.specs.declared.Command.{Command}
+use Rattle.sk_request.specs.declared.Command.TheVariants.{Check, Plan, Solve, Dxf, Offers, Session, Grow, Migrate, Verify, Spare, Flips, Derive, Parts}
+use Rattle.sk_request.specs.declared.Request.{Request}
 use Rattle.sk_cli.specs.declared.solving.Report.{Report}
 use Rattle.sk_cli.specs.declared.solving.Report.TheVariants.{Places, Drawing, Sums}
-use Rattle.sk_cli.specs.Grids.{grid_of, digits_of}
+use Rattle.sk_request.specs.Grids.{grid_of, digits_of}
 use Rattle.sk_cli.specs.FlipsReport.{ReadsSketchAndFlips, RefusesFlipsBehind}
 use Rattle.sk_cli.specs.Fronts.{IsRefusedAt}
 use Rattle.sk_cli.specs.OffersReport.{RefusesOffersBehind}
@@ -99,11 +99,11 @@ module _ (request : Request) (s : Sketch) where
 
   -- this step of the plan has no boxes on the grid
   abbrev pub IsFaultAt : ThePlan → StepFault → Type 0
-  IsFaultAt p f = IsPlaced {G = grid_of request.bits} request.place.by (digits_of request.bits) (graph_of s) p (Err (errors.Fault f))
+  IsFaultAt p f = IsPlaced {G = grid_of request.bits} request.layout.by (digits_of request.bits) (graph_of s) p (Err (errors.Fault f))
 
   -- each step has boxes on the grid, and this is the first of them that can't be carried to the drawing
   abbrev pub IsOff : ThePlan → BoxFault → Type 0
-  IsOff p f = (boxes : List (BoxAt (grid_of request.bits))) × IsPlaced request.place.by (digits_of request.bits) (graph_of s) p (Ok boxes) × IsCarried request.place.frame request.place.by (digits_of request.bits) s p boxes (Err f)
+  IsOff p f = (boxes : List (BoxAt (grid_of request.bits))) × IsPlaced request.layout.by (digits_of request.bits) (graph_of s) p (Ok boxes) × IsCarried request.layout.frame request.layout.by (digits_of request.bits) s p boxes (Err f)
 
   -- some step of the plan has no boxes on the grid, or some box can't be carried to the drawing
   abbrev pub HasFault : ThePlan → Type 0
@@ -111,7 +111,7 @@ module _ (request : Request) (s : Sketch) where
 
   -- each step has boxes on the grid, and there the elements lie, in the frame that is asked for
   abbrev pub LieAt : ThePlan → Placed → Type 0
-  LieAt p at = (boxes : List (BoxAt (grid_of request.bits))) × IsLaid request.place (digits_of request.bits) s p boxes × (at ≡ midpoints (digits_of request.bits) boxes)
+  LieAt p at = (boxes : List (BoxAt (grid_of request.bits))) × IsLaid request.layout (digits_of request.bits) s p boxes × (at ≡ midpoints (digits_of request.bits) boxes)
 
   -- no line and no constraint has a least number above the limit
   abbrev pub NonePasses : Placed → Type 0

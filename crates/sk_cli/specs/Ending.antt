@@ -4,7 +4,7 @@ use Rattle.std.specs.Io.KnownBytes.{Appends}
 use Rattle.sk_io.specs.Transfer.{AppendsFront}
 use Rattle.sk_cli.specs.declared.status.Status.{Status}
 use Rattle.sk_cli.specs.declared.status.Status.TheVariants.{ReadFault, WriteFault, NoMemory}
-use Rattle.sk_cli.specs.Asking.{AskForInput}
+use Rattle.sk_request.specs.Asking.{AskForInput}
 use Rattle.sk_cli.specs.Outcome.{IsOutcome, AreFirstReplies, IsWritten}
 
 -- where it is told what a source has left, it is these bytes

@@ -18,11 +18,11 @@ use Rattle.sk_flips.specs.declared.Alternative.{Alternative}
 use Rattle.sk_flips.specs.declared.Alternative.TheVariants.{Found, NoChoice, Fault, Uncarried, Passed, Turned}
 use Rattle.sk_flips.specs.Alternatives.{AreAlternatives}
 use Rattle.sk_flips.specs.FlipReading.{ReadsFlips, RefusesFlips}
-use Rattle.sk_cli.specs.declared.request.Request.{Request}
+use Rattle.sk_request.specs.declared.Request.{Request}
 use Rattle.sk_cli.specs.declared.status.Status.{Status}
 use Rattle.sk_cli.specs.declared.status.Status.TheVariants.{Done, Refused, NotWell}
 use Rattle.sk_cli.specs.Fronts.{IsRefusedAt}
-use Rattle.sk_cli.specs.Grids.{grid_of, digits_of}
+use Rattle.sk_request.specs.Grids.{grid_of, digits_of}
 use Rattle.sk_cli.specs.Solved.{IsPlanBy, IsReportNotWell}
 
 -- elements are found, a step has no choice, or something fails
@@ -62,7 +62,7 @@ pub record IsReportOnFlips (request : Request) (s : Sketch) (lists : List (List 
   pub plan : ThePlan
   pub by : IsPlanBy request.order s plan
   pub found : List Alternative
-  pub are : AreAlternatives (grid_of request.bits) request.place (digits_of request.bits) request.within s plan lists found
+  pub are : AreAlternatives (grid_of request.bits) request.layout (digits_of request.bits) request.within s plan lists found
   pub is : text ≡ alternatives_from s (digits_of request.bits) 1 found
 
 -- what comes of each list of steps where the verdict is well, else the check report

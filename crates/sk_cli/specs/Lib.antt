@@ -1,15 +1,10 @@
 pub mod Accounts
-pub mod Asking
 pub mod Causes
-pub mod Commands
 pub mod Ending
 pub mod FlipsReport
 pub mod Fronts
-pub mod Grids
 pub mod Headline
 pub mod Migration
-pub mod OfferLines
-pub mod OfferReading
 pub mod OffersReport
 pub mod Outcome
 pub mod PartsReport
@@ -17,7 +12,6 @@ pub mod Planning
 pub mod PrintedClaim
 pub mod SessionAnswer
 pub mod SessionEnding
-pub mod Settings
 pub mod Solved
 pub mod Solving
 pub mod StatusCodes

@@ -1,10 +1,10 @@
 -- Commands that answer the same to a sketch in either version of the language.
 use Rattle.std.specs.Prelude.{◌≡◌, ℕ, List}
-use Rattle.sk_cli.specs.declared.command.Command.{Command}
-use Rattle.sk_cli.specs.declared.command.Command.TheVariants.{Offers, Session, Grow, Migrate, Verify, Flips}
-use Rattle.sk_cli.specs.declared.request.Request.{Request}
+use Rattle.sk_request.specs.declared.Command.{Command}
+use Rattle.sk_request.specs.declared.Command.TheVariants.{Offers, Session, Grow, Migrate, Verify, Flips}
+use Rattle.sk_request.specs.declared.Request.{Request}
 use Rattle.sk_cli.specs.declared.status.Status.TheVariants.{Done}
-use Rattle.sk_cli.specs.Asking.{Asks}
+use Rattle.sk_request.specs.Asking.{Asks}
 use Rattle.sk_cli.specs.Outcome.{IsOutcome}
 
 -- the whole input of the command is one sketch

@@ -1,12 +1,11 @@
 -- What a list of offers is answered, and the report on it.
-use Rattle.std.specs.Prelude.{◌≡◌, ℕ, ◌≤◌, List, [], ◌∷◌, ◌++◌, drop}
+use Rattle.std.specs.Prelude.{◌≡◌, ℕ, List, [], ◌∷◌, ◌++◌, drop}
 use Rattle.sk_base.specs.declared.Sketch.{Sketch}
 use Rattle.sk_lines.specs.declared.Code.{Code}
 use Rattle.sk_lang.specs.declared.Front.{Front}
 use Rattle.sk_lines.specs.declared.Refusal.{Refusal}
 use Rattle.sk_lang.specs.Front.{ReadsFront}
 use Rattle.sk_graph.specs.SketchGraph.{graph_of}
-use Rattle.sk_rules.specs.Merges.{Falls}
 use Rattle.sk_offers.specs.declared.Answer.{Answer}
 use Rattle.sk_offers.specs.Offering.{Table, starting_table, IsAnswer, Follows}
 use Rattle.sk_verdict.specs.declared.Judgement.{Judgement}
@@ -14,15 +13,11 @@ use Rattle.sk_plan.specs.Judged.{IsTheJudgement}
 use Rattle.sk_report.specs.AnswerLine.{answer_line}
 use Rattle.sk_report.specs.CheckReport.{check_report}
 use Rattle.sk_report.specs.RefusalLine.{refusal_line}
-use Rattle.sk_cli.specs.declared.offer_line.OfferLine.{OfferLine}
+use Rattle.sk_offers.specs.declared.OfferLine.{OfferLine}
 use Rattle.sk_cli.specs.Fronts.{IsRefusedAt}
-use Rattle.sk_cli.specs.OfferReading.{ReadsOffers, RefusesOffers}
+use Rattle.sk_offers.specs.OfferReading.{ReadsOffers, RefusesOffers}
 use Rattle.sk_cli.specs.declared.status.Status.{Status}
 use Rattle.sk_cli.specs.declared.status.Status.TheVariants.{Done, Refused}
-
--- the worker and the merge are such as a board takes
-abbrev pub FitsBoard : OfferLine → Type 0
-FitsBoard o = (1 ≤ o.worker) × (o.worker ≤ 64) × Falls o.merge
 
 -- offers, one after another, lead from one board to another: each is answered as it is to be, on a line
 abbrev pub AreAnswered : Table → List OfferLine → Table → List ℕ → Type 0

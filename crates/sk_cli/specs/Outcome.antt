@@ -12,15 +12,15 @@ use Rattle.sk_report.specs.PlanReport.{plan_report}
 use Rattle.sk_report.specs.RefusalLine.{refusal_line}
 use Rattle.sk_cli.specs.declared.accounts.Account.{Account}
 use Rattle.sk_cli.specs.declared.accounts.Account.TheVariants.{Judged, Spares, Derived, Migrated, Shapes}
-use Rattle.sk_cli.specs.declared.command.Command.{Command}
-use Rattle.sk_cli.specs.declared.command.Command.TheVariants.{Check, Plan, Solve, Dxf, Offers, Session, Grow, Migrate, Verify, Spare, Flips, Derive, Parts}
-use Rattle.sk_cli.specs.declared.request.Request.{Request}
+use Rattle.sk_request.specs.declared.Command.{Command}
+use Rattle.sk_request.specs.declared.Command.TheVariants.{Check, Plan, Solve, Dxf, Offers, Session, Grow, Migrate, Verify, Spare, Flips, Derive, Parts}
+use Rattle.sk_request.specs.declared.Request.{Request}
 use Rattle.sk_cli.specs.declared.solving.Report.{Report}
 use Rattle.sk_cli.specs.declared.solving.Report.TheVariants.{Places, Drawing, Sums}
 use Rattle.sk_cli.specs.declared.status.Status.{Status}
 use Rattle.sk_cli.specs.declared.status.Status.TheVariants.{Done, Refused, Usage, NotWell}
 use Rattle.sk_cli.specs.Accounts.{IsAccount}
-use Rattle.sk_cli.specs.Asking.{Asks, AreOfForm}
+use Rattle.sk_request.specs.Asking.{Asks, AreOfForm}
 use Rattle.sk_cli.specs.FlipsReport.{IsFlipsAnswer}
 use Rattle.sk_cli.specs.OffersReport.{IsOffersAnswer}
 use Rattle.sk_cli.specs.SessionAnswer.{IsSessionAnswer, RepliesToFront}

@@ -10,11 +10,11 @@ use Rattle.sk_plan.specs.Judged.{IsTheJudgement}
 use Rattle.sk_flips.specs.declared.Placement.{Placement}
 use Rattle.sk_parts.specs.OwnSketch.{part_sketch}
 use Rattle.sk_report.specs.CheckReport.{part_line, parts_head}
-use Rattle.sk_cli.specs.declared.request.Request.{Request}
+use Rattle.sk_request.specs.declared.Request.{Request}
 use Rattle.sk_cli.specs.declared.solving.Report.TheVariants.{Places, Shape}
 use Rattle.sk_cli.specs.declared.status.Status.{Status}
 use Rattle.sk_cli.specs.declared.status.Status.TheVariants.{Done}
-use Rattle.sk_cli.specs.Grids.{digits_of}
+use Rattle.sk_request.specs.Grids.{digits_of}
 use Rattle.sk_cli.specs.Solved.{IsPlacedPlan, IsSolved}
 use Rattle.sk_cli.specs.Solving.{placement_words}
 

@@ -6,18 +6,18 @@ use Rattle.sk_family.specs.Clusters.{initial_clusters}
 use Rattle.sk_graph.specs.SketchGraph.{graph_of}
 use Rattle.sk_lines.specs.Lines.{lines_in}
 use Rattle.sk_lines.specs.declared.Code.TheVariants.{E20}
-use Rattle.sk_flips.specs.declared.Layout.{Layout}
+use Rattle.sk_place.specs.declared.Layout.{Layout}
 use Rattle.sk_report.specs.RefusalLine.{refusal_line}
 use Rattle.sk_session.specs.declared.Closing.TheVariants.{InAnyOrder}
 use Rattle.sk_session.specs.declared.Reply.{Reply}
 use Rattle.sk_session.specs.declared.Reply.TheVariants as reply
-use Rattle.sk_session.specs.Edits.{empty}
+use Rattle.sk_edits.specs.Edits.{empty}
 use Rattle.sk_session.specs.State.{State, sketch_in}
 use Rattle.sk_session.specs.Replies.{Answers}
 use Rattle.sk_worklist.specs.declared.Order.{Order}
-use Rattle.sk_cli.specs.declared.bits.Bits.{Bits}
-use Rattle.sk_cli.specs.declared.command.Command.TheVariants.{Solve}
-use Rattle.sk_cli.specs.declared.request.Request.{Request}
+use Rattle.sk_request.specs.declared.Bits.{Bits}
+use Rattle.sk_request.specs.declared.Command.TheVariants.{Solve}
+use Rattle.sk_request.specs.declared.Request.{Request}
 use Rattle.sk_cli.specs.declared.solving.Report.TheVariants.{Places}
 use Rattle.sk_cli.specs.declared.status.Status.{Status}
 use Rattle.sk_cli.specs.declared.status.Status.TheVariants.{Done, Refused}
@@ -26,18 +26,18 @@ use Rattle.sk_cli.specs.Told.{told}
 
 -- `solve` with these settings
 abbrev pub solve_with : Order → Bits → ℕ → Layout → Request
-solve_with order bits within place = record { command = Solve; order = order; bits = bits; within = within; place = place; size = None }
+solve_with order bits within layout = record { command = Solve; order = order; bits = bits; within = within; layout = layout; size = None }
 
 -- the text of a reply: to `solve` what the command writes for the sketch, whatever its status, else what is told
 abbrev pub IsReplyText : Order → Bits → ℕ → Layout → Sketch → Reply → List ℕ → Type 0
-IsReplyText order bits within place s reply.Solve text = (status : Status) × IsSolved Places (solve_with order bits within place) s status text
-IsReplyText order bits within place s r text = text ≡ told s r
+IsReplyText order bits within layout s reply.Solve text = (status : Status) × IsSolved Places (solve_with order bits within layout) s status text
+IsReplyText order bits within layout s r text = text ≡ told s r
 
 -- the line is answered with this reply, the sketch is a sound one, and this is the reply's text
 pub record IsReplied (request : Request) (old : State) (line : List ℕ) (new : State) (r : Reply) (text : List ℕ) : Type 0 where
   pub answers : Answers old line r new
   pub sound : IsSoundSketch (sketch_in new)
-  pub says : IsReplyText request.order request.bits request.within request.place (sketch_in new) r text
+  pub says : IsReplyText request.order request.bits request.within request.layout (sketch_in new) r text
 
 -- the lines are answered in turn, none of them by the end, and this is the text of the replies, one behind another
 abbrev pub AreReplied : Request → State → List (List ℕ) → State → List ℕ → Type 0

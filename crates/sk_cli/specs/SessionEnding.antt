@@ -5,7 +5,7 @@ use Rattle.sk_io.specs.Transfer.{AppendsFront}
 use Rattle.sk_session.specs.declared.Reply.{Reply}
 use Rattle.sk_session.specs.declared.Reply.TheVariants as reply
 use Rattle.sk_session.specs.State.{State}
-use Rattle.sk_cli.specs.declared.request.Request.{Request}
+use Rattle.sk_request.specs.declared.Request.{Request}
 use Rattle.sk_cli.specs.declared.status.Status.{Status}
 use Rattle.sk_cli.specs.declared.status.Status.TheVariants.{WriteFault, NoMemory}
 use Rattle.sk_cli.specs.SessionAnswer.{IsReplied, RepliesToFront, IsSessionAnswer}

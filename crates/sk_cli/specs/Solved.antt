@@ -14,11 +14,11 @@ use Rattle.sk_tree.specs.DrawnChoice.{HasDrawnChoice}
 use Rattle.sk_plan.specs.Judged.{IsTheJudgement, IsWell}
 use Rattle.sk_report.specs.CheckReport.{check_report}
 use Rattle.sk_flips.specs.declared.Placement.{Placement}
-use Rattle.sk_cli.specs.declared.request.Request.{Request}
+use Rattle.sk_request.specs.declared.Request.{Request}
 use Rattle.sk_cli.specs.declared.solving.Report.{Report}
 use Rattle.sk_cli.specs.declared.status.Status.{Status}
 use Rattle.sk_cli.specs.declared.status.Status.TheVariants.{NotWell}
-use Rattle.sk_cli.specs.Grids.{grid_of, digits_of}
+use Rattle.sk_request.specs.Grids.{grid_of, digits_of}
 use Rattle.sk_cli.specs.Solving.{IsPlacement, status_of, placement_words}
 
 -- the plan of the run by the order, with the choices of the drawing
@@ -37,7 +37,7 @@ IsReportNotWell s text = (j : Judgement) × IsTheJudgement (graph_of s) j × (j.
 pub record IsPlacedPlan (request : Request) (s : Sketch) (p : ThePlan) (placement : Placement) : Type 0 where
   pub well : IsWell (graph_of s)
   pub plan : IsPlanBy request.order s p
-  pub placed : IsPlacement (grid_of request.bits) request.place (digits_of request.bits) request.within s p placement
+  pub placed : IsPlacement (grid_of request.bits) request.layout (digits_of request.bits) request.within s p placement
 
 -- what is written of the placed plan; or the verdict isn't well, and this is the check report
 abbrev pub IsSolved : Report → Request → Sketch → Status → List ℕ → Type 0

@@ -10,7 +10,6 @@ ghost use Rattle.sk_cli.specs.Outcome.{IsAccountAnswer};
 
 use crate::answer::{Answer, refused};
 use crate::parts::shapes;
-use crate::request::Request;
 use crate::status::Status;
 use sk_base::{Graph, NoMemory, Sketch, Text};
 use sk_derive::{derive, derive_text};
@@ -19,6 +18,7 @@ use sk_graph::reduce;
 use sk_lang::{read_sketch, write_sketch_2};
 use sk_lines::ReadError;
 use sk_report::check_text;
+use sk_request::Request;
 use sk_spare::{spare, spare_text};
 use sk_verdict::{Judgement, judge};
 use sk_worklist::{Chosen, Order, close_in_any_order};

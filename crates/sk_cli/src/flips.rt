@@ -5,19 +5,19 @@ ghost use Rattle.sk_flips.specs.Alternatives.{AreAlternatives};
 ghost use Rattle.sk_graph.specs.SketchGraph.{graph_of};
 ghost use Rattle.sk_tree.specs.LegalPlan.{IsLegalPlan};
 ghost use Rattle.sk_cli.specs.FlipsReport.{alternatives_from, IsFlipped, IsFlipsAnswer};
-ghost use Rattle.sk_cli.specs.Grids.{grid_of, digits_of};
+ghost use Rattle.sk_request.specs.Grids.{grid_of, digits_of};
 
 use crate::alternative::alternative_text;
 use crate::answer::{Answer, refused};
-use crate::bits::Bits;
 use crate::planning::{Planning, planned_by};
-use crate::request::Request;
 use crate::status::Status;
 use sk_base::{Graph, List, Name, NoMemory, Sketch, Text};
-use sk_flips::{Alternative, Layout, alternatives, read_flips};
+use sk_flips::{Alternative, alternatives, read_flips};
 use sk_interval::{G16, G27, G38};
 use sk_lang::read_sketch_front;
 use sk_lines::ReadError;
+use sk_place::Layout;
+use sk_request::{Bits, Request};
 use sk_tree::Plan;
 use std::alloc::Global;
 
@@ -53,7 +53,7 @@ fn flipped(
         Planning::Planned { graph, plan } => {
             let found = alternatives_on(
                 alloc,
-                request.place,
+                request.layout,
                 request.bits,
                 request.within,
                 s,
@@ -77,7 +77,7 @@ fn flipped(
 /// more than the limit.
 fn alternatives_on(
     alloc: Global,
-    placing: Layout,
+    layout: Layout,
     bits: Bits,
     limit: u64,
     s: &Sketch,
@@ -88,12 +88,12 @@ fn alternatives_on(
     requires sketch { IsSoundSketch s.now }
     requires graph { g.now ≡ graph_of s.now }
     requires legal { IsLegalPlan g.now p.now }
-    ensures { IfOk result (AreAlternatives (grid_of bits) placing (digits_of bits) limit s.now p.now lists.now) }
+    ensures { IfOk result (AreAlternatives (grid_of bits) layout (digits_of bits) limit s.now p.now lists.now) }
 {
     match bits {
-        Bits::Sixteen => alternatives::<G16>(alloc, placing, s, g, p, lists, limit),
-        Bits::TwentySeven => alternatives::<G27>(alloc, placing, s, g, p, lists, limit),
-        Bits::ThirtyEight => alternatives::<G38>(alloc, placing, s, g, p, lists, limit),
+        Bits::Sixteen => alternatives::<G16>(alloc, layout, s, g, p, lists, limit),
+        Bits::TwentySeven => alternatives::<G27>(alloc, layout, s, g, p, lists, limit),
+        Bits::ThirtyEight => alternatives::<G38>(alloc, layout, s, g, p, lists, limit),
     }
 }
 

@@ -3,10 +3,10 @@ ghost use Rattle.std.specs.Prelude.{◌≡◌, ◌≤◌, ℕ, Some, IfOk};
 ghost use Rattle.sk_cli.specs.Outcome.{IsGrowAnswer};
 
 use crate::answer::Answer;
-use crate::request::Request;
 use crate::solving::{Report, solved};
 use sk_base::NoMemory;
 use sk_gen::datum_sketch;
+use sk_request::Request;
 use std::alloc::Global;
 
 /// The answer of `grow`.

@@ -19,10 +19,10 @@ ghost use Rattle.sk_tree.specs.LegalPlan.{IsLegalPlan};
 ghost use Rattle.sk_verify.specs.AsClaimed.{plan_claimed};
 ghost use Rattle.sk_residual.specs.declared.Tolerance.{Tolerance};
 ghost use Rattle.sk_residual.specs.Turns.{signs, AllAsDrawn};
-ghost use Rattle.sk_cli.specs.declared.request.Request.{Request};
+ghost use Rattle.sk_request.specs.declared.Request.{Request};
 ghost use Rattle.sk_cli.specs.declared.status.Status.{Status};
-ghost use Rattle.sk_cli.specs.Asking.{Asks, AreOfForm};
-ghost use Rattle.sk_cli.specs.declared.command.Command.{Command};
+ghost use Rattle.sk_request.specs.Asking.{Asks, AreOfForm};
+ghost use Rattle.sk_request.specs.declared.Command.{Command};
 ghost use Rattle.sk_cli.specs.Headline.{Tells, TellsAsAsked, RepliesNext, HoldsAt};
 ghost use Rattle.sk_cli.specs.PrintedClaim.{printed_text, printed_claim};
 ghost use Rattle.sk_lang.specs.Front.{ReadsFront};
@@ -32,7 +32,7 @@ ghost use Rattle.sk_cli.specs.Causes.{plans, solves, IsSketchOf, IsRefusedInput,
 ghost use Rattle.sk_cli.specs.declared.solving.Report.TheVariants.{Places};
 ghost use Rattle.sk_cli.specs.FlipsReport.{IsReportOnFlips};
 ghost use Rattle.sk_cli.specs.PartsReport.{IsShape, IsPartsReport, IsSolvedAs, IsOneShape};
-ghost use Rattle.sk_cli.specs.Grids.{grid_of, digits_of};
+ghost use Rattle.sk_request.specs.Grids.{grid_of, digits_of};
 ghost use Rattle.sk_cli.specs.Outcome.{IsSolved, IsOutcome, AreFirstReplies};
 ghost use Rattle.sk_cli.specs.Migration.{AskOfOneSketch, IsMigrated};
 ghost use Rattle.sk_lang.specs.Reading.{Reads};
@@ -54,11 +54,6 @@ use sk_spare::one_list_of_spares;
 use sk_verdict::one_judgement;
 use sk_verify::accepted;
 use sk_worklist::{Chosen, one_run};
-
-/// Words ask for one thing at most.
-pub fn one_request()
-    ensures { (words : List (List ℕ)) (one other : Request) → Asks words one → Asks words other → one ≡ other }
-{}
 
 /// Words and an input have one outcome at most.
 pub fn one_outcome()
@@ -127,14 +122,15 @@ pub fn migrated_reads_the_same()
 /// Why each status comes. It is `Usage` exactly where the words aren't of the form, and `Refused` exactly
 /// where the input is. It is `NotWell` exactly where the command plans a sketch whose verdict isn't well,
 /// so never where it is `check`, `offers`, `session`, `migrate`, `verify`, `spare`, `derive` or `parts`,
-/// which don't plan the whole sketch. Where the command is `solve`, `dxf` or `grow`, and nowhere else, it is `StepFault` exactly where a
-/// step has a fault, or none has, no least number is above the limit and a sign is turned, and `Tolerance`
-/// exactly where no step has a fault and some least number is above the limit. Of a sketch that is solved
-/// it is `Done` exactly where none of these is so; for `plan` and `flips`, which plan and don't solve,
-/// exactly where the input is read, of `flips` with the flips behind the sketch, and the sketch's verdict is
-/// well; for `verify` exactly where the claim is accepted; and for any other command that doesn't plan,
-/// exactly where the input isn't refused. It is `NotVerified` exactly where the command is `verify` and
-/// something of the claim fails.
+/// which don't plan the whole sketch. Where the command is `solve`, `dxf` or `grow`, and nowhere else, it is
+/// `StepFault` exactly where a step has a fault; or none has, and a box can't be carried into the drawn frame
+/// that was asked for; or neither is so, no least number is above the limit and a sign is turned. There it is
+/// `Tolerance` exactly where no step has a fault, each box is carried where it is to be, and some least
+/// number is above the limit. Of a sketch that is solved it is `Done` exactly where none of these is so; for
+/// `plan` and `flips`, which plan and don't solve, exactly where the input is read, of `flips` with the flips
+/// behind the sketch, and the sketch's verdict is well; for `verify` exactly where the claim is accepted; and
+/// for any other command that doesn't plan, exactly where the input isn't refused. It is `NotVerified`
+/// exactly where the command is `verify` and something of the claim fails.
 pub fn causes()
     ensures usage { (words : List (List ℕ)) (bytes text : List ℕ) (status : Status) → IsOutcome words bytes status text
         → (status ≡ Status.Usage) ↔ (AreOfForm words → ⊥) }
@@ -181,7 +177,7 @@ pub fn causes()
 pub fn solved_places_are_found()
     ensures { (request : Request) (s : Sketch) (text : List ℕ) → IsSoundSketch s → IsSolved Places request s Status.Done text
         → (p : Plan) × (at : Placed) × (tol : Tolerance) × (text ≡ solve_report s p (digits_of request.bits) at tol) × IsItsPlan request s p
-        × IsAlternative (grid_of request.bits) request.place (digits_of request.bits) request.within s p [] (Found at tol)
+        × IsAlternative (grid_of request.bits) request.layout (digits_of request.bits) request.within s p [] (Found at tol)
         × IsReportOnFlips request s ([] ∷ []) (codes "flip 1 ok\n" ++ places_report s at tol) }
 {}
 
@@ -199,8 +195,9 @@ pub fn shapes_are_as_solved()
 /// that hold more than 2n - 3 constraints, never an element that no constraint names; a plan is printed
 /// exactly where just one part remains and it isn't over, and the plan uses each constraint once; printed
 /// places are those of all elements and no others, and meet each constraint within the printed tolerance,
-/// which is the least, with all signs as drawn; else the first faulty step, line or constraint is named,
-/// or the first turned sign. A block of k points counts as 2k - 3 of the constraints that a cluster holds,
+/// which is the least, with all signs as drawn; else the first faulty step is named, the first box that
+/// can't be carried into the drawn frame, the first line or constraint that is beyond the limit, or the first
+/// turned sign. A block of k points counts as 2k - 3 of the constraints that a cluster holds,
 /// and as one of those that a plan uses; it is drawn as its places are given. Of the own sketch of each part
 /// that isn't over, `parts` tells what `solve` tells of a sketch.
 ///

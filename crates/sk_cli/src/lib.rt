@@ -4,23 +4,17 @@
 mod accounts;
 mod alternative;
 mod answer;
-mod bits;
 mod claims;
-mod command;
 mod flips;
 mod grow;
 mod law;
-mod offer_line;
-mod offer_reading;
 mod offers;
 mod parts;
 mod placing;
 mod plan;
 mod planning;
 mod reply;
-mod request;
 mod session;
-mod settings;
 mod solve;
 mod solving;
 mod status;
@@ -28,17 +22,12 @@ mod top;
 
 pub use accounts::Account;
 pub use alternative::alternative_text;
-pub use bits::Bits;
-pub use command::Command;
 pub use law::{
-    causes, first_replies_are_a_front, headline, migrated_reads_the_same, one_outcome, one_request,
+    causes, first_replies_are_a_front, headline, migrated_reads_the_same, one_outcome,
     printed_claims_are_accepted, shapes_are_as_solved, solved_places_are_found, some_outcome,
     verified_drawings_are_right,
 };
-pub use offer_line::OfferLine;
-pub use offer_reading::{one_reading_of_offers, read_offers};
 pub use reply::reply_text;
-pub use request::{Request, request_of};
 pub use solving::Report;
 pub use status::Status;
 pub use top::run;

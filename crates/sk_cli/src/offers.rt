@@ -1,17 +1,16 @@
 // The command `offers`.
 ghost use Rattle.std.specs.Prelude.{◌<◌, All, IfOk, length};
 ghost use Rattle.sk_base.specs.SoundSketch.{IsSoundSketch};
-ghost use Rattle.sk_cli.specs.OffersReport.{FitsBoard, AreAnswered, IsReportOnOffers, IsOffersAnswer};
+ghost use Rattle.sk_offers.specs.OfferLines.{FitsBoard};
+ghost use Rattle.sk_cli.specs.OffersReport.{AreAnswered, IsReportOnOffers, IsOffersAnswer};
 
 use crate::answer::{Answer, refused};
-use crate::offer_line::OfferLine;
-use crate::offer_reading::read_offers;
 use crate::status::Status;
 use sk_base::{NoMemory, Sketch, Text};
 use sk_graph::reduce;
 use sk_lang::read_sketch_front;
 use sk_lines::ReadError;
-use sk_offers::Board;
+use sk_offers::{Board, OfferLine, read_offers};
 use sk_report::{answer_text, check_text};
 use sk_verdict::judge;
 use sk_worklist::{Chosen, Order};

@@ -3,13 +3,14 @@ ghost use Rattle.std.specs.Prelude.{◌≡◌, IfOk};
 ghost use Rattle.sk_base.specs.SoundSketch.{IsSoundSketch};
 ghost use Rattle.sk_graph.specs.SketchGraph.{graph_of};
 ghost use Rattle.sk_tree.specs.LegalPlan.{IsLegalPlan};
-ghost use Rattle.sk_cli.specs.Grids.{grid_of, digits_of};
+ghost use Rattle.sk_request.specs.Grids.{grid_of, digits_of};
 ghost use Rattle.sk_cli.specs.Solving.{IsPlacement, LiesWithinBounds};
 
-use crate::bits::Bits;
 use sk_base::{Graph, NoMemory, Sketch};
-use sk_flips::{Layout, Placement, placed_on};
+use sk_flips::{Placement, placed_on};
 use sk_interval::{G16, G27, G38};
+use sk_place::Layout;
+use sk_request::Bits;
 use sk_residual::Wanted;
 use sk_tree::Plan;
 use std::alloc::Global;
@@ -18,7 +19,7 @@ use std::alloc::Global;
 /// be more than the limit.
 pub(crate) fn placed(
     alloc: Global,
-    placing: Layout,
+    layout: Layout,
     bits: Bits,
     limit: u64,
     s: &Sketch,
@@ -28,12 +29,12 @@ pub(crate) fn placed(
     requires sketch { IsSoundSketch s.now }
     requires graph { g.now ≡ graph_of s.now }
     requires legal { IsLegalPlan g.now p.now }
-    ensures placement { IfOk result (IsPlacement (grid_of bits) placing (digits_of bits) limit s.now p.now) }
+    ensures placement { IfOk result (IsPlacement (grid_of bits) layout (digits_of bits) limit s.now p.now) }
     ensures bounded { IfOk result LiesWithinBounds }
 {
     match bits {
-        Bits::Sixteen => placed_on::<G16>(alloc, placing, Wanted::Drawn, limit, s, g, p),
-        Bits::TwentySeven => placed_on::<G27>(alloc, placing, Wanted::Drawn, limit, s, g, p),
-        Bits::ThirtyEight => placed_on::<G38>(alloc, placing, Wanted::Drawn, limit, s, g, p),
+        Bits::Sixteen => placed_on::<G16>(alloc, layout, Wanted::Drawn, limit, s, g, p),
+        Bits::TwentySeven => placed_on::<G27>(alloc, layout, Wanted::Drawn, limit, s, g, p),
+        Bits::ThirtyEight => placed_on::<G38>(alloc, layout, Wanted::Drawn, limit, s, g, p),
     }
 }

@@ -5,14 +5,12 @@ ghost use Rattle.sk_session.specs.declared.Reply.TheVariants as a_reply;
 ghost use Rattle.sk_cli.specs.SessionAnswer.{IsReplyText};
 ghost use Rattle.sk_cli.specs.Told.{told};
 
-use crate::bits::Bits;
-use crate::command::Command;
-use crate::request::Request;
 use crate::solving::{Report, solved};
 use sk_base::{NoMemory, Sketch, Text};
-use sk_flips::Layout;
 use sk_lang::write_sketch;
+use sk_place::Layout;
 use sk_report::{check_text, code_text, constrained_text, declared_text, done_text, plan_text};
+use sk_request::{Bits, Command, Request};
 use sk_session::Reply;
 use sk_worklist::Order;
 use std::alloc::Global;
@@ -26,14 +24,14 @@ pub fn reply_text(
     order: Order,
     bits: Bits,
     within: u64,
-    place: Layout,
+    layout: Layout,
 ) -> Result<Text, NoMemory>
     requires sound { IsSoundSketch s.now }
     requires some { r.now ≡ a_reply.Solve → 0 < length s.now.elements }
-    ensures { IfOk result (IsReplyText order bits within place s.now r.now) }
+    ensures { IfOk result (IsReplyText order bits within layout s.now r.now) }
 {
     match r {
-        Reply::Solve => solve_text(alloc, s, order, bits, within, place),
+        Reply::Solve => solve_text(alloc, s, order, bits, within, layout),
         _ => told_text(alloc, s, r),
     }
 }
@@ -45,18 +43,18 @@ fn solve_text(
     order: Order,
     bits: Bits,
     within: u64,
-    place: Layout,
+    layout: Layout,
 ) -> Result<Text, NoMemory>
     requires sound { IsSoundSketch s.now }
     requires some { 0 < length s.now.elements }
-    ensures { IfOk result (IsReplyText order bits within place s.now a_reply.Solve) }
+    ensures { IfOk result (IsReplyText order bits within layout s.now a_reply.Solve) }
 {
     let request = Request {
         command: Command::Solve,
         order,
         bits,
         within,
-        place,
+        layout,
         size: None,
     };
     let answer = solved(alloc, request, Report::Places, s)?;

@@ -9,11 +9,11 @@ ghost use Rattle.sk_cli.specs.SessionAnswer.{IsReplied, RepliesToFront};
 ghost use Rattle.sk_cli.specs.SessionEnding.{SessionEnds, IsStopped};
 
 use crate::reply::reply_text;
-use crate::request::Request;
 use crate::status::Status;
 use sk_io::{Sink, write_all};
 use sk_lines::split_line;
-use sk_session::{Closing, Reply, Session, some_to_solve};
+use sk_request::Request;
+use sk_session::{Closing, Reply, Session};
 use std::alloc::Global;
 
 /// Answers the lines of an input that isn't too long, up to the end of the session, and writes the
@@ -69,7 +69,6 @@ fn reply_to<K: Sink>(
         → (K.faults sink.new ≡ K.faults sink.old) × (IsErrOf result Status.WriteFault → ⊥) }
 {
     let reply = session.command(line)?;
-    some_to_solve();
     let text = reply_text(
         alloc,
         session.sketch(),
@@ -77,7 +76,7 @@ fn reply_to<K: Sink>(
         request.order,
         request.bits,
         request.within,
-        request.place,
+        request.layout,
     )?;
     match write_all(sink, text.as_bytes()) {
         Ok(()) => Ok(goes_on(&reply)),

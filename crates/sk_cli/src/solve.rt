@@ -3,11 +3,11 @@ ghost use Rattle.std.specs.Prelude.{IfOk};
 ghost use Rattle.sk_cli.specs.Outcome.{IsSolveAnswer};
 
 use crate::answer::{Answer, refused};
-use crate::request::Request;
 use crate::solving::{Report, solved};
 use sk_base::NoMemory;
 use sk_lang::read_sketch;
 use sk_lines::ReadError;
+use sk_request::Request;
 use std::alloc::Global;
 
 /// The answer to an input whose sketch is placed, with this report.

@@ -8,7 +8,6 @@ ghost use Rattle.sk_cli.specs.Outcome.{IsSolved};
 use crate::answer::Answer;
 use crate::placing::placed;
 use crate::planning::{Planning, planned_by};
-use crate::request::Request;
 use crate::status::Status;
 use sk_base::{NoMemory, Placed, Sketch, Text};
 use sk_dxf::dxf_text;
@@ -16,6 +15,7 @@ use sk_flips::Placement;
 use sk_report::{
     fault_text, frame_fault_text, grow_text, passed_text, shape_text, solve_text, turned_text,
 };
+use sk_request::Request;
 use sk_residual::Tolerance;
 use sk_tree::Plan;
 use std::alloc::Global;
@@ -48,7 +48,7 @@ pub(crate) fn solved(
         Planning::Planned { graph, plan } => {
             let placement = placed(
                 alloc,
-                request.place,
+                request.layout,
                 request.bits,
                 request.within,
                 s,

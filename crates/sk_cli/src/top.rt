@@ -3,19 +3,17 @@ ghost use Rattle.std.specs.Prelude.{◌≡◌, ◌↔◌, ◌<◌, ◌≤◌, �
 ghost use Rattle.std.specs.Io.KnownBytes.{Appends};
 ghost use Rattle.sk_io.specs.Causes.{AnswersFault};
 ghost use Rattle.sk_io.specs.Transfer.{TakesUpTo};
-ghost use Rattle.sk_cli.specs.Asking.{TakesInput, AskForInput};
+ghost use Rattle.sk_request.specs.Asking.{TakesInput, AskForInput};
 ghost use Rattle.sk_cli.specs.Outcome.{IsAnswer, IsWritten};
 ghost use Rattle.sk_cli.specs.Ending.{IsTold, Ends, HasInput, Sends};
 
 use crate::accounts::{Account, account_of};
 use crate::answer::{Answer, refused};
 use crate::claims::claimed;
-use crate::command::Command;
 use crate::flips::flips;
 use crate::grow::grow;
 use crate::offers::offers;
 use crate::plan::plan;
-use crate::request::{Request, request_of};
 use crate::session::session;
 use crate::solve::solve;
 use crate::solving::Report;
@@ -23,6 +21,7 @@ use crate::status::Status;
 use sk_base::{NoMemory, Text};
 use sk_io::{ReadEnd, Sink, Source, read_all, write_all};
 use sk_lines::{Code, Refusal};
+use sk_request::{Command, Request, request_of};
 use std::alloc::Global;
 
 const USAGE: &str =

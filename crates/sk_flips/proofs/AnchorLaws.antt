@@ -61,7 +61,7 @@ use Rattle.sk_place.specs.Trees.{edge, block, framed_of, frame_of, two_boxes, pi
 use Rattle.sk_place.proofs.Edges.{IsEdge, edge_found, framed_edge, edge_measured}
 use Rattle.sk_place.proofs.Ending.{tree_named, leaf_there}
 use Rattle.sk_place.proofs.Results.{then_ok, box_ok, ok_inside}
-use Rattle.sk_frame.specs.declared.FrameBy.TheVariants.{Drawn}
+use Rattle.sk_place.specs.declared.FrameBy.TheVariants.{Drawn}
 use Rattle.sk_frame.specs.Bases.{kept_from, constraint_named, base_in}
 use Rattle.sk_frame.specs.Crossings.{nanometres}
 use Rattle.sk_frame.specs.Frames.{measured_frame, block_frame, lone_frame, constraint_frame, based_frame, frame_of as frame_in, given_place}

@@ -24,8 +24,8 @@ use Rattle.sk_place.proofs.InsideTrees.{nest}
 use Rattle.sk_place.proofs.Ranges.{each_range}
 use Rattle.sk_place.proofs.Results.{ok_inside}
 use Rattle.sk_place.proofs.SomePlaces.{some_places}
-use Rattle.sk_frame.specs.declared.FrameBy.{FrameBy}
-use Rattle.sk_frame.specs.declared.FrameBy.TheVariants.{Base, Drawn}
+use Rattle.sk_place.specs.declared.FrameBy.{FrameBy}
+use Rattle.sk_place.specs.declared.FrameBy.TheVariants.{Base, Drawn}
 use Rattle.sk_frame.specs.Frames.{frame_of}
 use Rattle.sk_frame.proofs.MotionLaws.{finer_motion}
 use Rattle.sk_frame.proofs.SoundFrames.{frame_is_sound}

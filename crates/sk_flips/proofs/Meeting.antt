@@ -6,7 +6,7 @@ use Rattle.sk_base.specs.declared.Sketch.{Sketch}
 use Rattle.sk_base.specs.SoundGraph.{IsSoundGraph}
 use Rattle.sk_graph.specs.SketchGraph.{graph_of}
 use Rattle.sk_tree.specs.declared.Plan.{Plan}
-use Rattle.sk_flips.specs.declared.placing.Layout.{Layout}
+use Rattle.sk_place.specs.declared.Layout.{Layout}
 use Rattle.sk_residual.specs.declared.Tolerance.{Tolerance}
 use Rattle.sk_residual.specs.Tolerances.{AllHoldWithin}
 use Rattle.sk_residual.proofs.Merging.{has_blocks}

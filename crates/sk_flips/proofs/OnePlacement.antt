@@ -15,7 +15,7 @@ use Rattle.sk_tree.specs.declared.Tree.{Tree}
 use Rattle.sk_tree.specs.LegalPlan.{IsLegalPlan, taken_told}
 use Rattle.sk_tree.specs.PlanTree.{IsPlanTree}
 use Rattle.sk_tree.specs.Trees.{IsTreeOf}
-use Rattle.sk_flips.specs.declared.placing.Layout.{Layout}
+use Rattle.sk_place.specs.declared.Layout.{Layout}
 use Rattle.sk_place.specs.declared.BoxAt.{BoxAt}
 use Rattle.sk_place.specs.declared.BoxFault.{BoxFault}
 use Rattle.sk_place.specs.declared.PlaceBy.{PlaceBy}
@@ -23,8 +23,8 @@ use Rattle.sk_place.specs.Carrying.{carried_each}
 use Rattle.sk_interval.specs.declared.Cause.{Cause}
 use Rattle.sk_steps.specs.declared.What.{What}
 use Rattle.sk_motion.specs.declared.Motion.{Motion}
-use Rattle.sk_frame.specs.declared.FrameBy.{FrameBy}
-use Rattle.sk_frame.specs.declared.FrameBy.TheVariants.{Base, Drawn}
+use Rattle.sk_place.specs.declared.FrameBy.{FrameBy}
+use Rattle.sk_place.specs.declared.FrameBy.TheVariants.{Base, Drawn}
 use Rattle.sk_place.specs.declared.StepFault.{StepFault}
 use Rattle.sk_place.specs.declared.PlaceError.TheVariants as errors
 use Rattle.sk_place.specs.Placing.{IsPlaced}

@@ -14,7 +14,7 @@ use Rattle.sk_tree.specs.declared.Plan.{Plan}
 use Rattle.sk_steps.specs.declared.BoxOf.{BoxOf}
 use Rattle.sk_steps.specs.declared.BoxOf.TheVariants.{Point, Line}
 use Rattle.sk_steps.specs.Boxes.{kind_of}
-use Rattle.sk_flips.specs.declared.placing.Layout.{Layout}
+use Rattle.sk_place.specs.declared.Layout.{Layout}
 use Rattle.sk_place.specs.declared.BoxAt.{BoxAt}
 use Rattle.sk_place.specs.declared.BoxFault.{BoxFault}
 use Rattle.sk_place.specs.declared.PlaceBy.{PlaceBy}
@@ -23,7 +23,7 @@ use Rattle.sk_place.specs.declared.MoveError.TheVariants as moving
 use Rattle.sk_place.specs.Carrying.{carried_each, AnswersMove}
 use Rattle.sk_motion.specs.declared.Motion.{Motion}
 use Rattle.sk_frame.specs.declared.Frame.{Frame}
-use Rattle.sk_frame.specs.declared.FrameBy.TheVariants.{Drawn}
+use Rattle.sk_place.specs.declared.FrameBy.TheVariants.{Drawn}
 use Rattle.sk_frame.specs.Frames.{frame_of}
 use Rattle.sk_frame.specs.FrameMotions.{frame_motion}
 use Rattle.sk_place.specs.Clusters.{nodes_of}

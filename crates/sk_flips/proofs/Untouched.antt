@@ -13,7 +13,7 @@ use Rattle.sk_tree.specs.declared.Plan.{Plan}
 use Rattle.sk_tree.specs.declared.PlanStep.{PlanStep}
 use Rattle.sk_tree.specs.ByNumber.{by_number}
 use Rattle.sk_tree.specs.LegalPlan.{IsLegalPlan}
-use Rattle.sk_flips.specs.declared.placing.Layout.{Layout}
+use Rattle.sk_place.specs.declared.Layout.{Layout}
 use Rattle.sk_residual.specs.declared.Turned.{Turned as SignThere}
 use Rattle.sk_residual.specs.declared.Wanted.TheVariants.{Drawn, Chosen}
 use Rattle.sk_residual.specs.Telling.{HasCorners}

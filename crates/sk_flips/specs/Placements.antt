@@ -8,7 +8,7 @@ use Rattle.sk_base.specs.declared.Spot.{Spot}
 use Rattle.sk_base.specs.Places.{IsBounded}
 use Rattle.sk_graph.specs.SketchGraph.{graph_of}
 use Rattle.sk_tree.specs.declared.Plan.{Plan}
-use Rattle.sk_flips.specs.declared.placing.Layout.{Layout}
+use Rattle.sk_place.specs.declared.Layout.{Layout}
 use Rattle.sk_place.specs.declared.BoxAt.{BoxAt}
 use Rattle.sk_place.specs.declared.BoxFault.{BoxFault}
 use Rattle.sk_place.specs.declared.PlaceBy.{PlaceBy}
@@ -16,8 +16,8 @@ use Rattle.sk_place.specs.declared.MoveError.{MoveError}
 use Rattle.sk_place.specs.declared.MoveError.TheVariants as moving
 use Rattle.sk_place.specs.Carrying.{carried_each}
 use Rattle.sk_motion.specs.declared.Motion.{Motion}
-use Rattle.sk_frame.specs.declared.FrameBy.{FrameBy}
-use Rattle.sk_frame.specs.declared.FrameBy.TheVariants.{Base, Drawn}
+use Rattle.sk_place.specs.declared.FrameBy.{FrameBy}
+use Rattle.sk_place.specs.declared.FrameBy.TheVariants.{Base, Drawn}
 use Rattle.sk_frame.specs.Frames.{frame_of}
 use Rattle.sk_frame.specs.FrameMotions.{frame_motion}
 use Rattle.sk_place.specs.declared.PlaceError.TheVariants as errors

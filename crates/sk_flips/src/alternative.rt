@@ -6,10 +6,10 @@ ghost use Rattle.sk_tree.specs.LegalPlan.{IsLegalPlan};
 ghost use Rattle.sk_flips.specs.Alternatives.{alternative_of, IsAlternative, AreAlternatives};
 
 use crate::flip::{FlipError, flip_plan};
-use crate::placing::{Layout, Placement, placed_on};
+use crate::placing::{Placement, placed_on};
 use sk_base::{Graph, List, Name, NoMemory, Placed, Sketch};
 use sk_interval::Grid;
-use sk_place::{BoxFault, StepFault};
+use sk_place::{BoxFault, Layout, StepFault};
 use sk_residual::{Beyond, Tolerance, Turned, Wanted};
 use sk_tree::Plan;
 use std::alloc::Global;

@@ -16,5 +16,5 @@ pub use law::{
     place_is_printed, turned_plan_is_legal, uncarried_is_out_of_range, untouched_plan_is_drawn,
     untouched_plan_is_placed,
 };
-pub use placing::{Layout, Placement, placed_on};
+pub use placing::{Placement, placed_on};
 pub use sk_residual::first_off;

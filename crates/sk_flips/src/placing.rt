@@ -11,21 +11,16 @@ ghost use Rattle.sk_holding.specs.Placing.{PlacesExactly};
 ghost use Rattle.sk_flips.specs.Placements.{AnswersCarried, IsMeasured, IsPlacement, LiesWithinBounds};
 
 use sk_base::{Graph, NoMemory, Placed, Sketch};
-use sk_frame::{FrameBy, frame_motion, frame_of};
+use sk_frame::{frame_motion, frame_of};
 use sk_graph::sound_graph;
 use sk_holding::placed_in_order;
 use sk_interval::Grid;
-use sk_place::{BoxFault, Boxes, MoveError, PlaceBy, PlaceError, StepFault, moved, place, round};
+use sk_place::{
+    BoxFault, Boxes, FrameBy, Layout, MoveError, PlaceError, StepFault, moved, place, round,
+};
 use sk_residual::{Beyond, Tolerance, Turned, Wanted, first_unlike, least, passed};
 use sk_tree::Plan;
 use std::alloc::Global;
-
-/// What the places of elements are while a plan is placed, and in which frame they are told.
-#[derive(Clone, Copy, PartialEq, Eq, Debug)]
-pub struct Layout {
-    pub by: PlaceBy,
-    pub frame: FrameBy,
-}
 
 /// How a plan is placed: what fails first, or else where the elements lie and within which tolerance
 /// all holds.

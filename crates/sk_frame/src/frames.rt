@@ -19,15 +19,6 @@ use sk_base::{ConId, Edge, Elem, Graph, Measure, Node, Pin, Shape, Sign, Sketch,
 use sk_orient::{Vector, direction, place, way};
 use sk_tree::Plan;
 
-/// In which frame places are told.
-#[derive(Clone, Copy, PartialEq, Eq, Debug)]
-pub enum FrameBy {
-    /// That of the base, the constraint that no step moves.
-    Base,
-    /// That of the drawing: the base's frame is taken to where it is drawn.
-    Drawn,
-}
-
 /// Where a frame lies: the place `from` of the frame, in micrometres, is the drawing's place `to`, in
 /// nanometres. What goes forward in the frame turns by `turn.x` parts along and `turn.y` parts to the left.
 #[derive(Clone, Copy)]

@@ -8,5 +8,5 @@ mod scaling;
 mod taking;
 
 pub use bases::base_of;
-pub use frames::{Frame, FrameBy, frame_of};
+pub use frames::{Frame, frame_of};
 pub use taking::frame_motion;

@@ -1,2 +1,6 @@
-pub mod Places
 pub mod Boards
+pub mod FallingMerges
+pub mod FittingOffers
+pub mod OfferAnswers
+pub mod OffersSoFar
+pub mod Places

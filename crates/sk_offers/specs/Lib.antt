@@ -1,1 +1,3 @@
+pub mod OfferLines
+pub mod OfferReading
 pub mod Offering

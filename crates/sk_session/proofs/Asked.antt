@@ -20,14 +20,15 @@ use Rattle.sk_lex.specs.declared.Words.{Words}
 use Rattle.sk_plan.specs.Judged.{IsTheJudgement}
 use Rattle.sk_verdict.specs.declared.Verdict.TheVariants.{Well}
 use Rattle.sk_worklist.specs.declared.Order.{Order}
-use Rattle.sk_session.specs.declared.command.Command.{Command}
-use Rattle.sk_session.specs.declared.command.Command.TheVariants.{Change, Undo, Check, Plan, Solve, Write, End}
-use Rattle.sk_session.specs.declared.edit.Edit.{Edit}
-use Rattle.sk_session.specs.declared.edit.Edit.TheVariants as edit
+use Rattle.sk_edits.specs.declared.Command.{Command}
+use Rattle.sk_edits.specs.declared.Command.TheVariants.{Change, Undo, Check, Plan, Solve, Write, End}
+use Rattle.sk_edits.specs.declared.Edit.{Edit}
+use Rattle.sk_edits.specs.declared.Edit.TheVariants as edit
 use Rattle.sk_session.specs.declared.reply.Reply.{Reply}
 use Rattle.sk_session.specs.declared.reply.Reply.TheVariants as reply
-use Rattle.sk_session.specs.Commands.{command_of, command_rows, own_rows, word_rows, edit_made, code_in}
-use Rattle.sk_session.specs.Edits.{sketch_of}
+use Rattle.sk_edits.specs.Commands.{command_of, edit_made}
+use Rattle.sk_session.specs.LineCodes.{command_rows, own_rows, word_rows, code_in}
+use Rattle.sk_edits.specs.Edits.{sketch_of}
 use Rattle.sk_session.specs.State.{State, sketch_in}
 use Rattle.sk_session.specs.Replies.{IsThePlan, Only, Stands, Obeys, ObeysWords, Enters, ByCode, Answers, next_elem, next_con}
 use Rattle.sk_lines.proofs.FirstCodes.{none_behind}

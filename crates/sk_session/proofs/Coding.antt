@@ -5,17 +5,18 @@ use Rattle.sk_lines.specs.Comments.{words_under}
 use Rattle.sk_lines.specs.declared.Code.{Code}
 use Rattle.sk_lines.specs.declared.Code.TheVariants.{S5}
 use Rattle.sk_lex.specs.declared.Words.{Words}
-use Rattle.sk_entry.specs.declared.Entry.{Entry}
 use Rattle.sk_entry.specs.declared.Entry.TheVariants as entry
-use Rattle.sk_lines.specs.ByteCodes.{byte_rows}
+use Rattle.sk_edits.specs.declared.Edit.{Edit}
 use Rattle.sk_entry.specs.Entry.{rows_of, entry_code, IsEntryOf, Begins}
-use Rattle.sk_lines.specs.FirstCode.{first_code}
+use Rattle.sk_entry.specs.declared.Entry.{Entry}
 use Rattle.sk_lines.proofs.FirstCodes.{code_front, code_behind}
-use Rattle.sk_session.specs.declared.edit.Edit.{Edit}
+use Rattle.sk_lines.specs.ByteCodes.{byte_rows}
+use Rattle.sk_lines.specs.FirstCode.{first_code}
 use Rattle.sk_session.specs.declared.reply.Reply.{Reply}
 use Rattle.sk_session.specs.declared.reply.Reply.TheVariants as reply
 use Rattle.sk_session.specs.State.{State, sketch_in}
-use Rattle.sk_session.specs.Commands.{is_spent, own_rows, word_rows, command_rows, command_of, code_in}
+use Rattle.sk_edits.specs.Commands.{command_of}
+use Rattle.sk_session.specs.LineCodes.{is_spent, own_rows, word_rows, command_rows, code_in}
 use Rattle.sk_session.specs.Replies.{Takes, Stands, Enters, Obeys, ObeysWords, ByCode, Answers, next_elem, next_con}
 
 -- an edit is accepted by the last row of its table

@@ -1,6 +1,8 @@
 -- What a session keeps stays in step with its standing edits.
-use Rattle.std.proofs.Common.{◌≡◌, ◌≢◌, ℕ, zero, suc, ◌+◌, ◌<◌, ◌≤◌, List, [], ◌∷◌, ◌++◌, length, get_or, take, refl, ap, sym, subst, ◌∙◌, arith, append_assoc}
-use Rattle.std.specs.Prelude.{fold, max}
+use Rattle.std.proofs.Common.{◌≡◌, ◌≢◌, ℕ, zero, suc, ◌+◌, ◌-◌, ◌<◌, ◌≤◌, List, [], ◌∷◌, ◌++◌, length, get_or, take, refl, ap, sym, subst, ◌∙◌, arith, append_assoc}
+use Rattle.std.specs.Prelude.{fold, max, remove}
+use Rattle.std.proofs.Math.Seq.{get_or-append_seam}
+use Rattle.std.proofs.lemmas.List.Edits.{remove-append_right}
 use Rattle.std.proofs.lemmas.List.{map-append, append-nil}
 use Rattle.std.proofs.lemmas.List.Sums.{fold-append}
 use Rattle.sk_base.specs.declared.Element.{Element}
@@ -16,13 +18,14 @@ use Rattle.sk_rules.specs.Reach.{Reach, stays}
 use Rattle.sk_worklist.proofs.Runs.{reach_on}
 use Rattle.sk_graph.specs.SketchGraph.{graph_of}
 use Rattle.sk_graph.proofs.Soundness.{graph_is_sound}
-use Rattle.sk_session.specs.declared.edit.Edit.{Edit}
-use Rattle.sk_session.specs.declared.edit.Edit.TheVariants as edit
-use Rattle.sk_session.specs.declared.edit.Done.{Done}
-use Rattle.sk_session.specs.Edits.{empty, applied, sketch_of, element_given, constraint_given, next_element, next_constraint}
-use Rattle.sk_session.specs.Former.{IsFormer, LeadsTo}
-use Rattle.sk_session.specs.Making.{CanMake, Follows, FollowsBack, IsReachedIn}
-use Rattle.sk_session.specs.Standing.{edit_of, edits_of, Gives, element_after, constraint_after, element_before, constraint_before, IsMade, AllMade, IsConsistent}
+use Rattle.sk_edits.specs.declared.Edit.{Edit}
+use Rattle.sk_edits.specs.declared.Edit.TheVariants as edit
+use Rattle.sk_session.specs.declared.done.Done.{Done}
+use Rattle.sk_edits.specs.Edits.{empty, applied, sketch_of, element_given, constraint_given, next_element, next_constraint}
+use Rattle.sk_session.specs.Past.{edit_of, edits_of, Stood, LeadsTo}
+use Rattle.sk_edits.specs.Making.{CanMake}
+use Rattle.sk_session.specs.Following.{Follows, FollowsBack, IsReachedIn}
+use Rattle.sk_session.specs.Standing.{Gives, element_after, constraint_after, element_before, constraint_before, IsMade, AllMade, IsConsistent}
 use Rattle.sk_session.proofs.Following.{follows_edit, follows_undo}
 
 pub empty_sound : IsSoundSketch empty
@@ -58,7 +61,7 @@ consistent_new f is =
 sketch_push : (es : List Edit) (e : Edit) → sketch_of (es ++ e ∷ []) ≡ applied e (sketch_of es)
 sketch_push es e = fold-append (λ s d. applied d s) empty es (e ∷ [])
 
-pub edits_push : (done : List Done) (d : Done) → edits_of (done ++ d ∷ []) ≡ edits_of done ++ d.edit ∷ []
+pub edits_push : (done : List Done) (d : Done) → edits_of (done ++ d ∷ []) ≡ edits_of done ++ edit_of d ∷ []
 edits_push done d = map-append edit_of done (d ∷ [])
 
 element_push : (es : List Edit) (e : Edit) → Gives e es → next_element (es ++ e ∷ []) ≡ element_after e (next_element es)
@@ -86,13 +89,13 @@ constraint_push es e given = ap (λ n. n + 1) (fold-append (λ n d. max n (const
 made_push : (before : List Edit) (done : List Done) (d : Done) → AllMade before done → IsMade (before ++ edits_of done) d → AllMade before (done ++ d ∷ [])
 made_push before [] d all last = (subst (λ es. IsMade es d) (append-nil before) last, tt)
 made_push before (x ∷ done) d (first, rest) last =
-    (first, made_push (before ++ x.edit ∷ []) done d rest (subst (λ es. IsMade es d) (sym (append_assoc before (x.edit ∷ []) (edits_of done))) last))
+    (first, made_push (before ++ edit_of x ∷ []) done d rest (subst (λ es. IsMade es d) (sym (append_assoc before (edit_of x ∷ []) (edits_of done))) last))
 
 made_last : (before : List Edit) (done : List Done) (d : Done) → AllMade before (done ++ d ∷ []) → AllMade before done × IsMade (before ++ edits_of done) d
 made_last before [] d (last, none) = (tt, subst (λ es. IsMade es d) (sym (append-nil before)) last)
 made_last before (x ∷ done) d (first, rest) =
-    let more = made_last (before ++ x.edit ∷ []) done d rest in
-    ((first, more.0), subst (λ es. IsMade es d) (append_assoc before (x.edit ∷ []) (edits_of done)) more.1)
+    let more = made_last (before ++ edit_of x ∷ []) done d rest in
+    ((first, more.0), subst (λ es. IsMade es d) (append_assoc before (edit_of x ∷ []) (edits_of done)) more.1)
 
 next_same : (e : Edit) (s : Sketch) (old new : Clusters) → Follows e s old new → new.next_step ≡ old.next_step
 next_same (edit.Element x) s old new is = ap (λ (f : Clusters). f.next_step) is
@@ -160,56 +163,57 @@ constraint_before_at_most (edit.Erased x) n m le = le
 
 module _ (done : List Done) (s t : Sketch) (ne nc count : ℕ) (f g : Clusters) (k : IsConsistent done s ne nc count f) (room : count < 1000000) (g_sound : IsSound g) (fewer : length g.live ≤ length f.live + 3999) where
   -- with one more edit
-  pub consistent_made : (d : Done) → CanMake d.edit (sketch_of (edits_of done)) → Gives d.edit (edits_of done) → IsFormer d.edit s d.former → t ≡ applied d.edit s → Follows d.edit s f g
-      → IsConsistent (done ++ d ∷ []) t (element_after d.edit ne) (constraint_after d.edit nc) (count + 1) g
-  consistent_made d can given former is follows =
-      let here : CanMake d.edit s = subst (λ x. CanMake d.edit x) (sym k.sketch_is) can in
+  pub consistent_made : (d : Done) → CanMake (edit_of d) (sketch_of (edits_of done)) → Gives (edit_of d) (edits_of done) → Stood d s → t ≡ applied (edit_of d) s → Follows (edit_of d) s f g
+      → IsConsistent (done ++ d ∷ []) t (element_after (edit_of d) ne) (constraint_after (edit_of d) nc) (count + 1) g
+  consistent_made d can given stood is follows =
+      let e : Edit = edit_of d in
+      let here : CanMake e s = subst (λ x. CanMake e x) (sym k.sketch_is) can in
       let edits = edits_push done d in
       record {
-        made = made_push [] done d k.made (record { can = can; given = given; former = subst (λ x. IsFormer d.edit x d.former) k.sketch_is former });
-        sketch_is = is ∙ ap (λ x. applied d.edit x) k.sketch_is ∙ sym (sketch_push (edits_of done) d.edit) ∙ ap sketch_of (sym edits);
-        elem_is = ap (element_after d.edit) k.elem_is ∙ sym (element_push (edits_of done) d.edit given) ∙ ap next_element (sym edits);
-        con_is = ap (constraint_after d.edit) k.con_is ∙ sym (constraint_push (edits_of done) d.edit given) ∙ ap next_constraint (sym edits);
-        few_elem = after_at_most d.edit ne (count + 1) k.few_elem;
-        few_con = constraint_at_most d.edit nc (count + 1) k.few_con;
+        made = made_push [] done d k.made (record { can = can; given = given; stood = subst (λ x. Stood d x) k.sketch_is stood });
+        sketch_is = is ∙ ap (λ x. applied e x) k.sketch_is ∙ sym (sketch_push (edits_of done) e) ∙ ap sketch_of (sym edits);
+        elem_is = ap (element_after e) k.elem_is ∙ sym (element_push (edits_of done) e given) ∙ ap next_element (sym edits);
+        con_is = ap (constraint_after e) k.con_is ∙ sym (constraint_push (edits_of done) e given) ∙ ap next_constraint (sym edits);
+        few_elem = after_at_most e ne (count + 1) k.few_elem;
+        few_con = constraint_at_most e nc (count + 1) k.few_con;
         few = omega arith;
         sound = subst (λ x. IsSoundSketch x) (sym is) here.stays_sound;
         family_sound = g_sound;
-        reached = subst (λ x. IsReachedIn x g) (sym is) (follows_edit s f g k.family_sound g_sound d.edit here k.reached follows);
-        room = (let next = next_same d.edit s f g follows in let was = k.room in omega arith);
+        reached = subst (λ x. IsReachedIn x g) (sym is) (follows_edit s f g k.family_sound g_sound e here k.reached follows);
+        room = (let next = next_same e s f g follows in let was = k.room in omega arith);
       }
 
   module _ (rest : List Done) (d : Done) (done_is : done ≡ rest ++ d ∷ []) where
     -- the last edit led from the sketch before to this one
-    pub last_led : LeadsTo d.edit d.former (sketch_of (edits_of rest)) s
+    pub last_led : LeadsTo d (sketch_of (edits_of rest)) s
     last_led =
         let all = made_last [] rest d (subst (λ x. AllMade [] x) done_is k.made) in
         record {
           can = all.1.can;
-          former = all.1.former;
-          is = k.sketch_is ∙ ap (λ x. sketch_of (edits_of x)) done_is ∙ ap sketch_of (edits_push rest d) ∙ sketch_push (edits_of rest) d.edit;
+          stood = all.1.stood;
+          is = k.sketch_is ∙ ap (λ x. sketch_of (edits_of x)) done_is ∙ ap sketch_of (edits_push rest d) ∙ sketch_push (edits_of rest) (edit_of d);
         }
 
     -- without it
-    pub consistent_undone : t ≡ sketch_of (edits_of rest) → FollowsBack d.edit (sketch_of (edits_of rest)) f g
-        → IsConsistent rest t (element_before d.edit ne) (constraint_before d.edit nc) (count + 1) g
+    pub consistent_undone : t ≡ sketch_of (edits_of rest) → FollowsBack (edit_of d) (sketch_of (edits_of rest)) f g
+        → IsConsistent rest t (element_before (edit_of d) ne) (constraint_before (edit_of d) nc) (count + 1) g
     consistent_undone is follows =
         let all = made_last [] rest d (subst (λ x. AllMade [] x) done_is k.made) in
         let led = last_led in
-        let edits : edits_of done ≡ edits_of rest ++ d.edit ∷ [] = ap edits_of done_is ∙ edits_push rest d in
+        let edits : edits_of done ≡ edits_of rest ++ edit_of d ∷ [] = ap edits_of done_is ∙ edits_push rest d in
         record {
           made = all.0;
           sketch_is = is;
-          elem_is = ap (element_before d.edit) (k.elem_is ∙ ap next_element edits ∙ element_push (edits_of rest) d.edit all.1.given) ∙ element_there_and_back d.edit (next_element (edits_of rest));
-          con_is = ap (constraint_before d.edit) (k.con_is ∙ ap next_constraint edits ∙ constraint_push (edits_of rest) d.edit all.1.given) ∙ constraint_there_and_back d.edit (next_constraint (edits_of rest));
-          few_elem = (let less = before_at_most d.edit ne (count + 1) k.few_elem in omega arith);
-          few_con = (let less = constraint_before_at_most d.edit nc (count + 1) k.few_con in omega arith);
+          elem_is = ap (element_before (edit_of d)) (k.elem_is ∙ ap next_element edits ∙ element_push (edits_of rest) (edit_of d) all.1.given) ∙ element_there_and_back (edit_of d) (next_element (edits_of rest));
+          con_is = ap (constraint_before (edit_of d)) (k.con_is ∙ ap next_constraint edits ∙ constraint_push (edits_of rest) (edit_of d) all.1.given) ∙ constraint_there_and_back (edit_of d) (next_constraint (edits_of rest));
+          few_elem = (let less = before_at_most (edit_of d) ne (count + 1) k.few_elem in omega arith);
+          few_con = (let less = constraint_before_at_most (edit_of d) nc (count + 1) k.few_con in omega arith);
           few = omega arith;
           sound = subst (λ x. IsSoundSketch x) (sym is) led.can.sound;
           family_sound = g_sound;
           reached = subst (λ x. IsReachedIn x g) (sym is)
-              (follows_undo (sketch_of (edits_of rest)) f g k.family_sound g_sound d.edit led.can (subst (λ x. IsReachedIn x f) led.is k.reached) follows);
-          room = (let next = next_same_back d.edit (sketch_of (edits_of rest)) f g follows in let was = k.room in omega arith);
+              (follows_undo (sketch_of (edits_of rest)) f g k.family_sound g_sound (edit_of d) led.can (subst (λ x. IsReachedIn x f) led.is k.reached) follows);
+          room = (let next = next_same_back (edit_of d) (sketch_of (edits_of rest)) f g follows in let was = k.room in omega arith);
         }
 
 -- merges of the kept family leave all else
@@ -235,3 +239,15 @@ last_split [] n x size is = absurd (omega arith)
 last_split (y ∷ []) zero x size is = ap (λ z. z ∷ []) is
 last_split (y ∷ z ∷ xs) zero x size is = absurd (omega arith)
 last_split (y ∷ xs) (suc n) x size is = ap (λ zs. y ∷ zs) (last_split xs n x (omega arith) is)
+
+-- the last item is the one that was put there
+pub last_is : {X : Type 0} (xs ys : List X) (n : ℕ) (d x : X) → n ≡ length xs → ys ≡ xs ++ d ∷ [] → x ≡ get_or ys n x → x ≡ d
+last_is {X} xs ys n d x n_is ys_is is =
+    is ∙ ap (λ (zs : List X). get_or zs n x) ys_is ∙ ap (λ m. get_or (xs ++ d ∷ []) m x) n_is ∙ get_or-append_seam xs d [] x
+
+-- without it the others are left
+pub others_left : {X : Type 0} (xs ys : List X) (n : ℕ) (d : X) → n ≡ length xs → ys ≡ xs ++ d ∷ [] → remove ys n ≡ xs
+others_left {X} xs ys n d n_is ys_is =
+    let none : n - n ≡ 0 = omega arith in
+    ap (λ (zs : List X). remove zs n) ys_is ∙ remove-append_right xs (d ∷ []) n n (sym n_is) (omega arith)
+    ∙ ap (λ k. xs ++ remove (d ∷ []) k) none ∙ append-nil xs

@@ -1,18 +1,19 @@
 -- Only lines with a code are refused.
 use Rattle.std.proofs.Common.{◌≡◌, ◌≢◌, inl, inr, ℕ, List, [], ◌∷◌, Option, Some, None, ap, sym, ◌∙◌}
 use Rattle.std.specs.Prelude.{◌↔◌}
-use Rattle.sk_lines.specs.declared.Version.TheVariants.{Two}
+use Rattle.sk_entry.specs.declared.Entry.TheVariants as entry
+use Rattle.sk_edits.specs.declared.Command.{Command}
+use Rattle.sk_edits.specs.declared.Command.TheVariants.{Change, Undo, Check, Plan, Solve, Write, End}
+use Rattle.sk_edits.specs.declared.Edit.{Edit}
+use Rattle.sk_entry.specs.Entry.{IsEntryOf}
+use Rattle.sk_entry.specs.declared.Entry.{Entry}
 use Rattle.sk_lines.specs.Comments.{words_under}
 use Rattle.sk_lines.specs.declared.Code.{Code}
-use Rattle.sk_entry.specs.declared.Entry.{Entry}
-use Rattle.sk_entry.specs.declared.Entry.TheVariants as entry
-use Rattle.sk_entry.specs.Entry.{IsEntryOf}
-use Rattle.sk_session.specs.declared.command.Command.{Command}
-use Rattle.sk_session.specs.declared.command.Command.TheVariants.{Change, Undo, Check, Plan, Solve, Write, End}
-use Rattle.sk_session.specs.declared.edit.Edit.{Edit}
+use Rattle.sk_lines.specs.declared.Version.TheVariants.{Two}
 use Rattle.sk_session.specs.declared.reply.Reply.{Reply}
 use Rattle.sk_session.specs.declared.reply.Reply.TheVariants as reply
-use Rattle.sk_session.specs.Commands.{command_of, edit_made, code_in}
+use Rattle.sk_edits.specs.Commands.{command_of, edit_made}
+use Rattle.sk_session.specs.LineCodes.{code_in}
 use Rattle.sk_session.specs.State.{State, sketch_in}
 use Rattle.sk_session.specs.Replies.{Stands, Obeys, Enters, ByCode, Answers, next_elem, next_con}
 

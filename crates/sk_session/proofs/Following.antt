@@ -10,11 +10,12 @@ use Rattle.sk_family.specs.Starts.{IsDissolved}
 use Rattle.sk_rules.specs.Keeping.{HasAllBut}
 use Rattle.sk_rules.proofs.KeptClusters.{adopted, dissolved, unchanged}
 use Rattle.sk_graph.specs.SketchGraph.{graph_of}
-use Rattle.sk_session.specs.declared.edit.Edit.{Edit}
-use Rattle.sk_session.specs.declared.edit.Edit.TheVariants as edit
-use Rattle.sk_session.specs.Edits.{applied}
+use Rattle.sk_edits.specs.declared.Edit.{Edit}
+use Rattle.sk_edits.specs.declared.Edit.TheVariants as edit
+use Rattle.sk_edits.specs.Edits.{applied}
 use Rattle.sk_plan.specs.ConstraintStarts.{constraint_start}
-use Rattle.sk_session.specs.Making.{CanMake, Follows, FollowsBack, IsReachedIn}
+use Rattle.sk_edits.specs.Making.{CanMake}
+use Rattle.sk_session.specs.Following.{Follows, FollowsBack, IsReachedIn}
 use Rattle.sk_session.proofs.Graphs.{kinds_on, kinds_back, one_more, all_but, all_but_new, one_more_dropped, starts_same_element, starts_same_length, starts_same_ratio, starts_same_erased}
 use Rattle.sk_plan.proofs.Starts.{rises}
 

@@ -25,11 +25,11 @@ use Rattle.sk_rules.specs.Rules.{IsLine}
 use Rattle.sk_rules.specs.Keeping.{HasOneMore, HasAllBut, KeepsKinds}
 use Rattle.sk_graph.specs.Naming.{named_by}
 use Rattle.sk_graph.specs.SketchGraph.{node_of, graph_of}
-use Rattle.sk_session.specs.declared.edit.Edit.{Edit}
-use Rattle.sk_session.specs.declared.edit.Edit.TheVariants as edit
-use Rattle.sk_session.specs.Edits.{applied, changed, with_length, with_ratio}
+use Rattle.sk_edits.specs.declared.Edit.{Edit}
+use Rattle.sk_edits.specs.declared.Edit.TheVariants as edit
+use Rattle.sk_edits.specs.Edits.{applied, changed, with_length, with_ratio}
 use Rattle.sk_plan.specs.ConstraintStarts.{constraint_start}
-use Rattle.sk_session.specs.Making.{CanMake}
+use Rattle.sk_edits.specs.Making.{CanMake}
 use Rattle.sk_graph.proofs.Drawing.{named_in}
 use Rattle.sk_plan.proofs.Starts.{rises, starts_are, start_there, start_of_some}
 

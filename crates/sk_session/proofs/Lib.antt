@@ -1,15 +1,10 @@
-pub mod Places
-pub mod Drawing
 pub mod Graphs
 pub mod Following
 pub mod Owners
-pub mod Setting
 pub mod Undoing
 pub mod Closings
 pub mod Consistency
-pub mod Numbers
 pub mod Coding
-pub mod Possible
 pub mod Exactly
 pub mod OneReply
 pub mod ToSolve

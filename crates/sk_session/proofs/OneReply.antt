@@ -34,13 +34,14 @@ use Rattle.sk_tree.specs.LegalPlan.{IsLegalPlan, merge_told}
 use Rattle.sk_tree.specs.DrawnChoice.{HasDrawnChoice}
 use Rattle.sk_plan.specs.Judged.{IsTheJudgement}
 use Rattle.sk_session.specs.declared.closing.Closing.{Closing}
-use Rattle.sk_session.specs.declared.command.Command.{Command}
-use Rattle.sk_session.specs.declared.command.Command.TheVariants as command
-use Rattle.sk_session.specs.declared.edit.Edit.{Edit}
-use Rattle.sk_session.specs.declared.edit.Edit.TheVariants as edit
+use Rattle.sk_edits.specs.declared.Command.{Command}
+use Rattle.sk_edits.specs.declared.Command.TheVariants as command
+use Rattle.sk_edits.specs.declared.Edit.{Edit}
+use Rattle.sk_edits.specs.declared.Edit.TheVariants as edit
 use Rattle.sk_session.specs.declared.reply.Reply.{Reply}
 use Rattle.sk_session.specs.declared.reply.Reply.TheVariants as reply
-use Rattle.sk_session.specs.Commands.{command_of, command_rows, own_rows, word_rows, edit_made, code_in}
+use Rattle.sk_edits.specs.Commands.{command_of, edit_made}
+use Rattle.sk_session.specs.LineCodes.{command_rows, own_rows, word_rows, code_in}
 use Rattle.sk_session.specs.State.{State, sketch_in, fresh, IsSameElse}
 use Rattle.sk_session.specs.Replies.{IsThePlan, Plans, Only, Stands, Obeys, ObeysWords, Enters, ByCode, Answers, next_elem, next_con}
 

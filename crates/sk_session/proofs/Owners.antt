@@ -16,7 +16,8 @@ use Rattle.sk_rules.proofs.KeptClusters.{owner_lives, owned_is_constraint, owned
 use Rattle.sk_graph.specs.SketchGraph.{graph_of}
 use Rattle.sk_graph.proofs.Soundness.{graph_is_sound}
 use Rattle.sk_plan.specs.ConstraintStarts.{constraint_start}
-use Rattle.sk_session.specs.Making.{HasConstraint, IsReachedIn}
+use Rattle.sk_edits.specs.Making.{HasConstraint}
+use Rattle.sk_session.specs.Following.{IsReachedIn}
 use Rattle.sk_plan.proofs.Starts.{rises, start_there, start_of_some}
 
 module _ (s : Sketch) (sound : IsSoundSketch s) (f : Clusters) (f_sound : IsSound f) (reach : IsReachedIn s f) where

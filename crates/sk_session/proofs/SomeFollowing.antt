@@ -1,5 +1,5 @@
 -- A kept family can follow each edit that can be made, and its undoing.
-use Rattle.std.proofs.Common.{◌≡◌, ◌≢◌, inl, inr, refl, ℕ, suc, ◌+◌, ◌≤◌, ◌<◌, List, [], ◌∷◌, length, take, drop, sym, subst, arith}
+use Rattle.std.proofs.Common.{◌≡◌, ◌≢◌, inl, inr, refl, ℕ, suc, ◌+◌, ◌≤◌, ◌<◌, List, [], ◌∷◌, length, take, drop, ap, sym, subst, arith}
 use Rattle.std.specs.Prelude.{Contains, AllPairs}
 use Rattle.std.specs.List.{insert}
 use Rattle.std.specs.List.Sorted.{IsPermutation}
@@ -31,13 +31,14 @@ use Rattle.sk_graph.specs.Naming.{named_by}
 use Rattle.sk_graph.specs.SketchGraph.{graph_of}
 use Rattle.sk_rules.proofs.KeptClusters.{owned_is_constraint}
 use Rattle.sk_worklist.proofs.OneRun.{below_tells}
-use Rattle.sk_session.specs.declared.edit.Edit.{Edit}
-use Rattle.sk_session.specs.declared.edit.Edit.TheVariants as edit
-use Rattle.sk_session.specs.declared.edit.Former.{Former}
-use Rattle.sk_session.specs.declared.edit.Former.TheVariants as former
-use Rattle.sk_session.specs.Former.{IsFormer, LeadsTo}
+use Rattle.sk_edits.specs.declared.Edit.{Edit}
+use Rattle.sk_edits.specs.declared.Edit.TheVariants as edit
+use Rattle.sk_session.specs.declared.done.Done.{Done}
+use Rattle.sk_session.specs.declared.done.Done.TheVariants as past
+use Rattle.sk_session.specs.Past.{edit_of, Stood, LeadsTo}
 use Rattle.sk_plan.specs.ConstraintStarts.{constraint_start}
-use Rattle.sk_session.specs.Making.{CanMake, HasConstraint, DissolvesOwner, Follows, FollowsBack, IsReachedIn}
+use Rattle.sk_edits.specs.Making.{CanMake, HasConstraint}
+use Rattle.sk_session.specs.Following.{DissolvesOwner, Follows, FollowsBack, IsReachedIn}
 use Rattle.sk_plan.proofs.Starts.{rises}
 use Rattle.sk_session.proofs.Owners.{free_number, owner_of, few_owned}
 use Rattle.sk_session.proofs.Undoing.{owner_back, none_dropped, start_back}
@@ -168,26 +169,25 @@ pub record HasFollowedBack (e : Edit) (s : Sketch) (old : Clusters) : Type 0 whe
   pub few : length new.live ≤ length old.live + 3999
 
 module _ (b a : Sketch) (a_sound : IsSoundSketch a) (f : Clusters) (sound : IsSound f) (reach : IsReachedIn a f) (room : length f.live ≤ 4294963297) where
-  pub followed_back : (e : Edit) (was : Former) → LeadsTo e was b a → HasFollowedBack e b f
-  followed_back (edit.Element x) was led = record { new = f; follows = refl; sound = sound; few = omega arith }
-  followed_back (edit.Constraint c) was led =
+  pub followed_back : (d : Done) → LeadsTo d b a → HasFollowedBack (edit_of d) b f
+  followed_back (past.Element x) led = record { new = f; follows = refl; sound = sound; few = omega arith }
+  followed_back (past.Constraint c) led =
       let there : HasConstraint a c.number = subst (λ (s : Sketch). HasConstraint s c.number) (sym led.is) (c, Contains-push b.constraints c, refl) in
       let found = dissolves a a_sound f sound reach c.number there room in
-      record { new = found.0; follows = owner_back b a c was led f found.0 found.1; sound = found.2.sound; few = found.2.few }
-  followed_back (edit.Dropped k) (former.Constraint c) led =
-      let free = free_number a a_sound f sound reach c.number (λ x x_in. none_dropped b a k c led x x_in) in
+      record { new = found.0; follows = owner_back b a c led f found.0 found.1; sound = found.2.sound; few = found.2.few }
+  followed_back (past.Dropped c) led =
+      let free = free_number a a_sound f sound reach c.number (λ x x_in. none_dropped b a c led x x_in) in
       let found = started f sound (constraint_start c) (start_rises c) free room in
-      record { new = found.0; follows = start_back b a k c led f found.0 found.1; sound = found.2.sound; few = found.2.few }
-  followed_back (edit.Dropped k) was led = absurd led.former
-  followed_back (edit.Length k len) was led = record { new = f; follows = refl; sound = sound; few = omega arith }
-  followed_back (edit.Turned k ratio) was led = record { new = f; follows = refl; sound = sound; few = omega arith }
-  followed_back (edit.Erased x) was led = record { new = f; follows = refl; sound = sound; few = omega arith }
+      record { new = found.0; follows = start_back b a c led f found.0 found.1; sound = found.2.sound; few = found.2.few }
+  followed_back (past.Length len c) led = record { new = f; follows = refl; sound = sound; few = omega arith }
+  followed_back (past.Turned ratio c) led = record { new = f; follows = refl; sound = sound; few = omega arith }
+  followed_back (past.Erased e) led = record { new = f; follows = refl; sound = sound; few = omega arith }
 
--- what stood before an edit that can be made
-pub some_former : (e : Edit) (s : Sketch) → CanMake e s → (f : Former) × IsFormer e s f
-some_former (edit.Element x) s can = (former.Nothing, refl)
-some_former (edit.Constraint c) s can = (former.Nothing, refl)
-some_former (edit.Dropped k) s can = (former.Constraint can.possible.0, (can.possible.1, can.possible.2))
-some_former (edit.Length k len) s can = (former.Constraint can.possible.1.0, (can.possible.1.1, can.possible.1.2))
-some_former (edit.Turned k ratio) s can = (former.Constraint can.possible.1.0, (can.possible.1.1, can.possible.1.2))
-some_former (edit.Erased x) s can = (former.Element can.possible.0.0, (can.possible.0.1, can.possible.0.2))
+-- an edit that can be made, with what it takes away or changes
+pub some_done : (e : Edit) (s : Sketch) → CanMake e s → (d : Done) × (edit_of d ≡ e) × Stood d s
+some_done (edit.Element x) s can = (past.Element x, refl, tt)
+some_done (edit.Constraint c) s can = (past.Constraint c, refl, tt)
+some_done (edit.Dropped k) s can = (past.Dropped can.possible.0, ap edit.Dropped can.possible.2, can.possible.1)
+some_done (edit.Length k len) s can = (past.Length len can.possible.1.0, ap (λ (n : ConId). edit.Length n len) can.possible.1.2, can.possible.1.1)
+some_done (edit.Turned k ratio) s can = (past.Turned ratio can.possible.1.0, ap (λ (n : ConId). edit.Turned n ratio) can.possible.1.2, can.possible.1.1)
+some_done (edit.Erased x) s can = (past.Erased can.possible.0.0, ap edit.Erased can.possible.0.2, can.possible.0.1)

@@ -47,32 +47,34 @@ use Rattle.sk_verdict.specs.declared.Verdict.TheVariants.{Well, Over, Several}
 use Rattle.sk_plan.specs.Judged.{IsTheJudgement}
 use Rattle.sk_session.specs.declared.closing.Closing.{Closing}
 use Rattle.sk_session.specs.declared.closing.Closing.TheVariants.{ByRun, InAnyOrder}
-use Rattle.sk_session.specs.declared.command.Command.{Command}
-use Rattle.sk_session.specs.declared.command.Command.TheVariants as command
-use Rattle.sk_session.specs.declared.command.Change.{Change as Changing}
-use Rattle.sk_session.specs.declared.edit.Done.{Done}
-use Rattle.sk_session.specs.declared.edit.Edit.{Edit}
-use Rattle.sk_session.specs.declared.edit.Edit.TheVariants as edit
+use Rattle.sk_edits.specs.declared.Command.{Command}
+use Rattle.sk_edits.specs.declared.Command.TheVariants as command
+use Rattle.sk_edits.specs.declared.Change.{Change as Changing}
+use Rattle.sk_session.specs.declared.done.Done.{Done}
+use Rattle.sk_edits.specs.declared.Edit.{Edit}
+use Rattle.sk_edits.specs.declared.Edit.TheVariants as edit
 use Rattle.sk_session.specs.declared.reply.Reply.{Reply}
 use Rattle.sk_session.specs.declared.reply.Reply.TheVariants as reply
 use Rattle.sk_base.specs.declared.Rule.{Rule}
 use Rattle.sk_base.specs.declared.Rule.TheVariants as rule
+use Rattle.sk_edits.specs.Commands.{id_of, rule_with, setting, command_of, edit_made, change_rows}
+use Rattle.sk_edits.specs.Edits.{empty, applied, sketch_of, next_element, next_constraint}
+use Rattle.sk_edits.specs.Making.{CanMake}
+use Rattle.sk_edits.specs.declared.Change.TheVariants.{Drop, Set, Erase}
 use Rattle.sk_entry.specs.Named.{number_named}
 use Rattle.sk_lines.specs.Quantities.{um, ratio}
-use Rattle.sk_session.specs.declared.command.Change.TheVariants.{Drop, Set, Erase}
-use Rattle.sk_session.specs.Commands.{id_of, rule_with, setting, command_of, edit_made, change_rows, command_rows, word_rows, code_in, is_spent}
-use Rattle.sk_session.specs.Edits.{empty, applied, sketch_of, next_element, next_constraint}
-use Rattle.sk_session.specs.Making.{CanMake}
-use Rattle.sk_session.specs.Standing.{edits_of, Gives, IsConsistent, element_after, element_before}
+use Rattle.sk_session.specs.LineCodes.{command_rows, word_rows, code_in, is_spent}
+use Rattle.sk_session.specs.Past.{edit_of, edits_of, Stood}
+use Rattle.sk_session.specs.Standing.{Gives, IsConsistent, element_after, element_before}
 use Rattle.sk_session.specs.State.{State, sketch_in, graph_in, fresh, Accepts, TakesBack, EndsBy, Closes}
 use Rattle.sk_session.specs.Replies.{IsThePlan, Stands, Takes, Obeys, Enters, ByCode, Answers, next_elem, next_con}
 use Rattle.sk_lines.proofs.FirstCodes.{code_front, code_behind}
 use Rattle.sk_session.proofs.Coding.{answers_entry, answers_command, answers_refused}
 use Rattle.sk_session.proofs.Consistency.{edits_push, consistent_made, consistent_undone, consistent_merged, last_led}
-use Rattle.sk_session.proofs.Numbers.{elements_below, constraints_below}
-use Rattle.sk_session.proofs.Possible.{SoundQuantities, sound_value, can_declare, can_constrain, can_change}
+use Rattle.sk_edits.proofs.Numbers.{elements_below, constraints_below}
+use Rattle.sk_edits.proofs.Possible.{SoundQuantities, sound_value, can_declare, can_constrain, can_change}
 use Rattle.sk_session.proofs.ToSolve.{EachStandsOn, some_left}
-use Rattle.sk_session.proofs.SomeFollowing.{followed, followed_back, some_former}
+use Rattle.sk_session.proofs.SomeFollowing.{followed, followed_back, some_done}
 
 -- what a session keeps to stands for the state
 abbrev pub IsKept : State → Type 0
@@ -103,17 +105,16 @@ record HasAccepted (old : State) (e : Edit) : Type 0 where
   accepts : Accepts old e new
   kept : IsKept new
 
-accepted : (old : State) → IsKept old → old.count < 1000000 → (e : Edit) → CanMake e (sketch_in old) → Gives e old.edits → HasAccepted old e
-accepted old (done, same, k) room e can given =
+accepted_done : (old : State) → IsKept old → old.count < 1000000 → (d : Done) → CanMake (edit_of d) (sketch_in old) → Gives (edit_of d) old.edits → Stood d (sketch_in old) → HasAccepted old (edit_of d)
+accepted_done old (done, same, k) room d can given stood =
+    let e : Edit = edit_of d in
     let few = k.room in
     let next = followed e (sketch_in old) can old.family k.family_sound k.reached (omega arith) in
-    let was = some_former e (sketch_in old) can in
-    let d : Done = record { edit = e; former = was.0 } in
     let new : State = record { order = old.order; closing = old.closing; edits = old.edits ++ e ∷ []; count = old.count + 1; family = next.new } in
     let pushed : sketch_in new ≡ applied e (sketch_in old) = fold-append (λ s x. applied x s) empty old.edits (e ∷ []) in
     let edits : edits_of (done ++ d ∷ []) ≡ new.edits = edits_push done d ∙ ap (λ es. es ++ e ∷ []) same in
     let made = consistent_made done (sketch_in old) (sketch_in new) (next_element old.edits) (next_constraint old.edits) old.count old.family next.new k room next.sound next.few d
-    (subst (λ es. CanMake e (sketch_of es)) (sym same) can) (subst (λ es. Gives e es) (sym same) given) was.1 pushed next.follows in
+    (subst (λ es. CanMake e (sketch_of es)) (sym same) can) (subst (λ es. Gives e es) (sym same) given) stood pushed next.follows in
     let elem = made.elem_is ∙ ap next_element edits in
     let con = made.con_is ∙ ap next_constraint edits in
     record {
@@ -126,6 +127,12 @@ accepted old (done, same, k) room e can given =
             (subst (λ n. IsConsistent (done ++ d ∷ []) (sketch_in new) (element_after e (next_element old.edits)) n new.count new.family) con made),
       );
     }
+
+accepted : (old : State) → IsKept old → old.count < 1000000 → (e : Edit) → CanMake e (sketch_in old) → Gives e old.edits → HasAccepted old e
+accepted old kept room e can given =
+    let (d, is, stood) = some_done e (sketch_in old) can in
+    subst (λ (x : Edit). HasAccepted old x) is
+    (accepted_done old kept room d (subst (λ (x : Edit). CanMake x (sketch_in old)) (sym is) can) (subst (λ (x : Edit). Gives x old.edits) (sym is) given) stood)
 
 record HasTakenBack (old : State) : Type 0 where
   new : State
@@ -141,17 +148,17 @@ taken_back old (done, same, k) room some =
           let ne = next_element old.edits in
           let nc = next_constraint old.edits in
           let led = last_led done (sketch_in old) (sketch_of (edits_of rest)) ne nc old.count old.family old.family k room k.family_sound (omega arith) rest d done_is in
-          let next = followed_back (sketch_of (edits_of rest)) (sketch_in old) k.sound old.family k.family_sound k.reached (omega arith) d.edit d.former led in
+          let next = followed_back (sketch_of (edits_of rest)) (sketch_in old) k.sound old.family k.family_sound k.reached (omega arith) d led in
           let new : State = record { order = old.order; closing = old.closing; edits = edits_of rest; count = old.count + 1; family = next.new } in
           let undone = consistent_undone done (sketch_in old) (sketch_in new) ne nc old.count old.family next.new k room next.sound next.few rest d done_is refl next.follows in
           record {
             new = new;
-            takes = record { last = d.edit; order = refl; closing = refl; edits = sym same ∙ ap edits_of done_is ∙ edits_push rest d; count = refl; family = next.follows };
+            takes = record { last = edit_of d; order = refl; closing = refl; edits = sym same ∙ ap edits_of done_is ∙ edits_push rest d; count = refl; family = next.follows };
             kept = (
               rest,
               refl,
               subst (λ n. IsConsistent rest (sketch_in new) n (next_constraint new.edits) new.count new.family) undone.elem_is
-                  (subst (λ n. IsConsistent rest (sketch_in new) (element_before d.edit ne) n new.count new.family) undone.con_is undone),
+                  (subst (λ n. IsConsistent rest (sketch_in new) (element_before (edit_of d) ne) n new.count new.family) undone.con_is undone),
             );
           })
     ]

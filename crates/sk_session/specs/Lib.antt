@@ -1,9 +1,7 @@
-pub mod Changes
-pub mod Edits
-pub mod Making
 pub mod Origins
-pub mod Former
+pub mod Following
+pub mod Past
 pub mod Standing
 pub mod State
-pub mod Commands
+pub mod LineCodes
 pub mod Replies

@@ -23,12 +23,13 @@ use Rattle.sk_tree.specs.DrawnChoice.{HasDrawnChoice}
 use Rattle.sk_plan.specs.Judged.{IsTheJudgement, IsWell}
 use Rattle.sk_session.specs.declared.reply.Reply.{Reply}
 use Rattle.sk_session.specs.declared.reply.Reply.TheVariants as reply
-use Rattle.sk_session.specs.declared.command.Command.{Command}
-use Rattle.sk_session.specs.declared.command.Command.TheVariants as command
-use Rattle.sk_session.specs.declared.edit.Edit.{Edit}
-use Rattle.sk_session.specs.declared.edit.Edit.TheVariants as edit
-use Rattle.sk_session.specs.Edits.{next_element, next_constraint}
-use Rattle.sk_session.specs.Commands.{command_of, edit_made, code_in}
+use Rattle.sk_edits.specs.declared.Command.{Command}
+use Rattle.sk_edits.specs.declared.Command.TheVariants as command
+use Rattle.sk_edits.specs.declared.Edit.{Edit}
+use Rattle.sk_edits.specs.declared.Edit.TheVariants as edit
+use Rattle.sk_edits.specs.Edits.{next_element, next_constraint}
+use Rattle.sk_edits.specs.Commands.{command_of, edit_made}
+use Rattle.sk_session.specs.LineCodes.{code_in}
 use Rattle.sk_session.specs.State.{State, sketch_in, graph_in, fresh, Accepts, TakesBack, Closes, IsHeldUp}
 
 -- the plan of the run, from the initial family, of a fresh picker of the order

@@ -1,20 +1,15 @@
 -- What a session keeps beside the edits that stand.
-use Rattle.std.specs.Prelude.{◌≡◌, ℕ, ◌+◌, ◌-◌, ◌*◌, ◌≤◌, List, [], ◌∷◌, ◌++◌, map, length}
+use Rattle.std.specs.Prelude.{◌≡◌, ℕ, ◌+◌, ◌-◌, ◌*◌, ◌≤◌, List, [], ◌∷◌, ◌++◌, length}
 use Rattle.sk_base.specs.declared.Sketch.{Sketch}
 use Rattle.sk_base.specs.SoundSketch.{IsSoundSketch}
 use Rattle.sk_family.specs.Clusters.{Clusters, IsSound}
-use Rattle.sk_session.specs.declared.edit.Edit.{Edit}
-use Rattle.sk_session.specs.declared.edit.Edit.TheVariants as edit
-use Rattle.sk_session.specs.declared.edit.Done.{Done}
-use Rattle.sk_session.specs.Edits.{sketch_of, next_element, next_constraint}
-use Rattle.sk_session.specs.Former.{IsFormer}
-use Rattle.sk_session.specs.Making.{CanMake, IsReachedIn}
-
-abbrev pub edit_of : Done → Edit
-edit_of d = d.edit
-
-abbrev pub edits_of : List Done → List Edit
-edits_of done = map edit_of done
+use Rattle.sk_edits.specs.declared.Edit.{Edit}
+use Rattle.sk_edits.specs.declared.Edit.TheVariants as edit
+use Rattle.sk_session.specs.declared.done.Done.{Done}
+use Rattle.sk_edits.specs.Edits.{sketch_of, next_element, next_constraint}
+use Rattle.sk_session.specs.Past.{edit_of, edits_of, Stood}
+use Rattle.sk_edits.specs.Making.{CanMake}
+use Rattle.sk_session.specs.Following.{IsReachedIn}
 
 -- a new number is the next one
 abbrev pub Gives : Edit → List Edit → Type 0
@@ -42,14 +37,14 @@ constraint_before _ n = n
 
 -- the edit could be made behind those before it, and what stood before is kept
 pub record IsMade (before : List Edit) (d : Done) : Type 0 where
-  pub can : CanMake d.edit (sketch_of before)
-  pub given : Gives d.edit before
-  pub former : IsFormer d.edit (sketch_of before) d.former
+  pub can : CanMake (edit_of d) (sketch_of before)
+  pub given : Gives (edit_of d) before
+  pub stood : Stood d (sketch_of before)
 
 -- each of them
 abbrev pub AllMade : List Edit → List Done → Type 0
 AllMade before [] = Unit {0}
-AllMade before (d ∷ ds) = IsMade before d × AllMade (before ++ d.edit ∷ []) ds
+AllMade before (d ∷ ds) = IsMade before d × AllMade (before ++ edit_of d ∷ []) ds
 
 -- the sketch, the next numbers and the kept family are those of the standing edits
 pub record IsConsistent (done : List Done) (sketch : Sketch) (next_elem next_con count : ℕ) (family : Clusters) : Type 0 where

@@ -11,9 +11,9 @@ use Rattle.sk_worklist.specs.Orders.{Choosing, place_of, next_call}
 use Rattle.sk_worklist.specs.Run.{IsRun, IsOnTheWay}
 use Rattle.sk_session.specs.declared.closing.Closing.{Closing}
 use Rattle.sk_session.specs.declared.closing.Closing.TheVariants.{ByRun, InAnyOrder}
-use Rattle.sk_session.specs.declared.edit.Edit.{Edit}
-use Rattle.sk_session.specs.Edits.{sketch_of}
-use Rattle.sk_session.specs.Making.{Follows, FollowsBack}
+use Rattle.sk_edits.specs.declared.Edit.{Edit}
+use Rattle.sk_edits.specs.Edits.{sketch_of}
+use Rattle.sk_session.specs.Following.{Follows, FollowsBack}
 
 -- the order of merges, how checks close the kept family, the edits that stand, how many edits and undos were accepted,
 -- and the kept family

@@ -8,21 +8,18 @@ ghost use Rattle.sk_family.specs.declared.Cluster.{Cluster as ACluster};
 ghost use Rattle.sk_family.specs.Clusters.{IsSound, IsNamed};
 ghost use Rattle.sk_family.specs.Starts.{HasStart};
 ghost use Rattle.sk_graph.specs.SketchGraph.{graph_of};
-ghost use Rattle.sk_session.specs.Changes.{HasItem};
-ghost use Rattle.sk_session.specs.Edits.{applied, constraint_number, with_length, with_ratio};
-ghost use Rattle.sk_session.specs.Former.{IsFormer, LeadsTo};
+ghost use Rattle.sk_edits.specs.Changes.{HasItem};
+ghost use Rattle.sk_edits.specs.Edits.{applied, constraint_number, with_length, with_ratio};
+ghost use Rattle.sk_session.specs.Past.{edit_of, Stood, LeadsTo};
 ghost use Rattle.sk_plan.specs.ConstraintStarts.{constraint_start};
-ghost use Rattle.sk_session.specs.Making.{CanMake, Follows, FollowsBack, DissolvesOwner, HasConstraint, IsReachedIn};
-ghost use Rattle.sk_session.specs.declared.edit.Edit.TheVariants as an_edit;
-ghost use Rattle.sk_session.specs.declared.edit.Former.TheVariants as a_former;
-ghost use Rattle.sk_base.specs.declared.Element.{Element as AnElement};
+ghost use Rattle.sk_edits.specs.Making.{CanMake, HasConstraint};
+ghost use Rattle.sk_session.specs.Following.{Follows, FollowsBack, DissolvesOwner, IsReachedIn};
+ghost use Rattle.sk_edits.specs.declared.Edit.TheVariants as an_edit;
 
-use crate::edit::{Edit, Former};
-use crate::numbered::{exchange, get, put, take};
+use crate::done::Done;
 use crate::origin::{adopt, origin_of};
-use sk_base::{
-    ConId, Constraint, Element, Name, NoMemory, Ratio, Rule, Sketch, Um, copy_constraint,
-};
+use sk_base::{ConId, Constraint, Name, NoMemory, Ratio, Rule, Sketch, Um, copy_constraint};
+use sk_edits::{exchange, put, take};
 use sk_family::{Cluster, Family};
 use sk_graph::reduce;
 use std::alloc::Global;
@@ -68,13 +65,12 @@ pub(crate) fn remove_constraint(
     sketch: &mut Sketch,
     family: &mut Family,
     number: ConId,
-) -> Result<Constraint, NoMemory>
+) -> Result<(), NoMemory>
     requires sound { IsSoundSketch sketch.old }
     requires some { HasConstraint sketch.old number }
     requires reached { IsReachedIn sketch.old family.old }
     requires room { length family.old.live ≤ 4294963297 }
     requires named { IsSound family.old }
-    ensures taken { IfOk result (λ c. Contains sketch.old.constraints c × (c.number ≡ number)) }
     ensures ok { OnOk result (sketch.new ≡ applied (an_edit.Dropped number) sketch.old) }
     ensures dissolves { OnOk result (DissolvesOwner (graph_of sketch.old) number family.old family.new) }
     ensures count { OnOk result (length family.new.live + 1 ≤ length family.old.live + 4000) }
@@ -85,7 +81,8 @@ pub(crate) fn remove_constraint(
     let graph = reduce(alloc, sketch)?;
     let name = owner(family, number);
     family.dissolve(name, number, &graph)?;
-    Ok(take(&mut sketch.constraints, number.0))
+    take(&mut sketch.constraints, number.0);
+    Ok(())
 }
 
 /// The name of the cluster that owns the constraint.
@@ -119,42 +116,35 @@ fn owns(cluster: &Cluster, number: ConId) -> bool
     cluster.owned.as_slice().contains(&number)
 }
 
-/// Gives a distance a new length, and answers the constraint as it was. After `NoMemory` the sketch is
-/// unchanged.
-fn set_length(
-    alloc: Global,
-    sketch: &mut Sketch,
-    number: ConId,
-    len: Um,
-) -> Result<Constraint, NoMemory>
+/// Gives a distance a new length. After `NoMemory` the sketch is unchanged.
+fn set_length(alloc: Global, sketch: &mut Sketch, old: &Constraint, len: Um) -> Result<(), NoMemory>
     requires sound { IsSoundSketch sketch.old }
-    requires some { HasConstraint sketch.old number }
-    ensures former { IfOk result (λ former. Contains sketch.old.constraints former × (former.number ≡ number)) }
-    ensures ok { OnOk result (sketch.new ≡ applied (an_edit.Length number len) sketch.old) }
+    requires there { Contains sketch.old.constraints old.now }
+    ensures ok { OnOk result (sketch.new ≡ applied (an_edit.Length old.now.number len) sketch.old) }
     ensures err { OnErr result (sketch.new ≡ sketch.old) }
 {
-    let old = copy_constraint(alloc, get(sketch.constraints.as_slice(), number.0))?;
-    let rule = with_length(old.rule, len);
-    Ok(exchange(&mut sketch.constraints, Constraint { number, rule }))
+    let number = old.number;
+    let rule = with_length(copy_constraint(alloc, old)?.rule, len);
+    exchange(&mut sketch.constraints, Constraint { number, rule });
+    Ok(())
 }
 
-/// Gives an angle a new ratio, and answers the constraint as it was. After `NoMemory` the sketch is
-/// unchanged.
+/// Gives an angle a new ratio. After `NoMemory` the sketch is unchanged.
 fn set_ratio(
     alloc: Global,
     sketch: &mut Sketch,
-    number: ConId,
+    old: &Constraint,
     ratio: Ratio,
-) -> Result<Constraint, NoMemory>
+) -> Result<(), NoMemory>
     requires sound { IsSoundSketch sketch.old }
-    requires some { HasConstraint sketch.old number }
-    ensures former { IfOk result (λ former. Contains sketch.old.constraints former × (former.number ≡ number)) }
-    ensures ok { OnOk result (sketch.new ≡ applied (an_edit.Turned number ratio) sketch.old) }
+    requires there { Contains sketch.old.constraints old.now }
+    ensures ok { OnOk result (sketch.new ≡ applied (an_edit.Turned old.now.number ratio) sketch.old) }
     ensures err { OnErr result (sketch.new ≡ sketch.old) }
 {
-    let old = copy_constraint(alloc, get(sketch.constraints.as_slice(), number.0))?;
-    let rule = with_ratio(old.rule, ratio);
-    Ok(exchange(&mut sketch.constraints, Constraint { number, rule }))
+    let number = old.number;
+    let rule = with_ratio(copy_constraint(alloc, old)?.rule, ratio);
+    exchange(&mut sketch.constraints, Constraint { number, rule });
+    Ok(())
 }
 
 fn with_length(rule: Rule, len: Um) -> Rule
@@ -175,103 +165,68 @@ fn with_ratio(rule: Rule, ratio: Ratio) -> Rule
     }
 }
 
-/// Makes the edit in the sketch and in the kept family, and answers what stood before. After
-/// `NoMemory` both are unchanged.
+/// Makes the edit in the sketch and in the kept family. After `NoMemory` both are unchanged.
 pub(crate) fn change(
     alloc: Global,
     sketch: &mut Sketch,
     family: &mut Family,
-    edit: &Edit,
-) -> Result<Former, NoMemory>
-    requires can { CanMake edit.now sketch.old }
+    done: &Done,
+) -> Result<(), NoMemory>
+    requires can { CanMake (edit_of done.now) sketch.old }
+    requires stood { Stood done.now sketch.old }
     requires reached { IsReachedIn sketch.old family.old }
     requires room { length family.old.live ≤ 4294963297 }
     requires named { IsSound family.old }
-    ensures ok { OnOk result (sketch.new ≡ applied edit.now sketch.old) }
-    ensures former { IfOk result (IsFormer edit.now sketch.old) }
-    ensures follows { OnOk result (Follows edit.now sketch.old family.old family.new) }
+    ensures ok { OnOk result (sketch.new ≡ applied (edit_of done.now) sketch.old) }
+    ensures follows { OnOk result (Follows (edit_of done.now) sketch.old family.old family.new) }
     ensures count { OnOk result (length family.new.live ≤ length family.old.live + 3999) }
     ensures err { OnErr result (sketch.new ≡ sketch.old) }
     ensures family_err { OnErr result (family.new ≡ family.old) }
     ensures family_sound { IsSound family.new }
 {
-    match edit {
-        Edit::Element(element) => {
-            put(&mut sketch.elements, *element)?;
-            Ok(Former::Nothing)
+    match done {
+        Done::Element(element) => put(&mut sketch.elements, *element),
+        Done::Constraint(constraint) => add_constraint(alloc, sketch, family, constraint),
+        Done::Dropped(constraint) => remove_constraint(alloc, sketch, family, constraint.number),
+        Done::Length(len, constraint) => set_length(alloc, sketch, constraint, *len),
+        Done::Turned(ratio, constraint) => set_ratio(alloc, sketch, constraint, *ratio),
+        Done::Erased(element) => {
+            take(&mut sketch.elements, element.number.0);
+            Ok(())
         }
-        Edit::Constraint(constraint) => {
-            add_constraint(alloc, sketch, family, constraint)?;
-            Ok(Former::Nothing)
-        }
-        Edit::Dropped(number) => {
-            let constraint = remove_constraint(alloc, sketch, family, *number)?;
-            Ok(Former::Constraint(constraint))
-        }
-        Edit::Length(number, len) => {
-            let constraint = set_length(alloc, sketch, *number, *len)?;
-            Ok(Former::Constraint(constraint))
-        }
-        Edit::Turned(number, ratio) => {
-            let constraint = set_ratio(alloc, sketch, *number, *ratio)?;
-            Ok(Former::Constraint(constraint))
-        }
-        Edit::Erased(number) => Ok(Former::Element(take(&mut sketch.elements, number.0))),
     }
 }
 
-/// Takes back the edit that led to the sketch, and answers nothing but the sketch before. After
-/// `NoMemory` the sketch and the family are unchanged.
+/// Takes back the edit that led to the sketch. After `NoMemory` the sketch and the family are unchanged.
 pub(crate) fn change_back(
     alloc: Global,
     sketch: &mut Sketch,
     family: &mut Family,
-    edit: &Edit,
-    former: &Former,
+    done: &Done,
 ) -> Result<(), NoMemory>
-    requires led { (before : ASketch) × LeadsTo edit.now former.now before sketch.old }
+    requires led { (before : ASketch) × LeadsTo done.now before sketch.old }
     requires reached { IsReachedIn sketch.old family.old }
     requires room { length family.old.live ≤ 4294963297 }
     requires named { IsSound family.old }
-    ensures ok { OnOk result ((before : ASketch) → LeadsTo edit.now former.now before sketch.old → (sketch.new ≡ before) × FollowsBack edit.now before family.old family.new) }
+    ensures ok { OnOk result ((before : ASketch) → LeadsTo done.now before sketch.old → (sketch.new ≡ before) × FollowsBack (edit_of done.now) before family.old family.new) }
     ensures count { OnOk result (length family.new.live ≤ length family.old.live + 3999) }
     ensures err { OnErr result (sketch.new ≡ sketch.old) }
     ensures family_err { OnErr result (family.new ≡ family.old) }
     ensures family_sound { IsSound family.new }
 {
-    match edit {
-        Edit::Element(element) => {
+    match done {
+        Done::Element(element) => {
             take(&mut sketch.elements, element.number.0);
         }
-        Edit::Constraint(constraint) => {
+        Done::Constraint(constraint) => {
             remove_constraint(alloc, sketch, family, constraint.number)?;
         }
-        Edit::Dropped(_) => add_constraint(alloc, sketch, family, constraint_in(former))?,
-        Edit::Length(_, _) | Edit::Turned(_, _) => {
-            let constraint = copy_constraint(alloc, constraint_in(former))?;
+        Done::Dropped(constraint) => add_constraint(alloc, sketch, family, constraint)?,
+        Done::Length(_, constraint) | Done::Turned(_, constraint) => {
+            let constraint = copy_constraint(alloc, constraint)?;
             exchange(&mut sketch.constraints, constraint);
         }
-        Edit::Erased(_) => put(&mut sketch.elements, element_in(former))?,
+        Done::Erased(element) => put(&mut sketch.elements, *element)?,
     }
     Ok(())
-}
-
-fn constraint_in(former: &Former) -> &Constraint
-    requires { (c : AConstraint) × (former.now ≡ a_former.Constraint c) }
-    ensures { former.now ≡ a_former.Constraint result.now }
-{
-    match former {
-        Former::Constraint(constraint) => constraint,
-        Former::Nothing | Former::Element(_) => unreachable!(),
-    }
-}
-
-fn element_in(former: &Former) -> Element
-    requires { (e : AnElement) × (former.now ≡ a_former.Element e) }
-    ensures { former.now ≡ a_former.Element result }
-{
-    match former {
-        Former::Element(element) => *element,
-        Former::Nothing | Former::Constraint(_) => unreachable!(),
-    }
 }

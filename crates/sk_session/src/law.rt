@@ -3,37 +3,25 @@ ghost use Rattle.std.specs.Prelude.{◌≡◌, ◌<◌, ◌↔◌, ℕ, List, So
 ghost use Rattle.sk_lines.specs.declared.Code.{Code};
 ghost use Rattle.sk_session.specs.declared.reply.Reply.{Reply as AReply};
 ghost use Rattle.sk_session.specs.declared.reply.Reply.TheVariants as a_reply;
-ghost use Rattle.sk_session.specs.Commands.{code_in};
+ghost use Rattle.sk_session.specs.LineCodes.{code_in};
 ghost use Rattle.sk_session.specs.State.{State, sketch_in, IsSameElse};
 ghost use Rattle.sk_session.specs.Replies.{Answers};
 ghost use Rattle.sk_base.specs.declared.Sketch.{Sketch};
-ghost use Rattle.sk_base.specs.declared.ConId.{ConId};
-ghost use Rattle.sk_base.specs.declared.Elem.{Elem};
-ghost use Rattle.sk_base.specs.declared.Um.{Um};
-ghost use Rattle.sk_base.specs.declared.Ratio.{Ratio};
-ghost use Rattle.sk_base.specs.SoundSketch.{IsSoundSketch, IsLength, IsSoundRatio};
+ghost use Rattle.sk_base.specs.SoundSketch.{IsSoundSketch};
 ghost use Rattle.sk_family.specs.Body.{starts, initial_bodies};
 ghost use Rattle.sk_family.specs.Clusters.{Clusters, IsSound, bodies};
 ghost use Rattle.sk_rules.specs.Reach.{Reach};
 ghost use Rattle.sk_graph.specs.SketchGraph.{graph_of};
-ghost use Rattle.sk_session.specs.declared.edit.Edit.{Edit as AnEdit};
-ghost use Rattle.sk_session.specs.declared.edit.Edit.TheVariants as an_edit;
-ghost use Rattle.sk_session.specs.Edits.{applied};
+ghost use Rattle.sk_edits.specs.declared.Edit.{Edit as AnEdit};
+ghost use Rattle.sk_edits.specs.Edits.{applied};
 ghost use Rattle.sk_plan.specs.ConstraintStarts.{constraint_start};
-ghost use Rattle.sk_session.specs.Making.{CanMake, IsUnused, Follows, FollowsBack};
+ghost use Rattle.sk_edits.specs.Making.{CanMake};
+ghost use Rattle.sk_session.specs.Following.{Follows, FollowsBack};
 
 use sk_entry::{one_entry, what_a_line_says};
 use sk_plan::one_plan;
 use sk_verdict::one_judgement;
 use sk_worklist::{Chosen, one_run};
-
-/// Edits other than lines leave a sound sketch sound.
-pub fn stays_sound()
-    ensures dropped { (s : Sketch) (k : ConId) → IsSoundSketch s → IsSoundSketch (applied (an_edit.Dropped k) s) }
-    ensures length { (s : Sketch) (k : ConId) (len : Um) → IsLength len → IsSoundSketch s → IsSoundSketch (applied (an_edit.Length k len) s) }
-    ensures turned { (s : Sketch) (k : ConId) (ratio : Ratio) → IsSoundRatio ratio → IsSoundSketch s → IsSoundSketch (applied (an_edit.Turned k ratio) s) }
-    ensures erased { (s : Sketch) (x : Elem) → IsUnused s x → IsSoundSketch s → IsSoundSketch (applied (an_edit.Erased x) s) }
-{}
 
 /// The constraints of a sound sketch's graph start as those of the sketch do, in their order.
 pub fn starts_as_named()

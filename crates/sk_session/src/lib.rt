@@ -3,20 +3,14 @@
 
 mod change;
 mod closing;
-mod command;
-mod edit;
+mod done;
 mod law;
 mod lines;
-mod numbered;
 mod origin;
-mod reading;
 mod reply;
 mod session;
 
 pub use closing::Closing;
-pub use edit::Edit;
-pub use law::{
-    kept_along, one_reply, refused_exactly, some_to_solve, starts_as_named, stays_sound,
-};
+pub use law::{kept_along, one_reply, refused_exactly, some_to_solve, starts_as_named};
 pub use reply::Reply;
 pub use session::Session;

@@ -3,31 +3,30 @@ ghost use Rattle.std.specs.Prelude.{◌≡◌, ◌⊎◌, ◌<◌, [], ◌∷◌
 ghost use Rattle.std.specs.List.{slice_index_or};
 ghost use Rattle.sk_base.specs.SoundSketch.{IsSoundSketch};
 ghost use Rattle.sk_lex.specs.Words.{bytes_of, StandInOrder};
-ghost use Rattle.sk_lines.specs.declared.Version.TheVariants.{Two};
-ghost use Rattle.sk_lines.specs.Comments.{words_under};
+ghost use Rattle.sk_lines.specs.declared.EntryError.TheVariants as an_error;
+ghost use Rattle.sk_edits.specs.declared.Edit.TheVariants as an_edit;
 ghost use Rattle.sk_entry.specs.Entry.{entry_code, IsEntryOf, StandsOn, IsNumbered};
 ghost use Rattle.sk_entry.specs.Meaning.{added};
+ghost use Rattle.sk_lines.specs.Comments.{words_under};
 ghost use Rattle.sk_lines.specs.FirstCode.{first_code};
-ghost use Rattle.sk_lines.specs.declared.EntryError.TheVariants as an_error;
 ghost use Rattle.sk_lines.specs.declared.Code.{Code as ACode};
-ghost use Rattle.sk_session.specs.declared.edit.Edit.TheVariants as an_edit;
+ghost use Rattle.sk_lines.specs.declared.Version.TheVariants.{Two};
 ghost use Rattle.sk_session.specs.declared.reply.Reply.TheVariants as a_reply;
-ghost use Rattle.sk_session.specs.Commands.{command_of, command_rows, is_spent};
-ghost use Rattle.sk_session.specs.Edits.{applied, next_element, next_constraint};
-ghost use Rattle.sk_session.specs.Making.{CanMake};
+ghost use Rattle.sk_edits.specs.Commands.{command_of};
+ghost use Rattle.sk_session.specs.LineCodes.{command_rows, is_spent};
+ghost use Rattle.sk_edits.specs.Edits.{applied, next_element, next_constraint};
+ghost use Rattle.sk_edits.specs.Making.{CanMake};
 ghost use Rattle.sk_session.specs.Standing.{Gives};
 ghost use Rattle.sk_session.specs.State.{sketch_in, TakesBack, IsHeldUp};
-ghost use Rattle.sk_session.specs.declared.command.Command.TheVariants as a_command;
+ghost use Rattle.sk_edits.specs.declared.Command.TheVariants as a_command;
 ghost use Rattle.sk_lines.specs.EndLine.{is_none_left};
 ghost use Rattle.sk_lines.specs.declared.Code.TheVariants.{E2, E3, E18, S3, S5};
 ghost use Rattle.sk_session.specs.Replies.{Takes, Only, Checks, Plans, ByCode, Answers, Obeys, next_elem, next_con, IsHalted};
 
-use crate::command::{Change, Command, command_of};
-use crate::edit::Edit;
-use crate::reading::read_change;
 use crate::reply::Reply;
 use crate::session::Session;
 use sk_base::{ConId, Constraint, Elem, Element, NoMemory};
+use sk_edits::{Change, Command, Edit, command_of, read_change};
 use sk_entry::{Entry, read_entry};
 use sk_lex::Word;
 use sk_lines::{Code, EntryError, Version, word};
@@ -130,7 +129,7 @@ impl Session {
     }
 
     fn answer_plan(&self, alone: bool) -> Result<Reply, NoMemory>
-        ensures { IfOk result (λ said. ByCode (first_code ((not alone, E3) ∷ (is_none_left (sketch_in self.now).elements, E18) ∷ [])) self.now (Plans self.now said × (self.now ≡ self.now)) said self.now) }
+        ensures { IfOk result (λ said. ByCode (first_code ((not alone, E3) ∷ (is_none_left (sketch_in self.now).elements, E18) ∷ [])) self.now (Plans self.now said) said self.now) }
     {
         match self.query_code(alone) {
             Some(code) => Ok(Reply::Refused(code)),
@@ -174,6 +173,7 @@ impl Session {
         requires order { StandInOrder 0 words.now (length line.now) }
         ensures ok { let ws = map (bytes_of line.now) words.now in let command = command_of (slice_index_or ws 0 []) in IfOk result (λ said.
             ByCode (first_code (command_rows self.old command (drop 1 ws))) self.old (Obeys self.old command (drop 1 ws) said self.new) said self.new) }
+        ensures solve { IfOk result (λ said. said ≡ a_reply.Solve → 0 < length (sketch_in self.new).elements) }
         ensures err { OnErr result (IsHalted self.old (map (bytes_of line.now) words.now) self.new) }
     {
         match command_of(word(line, words, 0)) {
@@ -191,6 +191,7 @@ impl Session {
         requires was_sound { IsSoundSketch (sketch_in self.old) }
         requires sound { IsSoundSketch (added (sketch_in self.old) (Some entry)) }
         ensures ok { IfOk result (λ said. Answers self.old line.now said self.new) }
+        ensures solve { IfOk result (λ said. said ≡ a_reply.Solve → 0 < length (sketch_in self.new).elements) }
         ensures err { OnErr result (IsHalted self.old (words_under Two line.now) self.new) }
     {
         match entry {
@@ -204,6 +205,7 @@ impl Session {
     /// Does one command. The line is one of version 2, and comes without its line end.
     pub fn command(&mut self, line: &[u8]) -> Result<Reply, NoMemory>
         ensures answer { IfOk result (λ said. Answers self.old line.now said self.new) }
+        ensures solve { IfOk result (λ said. said ≡ a_reply.Solve → 0 < length (sketch_in self.new).elements) }
         ensures err { OnErr result (IsHalted self.old (words_under Two line.now) self.new) }
     {
         let elem = Elem(self.next_elem());

@@ -1,23 +1,23 @@
 // A session: the edits that stand, with the sketch that they make and the family of clusters that is
-// kept. Each standing edit has beside it what it took away or changed, so that an undo costs no more
-// than the edit.
+// kept.
 ghost use Rattle.std.specs.Prelude.{◌≡◌, ◌+◌, ◌<◌, ◌≤◌, ◌++◌, [], ◌∷◌, IfOk, OnOk, OnErr, length};
-ghost use Rattle.std.specs.Vec.{vec_len, vec_capacity};
 ghost use Rattle.sk_family.specs.Clusters.{initial_clusters};
 ghost use Rattle.sk_graph.specs.SketchGraph.{graph_of};
-ghost use Rattle.sk_session.specs.Edits.{empty, next_element, next_constraint};
+ghost use Rattle.sk_edits.specs.Edits.{empty, next_element, next_constraint};
 ghost use Rattle.sk_base.specs.SoundSketch.{IsSoundSketch};
+ghost use Rattle.sk_edits.specs.Making.{CanMake};
 ghost use Rattle.sk_lines.specs.EndLine.{is_none_left};
-ghost use Rattle.sk_session.specs.Making.{CanMake, IsReachedIn};
-ghost use Rattle.sk_session.specs.Standing.{Gives, element_after, constraint_after, element_before, constraint_before};
+ghost use Rattle.sk_session.specs.Following.{IsReachedIn};
+ghost use Rattle.sk_session.specs.Standing.{Gives};
 ghost use Rattle.sk_session.specs.State.{sketch_in, Accepts, TakesBack, IsHeldUp};
 ghost use Rattle.sk_session.specs.Replies.{Checks, Plans};
 
 use crate::change::{change, change_back};
 use crate::closing::{Closing, close};
-use crate::edit::{Done, Edit, Former};
+use crate::done::Done;
 use crate::reply::Reply;
 use sk_base::{List, NoMemory, Sketch};
+use sk_edits::Edit;
 use sk_family::{Family, initial};
 use sk_graph::reduce;
 use sk_plan::{PlanError, plan_of};
@@ -33,7 +33,7 @@ pub struct Session {
     alloc: Global,
     order: Order,
     closing: Closing,
-    done: Vec<Done>,
+    done: List<Done>,
     sketch: Sketch,
     next_elem: u32,
     next_con: u32,
@@ -42,14 +42,15 @@ pub struct Session {
 }
 
 impl Model for Session {
-    ghost use Rattle.sk_session.specs.Standing.{edits_of, IsConsistent};
+    ghost use Rattle.sk_session.specs.Past.{edits_of};
+    ghost use Rattle.sk_session.specs.Standing.{IsConsistent};
     ghost use Rattle.sk_session.specs.State.{State};
 
     ghost Value = { State };
 
-    ghost view = { λ s. record { order = s.order; closing = s.closing; edits = edits_of s.done.items; count = s.count; family = s.family } };
+    ghost view = { λ s. record { order = s.order; closing = s.closing; edits = edits_of s.done; count = s.count; family = s.family } };
 
-    ghost invariant = { λ s. IsConsistent s.done.items s.sketch s.next_elem s.next_con s.count s.family };
+    ghost invariant = { λ s. IsConsistent s.done s.sketch s.next_elem s.next_con s.count s.family };
 }
 
 impl Session {
@@ -67,7 +68,7 @@ impl Session {
             alloc,
             order,
             closing,
-            done: Vec::new(alloc),
+            done: List::new(alloc),
             sketch,
             next_elem: 1,
             next_con: 1,
@@ -132,13 +133,21 @@ impl Session {
         ensures ok { OnOk result (Accepts self.old edit self.new) }
         ensures err { OnErr result (self.new ≡ self.old) }
     {
-        self.done.reserve(1)?;
-        let former = change(self.alloc, &mut self.sketch, &mut self.family, &edit)?;
-        self.next_elem = element_after(&edit, self.next_elem);
-        self.next_con = constraint_after(&edit, self.next_con);
-        self.count += 1;
-        put_last(&mut self.done, edit, former);
-        Ok(())
+        let place = self.done.len();
+        self.done.push(Done::of(self.alloc, &self.sketch, edit)?)?;
+        let done = &self.done.as_slice()[place];
+        match change(self.alloc, &mut self.sketch, &mut self.family, done) {
+            Ok(()) => {
+                self.next_elem = done.element_after(self.next_elem);
+                self.next_con = done.constraint_after(self.next_con);
+                self.count += 1;
+                Ok(())
+            }
+            Err(error) => {
+                self.done.remove(place);
+                Err(error)
+            }
+        }
     }
 
     /// Takes back the last edit that stands.
@@ -149,12 +158,12 @@ impl Session {
         ensures err { OnErr result (self.new ≡ self.old) }
     {
         let last = self.done.len() - 1;
-        let Done { edit, former } = &self.done[last];
-        change_back(self.alloc, &mut self.sketch, &mut self.family, edit, former)?;
-        self.next_elem = element_before(edit, self.next_elem);
-        self.next_con = constraint_before(edit, self.next_con);
+        let done = &self.done.as_slice()[last];
+        change_back(self.alloc, &mut self.sketch, &mut self.family, done)?;
+        self.next_elem = done.element_before(self.next_elem);
+        self.next_con = done.constraint_before(self.next_con);
         self.count += 1;
-        self.done.truncate(last);
+        self.done.remove(last);
         Ok(())
     }
 
@@ -188,56 +197,5 @@ impl Session {
             Err(PlanError::NotWell(judgement)) => Ok(Reply::NotWell(judgement)),
             Err(PlanError::NoMemory) => Err(NoMemory),
         }
-    }
-}
-
-/// Appends where there is room.
-fn put_last(done: &mut Vec<Done>, edit: Edit, former: Former)
-    requires { vec_len done.old < vec_capacity done.old }
-    ensures { done.new.items ≡ done.old.items ++ record { edit = edit; former = former } ∷ [] }
-{
-    match done.push(Done { edit, former }) {
-        Ok(()) => {}
-        Err(_) => unreachable!(),
-    }
-}
-
-/// The next numbers behind an edit.
-fn element_after(edit: &Edit, next: u32) -> u32
-    requires { next ≤ 1000001 }
-    ensures { result ≡ element_after edit.now next }
-{
-    match edit {
-        Edit::Element(_) => next + 1,
-        _ => next,
-    }
-}
-
-fn constraint_after(edit: &Edit, next: u32) -> u32
-    requires { next ≤ 1000001 }
-    ensures { result ≡ constraint_after edit.now next }
-{
-    match edit {
-        Edit::Constraint(_) => next + 1,
-        _ => next,
-    }
-}
-
-/// The next numbers before an edit.
-fn element_before(edit: &Edit, next: u32) -> u32
-    ensures { result ≡ element_before edit.now next }
-{
-    match edit {
-        Edit::Element(_) => next.saturating_sub(1),
-        _ => next,
-    }
-}
-
-fn constraint_before(edit: &Edit, next: u32) -> u32
-    ensures { result ≡ constraint_before edit.now next }
-{
-    match edit {
-        Edit::Constraint(_) => next.saturating_sub(1),
-        _ => next,
     }
 }

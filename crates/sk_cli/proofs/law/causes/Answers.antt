@@ -1,8 +1,8 @@
 use Rattle.std.proofs.Common.{subst}
-use Rattle.sk_cli.specs.declared.command.Command.{Command}
+use Rattle.sk_request.specs.declared.Command.{Command}
 use Rattle.sk_cli.specs.Outcome.{IsAnswerOf}
 use Rattle.sk_cli.proofs.OneOutcome.{LowerLaws}
-use Rattle.sk_cli.proofs.Sizes.{size_fits}
+use Rattle.sk_request.proofs.Sizes.{size_fits}
 use Rattle.sk_cli.proofs.WhyEnds.{answer_about, sound_about, solved_about, usage_both, refused_both, not_well_exactly, fault_exactly, beyond_exactly, held_both, done_unless_refused, done_where_well, verified_exactly, failing_exactly}
 use Rattle.sk_cli.proofs.law.causes.Goals as goal
 

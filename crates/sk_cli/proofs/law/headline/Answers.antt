@@ -2,7 +2,7 @@ use Rattle.sk_entry.specs.declared.Entry.TheVariants as entry
 use Rattle.sk_lines.specs.declared.Version.TheVariants.{Two}
 use Rattle.sk_session.proofs.Asked.{OtherBegins}
 use Rattle.sk_cli.proofs.OneOutcome.{LowerLaws}
-use Rattle.sk_cli.proofs.Sizes.{size_fits}
+use Rattle.sk_request.proofs.Sizes.{size_fits}
 use Rattle.sk_cli.proofs.WhyEnds.{answer_about, sound_about}
 use Rattle.sk_cli.proofs.Telling.{LegalPlans, said_about, tells}
 use Rattle.sk_cli.proofs.SessionTelling.{tells_next, stands_in}

@@ -1,9 +1,9 @@
 use Rattle.std.proofs.Common.{refl, subst, take, drop}
 use Rattle.sk_graph.specs.SketchGraph.{graph_of}
 use Rattle.sk_graph.proofs.Soundness.{graph_is_sound}
-use Rattle.sk_verify.specs.AsClaimed.{plan_claimed}
 use Rattle.sk_claims.proofs.FittingClaims.{read_claim_fits}
-use Rattle.sk_cli.specs.declared.command.Command.{Command}
+use Rattle.sk_request.specs.declared.Command.{Command}
+use Rattle.sk_verify.specs.AsClaimed.{plan_claimed}
 use Rattle.sk_cli.specs.declared.status.Status.TheVariants.{Done}
 use Rattle.sk_cli.specs.Outcome.{IsAnswerOf}
 use Rattle.sk_cli.proofs.WhyEnds.{answer_about}

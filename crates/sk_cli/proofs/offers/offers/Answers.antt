@@ -1,11 +1,12 @@
 use Rattle.std.proofs.Common.{◌-◌, ◌+◌, ◌<◌, ℕ, List, sym, subst, length, take, drop, arith}
 use Rattle.std.specs.Prelude.{All}
+use Rattle.sk_cli.specs.OffersReport.{IsReportOnOffers}
 use Rattle.sk_lines.specs.Lines.{lines_in}
-use Rattle.sk_cli.specs.declared.offer_line.OfferLine.{OfferLine}
-use Rattle.sk_cli.specs.OfferReading.{ReadsOffers}
-use Rattle.sk_cli.specs.OffersReport.{FitsBoard, IsReportOnOffers}
+use Rattle.sk_offers.specs.OfferLines.{FitsBoard}
+use Rattle.sk_offers.specs.OfferReading.{ReadsOffers}
+use Rattle.sk_offers.specs.declared.OfferLine.{OfferLine}
 use Rattle.sk_cli.proofs.Behind.{rest_of}
-use Rattle.sk_cli.proofs.FittingOffers.{read_fit}
+use Rattle.sk_offers.proofs.FittingOffers.{read_fit}
 use Rattle.sk_cli.proofs.offers.offers.Goals as goal
 
 pub read_offers-requires : goal.read_offers-requires

@@ -2,9 +2,9 @@ use Rattle.std.proofs.Common.{◌∙◌, sym, refl, map, length, inl, inr}
 use Rattle.std.proofs.lemmas.Bool.{cases_lt}
 use Rattle.std.specs.Prelude.{string_bytes}
 use Rattle.sk_cli.specs.declared.status.Status.TheVariants.{ReadFault, NoMemory}
-use Rattle.sk_cli.specs.Asking.{AskForInput}
+use Rattle.sk_request.specs.Asking.{AskForInput}
 use Rattle.sk_cli.proofs.Runs.{usage_ends, answer_ends, nothing_ends, no_form, answer_room, usage_room, no_fault, asked_input, read_told, session_takes, session_ends, session_room}
-use Rattle.sk_cli.proofs.Sizes.{grow_size}
+use Rattle.sk_request.proofs.Sizes.{grow_size}
 use Rattle.sk_cli.proofs.top.run.Goals as goal
 
 pub returns-in_default-clause-outcome : goal.returns-in_default-clause-outcome

@@ -2,10 +2,10 @@ use Rattle.std.proofs.Common.{◌≡◌, inl, refl, ap, sym, subst, ◌∙◌, L
 use Rattle.sk_base.specs.declared.Constraint.{Constraint}
 use Rattle.sk_family.specs.Body.{Start}
 use Rattle.sk_family.specs.Starts.{IsFree}
-use Rattle.sk_session.specs.Changes.{HasItem}
-use Rattle.sk_session.specs.Edits.{constraint_number}
+use Rattle.sk_edits.specs.Changes.{HasItem}
+use Rattle.sk_edits.specs.Edits.{constraint_number}
 use Rattle.sk_session.proofs.Owners.{free_number}
-use Rattle.sk_session.proofs.Places.{taken_back}
+use Rattle.sk_edits.proofs.Places.{taken_back}
 use Rattle.sk_session.proofs.change.add_constraint.Goals as goal
 
 pub put-requires-clause-other : goal.put-requires-clause-other

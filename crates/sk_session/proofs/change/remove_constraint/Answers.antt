@@ -4,7 +4,7 @@ use Rattle.sk_base.specs.declared.Graph.{Graph}
 use Rattle.sk_family.specs.declared.Cluster.{Cluster}
 use Rattle.sk_family.specs.Starts.{CanBeDissolved}
 use Rattle.sk_family.proofs.Naming.{one_of_name}
-use Rattle.sk_session.specs.Making.{DissolvesOwner}
+use Rattle.sk_session.specs.Following.{DissolvesOwner}
 use Rattle.sk_session.proofs.Owners.{owner_of, few_owned, can_dissolve}
 use Rattle.sk_session.proofs.change.remove_constraint.Goals as goal
 

@@ -3,17 +3,18 @@ use Rattle.std.proofs.lemmas.Result.{IfOk-weaker}
 use Rattle.sk_base.specs.declared.Sketch.{Sketch}
 use Rattle.sk_base.specs.SoundSketch.{IsSoundSketch}
 use Rattle.sk_lex.specs.Words.{bytes_of}
-use Rattle.sk_lines.specs.declared.Code.TheVariants.{S5}
+use Rattle.sk_edits.specs.declared.Edit.{Edit}
 use Rattle.sk_lines.specs.FirstCode.{first_code}
-use Rattle.sk_session.specs.declared.edit.Edit.{Edit}
+use Rattle.sk_lines.specs.declared.Code.TheVariants.{S5}
 use Rattle.sk_session.specs.declared.reply.Reply.TheVariants as reply
-use Rattle.sk_session.specs.Commands.{change_rows, edit_made, from_made, is_spent}
-use Rattle.sk_session.specs.Making.{CanMake, HasSoundValue}
+use Rattle.sk_edits.specs.Commands.{change_rows, edit_made, from_made}
+use Rattle.sk_session.specs.LineCodes.{is_spent}
+use Rattle.sk_edits.specs.Making.{CanMake, HasSoundValue}
 use Rattle.sk_session.specs.State.{sketch_in}
 use Rattle.sk_session.specs.Replies.{Stands, ByCode}
 use Rattle.sk_lines.proofs.FirstCodes.{code_front}
 use Rattle.sk_session.proofs.Coding.{takes_by_code}
-use Rattle.sk_session.proofs.Possible.{can_change, from_ok, from_err}
+use Rattle.sk_edits.proofs.Possible.{can_change, from_ok, from_err}
 use Rattle.sk_session.proofs.session.Session.alter.Goals as goal
 
 pub accept-requires-clause-can : goal.accept-requires-clause-can

@@ -7,7 +7,7 @@ use Rattle.sk_graph.specs.SketchGraph.{graph_of}
 use Rattle.sk_plan.specs.Judged.{IsTheJudgement}
 use Rattle.sk_worklist.proofs.Runs.{on_err}
 use Rattle.sk_session.specs.State.{State, EndsBy, HasBegunBy, IsHeldUp}
-use Rattle.sk_session.specs.Standing.{edits_of}
+use Rattle.sk_session.specs.Past.{edits_of}
 use Rattle.sk_session.specs.Replies.{Checks}
 use Rattle.sk_session.specs.declared.reply.Reply.TheVariants as reply
 use Rattle.sk_session.proofs.Closings.{begun_at_end, begun_there}
@@ -24,21 +24,21 @@ close-requires-clause-begun c =
 pub invariant_of-self : goal.invariant_of-self
 invariant_of-self c =
     let k = c.self.invariant in
-    consistent_merged c.self.inside.done.items c.self.inside.sketch c.self.inside.next_elem c.self.inside.next_con c.self.inside.count c.self.inside.family c.close.new.family k
+    consistent_merged c.self.inside.done c.self.inside.sketch c.self.inside.next_elem c.self.inside.next_con c.self.inside.count c.self.inside.family c.close.new.family k
     c.close.ensures.sound c.close.ensures.room
     (subst (λ (g : Graph). Reach g (bodies c.self.inside.family) (bodies c.close.new.family)) c.in_ok-graph.ensures.graph c.close.ensures.reached)
 
 pub invariant_of-self-in_err-judgement : goal.invariant_of-self-in_err-judgement
 invariant_of-self-in_err-judgement c =
     let k = c.self.invariant in
-    consistent_merged c.self.inside.done.items c.self.inside.sketch c.self.inside.next_elem c.self.inside.next_con c.self.inside.count c.self.inside.family c.close.new.family k
+    consistent_merged c.self.inside.done c.self.inside.sketch c.self.inside.next_elem c.self.inside.next_con c.self.inside.count c.self.inside.family c.close.new.family k
     c.close.ensures.sound c.close.ensures.room
     (subst (λ (g : Graph). Reach g (bodies c.self.inside.family) (bodies c.close.new.family)) c.in_ok-graph.ensures.graph c.close.ensures.reached)
 
 pub invariant_of-self-2 : goal.invariant_of-self-2
 invariant_of-self-2 c =
     let k = c.self.invariant in
-    consistent_merged c.self.inside.done.items c.self.inside.sketch c.self.inside.next_elem c.self.inside.next_con c.self.inside.count c.self.inside.family c.close.new.family k
+    consistent_merged c.self.inside.done c.self.inside.sketch c.self.inside.next_elem c.self.inside.next_con c.self.inside.count c.self.inside.family c.close.new.family k
     c.close.ensures.sound c.close.ensures.room
     (subst (λ (g : Graph). Reach g (bodies c.self.inside.family) (bodies c.close.new.family)) c.in_ok-graph.ensures.graph c.close.ensures.reached)
 
@@ -53,7 +53,7 @@ returns-in_err-close-clause-err c =
     let n = c.close.new.family in
     let begun = subst (λ (g : Graph). HasBegunBy c.self.inside.closing c.self.inside.order g f n) graph c.in_err-close.ensures.err in
     on_err c.from_residual-in_err-close.result
-    (subst (λ (x : State). IsHeldUp x (record { order = c.self.inside.order; closing = c.self.inside.closing; edits = edits_of c.self.inside.done.items; count = c.self.inside.count; family = n })) c.self.view_is
+    (subst (λ (x : State). IsHeldUp x (record { order = c.self.inside.order; closing = c.self.inside.closing; edits = edits_of c.self.inside.done; count = c.self.inside.count; family = n })) c.self.view_is
     (record { else_same = record { order = refl; edits = refl; count = refl }; closing = refl; begun = begun }))
 
 pub returns-in_err-judgement-clause-err : goal.returns-in_err-judgement-clause-err
@@ -63,7 +63,7 @@ returns-in_err-judgement-clause-err c =
     let n = c.close.new.family in
     let ends = subst (λ (g : Graph). EndsBy c.self.inside.closing c.self.inside.order g f n) graph c.in_ok-close.ensures.ends in
     on_err c.from_residual-in_err-judgement.result
-    (subst (λ (x : State). IsHeldUp x (record { order = c.self.inside.order; closing = c.self.inside.closing; edits = edits_of c.self.inside.done.items; count = c.self.inside.count; family = n })) c.self.view_is
+    (subst (λ (x : State). IsHeldUp x (record { order = c.self.inside.order; closing = c.self.inside.closing; edits = edits_of c.self.inside.done; count = c.self.inside.count; family = n })) c.self.view_is
     (record { else_same = record { order = refl; edits = refl; count = refl }; closing = refl; begun = begun_at_end c.self.inside.closing c.self.inside.order _ f n ends }))
 
 pub returns-clause-ok : goal.returns-clause-ok
@@ -74,7 +74,7 @@ returns-clause-ok c =
     let ends = subst (λ (g : Graph). EndsBy c.self.inside.closing c.self.inside.order g f n) graph c.in_ok-close.ensures.ends in
     let judged : IsTheJudgement c.in_ok-graph.graph c.in_ok-judgement.judgement =
     record { normal = bodies n; is_normal = c.in_ok-close.ensures.normal; every = c.in_ok-judgement.ensures.whichever } in
-    subst (λ (x : State). Checks x (reply.Checked c.in_ok-judgement.judgement) (record { order = c.self.inside.order; closing = c.self.inside.closing; edits = edits_of c.self.inside.done.items; count = c.self.inside.count; family = n })) c.self.view_is (
+    subst (λ (x : State). Checks x (reply.Checked c.in_ok-judgement.judgement) (record { order = c.self.inside.order; closing = c.self.inside.closing; edits = edits_of c.self.inside.done; count = c.self.inside.count; family = n })) c.self.view_is (
       c.in_ok-judgement.judgement,
       refl,
       subst (λ (g : Graph). IsTheJudgement g c.in_ok-judgement.judgement) graph judged,

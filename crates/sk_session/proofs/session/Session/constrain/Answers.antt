@@ -1,4 +1,4 @@
-use Rattle.sk_session.proofs.Possible.{can_constrain}
+use Rattle.sk_edits.proofs.Possible.{can_constrain}
 use Rattle.sk_session.proofs.session.Session.constrain.Goals as goal
 
 pub accept-requires-clause-can : goal.accept-requires-clause-can

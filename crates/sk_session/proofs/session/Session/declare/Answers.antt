@@ -1,4 +1,4 @@
-use Rattle.sk_session.proofs.Possible.{can_declare}
+use Rattle.sk_edits.proofs.Possible.{can_declare}
 use Rattle.sk_session.proofs.session.Session.declare.Goals as goal
 
 pub accept-requires-clause-can : goal.accept-requires-clause-can

@@ -4,18 +4,20 @@ use Rattle.std.proofs.lemmas.Result.{IfOk-weaker}
 use Rattle.sk_base.specs.Numbering.{elem_number, con_number}
 use Rattle.sk_lex.specs.declared.Word.{Word}
 use Rattle.sk_lex.specs.Words.{bytes_of}
-use Rattle.sk_lines.specs.declared.Version.TheVariants.{Two}
-use Rattle.sk_lines.specs.Comments.{words_under}
-use Rattle.sk_entry.specs.declared.Entry.{Entry}
 use Rattle.sk_entry.specs.declared.Entry.TheVariants as entry
+use Rattle.sk_edits.specs.declared.Edit.TheVariants as edit
 use Rattle.sk_entry.specs.Entry.{IsEntryOf, StandsOn, IsNumbered}
+use Rattle.sk_entry.specs.declared.Entry.{Entry}
+use Rattle.sk_lines.specs.Comments.{words_under}
 use Rattle.sk_lines.specs.FirstCode.{first_code}
-use Rattle.sk_session.specs.declared.edit.Edit.TheVariants as edit
+use Rattle.sk_lines.specs.declared.Version.TheVariants.{Two}
 use Rattle.sk_session.specs.declared.reply.Reply.TheVariants as reply
-use Rattle.sk_session.specs.Commands.{command_of, command_rows}
+use Rattle.sk_edits.specs.Commands.{command_of}
+use Rattle.sk_session.specs.LineCodes.{command_rows}
 use Rattle.sk_session.specs.State.{sketch_in}
 use Rattle.sk_session.specs.Replies.{Obeys, ByCode, IsHalted, next_elem, next_con}
 use Rattle.sk_session.proofs.Coding.{answers_entry, answers_command}
+use Rattle.sk_session.proofs.ToSolve.{taken_otherwise}
 use Rattle.sk_session.proofs.session.Session.enter.Goals as goal
 
 pub declare-requires-clause-number : goal.declare-requires-clause-number
@@ -68,3 +70,11 @@ returns-in-Other-clause-err c =
     let told = subst (StandsOn Two line) c.in-Other.is c.requires.stands_on in
     let same : map (bytes_of line) c.as_slice.result.now ≡ words_under Two line = ap (λ (xs : List Word). map (bytes_of line) xs) c.as_slice.ensures ∙ told.1.0 in
     subst (λ (ws : List (List ℕ)). OnErr c.other.result (IsHalted old ws c.other.new.self)) same c.other.ensures.err
+
+pub returns-in-Element-clause-solve : goal.returns-in-Element-clause-solve
+returns-in-Element-clause-solve c =
+    IfOk-weaker c.declare.result _ _ (λ said takes is. absurd (taken_otherwise _ _ _ _ _ _ (λ e. cc) takes is)) c.declare.ensures.ok
+
+pub returns-in-Constraint-clause-solve : goal.returns-in-Constraint-clause-solve
+returns-in-Constraint-clause-solve c =
+    IfOk-weaker c.constrain.result _ _ (λ said takes is. absurd (taken_otherwise _ _ _ _ _ _ (λ e. cc) takes is)) c.constrain.ensures.ok

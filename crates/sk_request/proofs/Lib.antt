@@ -1,0 +1,10 @@
+pub mod CommandWords
+pub mod KeyNames
+pub mod KeyValues
+pub mod Keys
+pub mod Numbers
+pub mod OneRequest
+pub mod Sizes
+pub mod SomeRequests
+pub mod Strides
+pub mod WithinKeys

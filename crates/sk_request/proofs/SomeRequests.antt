@@ -1,0 +1,237 @@
+-- Words ask for something, or they are not of the form.
+use Rattle.std.proofs.Common.{◌≡◌, ◌⊎◌, inl, inr, refl, ℕ, zero, suc, ◌≤◌, Bool, true, false, List, [], ◌∷◌, Option, None, Some, ap, sym, subst, ◌∙◌, arith}
+use Rattle.std.specs.Prelude.{All, Contains, IsTrue, IsSome, is_some, codes}
+use Rattle.std.specs.Fmt.{decimal}
+use Rattle.std.proofs.lemmas.Bool.{cases_lt}
+use Rattle.sk_base.proofs.Members.{nat_settles, list_settles}
+use Rattle.sk_worklist.specs.declared.Order.{Order}
+use Rattle.sk_worklist.specs.declared.Order.TheVariants.{First, Last, Stride}
+use Rattle.sk_place.specs.declared.FrameBy.{FrameBy}
+use Rattle.sk_place.specs.declared.FrameBy.TheVariants.{Base, Drawn}
+use Rattle.sk_place.specs.declared.PlaceBy.{PlaceBy}
+use Rattle.sk_place.specs.declared.PlaceBy.TheVariants.{Boxes, Points}
+use Rattle.sk_request.specs.declared.bits.Bits.{Bits}
+use Rattle.sk_request.specs.declared.bits.Bits.TheVariants.{Sixteen, TwentySeven, ThirtyEight}
+use Rattle.sk_request.specs.declared.command.Command.{Command}
+use Rattle.sk_request.specs.declared.command.Command.TheVariants.{Check, Plan, Solve, Dxf, Offers, Session, Grow, Migrate, Verify, Spare, Flips, Derive, Parts}
+use Rattle.sk_request.specs.declared.request.Request.{Request}
+use Rattle.sk_request.specs.Commands.{command_word}
+use Rattle.sk_request.specs.Asking.{Key, OrderKey, BitsKey, WithinKey, PlaceKey, FrameKey, SizeKey, key_name, takes, behind, values_of, IsKeyOf, IsNumber, IsOrder, IsBits, IsLimit, IsPlace, IsFrame, IsSize, Says, IsSet, HasSize, HasKeys, AreOfForm}
+use Rattle.sk_base.proofs.Deciding.{Decided, all_decided, both, either, moved, some_in}
+
+bool_decided : (b : Bool) → Decided (b ≡ true)
+bool_decided true = inl refl
+bool_decided false = inr (λ e. cc)
+
+least_decided : (m n : ℕ) → Decided (m ≤ n)
+least_decided m n = elim (cases_lt n m) [ inl less ↦ inr (λ h. omega arith) | inr fits ↦ inl fits ]
+
+bytes_decided : (xs ys : List ℕ) → Decided (xs ≡ ys)
+bytes_decided = list_settles nat_settles
+
+-- whether some number up to n is so
+some_below : (P : ℕ → Type 0) → ((k : ℕ) → Decided (P k)) → (n : ℕ) → Decided ((k : ℕ) × (k ≤ n) × P k)
+some_below P decide zero =
+    moved (λ h. (0, omega arith, h)) (λ (k, few, h). (let same : k ≡ 0 = omega arith in subst (λ j. P j) same h)) (decide 0)
+some_below P decide (suc n) =
+    elim (decide (suc n)) [
+      | inl here ↦ inl (suc n, omega arith, here)
+      | inr not_here ↦ elim (some_below P decide n) [
+        | inl (k, few, h) ↦ inl (k, omega arith, h)
+        | inr none ↦ inr (λ (k, few, h). elim (cases_lt n k) [
+          | inl above ↦ not_here (let same : k ≡ suc n = omega arith in subst (λ j. P j) same h)
+          | inr below ↦ none (k, below, h)
+        ])
+      ]
+    ]
+
+number_decided : (least most : ℕ) (value : List ℕ) → Decided ((n : ℕ) × IsNumber least most value n)
+number_decided least most value =
+    moved (λ (n, few, h). (n, (h.0, h.1, few))) (λ (n, h). (n, h.2, (h.0, h.1)))
+    (some_below (λ n. (value ≡ decimal n) × (least ≤ n)) (λ n. both (bytes_decided value (decimal n)) (least_decided least n)) most)
+
+order_decided : (value : List ℕ) → Decided ((order : Order) × IsOrder value order)
+order_decided value =
+    moved to from (either (bytes_decided value (codes "first")) (either (bytes_decided value (codes "last")) (number_decided 0 65535 value)))
+  where
+    to : (value ≡ codes "first") ⊎ ((value ≡ codes "last") ⊎ ((k : ℕ) × IsNumber 0 65535 value k)) → (order : Order) × IsOrder value order
+    to (inl e) = (First, e)
+    to (inr (inl e)) = (Last, e)
+    to (inr (inr (k, h))) = (Stride k, h)
+
+    from : (order : Order) × IsOrder value order → (value ≡ codes "first") ⊎ ((value ≡ codes "last") ⊎ ((k : ℕ) × IsNumber 0 65535 value k))
+    from (First, e) = inl e
+    from (Last, e) = inr (inl e)
+    from (Stride k, h) = inr (inr (k, h))
+
+bits_decided : (value : List ℕ) → Decided ((bits : Bits) × IsBits value bits)
+bits_decided value =
+    moved to from (either (bytes_decided value (codes "16")) (either (bytes_decided value (codes "27")) (bytes_decided value (codes "38"))))
+  where
+    to : (value ≡ codes "16") ⊎ ((value ≡ codes "27") ⊎ (value ≡ codes "38")) → (bits : Bits) × IsBits value bits
+    to (inl e) = (Sixteen, e)
+    to (inr (inl e)) = (TwentySeven, e)
+    to (inr (inr e)) = (ThirtyEight, e)
+
+    from : (bits : Bits) × IsBits value bits → (value ≡ codes "16") ⊎ ((value ≡ codes "27") ⊎ (value ≡ codes "38"))
+    from (Sixteen, e) = inl e
+    from (TwentySeven, e) = inr (inl e)
+    from (ThirtyEight, e) = inr (inr e)
+
+place_decided : (value : List ℕ) → Decided ((place : PlaceBy) × IsPlace value place)
+place_decided value = moved to from (either (bytes_decided value (codes "boxes")) (bytes_decided value (codes "points")))
+  where
+    to : (value ≡ codes "boxes") ⊎ (value ≡ codes "points") → (place : PlaceBy) × IsPlace value place
+    to (inl e) = (Boxes, e)
+    to (inr e) = (Points, e)
+
+    from : (place : PlaceBy) × IsPlace value place → (value ≡ codes "boxes") ⊎ (value ≡ codes "points")
+    from (Boxes, e) = inl e
+    from (Points, e) = inr e
+
+frame_decided : (value : List ℕ) → Decided ((frame : FrameBy) × IsFrame value frame)
+frame_decided value = moved to from (either (bytes_decided value (codes "base")) (bytes_decided value (codes "drawn")))
+  where
+    to : (value ≡ codes "base") ⊎ (value ≡ codes "drawn") → (frame : FrameBy) × IsFrame value frame
+    to (inl e) = (Base, e)
+    to (inr e) = (Drawn, e)
+
+    from : (frame : FrameBy) × IsFrame value frame → (value ≡ codes "base") ⊎ (value ≡ codes "drawn")
+    from (Base, e) = inl e
+    from (Drawn, e) = inr e
+
+module _ {X : Type 0} (Is : List ℕ → X → Type 0) (decide : (value : List ℕ) → Decided ((x : X) × Is value x)) where
+  said_decided : (default : X) (values : List (List ℕ)) → Decided ((x : X) × Says Is default values x)
+  said_decided default [] = inl (default, refl)
+  said_decided default (v ∷ []) = decide v
+  said_decided default (v ∷ w ∷ more) = inr (λ h. h.1)
+
+  -- the same for a key without a default, with what its value must keep to
+  set_decided : (Fits : Option X → Type 0) → Decided (Fits None) → ((x : X) → Fits (Some x)) → (values : List (List ℕ)) → Decided ((x : Option X) × IsSet Is values x × Fits x)
+  set_decided Fits none some [] = moved (λ h. (None, tt, h)) from none
+    where
+      from : (x : Option X) × IsSet Is [] x × Fits x → Fits None
+      from (None, set, fits) = fits
+      from (Some x, set, fits) = absurd set
+  set_decided Fits none some (v ∷ []) = moved (λ (x, h). (Some x, h, some x)) from (decide v)
+    where
+      from : (x : Option X) × IsSet Is (v ∷ []) x × Fits x → (x : X) × Is v x
+      from (None, set, fits) = absurd set
+      from (Some x, set, fits) = (x, set)
+  set_decided Fits none some (v ∷ w ∷ more) = inr (λ h. h.1)
+
+all_keys : List Key
+all_keys = OrderKey ∷ BitsKey ∷ WithinKey ∷ PlaceKey ∷ FrameKey ∷ SizeKey ∷ []
+
+key_listed : (key : Key) → Contains all_keys key
+unfolding all_keys
+key_listed OrderKey = (0, omega arith, refl)
+key_listed BitsKey = (1, omega arith, refl)
+key_listed WithinKey = (2, omega arith, refl)
+key_listed PlaceKey = (3, omega arith, refl)
+key_listed FrameKey = (4, omega arith, refl)
+key_listed SizeKey = (5, omega arith, refl)
+
+key_decided : (command : Command) (word : List ℕ) → Decided (IsKeyOf command word)
+key_decided command word =
+    moved (λ (key, key_in, h). (key, h.0, h.1)) (λ (key, taken, some). (key, key_listed key, (taken, some)))
+    (some_in (λ key. IsTrue (takes command key) × IsSome (behind (key_name key) word)) (λ key. both (bool_decided (takes command key)) (bool_decided (is_some (behind (key_name key) word)))) all_keys)
+
+all_commands : List Command
+all_commands = Check ∷ Plan ∷ Solve ∷ Dxf ∷ Offers ∷ Session ∷ Grow ∷ Migrate ∷ Verify ∷ Spare ∷ Flips ∷ Derive ∷ Parts ∷ []
+
+command_listed : (command : Command) → Contains all_commands command
+unfolding all_commands
+command_listed Check = (0, omega arith, refl)
+command_listed Plan = (1, omega arith, refl)
+command_listed Solve = (2, omega arith, refl)
+command_listed Dxf = (3, omega arith, refl)
+command_listed Offers = (4, omega arith, refl)
+command_listed Session = (5, omega arith, refl)
+command_listed Grow = (6, omega arith, refl)
+command_listed Migrate = (7, omega arith, refl)
+command_listed Verify = (8, omega arith, refl)
+command_listed Spare = (9, omega arith, refl)
+command_listed Flips = (10, omega arith, refl)
+command_listed Derive = (11, omega arith, refl)
+command_listed Parts = (12, omega arith, refl)
+
+unsized_decided : (command : Command) → Decided (HasSize command None)
+unsized_decided Check = inl tt
+unsized_decided Plan = inl tt
+unsized_decided Solve = inl tt
+unsized_decided Dxf = inl tt
+unsized_decided Offers = inl tt
+unsized_decided Session = inl tt
+unsized_decided Grow = inr (λ h. h)
+unsized_decided Migrate = inl tt
+unsized_decided Verify = inl tt
+unsized_decided Spare = inl tt
+unsized_decided Flips = inl tt
+unsized_decided Derive = inl tt
+unsized_decided Parts = inl tt
+
+sized_by : (command : Command) (n : ℕ) → HasSize command (Some n)
+sized_by Check n = tt
+sized_by Plan n = tt
+sized_by Solve n = tt
+sized_by Dxf n = tt
+sized_by Offers n = tt
+sized_by Session n = tt
+sized_by Grow n = tt
+sized_by Migrate n = tt
+sized_by Verify n = tt
+sized_by Spare n = tt
+sized_by Flips n = tt
+sized_by Derive n = tt
+sized_by Parts n = tt
+
+-- the keys ask for something of the command
+abbrev AskOf : Command → List (List ℕ) → Type 0
+AskOf command keys = (request : Request) × (request.command ≡ command) × HasKeys keys request
+
+record HasParts (command : Command) (keys : List (List ℕ)) : Type 0 where
+  known : All (λ word. IsKeyOf command word) keys
+  order : (x : Order) × Says IsOrder First (values_of OrderKey keys) x
+  bits : (x : Bits) × Says IsBits ThirtyEight (values_of BitsKey keys) x
+  within : (x : ℕ) × Says IsLimit 1000 (values_of WithinKey keys) x
+  place : (x : PlaceBy) × Says IsPlace Boxes (values_of PlaceKey keys) x
+  frame : (x : FrameBy) × Says IsFrame Base (values_of FrameKey keys) x
+  size : (x : Option ℕ) × IsSet IsSize (values_of SizeKey keys) x × HasSize command x
+
+parts_decided : (command : Command) (keys : List (List ℕ)) → Decided (HasParts command keys)
+parts_decided command keys =
+    moved (λ h. record { known = h.0; order = h.1.0; bits = h.1.1.0; within = h.1.1.1.0; place = h.1.1.1.1.0; frame = h.1.1.1.1.1.0; size = h.1.1.1.1.1.1 }) (λ (p : HasParts command keys). (p.known, (p.order, (p.bits, (p.within, (p.place, (p.frame, p.size)))))))
+    (both (all_decided (λ word. IsKeyOf command word) (λ word. key_decided command word) keys)
+    (both (said_decided IsOrder order_decided First (values_of OrderKey keys))
+    (both (said_decided IsBits bits_decided ThirtyEight (values_of BitsKey keys))
+    (both (said_decided IsLimit (λ value. number_decided 1 1000000 value) 1000 (values_of WithinKey keys))
+    (both (said_decided IsPlace place_decided Boxes (values_of PlaceKey keys))
+    (both (said_decided IsFrame frame_decided Base (values_of FrameKey keys))
+    (set_decided IsSize (λ value. number_decided 3 1000 value) (λ size. HasSize command size) (unsized_decided command) (sized_by command) (values_of SizeKey keys))))))))
+
+ask_decided : (command : Command) (keys : List (List ℕ)) → Decided (AskOf command keys)
+ask_decided command keys =
+    moved
+    (λ (p : HasParts command keys). (
+      record { command = command; order = p.order.0; bits = p.bits.0; within = p.within.0; layout = record { by = p.place.0; frame = p.frame.0 }; size = p.size.0 },
+      refl,
+      record { known = p.known; order = p.order.1; bits = p.bits.1; within = p.within.1; place = p.place.1; frame = p.frame.1; size = p.size.1; sized = p.size.2 },
+    ))
+    (λ (request, is, h). record {
+      known = subst (λ c. All (λ word. IsKeyOf c word) keys) is h.known;
+      order = (request.order, h.order);
+      bits = (request.bits, h.bits);
+      within = (request.within, h.within);
+      place = (request.layout.by, h.place);
+      frame = (request.layout.frame, h.frame);
+      size = (request.size, h.size, subst (λ c. HasSize c request.size) is h.sized);
+    })
+    (parts_decided command keys)
+
+-- what words ask for is settled
+pub form_decided : (words : List (List ℕ)) → Decided (AreOfForm words)
+form_decided [] = inr (λ h. h.1)
+form_decided (first ∷ keys) =
+    moved (λ (command, command_in, (word, (request, is, h))). (request, (word ∙ ap command_word (sym is), h))) (λ (request, (word, h)). (request.command, command_listed request.command, (word, (request, refl, h))))
+    (some_in (λ command. (first ≡ command_word command) × AskOf command keys) (λ command. both (bytes_decided first (command_word command)) (ask_decided command keys)) all_commands)
