@@ -1,15 +1,13 @@
 -- The line of a place is read as that place, and of a circle with its radius.
-use Rattle.std.proofs.Common.{◌≡◌, ◌≢◌, inl, inr, ℕ, ◌+◌, ◌≤◌, ◌^◌, ◌==◌, ℤ, pos, ◌*ℤ◌, Bool, true, false, not, List, [], ◌∷◌, ◌++◌, length, Option, Some, None, is_none, is_some, codes, IsTrue, refl, sym, ap, subst, ◌∙◌, arith, append-nil}
-use Rattle.std.specs.Prelude.{AllPairs, Contains, find, unwrap_or}
+use Rattle.std.proofs.Common.{◌≡◌, ◌≢◌, inl, inr, ℕ, ◌≤◌, ◌==◌, ℤ, true, false, List, [], ◌∷◌, ◌++◌, length, Option, Some, None, is_some, codes, refl, ap, subst, ◌∙◌, arith}
+use Rattle.std.specs.Prelude.{Contains}
 use Rattle.std.specs.List.{list_any, zip}
 use Rattle.std.specs.Option.{option_map}
 use Rattle.std.proofs.lemmas.Bool.Decides.{eqb_tells}
 use Rattle.std.proofs.lemmas.Int.{ints}
-use Rattle.std.proofs.lemmas.List.Elements.{Contains-append_left}
 use Rattle.sk_base.specs.declared.At.{At}
 use Rattle.sk_base.specs.declared.At.TheVariants as at
 use Rattle.sk_base.specs.declared.Elem.{Elem}
-use Rattle.sk_base.specs.declared.Element.{Element}
 use Rattle.sk_base.specs.declared.Placed.{Placed}
 use Rattle.sk_base.specs.declared.Shape.{Shape}
 use Rattle.sk_base.specs.declared.Shape.TheVariants.{Point, Line, Circle}
@@ -19,7 +17,7 @@ use Rattle.sk_base.specs.declared.Um.{Um}
 use Rattle.sk_base.specs.Bounds.{IsWithin}
 use Rattle.sk_base.specs.Numbering.{elem_exact}
 use Rattle.sk_base.specs.Places.{place_of, IsBounded}
-use Rattle.sk_base.specs.SoundSketch.{IsSoundSketch, IsSoundShape, IsLength}
+use Rattle.sk_base.specs.SoundSketch.{IsSoundShape, IsLength}
 use Rattle.sk_base.specs.Spelling.{spaced, whole_text}
 use Rattle.sk_base.proofs.Finding.{nothing_found}
 use Rattle.sk_graph.specs.SketchGraph.{kind_of, drawn_as}
@@ -33,7 +31,7 @@ use Rattle.sk_claims.specs.declared.claim.Radius.{Radius}
 use Rattle.sk_claims.specs.declared.claim_line.SoFar.{SoFar}
 use Rattle.sk_claims.specs.declared.first_word.Figure.{Figure}
 use Rattle.sk_claims.specs.declared.first_word.Figure.TheVariants as figure
-use Rattle.sk_claims.specs.ClaimLines.{whole_of, whole, length_limit, normal_limit, limits_of, is_bad_whole, is_no_name, is_unknown, fits_shape, fits_element, is_placed, element_rows, spot_said, radius_said}
+use Rattle.sk_claims.specs.ClaimLines.{whole_of, length_limit, normal_limit, limits_of, is_bad_whole, is_no_name, is_unknown, fits_shape, fits_element, is_placed, element_rows, spot_said, radius_said}
 use Rattle.sk_claims.specs.ClaimText.{radius_drawn, lying_words}
 use Rattle.sk_claims.proofs.PrintedWords.{whole_back}
 use Rattle.sk_claims.proofs.SaidElements.{IsCalled, no_wrong_name, known, its_number}

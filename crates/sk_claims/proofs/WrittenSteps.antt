@@ -1,7 +1,6 @@
 -- The line of a step is read as that step.
-use Rattle.std.proofs.Common.{◌≡◌, ℕ, ◌+◌, ◌≤◌, Bool, true, false, List, [], ◌∷◌, ◌++◌, length, Option, Some, None, is_none, codes, refl, sym, ap, ◌∙◌, arith}
+use Rattle.std.proofs.Common.{◌≡◌, ℕ, ◌≤◌, true, false, List, [], ◌∷◌, ◌++◌, Some, None, is_none, codes, refl, ap, arith}
 use Rattle.std.specs.List.{list_any}
-use Rattle.sk_base.specs.declared.Elem.{Elem}
 use Rattle.sk_base.specs.declared.Name.{Name}
 use Rattle.sk_base.specs.declared.Sign.TheVariants.{Plus, Minus}
 use Rattle.sk_base.specs.declared.Sketch.{Sketch}
@@ -21,7 +20,7 @@ use Rattle.sk_tree.specs.declared.Choice.TheVariants.{Turn, Advance, Nothing}
 use Rattle.sk_tree.specs.declared.PlanStep.{PlanStep}
 use Rattle.sk_claims.specs.declared.claim.Radius.{Radius}
 use Rattle.sk_claims.specs.declared.claim_line.SoFar.{SoFar}
-use Rattle.sk_claims.specs.ClaimLines.{choice_of, is_choice_long, is_no_name, is_unknown, corner_rows, step_rows, step_said, word_rows, with_line}
+use Rattle.sk_claims.specs.ClaimLines.{choice_of, is_choice_long, is_no_name, is_unknown, corner_rows, step_said, word_rows, with_line}
 use Rattle.sk_claims.specs.ClaimText.{choice_words, step_words, CanBeSaid}
 use Rattle.sk_claims.specs.Printed.{HasPlainNumber}
 use Rattle.sk_claims.proofs.PrintedWords.{cluster_back}

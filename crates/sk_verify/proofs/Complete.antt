@@ -1,6 +1,6 @@
 -- Where each element is told, just the nodes of the graph are placed.
 use Rattle.std.proofs.Common.{◌≡◌, ◌≢◌, inl, inr, ◌==◌, ◌<◌, true, pos, refl, sym, subst, ap, ◌∙◌, arith}
-use Rattle.std.specs.Prelude.{Contains, Option, Some, None, IsSome, find, unwrap_or}
+use Rattle.std.specs.Prelude.{Contains, Option, Some, IsSome, find, unwrap_or}
 use Rattle.std.specs.Option.{option_map}
 use Rattle.std.proofs.lemmas.Bool.Decides.{eqb_tells}
 use Rattle.sk_base.specs.declared.At.{At}

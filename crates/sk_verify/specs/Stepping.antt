@@ -1,5 +1,5 @@
 -- What the functions of this crate tell each other on the way.
-use Rattle.std.specs.Prelude.{◌≡◌, ⊤, ◌+◌, ◌≤◌, nat_lt, if◌then◌else◌, List, Option, Some, None, MatchOption, length}
+use Rattle.std.specs.Prelude.{◌≡◌, ⊤, ◌+◌, ◌≤◌, List, Option, MatchOption, length}
 use Rattle.sk_base.specs.declared.Element.{Element}
 use Rattle.sk_base.specs.declared.Elem.{Elem}
 use Rattle.sk_base.specs.declared.Graph.{Graph}
@@ -7,7 +7,6 @@ use Rattle.sk_base.specs.declared.Sketch.{Sketch}
 use Rattle.sk_family.specs.Clusters.{Clusters, initial_clusters}
 use Rattle.sk_residual.specs.declared.Spotted.{Spotted}
 use Rattle.sk_holding.specs.Items.{Item}
-use Rattle.sk_residual.specs.Tolerances.{number_in}
 use Rattle.sk_tree.specs.declared.PlanStep.{PlanStep}
 use Rattle.sk_claims.specs.declared.Claim.{Claim}
 use Rattle.sk_verify.specs.declared.failure.Failure.{Failure}
