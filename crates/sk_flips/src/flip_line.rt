@@ -44,12 +44,7 @@ impl LineReader for FlipLines {
 
     ghost adds = { λ _ so_far line after. Adds so_far line after };
 
-    fn after_line(
-        &self,
-        alloc: Global,
-        so_far: SoFar,
-        line: &[u8],
-    ) -> Result<SoFar, EntryError> {
+    fn after_line(&self, alloc: Global, so_far: SoFar, line: &[u8]) -> Result<SoFar, EntryError> {
         let words = split_words(alloc, line)?;
         let words = words.items.as_slice();
         if words.is_empty() {
