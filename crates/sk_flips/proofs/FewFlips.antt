@@ -10,16 +10,15 @@ use Rattle.sk_lines.specs.ClusterWords.{has_twins}
 use Rattle.sk_lines.specs.ByteCodes.{byte_rows}
 use Rattle.sk_lines.specs.EndLine.{end_rows}
 use Rattle.sk_lines.specs.FirstCode.{first_code}
-use Rattle.sk_lines.specs.LineCodes.{along, HaveNone}
+use Rattle.sk_lines.specs.LineCodes.{along, HaveNone, LeadTo}
 use Rattle.sk_lines.specs.Lines.{lines_in}
 use Rattle.sk_lines.proofs.FirstCodes.{none_behind}
-use Rattle.sk_lines.proofs.LineFaults.{all_read}
 use Rattle.sk_flips.specs.declared.flip_line.Place.{Place}
 use Rattle.sk_flips.specs.declared.flip_line.Place.TheVariants.{Among, Past}
 use Rattle.sk_flips.specs.declared.flip_line.SoFar.{SoFar}
 use Rattle.sk_flips.specs.FlipLines.{step_named, is_no_step, flip_rows, rows_at, added_at, word_rows, code_of, with_line}
-use Rattle.sk_flips.specs.FlipReading.{nothing_yet}
-use Rattle.sk_flips.proofs.FlipsSoFar.{HasRead}
+use Rattle.sk_flips.specs.FlipReading.{nothing_yet, Adds}
+use Rattle.sk_flips.proofs.FlipsSoFar.{all_said}
 
 -- a line of flips has no code only where fewer than 64 stand
 has_room : (b : Bool) → first_code ((b, E21) ∷ []) ≡ None → b ≡ false
@@ -49,9 +48,8 @@ few_along [] so_far few clean = few
 few_along (line ∷ lines) so_far few clean =
     few_along lines (with_line so_far line) (few_at so_far.place so_far.flips (words_in line) few (none_behind (byte_rows line) (word_rows so_far (words_in line)) clean.0)) clean.1
 
--- nor so far, where all was read
-pub few_read : (bytes rest : List ℕ) (so_far : SoFar) (first number : ℕ) → HasRead bytes rest so_far first number → rest ≡ [] → length so_far.flips ≤ 64
-few_read bytes rest so_far first number at none =
-    let at_end : HasRead bytes [] so_far first number = subst (λ (bs : List ℕ). HasRead bytes bs so_far first number) none at in
-    let all = all_read code_of with_line nothing_yet (lines_in bytes) so_far first number at_end in
+-- nor in all that was read
+pub few_read : (bytes : List ℕ) (so_far : SoFar) → LeadTo Adds nothing_yet (lines_in bytes) so_far → length so_far.flips ≤ 64
+few_read bytes so_far led =
+    let all = all_said (lines_in bytes) so_far led in
     subst (λ (z : SoFar). length z.flips ≤ 64) all.1 (few_along (lines_in bytes) nothing_yet (omega arith) all.0)

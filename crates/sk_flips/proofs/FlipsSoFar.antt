@@ -1,21 +1,22 @@
 -- What was read of the text behind a sketch, line by line, as flips.
-use Rattle.std.proofs.Common.{◌≡◌, ◌⊎◌, inl, inr, ℕ, ◌+◌, List, [], ◌∷◌, length, Option, None, Some, refl, sym, ap, subst, ◌∙◌, arith}
+use Rattle.std.proofs.Common.{◌≡◌, ◌⊎◌, inl, inr, ℕ, ◌+◌, List, length, Option, None, Some, Result, Ok, Err, IsErr, IsErrAnd, IfErr, refl, sym, ap, subst, ◌∙◌, arith}
 use Rattle.sk_base.specs.declared.Name.{Name}
 use Rattle.sk_lex.specs.Words.{words_in}
 use Rattle.sk_lines.specs.declared.Code.{Code}
 use Rattle.sk_lines.specs.declared.Code.TheVariants.{E16}
-use Rattle.sk_lines.specs.declared.EntryError.{EntryError}
-use Rattle.sk_lines.specs.declared.EntryError.TheVariants.{Refused, NoMemory}
+use Rattle.sk_lines.specs.declared.ReadError.{ReadError}
+use Rattle.sk_lines.specs.declared.ReadError.TheVariants as read
 use Rattle.sk_lines.specs.ByteCodes.{byte_rows}
-use Rattle.sk_lines.specs.Refusals.{IsRefusal, error_at}
 use Rattle.sk_lines.specs.Lines.{lines_in}
 use Rattle.sk_lines.proofs.FirstCodes.{code_behind}
-use Rattle.sk_lines.proofs.LineFaults.{StandsAt, IsClean, IsFault, stands_next, faulty_here, all_read, clean_or_fault, no_fault, one_fault}
+use Rattle.sk_lines.specs.LineCodes.{LeadTo, IsLineRefusal}
+use Rattle.sk_lines.proofs.Leading.{led_along, refused_along}
+use Rattle.sk_lines.proofs.LineFaults.{IsClean, IsFault, clean_or_fault, no_fault, one_fault}
 use Rattle.sk_flips.specs.declared.flip_line.Place.{Place}
 use Rattle.sk_flips.specs.declared.flip_line.Place.TheVariants.{Among, Past}
 use Rattle.sk_flips.specs.declared.flip_line.SoFar.{SoFar}
 use Rattle.sk_flips.specs.FlipLines.{word_rows, code_of, with_line}
-use Rattle.sk_flips.specs.FlipReading.{nothing_yet, said_by, ReadsFlips, RefusesFlips, AtLine, NoEnd, IsFlipRefusal, Adds}
+use Rattle.sk_flips.specs.FlipReading.{nothing_yet, said_by, HaveNoCode, ReadsFlips, RefusesFlips, AtLine, NoEnd, IsFlipRefusal, Adds}
 
 abbrev end_of : Place → Option Code
 end_of Among = Some E16
@@ -24,10 +25,6 @@ end_of Past = None
 -- the code at the end of the lines, where no `end` has come
 abbrev end_code : SoFar → Option Code
 end_code so_far = end_of so_far.place
-
--- the lines before the rest have no code, and say so much
-abbrev pub HasRead : List ℕ → List ℕ → SoFar → ℕ → ℕ → Type 0
-HasRead bytes rest so_far first number = StandsAt code_of with_line nothing_yet (lines_in bytes) (lines_in rest) so_far first number
 
 abbrev IsWhole : List ℕ → Type 0
 IsWhole bytes = IsClean code_of with_line end_code nothing_yet (lines_in bytes)
@@ -58,26 +55,33 @@ faulty : (first : ℕ) (bytes : List ℕ) (n : ℕ) (code : Code) → RefusesFli
 faulty first bytes n code (AtLine before line c found) = inl (record { before = before; line = line; first = found; number = omega arith })
 faulty first bytes n code (NoEnd clean among) = inr (record { clean = clean; code_is = ap end_of among; number = omega arith })
 
--- one line further
-pub read_next : (bytes rest line more : List ℕ) (so_far after : SoFar) (first number : ℕ) → HasRead bytes rest so_far first number → lines_in rest ≡ line ∷ lines_in more → Adds so_far line after → HasRead bytes more after first (number + 1)
-read_next bytes rest line more so_far after first number at is adds =
-    stands_next code_of with_line nothing_yet (lines_in bytes) (lines_in rest) line (lines_in more) so_far after first number at is
-    (code_behind (byte_rows line) (word_rows so_far (words_in line)) adds.fine ∙ adds.words.clean) adds.words.added
+-- a line that is added has no code, and says just that
+told : (so_far : SoFar) (line : List ℕ) (after : SoFar) → Adds so_far line after → (code_of so_far line ≡ None) × (after ≡ with_line so_far line)
+told so_far line after adds = (code_behind (byte_rows line) (word_rows so_far (words_in line)) adds.fine ∙ adds.words.clean, adds.words.added)
 
-pub read_refused : (bytes rest line : List ℕ) (more : List (List ℕ)) (so_far : SoFar) (first number : ℕ) (error : EntryError) → HasRead bytes rest so_far first number → lines_in rest ≡ line ∷ more
-    → IsRefusal (code_of so_far line) error → IsFlipRefusal first bytes (error_at (number + 1) error)
-read_refused bytes rest line more so_far first number NoMemory at is code_is = tt
-read_refused bytes rest line more so_far first number (Refused code) at is code_is =
-    refuses first bytes (number + 1) code (inl (faulty_here code_of with_line nothing_yet (lines_in bytes) (lines_in rest) line more so_far first number code at is code_is))
+pub all_said : (lines : List (List ℕ)) (so_far : SoFar) → LeadTo Adds nothing_yet lines so_far → HaveNoCode lines × (said_by lines ≡ so_far)
+all_said lines so_far led = led_along code_of Adds with_line told lines nothing_yet so_far led
+
+pub read_refused : (first : ℕ) (bytes : List ℕ) (error : ReadError) → IsLineRefusal code_of Adds nothing_yet first (lines_in bytes) error → IsFlipRefusal first bytes error
+read_refused first bytes (read.Refused refusal) at = refuses first bytes refusal.line refusal.code (inl (refused_along code_of Adds with_line told nothing_yet (lines_in bytes) first refusal.line refusal.code at))
+read_refused first bytes read.NoMemory at = tt
+
+pub text_refused : {X : Type 0} (r : Result X ReadError) (error : ReadError) (first : ℕ) (bytes : List ℕ) → IsErr r × IsErrAnd r (λ e. e ≡ error) → IsFlipRefusal first bytes error → IfErr r (IsFlipRefusal first bytes)
+text_refused (Ok x) error first bytes is refused = tt
+text_refused (Err e) error first bytes is refused = subst (IsFlipRefusal first bytes) (sym is.1) refused
 
 -- no `end` has come at the end
-pub read_unended : (bytes : List ℕ) (so_far : SoFar) (first number : ℕ) → HasRead bytes [] so_far first number → so_far.place ≡ Among → RefusesFlips first bytes (number + 1) E16
-read_unended bytes so_far first number at among =
-    let all = all_read code_of with_line nothing_yet (lines_in bytes) so_far first number at in
-    refuses first bytes (number + 1) E16 (inr (record { clean = all.0; code_is = ap end_code all.1 ∙ ap end_of among; number = (let count = all.2 in omega (arith, count)) }))
+pub read_unended : (bytes : List ℕ) (so_far : SoFar) (first number : ℕ) → LeadTo Adds nothing_yet (lines_in bytes) so_far → number ≡ first + length (lines_in bytes) → so_far.place ≡ Among → RefusesFlips first bytes (number + 1) E16
+read_unended bytes so_far first number led count among =
+    let all = all_said (lines_in bytes) so_far led in
+    refuses first bytes (number + 1) E16 (inr (record { clean = all.0; code_is = ap end_code all.1 ∙ ap end_of among; number = omega (arith, count) }))
 
 past_is : (so_far : SoFar) (lists : List (List Name)) → so_far.place ≡ Past → so_far.flips ≡ lists → so_far ≡ record { place = Past; flips = lists }
 past_is so_far lists place flips = ap (λ (at : Place). let made : SoFar = record { place = at; flips = so_far.flips } in made) place ∙ ap (λ (fs : List (List Name)). let made : SoFar = record { place = Past; flips = fs } in made) flips
+
+-- the `end` has come
+pub read_ended : (bytes : List ℕ) (so_far : SoFar) → LeadTo Adds nothing_yet (lines_in bytes) so_far → so_far.place ≡ Past → ReadsFlips bytes so_far.flips
+read_ended bytes so_far led past = let all = all_said (lines_in bytes) so_far led in record { clean = all.0; said = all.1 ∙ past_is so_far so_far.flips past refl }
 
 whole : (bytes : List ℕ) (lists : List (List Name)) → ReadsFlips bytes lists → IsWhole bytes
 whole bytes lists reads = record { clean = reads.clean; ended = ap end_code reads.said }

@@ -11,7 +11,7 @@ ghost use Rattle.sk_flips.specs.FlipReading.{among, AddsWords, Adds, IsNameRefus
 
 use sk_base::{List, Name};
 use sk_lex::Word;
-use sk_lines::{Code, EntryError, is_word, name_of, split_words, word};
+use sk_lines::{Code, EntryError, LineReader, is_word, name_of, split_words, word};
 use std::alloc::Global;
 
 /// The most lines of flips.
@@ -34,19 +34,26 @@ pub(crate) struct SoFar {
     pub(crate) flips: List<List<Name>>,
 }
 
-/// What was read behind the next line.
-pub(crate) fn after_line(alloc: Global, so_far: SoFar, line: &[u8]) -> Result<SoFar, EntryError>
-    ensures adds { IfOk result (Adds so_far line.now) }
-    ensures refused { IfErr result (IsRefusal (code_of so_far line.now)) }
-{
-    let words = split_words(alloc, line)?;
-    let words = words.items.as_slice();
-    if words.is_empty() {
-        return Ok(so_far);
-    }
-    match so_far.place {
-        Place::Among => after_words(alloc, so_far.flips, line, words),
-        Place::Past => Err(EntryError::Refused(Code::E17)),
+/// The lines of flips, up to their `end`.
+pub(crate) struct FlipLines;
+
+impl LineReader for FlipLines {
+    type SoFar = SoFar;
+
+    ghost code_of = { λ _ so_far line. code_of so_far line };
+
+    ghost adds = { λ _ so_far line after. Adds so_far line after };
+
+    fn after_line(&self, alloc: Global, so_far: SoFar, line: &[u8]) -> Result<SoFar, EntryError> {
+        let words = split_words(alloc, line)?;
+        let words = words.items.as_slice();
+        if words.is_empty() {
+            return Ok(so_far);
+        }
+        match so_far.place {
+            Place::Among => after_words(alloc, so_far.flips, line, words),
+            Place::Past => Err(EntryError::Refused(Code::E17)),
+        }
     }
 }
 

@@ -5,9 +5,9 @@ ghost use Rattle.sk_lines.specs.Lines.{lines_in};
 ghost use Rattle.sk_lines.specs.declared.Code.{Code as AnyCode};
 ghost use Rattle.sk_flips.specs.FlipReading.{ReadsFlips, RefusesFlips, IsFlipRefusal};
 
-use crate::flip_line::{Place, SoFar, after_line};
+use crate::flip_line::{FlipLines, Place, SoFar};
 use sk_base::{List, Name};
-use sk_lines::{Code, ReadError, split_line};
+use sk_lines::{Code, ReadError, read_lines};
 use std::alloc::Global;
 
 /// Reads the flips that stand behind the `end` of a sketch, up to their own `end`: the steps that each
@@ -18,21 +18,11 @@ pub fn read_flips(alloc: Global, bytes: &[u8], first: u32) -> Result<List<List<N
     ensures few { IfOk result (λ lists. length lists ≤ 64) }
     ensures refuses { IfErr result (IsFlipRefusal first bytes.now) }
 {
-    let mut so_far = SoFar {
+    let nothing = SoFar {
         place: Place::Among,
         flips: List::new(alloc),
     };
-    let mut number = first;
-    let mut rest = bytes;
-    while !rest.is_empty() {
-        let (line, after) = split_line(rest);
-        number += 1;
-        so_far = match after_line(alloc, so_far, line) {
-            Ok(further) => further,
-            Err(error) => return Err(error.at_line(number)),
-        };
-        rest = after;
-    }
+    let (so_far, number) = read_lines(alloc, &FlipLines, nothing, bytes, first)?;
     match so_far.place {
         Place::Among => Err(ReadError::refused(number + 1, Code::E16)),
         Place::Past => Ok(so_far.flips),

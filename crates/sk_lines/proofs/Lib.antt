@@ -1,6 +1,7 @@
 pub mod Amounts
 pub mod Finding
 pub mod FirstCodes
+pub mod Leading
 pub mod LineByLine
 pub mod LineCounts
 pub mod LineFaults

@@ -8,6 +8,7 @@ mod keyword;
 mod law;
 mod lines;
 mod ratio;
+mod reading;
 mod version;
 
 pub use cluster_word::{name_of, plain_number};
@@ -17,4 +18,5 @@ pub use keyword::{Keyword, keyword_of};
 pub use law::quantities_are_sound;
 pub use lines::{bytes_at, is_word, split_line, split_words, word, words_under};
 pub use ratio::angle_ratio;
+pub use reading::{LineReader, read_lines};
 pub use version::Version;
