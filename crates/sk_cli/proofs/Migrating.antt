@@ -17,7 +17,8 @@ use Rattle.sk_cli.specs.declared.status.Status.TheVariants.{Done, Refused}
 use Rattle.sk_cli.specs.Accounts.{IsAccount}
 use Rattle.sk_cli.specs.Outcome.{IsAccountAnswer, IsPlanOrReport, IsSolveAnswer, IsSolved, IsAnswerOf, IsOutcome}
 use Rattle.sk_cli.specs.Migration.{ReadsOneSketch, AskOfOneSketch, IsMigrated}
-use Rattle.sk_cli.proofs.OneOutcome.{OneSketch, NotBoth, same_request}
+use Rattle.sk_request.proofs.OneRequest.{same_request}
+use Rattle.sk_cli.proofs.OneOutcome.{OneSketch, NotBoth}
 use Rattle.sk_cli.proofs.WhyEnds.{answer_about}
 
 -- the laws of the language that it takes

@@ -28,7 +28,7 @@ use Rattle.sk_gen.specs.DatumSketch.{datum_sketch}
 use Rattle.sk_cli.specs.declared.status.Status.{Status}
 use Rattle.sk_cli.specs.declared.status.Status.TheVariants.{Done, Refused, Usage, ReadFault, WriteFault, NoMemory, NotWell, StepFault, Tolerance, NotVerified}
 use Rattle.sk_request.specs.Asking.{Asks, AreOfForm, TakesInput, AskForInput}
-use Rattle.sk_cli.proofs.OneOutcome.{same_request}
+use Rattle.sk_request.proofs.OneRequest.{same_request}
 use Rattle.sk_cli.specs.Solving.{status_of}
 use Rattle.sk_cli.specs.Outcome.{IsOutcome, IsAnswer, IsAnswerOf, IsAccountAnswer, IsSolved, IsWritten, usage_line}
 use Rattle.sk_cli.specs.SessionAnswer.{RepliesToFront}

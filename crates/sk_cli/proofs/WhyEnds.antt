@@ -37,7 +37,8 @@ use Rattle.sk_cli.specs.Solving.{midpoints, status_of, IsMeasured, IsPlacement}
 use Rattle.sk_cli.specs.Outcome.{IsPlanBy, IsPlanOrReport, IsSolved, IsAnswer, IsAnswerOf, IsAccountAnswer, IsOutcome}
 use Rattle.sk_cli.specs.Causes.{plans, solves, IsReportOf, IsSketchOf, IsRefusedInput, IsItsPlan, HasFault, LieAt, NonePasses, SomePasses, SomeTurned}
 use Rattle.sk_flips.proofs.OnePlacement.{laid_measured, same_placement}
-use Rattle.sk_cli.proofs.OneOutcome.{OneSketch, NotBoth, OneJudgement, LowerLaws, still_well, same_plan, same_request, told_account, told_plan, told_planned, told_solve, told_offers, told_session, told_claim, told_flips, told_flipped, not_read_and_refused, not_accepted_and_failing, not_claimed_and_refused, not_flips_and_refused}
+use Rattle.sk_request.proofs.OneRequest.{same_request}
+use Rattle.sk_cli.proofs.OneOutcome.{OneSketch, NotBoth, OneJudgement, LowerLaws, still_well, same_plan, told_account, told_plan, told_planned, told_solve, told_offers, told_session, told_claim, told_flips, told_flipped, not_read_and_refused, not_accepted_and_failing, not_claimed_and_refused, not_flips_and_refused}
 use Rattle.sk_cli.proofs.Runs.{solved_told}
 use Rattle.sk_cli.specs.VerifyAnswer.{HasClaim}
 use Rattle.sk_lines.specs.declared.Refusal.{Refusal}
