@@ -8,3 +8,6 @@ files of these programs.
 Nothing here is proved, and nothing here decides: every verdict, place and tolerance is the
 program's.
 """
+
+__version__ = "0.1.0"
+"""The version of a release: of the program, the library, this package, the manual pages."""

@@ -12,6 +12,7 @@ from enum import IntEnum
 from pathlib import Path
 from typing import TypeAlias
 
+from . import __version__
 from .answers import DrawingRefused, Judgement, judge
 from .drawing_sheet import DrawingSheet, NoPlaces
 from .dxf import MissingLibrary, Release
@@ -56,7 +57,7 @@ def main(words: Sequence[str] | None = None) -> int:
     """Does what the words ask for, and returns the exit status."""
     if isinstance(sys.stdout, io.TextIOWrapper):
         sys.stdout.reconfigure(errors="backslashreplace")
-    options = _parser().parse_args(words)
+    options = command_line().parse_args(words)
     act: Callable[[argparse.Namespace], Exit] = options.act
     try:
         return act(options)
@@ -83,13 +84,15 @@ def _complain(error: Exception, status: Exit) -> Exit:
     return status
 
 
-def _parser() -> argparse.ArgumentParser:
+def command_line() -> argparse.ArgumentParser:
+    """The reader of the words of all commands."""
     parser = argparse.ArgumentParser(
         prog="pertxogai",
         epilog=EPILOG,
         formatter_class=argparse.RawDescriptionHelpFormatter,
         description="Asks the proved program `sketch` about a sketch: judges, places, draws it.",
     )
+    parser.add_argument("--version", action="version", version=f"pertxogai {__version__}")
     commands = parser.add_subparsers(dest="command", required=True, metavar="COMMAND")
     _add_judge(commands)
     _add_draw(commands)

@@ -167,7 +167,7 @@ def _missing_lines(judgement: Judgement) -> Iterator[str]:
     for piece in lacks.pieces:
         yield f"  piece {piece.number}: {' '.join(piece.elements)}"
     for joint in lacks.joints[:MOST_ADVICE]:
-        shared = f" share {' '.join(joint.shared)};" if joint.shared else ""
+        shared = f" share {' '.join(joint.shared)};" if joint.shared else ":"
         yield (f"  what to do: pieces {joint.first.number} and {joint.second.number}{shared} "
                f"{joint.tie.value}")
     if len(lacks.joints) > MOST_ADVICE:

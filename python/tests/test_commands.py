@@ -336,3 +336,14 @@ def test_a_picture_tells_what_is_left_out(capsys, tmp_path) -> None:
     for words in (["draw", str(file)], ["draw", "--as-drawn", str(file)]):
         assert judged(capsys, *words, "-o", str(out))[0] == 0
         assert "left out: Ellipse" in out.read_text()
+
+
+def test_pieces_that_share_a_line_without_a_name(capsys, tmp_path: Path) -> None:
+    """The hole is told from the left edge alone, so it slides along a line that no one drew."""
+    path = tmp_path / "plate.drawing"
+    path.write_text(
+        "rectangle Plate 0 0 100 60\ncircle Hole 30 20 6\ncoincident PlateBottom.start Origin\n"
+        "length PlateBottom 100\nlength PlateRight 60\nradius Hole 6\nx Hole 40\n"
+    )
+    status, out, _ = judged(capsys, "judge", str(path))
+    assert status == 1 and "pieces 1 and 2: they slide along a line: give a distance" in out

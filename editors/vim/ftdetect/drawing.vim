@@ -1,0 +1,2 @@
+" made by tools/pages
+autocmd BufNewFile,BufRead *.drawing setfiletype drawing

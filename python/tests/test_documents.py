@@ -1,0 +1,71 @@
+"""The pages: every link leads somewhere, and the first page is short."""
+from __future__ import annotations
+
+import re
+from pathlib import Path
+
+import pytest
+from conftest import TOP
+
+PAGES = [
+    page
+    for form in ("*.md", "crates/*/*.md", "python/**/*.md", "docs/*.md", "*s/README.md")
+    for page in sorted(TOP.glob(form))
+]
+LINK = re.compile(r"!?\[(?:[^\[\]]|!\[[^\]]*\]\([^)]*\))*\]\(([^()\s]+)\)")
+PICTURE = re.compile(r"!\[[^\]]*\]\(([^()\s]+)\)")
+
+
+def prose(page: Path) -> str:
+    """A page without what stands in its fenced blocks."""
+    lines, fence = [], ""
+    for line in page.read_text().splitlines():
+        mark = re.match(r"\s*(```+)", line)
+        if mark and fence in ("", mark[1]):
+            fence = "" if fence else mark[1]
+        elif not fence:
+            lines.append(line)
+    return "\n".join(lines)
+
+
+def links(page: Path) -> list[str]:
+    """Where a page leads to: its links and its pictures, without what stands in `code`."""
+    text = re.sub(r"``[^`]+``|`[^`\n]*`", "``", prose(page))
+    return LINK.findall(text) + PICTURE.findall(text)
+
+
+def anchors(page: Path) -> set[str]:
+    """The names of a page's headings, as a reader of pages makes them."""
+    found: set[str] = set()
+    for heading in re.findall(r"^#+ +(.*)$", prose(page), re.MULTILINE):
+        plain = re.sub(r"\[([^\]]*)\]\([^)]*\)", r"\1", heading).lower()
+        name = re.sub(r"[^\w\- ]", "", plain).strip().replace(" ", "-")
+        again = sum(it == name or re.fullmatch(re.escape(name) + r"-\d+", it) is not None for it in found)
+        found.add(f"{name}-{again}" if again else name)
+    return found
+
+
+@pytest.mark.parametrize("page", PAGES, ids=lambda it: str(it.relative_to(TOP)))
+def test_every_link_leads_somewhere(page: Path) -> None:
+    for link in links(page):
+        if re.match(r"https?:|mailto:", link):
+            continue
+        path, _, anchor = link.partition("#")
+        to = (page.parent / path).resolve() if path else page
+        assert to.exists(), f"{link}: there is no such file"
+        assert not anchor or anchor in anchors(to), f"{link}: there is no such heading"
+
+
+def test_the_first_page_is_short() -> None:
+    assert len((TOP / "README.md").read_text().splitlines()) <= 200
+
+
+def test_no_page_is_hidden() -> None:
+    """From the first page every page of docs/ is reached by links."""
+    reached, left = set(), [TOP / "README.md"]
+    while left:
+        page = left.pop()
+        reached.add(page)
+        ends = {(page.parent / it.partition("#")[0]).resolve() for it in links(page) if it[0] != "#"}
+        left += [it for it in ends if it.suffix == ".md" and it.exists() and it not in reached]
+    assert reached >= {*TOP.glob("*.md"), *TOP.glob("docs/*.md"), *TOP.glob("python/*.md")}

@@ -1,0 +1,285 @@
+"""What ./release makes, installed in roots of its own and run there; and when it makes nothing."""
+from __future__ import annotations
+
+import importlib.machinery
+import importlib.util
+import os
+import re
+import shutil
+import subprocess
+import sys
+from pathlib import Path
+from types import ModuleType
+from typing import Any
+
+import pytest
+from conftest import TOP
+
+from pertxogai import __version__
+from pertxogai.library import BUILD as LIBRARY
+from pertxogai.program import Program
+
+sys.path.insert(0, str(TOP / "tools"))
+from packing.gate import Gate  # noqa: E402
+from packing.made import Made, gate_text  # noqa: E402
+from packing.refusal import Refused  # noqa: E402
+from packing.wheel import PYTHON, make_wheel  # noqa: E402
+
+TRIANGLE = (TOP / "examples" / "triangle.sketch").read_text()
+WELL = (
+    "verdict well\nelements 3\nconstraints 3\nparts 1\n"
+    "part 1 sound elements 3 held 3 due 3 : A B C\n"
+)
+KIT_LICENCES = {
+    "slab": "slab/LICENSE",
+    "thiserror": "thiserror/LICENSE",
+    "indexmap-mit": "indexmap/LICENSE-MIT",
+    "indexmap-apache": "indexmap/LICENSE-APACHE",
+}
+APART = shutil.ignore_patterns("out", "dist", ".git", "__pycache__", ".mypy_cache")
+NOON = 1764331200
+"""28 November 2025, 12:00, in seconds since 1970."""
+
+
+def run(*words: object, **how: Any) -> subprocess.CompletedProcess[str]:
+    """A command, run to its end; its output is text."""
+    return subprocess.run([str(it) for it in words], capture_output=True, text=True, **how)
+
+
+def done(*words: object, **how: Any) -> str:
+    """What a command writes that has to end well."""
+    ended = run(*words, **how)
+    assert ended.returncode == 0, ended.stderr + ended.stdout
+    return ended.stdout
+
+
+def the_release() -> ModuleType:
+    """The script ./release, as a module."""
+    loader = importlib.machinery.SourceFileLoader("release", str(TOP / "release"))
+    spec = importlib.util.spec_from_loader("release", loader)
+    assert spec is not None
+    module = importlib.util.module_from_spec(spec)
+    loader.exec_module(module)
+    return module
+
+
+def library_folder() -> Path:
+    """Where c/build made the library that is tested."""
+    return Path(os.environ.get("PERTXOGAI_LIBRARY", LIBRARY)).parent
+
+
+@pytest.fixture(scope="session")
+def dist(program: Program, tmp_path_factory: pytest.TempPathFactory) -> Path:
+    """What a release has, made of the tree as it stands, and of the program and the library under
+    test."""
+    if not (library_folder() / "libsketch.a").exists():
+        pytest.skip("c/build hasn't made the library")
+    if not all(map(importlib.util.find_spec, ("pip", "setuptools", "wheel"))):
+        pytest.skip("Debian's python3-pip, python3-setuptools or python3-wheel is missing")
+    room = tmp_path_factory.mktemp("release")
+    shutil.copytree(TOP, room / "tree", ignore=APART)
+    wheel = make_wheel(room / "tree" / "python", room, NOON)
+    built, library = Path(program.path), library_folder()
+    text = gate_text(__version__, "0" * 40, "1234 passed, 0 failed", built, library)
+    made = Made(room / "tree", built, library, wheel, __version__, NOON, text)
+    the_release().pack(room, made, room / "dist")
+    return room / "dist"
+
+
+@pytest.fixture(scope="session")
+def installed(dist: Path, tmp_path_factory: pytest.TempPathFactory) -> Path:
+    """A root that has nothing but the Debian package: installed by dpkg where this is root, else
+    unpacked."""
+    root = tmp_path_factory.mktemp("root")
+    (package,) = dist.glob("*.deb")
+    if os.geteuid() != 0:
+        done("dpkg-deb", "-x", package, root)
+        return root
+    for name in ("updates", "info", "triggers"):
+        (root / "var/lib/dpkg" / name).mkdir(parents=True)
+    (root / "var/lib/dpkg/status").touch()
+    done("dpkg", f"--root={root}", "--force-depends", "--install", package)
+    assert "pertxogai" in done("dpkg", f"--root={root}", "-l")
+    return root
+
+
+def within(root: Path) -> dict[str, str]:
+    """An environment that finds the programs and the Python package of that root alone."""
+    return {
+        "PATH": f"{root}/usr/bin:/usr/bin:/bin",
+        "HOME": str(root),
+        "LC_ALL": "C.UTF-8",
+        "PYTHONPATH": str(root / "usr/lib/python3/dist-packages"),
+        "PYTHONDONTWRITEBYTECODE": "1",
+    }
+
+
+def test_a_release_has_a_tarball_a_package_a_wheel_and_checksums(dist: Path) -> None:
+    assert sorted(it.name for it in dist.iterdir()) == [
+        "GATE", "SHA256SUMS", f"pertxogai-{__version__}-py3-none-any.whl",
+        f"pertxogai-{__version__}-x86_64-linux.tar.gz", f"pertxogai_{__version__}_amd64.deb"]
+    done("sha256sum", "--quiet", "-c", "SHA256SUMS", cwd=dist)
+    gate = (dist / "GATE").read_text().splitlines()
+    assert gate[:2] == [f"pertxogai {__version__}", "commit " + "0" * 40]
+    assert gate[2] == "gate 1234 passed, 0 failed"
+    assert gate[3].startswith("kit ")
+
+
+def test_the_installed_program_answers(installed: Path) -> None:
+    program = installed / "usr/bin/sketch"
+    assert done(program, "check", input=TRIANGLE, env={}) == WELL
+
+
+def test_the_installed_command_judges(installed: Path, tmp_path: Path) -> None:
+    here = within(installed)
+    shutil.copy(TOP / "examples/triangle.sketch", tmp_path)
+    assert done("pertxogai", "--version", env=here) == f"pertxogai {__version__}\n"
+    judged = done("pertxogai", "judge", "triangle.sketch", env=here, cwd=tmp_path)
+    assert judged.startswith("triangle: well, elements 3, constraints 3, parts 1\n  placed within")
+    done("pertxogai", "draw", "triangle.sketch", "-o", "triangle.svg", env=here, cwd=tmp_path)
+    asked = "from pertxogai.program import Program; print(Program.find().path)"
+    found = done(PYTHON, "-c", asked, env=here)
+    assert found.strip() == str(installed / "usr/bin/sketch")
+
+
+def test_the_installed_library_links(installed: Path, tmp_path: Path) -> None:
+    libraries = installed / "usr/lib/x86_64-linux-gnu"
+    flags = [f"-I{installed}/usr/include", f"-L{libraries}", "-lsketch"]
+    for how in (flags, [flags[0], libraries / "libsketch.a"]):
+        done("cc", TOP / "c/examples/places.c", *how, "-o", tmp_path / "places")
+        said = done(tmp_path / "places", env={"LD_LIBRARY_PATH": str(libraries)})
+        assert said.splitlines()[-1] == "C lies at 40.000000, 30.000000 mm"
+    told = (libraries / "pkgconfig/sketch.pc").read_text()
+    assert f"Version: {__version__}\n" in told and "@" not in told
+    assert "libdir=${prefix}/lib/x86_64-linux-gnu\n" in told
+
+
+@pytest.mark.skipif(shutil.which("man") is None, reason="Debian's man-db is missing")
+@pytest.mark.parametrize("page", ["man1/sketch.1", "man1/pertxogai.1", "man5/sketch.5"])
+def test_the_installed_manual_is_shown(page: str, installed: Path) -> None:
+    shown = done("man", "-l", installed / f"usr/share/man/{page}.gz")
+    assert "NAME" in shown and f"pertxogai {__version__}" in shown
+
+
+def test_the_package_has_its_pages_and_what_editors_read(installed: Path) -> None:
+    shared = installed / "usr/share"
+    for name in ("doc/pertxogai/copyright", "doc/pertxogai/changelog.gz", "doc/pertxogai/GATE",
+                 "doc/pertxogai/examples/bracket.sketch", "doc/pertxogai/licences/slab.txt",
+                 "doc/pertxogai/docs/LANGUAGE.md", "bash-completion/completions/sketch",
+                 "vim/vimfiles/syntax/sketch.vim", "pertxogai/textmate/sketch.tmLanguage.json",
+                 "pertxogai/freecad/Pertxogai.FCMacro"):
+        assert (shared / name).is_file(), name
+    rights = {it.stat().st_mode & 0o777 for it in (installed / "usr").rglob("*")}
+    assert rights == {0o644, 0o755}
+
+
+def test_the_package_says_what_it_needs(dist: Path) -> None:
+    (package,) = dist.glob("*.deb")
+    said = done("dpkg-deb", "-f", package)
+    assert f"Version: {__version__}\n" in said
+    assert re.search(r"^Depends: libc6 \(>= 2\.\d+\), python3 \(>= 3\.11\)$", said, re.MULTILINE)
+    assert "Conflicts: sketch\n" in said
+
+
+def test_the_wheel_works_by_itself(dist: Path, program: Program, tmp_path: Path) -> None:
+    """In an environment of its own, without network."""
+    done(PYTHON, "-m", "venv", "--without-pip", tmp_path / "own")
+    python, (wheel,) = tmp_path / "own/bin/python", dist.glob("*.whl")
+    pip = [PYTHON, "-m", "pip", "--python", python]
+    done(*pip, "install", "--quiet", "--no-index", "--no-deps", wheel)
+    (tmp_path / "part.drawing").write_text("segment Edge 0 0 40 0\nlength Edge 40\n")
+    here = {"PATH": f"{tmp_path}/own/bin:/bin", "PERTXOGAI_SKETCH": program.path}
+    judged = run("pertxogai", "judge", "part.drawing", env=here, cwd=tmp_path)
+    assert judged.stdout.startswith("part: well"), judged.stderr
+    asked = "import pertxogai.page as page; print(page.__file__)"
+    where = done(python, "-c", asked, env=here)
+    assert (Path(where.strip()).parent / "static/index.html").is_file()
+
+
+def test_the_tarball_runs_where_it_is_unpacked(dist: Path, tmp_path: Path) -> None:
+    (packed,) = dist.glob("*.tar.gz")
+    done("tar", "-xzf", packed, "-C", tmp_path)
+    (root,) = tmp_path.iterdir()
+    done("sha256sum", "--quiet", "-c", "SHA256SUMS", cwd=root)
+    assert done(root / "bin/sketch", "check", input=TRIANGLE, env={}) == WELL
+    assert sorted(it.name for it in root.iterdir()) == [
+        "GATE", "README", "SHA256SUMS", "bin", "include", "lib", "licences", "share", "wheel"]
+    assert "prefix=${pcfiledir}/../..\n" in (root / "lib/pkgconfig/sketch.pc").read_text()
+
+
+def test_the_same_commit_packs_alike(dist: Path, tmp_path: Path) -> None:
+    """A wheel made again of the same files is the same, byte by byte."""
+    again = make_wheel(TOP / "python", tmp_path, NOON)
+    assert again.read_bytes() == (dist / again.name).read_bytes()
+
+
+def test_one_version() -> None:
+    heading = re.search(r"^## (\S+), ", (TOP / "CHANGELOG.md").read_text(), re.MULTILINE)
+    assert heading is not None and heading[1] == __version__
+    for page in (TOP / "man").iterdir():
+        assert f'"pertxogai {__version__}"' in page.read_text().splitlines()[0], page.name
+    for name in ("python/pyproject.toml", "c/sketch.pc.in", "c/CMakeLists.txt", "c/build"):
+        assert __version__ not in (TOP / name).read_text(), f"{name} says the version itself"
+
+
+@pytest.mark.skipif(not Path("/opt/rattle/rattle").is_dir(), reason="the kit is elsewhere")
+def test_the_licences_are_those_of_the_kit() -> None:
+    kit = Path("/opt/rattle/rattle")
+    for name, source in KIT_LICENCES.items():
+        assert (TOP / "licences" / f"{name}.txt").read_text() == (kit / source).read_text()
+    lines = (TOP / "crates.txt").read_text().splitlines()[1:]
+    names = {name for line in lines for name in line.partition(":")[2].split()}
+    assert {it for it in names if not it.startswith("sk_")} == {"thiserror", "indexmap", "slab"}
+
+
+@pytest.fixture
+def repository(tmp_path: Path, program: Program) -> Path:
+    """A clone of this tree, all committed, with the program where a build would put it."""
+    clone = tmp_path / "clone"
+    shutil.copytree(TOP, clone, ignore=APART)
+    done("git", "-C", clone, "init", "-q")
+    done("git", "-C", clone, "add", "-A")
+    who = ["-c", "user.name=nobody", "-c", "user.email=nobody@localhost"]
+    done("git", "-C", clone, *who, "commit", "-q", "-m", "all")
+    built = clone / "crates/sketch/out/sketch"
+    built.parent.mkdir()
+    shutil.copy(program.path, built)
+    return clone
+
+
+def refusal(repository: Path, *words: object) -> str:
+    """Why ./release makes nothing there."""
+    ended = run(repository / "release", *words)
+    assert ended.returncode == 1 and not (repository / "dist").exists(), ended.stdout
+    return ended.stderr
+
+
+@pytest.mark.skipif(shutil.which("git") is None, reason="git is missing")
+def test_nothing_is_released_of_a_changed_or_unproved_tree(repository: Path) -> None:
+    built = repository / "crates/sketch/out/sketch"
+    assert "no gate is recorded: pass .ci/run on this commit" in refusal(repository)
+    record = built.with_name("gate")
+    record.write_text(f"commit {'0' * 40}\nprogram {'0' * 64}\n12 passed, 0 failed\n")
+    assert "was passed by another commit or program" in refusal(repository)
+    output = repository.parent / "output"
+    output.write_text("12 passed, 1 failed\n")
+    assert "doesn't end in 'N passed, 0 failed'" in refusal(repository, "--gate", output)
+    os.utime(built, (NOON, NOON))
+    assert "the program is older than crates" in refusal(repository)
+    built.unlink()
+    assert "the program isn't proved: ./sketch prove" in refusal(repository)
+    (repository / "README.md").write_text("changed\n")
+    assert "the tree is changed, first README.md" in refusal(repository)
+
+
+def test_what_a_gate_says(tmp_path: Path) -> None:
+    output = tmp_path / "output"
+    output.write_text("rt: ok\n1234 passed, 0 failed\n")
+    assert Gate.of_output(output).line == "1234 passed, 0 failed"
+    passed = "5 passed, 0 failed\n"
+    for wrong in ("", "0 passed, 0 failed\n", passed + "killed\n", "15 passed, 10 failed\n"):
+        output.write_text(wrong)
+        with pytest.raises(Refused):
+            Gate.of_output(output)
+    with pytest.raises(Refused, match="can't be read"):
+        Gate.of_output(tmp_path / "none")

@@ -1,0 +1,28 @@
+"""What is built for a release, before it is put in its places."""
+from dataclasses import dataclass
+from pathlib import Path
+
+from .checksums import checksum
+from .running import said
+
+
+@dataclass(frozen=True)
+class Made:
+    """The committed files in the folder `tree`, the program, the folder that c/build made the library in, the wheel,
+    the version, the time of the commit (seconds since 1970), and what stands in GATE."""
+
+    tree: Path
+    program: Path
+    library: Path
+    wheel: Path
+    version: str
+    time: int
+    gate: str
+
+
+def gate_text(version: str, commit: str, line: str, program: Path, library: Path) -> str:
+    """What a release says of its gate: a word and its value on each line."""
+    kit = said("rt", "version").strip()
+    checksums = {each.name: checksum(each) for each in (program, library / "libsketch.a", library / "libsketch.so")}
+    rows = {"pertxogai": version, "commit": commit, "gate": line, "kit": kit, **checksums}
+    return "".join(f"{word} {value}\n" for word, value in rows.items())

@@ -1,0 +1,35 @@
+"""The tarball: a folder that lies anywhere, and can be copied over /usr/local or ~/.local."""
+from pathlib import Path
+
+from .checksums import write_checksums
+from .made import Made
+from .running import at_time, said
+from .staging import Places, level_rights, put, stage
+
+HERE = Places(Path("bin"), Path("include"), Path("lib"), Path("share"), "${pcfiledir}/../..", "${prefix}/lib")
+MACHINE = "x86_64-linux"
+SAY = """Pertxogai {version} for Linux on x86-64.
+
+    cp -r bin include lib share ~/.local    puts it where your shell looks for it, or in the place of ~/.local: /usr/local
+    pip install wheel/{wheel}    adds the command pertxogai and the Python package
+    man -l share/man/man1/sketch.1.gz    is the manual
+
+share/doc/pertxogai has the pages and the examples, licences what is linked, GATE what was proved and tested of which
+commit, SHA256SUMS the checksums of all: sha256sum --quiet -c SHA256SUMS
+"""
+
+
+def make_tarball(room: Path, made: Made, to: Path) -> Path:
+    """Packs the tarball into the folder `to`, and answers its path."""
+    root = room / f"pertxogai-{made.version}-{MACHINE}"
+    stage(root, HERE, made)
+    put(made.wheel, root / "wheel" / made.wheel.name)
+    put(made.tree / "licences", root / "licences")
+    (root / "GATE").write_text(made.gate)
+    (root / "README").write_text(SAY.format(version=made.version, wheel=made.wheel.name))
+    level_rights(root)
+    write_checksums(root)
+    packed = to / (root.name + ".tar.gz")
+    same = ["--sort=name", f"--mtime=@{made.time}", "--owner=0", "--group=0", "--numeric-owner"]
+    said("tar", *same, "--use-compress-program=gzip -n9", "-cf", packed, "-C", room, root.name, env=at_time(made.time))
+    return packed

@@ -1,0 +1,181 @@
+"""The one table of words: commands, keys, lines, codes and statuses, in the order in which a reader needs them.
+
+Its texts are those of docs/LANGUAGE.md and README.md, `so` marking what is typed; a test compares them.
+"""
+from dataclasses import dataclass
+
+PLACING = ("order", "bits", "within", "place", "frame")
+
+
+@dataclass(frozen=True)
+class Command:
+    """A command of `sketch`: what it reads and answers, and which keys it takes."""
+
+    word: str
+    reads: str
+    answers: str
+    keys: tuple[str, ...] = ()
+
+
+@dataclass(frozen=True)
+class Key:
+    """A key behind a command: the values that stand in the usage line, what these are, and which it is by itself."""
+
+    word: str
+    usage: str
+    values: str
+    default: str
+    means: str
+
+    @property
+    def choices(self) -> tuple[str, ...]:
+        """The values that are words or single numbers, and no range."""
+        return tuple(value for value in self.usage.split("|") if ".." not in value)
+
+
+@dataclass(frozen=True)
+class Line:
+    """A kind of line: its words, what it means, and the reply of a session where it has one."""
+
+    form: str
+    means: str
+    reply: str = ""
+
+    @property
+    def word(self) -> str:
+        """Its first word."""
+        return self.form.split()[0]
+
+
+@dataclass(frozen=True)
+class Code:
+    """A code of a refusal, the word behind it, and where it comes."""
+
+    code: str
+    word: str
+    where: str
+
+
+@dataclass(frozen=True)
+class Status:
+    """An exit status: what it means, and what is written then."""
+
+    number: int
+    means: str
+    written: str
+
+
+COMMANDS = (
+    Command("check", "a sketch", "the verdict and the parts", ("order",)),
+    Command("plan", "a sketch", "the steps of its construction", ("order",)),
+    Command("solve", "a sketch", "where the elements lie, and how exactly", PLACING),
+    Command("dxf", "a sketch", "the same as a drawing in DXF", PLACING),
+    Command("spare", "a sketch", "the constraints of which each may go by itself"),
+    Command("parts", "a sketch", "the verdict and the parts, each with where its own elements lie", PLACING),
+    Command("flips", "a sketch and lists of steps",
+            "for each list where the elements lie once the choices of its steps are turned over", PLACING),
+    Command("verify", "a sketch and a claim",
+            "whether the steps, places and tolerances that are claimed are right, or what fails first"),
+    Command("session", "edits and questions, a line each", "a reply to each", PLACING),
+    Command("offers", "a sketch and offered merges", "an answer to each, then the report of `check`", ("order",)),
+    Command("derive", "a sketch", "the clusters that hold together where angles add up", ("order",)),
+    Command("migrate", "a sketch", "the same sketch in version 2 of the text"),
+    Command("grow", "nothing", "a summary of `solve` on a sketch of `n=` elements", (*PLACING, "n")),
+)
+
+KEYS = (
+    Key("order", "first|last|0..65535", "`first`, `last`, 0 to 65535", "`first`",
+        "which of the possible merges is taken at each turn"),
+    Key("bits", "16|27|38", "`16`, `27`, `38`", "`38`", "the binary digits behind the point of a millimetre"),
+    Key("within", "1..1000000", "1 to 1000000, in nanometres and parts per 10⁹", "1000",
+        "the limit of both tolerances"),
+    Key("place", "boxes|points", "`boxes`, `points`", "`boxes`",
+        "whether a place is carried as a box, or settled at a point of the grid where it is made"),
+    Key("frame", "base|drawn", "`base`, `drawn`", "`base`",
+        "whether the places are told in the frame of the constraint that no step moves, or where that is drawn"),
+    Key("n", "3..1000", "3 to 1000", "it must be", "how many elements the sketch has that is made"),
+)
+
+ELEMENTS = (
+    Line("point NAME x y", "a point, drawn at x, y"),
+    Line("line NAME x1 y1 x2 y2", "a directed line without ends, drawn through the first place towards the second"),
+    Line("circle NAME x y r", "a circle of radius r, which is a dimension and exact; drawn with its centre at x, y"),
+)
+
+CONSTRAINTS = (
+    Line("distance U V len",
+         "two points or centres are so far apart; or a point or centre and a line, in either order"),
+    Line("on U V", "a point or centre U lies on the line V, or a point U on the circle V"),
+    Line("tangent U V", "a line and a circle, in either order, touch"),
+    Line("outside U V", "two circles touch from outside"),
+    Line("inside U V", "two circles of different radii touch, one inside the other"),
+    Line("angle L M p/q", "the angle from line L to line M has the tangent p/q"),
+    Line("block NAME x y NAME x y ..",
+         "in version 2: from 2 to 16 points or centres lie towards each other as these places, not mirrored"),
+)
+
+EDITS = (
+    Line("drop I", "takes constraint I away", "`ok`"),
+    Line("set I VALUE", "gives a `distance` a new length, an `angle` a new ratio", "`ok`"),
+    Line("erase NAME", "takes an element away that no constraint uses", "`ok`"),
+    Line("undo", "takes back the last accepted edit that stands", "`ok`"),
+)
+"""The lines that a session takes besides elements and constraints, `end` and its QUESTIONS."""
+
+QUESTIONS = ("check", "plan", "solve", "write")
+
+ENDS = ("sketch", "end")
+"""The words that begin and end a sketch."""
+
+TAILS = ("flip", "offer", "step", "tolerance")
+"""The first words of lines behind a sketch, beside those of elements."""
+
+STEP_WORDS = ("joins", "at", "keeps", "turn", "advance", "none")
+"""What stands between the names of a step."""
+
+STATUSES = (
+    Status(0, "the command did its work", "its report"),
+    Status(1, "the input is refused", "the refusal line"),
+    Status(2, "the words aren't of the form", "the usage line"),
+    Status(3, "standard input failed", "nothing"),
+    Status(4, "standard output failed", "what could be written of the text"),
+    Status(5, "memory ran out", "nothing; in a session the whole replies so far"),
+    Status(6, "`plan`, `solve`, `dxf`, `grow` or `flips` met a verdict other than `well`", "the check report"),
+    Status(7, "a step has no places, or a sign isn't as drawn", "the fault line"),
+    Status(8, "a tolerance is beyond the limit", "the fault line"),
+    Status(9, "`verify` met something of the claim that fails", "the line that names it"),
+    Status(10, "the arguments can't be read", "nothing"),
+)
+
+CODES = (
+    Code("E1", "header", "the first line that isn't blank is neither `sketch 1` nor `sketch 2`"),
+    Code("E2", "word", "the first word of a line behind the header is none of those above that the version has, and not"
+         " `end` (so a second `sketch` is)"),
+    Code("E3", "shape", "the number of words is wrong; `end` has further words"),
+    Code("E4", "name", "a word in a name's place isn't a name"),
+    Code("E5", "name-taken", "a declared name is in use"),
+    Code("E6", "unknown", "a name isn't declared"),
+    Code("E7", "kind", "the elements aren't of the kinds that the line needs; an element of a block is a line"),
+    Code("E8", "number", "a word in a number's or a ratio's place isn't one, passes its limit, or is a negative length or"
+         " radius"),
+    Code("E9", "zero", "a length or radius is 0, p is 0, `inside` has equal radii, or two places of a block are equal"),
+    Code("E10", "same", "two names are one element"),
+    Code("E11", "drawn-flat", "the two drawn places of a line are equal"),
+    Code("E12", "variable-radius",
+         "a `circle` line has exactly four words: circles of variable radius aren't supported"),
+    Code("E13", "too-many-elements", "2,000 elements stand already"),
+    Code("E14", "too-many-constraints", "4,000 constraints stand already"),
+    Code("E15", "line-too-long", "the line has more than 200 bytes"),
+    Code("E16", "no-end", "the text ends without `end`; N is the number of lines plus 1"),
+    Code("E17", "after-end", "a line that isn't blank follows `end`"),
+    Code("E18", "empty", "no line has a word (line 0), or `end` comes before any element"),
+    Code("E19", "not-ascii", "a byte is neither one from 0x20 to 0x7E nor a tab"),
+    Code("E20", "too-long", "the text has more than 1,048,576 bytes (line 0)"),
+    Code("E21", "too-many-flips", "64 lines of flips stand already, for `flips`"),
+    Code("S1", "no-such-number", "no constraint has the number"),
+    Code("S2", "in-use", "a constraint uses the element"),
+    Code("S3", "nothing-to-undo", "no accepted edit stands"),
+    Code("S4", "no-value", "the constraint is `on`, `tangent`, `outside`, `inside` or a block"),
+    Code("S5", "edits-spent", "1,000,000 edits and undos were accepted; a session of the program is too short for that,"
+         " since an edit or undo takes five bytes at least"),
+)
