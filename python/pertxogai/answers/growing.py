@@ -10,8 +10,8 @@ from math import isqrt
 
 from pertxogai.answers.placing import Plate, along
 from pertxogai.reports import PartsReport, Solved
-from pertxogai.spelling.axes import DATUM, Axes, Equation
-from pertxogai.spelling.facts import Knot
+from pertxogai.spelling.axes import Axes, Equation
+from pertxogai.spelling.facts import DATUM, Knot
 from pertxogai.spelling.rails import Rail, Rails, Size, Span
 from pertxogai.spelling.writing import Spelled
 from pertxogai.values import Form, LinearSystem

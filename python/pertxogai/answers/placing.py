@@ -2,14 +2,15 @@
 nanometres."""
 from __future__ import annotations
 
-from collections.abc import Sequence
+from collections.abc import Mapping, Sequence
 from dataclasses import dataclass
 from fractions import Fraction
 from math import cos, isqrt, sin
 
 from pertxogai.language import Placed, PlacedLine, PlacedPoint
-from pertxogai.spelling.axes import DATUM
+from pertxogai.spelling.facts import DATUM
 from pertxogai.spelling.writing import Heading, Spelled
+from pertxogai.values import Number
 
 Spot = tuple[Fraction, Fraction]
 DIGITS = 10 ** 24
@@ -75,7 +76,8 @@ def along(axis: Spot, upwards: bool, spot: Spot) -> Fraction:
     return a * y - b * x if upwards else a * x + b * y
 
 
-def in_datum(spelled: Spelled, plate: Plate, drawn: dict[str, Spot]) -> dict[str, tuple[int, int]]:
+def in_datum(spelled: Spelled, plate: Plate,
+             drawn: Mapping[str, tuple[Number, Number]]) -> dict[str, tuple[int, int]]:
     """Each point in the datum's frame, in whole nanometres. Where the drawing isn't tied to an
     axis, the first point has its drawn coordinate there; where it has no direction, the printed
     one stays."""
@@ -91,7 +93,7 @@ def in_datum(spelled: Spelled, plate: Plate, drawn: dict[str, Spot]) -> dict[str
 
 
 def _shift(spelled: Spelled, plate: Plate, axis: Spot, upwards: bool,
-           drawn: dict[str, Spot]) -> Fraction:
+           drawn: Mapping[str, tuple[Number, Number]]) -> Fraction:
     for each in spelled.headings:
         rail = each.rail
         if rail and rail.datum() and rail.upwards == upwards and each.name in plate.lines:

@@ -18,6 +18,7 @@ class Scene:
     def __init__(self, shapes: Iterable[Shape] = ()) -> None:
         self._shapes: dict[str, Shape | Datum] = {
             ORIGIN.shape: Origin(), X_AXIS.name: Axis(False), Y_AXIS.name: Axis(True)}
+        self._drawn: dict[PointRef, Place] = {}
         for shape in shapes:
             self.add(shape)
 
@@ -50,8 +51,11 @@ class Scene:
 
     def drawn(self, ref: PointRef) -> Place:
         """Where a point is drawn."""
-        spot = spot_of(self.shape(ref.shape), ref.which)
-        return self.drawn(spot) if isinstance(spot, PointRef) else spot
+        known = self._drawn.get(ref)
+        if known is None:
+            spot = spot_of(self.shape(ref.shape), ref.which)
+            known = self._drawn[ref] = self.drawn(spot) if isinstance(spot, PointRef) else spot
+        return known
 
     def drawn_radius_um(self, name: str) -> Fraction:
         """The drawn radius of a circle or an arc, in micrometres; an arc's is the distance of

@@ -14,6 +14,7 @@ from ..dxf import MissingLibrary, Release
 from ..found import FileRefusal
 from ..inputs import InputRefused
 from ..language import NotHeld, Refusal
+from ..measure import Spot
 from ..picture.designed import Whereabouts
 from ..program import Asks, ProgramError
 from ..reports import Flipped, NoChoice
@@ -154,14 +155,14 @@ def _redraw(desk: Desk, given: Fields) -> Json:
         return trouble("flip", "the other shape has no places, so nothing is drawn so")
     solution = found.solution
     moves = tuple((ref, _place(solution.spot(ref))) for ref in judged.drawing.points())
-    radii = tuple((name, solution.radius(name) / 1000) for name in solution.radii)
+    radii = tuple((name, Fraction(solution.radius(name)) / 1000) for name in solution.radii)
     return _whole(desk, desk.edited(Move(moves, radii).on(judged.drawing)))
 
 
-def _place(spot: tuple[Fraction, Fraction]) -> Place:
+def _place(spot: Spot) -> Place:
     """A place in nm, to the next micrometre."""
-    x, y = spot
-    return Place(Fraction(round(x / 1000)), Fraction(round(y / 1000)))
+    x, y = (Fraction(round(Fraction(each) / 1000)) for each in spot)
+    return Place(x, y)
 
 
 def _verify(desk: Desk, given: Fields) -> Json:

@@ -6,7 +6,7 @@ from collections.abc import Iterable, Mapping
 
 from ..answers import Judgement
 from ..drawing import (
-    Arc, Circle, Constraint, Drawing, PointRef, Shape, points_of, words_of)
+    Arc, Circle, Constraint, Drawing, PointRef, Shape, points_of)
 from ..measure import Solution
 from ..picture.designed import Whereabouts
 from ..reports import Solved
@@ -47,7 +47,7 @@ def _shape(where: Whereabouts, shape: Shape) -> Json:
 
 
 def _constraint(drawing: Drawing, number: int, constraint: Constraint) -> Json:
-    words = words_of(constraint).split()
+    words = drawing.wordings[number - 1].split()
     has_value = hasattr(constraint, "value_um") or hasattr(constraint, "value")
     return {"number": number, "name": constraint.name, "called": drawing.called(number),
             "words": " ".join(words), "word": words[0],
