@@ -4,6 +4,7 @@
 """
 from __future__ import annotations
 
+import gc
 import json
 import resource
 import sys
@@ -42,14 +43,17 @@ class Hasty:
 
 
 def main(words: Sequence[str]) -> None:
-    """Answers calls from standard input on standard output."""
+    """Answers calls from standard input on standard output. Rubbish is collected once an answer is
+    given, while none waits."""
     path, seconds, memory_mib = words
     limit_memory(int(memory_mib))
     program = Hasty(Program(path, memory_mib=int(memory_mib) or None), float(seconds))
     desk = Desk(program)
+    gc.disable()
     for line in sys.stdin:
         program.begin()
         print(json.dumps(_answer(desk, line)), flush=True)
+        gc.collect()
 
 
 def _answer(desk: Desk, line: str) -> dict[str, object]:

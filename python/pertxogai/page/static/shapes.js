@@ -79,7 +79,7 @@ export function shapeNode(shape, view, plane, options = {}) {
 
 /** The nodes of a shape's points: a small circle each, and a larger one to be hit. */
 export function pointNodes(shape, view, plane, options = {}) {
-  return Object.keys(shape.points).filter((name) => view.points[name] && (shape.leaders[name] === name || options.all)).map((name) => {
+  return Object.keys(shape.points).filter((name) => view.points[name] && (options.all || !shape.shares.includes(name))).map((name) => {
     const [x, y] = plane.toScreen(view.points[name]);
     const group = svg('g', { 'data-name': options.still ? null : name, 'data-point': options.still ? null : name });
     const centre = name.endsWith('.centre') ? 2.2 : 3.2;
