@@ -89,6 +89,8 @@ def _best_style(axes: Axes, program: Asks) -> Asked:
 
 def finer(asked: Asked, program: Asks) -> Asked:
     """The same with angles told as finely as can be, where that is still well and placed."""
+    if not asked.spelled.coarse:
+        return asked
     fine = placed(ask(asked.axes, asked.spelled.style, program, Care(fine=True)), program)
     return replace(fine, grown=asked.grown + fine.grown,
                    frozen=asked.frozen) if _worth(fine) >= _worth(asked) else asked

@@ -160,6 +160,8 @@ def _placed(judged: Judgement, drawing: Drawing, program: Asks) -> Judgement:
         if not any(each.amount > WITHIN_NM for each in judged.deviations):
             return judged
         asked = finer(judged.asked, program)
+        if asked is judged.asked:
+            return judged
         fine = _measured(replace(judged, asked=asked,
                                  names=replace(judged.names, spelled=asked.spelled)), drawing)
         return min((judged, fine), key=_greatest)

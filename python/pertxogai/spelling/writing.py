@@ -49,7 +49,8 @@ class Spelled:
 
     said: who says each constraint, in their order. points: the name of each knot's point.
     tracks: what each line stands for. left_out: who says something that isn't in the sketch.
-    headings: which way each line runs. rounded: values that had to be rounded."""
+    headings: which way each line runs. rounded: values that had to be rounded. coarse: whether an
+    angle is told by the ratio that is next to it."""
 
     style: Style
     sketch: language.Sketch
@@ -60,6 +61,7 @@ class Spelled:
     headings: tuple[Heading, ...]
     left_out: frozenset[Owner]
     rounded: tuple[Rounded, ...]
+    coarse: bool
 
     @cached_property
     def owners(self) -> tuple[frozenset[Owner], ...]:
@@ -94,6 +96,7 @@ class _Writer:
         self.points: dict[Knot, str] = {}
         self.ways: dict[Knot, Spot] = dict(axes.facts.drawn)
         self.left_out: set[Owner] = set()
+        self.coarse = False
         self.bars: list[Rail] = []
 
     def write(self) -> None:
@@ -125,7 +128,7 @@ class _Writer:
         said = tuple(draft.said for draft in self.sheet.drafts)
         left_out = frozenset(self.left_out) | self.rails.lost()
         return Spelled(self.style, sketch, scale, said, dict(self.points), tracks, headings,
-                       left_out, rounded)
+                       left_out, rounded, self.coarse)
 
     def _heading(self, name: str, track: Track) -> Heading:
         frame = self._frame(track)
@@ -330,6 +333,7 @@ class _Writer:
         names = self.names[first], self.names[second]
         halves = lean.halves() if self.care.fine else None
         if halves is None:
+            self.coarse |= not lean.exact()
             self.sheet.drafts.append(Draft(*names, said, ratio=lean.ratio()))
             return
         between = f"H{names[1]}"
