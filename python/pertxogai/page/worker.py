@@ -9,7 +9,7 @@ import json
 import resource
 import sys
 from collections.abc import Sequence
-from dataclasses import dataclass, replace
+from dataclasses import dataclass, field, replace
 from time import monotonic
 
 from ..program import Answer, Program, ProgramTimedOut
@@ -25,13 +25,23 @@ class Hasty:
     program: Program
     seconds: float
     ends: float = 0.0
+    answered: dict[tuple[tuple[str, ...], str], Answer] = field(default_factory=dict)
+    """What was answered in this call."""
 
     def begin(self) -> None:
         """A call begins now."""
         self.ends = monotonic() + self.seconds
+        self.answered.clear()
 
     def ask(self, words: Sequence[str], text: str) -> Answer:
-        """Asks within what is left of the time. Raises ProgramError."""
+        """Asks within what is left of the time, and what was asked in this call already not again.
+        Raises ProgramError."""
+        key = tuple(words), text
+        if key not in self.answered:
+            self.answered[key] = self._ask(words, text)
+        return self.answered[key]
+
+    def _ask(self, words: Sequence[str], text: str) -> Answer:
         left = self.ends - monotonic()
         try:
             if left > 0:

@@ -105,7 +105,7 @@ class Rails:
         sizes = Form({key: value for key, value in equation.form.terms.items()
                       if not isinstance(key, Coordinate)}, equation.form.number)
         value = self.axes.system.reduced(sizes)
-        if len(keys) == 1 or number in self.axes.system.sources(sizes):
+        if len(keys) == 1 or sizes.terms and number in self.axes.system.sources(sizes):
             return None
         if len(keys) != 2 or value.terms or not value.number:
             return None

@@ -195,11 +195,18 @@ def test_a_drawing_that_is_well_is_placed(client) -> None:
     assert bars[0]["bar"] == [[0, 0], [120, 0]]
 
 
-def test_an_over_drawing_names_what_may_go(client) -> None:
-    judgement = answer(client, "judge", text=drawing("over-plate-contradiction"))["judgement"]
-    spare = {each["name"]: each for each in judgement["spare"]}
+def test_an_over_drawing_names_what_may_go_and_weighs_it(client) -> None:
+    text = drawing("over-plate-contradiction")
+    at_once = answer(client, "judge", text=text)["judgement"]["spare"]
+    assert {"Bottom width", "Top width"} <= {each["name"] for each in at_once}
+    assert all(each["off"] is None and each["repeats"] is None for each in at_once)
+    spare = {each["name"]: each for each in answer(client, "weigh", text=text)["spare"]}
     assert {"Bottom width", "Top width"} <= set(spare)
     assert spare["Top width"]["off"] == 1_000_000 and spare["Top width"]["repeats"] is False
+
+
+def test_of_what_is_not_over_nothing_is_weighed(client) -> None:
+    assert answer(client, "weigh", text=drawing("bracket"))["spare"] == []
 
 
 def test_an_open_drawing_has_its_parts_laid_on_it(client) -> None:

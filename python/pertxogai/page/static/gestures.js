@@ -92,10 +92,8 @@ export class Gestures {
     const { pressed } = this;
     this.pressed = null;
     if (!pressed) return;
-    if (pressed.moved && pressed.edit && pressed.text === this.paper.text) {
-      this.paper.live = null;
-      this.paper.edit(pressed.edit);
-    } else if (this.hand.draws && event.button === 0) this.press(this.at(event), event.shiftKey);
+    if (pressed.moved && pressed.edit && pressed.text === this.paper.text) this.paper.preview(pressed.edit, true);
+    else if (this.hand.draws && event.button === 0) this.press(this.at(event), event.shiftKey);
     else if (!pressed.moved) this.select(pressed, event.shiftKey);
   }
 
