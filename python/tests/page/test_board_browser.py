@@ -119,7 +119,7 @@ def test_a_triangle_is_drawn_and_dimensioned_until_it_is_well(page: Page) -> Non
 
 def test_one_too_many_is_taken_away_again(page: Page) -> None:
     page.begin(drawing("over-plate-contradiction"), "over")
-    page.tells("contradiction by 1\u00a0mm")
+    page.tells("contradiction by 1 mm")
     assert page.count(".marks .spare") >= 2
     spare = page.driver.find_elements(By.CSS_SELECTOR, "#verdict [data-spare]")
     top = next(each for each in spare if "Top width" in each.text)

@@ -3,7 +3,7 @@ import { svg, colourOf } from './nodes.js';
 import { View } from './view.js';
 import { Marks } from './marks.js';
 import { Layer } from './layer.js';
-import { shapeItem, pointItem, stillNodes, viewsOf, drawnView, isIn, shownPoints, line, ring } from './shapes.js';
+import { shapeItem, pointItem, stillNodes, viewsOf, drawnView, isIn, shownPoints, middleOf, line, ring } from './shapes.js';
 
 const GROUPS = ['grid', 'drawn', 'edges', 'other', 'marks', 'dots', 'names', 'joints', 'faults', 'overlay'];
 const NOTHING = { shapes: [], constraints: [], marks: [] };
@@ -148,7 +148,7 @@ export class Board {
     if (!shape) return null;
     const ends = Object.keys(shape.points).filter((each) => shape.kind === 'circle' || !each.endsWith('.centre'));
     const places = ends.map((each) => this.plane.toScreen(this.points.get(each)));
-    return [0, 1].map((axis) => places.reduce((sum, place) => sum + place[axis], 0) / places.length);
+    return middleOf(places);
   }
 
   /** The point that is shown next to a place in pixels, if one is near. */

@@ -47,6 +47,11 @@ export function pathOf(shape, view, plane) {
   return null;
 }
 
+/** The middle of some places. */
+export function middleOf(places) {
+  return [0, 1].map((axis) => places.reduce((sum, place) => sum + place[axis], 0) / places.length);
+}
+
 /** A straight path. */
 export function line([x, y], [u, v]) {
   return `M${x} ${y}L${u} ${v}`;
