@@ -73,11 +73,18 @@ def ask_styles(drawing: Drawing, program: Asks, freeze: bool) -> Asked:
 
 def _best_style(axes: Axes, program: Asks) -> Asked:
     """The first style that is placed, else the best; what is linear and told twice is told so to
-    the program."""
+    the program. What is open isn't asked again with its lines in another order: which parts remain
+    doesn't depend on that, as is proved."""
     best: Asked | None = None
+    still_open: list[list[str]] = []
     twice = bool(axes.surplus() or axes.conflicts())
     for rails, spelled in _styles(axes, ONE_BY_ONE if twice else SOLVED_FIRST):
+        lines = sorted(spelled.sketch.text().splitlines())
+        if lines in still_open:
+            continue
         asked = placed(_ask(rails, spelled, program, Care()), program)
+        if asked.check.verdict is Verdict.OPEN and not asked.grown:
+            still_open.append(lines)
         if twice and asked.check.verdict is Verdict.WELL:
             continue
         if isinstance(asked.solved, Solved):

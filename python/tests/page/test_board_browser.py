@@ -279,12 +279,16 @@ def test_a_stopped_server_is_told_and_nothing_is_lost(page: Page, board: Served)
     assert page.text() == TRIANGLE + "horizontal A\n"
 
 
-def test_a_second_tab_is_told(page: Page, board: Served) -> None:
+def test_a_second_tab_is_told_while_it_is_there(page: Page, board: Served) -> None:
     first = page.driver.current_window_handle
     page.driver.switch_to.new_window("tab")
     page.driver.get(board.guard.address)
     page.wait("told", "return !document.getElementById('banner').hidden")
     assert "another tab" in page.told("banner")
-    page.driver.close()
+    second = page.driver.current_window_handle
     page.driver.switch_to.window(first)
     assert "another tab" in page.told("banner")
+    page.driver.switch_to.window(second)
+    page.driver.close()
+    page.driver.switch_to.window(first)
+    page.wait("no longer told", "return document.getElementById('banner').hidden")
