@@ -24,7 +24,9 @@ from pertxogai.commands import main  # noqa: E402
 from pertxogai.page.calls import Desk  # noqa: E402
 from pertxogai.page.guard import Ground, Guard  # noqa: E402
 from pertxogai.page.server import board  # noqa: E402
+from pertxogai.page.worker import Hasty  # noqa: E402
 from pertxogai.page.workers import Bounds, Workers  # noqa: E402
+from pertxogai.program import Program, Status  # noqa: E402
 
 PORT = 4321
 HOST = f"127.0.0.1:{PORT}"
@@ -149,6 +151,17 @@ def test_of_ten_calls_at_once_four_are_answered(tmp_path, workers) -> None:
         found = list(pool.map(lambda _: post(client(), "judge", SEGMENT).status_code, range(10)))
     assert sorted(found) == [200] * 4 + [503] * 6
     assert post(client(), "judge", {"text": ""}).status_code == 200
+
+
+def test_what_was_asked_in_a_call_is_not_asked_again(tmp_path) -> None:
+    runs = tmp_path / "runs"
+    path = script(tmp_path / "counts", f"echo run >> {runs}\ncat > /dev/null\nexit 5\n")
+    program = Hasty(Program(path), 5.0)
+    for _ in range(2):
+        program.begin()
+        for word in ("check", "check", "solve"):
+            assert program.ask([word], "sketch 1\n").status is Status.NO_MEMORY
+    assert runs.read_text().count("run") == 4
 
 
 def test_a_program_that_takes_too_long_is_stopped(tmp_path, workers) -> None:

@@ -61,8 +61,13 @@ export class Board {
     this.groups.names.replaceChildren(...(this.overlay ? [] : this.names(drawing)));
     this.groups.joints.replaceChildren(...this.joints(judgement));
     this.groups.faults.replaceChildren(...this.faults(judgement));
-    this.groups.overlay.replaceChildren(...(this.overlay ? [this.overlay(this.plane)] : []), ...this.hand());
+    this.drawHand();
     this.node.dataset.drawn = String(Number(this.node.dataset.drawn ?? 0) + 1);
+  }
+
+  /** Draws what lies over the drawing: a step of the construction, and what the hand is about to draw. */
+  drawHand() {
+    this.groups.overlay.replaceChildren(...(this.overlay ? [this.overlay(this.plane)] : []), ...this.hand());
   }
 
   /** The grid, and the datum's axes and origin. */

@@ -135,7 +135,7 @@ export class Gestures {
       const path = this.path([...this.hand.clicks.map((each) => plane.toScreen(each.at)), [x, y]]);
       return [path && svg('path', { class: 'preview', d: path }), svg('circle', { class: near ? 'snap' : 'preview', cx: x, cy: y, r: near ? 9 : 4 })].filter(Boolean);
     };
-    this.board.draw();
+    this.board.drawHand();
   }
 
   /** The path of the figure through places in pixels. */
