@@ -30,7 +30,7 @@ def grown(axes: Axes, rails: Rails, spelled: Spelled, report: PartsReport) -> Gr
     known = LinearSystem()
     for number, form in enumerate(_measured(rails, spelled, report)):
         known.add(form, number)
-    for pending in rails.pending():
+    for pending in rails.pending:
         rest = known.reduced(pending.form)
         if rest.terms != pending.form.terms and _told(rest):
             equation = Equation(rails.unfold(rest), axes.equations[pending.number].owners)

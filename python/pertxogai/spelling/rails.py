@@ -5,6 +5,7 @@ from __future__ import annotations
 from collections import Counter
 from collections.abc import Hashable, Iterable
 from dataclasses import dataclass
+from functools import cached_property
 
 from pertxogai.spelling.axes import Axes, Coordinate, Equation, rank
 from pertxogai.spelling.facts import DATUM, Knot, Line, Owner
@@ -105,9 +106,9 @@ class Rails:
         sizes = Form({key: value for key, value in equation.form.terms.items()
                       if not isinstance(key, Coordinate)}, equation.form.number)
         value = self.axes.system.reduced(sizes)
-        if len(keys) == 1 or sizes.terms and number in self.axes.system.sources(sizes):
-            return None
         if len(keys) != 2 or value.terms or not value.number:
+            return None
+        if sizes.terms and number in self.axes.system.sources(sizes):
             return None
         second, first = sorted(keys, key=lambda key: -equation.form.terms[key])
         if [equation.form.terms[key] for key in (second, first)] != [1, -1]:
@@ -163,6 +164,7 @@ class Rails:
                 total = total + Form({size: 1}, -number).times(factor)
         return total
 
+    @cached_property
     def pending(self) -> list[Pending]:
         """The equations that the rails don't say."""
         found = []
@@ -176,7 +178,7 @@ class Rails:
         """Who says something that neither the rails nor the sizes can say."""
         system = LinearSystem(lambda key: 0 if isinstance(key, Size) else 1)
         lost: set[Owner] = set()
-        for each in self.pending():
+        for each in self.pending:
             rest = system.reduced(each.form)
             system.add(each.form, each.number)
             if rest.terms and not any(isinstance(key, Size) for key in rest.terms):
