@@ -5,23 +5,26 @@ from collections.abc import Mapping
 
 from .answers import Judgement
 from .drawing import Shape, points_of
-from .reports import Part
 
 
 def parts_of_shapes(judgement: Judgement) -> Mapping[str, int]:
     """The number of the part that has all points of a shape, by the shape's name: the greatest
     of several. A shape that hangs between parts has none."""
     largest = sorted(judgement.asked.check.parts, key=lambda part: -len(part.elements))
+    holding = [(part.number, frozenset(part.elements)) for part in largest]
     found = (
-        (shape.name, _part_of(judgement, shape, largest))
+        (shape.name, _part_of(judgement, shape, holding))
         for shape in judgement.names.drawing.geometry
     )
     return {name: number for name, number in found if number is not None}
 
 
-def _part_of(judgement: Judgement, shape: Shape, parts: list[Part]) -> int | None:
+def _part_of(
+    judgement: Judgement, shape: Shape, parts: list[tuple[int, frozenset[str]]]
+) -> int | None:
+    """The first of the parts, each a number and its elements, that has all points of a shape."""
     names = judgement.names
     points = {
         names.spelled.points.get(names.refs[ref]) for ref in points_of(shape) if ref in names.refs
     } - {None}
-    return next((part.number for part in parts if points and points <= set(part.elements)), None)
+    return next((number for number, elements in parts if points and points <= elements), None)

@@ -50,15 +50,15 @@ def drawing_json(judged: JudgedDrawing) -> dict[str, object]:
         "name": judged.name,
         "verdict": judgement.verdict.value,
         "parts": [_part(judgement, part) for part in judgement.asked.check.parts],
-        **_spelled_json(judged),
+        **spelled_json(judged),
         "lacks": judgement.missing.count if judgement.missing else 0,
-        "spare": [_spare(each) for each in judgement.surplus],
+        "spare": [spare_json(each) for each in judgement.surplus],
         **_placed_json(judged),
         "warnings": [each.text() for each in judgement.warnings],
     }
 
 
-def _spelled_json(judged: JudgedDrawing) -> dict[str, object]:
+def spelled_json(judged: JudgedDrawing) -> dict[str, object]:
     """How it was spelled, and what was not spelled as it is said; `exact` is whether there is
     none of that."""
     judgement = judged.judgement
@@ -81,13 +81,20 @@ def _spelled_json(judged: JudgedDrawing) -> dict[str, object]:
 def _placed_json(judged: JudgedDrawing) -> dict[str, object]:
     """Where it is placed and within what, or the program's fault."""
     judgement = judged.judgement
-    solved = judgement.asked.solved if judgement.solution is not None else None
-    placed = isinstance(solved, Solved)
+    placed = judgement.solution is not None
     return {
         "places": _places(judged.drawing, judgement.solution) if judgement.solution else None,
+        **within_json(judged),
+        "fault": None if placed else _fault(judgement),
+    }
+
+
+def within_json(judged: JudgedDrawing) -> dict[str, object]:
+    """Within what it is placed, and the greatest deviations, in nm and ppb."""
+    solved = judged.judgement.asked.solved if judged.judgement.solution is not None else None
+    return {
         "length_tolerance_nm": solved.length_tolerance_nm if isinstance(solved, Solved) else None,
         "angle_tolerance_ppb": solved.angle_tolerance_ppb if isinstance(solved, Solved) else None,
-        "fault": _fault(judgement) if not placed else None,
         "deviations": [_deviation(each, judged.drawing) for each in judged.worst()],
     }
 
@@ -191,7 +198,7 @@ def _part(judgement: Judgement, part: Part) -> dict[str, object]:
             "held": part.held, "due": part.due}
 
 
-def _spare(each: Surplus) -> dict[str, object]:
+def spare_json(each: Surplus) -> dict[str, object]:
     """A dimension that may go."""
     return {"number": each.number, "name": each.name, "repeats": each.repeats(),
             "off": each.off.amount if each.off is not None else None,

@@ -59,3 +59,28 @@ def test_the_least_rank_is_solved_for():
     system.add(form(0, x=1, size=-1), 0)
     assert system.reduced(form(size=1)) == form(x=1)
     assert system.reduced(form(x=1)) == form(x=1)
+
+
+def test_sources_are_told_also_of_what_was_told_later():
+    system = LinearSystem()
+    system.add(form(0, y=1, x=-1), 0)
+    assert system.sources(form(y=1)) == {0}
+    system.add(form(-2, x=1), 1)
+    assert system.sources(form(y=1)) == {0, 1}
+
+
+def test_numbers_are_whole_while_they_can_be():
+    system = LinearSystem()
+    system.add(form(-6, x=3, y=Fraction(3, 2)), 0)
+    system.add(form(-1, y=Fraction(1, 2)), 1)
+    found = system.reduced(form(x=1))
+    assert found == form(1) and isinstance(found.number, int)
+
+
+def test_what_has_changed_is_told_once():
+    system = LinearSystem()
+    system.add(form(0, x=1, y=-1), 0)
+    assert system.changed() == {"x"}
+    assert system.changed() == set()
+    system.add(form(-3, y=1), 1)
+    assert system.changed() == {"x", "y"}

@@ -2,7 +2,7 @@
 next."""
 from pertxogai.answers.asking import Asked, Place, ask_styles
 from pertxogai.answers.faults import Amount, Failure
-from pertxogai.answers.judgement import Judgement, LeftOut, Surplus, judge
+from pertxogai.answers.judgement import Judgement, LeftOut, Surplus, judge, judge_at_once, weighed
 from pertxogai.answers.limits import DrawingRefused
 from pertxogai.answers.missing import Joint, Missing, Piece, Tie
 from pertxogai.answers.naming import Names
@@ -10,4 +10,4 @@ from pertxogai.answers.warnings import Departure, Warning
 
 __all__ = ["Amount", "Asked", "Departure", "DrawingRefused", "Failure", "Joint", "Judgement",
            "LeftOut", "Missing", "Names", "Piece", "Place", "Surplus", "Tie", "Warning",
-           "ask_styles", "judge"]
+           "ask_styles", "judge", "judge_at_once", "weighed"]

@@ -4,6 +4,7 @@ Where what is linear is told twice, each dimension is spelled by itself, so that
 what is spare. """
 from __future__ import annotations
 
+from collections.abc import Iterator, Sequence
 from dataclasses import dataclass, replace
 from enum import Enum
 
@@ -14,7 +15,7 @@ from pertxogai.language import Refusal
 from pertxogai.program import Asks, Status
 from pertxogai.reports import (
     CheckReport, Fault, NotAReport, Refused, Solved, Verdict, read_answer, read_parts)
-from pertxogai.spelling import READINGS, Axes, Care, Rails, Spelled, Style, axes_of, written
+from pertxogai.spelling import Axes, Care, Rails, Spelled, Style, readings, written
 from pertxogai.spelling.axes import Equation
 from pertxogai.spelling.facts import Owner
 
@@ -54,12 +55,11 @@ def ask_styles(drawing: Drawing, program: Asks, freeze: bool) -> Asked:
     over; else the one with the fewest parts. With `freeze`, what is open is asked again with
     lengths and radii as they are drawn."""
     best: Asked | None = None
-    seen: list[tuple[Equation, ...]] = []
-    for reading in READINGS:
-        axes = axes_of(drawing, reading)
-        if tuple(axes.equations) in seen:
+    seen: list[list[Equation]] = []
+    for axes in readings(drawing):
+        if axes.equations in seen:
             continue
-        seen.append(tuple(axes.equations))
+        seen.append(axes.equations)
         asked = _best_style(axes, program)
         if isinstance(asked.solved, Solved):
             return asked
@@ -73,11 +73,18 @@ def ask_styles(drawing: Drawing, program: Asks, freeze: bool) -> Asked:
 
 def _best_style(axes: Axes, program: Asks) -> Asked:
     """The first style that is placed, else the best; what is linear and told twice is told so to
-    the program."""
+    the program. What is open isn't asked again with its lines in another order: which parts remain
+    doesn't depend on that, as is proved."""
     best: Asked | None = None
+    still_open: list[list[str]] = []
     twice = bool(axes.surplus() or axes.conflicts())
-    for style in ONE_BY_ONE if twice else SOLVED_FIRST:
-        asked = placed(ask(axes, style, program), program)
+    for rails, spelled in _styles(axes, ONE_BY_ONE if twice else SOLVED_FIRST):
+        lines = sorted(spelled.sketch.text().splitlines())
+        if lines in still_open:
+            continue
+        asked = placed(_ask(rails, spelled, program, Care()), program)
+        if asked.check.verdict is Verdict.OPEN and not asked.grown:
+            still_open.append(lines)
         if twice and asked.check.verdict is Verdict.WELL:
             continue
         if isinstance(asked.solved, Solved):
@@ -87,8 +94,24 @@ def _best_style(axes: Axes, program: Asks) -> Asked:
     return best or placed(ask(axes, Style.VALUES, program, Care(insist=True)), program)
 
 
+def _styles(axes: Axes, styles: Sequence[Style]) -> Iterator[tuple[Rails, Spelled]]:
+    """Each style in turn, but for those in which the same is said as in one before."""
+    rails: dict[bool, Rails] = {}
+    said: set[tuple[bool | Style, str]] = set()
+    for style in styles:
+        mine = rails.get(style.solves()) or Rails(axes, style)
+        rails[style.solves()] = mine
+        spelled = written(axes, mine, style)
+        key = style.solves() or style, spelled.sketch.text()
+        if key not in said:
+            said.add(key)
+            yield mine, spelled
+
+
 def finer(asked: Asked, program: Asks) -> Asked:
     """The same with angles told as finely as can be, where that is still well and placed."""
+    if not asked.spelled.coarse:
+        return asked
     fine = placed(ask(asked.axes, asked.spelled.style, program, Care(fine=True)), program)
     return replace(fine, grown=asked.grown + fine.grown,
                    frozen=asked.frozen) if _worth(fine) >= _worth(asked) else asked
@@ -96,19 +119,25 @@ def finer(asked: Asked, program: Asks) -> Asked:
 
 def ask(axes: Axes, style: Style, program: Asks, care: Care = Care()) -> Asked:
     """One style, with what grows from placed parts."""
+    rails = Rails(axes, style)
+    return _ask(rails, written(axes, rails, style, care), program, care)
+
+
+def _ask(rails: Rails, spelled: Spelled, program: Asks, care: Care) -> Asked:
+    """One spelling, and those in which more is told by what the program has placed."""
     equations: list[Equation] = []
     while True:
-        rails = Rails(axes, style)
-        spelled = written(axes, rails, style, care)
         text = spelled.sketch.text()
         check = _checked(program, text)
         more = None
         if check.verdict is Verdict.OPEN and len(equations) < ROUNDS:
-            more = grown(axes, rails, spelled, read_parts(written_by(program, "parts", text)))
+            parts = read_parts(written_by(program, "parts", text))
+            more = grown(rails.axes, rails, spelled, parts)
         if more is None:
-            return Asked(spelled, axes, rails, check, tuple(equations))
-        axes = more.axes
+            return Asked(spelled, rails.axes, rails, check, tuple(equations))
         equations.append(more.equation)
+        rails = Rails(more.axes, spelled.style)
+        spelled = written(more.axes, rails, spelled.style, care)
 
 
 def written_by(program: Asks, command: str, text: str) -> str:

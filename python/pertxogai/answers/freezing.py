@@ -12,7 +12,7 @@ from math import isqrt
 from pertxogai.spelling.axes import Axes, Equation
 from pertxogai.spelling.facts import Facts, Knot, Line, Owner
 from pertxogai.spelling.rails import Rails, Size
-from pertxogai.values import Form
+from pertxogai.values import Form, Number
 
 
 @dataclass(frozen=True)
@@ -42,8 +42,9 @@ def _drawn(facts: Facts, first: Knot, second: Knot | Line) -> Fraction:
         return _root((u - x) ** 2 + (v - y) ** 2)
     a, b = facts.direction(second)
     u, v = facts.drawn[facts.own[second][0]]
-    return abs(a * (y - v) - b * (x - u)) / _root(a * a + b * b)
+    aside = a * (y - v) - b * (x - u)
+    return max(aside, -aside) / _root(a * a + b * b)
 
 
-def _root(square: Fraction) -> Fraction:
+def _root(square: Number) -> Fraction:
     return Fraction(isqrt(int(square * 10 ** 24)), 10 ** 12)

@@ -8,13 +8,13 @@ from dataclasses import dataclass
 from fractions import Fraction
 from math import isqrt
 
-from pertxogai.answers.placing import Plate, along
+from pertxogai.answers.placing import Plate, Spot, along
 from pertxogai.reports import PartsReport, Solved
-from pertxogai.spelling.axes import DATUM, Axes, Equation
-from pertxogai.spelling.facts import Knot
+from pertxogai.spelling.axes import Axes, Equation
+from pertxogai.spelling.facts import DATUM, Knot
 from pertxogai.spelling.rails import Rail, Rails, Size, Span
 from pertxogai.spelling.writing import Spelled
-from pertxogai.values import Form, LinearSystem
+from pertxogai.values import Form, LinearSystem, Number
 
 
 @dataclass(frozen=True)
@@ -30,7 +30,7 @@ def grown(axes: Axes, rails: Rails, spelled: Spelled, report: PartsReport) -> Gr
     known = LinearSystem()
     for number, form in enumerate(_measured(rails, spelled, report)):
         known.add(form, number)
-    for pending in rails.pending():
+    for pending in rails.pending:
         rest = known.reduced(pending.form)
         if rest.terms != pending.form.terms and _told(rest):
             equation = Equation(rails.unfold(rest), axes.equations[pending.number].owners)
@@ -74,8 +74,8 @@ def _coordinates(rails: Rails, spelled: Spelled, plate: Plate, frame: int) -> It
             yield form - found[0][0] - Form(number=place - found[0][1])
 
 
-def _along(rails: Rails, spelled: Spelled, plate: Plate, axis: tuple[Fraction, Fraction],
-           frame: int, upwards: bool) -> Iterator[tuple[Form, Fraction]]:
+def _along(rails: Rails, spelled: Spelled, plate: Plate, axis: Spot,
+           frame: int, upwards: bool) -> Iterator[tuple[Form, Number]]:
     """Each rail and coordinate of a part, in rails, and its place along an axis."""
     for heading in spelled.headings:
         rail = heading.rail
@@ -103,16 +103,16 @@ def _spans(rails: Rails, spelled: Spelled, plate: Plate) -> Iterator[Form]:
         if isinstance(second, Knot):
             other = spelled.points[second]
             if name in plate.points and other in plate.points:
-                yield Form({Span(first, second): Fraction(1)},
+                yield Form({Span(first, second): 1},
                            -_distance(plate.points[name], plate.points[other]))
         else:
             track = next((key for key, track in spelled.tracks.items()
                           if track == rails.axes.lines.leader(second)), None)
             if name in plate.points and track in plate.lines:
-                yield Form({Span(first, second): Fraction(1)}, -plate.height(track, name))
+                yield Form({Span(first, second): 1}, -plate.height(track, name))
 
 
-def _distance(first: tuple[Fraction, Fraction], second: tuple[Fraction, Fraction]) -> Fraction:
+def _distance(first: Spot, second: Spot) -> Fraction:
     square = (first[0] - second[0]) ** 2 + (first[1] - second[1]) ** 2
     return Fraction(isqrt(int(square * 10 ** 24)), 10 ** 12)
 

@@ -135,8 +135,15 @@ class Judgement:
 
 
 def judge(drawing: Drawing, program: Asks, freeze: bool = False) -> Judgement:
-    """What the program says of a drawing. `freeze`: whether lengths and radii that nothing tells
-    may be taken as they are drawn. Raises ProgramError; DrawingRefused where the drawing has
+    """What the program says of a drawing, with how far each dimension is off that may go.
+    `freeze`: whether lengths and radii that nothing tells may be taken as they are drawn. Raises
+    as `judge_at_once`."""
+    return weighed(judge_at_once(drawing, program, freeze), program)
+
+
+def judge_at_once(drawing: Drawing, program: Asks, freeze: bool = False) -> Judgement:
+    """The same, but that what may go is named as the program names it, and not measured: that
+    takes many more questions. Raises ProgramError; DrawingRefused where the drawing has
     more points or constraints than the program takes, or makes both ends of a shape one; Refusal
     where the program refuses the spelled sketch; NotHeld where a place or length is larger than
     the language holds."""
@@ -148,7 +155,9 @@ def judge(drawing: Drawing, program: Asks, freeze: bool = False) -> Judgement:
         case Verdict.OPEN:
             return replace(judged, missing=missing(names, asked.check))
         case Verdict.OVER:
-            return replace(judged, surplus=_surplus(judged, drawing, program))
+            return replace(judged, surplus=tuple(
+                Surplus(number, drawing.called(number), None)
+                for number in _spare(judged, program)))
         case _:
             return _placed(judged, drawing, program)
 
@@ -160,6 +169,8 @@ def _placed(judged: Judgement, drawing: Drawing, program: Asks) -> Judgement:
         if not any(each.amount > WITHIN_NM for each in judged.deviations):
             return judged
         asked = finer(judged.asked, program)
+        if asked is judged.asked:
+            return judged
         fine = _measured(replace(judged, asked=asked,
                                  names=replace(judged.names, spelled=asked.spelled)), drawing)
         return min((judged, fine), key=_greatest)
@@ -182,10 +193,10 @@ def _greatest(judged: Judgement) -> int:
     return max((each.amount for each in judged.deviations if each.unit is Unit.NM), default=0)
 
 
-def _surplus(judged: Judgement, drawing: Drawing, program: Asks) -> tuple[Surplus, ...]:
-    """Each constraint that the program calls spare, and without which the rest isn't open,
-    measured on the rest."""
-    numbers = _spare(judged, program)
+def weighed(judged: Judgement, program: Asks) -> Judgement:
+    """The judgement with each dimension that may go, and without which the rest isn't open,
+    measured on the rest. Raises as `judge_at_once`."""
+    numbers, drawing = [each.number for each in judged.surplus], judged.names.drawing
     found = []
     for number in numbers[:TRIED]:
         rest = _rest_without(drawing, number, program, len(numbers))
@@ -193,7 +204,7 @@ def _surplus(judged: Judgement, drawing: Drawing, program: Asks) -> tuple[Surplu
             off = _off(drawing, number, *rest) if isinstance(rest[1].solved, Solved) else None
             found.append(Surplus(number, drawing.called(number), off))
     found += [Surplus(number, drawing.called(number), None) for number in numbers[TRIED:]]
-    return tuple(found)
+    return replace(judged, surplus=tuple(found))
 
 
 def _spare(judged: Judgement, program: Asks) -> list[int]:
@@ -243,4 +254,4 @@ def _worst(deviations: Iterable[Deviation], number: int) -> Deviation | None:
     return greatest(lengths, Unit.NM) or greatest(mine, Unit.PPB)
 
 
-__all__ = ["Judgement", "Surplus", "judge"]
+__all__ = ["Judgement", "Surplus", "judge", "judge_at_once", "weighed"]

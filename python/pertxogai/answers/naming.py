@@ -3,6 +3,7 @@ from __future__ import annotations
 
 from collections.abc import Iterable
 from dataclasses import dataclass
+from functools import cached_property
 
 from pertxogai.drawing import Drawing, PointRef, ShapeRef
 from pertxogai.spelling.facts import Knot, Owner
@@ -34,8 +35,16 @@ class Names:
     def point(self, name: str) -> PointRef | None:
         """The designer's point behind a point of the sketch, the first of those that are one; None
         for help."""
-        knot = next((knot for knot, each in self.spelled.points.items() if each == name), None)
-        return next((ref for ref, each in self.refs.items() if each == knot), None)
+        return self._points.get(name)
+
+    @cached_property
+    def _points(self) -> dict[str, PointRef]:
+        """The first of the designer's points behind each point of the sketch."""
+        firsts: dict[Knot, PointRef] = {}
+        for ref, knot in self.refs.items():
+            firsts.setdefault(knot, ref)
+        return {name: firsts[knot] for knot, name in self.spelled.points.items()
+                if knot in firsts}
 
     def element(self, name: str) -> str | None:
         """A point, or the segment that a line is; None of what only helps."""

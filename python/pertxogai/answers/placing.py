@@ -2,16 +2,17 @@
 nanometres."""
 from __future__ import annotations
 
-from collections.abc import Sequence
+from collections.abc import Mapping, Sequence
 from dataclasses import dataclass
 from fractions import Fraction
 from math import cos, isqrt, sin
 
 from pertxogai.language import Placed, PlacedLine, PlacedPoint
-from pertxogai.spelling.axes import DATUM
+from pertxogai.spelling.facts import DATUM
 from pertxogai.spelling.writing import Heading, Spelled
+from pertxogai.values import Number
 
-Spot = tuple[Fraction, Fraction]
+Spot = tuple[Number, Number]
 DIGITS = 10 ** 24
 
 
@@ -20,14 +21,15 @@ class Plate:
     """Printed points and lines by their names, in micrometres of the drawing."""
 
     points: dict[str, Spot]
-    lines: dict[str, tuple[Fraction, Fraction, Fraction]]
+    lines: dict[str, tuple[Number, Number, Number]]
 
     @staticmethod
     def of(places: Sequence[Placed], scale: int) -> Plate:
         """The places of a sketch that is so many times as large as the drawing."""
         per = 1000 * scale
-        points = {each.name: (Fraction(each.x_nm, per), Fraction(each.y_nm, per))
-                  for each in places if isinstance(each, PlacedPoint)}
+        points: dict[str, Spot] = {
+            each.name: (Fraction(each.x_nm, per), Fraction(each.y_nm, per))
+            for each in places if isinstance(each, PlacedPoint)}
         lines = {each.name: _line(each, per) for each in places if isinstance(each, PlacedLine)}
         return Plate(points, lines)
 
@@ -44,11 +46,12 @@ class Plate:
             return _of_length_one(ahead * c + left * s, left * c - ahead * s)
         return (ahead, left) if mine[0].quarters == 0 else (left, -ahead)
 
-    def height(self, line: str, point: str) -> Fraction:
+    def height(self, line: str, point: str) -> Number:
         """How far a point is from a line, in micrometres."""
         a, b, c = self.lines[line]
         x, y = self.points[point]
-        return abs(a * x + b * y - c)
+        aside = a * x + b * y - c
+        return max(aside, -aside)
 
     def foot(self, line: str) -> Spot:
         """The line's place nearest to 0 0."""
@@ -56,32 +59,35 @@ class Plate:
         return a * c, b * c
 
 
-def _line(line: PlacedLine, per: int) -> tuple[Fraction, Fraction, Fraction]:
+def _line(line: PlacedLine, per: int) -> tuple[Number, Number, Number]:
     a, b = _of_length_one(Fraction(line.a_ppb), Fraction(line.b_ppb))
     return a, b, Fraction(line.c_nm, per)
 
 
 def _of_length_one(a: Fraction, b: Fraction) -> Spot:
     if not a or not b:
-        return Fraction((a > 0) - (a < 0)), Fraction((b > 0) - (b < 0))
+        return (a > 0) - (a < 0), (b > 0) - (b < 0)
     square = a * a + b * b
     size = Fraction(isqrt(int(square * DIGITS)), 10 ** 12)
     return a / size, b / size
 
 
-def along(axis: Spot, upwards: bool, spot: Spot) -> Fraction:
+def along(axis: Spot, upwards: bool, spot: Spot) -> Number:
     """A place along an axis, or `upwards` along its left."""
     (a, b), (x, y) = axis, spot
+    if b == 0:
+        return a * y if upwards else a * x
     return a * y - b * x if upwards else a * x + b * y
 
 
-def in_datum(spelled: Spelled, plate: Plate, drawn: dict[str, Spot]) -> dict[str, tuple[int, int]]:
+def in_datum(spelled: Spelled, plate: Plate,
+             drawn: Mapping[str, tuple[Number, Number]]) -> dict[str, tuple[int, int]]:
     """Each point in the datum's frame, in whole nanometres. Where the drawing isn't tied to an
     axis, the first point has its drawn coordinate there; where it has no direction, the printed
     one stays."""
     axis = plate.axis(spelled.headings, DATUM)
     if axis is None:
-        axis = (Fraction(1), Fraction(0))
+        axis = (1, 0)
     shift = [_shift(spelled, plate, axis, upwards, drawn) for upwards in (False, True)]
     found = {}
     for name, spot in plate.points.items():
@@ -91,7 +97,7 @@ def in_datum(spelled: Spelled, plate: Plate, drawn: dict[str, Spot]) -> dict[str
 
 
 def _shift(spelled: Spelled, plate: Plate, axis: Spot, upwards: bool,
-           drawn: dict[str, Spot]) -> Fraction:
+           drawn: Mapping[str, tuple[Number, Number]]) -> Number:
     for each in spelled.headings:
         rail = each.rail
         if rail and rail.datum() and rail.upwards == upwards and each.name in plate.lines:
@@ -100,5 +106,5 @@ def _shift(spelled: Spelled, plate: Plate, axis: Spot, upwards: bool,
     return drawn[name][upwards] - along(axis, upwards, plate.points[name])
 
 
-def _whole(value: Fraction) -> int:
+def _whole(value: Number) -> int:
     return (2 * value.numerator + value.denominator) // (2 * value.denominator)

@@ -50,5 +50,5 @@ def _apart(first: Spot, second: Spot) -> int:
     return floor if (2 * floor + 1) ** 2 > 4 * square else floor + 1
 
 
-def _whole(value: Fraction) -> int:
+def _whole(value: Number) -> int:
     return (2 * value.numerator + value.denominator) // (2 * value.denominator)

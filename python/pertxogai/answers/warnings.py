@@ -94,7 +94,7 @@ def _both(drawing: Drawing, solution: Solution, shape: Segment) -> _Both:
     return _Both(shape.name, _Edge(*drawn), _Edge(*placed), not shape.construction)
 
 
-def _whole(nm: Fraction) -> int:
+def _whole(nm: int | Fraction) -> int:
     """A number of nanometres, to the next whole one below."""
     return nm.numerator // nm.denominator
 

@@ -75,7 +75,11 @@ def _ratio(word: str, sign: int, p: int, q: int) -> Ratio:
 def mm_text(value_um: Fraction) -> str:
     """A number of micrometres in millimetres, exact where it is a decimal of at most twenty
     digits behind the point, else rounded there."""
-    return decimal_text(value_um / UM_PER_MM)
+    if value_um.denominator != 1:
+        return decimal_text(value_um / UM_PER_MM)
+    whole, rest = divmod(abs(value_um.numerator), UM_PER_MM)
+    digits = f"{whole}.{rest:03}".rstrip("0").rstrip(".")
+    return f"-{digits}" if value_um < 0 else digits
 
 
 def decimal_text(value: Fraction) -> str:

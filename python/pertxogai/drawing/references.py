@@ -18,6 +18,8 @@ class Which(Enum):
     CENTRE = "centre"
     """The centre of a circle or an arc."""
 
+    __hash__ = object.__hash__
+
 
 @dataclass(frozen=True)
 class PointRef:

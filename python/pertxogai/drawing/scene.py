@@ -4,6 +4,7 @@ from __future__ import annotations
 
 from collections.abc import Iterable
 from fractions import Fraction
+from functools import lru_cache
 
 from pertxogai.drawing.exact import root_near
 from pertxogai.drawing.geometry import (
@@ -18,6 +19,7 @@ class Scene:
     def __init__(self, shapes: Iterable[Shape] = ()) -> None:
         self._shapes: dict[str, Shape | Datum] = {
             ORIGIN.shape: Origin(), X_AXIS.name: Axis(False), Y_AXIS.name: Axis(True)}
+        self._drawn: dict[PointRef, Place] = {}
         for shape in shapes:
             self.add(shape)
 
@@ -50,8 +52,11 @@ class Scene:
 
     def drawn(self, ref: PointRef) -> Place:
         """Where a point is drawn."""
-        spot = spot_of(self.shape(ref.shape), ref.which)
-        return self.drawn(spot) if isinstance(spot, PointRef) else spot
+        known = self._drawn.get(ref)
+        if known is None:
+            spot = spot_of(self.shape(ref.shape), ref.which)
+            known = self._drawn[ref] = self.drawn(spot) if isinstance(spot, PointRef) else spot
+        return known
 
     def drawn_radius_um(self, name: str) -> Fraction:
         """The drawn radius of a circle or an arc, in micrometres; an arc's is the distance of
@@ -67,16 +72,21 @@ class Scene:
 
 def points_of(shape: Shape) -> tuple[PointRef, ...]:
     """The points that a shape has, in the order in which its line of text tells them."""
-    match shape:
-        case Point():
-            which: tuple[Which, ...] = (Which.AT,)
-        case Segment():
-            which = (Which.START, Which.END)
-        case Circle():
-            which = (Which.CENTRE,)
-        case Arc():
-            which = (Which.CENTRE, Which.START, Which.END)
-    return tuple(PointRef(shape.name, each) for each in which)
+    return _points(shape.name, _WHICH[type(shape)])
+
+
+@lru_cache(maxsize=16_384)
+def _points(name: str, which: tuple[Which, ...]) -> tuple[PointRef, ...]:
+    """These points of a shape of that name."""
+    return tuple(PointRef(name, each) for each in which)
+
+
+_WHICH: dict[type[Shape], tuple[Which, ...]] = {
+    Point: (Which.AT,),
+    Segment: (Which.START, Which.END),
+    Circle: (Which.CENTRE,),
+    Arc: (Which.CENTRE, Which.START, Which.END),
+}
 
 
 def spot_of(shape: Shape | Datum, which: Which) -> Spot:

@@ -53,6 +53,11 @@ class Drawing:
         """Which points are one."""
         return Meetings(self)
 
+    @cached_property
+    def wordings(self) -> tuple[str, ...]:
+        """The words of each constraint, without its name, in their order."""
+        return tuple(map(words_of, self.constraints))
+
     def shape(self, name: str) -> Shape | Datum:
         """The shape of that name, or that part of the datum; KeyError where there is none."""
         return self.scene.shape(name)
@@ -64,8 +69,8 @@ class Drawing:
     def called(self, number: int) -> str:
         """What the constraint at place `number`, from 1, is called: by the name that its owner
         gave it, else by its place and its words, as `constraint 7 (length Bottom 120)`."""
-        constraint = self.constraints[number - 1]
-        return constraint.name or f"constraint {number} ({words_of(constraint)})"
+        name = self.constraints[number - 1].name
+        return name or f"constraint {number} ({self.wordings[number - 1]})"
 
     def drawn(self, ref: PointRef) -> Place:
         """Where a point is drawn."""

@@ -107,6 +107,8 @@ def nearest_ratio(p: int | Fraction, q: int | Fraction) -> tuple[int, int]:
 
 def nearest_whole(value: int | Fraction) -> int:
     """The nearest whole number, halves away from zero."""
+    if isinstance(value, int):
+        return value
     exact = Fraction(value)
     whole = (2 * abs(exact.numerator) + exact.denominator) // (2 * exact.denominator)
     return whole if exact >= 0 else -whole

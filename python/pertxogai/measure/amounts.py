@@ -12,7 +12,7 @@ from pertxogai.drawing import (
 from pertxogai.drawing.geometry import Axis, Origin
 from pertxogai.measure.directions import Bend, Line, bend, bend_of_lines
 from pertxogai.measure.exact import (
-    Way, apart, between, cross, length, off, quotient, roots_apart, square, whole_up)
+    Number, Way, apart, between, cross, length, off, quotient, roots_apart, square, whole_up)
 from pertxogai.measure.placed import Placed, nm
 
 Amounts = tuple[int, int | None]
@@ -44,7 +44,7 @@ def _of_points(placed: Placed, constraint: Coincident | PointOn | Midpoint | Sym
         case Coincident(first, second):
             return placed.apart(first, second)
         case PointOn(point, curve) if placed.is_line(curve):
-            return placed.off_line(placed.spot(point), placed.line(curve), Fraction(0))
+            return placed.off_line(placed.spot(point), placed.line(curve), 0)
         case PointOn(point, curve):
             return placed.off_rim(placed.spot(point), curve)
         case Midpoint(point, segment):
@@ -64,7 +64,7 @@ def _of_points(placed: Placed, constraint: Coincident | PointOn | Midpoint | Sym
 
 
 def _middle(first: Way, second: Way) -> Way:
-    return (first[0] + second[0]) / 2, (first[1] + second[1]) / 2
+    return Fraction(first[0] + second[0]) / 2, Fraction(first[1] + second[1]) / 2
 
 
 def _mirrored(first: Way, second: Way, line: Line) -> int:
@@ -72,7 +72,7 @@ def _mirrored(first: Way, second: Way, line: Line) -> int:
     without a direction, from the first itself."""
     if square(line.way) == 0:
         return apart(first, second)
-    aside = 2 * cross(line.way, between(line.start, first)) / square(line.way)
+    aside = Fraction(2 * cross(line.way, between(line.start, first))) / square(line.way)
     return apart((first[0] + aside * line.way[1], first[1] - aside * line.way[0]), second)
 
 
@@ -111,7 +111,7 @@ def _distance(placed: Placed,
             return _parallel_distance(placed, placed.line(one), placed.line(other), wanted)
 
 
-def _parallel_distance(placed: Placed, first: Line, second: Line, wanted: Fraction) -> int:
+def _parallel_distance(placed: Placed, first: Line, second: Line, wanted: Number) -> int:
     """How far both ends of the second are off the distance, on the side of its start; of an
     axis, the ends of the first."""
     if not second.ends:
@@ -136,8 +136,8 @@ def _level(placed: Placed, level: Horizontal | Vertical) -> Amounts:
     if isinstance(level.of, Pair):
         way = between(placed.spot(level.of.first), placed.spot(level.of.second))
         across = placed.x_and_y(way)[1 if isinstance(level, Horizontal) else 0]
-        return off(across, Fraction(0)), None
-    axis = Line((Fraction(0), Fraction(0)), placed.right(), False)
+        return off(across, 0), None
+    axis = Line((0, 0), placed.right(), False)
     line = placed.line(level.of)
     return _both(bend_of_lines(axis, line, isinstance(level, Vertical)), axis, line)
 
@@ -170,7 +170,7 @@ def _collinear(placed: Placed, first: Line, second: Line) -> Amounts:
     if not second.ends:
         first, second = second, first
     far = (second.start[0] + second.way[0], second.start[1] + second.way[1])
-    nanometres = max(placed.off_line(each, first, Fraction(0)) for each in (second.start, far))
+    nanometres = max(placed.off_line(each, first, 0) for each in (second.start, far))
     return nanometres, bend_of_lines(first, second, False).ppb()
 
 
@@ -186,7 +186,7 @@ def _tangent(placed: Placed, tangent: Tangent) -> Amounts:
         return placed.off_line(placed.centre(second), line, placed.radius(second)), None
     radii = placed.radius(first), placed.radius(second)
     inside = touch(placed.drawing, tangent) is Touch.INSIDE
-    wanted = abs(radii[0] - radii[1]) if inside else radii[0] + radii[1]
+    wanted = max(radii) - min(radii) if inside else radii[0] + radii[1]
     return off(length(between(placed.centre(first), placed.centre(second))), wanted), None
 
 

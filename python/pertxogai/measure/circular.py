@@ -19,7 +19,7 @@ class Enclosed:
     low: Fraction
     high: Fraction
 
-    def times(self, factor: Fraction) -> "Enclosed":
+    def times(self, factor: int | Fraction) -> "Enclosed":
         """The number times a fraction."""
         ends = sorted((self.low * factor, self.high * factor))
         return Enclosed(ends[0], ends[1])

@@ -7,7 +7,7 @@ from fractions import Fraction
 
 from pertxogai.drawing import Slope, Turn
 from pertxogai.measure.circular import Enclosed, cos_sin, exactly
-from pertxogai.measure.exact import Root, Way, cross, dot, least, square
+from pertxogai.measure.exact import Number, Root, Way, cross, dot, least, square
 
 PPB = 10 ** 9
 """Parts of a radian."""
@@ -28,7 +28,7 @@ class Bend:
     """How far two lines are off a turn: by the sine of the angle that is too much, squared, and
     whether the second runs the other way than it should."""
 
-    sine_square: Fraction
+    sine_square: Number
     backward: bool
 
     def nm(self, first: Line, second: Line) -> int:
@@ -39,18 +39,18 @@ class Bend:
 
     def ppb(self) -> int:
         """The sine in parts per 10^9; from 10^9 to 2 * 10^9 where it runs backward."""
-        return self._amount(Fraction(PPB * PPB))
+        return self._amount(PPB * PPB)
 
-    def _amount(self, length_square: Fraction) -> int:
+    def _amount(self, length_square: Number) -> int:
         sine = Root(1, self.sine_square * length_square)
         if not self.backward:
-            return least(lambda t: sine.at_most(Fraction(t)))
+            return least(sine.at_most)
         twice = Root(1, 4 * length_square)
-        whole = least(lambda t: twice.at_most(Fraction(t)))
-        return whole - least(lambda t: sine.at_most(Fraction(t)))
+        whole = least(twice.at_most)
+        return whole - least(sine.at_most)
 
 
-LOST = Bend(Fraction(1), False)
+LOST = Bend(1, False)
 """Of a line whose two ends are one place: it has no direction at all."""
 
 
@@ -94,4 +94,4 @@ def bend_of_lines(first: Line, second: Line, right_angle: bool) -> Bend:
     if squares == 0:
         return LOST
     over = dot(first.way, second.way) if right_angle else cross(first.way, second.way)
-    return Bend(over * over / squares, False)
+    return Bend(Fraction(over * over) / squares if over else 0, False)

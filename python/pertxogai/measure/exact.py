@@ -6,7 +6,10 @@ from collections.abc import Callable
 from dataclasses import dataclass
 from fractions import Fraction
 
-Way = tuple[Fraction, Fraction]
+Number = int | Fraction
+"""A whole number or a fraction; never a float. Whole numbers are the faster."""
+
+Way = tuple[Number, Number]
 """A place, or a way from one to another, by two components."""
 
 
@@ -15,17 +18,17 @@ def between(first: Way, second: Way) -> Way:
     return second[0] - first[0], second[1] - first[1]
 
 
-def dot(first: Way, second: Way) -> Fraction:
+def dot(first: Way, second: Way) -> Number:
     """The scalar product."""
     return first[0] * second[0] + first[1] * second[1]
 
 
-def cross(first: Way, second: Way) -> Fraction:
+def cross(first: Way, second: Way) -> Number:
     """Twice the area that the two ways span, above 0 where the second turns to the left."""
     return first[0] * second[1] - first[1] * second[0]
 
 
-def square(way: Way) -> Fraction:
+def square(way: Way) -> Number:
     """The square of the length."""
     return dot(way, way)
 
@@ -35,22 +38,24 @@ class Root:
     """The number `sign` times the square root of `square`, which isn't negative."""
 
     sign: int
-    square: Fraction
+    square: Number
 
-    def at_most(self, limit: Fraction) -> bool:
+    def at_most(self, limit: Number) -> bool:
         """Whether the number is at most the limit."""
         if self.sign >= 0:
             return limit >= 0 and self.square <= limit * limit
         return limit >= 0 or self.square >= limit * limit
 
-    def at_least(self, limit: Fraction) -> bool:
+    def at_least(self, limit: Number) -> bool:
         """Whether the number is at least the limit."""
         return Root(-1 if self.sign >= 0 else 1, self.square).at_most(-limit)
 
 
-def quotient(above: Fraction, below_square: Fraction) -> Root:
+def quotient(above: Number, below_square: Number) -> Root:
     """The number `above` divided by the root of `below_square`, which is above 0."""
-    return Root(-1 if above < 0 else 1, above * above / below_square)
+    above_square = above * above
+    return Root(-1 if above < 0 else 1, above_square if below_square == 1
+                else Fraction(above_square) / below_square)
 
 
 def least(holds: Callable[[int], bool]) -> int:
@@ -67,7 +72,7 @@ def least(holds: Callable[[int], bool]) -> int:
     return high
 
 
-def off(root: Root, wanted: Fraction) -> int:
+def off(root: Root, wanted: Number) -> int:
     """The least whole number T with the root within T of the number that is wanted."""
     return least(lambda t: root.at_most(wanted + t) and root.at_least(wanted - t))
 
@@ -79,16 +84,16 @@ def length(way: Way) -> Root:
 
 def apart(first: Way, second: Way) -> int:
     """The least whole number within which two places are one."""
-    return off(length(between(first, second)), Fraction(0))
+    return off(length(between(first, second)), 0)
 
 
-def roots_apart(first: Fraction, second: Fraction) -> int:
+def roots_apart(first: Number, second: Number) -> int:
     """The least whole number T within which the roots of two numbers are equal."""
     greater, lesser = max(first, second), min(first, second)
     # root(greater) <= root(lesser) + t, squared: greater - lesser - t*t <= root(4*t*t*lesser)
     return least(lambda t: Root(1, 4 * t * t * lesser).at_least(greater - lesser - t * t))
 
 
-def whole_up(value: Fraction) -> int:
+def whole_up(value: Number) -> int:
     """The least whole number that is at least the size of the value."""
     return -(-abs(value.numerator) // value.denominator)

@@ -10,13 +10,14 @@ from pertxogai.drawing import (
 from pertxogai.drawing.places import NM_PER_UM
 from pertxogai.measure.directions import Line
 from pertxogai.measure.exact import (
-    Root, Way, apart, between, cross, dot, least, length, off, quotient, square)
+    Number, Root, Way, apart, between, cross, dot, least, length, off, quotient, square)
 from pertxogai.measure.solution import Solution
 
 
-def nm(value_um: Fraction) -> Fraction:
+def nm(value_um: Fraction) -> Number:
     """Nanometres of micrometres."""
-    return value_um * NM_PER_UM
+    value = value_um * NM_PER_UM
+    return value.numerator if value.denominator == 1 else value
 
 
 @dataclass(frozen=True)
@@ -34,7 +35,7 @@ class Placed:
         """Where the centre of a rim lies."""
         return self.spot(PointRef(rim.name, Which.CENTRE))
 
-    def radius(self, rim: ShapeRef) -> Fraction:
+    def radius(self, rim: ShapeRef) -> Number:
         """The radius of a rim."""
         return self.solution.radius(rim.name)
 
@@ -54,8 +55,7 @@ class Placed:
 
     def right(self) -> Way:
         """The direction of the x axis."""
-        right = self.solution.frame.right
-        return Fraction(right[0]), Fraction(right[1])
+        return self.solution.frame.right
 
     def x_and_y(self, way: Way) -> tuple[Root, Root]:
         """How far a way goes along the x axis and along the y axis."""
@@ -63,13 +63,14 @@ class Placed:
         return (quotient(dot(right, way), square(right)),
                 quotient(cross(right, way), square(right)))
 
-    def off_line(self, point: Way, line: Line, wanted_nm: Fraction) -> int:
+    def off_line(self, point: Way, line: Line, wanted_nm: Number) -> int:
         """How far the distance of a point from a line is off the one that is wanted, on either
         side; of a line without a direction, the distance from its start."""
         way = between(line.start, point)
         if square(line.way) == 0:
             return off(length(way), wanted_nm)
-        return off(quotient(abs(cross(line.way, way)), square(line.way)), wanted_nm)
+        aside = cross(line.way, way)
+        return off(quotient(max(aside, -aside), square(line.way)), wanted_nm)
 
     def off_rim(self, point: Way, rim: ShapeRef) -> int:
         """How far a point lies off a rim."""
@@ -87,11 +88,11 @@ class Placed:
         both = square(way) + square(wanted)
         return least(lambda t: overlap.at_least(both - t * t))
 
-    def off_drawn_radius(self, name: str) -> Fraction:
+    def off_drawn_radius(self, name: str) -> Number:
         """How far a whole circle's radius is off the drawn one; 0 for anything else."""
         shape = self.drawing.shape(name)
         if not isinstance(shape, Circle):
-            return Fraction(0)
+            return 0
         return self.solution.radius(name) - nm(shape.radius_um)
 
     def apart(self, first: PointRef, second: PointRef) -> int:

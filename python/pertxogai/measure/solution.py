@@ -4,12 +4,9 @@ from __future__ import annotations
 
 from collections.abc import Mapping
 from dataclasses import dataclass, field
-from fractions import Fraction
 
 from pertxogai.drawing import ORIGIN, PointRef
-
-Number = int | Fraction
-"""A whole number or a fraction; never a float."""
+from pertxogai.measure.exact import Number
 
 Spot = tuple[Number, Number]
 """x and y in nanometres, in the frame of the printed numbers."""
@@ -36,15 +33,15 @@ class Solution:
     radii: Mapping[str, Number] = field(default_factory=dict)
     frame: Frame = Frame()
 
-    def spot(self, ref: PointRef) -> tuple[Fraction, Fraction]:
+    def spot(self, ref: PointRef) -> Spot:
         """The place of a point; raises MissingPlace."""
         spot = self.frame.origin if ref == ORIGIN else self.points.get(ref)
         if spot is None:
             raise MissingPlace(f"no place of {ref} was printed")
-        return Fraction(spot[0]), Fraction(spot[1])
+        return spot
 
-    def radius(self, name: str) -> Fraction:
+    def radius(self, name: str) -> Number:
         """The radius of a circle or an arc; raises MissingPlace."""
         if name not in self.radii:
             raise MissingPlace(f"no radius of {name} was printed")
-        return Fraction(self.radii[name])
+        return self.radii[name]

@@ -14,10 +14,11 @@ from ..dxf import MissingLibrary, Release
 from ..found import FileRefusal
 from ..inputs import InputRefused
 from ..language import NotHeld, Refusal
+from ..measure import Spot
 from ..picture.designed import Whereabouts
 from ..program import Asks, ProgramError
 from ..reports import Flipped, NoChoice
-from ..told import JudgedDrawing
+from ..told import JudgedDrawing, spare_json
 from .document import read_document, write_document
 from .edit_fields import read_edit
 from .edits import Move
@@ -127,6 +128,12 @@ def _offers(desk: Desk, given: Fields) -> Json:
     return {"offers": [{"words": list(each.words), "value": each.value} for each in found]}
 
 
+def _weigh(desk: Desk, given: Fields) -> Json:
+    """What may go of a drawing that is over, each with how far it is off without it."""
+    judgement = desk.judged(given.text("text")).weighed
+    return {"spare": [spare_json(each) for each in judgement.surplus]}
+
+
 def _plan(desk: Desk, given: Fields) -> Json:
     """The construction, step by step."""
     return {"construction": desk.judged(given.text("text")).construction().shown()}
@@ -154,14 +161,14 @@ def _redraw(desk: Desk, given: Fields) -> Json:
         return trouble("flip", "the other shape has no places, so nothing is drawn so")
     solution = found.solution
     moves = tuple((ref, _place(solution.spot(ref))) for ref in judged.drawing.points())
-    radii = tuple((name, solution.radius(name) / 1000) for name in solution.radii)
+    radii = tuple((name, Fraction(solution.radius(name)) / 1000) for name in solution.radii)
     return _whole(desk, desk.edited(Move(moves, radii).on(judged.drawing)))
 
 
-def _place(spot: tuple[Fraction, Fraction]) -> Place:
+def _place(spot: Spot) -> Place:
     """A place in nm, to the next micrometre."""
-    x, y = spot
-    return Place(Fraction(round(x / 1000)), Fraction(round(y / 1000)))
+    x, y = (Fraction(round(Fraction(each) / 1000)) for each in spot)
+    return Place(x, y)
 
 
 def _verify(desk: Desk, given: Fields) -> Json:
@@ -187,7 +194,7 @@ def _svg(desk: Desk, given: Fields) -> Json:
 
 def _sheet(desk: Desk, given: Fields) -> DrawingSheet:
     judged = desk.judged(given.text("text"))
-    return DrawingSheet(JudgedDrawing(given.text("name"), judged.drawing, judged.judgement), False)
+    return DrawingSheet(JudgedDrawing(given.text("name"), judged.drawing, judged.weighed), False)
 
 
 def _program_dxf(desk: Desk, given: Fields) -> Json:
@@ -203,7 +210,7 @@ def _open(desk: Desk, given: Fields) -> Json:
 
 
 CALLS: Mapping[str, Callable[[Desk, Fields], Json]] = {
-    "judge": _judge, "edit": _edit, "offers": _offers, "plan": _plan, "flips": _flips,
+    "judge": _judge, "edit": _edit, "offers": _offers, "weigh": _weigh, "plan": _plan, "flips": _flips,
     "redraw": _redraw, "verify": _verify, "dxf": _dxf, "svg": _svg, "program-dxf": _program_dxf,
     "open": _open,
 }

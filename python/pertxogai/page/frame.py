@@ -8,7 +8,7 @@ from ..answers import Judgement
 from ..answers.placing import Plate, in_datum
 from ..language import PlacedCircle, PlacedLine
 from ..reports import Shape
-from ..spelling.axes import DATUM
+from ..spelling.facts import DATUM
 from .motion import Motion, Spot, laid
 
 

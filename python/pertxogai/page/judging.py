@@ -4,7 +4,7 @@ from __future__ import annotations
 from dataclasses import dataclass, replace
 from functools import cached_property
 
-from ..answers import Judgement, judge
+from ..answers import Judgement, judge_at_once, weighed
 from ..answers.solution import solution_of
 from ..drawing import Drawing
 from ..language import Refusal
@@ -32,8 +32,14 @@ class Judged:
 
     @cached_property
     def judgement(self) -> Judgement:
-        """The judgement. Raises ProgramError, Refusal, NotHeld."""
-        return judge(self.drawing, self.program)
+        """The judgement, in which what may go isn't measured. Raises ProgramError, Refusal,
+        NotHeld."""
+        return judge_at_once(self.drawing, self.program)
+
+    @cached_property
+    def weighed(self) -> Judgement:
+        """The judgement, with what may go measured. Raises as `judgement`."""
+        return weighed(self.judgement, self.program)
 
     @property
     def text(self) -> str:

@@ -12,8 +12,7 @@ from ..language import PlacedPoint
 from ..measure import Solution
 from ..program import Asks
 from ..reports import PlacedPart, Solved, read_parts
-from ..spelling.axes import DATUM
-from ..spelling.facts import RadiusOf
+from ..spelling.facts import DATUM, RadiusOf
 from ..values import Form
 from .motion import Motion, Spot, laid
 

@@ -6,15 +6,13 @@ from collections.abc import Iterable, Mapping
 
 from ..answers import Judgement
 from ..drawing import (
-    Arc, Circle, Constraint, Drawing, PointRef, Shape, points_of, words_of)
+    Arc, Circle, Constraint, Drawing, PointRef, Shape, points_of)
 from ..measure import Solution
 from ..picture.designed import Whereabouts
-from ..reports import Solved
 from ..shape_parts import parts_of_shapes
-from ..told import JudgedDrawing, drawing_json, told
+from ..told import JudgedDrawing, spare_json, spelled_json, within_json
 from .motion import Spot
 from .parts_laid import LaidPart
-from .removal import named
 from .signs import marks
 from .spots import leader_of
 
@@ -39,7 +37,7 @@ def _shape(where: Whereabouts, shape: Shape) -> Json:
         "name": shape.name, "kind": type(shape).__name__.lower(),
         "construction": shape.construction, "outer": shape.outer,
         "points": {str(ref): _spot(where.at(ref)) for ref in points_of(shape)},
-        "leaders": {str(ref): str(leader_of(drawing, ref)) for ref in points_of(shape)},
+        "shares": [str(ref) for ref in points_of(shape) if leader_of(drawing, ref) != ref],
     }
     if isinstance(shape, (Circle, Arc)):
         found["radius"] = where.radius(shape.name)
@@ -47,34 +45,28 @@ def _shape(where: Whereabouts, shape: Shape) -> Json:
 
 
 def _constraint(drawing: Drawing, number: int, constraint: Constraint) -> Json:
-    words = words_of(constraint).split()
+    words = drawing.wordings[number - 1].split()
     has_value = hasattr(constraint, "value_um") or hasattr(constraint, "value")
     return {"number": number, "name": constraint.name, "called": drawing.called(number),
-            "words": " ".join(words), "word": words[0],
-            "value": words[-1] if has_value else None, "shapes": sorted(set(named(constraint)))}
+            "words": " ".join(words), "value": words[-1] if has_value else None}
 
 
 def judgement_shown(drawing: Drawing, judgement: Judgement, parts: Iterable[LaidPart]) -> Json:
-    """What is judged: all of `drawing_json`, and where it is shown."""
+    """What is judged, and where it is shown."""
     judged = JudgedDrawing("the drawing", drawing, judgement)
     solution = judgement.solution
-    solved = judgement.asked.solved
     return {
-        **drawing_json(judged),
-        "told": list(told(judged)),
+        "verdict": judgement.verdict.value,
+        **spelled_json(judged),
+        **within_json(judged),
+        "spare": [spare_json(each) for each in judgement.surplus],
         "placed": _placed(drawing, solution) if solution is not None else None,
         "laid": [_laid(part) for part in parts],
         "colours": dict(parts_of_shapes(judgement)),
         "missing": _missing(judgement),
         "failure": _failure(judgement),
-        "grown": list(judgement.grown),
         "warnings": [{"text": each.text(), "shapes": list(each.shapes)}
                      for each in judgement.warnings],
-        "elements": judgement.asked.check.elements,
-        "constraints": judgement.asked.check.constraints,
-        "steps": solved.steps if isinstance(solved, Solved) else None,
-        "place": judgement.place.value,
-        "scale": judgement.asked.spelled.scale,
         "language": judgement.asked.spelled.sketch.text(),
     }
 

@@ -4,11 +4,12 @@
 """
 from __future__ import annotations
 
+import gc
 import json
 import resource
 import sys
 from collections.abc import Sequence
-from dataclasses import dataclass, replace
+from dataclasses import dataclass, field, replace
 from time import monotonic
 
 from ..program import Answer, Program, ProgramTimedOut
@@ -24,13 +25,23 @@ class Hasty:
     program: Program
     seconds: float
     ends: float = 0.0
+    answered: dict[tuple[tuple[str, ...], str], Answer] = field(default_factory=dict)
+    """What was answered in this call."""
 
     def begin(self) -> None:
         """A call begins now."""
         self.ends = monotonic() + self.seconds
+        self.answered.clear()
 
     def ask(self, words: Sequence[str], text: str) -> Answer:
-        """Asks within what is left of the time. Raises ProgramError."""
+        """Asks within what is left of the time, and what was asked in this call already not again.
+        Raises ProgramError."""
+        key = tuple(words), text
+        if key not in self.answered:
+            self.answered[key] = self._ask(words, text)
+        return self.answered[key]
+
+    def _ask(self, words: Sequence[str], text: str) -> Answer:
         left = self.ends - monotonic()
         try:
             if left > 0:
@@ -42,14 +53,17 @@ class Hasty:
 
 
 def main(words: Sequence[str]) -> None:
-    """Answers calls from standard input on standard output."""
+    """Answers calls from standard input on standard output. Rubbish is collected once an answer is
+    given, while none waits."""
     path, seconds, memory_mib = words
     limit_memory(int(memory_mib))
     program = Hasty(Program(path, memory_mib=int(memory_mib) or None), float(seconds))
     desk = Desk(program)
+    gc.disable()
     for line in sys.stdin:
         program.begin()
         print(json.dumps(_answer(desk, line)), flush=True)
+        gc.collect()
 
 
 def _answer(desk: Desk, line: str) -> dict[str, object]:

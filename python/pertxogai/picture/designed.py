@@ -6,6 +6,7 @@ import math
 from collections.abc import Iterator, Mapping, Sequence
 from dataclasses import dataclass, field
 from fractions import Fraction
+from functools import cached_property
 
 from ..drawing import (
     AngleBetween,
@@ -100,6 +101,17 @@ class Whereabouts:
 
     def at(self, ref: PointRef) -> Spot:
         """The place of a point. Raises MissingPlace where it isn't placed."""
+        known = self._known.get(ref)
+        if known is None:
+            known = self._known[ref] = self._at(ref)
+        return known
+
+    @cached_property
+    def _known(self) -> dict[PointRef, Spot]:
+        """The places that were asked for."""
+        return {}
+
+    def _at(self, ref: PointRef) -> Spot:
         if self.solution is None:
             place = self.drawing.drawn(ref)
             return float(place.x_um) / 1e3, float(place.y_um) / 1e3

@@ -2,7 +2,8 @@
 line."""
 from __future__ import annotations
 
-from dataclasses import dataclass
+from collections.abc import Iterator
+from dataclasses import dataclass, replace
 
 from pertxogai.drawing import Drawing
 from pertxogai.spelling.axes import Axes
@@ -41,16 +42,36 @@ READINGS = (Reading(), Reading(middles=True), Reading(slots=False), Reading(ways
 
 def axes_of(drawing: Drawing, reading: Reading = READINGS[0]) -> Axes:
     """What a drawing says of x and y."""
-    facts: Facts | None = with_polygons(lowered(drawing), reading.middles)
-    if reading.ways and facts is not None:
+    return _axes(_read(lowered(drawing), reading))
+
+
+def readings(drawing: Drawing) -> Iterator[Axes]:
+    """What a drawing says of x and y, by each reading that takes it otherwise than those before."""
+    said = lowered(drawing)
+    seen: list[Facts] = []
+    for reading in READINGS:
+        facts = _read(said, reading)
+        if facts not in seen:
+            seen.append(facts)
+            yield _axes(facts)
+
+
+def _read(said: Facts, reading: Reading) -> Facts:
+    """The facts as a reading takes them."""
+    facts = with_polygons(replace(said, own=dict(said.own)), reading.middles)
+    if reading.ways:
         facts = with_ways(facts)
-    if reading.slots and facts is not None:
-        facts = with_slots(facts)
+    return with_slots(facts) if reading.slots else facts
+
+
+def _axes(said: Facts) -> Axes:
+    """What some facts say of x and y, and what follows from it."""
+    facts: Facts | None = said
     while facts is not None:
         axes = Axes(facts, Lines(facts))
         facts = with_implied(axes) or with_halves(axes)
     return axes
 
 
-__all__ = ["Axes", "Care", "READINGS", "Rails", "Reading", "Spelled", "Style", "axes_of", "spell",
-           "written"]
+__all__ = ["Axes", "Care", "READINGS", "Rails", "Reading", "Spelled", "Style", "axes_of",
+           "readings", "spell", "written"]

@@ -3,6 +3,7 @@ them its parallels, right angles, shifts, middles and mirrors are equations. """
 from __future__ import annotations
 
 from collections import Counter
+from collections.abc import Hashable
 from copy import copy
 from dataclasses import dataclass, replace
 from fractions import Fraction
@@ -11,14 +12,12 @@ from typing import NamedTuple, Protocol
 from pertxogai.drawing import X_AXIS
 from pertxogai.spelling.directions import Directions
 from pertxogai.spelling.facts import (
-    ORIGIN_KNOT, Apart, Fact, Facts, HalfOf, Knot, Leans, Line, Middle, Mirror, Off, Owner,
-    RadiusOf, Shift, Sized, Stays)
+    DATUM, ORIGIN_KNOT, Apart, Fact, Facts, HalfOf, Knot, Leans, LengthOf, Line, Middle, Mirror,
+    Off, Owner, RadiusOf, Shift, Sized, Stays)
 from pertxogai.spelling.lean import Lean
 from pertxogai.spelling.lines import Lines
-from pertxogai.values import Form, LinearSystem, Told
-
-DATUM = 0
-"""The number of the datum's frame."""
+from pertxogai.spelling.settling import Settling
+from pertxogai.values import Form, LinearSystem, Number, Told
 
 
 class Coordinate(NamedTuple):
@@ -36,9 +35,9 @@ class Frame:
 
     number: int
     line: Line
-    way: tuple[Fraction, Fraction]
+    way: tuple[Number, Number]
 
-    def along(self, upwards: bool, place: tuple[Fraction, Fraction]) -> Fraction:
+    def along(self, upwards: bool, place: tuple[Number, Number]) -> Number:
         """A drawn place along an axis, times the length of `way`."""
         a, b = self.way
         x, y = place
@@ -75,19 +74,18 @@ class Axes:
         self._of_root: dict[Line, Frame] = {}
         self._leans: dict[Line, Lean] = {}
         self._signs: dict[tuple[int, bool, Knot, Knot], int] = {}
-        self._runs: dict[tuple[int, bool, Knot, Knot], Form] = {}
         self._make_frames()
         self._across = {(self.frame(line).number, self.fixed_axis(line))
                         for line in self.lines.all()}
-        self.system = LinearSystem()
+        self.system = LinearSystem(rank)
+        self._frames_of: dict[Knot, set[int]] = {}
         self.equations: list[Equation] = []
         self.told: list[tuple[Equation, Told]] = []
         self.loose: list[Apart | Off] = []
         self._lines_say()
         for fact in facts.facts:
             self._say(fact)
-        while self._settle():
-            pass
+        Settling(self).settle()
 
     def replaced(self, number: int | None, equation: Equation,
                  without: Apart | Off | None = None) -> Axes:
@@ -99,12 +97,12 @@ class Axes:
             equations.append(equation)
         else:
             equations[number] = equation
-        other.system, other.equations, other.told = LinearSystem(), [], []
+        other.system, other.equations, other.told = LinearSystem(rank), [], []
+        other._frames_of = {}
         other.loose = [fact for fact in self.loose if fact is not without]
         for each in equations:
             other.tell(each.form, each.owners)
-        while other._settle():
-            pass
+        Settling(other).settle()
         return other
 
     def surplus(self) -> list[tuple[Equation, Told]]:
@@ -191,6 +189,9 @@ class Axes:
         equation = Equation(form, owners)
         told = self.system.add(form, len(self.equations))
         self.equations.append(equation)
+        for key in form.terms:
+            if isinstance(key, Coordinate):
+                self._frames_of.setdefault(key.knot, set()).add(key.frame)
         if told is not None:
             self.told.append((equation, told))
 
@@ -280,11 +281,11 @@ class Axes:
             return
         frame = self.frame(line)
         on_line = self.lines.members(line)[0].knot
-        sign = self._sign(frame, upwards, on_line, fact.point)
+        sign = self.sign(frame, upwards, on_line, fact.point)
         step = self.at(frame.number, upwards, fact.point) - self.at(frame.number, upwards, on_line)
         self.tell(step - fact.value.times(sign), frozenset({fact.owner}))
 
-    def _sign(self, frame: Frame, upwards: bool, first: Knot, second: Knot) -> int:
+    def sign(self, frame: Frame, upwards: bool, first: Knot, second: Knot) -> int:
         """Which way along an axis the second point is drawn from the first."""
         key = (frame.number, upwards, first, second)
         known = self._signs.get(key)
@@ -293,81 +294,27 @@ class Axes:
             known = self._signs[key] = 1 if end >= start else -1
         return known
 
-    # -- distances along an axis
+    def frames_of(self, knot: Knot) -> set[int]:
+        """The numbers of the frames in which an equation has a coordinate of the point."""
+        return self._frames_of.get(knot, set())
 
-    def _settle(self) -> bool:
-        """Makes an equation of the first distance that runs along an axis; False where none
-        does."""
-        datum, others = self.frames[:1], self.frames[1:]
-        for frames in (datum, others):
-            for settles in (self._settles, self._is_mate):
-                for fact in self.loose:
-                    if isinstance(fact, Apart) and settles(fact, frames):
-                        self.loose.remove(fact)
-                        return True
-        return False
-
-    def _has_rails(self, frame: Frame, upwards: bool) -> bool:
+    def has_rails(self, frame: Frame, upwards: bool) -> bool:
         """Whether distances along an axis of a frame are told from lines across it."""
         return frame.number == DATUM or (frame.number, upwards) in self._across
 
-    def _is_mate(self, fact: Apart, frames: list[Frame]) -> bool:
-        """Two equal distances that rise alike also run alike."""
-        for mate in self.loose:
-            if mate is fact:
-                break
-            if isinstance(mate, Apart) and self._untold_alike(mate, fact):
-                owners = frozenset({fact.owner}) | self._owners(mate.value - fact.value)
-                if any(self._runs_alike(frame, upwards, mate, fact, owners)
-                       for frame in frames for upwards in (False, True)):
-                    return True
-        return False
-
-    def _untold_alike(self, mate: Apart, fact: Apart) -> bool:
-        """Whether two distances are told to be equal and nothing else."""
-        reduced = self.system.reduced
-        return bool(reduced(fact.value).terms) and reduced(mate.value - fact.value) == Form()
-
-    def _owners(self, form: Form) -> frozenset[Owner]:
+    def owners(self, form: Form) -> frozenset[Owner]:
+        """Who says how the form is reduced."""
         return frozenset(owner for mark in self.system.sources(form)
                          for owner in self.equations[mark].owners)
 
-    def _runs_alike(self, frame: Frame, upwards: bool, mate: Apart, fact: Apart,
-                    owners: frozenset[Owner]) -> bool:
-        across, mates = self._run(frame, not upwards, fact), self._run(frame, not upwards, mate)
-        alike = Form() in map(self.system.reduced, (across - mates, across + mates))
-        if not alike or {fact.first, fact.second} == {mate.first, mate.second}:
-            return False
-        signs = [self._sign(frame, upwards, each.first, each.second) for each in (fact, mate)]
-        self.tell(self._run(frame, upwards, fact).times(signs[0])
-                  - self._run(frame, upwards, mate).times(signs[1]), owners)
-        return True
+    def forget(self, fact: Apart) -> None:
+        """Takes away a distance that has become an equation."""
+        self.loose.remove(fact)
 
-    def _settles(self, fact: Apart, frames: list[Frame]) -> bool:
-        """Where the points are level, the distance is the way along; where it is that already,
-        they are level."""
-        for frame in frames:
-            for upwards in (False, True):
-                if not self._has_rails(frame, upwards):
-                    continue
-                across = self._run(frame, not upwards, fact)
-                sign = self._sign(frame, upwards, fact.first, fact.second)
-                along = self._run(frame, upwards, fact) - fact.value.times(sign)
-                if self.system.reduced(across) == Form():
-                    self.tell(along, frozenset({fact.owner}))
-                    return True
-                if self.system.reduced(along) == Form():
-                    self.tell(across, frozenset({fact.owner}))
-                    return True
-        return False
 
-    def _run(self, frame: Frame, upwards: bool, fact: Apart) -> Form:
-        key = (frame.number, upwards, fact.first, fact.second)
-        known = self._runs.get(key)
-        if known is None:
-            first = self.at(frame.number, upwards, fact.first)
-            known = self._runs[key] = self.at(frame.number, upwards, fact.second) - first
-        return known
+def rank(unknown: Hashable) -> int:
+    """Sizes are solved for first, so that coordinates stay."""
+    return 0 if isinstance(unknown, (LengthOf, RadiusOf)) else 1
 
 
 def _join(group: dict[Knot, Knot], first: Knot, second: Knot) -> bool:

@@ -2,28 +2,41 @@
 owners."""
 from __future__ import annotations
 
+from collections.abc import Callable, Iterable
 from dataclasses import dataclass, field
 from fractions import Fraction
+from math import lcm
 
 from pertxogai import language
 from pertxogai.spelling.facts import Owner
+from pertxogai.values import Number
 
-Spot = tuple[Fraction, Fraction]
+Spot = tuple[Number, Number]
 SCALES = (1, 2, 4, 5, 8, 10, 16, 20, 25, 40, 50, 80, 100, 125, 160, 200, 250, 400, 500, 625, 800,
           1000)
 ROOM_UM = Fraction(250_000_000)
 """How large a drawing may become, in micrometres: a quarter of what the language holds."""
 
 
+Said = Callable[[], frozenset[Owner]]
+"""Who says something; it is called only where that is asked for."""
+
+
+def said_by(owners: Iterable[Owner]) -> Said:
+    """Owners that are known."""
+    known = frozenset(owners)
+    return lambda: known
+
+
 @dataclass(frozen=True)
 class Draft:
-    """A constraint: `on` where there is neither value nor ratio. `second` is a line, or a point
-    for a distance."""
+    """A constraint, and who says it: `on` where there is neither value nor ratio. `second` is a
+    line, or a point for a distance."""
 
     first: str
     second: str
-    owners: frozenset[Owner]
-    value_um: Fraction | None = None
+    said: Said
+    value_um: Number | None = None
     ratio: tuple[int, int] | None = None
 
     def names(self) -> tuple[str, str]:
@@ -37,7 +50,7 @@ class Rounded:
     told instead."""
 
     number: int
-    exact_um: Fraction
+    exact_um: Number
     told_um: Fraction
 
 
@@ -54,13 +67,11 @@ class Sheet:
         """How many times larger the sketch is told, so that its values are whole micrometres where
         they can be."""
         values = [each.value_um for each in self.drafts if each.value_um is not None]
-        spots = [abs(each) for spot in self.points.values() for each in spot]
-        room = ROOM_UM / max([Fraction(1), *(abs(value) for value in values), *spots])
+        spots = [each for spot in self.points.values() for each in spot]
+        room = ROOM_UM / max(1, *values, *spots, -min(0, *spots, *values))
         fitting = [scale for scale in SCALES if scale <= room] or [1]
-        for scale in fitting:
-            if all((value * scale).denominator == 1 for value in values):
-                return scale
-        return fitting[-1]
+        parts = lcm(*(value.denominator for value in values))
+        return next((scale for scale in fitting if scale % parts == 0), fitting[-1])
 
     def sketch(self, scale: int) -> tuple[language.Sketch, tuple[Rounded, ...]]:
         """The sketch as values of the language, so many times larger, and the values that had to
@@ -95,6 +106,6 @@ def _line(name: str, ends: tuple[Spot, Spot], scale: int) -> language.Line:
     return language.Line(name, x1, y1, x2, y2)
 
 
-def _whole(value: Fraction) -> int:
+def _whole(value: Number) -> int:
     return language.numbers.nearest_whole(value)
 

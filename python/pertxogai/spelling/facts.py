@@ -6,12 +6,11 @@ Each fact has an owner: the constraint, or the shape, that says it.
 from __future__ import annotations
 
 from dataclasses import dataclass, field
-from fractions import Fraction
 from typing import NamedTuple
 
 from pertxogai.drawing import Place, PointRef, ShapeRef
 from pertxogai.spelling.lean import Lean
-from pertxogai.values import Form
+from pertxogai.values import Form, Number
 
 
 @dataclass(frozen=True, order=True)
@@ -30,6 +29,8 @@ class Knot(NamedTuple):
 
 
 ORIGIN_KNOT = Knot(0)
+DATUM = 0
+"""The number of the datum's frame."""
 
 
 @dataclass(frozen=True)
@@ -180,17 +181,17 @@ class Facts:
     """All facts of a drawing, by the points and lines that they speak of."""
 
     refs: dict[PointRef, Knot] = field(default_factory=dict)
-    drawn: dict[Knot, tuple[Fraction, Fraction]] = field(default_factory=dict)
+    drawn: dict[Knot, tuple[Number, Number]] = field(default_factory=dict)
     own: dict[Line, tuple[Knot, Knot]] = field(default_factory=dict)
     facts: list[Fact] = field(default_factory=list)
     repeats: list[Owner] = field(default_factory=list)
     implied: dict[Line, tuple[Knot, Knot]] = field(default_factory=dict)
     """Lines of which the direction follows from the places of two of their points."""
 
-    def direction(self, line: Line) -> tuple[Fraction, Fraction]:
+    def direction(self, line: Line) -> tuple[Number, Number]:
         """The drawn direction of a line, from its first own point to its second."""
         if isinstance(line, ShapeRef) and line.name in ("XAxis", "YAxis"):
-            return Fraction(line.name == "XAxis"), Fraction(line.name == "YAxis")
+            return int(line.name == "XAxis"), int(line.name == "YAxis")
         first, second = self.own[line]
         (x, y), (u, v) = self.drawn[first], self.drawn[second]
         return u - x, v - y

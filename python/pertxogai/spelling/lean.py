@@ -31,12 +31,16 @@ class Lean:
                 return _made(Fraction(0), q, p)
 
     def __add__(self, other: Lean) -> Lean:
+        if other.level():
+            return self
+        if self.level():
+            return other
         return _made(self.degrees + other.degrees,
                      self.ahead * other.ahead - self.left * other.left,
                      self.ahead * other.left + self.left * other.ahead)
 
     def __neg__(self) -> Lean:
-        return _made(-self.degrees, self.ahead, -self.left)
+        return self if self.level() else _made(-self.degrees, self.ahead, -self.left)
 
     def level(self) -> bool:
         """Whether the lines are parallel."""

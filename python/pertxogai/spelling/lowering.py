@@ -15,7 +15,7 @@ from pertxogai.spelling.facts import (
     OneLine, Owner, RadiusOf, Shift, Sized, Stays)
 from pertxogai.spelling.knots import knots_of
 from pertxogai.spelling.lean import SQUARE, Lean
-from pertxogai.values import Form
+from pertxogai.values import Form, small
 
 LEVEL = Lean()
 RIMS = (Circle, Arc)
@@ -36,7 +36,7 @@ class _Lowering:
         self.facts.refs, self.facts.repeats = knots_of(drawing)
         for ref, knot in self.facts.refs.items():
             place = drawing.drawn(ref)
-            self.facts.drawn.setdefault(knot, (place.x_um, place.y_um))
+            self.facts.drawn.setdefault(knot, (small(place.x_um), small(place.y_um)))
         self.facts.own[X_AXIS] = (ORIGIN_KNOT, ORIGIN_KNOT)
         self.facts.own[Y_AXIS] = (ORIGIN_KNOT, ORIGIN_KNOT)
         for number, shape in enumerate(drawing.geometry, 1):
@@ -80,7 +80,7 @@ class _Lowering:
                             self._lean_of(shape), owner))
         for ref in dict.fromkeys(map(self._knot, refs)):
             x, y = self.facts.drawn[ref]
-            self._say(Stays(ref, Place(x, y), owner))
+            self._say(Stays(ref, Place(Fraction(x), Fraction(y)), owner))
         if isinstance(shape, Circle):
             self._size(Form.of(RadiusOf(shape.name)), shape.radius_um, owner)
 
@@ -292,4 +292,4 @@ class _Lowering:
                 self._stays(shape, owner)
             return
         x, y = self.facts.drawn[self._knot(what)]
-        self._say(Stays(self._knot(what), Place(x, y), owner))
+        self._say(Stays(self._knot(what), Place(Fraction(x), Fraction(y)), owner))

@@ -48,7 +48,7 @@ def _lean_of(ahead: Form, left: Form) -> Lean | None:
         return Lean() if ahead != Form() else SQUARE if left != Form() else None
     if ahead.terms or left.terms:
         return None
-    slope = left.number / ahead.number
+    slope = Fraction(left.number) / ahead.number
     return Lean.of(Slope(slope.numerator, slope.denominator, False))
 
 

@@ -5,12 +5,12 @@ from __future__ import annotations
 from collections import Counter
 from collections.abc import Hashable, Iterable
 from dataclasses import dataclass
-from fractions import Fraction
+from functools import cached_property
 
-from pertxogai.spelling.axes import DATUM, Axes, Coordinate, Equation
-from pertxogai.spelling.facts import Knot, LengthOf, Line, Owner, RadiusOf
+from pertxogai.spelling.axes import Axes, Coordinate, Equation, rank
+from pertxogai.spelling.facts import DATUM, Knot, Line, Owner
 from pertxogai.spelling.style import Style
-from pertxogai.values import Form, LinearSystem
+from pertxogai.values import Form, LinearSystem, Number
 
 
 @dataclass(frozen=True)
@@ -20,7 +20,7 @@ class Rail:
 
     frame: int
     upwards: bool
-    unknown: frozenset[tuple[Hashable, Fraction]]
+    unknown: frozenset[tuple[Hashable, Number]]
 
     def datum(self) -> bool:
         """Whether it is an axis of the datum."""
@@ -31,7 +31,7 @@ class Rail:
 class Size:
     """What is unknown in a length or radius."""
 
-    unknown: frozenset[tuple[Hashable, Fraction]]
+    unknown: frozenset[tuple[Hashable, Number]]
 
 
 @dataclass(frozen=True)
@@ -49,7 +49,7 @@ class Run:
 
     first: Coordinate
     second: Coordinate
-    run_um: Fraction
+    run_um: Number
     owners: frozenset[Owner]
 
 
@@ -66,18 +66,19 @@ class Rails:
 
     def __init__(self, axes: Axes, style: Style) -> None:
         self.axes = axes
-        self._system = LinearSystem(_rank)
+        self._system = axes.system if style.solves() else LinearSystem(rank)
         self.runs: list[Run] = []
         self._run_numbers: set[int] = set()
-        self._take(style)
-        self.members: dict[Rail, dict[Coordinate, Fraction]] = {}
+        if not style.solves():
+            self._take()
+        self.members: dict[Rail, dict[Coordinate, Number]] = {}
         for coordinate in _coordinates(axes.equations):
             rest = self._system.reduced(Form.of(coordinate))
             rail = Rail(coordinate.frame, coordinate.upwards, rest.key())
             self.members.setdefault(rail, {})[coordinate] = rest.number
         self._rail_of = {coordinate: rail for rail, members in self.members.items()
                          for coordinate in members}
-        self._sizes: dict[Size, tuple[Hashable, Fraction]] = {}
+        self._sizes: dict[Size, tuple[Hashable, Number]] = {}
         for size in self._all_sizes():
             rest = self._system.reduced(Form.of(size))
             self._sizes.setdefault(Size(rest.key()), (size, rest.number))
@@ -88,9 +89,10 @@ class Rails:
         return list(dict.fromkeys(key for form in forms for key in form.terms
                                   if not isinstance(key, Coordinate)))
 
-    def _take(self, style: Style) -> None:
+    def _take(self) -> None:
+        """Solves the equations but for the runs."""
         for number, equation in enumerate(self.axes.equations):
-            run = None if style.solves() else self._run(number, equation)
+            run = self._run(number, equation)
             if run is None:
                 self._system.add(equation.form, number)
             else:
@@ -104,9 +106,9 @@ class Rails:
         sizes = Form({key: value for key, value in equation.form.terms.items()
                       if not isinstance(key, Coordinate)}, equation.form.number)
         value = self.axes.system.reduced(sizes)
-        if len(keys) == 1 or number in self.axes.system.sources(sizes):
-            return None
         if len(keys) != 2 or value.terms or not value.number:
+            return None
+        if sizes.terms and number in self.axes.system.sources(sizes):
             return None
         second, first = sorted(keys, key=lambda key: -equation.form.terms[key])
         if [equation.form.terms[key] for key in (second, first)] != [1, -1]:
@@ -117,10 +119,10 @@ class Rails:
         """The rail of a coordinate; None where nothing is said of it."""
         return self._rail_of.get(coordinate)
 
-    def offset(self, rail: Rail) -> Fraction:
+    def offset(self, rail: Rail) -> Number:
         """Where among its points a rail runs: at 0 for the datum, else where most of them are."""
         if rail.datum():
-            return Fraction(0)
+            return 0
         counted = Counter(self.members[rail].values())
         return max(counted, key=lambda value: counted[value])
 
@@ -129,7 +131,7 @@ class Rails:
         form = Form.of(second) - (Form() if first is None else Form.of(first))
         return _owners(self.axes.equations[mark] for mark in self._system.sources(form))
 
-    def number(self, form: Form) -> Fraction | None:
+    def number(self, form: Form) -> Number | None:
         """The value of a form of sizes, in micrometres; None where it isn't known."""
         rest = self.axes.system.reduced(form)
         return None if rest.terms else rest.number
@@ -144,9 +146,9 @@ class Rails:
                 total = total + rest.times(factor)
             elif isinstance(key, Coordinate):
                 symbol: Hashable = Rail(key.frame, key.upwards, rest.key())
-                total = total + Form({symbol: Fraction(1)}, rest.number).times(factor)
+                total = total + Form({symbol: 1}, rest.number).times(factor)
             else:
-                total = total + Form({Size(rest.key()): Fraction(1)}, rest.number).times(factor)
+                total = total + Form({Size(rest.key()): 1}, rest.number).times(factor)
         return total
 
     def unfold(self, form: Form) -> Form:
@@ -156,12 +158,13 @@ class Rails:
         for key, factor in form.terms.items():
             if isinstance(key, Rail):
                 coordinate, number = next(iter(self.members[key].items()))
-                total = total + Form({coordinate: Fraction(1)}, -number).times(factor)
+                total = total + Form({coordinate: 1}, -number).times(factor)
             elif isinstance(key, Size):
                 size, number = self._sizes[key]
-                total = total + Form({size: Fraction(1)}, -number).times(factor)
+                total = total + Form({size: 1}, -number).times(factor)
         return total
 
+    @cached_property
     def pending(self) -> list[Pending]:
         """The equations that the rails don't say."""
         found = []
@@ -175,7 +178,7 @@ class Rails:
         """Who says something that neither the rails nor the sizes can say."""
         system = LinearSystem(lambda key: 0 if isinstance(key, Size) else 1)
         lost: set[Owner] = set()
-        for each in self.pending():
+        for each in self.pending:
             rest = system.reduced(each.form)
             system.add(each.form, each.number)
             if rest.terms and not any(isinstance(key, Size) for key in rest.terms):
@@ -188,11 +191,6 @@ class Rails:
                 if not any(isinstance(key, Size) for key in rest.terms):
                     lost.add(fact.owner)
         return frozenset(lost)
-
-
-def _rank(key: Hashable) -> int:
-    """Sizes are solved for first, so that coordinates stay for rails."""
-    return 0 if isinstance(key, (LengthOf, RadiusOf)) else 1
 
 
 def _coordinates(equations: Iterable[Equation]) -> list[Coordinate]:

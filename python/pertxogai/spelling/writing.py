@@ -1,20 +1,20 @@
 """Rails, leaning lines, distances and angles as the elements and constraints of a sketch."""
 from __future__ import annotations
 
-from collections import Counter
-from collections.abc import Iterable
+from collections.abc import Collection
 from dataclasses import dataclass, replace
 from fractions import Fraction
+from functools import cached_property, partial
 from math import atan2, cos, hypot, pi, sin
 
 from pertxogai import language
-from pertxogai.spelling.axes import DATUM, Axes, Coordinate, Equation, Frame
-from pertxogai.spelling.drafts import Draft, Rounded, Sheet, Spot
-from pertxogai.spelling.facts import ORIGIN_KNOT, Between, Knot, Leans, Line, Owner
+from pertxogai.spelling.axes import Axes, Coordinate, Equation, Frame
+from pertxogai.spelling.drafts import Draft, Rounded, Said, Sheet, Spot, said_by
+from pertxogai.spelling.facts import DATUM, ORIGIN_KNOT, Between, Knot, Leans, Line, Owner
 from pertxogai.spelling.lean import SQUARE, Lean
 from pertxogai.spelling.rails import Rail, Rails, Run
 from pertxogai.spelling.style import Style
-from pertxogai.values import Form, Told
+from pertxogai.values import Form, Number, Told
 
 LEVEL = Lean()
 Track = Rail | Line
@@ -31,7 +31,7 @@ class Heading:
     quarters: int | None
     radians: float
     rail: Rail | None
-    at_um: Fraction
+    at_um: Number
 
 
 @dataclass(frozen=True)
@@ -47,19 +47,26 @@ class Care:
 class Spelled:
     """A drawing in the language. The sketch is `scale` times as large as the drawing.
 
-    owners: who says each constraint, in their order. points: the name of each knot's point.
+    said: who says each constraint, in their order. points: the name of each knot's point.
     tracks: what each line stands for. left_out: who says something that isn't in the sketch.
-    headings: which way each line runs. rounded: values that had to be rounded."""
+    headings: which way each line runs. rounded: values that had to be rounded. coarse: whether an
+    angle is told by the ratio that is next to it."""
 
     style: Style
     sketch: language.Sketch
     scale: int
-    owners: tuple[frozenset[Owner], ...]
+    said: tuple[Said, ...]
     points: dict[Knot, str]
     tracks: dict[str, Track | None]
     headings: tuple[Heading, ...]
     left_out: frozenset[Owner]
     rounded: tuple[Rounded, ...]
+    coarse: bool
+
+    @cached_property
+    def owners(self) -> tuple[frozenset[Owner], ...]:
+        """Who says each constraint, in their order."""
+        return tuple(said() for said in self.said)
 
     def tied(self) -> bool:
         """Whether a line of it is told against the datum's axes; else all of it may turn."""
@@ -89,6 +96,7 @@ class _Writer:
         self.points: dict[Knot, str] = {}
         self.ways: dict[Knot, Spot] = dict(axes.facts.drawn)
         self.left_out: set[Owner] = set()
+        self.coarse = False
         self.bars: list[Rail] = []
 
     def write(self) -> None:
@@ -117,10 +125,10 @@ class _Writer:
         tracks: dict[str, Track | None] = {name: names.get(name) for name in self.sheet.lines}
         headings = tuple(self._heading(name, track) for name, track in tracks.items()
                          if track is not None)
-        owners = tuple(draft.owners for draft in self.sheet.drafts)
+        said = tuple(draft.said for draft in self.sheet.drafts)
         left_out = frozenset(self.left_out) | self.rails.lost()
-        return Spelled(self.style, sketch, scale, owners, dict(self.points), tracks, headings,
-                       left_out, rounded)
+        return Spelled(self.style, sketch, scale, said, dict(self.points), tracks, headings,
+                       left_out, rounded, self.coarse)
 
     def _heading(self, name: str, track: Track) -> Heading:
         frame = self._frame(track)
@@ -131,7 +139,7 @@ class _Writer:
         a, b = self.axes.facts.direction(track)
         drawn = atan2(float(b), float(a)) - atan2(float(frame.way[1]), float(frame.way[0]))
         return Heading(name, frame.number, None, turn if cos(turn - drawn) >= 0 else turn + pi,
-                       None, Fraction(0))
+                       None, 0)
 
     # -- elements
 
@@ -174,7 +182,7 @@ class _Writer:
         for rail in self.bars:
             (first, start), (second, end) = self.rails.members[rail].items()
             names = self.points[first.knot], self.points[second.knot]
-            self._say(*names, self.rails.owners(first, second), end - start)
+            self._say(*names, partial(self.rails.owners, first, second), end - start)
 
     def _turn(self, rail: Rail) -> tuple[bool, int, int]:
         """In which order rails are told: the datum's first, then those with most points."""
@@ -202,7 +210,7 @@ class _Writer:
                 for coordinate, offset in self.rails.members[rail].items():
                     self._settle_way(rail, coordinate, offset - self.rails.offset(rail))
 
-    def _settle_way(self, rail: Rail, coordinate: Coordinate, height: Fraction) -> None:
+    def _settle_way(self, rail: Rail, coordinate: Coordinate, height: Number) -> None:
         a, b = _unit(self._frame(rail).way)
         if rail.upwards:
             a, b = -b, a
@@ -212,10 +220,10 @@ class _Writer:
             shift = height - off
             self.ways[coordinate.knot] = (x + a * shift, y + b * shift)
 
-    def _rail_at(self, rail: Rail) -> Fraction:
+    def _rail_at(self, rail: Rail) -> Number:
         """Where a rail is drawn, along the axis that it fixes."""
         if rail.datum():
-            return Fraction(0)
+            return 0
         a, b = _unit(self._frame(rail).way)
         if rail.upwards:
             a, b = -b, a
@@ -237,22 +245,22 @@ class _Writer:
             a, b = -b, a
         at = self._rail_at(track)
         x, y = (-b * at, a * at) if track.upwards else (b * at, -a * at)
-        reach = Fraction(100_000)
+        reach = 100_000
         self.sheet.lines[self.names[track]] = ((x, y), (x + a * reach, y + b * reach))
 
     # -- constraints
 
-    def _say(self, first: str, second: str, owners: Iterable[Owner],
-             value: Fraction | None = None) -> None:
-        self.sheet.drafts.append(Draft(first, second, frozenset(owners),
-                                       abs(value) if value else None))
+    def _say(self, first: str, second: str, said: Said, value: Number | None = None) -> None:
+        self.sheet.drafts.append(Draft(first, second, said,
+                                       max(value, -value) if value else None))
 
     def _angles(self, tracks: list[Track]) -> None:
         """Ties the lines of each frame by angles."""
-        for frame in self.axes.frames:
-            mine = [track for track in tracks if self._frame(track) == frame]
-            if mine:
-                self._tie(mine)
+        mine: dict[int, list[Track]] = {}
+        for track in tracks:
+            mine.setdefault(self._frame(track).number, []).append(track)
+        for number in sorted(mine):
+            self._tie(mine[number])
 
     def _tie(self, tracks: list[Track]) -> None:
         group = {track: track for track in tracks}
@@ -263,7 +271,7 @@ class _Writer:
         for first, second, lean, owner in self._near_ties(tracks):
             if _leader(group, first) != _leader(group, second):
                 group[_leader(group, second)] = _leader(group, first)
-                self._angle(first, second, lean, {owner})
+                self._angle(first, second, lean, said_by({owner}))
         other = next((each for each in tracks if self._lean(each) != self._lean(base)), None)
         if other is not None and _leader(group, other) != _leader(group, base):
             self._tie_to(group, base, other)
@@ -280,7 +288,7 @@ class _Writer:
     def _tie_to(self, group: dict[Track, Track], base: Track, track: Track) -> None:
         group[_leader(group, track)] = _leader(group, base)
         self._angle(base, track, -self._lean(base) + self._lean(track),
-                    self._direction_owners(base, track))
+                    partial(self._direction_owners, base, track))
 
     def _near_ties(self, tracks: list[Track]) -> list[tuple[Track, Track, Lean, Owner]]:
         """The angles that are told against the line that the designer names, or of which a normal
@@ -318,10 +326,14 @@ class _Writer:
         return frozenset(owner for each in members[1:]
                          for owner in self.rails.owners(members[0], each))
 
-    def _angle(self, first: Track, second: Track, lean: Lean, owners: Iterable[Owner]) -> None:
-        names, said = (self.names[first], self.names[second]), frozenset(owners) - {Owner(0)}
+    def _angle(self, first: Track, second: Track, lean: Lean, by: Said) -> None:
+        def said() -> frozenset[Owner]:
+            return by() - {Owner(0)}
+
+        names = self.names[first], self.names[second]
         halves = lean.halves() if self.care.fine else None
         if halves is None:
+            self.coarse |= not lean.exact()
             self.sheet.drafts.append(Draft(*names, said, ratio=lean.ratio()))
             return
         between = f"H{names[1]}"
@@ -338,8 +350,8 @@ class _Writer:
     def _square_help(self, base: Track, track: Track) -> None:
         """A line of help, square to two parallel ones, through a point of the first."""
         name = self._help(base)
-        self.sheet.drafts.append(Draft(name, self.names[track],
-                                       self._direction_owners(base, track), ratio=(1, 0)))
+        self.sheet.drafts.append(Draft(name, self.names[track], partial(
+            self._direction_owners, base, track), ratio=(1, 0)))
 
     def _help(self, base: Track) -> str:
         name = f"N{self.names[base]}"
@@ -348,9 +360,9 @@ class _Writer:
             knot = self._a_point_of(base)
             x, y, a, b = *self.ways[knot], u - x, v - y
             self.sheet.lines[name] = ((x, y), (x - b, y + a))
-            owners = self._direction_owners(base, base)
-            self._say(self.points[knot], name, owners)
-            self.sheet.drafts.append(Draft(self.names[base], name, owners, ratio=(1, 0)))
+            said = partial(self._direction_owners, base, base)
+            self._say(self.points[knot], name, said)
+            self.sheet.drafts.append(Draft(self.names[base], name, said, ratio=(1, 0)))
         return name
 
     def _a_point_of(self, track: Track) -> Knot:
@@ -360,13 +372,9 @@ class _Writer:
         return self.axes.lines.members(track)[0].knot
 
     def _points_on(self, track: Track) -> None:
-        name = self.names[track]
+        """Puts a track's points on it, or as high over it as they are."""
         if not isinstance(track, Rail):
-            owners = self._direction_owners(track, track)
-            for member in self.axes.lines.members(track):
-                if member.knot in self.points:
-                    self._say(self.points[member.knot], name,
-                              {member.owner} if member.owner else owners)
+            self._members_on(track)
             return
         offset = self.rails.offset(track)
         members = self.rails.members[track]
@@ -374,10 +382,19 @@ class _Writer:
                        if value == offset and not track.datum()), None)
         for coordinate, value in members.items():
             if coordinate.knot in self.points:
-                owners = self.rails.owners(anchor, coordinate)
+                said: Said = partial(self.rails.owners, anchor, coordinate)
                 if coordinate == anchor:
-                    owners = self._rail_owners(track)
-                self._say(self.points[coordinate.knot], name, owners, value - offset)
+                    said = partial(self._rail_owners, track)
+                self._say(self.points[coordinate.knot], self.names[track], said, value - offset)
+
+    def _members_on(self, line: Line) -> None:
+        """Puts the points of a line that leans on it."""
+        for member in self.axes.lines.members(line):
+            if member.knot in self.points:
+                said: Said = partial(self._direction_owners, line, line)
+                if member.owner:
+                    said = said_by({member.owner})
+                self._say(self.points[member.knot], self.names[line], said)
 
     def _run_rails(self, run: Run) -> list[Rail]:
         """The rails whose lines a run needs: the one with more points, or both for feet."""
@@ -397,7 +414,7 @@ class _Writer:
             first, second, sign = second, first, -1
         from_line = sign * run.run_um + self.rails.members[rail][first] - self.rails.offset(rail)
         if second.knot in self.points:
-            self._say(self.points[second.knot], self.names[rail], run.owners, from_line)
+            self._say(self.points[second.knot], self.names[rail], said_by(run.owners), from_line)
 
     def _feet(self, run: Run, rails: list[Rail]) -> bool:
         """The dimension between the feet of two rails on the first rail across; False where there
@@ -411,7 +428,7 @@ class _Writer:
         if across is None or not apart:
             return False
         feet = [self._foot(rail, across, run) for rail in rails]
-        self._say(feet[0], feet[1], run.owners, apart)
+        self._say(feet[0], feet[1], said_by(run.owners), apart)
         return True
 
     def _foot(self, rail: Rail, across: Rail, run: Run) -> str:
@@ -422,8 +439,8 @@ class _Writer:
             if rail.upwards:
                 along, up = up, along
             self.sheet.points[name] = (a * along - b * up, b * along + a * up)
-            self._say(name, self.names[rail], run.owners)
-            self._say(name, self.names[across], run.owners)
+            self._say(name, self.names[rail], said_by(run.owners))
+            self._say(name, self.names[across], said_by(run.owners))
         return name
 
     def _loose(self) -> None:
@@ -436,7 +453,7 @@ class _Writer:
             if not value:
                 self.left_out.add(fact.owner)
                 continue
-            self._say(self.points[first], self._end_name(second), {fact.owner}, value)
+            self._say(self.points[first], self._end_name(second), said_by({fact.owner}), value)
 
     def _end_name(self, end: Knot | Line) -> str:
         if isinstance(end, Knot):
@@ -459,12 +476,12 @@ class _Writer:
         known = self.axes.directions.between(leans.first, leans.second)
         lean = leans.lean if known is None or known.level() else known
         names = f"V{len(self.sheet.lines)}", f"W{len(self.sheet.lines)}"
-        zero, ahead = (Fraction(0), Fraction(0)), (Fraction(1000), Fraction(0))
+        zero, ahead = (0, 0), (1000, 0)
         self.sheet.lines[names[0]] = (zero, ahead)
         self.sheet.lines[names[1]] = (zero, (Fraction(cos(lean.radians())) * 1000,
                                              Fraction(sin(lean.radians())) * 1000))
         for owners in (self.axes.directions.owners(leans.first, leans.second), {leans.owner}):
-            self.sheet.drafts.append(Draft(*names, frozenset(owners), ratio=lean.ratio()))
+            self.sheet.drafts.append(Draft(*names, said_by(owners), ratio=lean.ratio()))
 
     def _told_height(self, equation: Equation, told: Told, circuit: frozenset[Owner]) -> bool:
         for key, factor in equation.form.terms.items():
@@ -476,8 +493,9 @@ class _Writer:
                           if each.names() == pair), None)
             if place is not None:
                 height = self.rails.members[rail][key] - self.rails.offset(rail)
-                self.sheet.drafts[place] = replace(self.sheet.drafts[place], owners=circuit)
-                self._say(*pair, equation.owners, height - told.amount / factor)
+                self.sheet.drafts[place] = replace(self.sheet.drafts[place],
+                                                   said=said_by(circuit))
+                self._say(*pair, said_by(equation.owners), height - Fraction(told.amount) / factor)
                 return True
         return False
 
@@ -488,31 +506,38 @@ class _Writer:
         size = next((key for key in equation.form.terms), None)
         if size is None:
             return
-        value = self.rails.number(Form.of(size)) or Fraction(1000)
+        value = self.rails.number(Form.of(size)) or 1000
         names = f"T{number}", f"U{number}"
-        for name, x in zip(names, (Fraction(0), value)):
-            self.sheet.points[name] = x, Fraction(0)
-        self._say(*names, circuit, value)
-        again = value - told.amount / equation.form.terms[size]
-        self._say(*names, equation.owners, again if again > 0 else value)
+        for name, x in zip(names, (0, value)):
+            self.sheet.points[name] = x, 0
+        self._say(*names, said_by(circuit), value)
+        again = value - Fraction(told.amount) / equation.form.terms[size]
+        self._say(*names, said_by(equation.owners), again if again > 0 else value)
 
     def _drop_idle(self) -> None:
         """Takes away lines that hold nothing: with two constraints at most, of which one at most
         is an angle."""
         kept = {self.names[track] for track in list(self.names)[:2]
                 if self._frame(track).number == DATUM}
-        while True:
-            uses = Counter(name for each in self.sheet.drafts for name in each.names())
-            idle = next((name for name in self.sheet.lines if name not in kept
-                         and uses[name] <= 2 and self._idle(name)), None)
-            if idle is None:
-                return
-            del self.sheet.lines[idle]
-            self.sheet.drafts = [each for each in self.sheet.drafts if idle not in each.names()]
+        holding: dict[str, list[Draft]] = {}
+        for draft in self.sheet.drafts:
+            for name in draft.names():
+                holding.setdefault(name, []).append(draft)
+        gone: set[int] = set()
+        waiting = list(self.sheet.lines)
+        while waiting:
+            idle = waiting.pop()
+            drafts = [each for each in holding.get(idle, ()) if id(each) not in gone]
+            if idle in self.sheet.lines and idle not in kept and _is_idle(drafts):
+                del self.sheet.lines[idle]
+                gone |= {id(each) for each in drafts}
+                waiting += [name for each in drafts for name in each.names()]
+        self.sheet.drafts = [each for each in self.sheet.drafts if id(each) not in gone]
 
-    def _idle(self, name: str) -> bool:
-        mine = [each for each in self.sheet.drafts if name in each.names()]
-        return len(mine) <= 2 and sum(each.ratio is not None for each in mine) <= 1
+
+def _is_idle(drafts: Collection[Draft]) -> bool:
+    """Whether a line with these constraints holds nothing."""
+    return len(drafts) <= 2 and sum(each.ratio is not None for each in drafts) <= 1
 
 
 def _leader(group: dict[Track, Track], track: Track) -> Track:
@@ -525,6 +550,6 @@ def _unit(way: Spot) -> Spot:
     """A drawn direction of length 1, near enough for a drawing; exact along the axes."""
     a, b = way
     if not a or not b:
-        return Fraction((a > 0) - (a < 0)), Fraction((b > 0) - (b < 0))
+        return (a > 0) - (a < 0), (b > 0) - (b < 0)
     size = hypot(float(a), float(b))
     return Fraction(float(a) / size), Fraction(float(b) / size)

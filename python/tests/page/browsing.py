@@ -46,6 +46,10 @@ class Page:
         """Waits until a script gives something true."""
         return wait_for(what, lambda: self.driver.execute_script(script))
 
+    def tells(self, what: str) -> None:
+        """Waits until the verdict tells something."""
+        wait_for(f"the verdict tells {what}", lambda: what in self.told())
+
     def told(self, name: str = "verdict") -> str:
         """What stands in a part of the page."""
         return self.driver.find_element(By.ID, name).text

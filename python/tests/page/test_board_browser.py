@@ -86,7 +86,7 @@ def test_the_trial_of_a_new_user(page: Page) -> None:
     page.select("C1.centre", "R1Right")
     page.ask("distance", "55")
     page.verdict("over")
-    assert "contradiction by 5" in page.told()
+    page.tells("contradiction by 5")
     keep_picture(page, "over")
     spare = page.driver.find_elements(By.CSS_SELECTOR, "#verdict [data-spare]")
     last = next(each for each in spare if "R1Right 55" in each.text)
@@ -119,7 +119,7 @@ def test_a_triangle_is_drawn_and_dimensioned_until_it_is_well(page: Page) -> Non
 
 def test_one_too_many_is_taken_away_again(page: Page) -> None:
     page.begin(drawing("over-plate-contradiction"), "over")
-    assert "contradiction by 1 mm" in page.told()
+    page.tells("contradiction by 1 mm")
     assert page.count(".marks .spare") >= 2
     spare = page.driver.find_elements(By.CSS_SELECTOR, "#verdict [data-spare]")
     top = next(each for each in spare if "Top width" in each.text)
@@ -279,12 +279,16 @@ def test_a_stopped_server_is_told_and_nothing_is_lost(page: Page, board: Served)
     assert page.text() == TRIANGLE + "horizontal A\n"
 
 
-def test_a_second_tab_is_told(page: Page, board: Served) -> None:
+def test_a_second_tab_is_told_while_it_is_there(page: Page, board: Served) -> None:
     first = page.driver.current_window_handle
     page.driver.switch_to.new_window("tab")
     page.driver.get(board.guard.address)
     page.wait("told", "return !document.getElementById('banner').hidden")
     assert "another tab" in page.told("banner")
-    page.driver.close()
+    second = page.driver.current_window_handle
     page.driver.switch_to.window(first)
     assert "another tab" in page.told("banner")
+    page.driver.switch_to.window(second)
+    page.driver.close()
+    page.driver.switch_to.window(first)
+    page.wait("no longer told", "return document.getElementById('banner').hidden")

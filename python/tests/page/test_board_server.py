@@ -24,7 +24,9 @@ from pertxogai.commands import main  # noqa: E402
 from pertxogai.page.calls import Desk  # noqa: E402
 from pertxogai.page.guard import Ground, Guard  # noqa: E402
 from pertxogai.page.server import board  # noqa: E402
+from pertxogai.page.worker import Hasty  # noqa: E402
 from pertxogai.page.workers import Bounds, Workers  # noqa: E402
+from pertxogai.program import Program, Status  # noqa: E402
 
 PORT = 4321
 HOST = f"127.0.0.1:{PORT}"
@@ -151,6 +153,17 @@ def test_of_ten_calls_at_once_four_are_answered(tmp_path, workers) -> None:
     assert post(client(), "judge", {"text": ""}).status_code == 200
 
 
+def test_what_was_asked_in_a_call_is_not_asked_again(tmp_path) -> None:
+    runs = tmp_path / "runs"
+    path = script(tmp_path / "counts", f"echo run >> {runs}\ncat > /dev/null\nexit 5\n")
+    program = Hasty(Program(path), 5.0)
+    for _ in range(2):
+        program.begin()
+        for word in ("check", "check", "solve"):
+            assert program.ask([word], "sketch 1\n").status is Status.NO_MEMORY
+    assert runs.read_text().count("run") == 4
+
+
 def test_a_program_that_takes_too_long_is_stopped(tmp_path, workers) -> None:
     slow = workers(script(tmp_path / "slow", "exec sleep 60\n"), Bounds(0.5, 0))
     began = time.monotonic()
@@ -195,11 +208,18 @@ def test_a_drawing_that_is_well_is_placed(client) -> None:
     assert bars[0]["bar"] == [[0, 0], [120, 0]]
 
 
-def test_an_over_drawing_names_what_may_go(client) -> None:
-    judgement = answer(client, "judge", text=drawing("over-plate-contradiction"))["judgement"]
-    spare = {each["name"]: each for each in judgement["spare"]}
+def test_an_over_drawing_names_what_may_go_and_weighs_it(client) -> None:
+    text = drawing("over-plate-contradiction")
+    at_once = answer(client, "judge", text=text)["judgement"]["spare"]
+    assert {"Bottom width", "Top width"} <= {each["name"] for each in at_once}
+    assert all(each["off"] is None and each["repeats"] is None for each in at_once)
+    spare = {each["name"]: each for each in answer(client, "weigh", text=text)["spare"]}
     assert {"Bottom width", "Top width"} <= set(spare)
     assert spare["Top width"]["off"] == 1_000_000 and spare["Top width"]["repeats"] is False
+
+
+def test_of_what_is_not_over_nothing_is_weighed(client) -> None:
+    assert answer(client, "weigh", text=drawing("bracket"))["spare"] == []
 
 
 def test_an_open_drawing_has_its_parts_laid_on_it(client) -> None:

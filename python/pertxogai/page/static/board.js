@@ -2,7 +2,11 @@
 import { svg, colourOf } from './nodes.js';
 import { View } from './view.js';
 import { Marks } from './marks.js';
-import { shapeNode, pointNodes, viewsOf, drawnView, isIn, shownPoints, line, ring } from './shapes.js';
+import { Layer } from './layer.js';
+import { shapeItem, pointItem, stillNodes, viewsOf, drawnView, isIn, shownPoints, middleOf, line, ring } from './shapes.js';
+
+const GROUPS = ['grid', 'drawn', 'edges', 'other', 'marks', 'dots', 'names', 'joints', 'faults', 'overlay'];
+const NOTHING = { shapes: [], constraints: [], marks: [] };
 
 /** Draws answers on an SVG node. */
 export class Board {
@@ -10,8 +14,11 @@ export class Board {
     this.node = node;
     this.selection = selection;
     this.plane = new View();
-    this.answer = { drawing: { shapes: [], constraints: [], marks: [] }, judgement: null };
-    this.points = new Map();
+    this.answer = { drawing: NOTHING, judgement: null };
+    this.groups = Object.fromEntries(GROUPS.map((kind) => [kind, svg('g', { class: kind })]));
+    node.replaceChildren(...Object.values(this.groups));
+    [this.edges, this.marks, this.dots] = ['edges', 'marks', 'dots'].map((kind) => new Layer(this.groups[kind]));
+    this.points = new Map([['Origin', [0, 0]]]);
     this.preview = null;
     this.cross = null;
     this.overlay = null;
@@ -42,25 +49,25 @@ export class Board {
   /** Draws all layers. */
   drawNow() {
     const { width, height } = this.size();
+    const { drawing, judgement } = this.overlay ? { drawing: NOTHING, judgement: null } : this.answer;
+    const views = this.overlay ? [] : viewsOf(this.answer);
     this.node.setAttribute('viewBox', `0 0 ${width} ${height}`);
-    const layers = [this.grid(width, height)];
-    if (this.overlay) layers.push(this.overlay(this.plane));
-    else layers.push(...this.layers());
-    layers.push(this.hand());
-    this.node.replaceChildren(...layers);
+    this.groups.grid.replaceChildren(...this.grid(width, height));
+    this.groups.drawn.replaceChildren(...(views.length ? stillNodes(drawing.shapes, drawnView(drawing), this.plane) : []));
+    this.edges.show(this.edgeItems(drawing, views));
+    this.groups.other.replaceChildren(...(this.other && !this.overlay ? stillNodes(drawing.shapes, this.other, this.plane) : []));
+    this.marks.show(this.markItems(drawing.marks, judgement));
+    this.dots.show(this.overlay ? [] : this.dotItems(drawing));
+    this.groups.names.replaceChildren(...(this.overlay ? [] : this.names(drawing)));
+    this.groups.joints.replaceChildren(...this.joints(judgement));
+    this.groups.faults.replaceChildren(...this.faults(judgement));
+    this.drawHand();
     this.node.dataset.drawn = String(Number(this.node.dataset.drawn ?? 0) + 1);
   }
 
-  /** The layers of the drawing: as drawn, as placed, marks, joints, the place of a fault. */
-  layers() {
-    const { drawing, judgement } = this.answer;
-    if (!drawing) return [];
-    const views = viewsOf(this.answer);
-    const layers = views.length ? [this.faint(drawing)] : [];
-    layers.push(this.edges(drawing, views));
-    if (this.other) layers.push(this.shapes(drawing, this.other, { still: true, all: true, kind: 'other' }));
-    layers.push(this.marks(drawing.marks, judgement), this.dots(drawing, views), this.joints(judgement), this.faults(judgement));
-    return layers;
+  /** Draws what lies over the drawing: a step of the construction, and what the hand is about to draw. */
+  drawHand() {
+    this.groups.overlay.replaceChildren(...(this.overlay ? [this.overlay(this.plane)] : []), ...this.hand());
   }
 
   /** The grid, and the datum's axes and origin. */
@@ -71,8 +78,8 @@ export class Board {
     const lines = [];
     for (let x = Math.ceil(left / step) * step; x < right; x += step) lines.push(line(this.plane.toScreen([x, low]), this.plane.toScreen([x, high])));
     for (let y = Math.ceil(low / step) * step; y < high; y += step) lines.push(line(this.plane.toScreen([left, y]), this.plane.toScreen([right, y])));
-    return svg('g', {}, svg('path', { class: 'grid', d: lines.join('') }),
-      this.axis('XAxis', line([0, this.plane.y], [width, this.plane.y])), this.axis('YAxis', line([this.plane.x, 0], [this.plane.x, height])));
+    return [svg('path', { class: 'gridlines', d: lines.join('') }),
+      this.axis('XAxis', line([0, this.plane.y], [width, this.plane.y])), this.axis('YAxis', line([this.plane.x, 0], [this.plane.x, height]))];
   }
 
   /** One axis of the datum. */
@@ -81,42 +88,21 @@ export class Board {
     return svg('g', { 'data-name': name }, svg('path', { class: `axis ${selected}`, d: path }), svg('path', { class: 'hit', d: path }));
   }
 
-  /** The drawing as drawn, faint. */
-  faint(drawing) {
-    return this.shapes(drawing, drawnView(drawing), { still: true, all: true, kind: 'drawn' });
-  }
-
-  /** The shapes that a view has, and their points. */
-  shapes(drawing, view, options) {
-    const shapes = drawing.shapes.filter((shape) => isIn(shape, view));
-    return svg('g', { class: options.kind ?? '' }, ...shapes.map((shape) => shapeNode(shape, view, this.plane, options)), ...shapes.flatMap((shape) => pointNodes(shape, view, this.plane, options)));
-  }
-
   /** The shapes as they are shown: placed, each part laid on the drawing, or as drawn. */
-  edges(drawing, views) {
+  edgeItems(drawing, views) {
     const colours = this.answer.judgement?.verdict === 'well' ? {} : this.answer.judgement?.colours ?? {};
     const between = { part: null, points: Object.fromEntries(this.points), radii: {} };
-    const selected = (name) => this.selection.names.has(name);
-    const nodes = drawing.shapes.map((shape) => {
-      const view = views.find((each) => isIn(shape, each) && (each.part === null || each.part === colours[shape.name])) ?? views.find((each) => isIn(shape, each)) ?? between;
-      return shapeNode(shape, view, this.plane, { selected, colour: colourOf(colours[shape.name] ?? (view.part || null)) });
+    return drawing.shapes.map((shape) => {
+      const mine = views.filter((each) => isIn(shape, each));
+      const view = mine.find((each) => each.part === null || each.part === colours[shape.name]) ?? mine[0] ?? between;
+      return shapeItem(shape, view, this.plane, this.selection.names.has(shape.name), colourOf(colours[shape.name] ?? view.part));
     });
-    return svg('g', { class: 'edges' }, ...nodes);
   }
 
-  /** The points as they are shown, above all edges, with the names of what is selected. */
-  dots(drawing, views) {
-    const selected = (name) => this.selection.names.has(name);
-    const shown = { points: Object.fromEntries(this.points), radii: {} };
-    const nodes = drawing.shapes.flatMap((shape) => pointNodes(shape, shown, this.plane, { selected }));
-    return svg('g', { class: 'dots', 'data-views': views.length }, this.origin(), ...nodes, ...this.names(drawing));
-  }
-
-  /** The datum's origin. */
-  origin() {
-    const selected = this.selection.names.has('Origin') ? 'selected' : '';
-    const { x, y } = this.plane;
-    return svg('g', { 'data-name': 'Origin', 'data-point': 'Origin' }, svg('circle', { class: `dot ${selected}`, cx: x, cy: y, r: 4.5 }), svg('circle', { class: 'dothit', cx: x, cy: y, r: 9 }));
+  /** The points as they are shown, the origin's first. */
+  dotItems(drawing) {
+    const names = drawing.shapes.flatMap((shape) => Object.keys(shape.points).filter((name) => !shape.shares.includes(name)));
+    return ['Origin', ...names].map((name) => pointItem(name, this.points.get(name), this.plane, this.selection.names.has(name)));
   }
 
   /** The names of single points and of what is selected. */
@@ -129,40 +115,34 @@ export class Board {
   }
 
   /** The marks of constraints; what may go, is to blame or is selected stands out. */
-  marks(marks, judgement) {
+  markItems(marks, judgement) {
     const spare = new Set((judgement?.spare ?? []).map((each) => each.number));
-    const called = new Map((this.answer.drawing.constraints ?? []).map((each) => [each.number, each.called]));
-    const drawer = new Marks(this.plane, (number) => `markgroup ${spare.has(number) ? 'spare' : ''} ${this.blamed.has(called.get(number)) ? 'blamed' : ''} ${this.selection.numbers.has(number) ? 'selectedmark' : ''}`);
-    const nodes = [...marks].sort((one, other) => Boolean(other.bar) - Boolean(one.bar)).map((mark) => drawer.node(mark));
-    this.markPlaces = drawer.places;
-    return svg('g', { class: 'marks' }, ...nodes);
+    const blamed = new Set(this.answer.drawing.constraints.filter((each) => this.blamed.has(each.called)).map((each) => each.number));
+    const placing = new Marks(this.plane, (number) => `markgroup ${spare.has(number) ? 'spare' : ''} ${blamed.has(number) ? 'blamed' : ''} ${this.selection.numbers.has(number) ? 'selectedmark' : ''}`);
+    this.markPlaces = placing.places;
+    return [...marks].sort((one, other) => Boolean(other.bar) - Boolean(one.bar)).map((mark, place) => placing.item(mark, place));
   }
 
-  /** The joints at which parts hang together. */
+  /** Rings at the joints at which parts hang together. */
   joints(judgement) {
     const shared = new Set((judgement?.missing?.joints ?? []).flatMap((joint) => joint.shared));
-    const rings = [...shared].map((name) => this.points.get(name)).filter(Boolean).map((place) => {
+    return [...shared].map((name) => this.points.get(name)).filter(Boolean).map((place) => {
       const [x, y] = this.plane.toScreen(place);
       return svg('circle', { class: 'joint', cx: x, cy: y, r: 9 });
     });
-    return svg('g', { class: 'joints' }, ...rings);
   }
 
-  /** Where a step that has no places meets. */
+  /** Rings where a step that has no places meets. */
   faults(judgement) {
-    const rings = (judgement?.failure?.at ?? []).map((name) => this.placeOf(name)).filter(Boolean);
-    return svg('g', { class: 'faults' }, ...rings.map(([x, y]) => svg('path', { class: 'fault', d: ring([x, y], 13) })));
+    return (judgement?.failure?.at ?? []).map((name) => this.placeOf(name)).filter(Boolean).map((at) => svg('path', { class: 'fault', d: ring(at, 13) }));
   }
 
   /** What the hand is about to draw, and the cross of the keyboard. */
   hand() {
-    const group = svg('g', { class: 'handlayer' });
-    if (this.preview) group.append(...this.preview(this.plane));
-    if (this.cross) {
-      const [x, y] = this.plane.toScreen(this.cross);
-      group.append(svg('path', { class: 'cross', d: `M${x - 14} ${y}h28M${x} ${y - 14}v28` }));
-    }
-    return group;
+    const nodes = this.preview ? this.preview(this.plane) : [];
+    if (!this.cross) return nodes;
+    const [x, y] = this.plane.toScreen(this.cross);
+    return [...nodes, svg('path', { class: 'cross', d: `M${x - 14} ${y}h28M${x} ${y - 14}v28` })];
   }
 
   /** Where a point or the middle of a shape is shown, in pixels. */
@@ -173,7 +153,7 @@ export class Board {
     if (!shape) return null;
     const ends = Object.keys(shape.points).filter((each) => shape.kind === 'circle' || !each.endsWith('.centre'));
     const places = ends.map((each) => this.plane.toScreen(this.points.get(each)));
-    return [0, 1].map((axis) => places.reduce((sum, place) => sum + place[axis], 0) / places.length);
+    return middleOf(places);
   }
 
   /** The point that is shown next to a place in pixels, if one is near. */

@@ -92,10 +92,8 @@ export class Gestures {
     const { pressed } = this;
     this.pressed = null;
     if (!pressed) return;
-    if (pressed.moved && pressed.edit && pressed.text === this.paper.text) {
-      this.paper.live = null;
-      this.paper.edit(pressed.edit);
-    } else if (this.hand.draws && event.button === 0) this.press(this.at(event), event.shiftKey);
+    if (pressed.moved && pressed.edit && pressed.text === this.paper.text) this.paper.preview(pressed.edit, true);
+    else if (this.hand.draws && event.button === 0) this.press(this.at(event), event.shiftKey);
     else if (!pressed.moved) this.select(pressed, event.shiftKey);
   }
 
@@ -137,7 +135,7 @@ export class Gestures {
       const path = this.path([...this.hand.clicks.map((each) => plane.toScreen(each.at)), [x, y]]);
       return [path && svg('path', { class: 'preview', d: path }), svg('circle', { class: near ? 'snap' : 'preview', cx: x, cy: y, r: near ? 9 : 4 })].filter(Boolean);
     };
-    this.board.draw();
+    this.board.drawHand();
   }
 
   /** The path of the figure through places in pixels. */

@@ -12,6 +12,8 @@ export class Keeping {
     this.channel = new BroadcastChannel('pertxogai');
     this.channel.addEventListener('message', (event) => this.heard(event.data));
     this.channel.postMessage({ here: this.name });
+    this.others = new Set();
+    window.addEventListener('pagehide', () => this.channel.postMessage({ gone: this.name }));
   }
 
   /** Keeps the text that stands. */
@@ -38,10 +40,12 @@ export class Keeping {
     return this.read(ASIDE) ?? [];
   }
 
-  /** Another tab tells that it is there: both say so. */
-  heard(message) {
-    if (message.here && message.here !== this.name) this.channel.postMessage({ also: this.name });
-    this.tell('The board is open in another tab too. Each tab has its own drawing; the one that was changed last is kept in this browser.');
+  /** Another tab tells that it is there, or gone: while there is one, both say so. */
+  heard({ here, also, gone }) {
+    if (here) this.channel.postMessage({ also: this.name });
+    if (gone) this.others.delete(gone);
+    else this.others.add(here ?? also);
+    this.tell(this.others.size === 0 ? '' : 'The board is open in another tab too. Each tab has its own drawing; the one that was changed last is kept in this browser.');
   }
 
   /** Writes a value, if the browser lets it. */

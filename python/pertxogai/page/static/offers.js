@@ -1,6 +1,7 @@
 /** The bar of constraints that fit what is selected. The server says which do. */
 import { html } from './nodes.js';
 import { signOf } from './marks.js';
+import { middleOf } from './shapes.js';
 
 const LETTERS = 'qwertyuiopasdfgh';
 
@@ -104,6 +105,6 @@ export class Offers {
     const places = [...this.selection.names].map((name) => this.board.placeOf(name)).filter(Boolean);
     const { width, height } = this.board.size();
     if (!places.length) return [width / 2, height / 2];
-    return [0, 1].map((axis) => places.reduce((sum, place) => sum + place[axis], 0) / places.length);
+    return middleOf(places);
   }
 }

@@ -14,6 +14,7 @@ export class Paper extends EventTarget {
     this.refused = null;
     this.waiting = Promise.resolve();
     this.live = null;
+    this.seen = null;
     this.asked = 0;
   }
 
@@ -70,21 +71,26 @@ export class Paper extends EventTarget {
     });
   }
 
-  /** Shows what an edit would make, while a hand moves: only the last of several is asked for. */
-  preview(edit) {
+  /** Shows what an edit would make, while a hand moves: only the last of several is asked for. With `lands` the hand lets go, and the edit counts. */
+  preview(edit, lands = false) {
     const busy = this.live !== null;
-    this.live = { edit, base: this.text };
+    this.live = { edit, base: this.text, lands };
     if (!busy) this.queue(() => this.previews());
   }
 
-  /** Shows one preview after the other, until none waits. */
+  /** Shows one preview after the other, until none waits. What was asked for once isn't asked for again. */
   async previews() {
+    let seen = this.seen;
     while (this.live) {
       const { edit, base } = this.live;
-      const answer = await this.server.call('edit', { text: base, edit });
-      if (this.live && this.live.edit === edit) this.live = null;
-      if (answer.drawing && this.text === base) this.tell('answer', answer);
+      if (seen?.edit !== edit) seen = { edit, answer: await this.server.call('edit', { text: base, edit }) };
+      const isLast = this.live.edit === edit;
+      if (this.text === base && isLast && this.live.lands) this.takeChange(seen.answer, true);
+      else if (this.text === base && seen.answer.drawing) this.tell('answer', seen.answer);
+      if (isLast) break;
     }
+    this.seen = seen;
+    this.live = null;
   }
 
   /** Takes the answer of a call that changes the text. */
@@ -109,6 +115,15 @@ export class Paper extends EventTarget {
     this.refused = answer.refused ?? null;
     if (!this.refused) this.answer = answer;
     this.tell('answer', this.refused ? { ...(this.answer ?? {}), refused: this.refused, judgement: null } : answer);
+    if (!this.refused && answer.judgement?.verdict === 'over') this.weigh(text, answer);
+  }
+
+  /** Has measured, beside all else, what may go of a drawing that is over. */
+  async weigh(text, answer) {
+    const found = await this.server.call('weigh', { text }).catch((error) => { if (!(error instanceof Stopped)) throw error; });
+    if (!found?.spare || this.answer !== answer || this.refused) return;
+    answer.judgement.spare = found.spare;
+    this.tell('answer', answer);
   }
 
   /** Does one thing after the other; what the stopped server kept from being done is told. */

@@ -47,6 +47,11 @@ export function pathOf(shape, view, plane) {
   return null;
 }
 
+/** The middle of some places. */
+export function middleOf(places) {
+  return [0, 1].map((axis) => places.reduce((sum, place) => sum + place[axis], 0) / places.length);
+}
+
 /** A straight path. */
 export function line([x, y], [u, v]) {
   return `M${x} ${y}L${u} ${v}`;
@@ -65,26 +70,33 @@ export function bow(centre, start, end, radius) {
   return `M${start[0]} ${start[1]}A${r} ${r} 0 ${sweep > Math.PI ? 1 : 0} 0 ${end[0]} ${end[1]}`;
 }
 
-/** The node of a shape: its stroke, and a wide one to be hit. */
-export function shapeNode(shape, view, plane, options = {}) {
+/** A shape as an item of a layer: its stroke, and a wide one to be hit. */
+export function shapeItem(shape, view, plane, isSelected, colour) {
   const path = pathOf(shape, view, plane);
-  const group = svg('g', { 'data-name': options.still ? null : shape.name });
-  if (path) {
-    const kind = `shape ${shape.construction ? 'construction' : ''} ${shape.outer ? 'outer' : ''} ${options.selected?.(shape.name) ? 'selected' : ''}`;
-    group.append(svg('path', { class: kind, d: path, stroke: options.selected?.(shape.name) ? null : options.colour ?? null }));
-    if (!options.still) group.append(svg('path', { class: 'hit', d: path }));
-  }
-  return group;
+  const kind = `${kindOf(shape)} ${isSelected ? 'selected' : ''}`;
+  const stroke = isSelected ? null : colour;
+  const paths = () => [svg('path', { class: kind, d: path, stroke }), svg('path', { class: 'hit', d: path })];
+  return [shape.name, `${kind} ${stroke} ${path}`, () => svg('g', { 'data-name': shape.name }, ...(path ? paths() : []))];
 }
 
-/** The nodes of a shape's points: a small circle each, and a larger one to be hit. */
-export function pointNodes(shape, view, plane, options = {}) {
-  return Object.keys(shape.points).filter((name) => view.points[name] && (shape.leaders[name] === name || options.all)).map((name) => {
-    const [x, y] = plane.toScreen(view.points[name]);
-    const group = svg('g', { 'data-name': options.still ? null : name, 'data-point': options.still ? null : name });
-    const centre = name.endsWith('.centre') ? 2.2 : 3.2;
-    group.append(svg('circle', { class: `dot ${options.selected?.(name) ? 'selected' : ''}`, cx: x, cy: y, r: options.still ? 2.2 : centre }));
-    if (!options.still) group.append(svg('circle', { class: 'dothit', cx: x, cy: y, r: 8 }));
-    return group;
-  });
+/** A point as an item of a layer: a small circle, and a larger one to be hit. */
+export function pointItem(name, place, plane, isSelected) {
+  const [x, y] = plane.toScreen(place);
+  const r = { Origin: 4.5 }[name] ?? (name.endsWith('.centre') ? 2.2 : 3.2);
+  const kind = `dot ${isSelected ? 'selected' : ''}`;
+  return [name, `${kind} ${x} ${y}`, () => svg('g', { 'data-name': name, 'data-point': name }, svg('circle', { class: kind, cx: x, cy: y, r }), svg('circle', { class: 'dothit', cx: x, cy: y, r: 8 }))];
+}
+
+/** Shapes that are only looked at, all of a kind as one path, and their points. */
+export function stillNodes(shapes, view, plane) {
+  const paths = new Map();
+  const add = (kind, path) => { if (path) paths.set(kind, (paths.get(kind) ?? '') + path); };
+  for (const shape of shapes) add(kindOf(shape), pathOf(shape, view, plane));
+  for (const shape of shapes) for (const name of Object.keys(shape.points)) add('dot', ring(plane.toScreen(view.points[name]), 2.2));
+  return [...paths].map(([kind, path]) => svg('path', { class: kind, d: path }));
+}
+
+/** The classes of a shape. */
+function kindOf(shape) {
+  return `shape ${shape.construction ? 'construction' : ''} ${shape.outer ? 'outer' : ''}`;
 }

@@ -1,6 +1,6 @@
 /** The construction, step by step: the slider, the tree of merges, the other shapes, the claim. */
 import { svg, html, byId } from './nodes.js';
-import { pathOf, ring, line } from './shapes.js';
+import { pathOf, middleOf, ring, line } from './shapes.js';
 
 const COLOURS = ['var(--part1)', 'var(--part3)', 'var(--part4)'];
 
@@ -218,7 +218,7 @@ export class Steps {
   /** The middle of a cluster's points. */
   middle(cluster) {
     const places = cluster.elements.map((name) => this.plan.elements[name]).map((each) => each.at ?? each.through);
-    return [0, 1].map((axis) => places.reduce((sum, place) => sum + place[axis], 0) / places.length);
+    return middleOf(places);
   }
 
   /** The node of a cluster: its shapes, points and lines, moved. */

@@ -1,5 +1,6 @@
 /** The texts beside the board: the drawing's, with its refused line, the constraints, the language. */
 import { html, byId } from './nodes.js';
+import { Layer } from './layer.js';
 
 /** The panel of texts. */
 export class Texts {
@@ -8,6 +9,7 @@ export class Texts {
     this.area = byId('text');
     this.lines = byId('lines');
     this.waits = null;
+    this.asked = new Layer(byId('asked'));
     this.area.addEventListener('input', () => this.typed());
     this.area.addEventListener('scroll', () => { this.lines.scrollTop = this.area.scrollTop; });
     this.area.addEventListener('blur', () => this.flush());
@@ -26,6 +28,7 @@ export class Texts {
       tab.tabIndex = is ? 0 : -1;
       byId(tab.getAttribute('aria-controls')).hidden = !is;
     }
+    this.list();
     document.dispatchEvent(new CustomEvent('tab', { detail: id }));
   }
 
@@ -61,8 +64,12 @@ export class Texts {
   /** Numbers the lines, and marks the one that is refused. */
   number() {
     const count = this.area.value.split('\n').length;
-    const refused = this.paper.refused?.line;
-    this.lines.replaceChildren(...Array.from({ length: count }, (_, place) => html(place + 1 === refused ? 'b' : 'span', {}, `${place + 1}\n`)));
+    const refused = this.paper.refused?.line ?? 0;
+    const shown = `${count} ${refused}`;
+    if (this.lines.dataset.shown === shown) return;
+    this.lines.dataset.shown = shown;
+    const lines = (first, last) => Array.from({ length: Math.max(0, last - first + 1) }, (_, place) => `${first + place}\n`).join('');
+    this.lines.replaceChildren(lines(1, refused ? refused - 1 : count), ...(refused ? [html('b', {}, `${refused}\n`), lines(refused + 1, count)] : []));
     this.lines.scrollTop = this.area.scrollTop;
   }
 
@@ -78,16 +85,17 @@ export class Texts {
     this.list();
   }
 
-  /** Lists the constraints. */
+  /** Lists the constraints, while their tab is open. */
   list() {
+    if (byId('page-asked').hidden) return;
     const answer = this.paper.answer;
     const spare = new Set((answer?.judgement?.spare ?? []).map((each) => each.number));
     const items = (answer?.drawing?.constraints ?? []).map((each) => {
       const kind = `what ${spare.has(each.number) ? 'spare' : ''} ${this.selection.numbers.has(each.number) ? 'selected' : ''}`;
       const text = `${each.number}  ${each.name ? `${each.name}: ` : ''}${each.words}`;
-      return html('li', {}, html('button', { class: kind, onclick: (event) => this.selection.take(this.selection.numbers, each.number, event.shiftKey), ondblclick: () => this.offers.change(each.number) }, text),
-        html('button', { 'aria-label': `take away ${each.called}`, title: 'take it away', onclick: () => this.paper.edit({ do: 'erase', constraints: [each.number] }) }, '×'));
+      return [each.number, `${kind} ${text}`, () => html('li', {}, html('button', { class: kind, onclick: (event) => this.selection.take(this.selection.numbers, each.number, event.shiftKey), ondblclick: () => this.offers.change(each.number) }, text),
+        html('button', { 'aria-label': `take away ${each.called}`, title: 'take it away', onclick: () => this.paper.edit({ do: 'erase', constraints: [each.number] }) }, '×'))];
     });
-    byId('asked').replaceChildren(...(items.length ? items : [html('li', { class: 'quiet' }, 'Nothing is asked for yet: select something on the board.')]));
+    this.asked.show(items.length ? items : [['none', '', () => html('li', { class: 'quiet' }, 'Nothing is asked for yet: select something on the board.')]]);
   }
 }

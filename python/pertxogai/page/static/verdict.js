@@ -75,7 +75,7 @@ export class VerdictPanel {
 
   /** A line that selects points and shapes when it is clicked. */
   selecting(text, names) {
-    return html('span', { tabindex: 0, role: 'button', onclick: () => this.selection.set(names), onkeydown: (event) => { if (event.key === 'Enter') this.selection.set(names); } }, text);
+    return html('button', { class: 'line', onclick: () => this.selection.set(names) }, text);
   }
 
   /** A constraint's name as a button that selects it. */
@@ -98,8 +98,9 @@ function millimetres(nm) {
   return `${text.slice(0, -6)}.${text.slice(-6)}`.replace(/\.?0+$/, '') + '\u00a0mm';
 }
 
-/** By how much a number misses what it has to be. */
+/** By how much a number misses what it has to be, or between what it lies where that can't be told from 0. */
 function gap({ low, high, unit }) {
-  const amount = Math.abs((low + high) / 2);
-  return `It misses by ${Number(amount.toPrecision(6))}${unit ? `\u00a0${unit}` : ''}.`;
+  const told = (value) => `${Number(value.toPrecision(6))}${unit ? `\u00a0${unit}` : ''}`;
+  if (low <= 0 && high >= 0) return `It lies between ${told(low)} and ${told(high)}, and can’t be told from 0.`;
+  return `It misses by ${told(Math.abs((low + high) / 2))}.`;
 }

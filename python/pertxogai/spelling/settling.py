@@ -1,0 +1,139 @@
+"""Distances that run along an axis of a frame, and so are equations in its coordinates."""
+from __future__ import annotations
+
+from collections.abc import Iterator
+from typing import TYPE_CHECKING
+
+from pertxogai.spelling.facts import DATUM, Apart, Knot
+from pertxogai.values import Form
+
+if TYPE_CHECKING:
+    from pertxogai.spelling.axes import Axes, Frame
+
+
+class Settling:
+    """The distances of some axes that are no equations yet. One that ran along no axis is looked
+    at again only once the value of an unknown in it has changed."""
+
+    def __init__(self, axes: Axes) -> None:
+        self.axes = axes
+        self._facts = [fact for fact in axes.loose if isinstance(fact, Apart)]
+        self._speaking: dict[object, list[int]] = {}
+        for number, fact in enumerate(self._facts):
+            for key in (fact.first, fact.second, *fact.value.terms):
+                self._speaking.setdefault(key, []).append(number)
+        self._turn = 0
+        self._touched = [0] * len(self._facts)
+        self._looked: dict[tuple[bool, tuple[int, ...]], int] = {}
+        self._values: list[Form | None] = [None] * len(self._facts)
+        self._left = list(range(len(self._facts)))
+
+    def settle(self) -> None:
+        """Makes an equation of the first that runs along an axis, until none does; those in the
+        datum's frame before others."""
+        self.axes.system.changed()
+        while self._left and self._one():
+            self._turn += 1
+            for unknown in self.axes.system.changed():
+                for number in self._speaking.get(getattr(unknown, "knot", unknown), ()):
+                    self._touched[number] = self._turn
+                    self._values[number] = None
+
+    def _one(self) -> bool:
+        """Settles one; False where none can be."""
+        for in_datum in (True, False):
+            for runs in (self._runs, self._is_mate):
+                number = next((each for each in self._left if runs(each, in_datum)), None)
+                if number is not None:
+                    self._left.remove(number)
+                    self.axes.forget(self._facts[number])
+                    return True
+        return False
+
+    def _is_news(self, in_datum: bool, numbers: tuple[int, ...]) -> bool:
+        """Whether something of these distances has changed since they were looked at in the
+        datum's frame, or in the others; they are looked at now."""
+        key = in_datum, numbers
+        looked = self._looked.get(key, -1)
+        self._looked[key] = self._turn
+        return any(self._touched[number] > looked for number in numbers)
+
+    # -- along an axis
+
+    def _runs(self, number: int, in_datum: bool) -> bool:
+        """Where the points are level, the distance is the way along; where it is that already,
+        they are level."""
+        if not self._is_news(in_datum, (number,)):
+            return False
+        fact = self._facts[number]
+        reduced, owners = self.axes.system.reduced, frozenset({fact.owner})
+        for frame, upwards in self._axes_of(in_datum, {fact.first, fact.second}):
+            if not self.axes.has_rails(frame, upwards):
+                continue
+            across = self._run(frame, not upwards, fact)
+            sign = self.axes.sign(frame, upwards, fact.first, fact.second)
+            along = self._run(frame, upwards, fact) - fact.value.times(sign)
+            for is_so, follows in ((across, along), (along, across)):
+                if reduced(is_so) == Form():
+                    self.axes.tell(follows, owners)
+                    return True
+        return False
+
+    def _axes_of(self, in_datum: bool, knots: set[Knot]) -> Iterator[tuple[Frame, bool]]:
+        """The axes of the datum's frame, or of the others in which something is said of all these
+        points: in the rest nothing can follow of them."""
+        numbers = {DATUM}
+        if not in_datum:
+            numbers = set.intersection(*map(self.axes.frames_of, knots)) - {DATUM}
+        for number in sorted(numbers):
+            yield self.axes.frames[number], False
+            yield self.axes.frames[number], True
+
+    def _run(self, frame: Frame, upwards: bool, fact: Apart) -> Form:
+        """The way from the first point to the second along an axis."""
+        return (self.axes.at(frame.number, upwards, fact.second)
+                - self.axes.at(frame.number, upwards, fact.first))
+
+    # -- alike
+
+    def _is_mate(self, number: int, in_datum: bool) -> bool:
+        """Two equal distances that rise alike also run alike."""
+        value = self._value(number)
+        if not value.terms:
+            return False
+        for mate in self._left:
+            if mate == number:
+                return False
+            if self._value(mate) == value and self._is_news(in_datum, (mate, number)):
+                if self._run_alike(in_datum, self._facts[mate], self._facts[number]):
+                    return True
+        return False
+
+    def _value(self, number: int) -> Form:
+        """A distance's value in what is free."""
+        known = self._values[number]
+        if known is None:
+            known = self._values[number] = self.axes.system.reduced(self._facts[number].value)
+        return known
+
+    def _run_alike(self, in_datum: bool, mate: Apart, fact: Apart) -> bool:
+        """Tells that two distances run alike along the first axis across which they do."""
+        ends, others = {fact.first, fact.second}, {mate.first, mate.second}
+        if ends == others:
+            return False
+        reduced = self.axes.system.reduced
+        for frame, upwards in self._axes_of(in_datum, ends ^ others):
+            across, mates = (self._run(frame, not upwards, each) for each in (fact, mate))
+            if Form() in map(reduced, (across - mates, across + mates)):
+                owners = frozenset({fact.owner}) | self.axes.owners(mate.value - fact.value)
+                self.axes.tell(self._signed(frame, upwards, fact)
+                               - self._signed(frame, upwards, mate), owners)
+                return True
+        return False
+
+    def _signed(self, frame: Frame, upwards: bool, fact: Apart) -> Form:
+        """The way along an axis, turned so that it is drawn forwards."""
+        sign = self.axes.sign(frame, upwards, fact.first, fact.second)
+        return self._run(frame, upwards, fact).times(sign)
+
+
