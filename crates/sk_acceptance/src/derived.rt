@@ -2,7 +2,9 @@
 
 /// Two angles add up, so a point on the outer lines pins them together, in every order; by the first two rules alone
 /// there are four clusters. No point is shared by two clusters with tied lines in two triangles that meet in a point,
-/// so there the first two rules decide. Lone points are no clusters, and a text that isn't a sketch is refused.
+/// so there the first two rules decide. A block between two points makes a triangle with a line, and what they make is
+/// pinned to a further line by the angles; a block that shares a point with that holds no line, so it stays. Lone points
+/// are no clusters, and a text that isn't a sketch is refused.
 pub const DERIVED: &str = "
 $ derive
 sketch 1
@@ -154,6 +156,29 @@ end
 clusters 2
 cluster 1 : A B C
 cluster 2 : A D E
+$ derive
+sketch 2
+line X 0 0 1 0
+line Y 0 0 1 1
+line Z 0 0 0 1
+point P 0 0
+point Q 0 5
+point R 4 5
+point S 4 8
+angle X Y 1/1
+angle Y Z 1/1
+on P X
+on P Z
+on Q Z
+block P 0 0 Q 0 5
+block Q 0 0 R 4 0 S 4 3
+end
+> 0
+clusters 4
+cluster 1 : X Y
+cluster 2 : X Z P Q
+cluster 3 : Y Z
+cluster 4 : Q R S
 $ derive
 sketch 1
 point A 0 0

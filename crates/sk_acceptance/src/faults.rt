@@ -341,6 +341,7 @@ fn faults_have_their_statuses(rt: HostRuntime) -> Result<(), Fail> {
     let session = ["session"];
     let lines = b"point A 0 0\n\npoint B 1 0\nwrite\n".as_slice();
     answers_over(&rt, alloc, &session, (lines, &[2]), (1000, &[]), 3, b"")?;
+    answers_over(&rt, alloc, &session, (lines, &[]), (0, &[]), 4, b"")?;
     answers_over(&rt, alloc, &session, (lines, &[]), (7, &[]), 4, b"ok A\nok")?;
     answers_over(
         &rt,

@@ -292,7 +292,7 @@ fn one_more_is_refused(rt: HostRuntime) -> Result<(), Fail> {
 const TOO_LONG: &[u8] = b"refused line 0 E20 too-long\n";
 
 /// As many line feeds as a sketch may have bytes are no sketch, and a session without replies. As many spaces are one
-/// line, which a session answers.
+/// line, which is too long, and which a session answers. A byte more is too long a text, whatever its first line is.
 #[test]
 fn a_byte_too_long_is_refused(rt: HostRuntime) -> Result<(), Fail> {
     let alloc = rt.alloc();
@@ -307,8 +307,13 @@ fn a_byte_too_long_is_refused(rt: HostRuntime) -> Result<(), Fail> {
     }
     let mut spaces = String::from_str(alloc, "")?;
     put_lines(alloc, &mut spaces, " ", 1, 1_048_576)?;
+    let first = b"refused line 1 E15 line-too-long\n";
+    answers(&rt, alloc, &["check"], spaces.as_bytes(), 1, first)?;
     let long_line = b"refused E15 line-too-long\n";
     answers(&rt, alloc, &["session"], spaces.as_bytes(), 0, long_line)?;
     spaces.push_str(" ")?;
-    answers(&rt, alloc, &["session"], spaces.as_bytes(), 1, TOO_LONG)
+    for command in ["check", "session"] {
+        answers(&rt, alloc, &[command], spaces.as_bytes(), 1, TOO_LONG)?;
+    }
+    Ok(())
 }

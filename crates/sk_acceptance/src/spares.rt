@@ -4,7 +4,8 @@
 /// and nothing else may go, though all is one cluster; of three any may go. Of a braced square with triangles at its side
 /// and a pair apart that is told twice, the square's and the pair's may go.
 /// Where a sound triangle hangs at a pair that is told twice, the pair's two may go and none of the triangle's.
-/// Of two blocks over the same points either may go.
+/// Of two blocks over the same points either may go. Of two points on a line at a distance that is told twice, either
+/// distance may go and neither point's place on the line.
 /// Where nothing holds together nothing may go, nor of three lines, which don't; and a text that isn't a sketch is refused.
 pub const SPARES: &str = "
 $ spare
@@ -130,6 +131,20 @@ end
 spare 2
 c1 : block A 0 0 B 4 0 C 4 3
 c2 : block A 0 0 B 4 0 C 4 3
+$ spare
+sketch 1
+line L 0 0 1 0
+point A 0 0
+point B 3 0
+on A L
+on B L
+distance A B 3
+distance B A 3
+end
+> 0
+spare 2
+c3 : distance A B 3
+c4 : distance B A 3
 $ spare
 sketch 1
 line X 0 0 1 0
