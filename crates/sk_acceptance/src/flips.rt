@@ -4,9 +4,7 @@ use crate::row::{answers, few_bytes, lines_are_refused, put_each};
 use crate::tolerances::{placed, places_of};
 use sk_base::{List, Name, Sign, Sketch, Text};
 use sk_cli::alternative_text;
-use sk_flips::{
-    Alternative, alternatives, first_off, flip_plan, read_flips, turned_plan_is_legal,
-};
+use sk_flips::{Alternative, alternatives, first_off, flip_plan, read_flips, turned_plan_is_legal};
 use sk_graph::reduce;
 use sk_interval::G38;
 use sk_lines::ReadError;
