@@ -4,7 +4,8 @@
 /// there are four clusters. No point is shared by two clusters with tied lines in two triangles that meet in a point,
 /// so there the first two rules decide. A block between two points makes a triangle with a line, and what they make is
 /// pinned to a further line by the angles; a block that shares a point with that holds no line, so it stays. Lone points
-/// are no clusters, and a text that isn't a sketch is refused.
+/// are no clusters, and a text that isn't a sketch is refused. Behind a merge by the angles a triangle may close, and a
+/// second merge by them may be left.
 pub const DERIVED: &str = "
 $ derive
 sketch 1
@@ -156,6 +157,48 @@ end
 clusters 2
 cluster 1 : A B C
 cluster 2 : A D E
+$ derive
+sketch 1
+line X 0 0 1 0
+line Y 0 0 1 1
+line Z 0 0 0 1
+point P 0 0
+point Q 0 5
+angle X Y 1/1
+angle Y Z 1/1
+on P X
+on P Z
+on Q X
+on Q Z
+end
+> 0
+clusters 3
+cluster 1 : X Y
+cluster 2 : X Z P Q
+cluster 3 : Y Z
+$ derive order=last
+sketch 1
+line X 0 0 1 0
+line Y 0 0 1 1
+line Z 0 0 0 1
+line W 0 0 -1 1
+point P 0 0
+point Q 0 5
+angle X Y 1/1
+angle Y Z 1/1
+angle Z W 1/1
+on P X
+on P Z
+on Q Y
+on Q W
+end
+> 0
+clusters 5
+cluster 1 : X Y
+cluster 2 : X Z P
+cluster 3 : Y Z
+cluster 4 : Y W Q
+cluster 5 : Z W
 $ derive
 sketch 2
 line X 0 0 1 0

@@ -222,6 +222,26 @@ end
 flop
 > 1
 refused line 4 E2 word
+$ parts
+sketch 1
+point A 10 20
+point B 10 24
+point C 7 24
+distance A B 4
+distance A C 5
+distance B C 3
+end
+> 0
+verdict well
+parts 1
+part 1 sound elements 3 held 3 due 3 : A B C
+steps 1
+bits 38
+point A 0 0
+point B 4000000 0
+point C 4000000 3000000
+length tolerance 0 nm at c1
+angle tolerance 0 ppb at none
 $ derive order=7
 sketch 1
 point A 0 0

@@ -1,4 +1,4 @@
--- The merge of a pair of names, and what a picker takes of a list of merges.
+-- The merge of a pair of names.
 use Rattle.sk_rules.specs.declared.Merge.{Merge}
 use Rattle.sk_rules.specs.declared.Merge.TheVariants.{Two}
 use Rattle.sk_derive.specs.declared.pairs.Pair.{Pair}

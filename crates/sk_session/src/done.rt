@@ -9,8 +9,8 @@ use sk_base::{ConId, Constraint, Element, NoMemory, Ratio, Sketch, Um, copy_cons
 use sk_edits::{Edit, get};
 use std::alloc::Global;
 
-/// An edit that stands. What it took away or changed is kept as it stood before, so that an undo costs
-/// no more than the edit.
+/// An edit that stands. What it took away or changed is kept as it stood before, so that an undo replays
+/// nothing.
 #[derive(Drop)]
 pub(crate) enum Done {
     Element(Element),

@@ -26,8 +26,8 @@ use sk_worklist::{Chosen, Order};
 use std::alloc::Global;
 use std::marker::Model;
 
-/// A session. It is seen as its order of merges, how its checks close the kept family, the edits that stand, how many edits and undos were
-/// accepted, and the kept family.
+/// A session. It is seen as its order of merges, how its checks close the kept family, the edits that
+/// stand, how many edits and undos were accepted, and the kept family.
 #[derive(Drop)]
 pub struct Session {
     alloc: Global,
