@@ -62,8 +62,6 @@ def test_an_excerpt_is_in_the_answer(row: Row, program) -> None:
 
 @pytest.mark.parametrize("row", FRAME_ROWS, ids=lambda row: row.name)
 def test_a_row_of_the_drawn_frame_is_answered(row: Row, program) -> None:
-    if "frame=" not in program.ask([], "").text or row.answer.status is Status.USAGE:
-        pytest.skip("the program has no key frame yet, or others besides")
     assert program.ask(row.words, row.text) == row.answer
 
 
