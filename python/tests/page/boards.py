@@ -17,7 +17,7 @@ from pertxogai.program import Program
 DRAWINGS = Path(__file__).resolve().parents[1] / "drawings"
 CHROMIUM = shutil.which("chromium")
 DRIVER = shutil.which("chromedriver")
-SECONDS = 20.0
+SECONDS = 60.0
 
 
 def drawing(name: str) -> str:
