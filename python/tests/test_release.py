@@ -260,10 +260,12 @@ def test_nothing_is_released_of_a_changed_or_unproved_tree(repository: Path) -> 
     assert "no gate is recorded: pass .ci/run on this commit" in refusal(repository)
     record = built.with_name("gate")
     record.write_text(f"commit {'0' * 40}\nprogram {'0' * 64}\n12 passed, 0 failed\n")
-    assert "was passed by another commit or program" in refusal(repository)
+    assert "doesn't say that this commit and this program passed" in refusal(repository)
     output = repository.parent / "output"
     output.write_text("12 passed, 1 failed\n")
     assert "doesn't end in 'N passed, 0 failed'" in refusal(repository, "--gate", output)
+    output.write_text("12 passed, 0 failed\n")
+    assert "doesn't say that this commit" in refusal(repository, "--gate", output)
     os.utime(built, (NOON, NOON))
     assert "the program is older than crates" in refusal(repository)
     built.unlink()
@@ -273,13 +275,14 @@ def test_nothing_is_released_of_a_changed_or_unproved_tree(repository: Path) -> 
 
 
 def test_what_a_gate_says(tmp_path: Path) -> None:
-    output = tmp_path / "output"
-    output.write_text("rt: ok\n1234 passed, 0 failed\n")
-    assert Gate.of_output(output).line == "1234 passed, 0 failed"
-    passed = "5 passed, 0 failed\n"
-    for wrong in ("", "0 passed, 0 failed\n", passed + "killed\n", "15 passed, 10 failed\n"):
+    output, commit, checksum = tmp_path / "output", "c" * 40, "e" * 64
+    passed, told = "1234 passed, 0 failed\n", f"commit {commit}\nprogram {checksum}\n"
+    output.write_text("1200 passed, 0 failed\n" + told + passed)
+    assert Gate.of(output, commit, checksum).line == "1234 passed, 0 failed"
+    for wrong in ("", told, told + "0 passed, 0 failed\n", told + passed + "killed\n",
+                  told + "15 passed, 10 failed\n", passed, told[:-2] + "\n" + passed):
         output.write_text(wrong)
         with pytest.raises(Refused):
-            Gate.of_output(output)
+            Gate.of(output, commit, checksum)
     with pytest.raises(Refused, match="can't be read"):
-        Gate.of_output(tmp_path / "none")
+        Gate.of(tmp_path / "none", commit, checksum)

@@ -6,7 +6,7 @@ from pathlib import Path
 from .refusal import Refused
 
 RECORD = Path("crates/sketch/out/gate")
-"""Where .ci/run leaves its record: the commit, the program's checksum, and its last line."""
+"""Where .ci/run leaves its record, which is the end of its output too: the commit, the program's checksum, its last line."""
 PASSED = re.compile(r"[1-9]\d* passed, 0 failed")
 RUN = "pass .ci/run on this commit, or name its output by --gate FILE"
 
@@ -18,24 +18,25 @@ class Gate:
     line: str
 
     @staticmethod
-    def of_output(path: Path) -> "Gate":
-        """What a file that holds the gate's output says in its last line. Raises Refused unless nothing failed."""
+    def of(path: Path, commit: str, checksum: str) -> "Gate":
+        """What a file that holds the gate's output, or its record, says in its last three lines. Raises Refused unless
+        nothing failed, and it was this commit and the program of this checksum that passed."""
         try:
-            lines = path.read_text(errors="replace").split("\n")
+            text = path.read_text(errors="replace")
         except OSError as error:
             raise Refused(f"{path} can't be read ({error.strerror}): {RUN}") from None
-        last = next((line.strip() for line in reversed(lines) if line.strip()), "")
+        lines = [line.strip() for line in text.splitlines() if line.strip()]
+        last = "".join(lines[-1:])
         if not PASSED.fullmatch(last):
             raise Refused(f"{path} doesn't end in 'N passed, 0 failed' but in '{last[:60]}': {RUN}")
+        if lines[-3:-1] != [f"commit {commit}", f"program {checksum}"]:
+            raise Refused(f"{path} doesn't say that this commit and this program passed: {RUN}")
         return Gate(last)
 
     @staticmethod
     def of_record(top: Path, commit: str, checksum: str) -> "Gate":
-        """What .ci/run left behind. Raises Refused unless it was passed by this commit and the program of this checksum."""
+        """What .ci/run left behind in the repository at `top`. Raises Refused where it left nothing, and as `of`."""
         path = top / RECORD
         if not path.exists():
             raise Refused(f"no gate is recorded: {RUN}")
-        found = dict(line.split(" ", 1) for line in path.read_text().splitlines()[:2])
-        if found != {"commit": commit, "program": checksum}:
-            raise Refused(f"the gate that is recorded was passed by another commit or program: {RUN}")
-        return Gate.of_output(path)
+        return Gate.of(path, commit, checksum)

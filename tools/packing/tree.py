@@ -22,7 +22,7 @@ class Tree:
         committed."""
         if Path(said("git", "-C", top, "rev-parse", "--show-toplevel").strip()) != top:
             raise Refused(f"{top} isn't the top of a repository of git: clone it, and release from the clone")
-        changed = said("git", "-C", top, "status", "--porcelain").splitlines()
+        changed = said("git", "-C", top, "status", "--porcelain", "--untracked-files=normal").splitlines()
         if changed:
             first = changed[0][3:]
             raise Refused(f"the tree is changed, first {first}: commit that or take it away, and pass .ci/run again")
