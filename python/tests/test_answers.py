@@ -53,6 +53,19 @@ def test_two_triangles_at_a_hinge_lack_one_dimension_about_their_point(program):
     assert joint.first.elements == ("A", "B", "C") and joint.second.elements == ("A", "D", "E")
 
 
+@pytest.mark.parametrize("lines, tie, lacks", [
+    ("point A 0 0\npoint B 30 0\n", Tie.LONE_PAIR, 1),
+    ("point A 0 0\npoint B 30 0\ndistance A B 30\npoint C 5 9\n", Tie.LONE, 2),
+    ("point A 0 0\npoint B 30 0\ndistance A B 30\n"
+     "point C 5 9\npoint D 25 9\ndistance C D 20\n", Tie.LOOSE, 3),
+])
+def test_what_ties_loose_pieces_is_as_many_dimensions_as_are_missing(program, lines, tie, lacks):
+    found = judge(read_drawing(lines), program)
+    assert found.missing.count == lacks
+    joint, = found.missing.joints
+    assert joint.tie is tie and joint.shared == ()
+
+
 def test_a_dimension_told_twice_repeats(program):
     found = judge(read_drawing(PLATE + "Again: x PlateBottom.end 60\n"), program)
     assert found.verdict is Verdict.OVER

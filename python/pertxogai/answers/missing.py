@@ -13,6 +13,8 @@ class Tie(Enum):
     """How two pieces hang together, and so what ties them."""
 
     LOOSE = "loose: give one of them two dimensions from the other, and one more"
+    LONE = "loose: give the one that is a single point or line two dimensions from the other"
+    LONE_PAIR = "loose: give a dimension between them"
     HINGE = "they turn about a point: give an angle, or a distance between points of both"
     SLIDE = "they slide along a line: give a distance between points of both, not across that line"
 
@@ -61,7 +63,14 @@ def _joint(names: Names, parts: tuple[Part, ...], pieces: tuple[Piece, ...], sho
     first = next((other for other in shown if other < place and mine & set(parts[other].elements)),
                  shown[0])
     shared = [name for name in parts[place].elements if name in parts[first].elements]
-    tie = Tie.LOOSE
+    tie = _loose(parts[first], parts[place])
     if shared:
         tie = Tie.SLIDE if shared[0] in names.spelled.tracks else Tie.HINGE
     return Joint(pieces[first], pieces[place], tie, names.elements(shared))
+
+
+def _loose(first: Part, second: Part) -> Tie:
+    """What ties two parts that share nothing: a single point or line can't turn, so it takes one
+    dimension less than a part of several."""
+    lone = sum(len(part.elements) == 1 for part in (first, second))
+    return (Tie.LOOSE, Tie.LONE, Tie.LONE_PAIR)[lone]

@@ -16,7 +16,7 @@ from ..inputs import InputRefused
 from ..language import NotHeld, Refusal
 from ..measure import Spot
 from ..picture.designed import Whereabouts
-from ..program import Asks, ProgramError
+from ..program import Asks, ProgramError, Status
 from ..reports import Flipped, NoChoice
 from ..told import JudgedDrawing, spare_json
 from .document import read_document, write_document
@@ -198,10 +198,15 @@ def _sheet(desk: Desk, given: Fields) -> DrawingSheet:
 
 
 def _program_dxf(desk: Desk, given: Fields) -> Json:
-    """What the program itself writes as DXF of the sketch, byte by byte."""
+    """What the program itself writes as DXF of the sketch, byte by byte. Raises NotPlaced where
+    it writes none."""
     judged = desk.judged(given.text("text"))
     words = ["dxf", f"place={judged.judgement.place.value}"]
-    return {"dxf": desk.program.ask(words, judged.text).text}
+    report = desk.program.ask(words, judged.text)
+    if report.status is not Status.DONE:
+        raise NotPlaced("the program places nothing of the drawing as it stands, so it writes no "
+                        "DXF: see the verdict")
+    return {"dxf": report.text}
 
 
 def _open(desk: Desk, given: Fields) -> Json:

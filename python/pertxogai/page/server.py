@@ -61,6 +61,8 @@ def _turned_away(guard: Guard) -> Response | None:
                           headers.get("Sec-Fetch-Site"), str(token))
     if ground is not None:
         return _json(trouble("guard", ground.value), 403)
+    if request.method == "POST" and request.content_length is None:
+        return _json(trouble("request", "tell by Content-Length how long what is given is"), 411)
     if (request.content_length or 0) > MOST_BYTES:
         _pass_over()
         return _json(trouble("request", TOO_MUCH), 413)

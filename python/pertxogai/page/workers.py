@@ -116,7 +116,10 @@ class Workers:
 
     def text(self, call: str, given: object) -> str:
         """What a free worker answers, as JSON. Raises Busy."""
-        worker = self._taken()
+        try:
+            worker = self._taken()
+        except WorkerLost as error:
+            return json.dumps(trouble("stopped", str(error)))
         try:
             found = worker.text(call, given)
         except (WorkerLost, ValueError) as error:
@@ -140,7 +143,11 @@ class Workers:
                 if worker.process.poll() is None:
                     return worker
                 worker.stop()
-        return Worker.start(self._program, self._bounds)
+        try:
+            return Worker.start(self._program, self._bounds)
+        except OSError as error:
+            self._back(None)
+            raise WorkerLost(f"no process could be started for the call: {error.strerror}") from None
 
     def _back(self, worker: Worker | None) -> None:
         with self._lock:

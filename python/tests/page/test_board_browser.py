@@ -261,6 +261,20 @@ def test_everything_by_the_keyboard(page: Page) -> None:
     page.wait("named", "return document.getElementById('text').value.includes('length Base 30')")
     page.keys(Keys.DELETE)
     page.verdict("empty")
+    page.keys("g")
+    page.wait("a drawing has the focus", "return document.activeElement.matches('#dialog .gallery button')")
+    page.driver.switch_to.active_element.send_keys(Keys.ENTER)
+    page.wait("a drawing is taken", "return document.getElementById('text').value !== ''")
+
+
+def test_brackets_of_keyboards_that_have_them_by_another_key(page: Page) -> None:
+    page.begin("drawing 1\nsegment A 0 0 40 0\n", "open")
+    for held in ({"altKey": True}, {"altKey": True, "ctrlKey": True}):
+        page.keys(Keys.ESCAPE)
+        page.driver.execute_script(
+            "document.activeElement.dispatchEvent(new KeyboardEvent('keydown',"
+            "{key: ']', bubbles: true, cancelable: true, ...arguments[0]}))", held)
+        page.wait("selected", "return document.querySelector('#hint').textContent === 'A selected'")
 
 
 def test_a_stopped_server_is_told_and_nothing_is_lost(page: Page, board: Served) -> None:

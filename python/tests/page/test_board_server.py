@@ -11,13 +11,14 @@ import sys
 import time
 import urllib.request
 from concurrent.futures import ThreadPoolExecutor
+from http.client import HTTPConnection
 from pathlib import Path
 
 import pytest
 
 flask = pytest.importorskip("flask", reason="the board needs Debian's python3-flask")
 
-from boards import DRAWINGS, drawing, served  # noqa: E402
+from boards import DRAWINGS, SECONDS, drawing, served  # noqa: E402
 from flask.testing import FlaskClient  # noqa: E402
 
 from pertxogai.commands import main  # noqa: E402
@@ -25,7 +26,7 @@ from pertxogai.page.calls import Desk  # noqa: E402
 from pertxogai.page.guard import Ground, Guard  # noqa: E402
 from pertxogai.page.server import board  # noqa: E402
 from pertxogai.page.worker import Hasty  # noqa: E402
-from pertxogai.page.workers import Bounds, Workers  # noqa: E402
+from pertxogai.page.workers import Bounds, Worker, Workers  # noqa: E402
 from pertxogai.program import Program, Status  # noqa: E402
 
 PORT = 4321
@@ -104,6 +105,28 @@ def test_files_beside_the_page_arent_given(client) -> None:
 def test_a_text_of_two_mebibytes_is_turned_away(client) -> None:
     response = post(client, "judge", {"text": "#" * (2 << 20)})
     assert response.status_code == 413 and "1048576 bytes" in trouble(response)
+
+
+def test_a_text_whose_length_isnt_told_is_turned_away(program) -> None:
+    with served(program) as there:
+        call = HTTPConnection("127.0.0.1", there.guard.port, timeout=SECONDS)
+        body = iter([b'{"text": "', b'"}'])
+        call.request("POST", f"/{there.guard.token}/call/judge", body,
+                     {"Content-Type": "application/json"}, encode_chunked=True)
+        response = call.getresponse()
+        assert response.status == 411 and b"Content-Length" in response.read()
+        call.close()
+
+
+def test_a_call_whose_process_cant_start_is_told_and_frees_its_place(tmp_path, monkeypatch) -> None:
+    def refused(program: str, bounds: Bounds) -> Worker:
+        raise OSError(11, "Resource temporarily unavailable")
+
+    monkeypatch.setattr(Worker, "start", refused)
+    workers = Workers("sketch", Bounds())
+    for _ in range(6):
+        found = json.loads(workers.text("judge", {"text": ""}))
+        assert "temporarily unavailable" in found["trouble"]["message"]
 
 
 def test_only_json_is_taken(client) -> None:
@@ -299,6 +322,15 @@ def test_exports_are_those_of_the_commands(client, program, tmp_path, monkeypatc
     own = answer(client, "program-dxf", text=text)["dxf"]
     assert own == program.ask(["dxf"], language).text and own.startswith("  0\nSECTION") or \
         own.startswith("0\nSECTION")
+
+
+@pytest.mark.parametrize("name", ["open-hinge", "no-triangle"])
+def test_what_has_no_places_is_no_dxf_of_the_program(client, name) -> None:
+    text = drawing("open-hinge") if name == "open-hinge" else (
+        "segment A 0 0 10 0\nsegment B A.end 3 8\nsegment C B.end A.start\n"
+        "length A 40\nlength B 36\nlength C 3\n")
+    found = answer(client, "program-dxf", text=text)
+    assert "dxf" not in found and "writes no DXF" in found["trouble"]["message"]
 
 
 def opened(client, path: Path) -> dict:

@@ -18,6 +18,8 @@ export const KEYS = [
   ['Escape', 'give up, select nothing'],
   ['?', 'this help'],
 ];
+/** Many keyboards have these by AltGr or by Option alone. */
+const BRACKETS = ['[', ']', '{', '}'];
 const ARROWS = { ArrowLeft: [-1, 0], ArrowRight: [1, 0], ArrowUp: [0, 1], ArrowDown: [0, -1] };
 
 /** Listens to keys, and does what they say by the page's parts. */
@@ -30,7 +32,9 @@ export class Keys {
   /** One key. */
   key(event) {
     const typing = event.target.matches('input:not([type="range"]), textarea, dialog *');
-    const done = event.ctrlKey || event.metaKey ? this.chord(event, typing) : !typing && this.plain(event);
+    const plain = BRACKETS.includes(event.key) ? this.letter : this.plain;
+    const chord = (event.ctrlKey || event.metaKey) && plain === this.plain;
+    const done = chord ? this.chord(event, typing) : !typing && plain.call(this, event);
     if (done) event.preventDefault();
   }
 
@@ -78,7 +82,7 @@ export class Keys {
     else if (event.key === 'Delete' || event.key === 'Backspace') offers.erase();
     else if (event.key === 'F2') offers.rename();
     else if (event.key === 'x') offers.node.querySelector('[data-do="construction"]')?.click();
-    else if (['[', ']', '{', '}'].includes(event.key)) gestures.next('[{'.includes(event.key) ? -1 : 1, event.shiftKey);
+    else if (BRACKETS.includes(event.key)) gestures.next('[{'.includes(event.key) ? -1 : 1, event.shiftKey || '{}'.includes(event.key));
     else if (['+', '=', '-'].includes(event.key)) board.zoomBy(event.key === '-' ? 0.8 : 1.25);
     else if (event.key === '0') board.fit();
     else if (event.key === 'g') files.gallery();

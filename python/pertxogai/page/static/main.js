@@ -66,6 +66,7 @@ function start() {
     byId('dialog-title').textContent = title;
     byId('dialog').querySelector('div').replaceChildren(content);
     byId('dialog').showModal();
+    content.querySelector('button')?.focus();
   }
 
   /** Shows the help. */
