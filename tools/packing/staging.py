@@ -12,8 +12,8 @@ HIGHLIGHTING = {
     "textmate": "pertxogai/textmate",
 }
 PAGES = (
-    "README.md", "CHANGELOG.md", "docs", "examples", "licences", "python/README.md", "python/DRAWING.md",
-    "python/pictures",
+    "README.md", "CHANGELOG.md", "CONTRIBUTING.md", "docs", "examples", "licences", "c/examples", "editors/README.md",
+    "python/README.md", "python/DRAWING.md", "python/pictures",
 )
 TOOLS = ("refresh", "draw")
 """Scripts of docs/ that are of use in the repository alone."""

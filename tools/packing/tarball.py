@@ -11,7 +11,8 @@ MACHINE = "x86_64-linux"
 SAY = """Pertxogai {version} for Linux on x86-64.
 
     cp -r bin include lib share ~/.local    puts it where your shell looks for it, or in the place of ~/.local: /usr/local
-    pip install wheel/{wheel}    adds the command pertxogai and the Python package
+    pipx install wheel/{wheel}    adds the command pertxogai
+    pip install wheel/{wheel}    adds it and the Python package, in a virtual environment of your own
     man -l share/man/man1/sketch.1.gz    is the manual
 
 share/doc/pertxogai has the pages and the examples, licences what is linked, GATE what was proved and tested of which
