@@ -1,7 +1,7 @@
 #!/bin/sh
 # examples/how-far.sh FILE ..: for each sketch that is placed, how far its furthest point or centre lies from where it is drawn.
 for it; do
-    ./sketch solve frame=drawn <"$it" | awk -v it="$it" '
+    "${SKETCH:-./sketch}" solve frame=drawn <"$it" | awk -v it="$it" '
         $1 != "point" && $1 != "circle" { next }
         FNR == NR { x[$2] = $3 / 1e6; y[$2] = $4 / 1e6; next }
         $2 in x { off = sqrt((x[$2] - $3) ^ 2 + (y[$2] - $4) ^ 2); if (off >= far) { far = off; name = $2 } }
