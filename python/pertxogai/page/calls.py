@@ -14,6 +14,7 @@ from ..dxf import MissingLibrary, Release
 from ..found import FileRefusal
 from ..inputs import InputRefused
 from ..language import NotHeld, Refusal
+from ..language.flips import Flip
 from ..measure import Spot
 from ..picture.designed import Whereabouts
 from ..program import Asks, ProgramError, Status
@@ -142,7 +143,7 @@ def _plan(desk: Desk, given: Fields) -> Json:
 def _flips(desk: Desk, given: Fields) -> Json:
     """The other shape, in which the choices of some steps are turned over."""
     judged = desk.judged(given.text("text"))
-    found = judged.flipped(given.wholes("steps"))
+    found = judged.flipped(_steps(given))
     if isinstance(found, Flipped):
         what = "has no choice" if isinstance(found.answer, NoChoice) else "has no places"
         return trouble("flip", f"the other shape {what}: {found.text()}")
@@ -154,7 +155,7 @@ def _redraw(desk: Desk, given: Fields) -> Json:
     """The text with all points drawn where they are placed, or where they are in another
     shape: `steps` are turned over."""
     judged = desk.judged(given.text("text"))
-    steps = given.wholes("steps")
+    steps = _steps(given)
     judged.solved()
     found = judged.flipped(steps) if steps else judged.judgement
     if isinstance(found, Flipped) or found.solution is None:
@@ -163,6 +164,16 @@ def _redraw(desk: Desk, given: Fields) -> Json:
     moves = tuple((ref, _place(solution.spot(ref))) for ref in judged.drawing.points())
     radii = tuple((name, Fraction(solution.radius(name)) / 1000) for name in solution.radii)
     return _whole(desk, desk.edited(Move(moves, radii).on(judged.drawing)))
+
+
+def _steps(given: Fields) -> tuple[int, ...]:
+    """The steps whose choices are turned over. Raises FieldRefused where no list of flips takes
+    them."""
+    steps = given.wholes("steps")
+    try:
+        return Flip(steps).steps
+    except ValueError as error:
+        raise FieldRefused(f"'steps': {error}") from None
 
 
 def _place(spot: Spot) -> Place:

@@ -26,7 +26,10 @@ def opened(name: str, data: str) -> list[Json]:
     plain = Path(name).name or "drawing"
     with tempfile.TemporaryDirectory(prefix="pertxogai-") as room:
         path = Path(room) / f"file{Path(plain).suffix}"
-        path.write_bytes(content)
+        try:
+            path.write_bytes(content)
+        except (OSError, ValueError):
+            raise FieldRefused("'name' has to be the name of a file") from None
         try:
             return [_json(each, plain) for each in read_inputs(path)]
         except InputRefused as refusal:

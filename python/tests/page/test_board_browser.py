@@ -306,3 +306,19 @@ def test_a_second_tab_is_told_while_it_is_there(page: Page, board: Served) -> No
     page.driver.close()
     page.driver.switch_to.window(first)
     page.wait("no longer told", "return document.getElementById('banner').hidden")
+
+
+def test_of_two_tabs_neither_loses_its_drawing(page: Page, board: Served) -> None:
+    first = page.driver.current_window_handle
+    page.begin("drawing 1\nsegment A 0 0 40 0\n", "open")
+    page.driver.switch_to.new_window("tab")
+    page.driver.get(board.guard.address)
+    page.verdict("open")
+    page.type("drawing 1\ncircle B 0 0 40\n")
+    kept = "return (localStorage['pertxogai.drawing'] + localStorage['pertxogai.aside'])"
+    page.wait("the second's is kept", f"{kept}.includes('circle B')")
+    page.driver.close()
+    page.driver.switch_to.window(first)
+    page.driver.execute_script("window.dispatchEvent(new Event('beforeunload'))")
+    found = str(page.driver.execute_script(kept))
+    assert "segment A" in found and "circle B" in found

@@ -296,6 +296,13 @@ def test_the_other_shape_of_a_triangle_is_mirrored(client) -> None:
     assert drawn["judgement"]["placed"]["points"]["B.end"][1] < 0
 
 
+@pytest.mark.parametrize("steps", [[0], [-1], [1, 1], list(range(1, 40))])
+def test_steps_that_no_flip_takes_are_told(client, steps) -> None:
+    for call in ("flips", "redraw"):
+        found = answer(client, call, text=drawing("arm"), steps=steps)
+        assert found["trouble"]["kind"] == "call" and "'steps'" in found["trouble"]["message"]
+
+
 def test_a_claim_is_verified_and_exported(client) -> None:
     found = answer(client, "verify", text=drawing("arm"))
     assert found["said"].startswith("verified steps 3 ")
@@ -356,7 +363,7 @@ def test_a_sketch_of_the_language_becomes_a_drawing(client) -> None:
 @pytest.mark.parametrize("name, data", [
     ("part.FCStd", b"PK no zip"), ("part.slvs", b"\x00\x01"), ("part.dxf", b"\xff\xff"),
     ("part.step", b""), ("../../etc/passwd", b"x"), ("", b""), ("part.sketch", b"sketch 9\n"),
-    ("part.drawing", b"lenght A 3\n"),
+    ("part.drawing", b"lenght A 3\n"), ("part." + "x" * 400, b"x"), ("part.\0dxf", b"x"),
 ])
 def test_bad_files_are_refused_in_one_line(client, name, data) -> None:
     found = answer(client, "open", name=name, data=base64.b64encode(data).decode())

@@ -16,10 +16,12 @@ export class Keeping {
     window.addEventListener('pagehide', () => this.channel.postMessage({ gone: this.name }));
   }
 
-  /** Keeps the text that stands. */
+  /** Keeps the text that stands; what another tab kept there goes aside. */
   keep() {
     const { text, name, saved } = this.paper;
-    this.store(KEY, { text, name, saved });
+    const last = this.kept();
+    if (last && last.tab !== this.name && last.text !== text) this.put(last);
+    this.store(KEY, { text, name, saved, tab: this.name });
   }
 
   /** What was kept, or null. */
@@ -30,9 +32,14 @@ export class Keeping {
   /** Keeps an unsaved drawing aside, before another begins. */
   aside() {
     const { text, name, saved } = this.paper;
+    this.put({ text, name, saved });
+  }
+
+  /** Puts a drawing aside, unless it is saved; of another tab's drawing its latest state alone. */
+  put({ text, name, saved, tab }) {
     if (!text.trim() || text === saved) return;
-    const all = (this.read(ASIDE) ?? []).filter((each) => each.text !== text);
-    this.store(ASIDE, [{ text, name: `${name}, unsaved` }, ...all].slice(0, MOST_ASIDE));
+    const all = this.unsaved().filter((each) => each.text !== text && (!tab || each.tab !== tab));
+    this.store(ASIDE, [{ text, name: `${name}, unsaved`, tab }, ...all].slice(0, MOST_ASIDE));
   }
 
   /** The drawings that were left unsaved. */
@@ -45,7 +52,7 @@ export class Keeping {
     if (here) this.channel.postMessage({ also: this.name });
     if (gone) this.others.delete(gone);
     else this.others.add(here ?? also);
-    this.tell(this.others.size === 0 ? '' : 'The board is open in another tab too. Each tab has its own drawing; the one that was changed last is kept in this browser.');
+    this.tell(this.others.size === 0 ? '' : 'The board is open in another tab too. Each tab has its own drawing; the one that was changed last is shown anew, the other stands in the gallery.');
   }
 
   /** Writes a value, if the browser lets it. */
