@@ -110,9 +110,10 @@ def test_a_text_of_two_mebibytes_is_turned_away(client) -> None:
 def test_a_text_whose_length_isnt_told_is_turned_away(program) -> None:
     with served(program) as there:
         call = HTTPConnection("127.0.0.1", there.guard.port, timeout=SECONDS)
-        body = iter([b'{"text": "', b'"}'])
-        call.request("POST", f"/{there.guard.token}/call/judge", body,
-                     {"Content-Type": "application/json"}, encode_chunked=True)
+        call.putrequest("POST", f"/{there.guard.token}/call/judge")
+        call.putheader("Content-Type", "application/json")
+        call.putheader("Transfer-Encoding", "chunked")
+        call.endheaders()
         response = call.getresponse()
         assert response.status == 411 and b"Content-Length" in response.read()
         call.close()
