@@ -1,10 +1,11 @@
 -- What digits stand for.
-use Rattle.std.proofs.Common.{◌≡◌, ℕ, zero, suc, ◌-◌, ◌<◌, ◌≤◌, ◌^◌, Bool, true, false, ◌&&◌, List, [], ◌∷◌, length, take, get_or, refl, arith, nat_le}
+use Rattle.std.proofs.Common.{◌≡◌, ℕ, zero, suc, ◌-◌, ◌<◌, ◌≤◌, ◌^◌, true, List, [], ◌∷◌, length, take, get_or, arith, nat_le}
 use Rattle.std.specs.List.{list_all}
 use Rattle.std.specs.Char.{is_ascii_digit, digit_value}
 use Rattle.std.specs.Str.Parse.{digits_value, AllDigits}
 use Rattle.std.proofs.lemmas.List.{length-take-le}
 use Rattle.std.proofs.lemmas.Int.Digits.{digits_value-lt}
+use Rattle.std.proofs.lemmas.Bool.{and_parts}
 use Rattle.std.proofs.lemmas.Bool.Decides.{nat_tests}
 use Rattle.std.proofs.Math.Nat.{pow-le-pow_right}
 use Rattle.sk_base.specs.Millimetres.{is_digits}
@@ -15,21 +16,23 @@ digit c is = grind (arith, nat_tests)
 digit_is : (c : ℕ) → digit_value c < 10 → (48 ≤ c) × (c < 58) × (digit_value c ≡ c - 48)
 digit_is c small = (grind (arith, nat_tests), grind (arith, nat_tests), grind (arith, nat_tests))
 
-pub both : (a b : Bool) → (a && b) ≡ true → (a ≡ true) × (b ≡ true)
-both true b e = (refl, e)
-both false b e = cc
-
 pub all_digits : (bytes : List ℕ) → list_all is_ascii_digit bytes ≡ true → AllDigits 10 bytes
 all_digits [] is = tt
 all_digits (b ∷ bytes) is =
-    let parts = both (is_ascii_digit b) (list_all is_ascii_digit bytes) is in (digit b parts.0, all_digits bytes parts.1)
+    let parts = and_parts (is_ascii_digit b) (list_all is_ascii_digit bytes) is in (digit b parts.0, all_digits bytes parts.1)
 
 pub is_digits_all : (most : ℕ) (bytes : List ℕ) → is_digits most bytes ≡ true → AllDigits 10 bytes × (length bytes ≤ most)
 is_digits_all most bytes is =
-    let outer = both _ (list_all is_ascii_digit bytes) is in
-    let inner = both (nat_le 1 (length bytes)) (nat_le (length bytes) most) outer.0 in
+    let outer = and_parts _ (list_all is_ascii_digit bytes) is in
+    let inner = and_parts (nat_le 1 (length bytes)) (nat_le (length bytes) most) outer.0 in
     let short = inner.1 in
     (all_digits bytes outer.1, grind (arith, nat_tests))
+
+pub is_digits_some : (most : ℕ) (bytes : List ℕ) → is_digits most bytes ≡ true → 0 < length bytes
+is_digits_some most bytes is =
+    let outer = and_parts _ (list_all is_ascii_digit bytes) is in
+    let inner = and_parts (nat_le 1 (length bytes)) (nat_le (length bytes) most) outer.0 in
+    let long = inner.0 in grind (arith, nat_tests)
 
 -- the digit at a place
 pub digit_at : (bytes : List ℕ) (i : ℕ) → AllDigits 10 bytes → i < length bytes → (48 ≤ get_or bytes i 0) × (get_or bytes i 0 < 58) × (digit_value (get_or bytes i 0) ≡ get_or bytes i 0 - 48)

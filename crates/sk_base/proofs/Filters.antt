@@ -1,7 +1,9 @@
--- What a test keeps of a list.
-use Rattle.std.proofs.Common.{◌≡◌, ◌∙◌, refl, List, [], ◌∷◌, ap, sym, Bool, true, false, cond}
+-- What a test keeps of a list, and what tests tell.
+use Rattle.std.proofs.Common.{◌≡◌, ◌∙◌, inl, inr, refl, List, [], ◌∷◌, ap, sym, subst, Bool, true, false, cond}
 use Rattle.std.specs.Prelude.{Contains, filter, not, ◌&&◌, ◌||◌}
-use Rattle.sk_base.proofs.Members.{contains_head, contains_later}
+use Rattle.std.specs.List.{list_any}
+use Rattle.std.proofs.lemmas.Bool.{or_parts}
+use Rattle.sk_base.proofs.Members.{contains_none, contains_head, contains_later, contains_cases}
 
 module _ {X : Type 0} where
   pub filter_keeps : (p : X → Bool) (xs : List X) → ((x : X) → Contains xs x → p x ≡ true) → filter p xs ≡ xs
@@ -32,3 +34,19 @@ module _ {X : Type 0} where
 pub neither : (a b : Bool) → not (a || b) ≡ (not a && not b)
 neither true b = refl
 neither false b = refl
+
+-- two tests that hold together are the same
+pub same_tests : (a b : Bool) → (a ≡ true → b ≡ true) → (b ≡ true → a ≡ true) → a ≡ b
+same_tests true b to from = sym (to refl)
+same_tests false true to from = from refl
+same_tests false false to from = refl
+
+-- where no item passes a test, each fails it
+pub none_passes : {X : Type 0} (p : X → Bool) (xs : List X) → list_any p xs ≡ false → (x : X) → Contains xs x → p x ≡ false
+none_passes p [] none x x_in = absurd (contains_none x x_in)
+none_passes p (y ∷ xs) none x x_in =
+    let both = or_parts (p y) (list_any p xs) none in
+    elim (contains_cases y xs x x_in) [
+      | inl here ↦ subst (λ z. p z ≡ false) here both.0
+      | inr later ↦ none_passes p xs both.1 x later
+    ]

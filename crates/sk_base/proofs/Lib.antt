@@ -5,12 +5,14 @@ pub mod Filters
 pub mod Finding
 pub mod Halves
 pub mod ListOrder
+pub mod Magnitudes
 pub mod Members
 pub mod Numbers
 pub mod Pairs
 pub mod Quotients
 pub mod Ranges
 pub mod Rests
+pub mod Results
 pub mod Searches
 pub mod ShortNames
 pub mod Sizes

@@ -1,8 +1,9 @@
 -- A relation between each item of a list and all later ones, by cases on the list.
-use Rattle.std.proofs.Common.{refl, ◌≡◌, ◌⊎◌, cond, sym, ◌∙◌, inl, inr, zero, suc, Bool, true, false, List, [], ◌∷◌, ◌++◌, get_or, subst, arith}
-use Rattle.std.specs.Prelude.{Contains, AllPairs, map, filter}
+use Rattle.std.proofs.Common.{refl, ◌≡◌, ◌⊎◌, sym, ◌∙◌, inl, inr, zero, suc, List, [], ◌∷◌, ◌++◌, get_or, subst, arith}
+use Rattle.std.specs.Prelude.{Contains, AllPairs, map}
 use Rattle.std.proofs.lemmas.List.Elements.{Contains-get_or, Contains-push_cases}
-use Rattle.sk_base.proofs.Members.{contains_none, contains_head, contains_later, contains_cases, mapped_from, filtered_from}
+pub use Rattle.std.proofs.lemmas.List.Kept.{AllPairs-filter as pairs_filter}
+use Rattle.sk_base.proofs.Members.{contains_none, contains_head, contains_later, contains_cases, mapped_from}
 
 module _ {X : Type 0} (R : X → X → Type 0) where
   pub pairs_none : AllPairs R []
@@ -24,14 +25,6 @@ module _ {X : Type 0} (R : X → X → Type 0) where
   pairs_push (x ∷ xs) y r below =
       pairs_cons x (xs ++ y ∷ []) (pairs_push xs y (pairs_tail x xs r) (λ z h. below z (contains_later x xs z h))) (λ z h.
       elim (Contains-push_cases xs y z h) [ inl early ↦ pairs_head x xs r z early | inr last ↦ subst (λ w. R x w) last (below x (contains_head x xs)) ])
-
-  pub pairs_filter : (p : X → Bool) (xs : List X) → AllPairs R xs → AllPairs R (filter p xs)
-  pairs_filter p [] r = pairs_none
-  pairs_filter p (x ∷ xs) r = kept (p x) (pairs_filter p xs (pairs_tail x xs r))
-    where
-      kept : (b : Bool) → AllPairs R (filter p xs) → AllPairs R (cond b (x ∷ filter p xs) (filter p xs))
-      kept true rest = pairs_cons x (filter p xs) rest (λ y h. pairs_head x xs r y (filtered_from p xs y h).0)
-      kept false rest = rest
 
   -- of two items, the one comes first or the other, or they are one
   pub pairs_tell : (xs : List X) → AllPairs R xs → (x y : X) → Contains xs x → Contains xs y → (x ≡ y) ⊎ (R x y ⊎ R y x)
@@ -83,3 +76,7 @@ pairs_map R f [] r = pairs_none R
 pairs_map R f (x ∷ xs) r =
     pairs_cons R (f x) (map f xs) (pairs_map R f xs (pairs_tail (λ a b. R (f a) (f b)) x xs r)) (λ y h.
     (let found = mapped_from f xs y h in subst (λ w. R (f x) w) found.2 (pairs_head (λ a b. R (f a) (f b)) x xs r found.0 found.1)))
+
+-- a relation that follows from another one for the items of a list
+pub pairs_weaken : {X : Type 0} (R S : X → X → Type 0) (xs : List X) → AllPairs R xs → ((x y : X) → Contains xs x → Contains xs y → R x y → S x y) → AllPairs S xs
+pairs_weaken R S xs r to i j d i_j j_in = to _ _ (Contains-get_or xs i d (omega arith)) (Contains-get_or xs j d j_in) (r i j d i_j j_in)

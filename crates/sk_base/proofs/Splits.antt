@@ -1,7 +1,9 @@
 -- Lists in front of a place, from it on, and one behind the other.
-use Rattle.std.proofs.Common.{◌≡◌, ◌⊎◌, ◌∙◌, inl, inr, ap, refl, ℕ, zero, suc, ◌+◌, ◌<◌, ◌≤◌, List, [], ◌∷◌, ◌++◌, length, get_or, subst, sym, take, drop, arith}
-use Rattle.std.specs.Prelude.{Contains, AllPairs, insert, ◌↔◌}
+use Rattle.std.proofs.Common.{◌≡◌, ◌⊎◌, ◌∙◌, inl, inr, ap, refl, ℕ, zero, suc, ◌+◌, ◌-◌, ◌<◌, ◌≤◌, List, [], ◌∷◌, ◌++◌, length, length-append, get_or, subst, sym, take, drop, arith}
+use Rattle.std.specs.Prelude.{Contains, AllPairs, Some, insert, slice_get, ◌↔◌}
 use Rattle.std.proofs.lemmas.List.{take-append-drop, length-take, length-drop, get_or-take, get_or-drop}
+use Rattle.std.proofs.lemmas.Option.{slice_get-get_or}
+use Rattle.std.proofs.Math.Seq.{get_or-append_seam}
 use Rattle.std.proofs.lemmas.List.Elements.{Contains-append_cases, Contains-append_left, Contains-append_right}
 use Rattle.sk_base.proofs.Members.{contains_none, contains_head, contains_later, contains_cases}
 use Rattle.sk_base.proofs.Pairs.{pairs_none, pairs_tail, pairs_head, pairs_cons}
@@ -85,3 +87,10 @@ last_or_none {X} (x ∷ xs) =
       | inl none ↦ inr ([], x, ap (λ (ys : List X). x ∷ ys) none)
       | inr (before, last, is) ↦ inr (x ∷ before, last, ap (λ (ys : List X). x ∷ ys) is)
     ]
+
+-- what was pushed stands at the last place
+pub last_pushed : {X : Type 0} (xs : List X) (x : X) → slice_get (xs ++ x ∷ []) (length (xs ++ x ∷ []) - 1) ≡ Some x
+last_pushed xs x =
+    let long : length (xs ++ x ∷ []) ≡ length xs + 1 = length-append xs (x ∷ []) in
+    let at : length (xs ++ x ∷ []) - 1 ≡ length xs = omega (arith, long) in
+    ap (λ n. slice_get (xs ++ x ∷ []) n) at ∙ slice_get-get_or (xs ++ x ∷ []) (length xs) x (omega (arith, long)) ∙ ap Some (get_or-append_seam xs x [] x)

@@ -1,27 +1,35 @@
 -- What a union holds, that it rises, and that rising lists with the same items are the same.
-use Rattle.std.proofs.Common.{◌≡◌, ◌≢◌, ◌⊎◌, inl, inr, ℕ, zero, suc, ◌+◌, ◌<◌, ◌≤◌, List, [], ◌∷◌, ◌++◌, length, get_or, refl, ap, sym, subst, ◌∙◌, arith}
-use Rattle.std.specs.Prelude.{Contains}
-use Rattle.std.proofs.lemmas.List.Elements.{Contains-get_or}
+use Rattle.std.proofs.Common.{◌≡◌, ◌≢◌, ◌⊎◌, inl, inr, ℕ, zero, suc, ◌+◌, ◌<◌, ◌≤◌, List, [], ◌∷◌, ◌++◌, length, get_or, ap, sym, subst, ◌∙◌, arith}
+use Rattle.std.specs.Prelude.{Contains, AllPairs}
 use Rattle.std.proofs.lemmas.Bool.Decides.{nat_tests}
 use Rattle.sk_base.specs.Rising.{IsRising, put, union}
 use Rattle.sk_base.proofs.Members.{contains_none, contains_head, contains_later, contains_cases}
+use Rattle.sk_base.proofs.Pairs.{pairs_none, pairs_tail, pairs_head, pairs_cons, pairs_same}
 use Rattle.std.proofs.Common.{take, drop, append_assoc, add-one, drop-cons, ◌-◌}
 use Rattle.std.proofs.lemmas.List.{drop_all, take_all, append-nil, length-drop}
 
 module _ {X : Type 0} (number : X → ℕ) where
   pub rising_none : IsRising number []
-  rising_none i j d i_j j_len = absurd (omega arith)
+  rising_none = pairs_none (λ x y. number x < number y)
 
   pub rising_tail : (x : X) (xs : List X) → IsRising number (x ∷ xs) → IsRising number xs
-  rising_tail x xs r i j d i_j j_len = r (suc i) (suc j) d (omega arith) (omega arith)
+  rising_tail = pairs_tail (λ x y. number x < number y)
 
   pub rising_below : (x : X) (xs : List X) → IsRising number (x ∷ xs) → (y : X) → Contains xs y → number x < number y
-  rising_below x xs r y (k, below, is) = subst (λ z. number x < number z) is (r 0 (suc k) y (omega arith) (omega arith))
+  rising_below = pairs_head (λ x y. number x < number y)
 
   pub rising_cons : (x : X) (xs : List X) → IsRising number xs → ((y : X) → Contains xs y → number x < number y) → IsRising number (x ∷ xs)
-  rising_cons x xs r below i zero d i_j j_len = absurd (omega arith)
-  rising_cons x xs r below zero (suc j) d i_j j_len = below (get_or xs j d) (Contains-get_or xs j d (omega arith))
-  rising_cons x xs r below (suc i) (suc j) d i_j j_len = r i j d (omega arith) (omega arith)
+  rising_cons = pairs_cons (λ x y. number x < number y)
+
+  pub rising_one : (x : X) → IsRising number (x ∷ [])
+  rising_one x = rising_cons x [] rising_none (λ y h. absurd (contains_none y h))
+
+  pub rising_differ : (xs : List X) → IsRising number xs → AllPairs (λ (x y : X). x ≢ y) xs
+  rising_differ xs r i j d i_j j_in same = (let less = r i j d i_j j_in in let level = ap number same in absurd (omega arith))
+
+  -- rising lists with the same items are the same
+  pub rising_same : (xs ys : List X) → IsRising number xs → IsRising number ys → ((z : X) → Contains xs z → Contains ys z) → ((z : X) → Contains ys z → Contains xs z) → xs ≡ ys
+  rising_same = pairs_same (λ x y. number x < number y) (λ x h. absurd (omega arith)) (λ x y h g. absurd (omega arith))
 
   -- no two items of a rising list have the same number
   pub rising_apart : (xs : List X) → IsRising number xs → (x y : X) → Contains xs x → Contains xs y → number x ≡ number y → x ≡ y
@@ -170,42 +178,11 @@ module _ {X : Type 0} (number : X → ℕ) (exact : (x y : X) → number x ≡ n
         | inr rest ↦ contains_put_other number x (union number xs ys) z (union_left xs ys z rest)
       ]
 
-  -- rising lists with the same items are the same
-  pub rising_same : (xs ys : List X) → IsRising number xs → IsRising number ys → ((z : X) → Contains xs z → Contains ys z) → ((z : X) → Contains ys z → Contains xs z) → xs ≡ ys
-  rising_same [] [] r s to from = refl
-  rising_same [] (y ∷ ys) r s to from = absurd (contains_none y (from y (contains_head y ys)))
-  rising_same (x ∷ xs) [] r s to from = absurd (contains_none x (to x (contains_head x xs)))
-  rising_same (x ∷ xs) (y ∷ ys) r s to from =
-      let same : x ≡ y = heads x xs y ys r s (to x (contains_head x xs)) (from y (contains_head y ys)) in
-      let rest : xs ≡ ys = rising_same xs ys (rising_tail number x xs r) (rising_tail number y ys s)
-      (λ z h. tail_of x xs y ys r same (to z (contains_later x xs z h)) h)
-      (λ z h. tail_of y ys x xs s (sym same) (from z (contains_later y ys z h)) h) in
-      cc
-    where
-      heads : (x : X) (xs : List X) (y : X) (ys : List X) → IsRising number (x ∷ xs) → IsRising number (y ∷ ys) → Contains (y ∷ ys) x → Contains (x ∷ xs) y → x ≡ y
-      heads x xs y ys r s x_in y_in =
-          elim (contains_cases y ys x x_in) [
-            | inl here ↦ sym here
-            | inr above ↦ elim (contains_cases x xs y y_in) [
-              | inl here ↦ here
-              | inr below ↦ (let one : number y < number x = rising_below number y ys s x above in
-                  let other : number x < number y = rising_below number x xs r y below in absurd (omega arith))
-            ]
-          ]
-
-      tail_of : (x : X) (xs : List X) (y : X) (ys : List X) → IsRising number (x ∷ xs) → x ≡ y → {z : X} → Contains (y ∷ ys) z → Contains xs z → Contains ys z
-      tail_of x xs y ys r same {z} h among =
-          elim (contains_cases y ys z h) [
-            | inl here ↦ (let above : number x < number z = rising_below number x xs r z among in
-                let level : number x ≡ number z = ap number (same ∙ here) in absurd (omega arith))
-            | inr rest ↦ rest
-          ]
-
 module _ {X : Type 0} (number : X → ℕ) (exact : (x y : X) → number x ≡ number y → x ≡ y) where
   -- a rising list that has what is in either is the union
   pub union_is : (xs ys all : List X) → IsRising number ys → IsRising number all → ((z : X) → Contains xs z → Contains all z) → ((z : X) → Contains ys z → Contains all z) → ((z : X) → Contains all z → Contains xs z ⊎ Contains ys z) → union number xs ys ≡ all
   union_is xs ys all ys_rise all_rises left right from =
-      rising_same number exact (union number xs ys) all (rising_union number xs ys ys_rise) all_rises
+      rising_same number (union number xs ys) all (rising_union number xs ys ys_rise) all_rises
       (λ z h. elim (union_cases number xs ys z h) [ inl l ↦ left z l | inr r ↦ right z r ])
       (λ z h. elim (from z h) [ inl l ↦ union_left number exact xs ys z l | inr r ↦ union_right number xs ys z r ])
 

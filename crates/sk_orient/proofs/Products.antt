@@ -1,27 +1,11 @@
--- Bounds of products, and of what is made of them.
-use Rattle.std.proofs.Common.{ℕ, ◌*◌, ◌≤◌, ◌<◌, ◌^◌, ℤ, ◌*ℤ◌, unsigned_abs, FitsSigned, arith}
-use Rattle.std.proofs.lemmas.Int.{ints, unsigned_abs-mul, fits_signed_from_abs}
-use Rattle.std.proofs.lemmas.Nat.{mul-le}
-use Rattle.std.specs.Int.{w128}
+-- Bounds of what is made of products of two vectors' parts.
+use Rattle.std.proofs.Common.{ℕ, ◌*◌, arith}
+use Rattle.std.proofs.lemmas.Int.{ints}
 use Rattle.sk_base.specs.declared.measure.Ratio.{Ratio}
 use Rattle.sk_base.specs.Bounds.{IsWithin}
+use Rattle.sk_base.proofs.Magnitudes.{product_within}
 use Rattle.sk_orient.specs.declared.vector.Vector.{Vector}
 use Rattle.sk_orient.specs.Vectors.{IsShort, IsSmall, way, cross, dot, rotation}
-
-abs_of_within : (most : ℕ) (z : ℤ) → IsWithin most z → unsigned_abs z ≤ most
-abs_of_within most z within = omega (arith, ints, within.0, within.1)
-
-within_of_abs : (most : ℕ) (z : ℤ) → unsigned_abs z ≤ most → IsWithin most z
-within_of_abs most z few = (omega (arith, ints), omega (arith, ints))
-
-pub product_within : (m n : ℕ) (a b : ℤ) → IsWithin m a → IsWithin n b → IsWithin (m * n) (a *ℤ b)
-product_within m n a b first second =
-    within_of_abs (m * n) (a *ℤ b) (rw unsigned_abs-mul (mul-le _ _ m n (abs_of_within m a first) (abs_of_within n b second)))
-
--- so much is within 128 bits
-pub fits : (most : ℕ) (z : ℤ) → IsWithin most z → most < 2 ^ 127 → FitsSigned w128 z
-fits most z within few =
-    fits_signed_from_abs w128 z (let size = abs_of_within most z within in omega (arith, size, few))
 
 pub way_short : (most : ℕ) (from to : Vector) → IsShort most from → IsShort most to → IsShort (2 * most) (way from to)
 way_short most from to first second = (

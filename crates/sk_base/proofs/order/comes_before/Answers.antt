@@ -1,14 +1,9 @@
-use Rattle.std.proofs.Common.{◌≡◌, ◌∙◌, refl, sym, ap, true, false, Bool}
+use Rattle.std.proofs.Common.{◌∙◌, refl, sym, ap}
 use Rattle.std.specs.Ordering.{is_lt}
 use Rattle.sk_base.specs.ElementOrder.{comes_before}
+use Rattle.sk_base.proofs.Filters.{same_tests}
 use Rattle.sk_base.proofs.ListOrder.{less_is_before, before_is_less, lt_is_less, computed_before, before_computed}
 use Rattle.sk_base.proofs.order.comes_before.Goals as goal
-
--- two tests that hold together are the same
-together : (a b : Bool) → (a ≡ true → b ≡ true) → (b ≡ true → a ≡ true) → a ≡ b
-together true b to from = sym (to refl)
-together false true to from = from refl
-together false false to from = refl
 
 pub returns-clause-decides : goal.returns-clause-decides
 returns-clause-decides c = (
@@ -19,4 +14,4 @@ returns-clause-decides c = (
 pub returns-clause-computed : goal.returns-clause-computed
 returns-clause-computed c =
     let tells = returns-clause-decides c in
-    together c.is_lt.result (comes_before c.args.xs.now c.args.ys.now) (λ t. before_computed c.args.xs.now c.args.ys.now (tells.0 t)) (λ t. tells.1 (computed_before c.args.xs.now c.args.ys.now t))
+    same_tests c.is_lt.result (comes_before c.args.xs.now c.args.ys.now) (λ t. before_computed c.args.xs.now c.args.ys.now (tells.0 t)) (λ t. tells.1 (computed_before c.args.xs.now c.args.ys.now t))

@@ -2,7 +2,8 @@ use Rattle.std.proofs.Common.{◌*ℤ◌, FitsSigned, arith, to_z-of_z}
 use Rattle.std.proofs.lemmas.Int.{ints}
 use Rattle.std.specs.Int.{w128}
 use Rattle.sk_orient.specs.Vectors.{cross}
-use Rattle.sk_orient.proofs.Products.{product_within, cross_within, fits}
+use Rattle.sk_base.proofs.Magnitudes.{product_within, fits}
+use Rattle.sk_orient.proofs.Products.{cross_within}
 use Rattle.sk_orient.proofs.vector.cross.Goals as goal
 
 pub overflow_sub-result : goal.overflow_sub-result

@@ -2,7 +2,8 @@ use Rattle.std.proofs.Common.{◌*ℤ◌, FitsSigned, arith, to_z-of_z}
 use Rattle.std.proofs.lemmas.Int.{ints}
 use Rattle.std.specs.Int.{w128}
 use Rattle.sk_orient.specs.Vectors.{dot}
-use Rattle.sk_orient.proofs.Products.{product_within, dot_within, fits}
+use Rattle.sk_base.proofs.Magnitudes.{product_within, fits}
+use Rattle.sk_orient.proofs.Products.{dot_within}
 use Rattle.sk_orient.proofs.vector.dot.Goals as goal
 
 pub overflow_add-result : goal.overflow_add-result
