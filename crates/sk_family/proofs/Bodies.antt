@@ -1,5 +1,5 @@
 -- Bodies inside one another, and what joining two makes.
-use Rattle.std.proofs.Common.{◌≡◌, ◌⊎◌, inl, inr, List, [], ◌∷◌, ap, subst, ◌∙◌}
+use Rattle.std.proofs.Common.{◌≡◌, ◌⊎◌, inl, inr, refl, ℕ, List, [], ◌∷◌, ap, subst, ◌∙◌}
 use Rattle.std.specs.Prelude.{Contains, fold}
 use Rattle.sk_base.specs.declared.Elem.{Elem}
 use Rattle.sk_base.specs.declared.ConId.{ConId}
@@ -8,6 +8,7 @@ use Rattle.sk_family.specs.Body.{Body, IsRisingBody, join, join_all, nothing}
 use Rattle.sk_base.proofs.Members.{contains_none, contains_head, contains_later, contains_cases, Settles, list_settles}
 use Rattle.sk_base.proofs.Deciding.{elem_settles, con_settles}
 use Rattle.sk_base.proofs.Unions.{rising_none, rising_union, rising_same, union_left, union_right, union_cases}
+use Rattle.sk_base.specs.Rising.{union}
 
 pub same_body : (x y : Body) → x.elements ≡ y.elements → x.owned ≡ y.owned → x ≡ y
 same_body x y elements owned =
@@ -64,8 +65,8 @@ rising_join a b r = record {
 pub same_within : (a b : Body) → IsRisingBody a → IsRisingBody b → Within a b → Within b a → a ≡ b
 same_within a b r s p q =
     same_body a b
-    (rising_same elem_number elem_exact a.elements b.elements r.elements s.elements p.elements q.elements)
-    (rising_same con_number con_exact a.owned b.owned r.owned s.owned p.owned q.owned)
+    (rising_same elem_number a.elements b.elements r.elements s.elements p.elements q.elements)
+    (rising_same con_number a.owned b.owned r.owned s.owned p.owned q.owned)
 
 -- what is made so far lies in the whole
 so_far_within : (made : Body) (bodies : List Body) → Within made (fold join made bodies)
@@ -85,27 +86,24 @@ whole_within_from made [] made_in each = made_in
 whole_within_from made (b ∷ bs) made_in each =
     whole_within_from (join made b) bs (join_within made b made_in (each b (contains_head b bs))) (λ x h. each x (contains_later b bs x h))
 
-owned_from : (made : Body) (bodies : List Body) (k : ConId) → Contains (fold join made bodies).owned k → Contains made.owned k ⊎ ((x : Body) × Contains bodies x × Contains x.owned k)
-owned_from made [] k h = inl h
-owned_from made (b ∷ bs) k h =
-    elim (owned_from (join made b) bs k h) [
-      | inl made_now ↦ elim (union_cases con_number made.owned b.owned k made_now) [
-        | inl before ↦ inl before
-        | inr here ↦ inr (b, contains_head b bs, here)
+-- what joined bodies have, one of them has: its elements, or what it owns
+module _ {X : Type 0} (number : X → ℕ) (part : Body → List X) (joins : (a b : Body) → part (join a b) ≡ union number (part a) (part b)) where
+  part_from : (made : Body) (bodies : List Body) (k : X) → Contains (part (fold join made bodies)) k → Contains (part made) k ⊎ ((x : Body) × Contains bodies x × Contains (part x) k)
+  part_from made [] k h = inl h
+  part_from made (b ∷ bs) k h =
+      elim (part_from (join made b) bs k h) [
+        | inl made_now ↦ elim (union_cases number (part made) (part b) k (subst (λ ks. Contains ks k) (joins made b) made_now)) [
+          | inl before ↦ inl before
+          | inr here ↦ inr (b, contains_head b bs, here)
+        ]
+        | inr later ↦ inr (later.0, contains_later b bs later.0 later.1, later.2)
       ]
-      | inr later ↦ inr (later.0, contains_later b bs later.0 later.1, later.2)
-    ]
+
+owned_from : (made : Body) (bodies : List Body) (k : ConId) → Contains (fold join made bodies).owned k → Contains made.owned k ⊎ ((x : Body) × Contains bodies x × Contains x.owned k)
+owned_from = part_from con_number (λ (x : Body). x.owned) (λ a b. refl)
 
 held_from : (made : Body) (bodies : List Body) (e : Elem) → Contains (fold join made bodies).elements e → Contains made.elements e ⊎ ((x : Body) × Contains bodies x × Contains x.elements e)
-held_from made [] e h = inl h
-held_from made (b ∷ bs) e h =
-    elim (held_from (join made b) bs e h) [
-      | inl made_now ↦ elim (union_cases elem_number made.elements b.elements e made_now) [
-        | inl before ↦ inl before
-        | inr here ↦ inr (b, contains_head b bs, here)
-      ]
-      | inr later ↦ inr (later.0, contains_later b bs later.0 later.1, later.2)
-    ]
+held_from = part_from elem_number (λ (x : Body). x.elements) (λ a b. refl)
 
 rising_from : (made : Body) (bodies : List Body) → IsRisingBody made → ((x : Body) → Contains bodies x → IsRisingBody x) → IsRisingBody (fold join made bodies)
 rising_from made [] r each = r

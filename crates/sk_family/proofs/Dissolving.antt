@@ -4,7 +4,7 @@ use Rattle.std.specs.Prelude.{Contains, AllPairs, not, filter}
 use Rattle.std.specs.List.Sorted.{IsPermutation}
 use Rattle.std.proofs.lemmas.List.{length-map}
 use Rattle.std.proofs.lemmas.List.Filters.{length-filter_both}
-use Rattle.std.proofs.lemmas.List.Elements.{Contains-get_or, Contains-append_left, Contains-append_right, Contains-append_cases}
+use Rattle.std.proofs.lemmas.List.Elements.{Contains-append_left, Contains-append_right, Contains-append_cases}
 use Rattle.std.proofs.lemmas.List.Sorted.{Contains-permutation, IsPermutation-sym, length_permutation}
 use Rattle.std.proofs.lemmas.Bool.Decides.{nat_tests}
 use Rattle.sk_base.specs.declared.Name.{Name}
@@ -14,9 +14,9 @@ use Rattle.sk_base.specs.declared.Graph.{Graph}
 use Rattle.sk_base.specs.SoundGraph.{HasRisingEdges}
 use Rattle.sk_base.specs.ClusterNames.{is_named}
 use Rattle.sk_base.specs.Numbering.{con_number, con_exact}
-use Rattle.sk_base.proofs.Members.{contains_one, contains_head, mapped_from, contains_mapped, contains_filtered, filtered_from}
+use Rattle.sk_base.proofs.Members.{contains_one, contains_head, mapped_from, contains_mapped, contains_filtered, filtered_from, contains_some}
 use Rattle.sk_base.proofs.Numbers.{other_passes, passes_differ}
-use Rattle.sk_base.proofs.Pairs.{pairs_filter, pairs_map}
+use Rattle.sk_base.proofs.Pairs.{pairs_filter, pairs_map, pairs_weaken}
 use Rattle.sk_family.specs.declared.cluster.Cluster.{Cluster}
 use Rattle.sk_family.specs.Clusters.{Clusters, start_of, named, unnamed, IsNamed, IsSound}
 use Rattle.sk_family.specs.Starting.{start_with, starts_but}
@@ -24,7 +24,6 @@ use Rattle.sk_family.specs.Starts.{IsOther, IsDissolved}
 use Rattle.sk_family.specs.Body.{Start, starts}
 use Rattle.sk_family.proofs.GraphStarts.{start_at, found_start, elements_rise}
 use Rattle.sk_family.proofs.Naming.{ByName, below_differs, among_named, named_among}
-use Rattle.sk_family.proofs.Soundness.{contains_some}
 use Rattle.sk_family.proofs.Sorting.{HaveOtherNames}
 use Rattle.sk_base.proofs.Splits.{pairs_append}
 use Rattle.sk_family.proofs.Starting.{sound_with_starts}
@@ -32,10 +31,6 @@ use Rattle.sk_family.proofs.Starting.{sound_with_starts}
 not_is_false : (t : Bool) → t ≢ true → not t ≡ true
 not_is_false true never = absurd (never refl)
 not_is_false false never = refl
-
--- a relation that follows from another one for the items of a list
-pub pairs_with : {X : Type 0} (R S : X → X → Type 0) (xs : List X) → AllPairs R xs → ((x y : X) → Contains xs x → Contains xs y → R x y → S x y) → AllPairs S xs
-pairs_with R S xs r to i j d i_j j_in = to _ _ (Contains-get_or xs i d (omega arith)) (Contains-get_or xs j d j_in) (r i j d i_j j_in)
 
 module _ (g : Graph) (rises : HasRisingEdges g) (f : Clusters) (sound : IsSound f) (n : Name) (k : ConId) (owner : Cluster) (is_owner : IsNamed f n owner)
     (owns : Contains owner.owned k) (others : (j : ConId) → Contains owner.owned j → j ≢ k → (d : Start) × Contains (starts g) d × (d.number ≡ j)) where
@@ -91,7 +86,7 @@ module _ (g : Graph) (rises : HasRisingEdges g) (f : Clusters) (sound : IsSound 
   starts_differ : AllPairs HaveOtherNames fresh
   starts_differ =
       pairs_map HaveOtherNames (λ j. start_of (start_with g j)) numbers
-      (pairs_with (λ (i j : ConId). i.0 < j.0) (λ i j. HaveOtherNames (start_of (start_with g i)) (start_of (start_with g j))) numbers
+      (pairs_weaken (λ (i j : ConId). i.0 < j.0) (λ i j. HaveOtherNames (start_of (start_with g i)) (start_of (start_with g j))) numbers
       (pairs_filter (λ (i j : ConId). i.0 < j.0) (λ (i : ConId). not (i.0 == k.0)) owner.owned (sound.bodies_rise owner is_owner.lives).owned)
       (λ i j i_in j_in less same. (
       let i_id : (start_with g i).number.0 ≡ i.0 = ap con_number (other_with i i_in).1 in
@@ -103,7 +98,7 @@ module _ (g : Graph) (rises : HasRisingEdges g) (f : Clusters) (sound : IsSound 
   all_differ =
       pairs_filter HaveOtherNames (λ (c : Cluster). not (is_named (n ∷ []) c.name)) (fresh ++ f.live)
       (pairs_append HaveOtherNames fresh f.live starts_differ
-      (pairs_with ByName HaveOtherNames f.live sound.names_rise (λ a b a_in b_in below. below_differs a.name b.name below))
+      (pairs_weaken ByName HaveOtherNames f.live sound.names_rise (λ a b a_in b_in below. below_differs a.name b.name below))
       (λ a b a_in b_in same. (
       let d = start_from a a_in in
       name_is_free d.0 d.1 b b_in (sym (ap (λ (c : Cluster). c.name) d.2 ∙ same)))))

@@ -1,6 +1,6 @@
 -- What the constraints of a graph start with.
 use Rattle.std.proofs.Common.{◌≡◌, ◌≢◌, inl, inr, ℕ, suc, ◌+◌, ◌-◌, ◌<◌, ◌≤◌, ◌==◌, get_or, drop, drop-cons, refl, true, false, List, [], ◌∷◌, ◌++◌, length, ap, sym, subst, ◌∙◌, arith, length-append}
-use Rattle.std.specs.Prelude.{Contains, AllPairs, None, Some, map, unwrap_or}
+use Rattle.std.specs.Prelude.{Contains, None, Some, map, unwrap_or}
 use Rattle.std.proofs.lemmas.Bool.Decides.{nat_tests}
 use Rattle.std.proofs.lemmas.List.{length-map, drop_all}
 use Rattle.std.proofs.lemmas.List.Elements.{Contains-append_left, Contains-append_right, Contains-append_cases}
@@ -20,7 +20,7 @@ use Rattle.sk_base.proofs.Finding.{found_in, none_found, found_rising}
 use Rattle.sk_base.proofs.Members.{contains_none, mapped_from, contains_mapped}
 use Rattle.sk_base.proofs.Pairs.{pairs_map}
 use Rattle.sk_base.proofs.Splits.{pairs_append}
-use Rattle.sk_base.proofs.Unions.{rising_none, rising_union, rising_apart, union_left, union_right, union_cases, union_of_apart}
+use Rattle.sk_base.proofs.Unions.{rising_none, rising_union, rising_apart, union_left, union_right, union_cases, union_of_apart, rising_differ}
 use Rattle.sk_family.specs.Body.{Start, start_number, edge_start, block_start, starts}
 use Rattle.sk_family.specs.Starting.{any_start, start_with}
 use Rattle.sk_family.specs.Starts.{IsStartOf}
@@ -93,17 +93,14 @@ module _ (g : Graph) where
       let blocks : length (map block_start g.blocks) ≡ length g.blocks = rw length-map in
       omega arith
 
-differ_by_number : (ss : List Start) → IsRising start_number ss → AllPairs (λ (s t : Start). s ≢ t) ss
-differ_by_number ss rise i j d i_j j_in same = (let less = rise i j d i_j j_in in let level = ap start_number same in absurd (omega arith))
-
 -- of a sound graph as many start as there are constraints and blocks
 pub starts_many : (g : Graph) → IsSoundGraph g → length (starts g) ≡ length g.edges + length g.blocks
 starts_many g sound =
     let few = starts_few g sound.edges_rise in
     let all = no_longer (map edge_start g.edges ++ map block_start g.blocks) (starts g)
     (pairs_append (λ (s t : Start). s ≢ t) (map edge_start g.edges) (map block_start g.blocks)
-    (differ_by_number (map edge_start g.edges) (pairs_map (λ (s t : Start). start_number s < start_number t) edge_start g.edges sound.edges_rise))
-    (differ_by_number (map block_start g.blocks) (pairs_map (λ (s t : Start). start_number s < start_number t) block_start g.blocks sound.blocks_rise))
+    (rising_differ start_number (map edge_start g.edges) (pairs_map (λ (s t : Start). start_number s < start_number t) edge_start g.edges sound.edges_rise))
+    (rising_differ start_number (map block_start g.blocks) (pairs_map (λ (s t : Start). start_number s < start_number t) block_start g.blocks sound.blocks_rise))
     (λ s t s_in t_in same. (
     let edge = mapped_from edge_start g.edges s s_in in
     let block = mapped_from block_start g.blocks t t_in in

@@ -11,12 +11,11 @@ use Rattle.sk_base.specs.declared.Name.TheVariants.{Con}
 use Rattle.sk_base.specs.SoundGraph.{IsSoundGraph}
 use Rattle.sk_base.specs.Numbering.{con_exact}
 use Rattle.sk_base.proofs.Members.{contains_mapped, mapped_from}
-use Rattle.sk_base.proofs.Pairs.{pairs_map, pairs_same}
+use Rattle.sk_base.proofs.Pairs.{pairs_map, pairs_same, pairs_weaken}
 use Rattle.sk_base.proofs.Splits.{pairs_append}
 use Rattle.sk_family.specs.declared.cluster.Cluster.{Cluster}
 use Rattle.sk_family.specs.Body.{edge_start, block_start, starts}
 use Rattle.sk_family.specs.Clusters.{ByName, start_of}
-use Rattle.sk_family.proofs.Dissolving.{pairs_with}
 use Rattle.sk_family.proofs.GraphStarts.{starts_rise, start_comes, edge_starts, block_starts}
 use Rattle.sk_family.proofs.Naming.{below_differs, below_irreflexive, below_asymmetric}
 use Rattle.sk_family.proofs.Soundness.{con_inside}
@@ -33,7 +32,7 @@ abbrev pub made : Graph → List Cluster
 made g = map edge_cluster g.edges ++ map block_cluster g.blocks
 
 differ_by_name : (xs : List Cluster) → AllPairs ByName xs → AllPairs HaveOtherNames xs
-differ_by_name xs rise = pairs_with ByName HaveOtherNames xs rise (λ a b a_in b_in below. below_differs a.name b.name below)
+differ_by_name xs rise = pairs_weaken ByName HaveOtherNames xs rise (λ a b a_in b_in below. below_differs a.name b.name below)
 
 module _ (g : Graph) (sound : IsSoundGraph g) where
   pub made_differ : AllPairs HaveOtherNames (made g)

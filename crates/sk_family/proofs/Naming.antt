@@ -2,14 +2,15 @@
 use Rattle.std.proofs.Common.{◌≡◌, ◌≢◌, inl, inr, refl, ℕ, ◌<◌, Bool, true, false, List, [], ◌∷◌, ap, sym, subst, ◌∙◌, arith, length, get_or}
 use Rattle.std.specs.Prelude.{Contains, AllPairs, not, ◌||◌}
 use Rattle.std.proofs.lemmas.Bool.Decides.{nat_tests}
+use Rattle.std.proofs.lemmas.List.Elements.{Contains-get_or}
 use Rattle.sk_base.specs.declared.Name.{Name}
 use Rattle.sk_base.specs.declared.Name.TheVariants.{Con, Step}
 use Rattle.sk_base.specs.ClusterNames.{IsBelow, name_eq, is_named}
 use Rattle.sk_family.specs.declared.cluster.Cluster.{Cluster}
 use Rattle.sk_family.specs.Body.{Body}
-use Rattle.sk_family.specs.Clusters.{Clusters, body_of, named, IsNamed, IsSound}
+use Rattle.sk_family.specs.Clusters.{Clusters, bodies, body_of, named, IsNamed, IsSound}
 pub use Rattle.sk_family.specs.Clusters.{ByName}
-use Rattle.sk_base.proofs.Members.{contains_none, contains_head, contains_later, contains_cases, contains_filtered, filtered_from}
+use Rattle.sk_base.proofs.Members.{contains_none, contains_head, contains_later, contains_cases, contains_mapped, contains_filtered, filtered_from}
 use Rattle.sk_base.proofs.Pairs.{pairs_tell, pairs_same, pairs_filter}
 
 pub below_irreflexive : (n : Name) → ¬ IsBelow n n
@@ -78,6 +79,16 @@ module _ (f : Clusters) (sound : IsSound f) where
   one_of_body a b a_in b_in same =
       let own = sound.each_owns a a_in in
       sound.owned_apart a b own.0 a_in b_in own.1 (subst (λ (x : Body). Contains x.owned own.0) same own.1)
+
+  -- no two clusters have the same elements, where no two bodies have
+  pub elements_apart : ((x y : Body) → Contains (bodies f) x → Contains (bodies f) y → x.elements ≡ y.elements → x ≡ y) → AllPairs (λ (c d : Cluster). c.elements ≢ d.elements) f.live
+  elements_apart one i j z i_j j_in same =
+      let c = get_or f.live i z in
+      let d = get_or f.live j z in
+      let c_in : Contains f.live c = Contains-get_or f.live i z (omega arith) in
+      let d_in : Contains f.live d = Contains-get_or f.live j z j_in in
+      let is : c ≡ d = one_of_body c d c_in d_in (one (body_of c) (body_of d) (contains_mapped body_of f.live c c_in) (contains_mapped body_of f.live d d_in) same) in
+      below_differs c.name d.name (sound.names_rise i j z i_j j_in) (ap (λ (b : Cluster). b.name) is)
 
   -- the named clusters are these, where these stand in order and have just those names
   pub named_are : (names : List Name) (these : List Cluster) → ((i j : ℕ) (d : Cluster) → i < j → j < length these → ByName (get_or these i d) (get_or these j d))

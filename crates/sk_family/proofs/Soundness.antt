@@ -17,9 +17,9 @@ use Rattle.sk_family.specs.declared.cluster.Cluster.{Cluster}
 use Rattle.sk_family.specs.Body.{Body, Start, IsRisingBody, starting, starts}
 use Rattle.sk_family.specs.Clusters.{Clusters, body_of, start_of, initial_clusters, named, unnamed, made_of, whole_from, replaced, CanBeReplaced, IsSound, IsLive}
 use Rattle.sk_family.specs.Joining.{CanBeJoined}
-use Rattle.sk_base.proofs.Members.{contains_none, contains_head, contains_later, contains_one, mapped_from, contains_mapped, contains_filtered, filtered_from}
+use Rattle.sk_base.proofs.Members.{contains_none, contains_head, contains_later, contains_one, mapped_from, contains_mapped, contains_filtered, filtered_from, contains_some}
 use Rattle.sk_base.proofs.Pairs.{pairs_push, pairs_filter, pairs_map}
-use Rattle.sk_base.proofs.Unions.{rising_none, rising_cons, rising_apart}
+use Rattle.sk_base.proofs.Unions.{rising_apart, rising_one}
 use Rattle.sk_family.proofs.Bodies.{each_within, owner_of}
 use Rattle.sk_family.proofs.GraphStarts.{starts_rise, starts_few, elements_rise}
 use Rattle.sk_family.proofs.Naming.{named_among}
@@ -28,7 +28,7 @@ use Rattle.sk_family.proofs.Wholes.{made_rises}
 pub rising_starting : (e : Start) → IsRising elem_number e.elements → IsRisingBody (starting e)
 rising_starting e rises = record {
   elements = rises;
-  owned = rising_cons con_number e.number [] (rising_none con_number) (λ y h. absurd (contains_none y h));
+  owned = rising_one con_number e.number;
 }
 
 pub con_inside : (j k : ℕ) → Con j ≡ Con k → j ≡ k
@@ -68,9 +68,6 @@ two_in : {X : Type 0} (xs : List X) (a b : X) → a ≢ b → Contains xs a → 
 two_in [] a b differ a_in b_in = absurd (contains_none a a_in)
 two_in (x ∷ []) a b differ a_in b_in = absurd (differ (sym (contains_one x a a_in) ∙ contains_one x b b_in))
 two_in (x ∷ y ∷ rest) a b differ a_in b_in = omega arith
-
-pub contains_some : {X : Type 0} (xs : List X) (x : X) → Contains xs x → 0 < length xs
-contains_some xs x (k, below, is) = omega arith
 
 -- no live name is the next step's
 other_than_next : (next : ℕ) (n : Name) → ((k : ℕ) → n ≡ Step k → k < next) → name_eq n (Step next) ≡ false

@@ -12,10 +12,11 @@ use Rattle.sk_base.proofs.Members.{contains_head, contains_later, contains_one, 
 use Rattle.sk_base.proofs.Unions.{union_left, union_right, union_cases}
 use Rattle.sk_family.proofs.Bodies.{each_within, owner_of}
 use Rattle.sk_base.proofs.Sizes.{union_shares_one, union_shares_two}
+use Rattle.sk_base.proofs.Filters.{same_tests}
 use Rattle.sk_rules.specs.Reach.{CanMerge, Step, Reach, IsNormal}
-use Rattle.sk_rules.specs.Excess.{weight_of, is_owned, is_inside, held, HasInside, HasTwoEach, OwnsEnough}
+use Rattle.sk_rules.specs.Excess.{weight_of, weight_where, is_owned, is_inside, held, HasInside, HasTwoEach, OwnsEnough}
 use Rattle.sk_family.proofs.GraphStarts.{start_at}
-use Rattle.sk_rules.proofs.SummedWeights.{same_weight, same_tests, owned_found, found_owned, inside_found, found_inside, weighs_both, weighs_itself}
+use Rattle.sk_rules.proofs.SummedWeights.{same_weight, owned_found, found_owned, inside_found, found_inside, weighs_apart, weighs_itself}
 use Rattle.sk_rules.proofs.Families.{IsFamily, step_family, initial_family, kept_along}
 use Rattle.sk_rules.proofs.NormalForm.{reach_covers, one_of_two}
 
@@ -24,28 +25,32 @@ pub record IsTight (g : Graph) (f : List Body) : Type 0 where
   pub enough : (x : Body) → Contains f x → OwnsEnough g x
   pub inside : (x : Body) → Contains f x → (k : ConId) → Contains x.owned k → HasInside g x k
 
+-- the pieces that the body owns weigh enough for its elements
+abbrev pub HasEnough : List Start → Body → Type 0
+HasEnough ss x = 2 * length x.elements ≤ weight_where (is_owned x.owned) ss + 3
+
 module _ (f : List Body) (family : IsFamily f) where
   pub owned_apart : (a b : Body) → Contains f a → Contains f b → a ≢ b → (k : ConId) → Contains a.owned k → ¬ Contains b.owned k
   owned_apart a b a_in b_in differ k a_k b_k = differ (family.apart a b k a_in b_in a_k b_k)
 
-  -- the one that two or three make owns enough where each does
-  merged_enough : (g : Graph) (merged : List Body) → CanMerge g merged → ((x : Body) → Contains merged x → Contains f x) → ((x : Body) → Contains merged x → OwnsEnough g x) → OwnsEnough g (join_all merged)
+  -- the one that two or three make has enough where each has
+  pub merged_enough : (ss : List Start) (g : Graph) (merged : List Body) → CanMerge g merged → ((x : Body) → Contains merged x → Contains f x) → ((x : Body) → Contains merged x → HasEnough ss x) → HasEnough ss (join_all merged)
   unfolding union
-  merged_enough g [] can among each = absurd can
-  merged_enough g (a ∷ []) can among each = absurd can
-  merged_enough g (a ∷ b ∷ []) (differ, (p, q, pair)) among each =
+  merged_enough ss g [] can among each = absurd can
+  merged_enough ss g (a ∷ []) can among each = absurd can
+  merged_enough ss g (a ∷ b ∷ []) (differ, (p, q, pair)) among each =
       let a_in = among a (contains_head a (b ∷ [])) in
       let b_in = among b (contains_later a (b ∷ []) b (contains_head b [])) in
       let a_enough = each a (contains_head a (b ∷ [])) in
       let b_enough = each b (contains_later a (b ∷ []) b (contains_head b [])) in
       let size = union_shares_two elem_number elem_exact a.elements b.elements (family.rising b b_in).elements p q pair.differ pair.a_shared.0 pair.b_shared.0 pair.a_shared.1 pair.b_shared.1 in
-      let count = weighs_both g a.owned b.owned (owned_apart a b a_in b_in differ) in
-      enough_of_two (length a.elements) (length b.elements) (length (union elem_number a.elements b.elements)) (weight_of g a.owned) (weight_of g b.owned) (weight_of g (union con_number a.owned b.owned))
+      let count = weighs_apart ss a.owned b.owned (owned_apart a b a_in b_in differ) in
+      enough_of_two (length a.elements) (length b.elements) (length (union elem_number a.elements b.elements)) (weight_where (is_owned a.owned) ss) (weight_where (is_owned b.owned) ss) (weight_where (is_owned (union con_number a.owned b.owned)) ss)
       a_enough b_enough size count
     where
       enough_of_two : (na nb n oa ob o : ℕ) → 2 * na ≤ oa + 3 → 2 * nb ≤ ob + 3 → n + 2 ≤ na + nb → o ≡ oa + ob → 2 * n ≤ o + 3
       enough_of_two na nb n oa ob o ha hb size count = omega arith
-  merged_enough g (a ∷ b ∷ c ∷ []) (a_b, b_c, c_a, (p, q, r, t)) among each =
+  merged_enough ss g (a ∷ b ∷ c ∷ []) (a_b, b_c, c_a, (p, q, r, t)) among each =
       let b_at = contains_later a (b ∷ c ∷ []) b (contains_head b (c ∷ [])) in
       let c_at = contains_later a (b ∷ c ∷ []) c (contains_later b (c ∷ []) c (contains_head c [])) in
       let a_in = among a (contains_head a (b ∷ c ∷ [])) in
@@ -55,26 +60,26 @@ module _ (f : List Body) (family : IsFamily f) where
       let q_in = union_right elem_number a.elements b.elements q t.b_shared.0 in
       let r_in = union_left elem_number elem_exact a.elements b.elements r t.c_shared.1 in
       let second = union_shares_two elem_number elem_exact (union elem_number a.elements b.elements) c.elements (family.rising c c_in).elements q r t.differ.1 q_in r_in t.b_shared.1 t.c_shared.0 in
-      let count_one = weighs_both g a.owned b.owned (owned_apart a b a_in b_in a_b) in
-      let count_two = weighs_both g (union con_number a.owned b.owned) c.owned
+      let count_one = weighs_apart ss a.owned b.owned (owned_apart a b a_in b_in a_b) in
+      let count_two = weighs_apart ss (union con_number a.owned b.owned) c.owned
       (λ k h. elim (union_cases con_number a.owned b.owned k h) [
         | inl left ↦ owned_apart a c a_in c_in (λ e. c_a (sym e)) k left
         | inr right ↦ owned_apart b c b_in c_in b_c k right
       ]) in
       enough_of_three (length a.elements) (length b.elements) (length c.elements) (length (union elem_number a.elements b.elements))
       (length (union elem_number (union elem_number a.elements b.elements) c.elements))
-      (weight_of g a.owned) (weight_of g b.owned) (weight_of g c.owned) (weight_of g (union con_number a.owned b.owned)) (weight_of g (union con_number (union con_number a.owned b.owned) c.owned))
+      (weight_where (is_owned a.owned) ss) (weight_where (is_owned b.owned) ss) (weight_where (is_owned c.owned) ss) (weight_where (is_owned (union con_number a.owned b.owned)) ss) (weight_where (is_owned (union con_number (union con_number a.owned b.owned) c.owned)) ss)
       (each a (contains_head a (b ∷ c ∷ []))) (each b b_at) (each c c_at) first second count_one count_two
     where
       enough_of_three : (na nb nc nab n oa ob oc oab o : ℕ) → 2 * na ≤ oa + 3 → 2 * nb ≤ ob + 3 → 2 * nc ≤ oc + 3 → nab + 1 ≤ na + nb → n + 2 ≤ nab + nc → oab ≡ oa + ob → o ≡ oab + oc → 2 * n ≤ o + 3
       enough_of_three na nb nc nab n oa ob oc oab o ha hb hc h1 h2 h3 h4 = omega arith
-  merged_enough g (a ∷ b ∷ c ∷ d ∷ rest) can among each = absurd can
+  merged_enough ss g (a ∷ b ∷ c ∷ d ∷ rest) can among each = absurd can
 
 pub step_tight : (g : Graph) (old new : List Body) → Step g old new → IsTight g old → IsTight g new
 step_tight g old new m tight = record {
   family = step_family g old new m tight.family;
   enough = λ x x_in. elim ((m.replaces x).0 x_in) [
-    | inl is ↦ subst (λ z. OwnsEnough g z) (sym is) (merged_enough old tight.family g m.merged m.can_merge m.among (λ y h. tight.enough y (m.among y h)))
+    | inl is ↦ subst (λ z. OwnsEnough g z) (sym is) (merged_enough old tight.family (starts g) g m.merged m.can_merge m.among (λ y h. tight.enough y (m.among y h)))
     | inr stayed ↦ tight.enough x stayed.0
   ];
   inside = λ x x_in k x_k. elim ((m.replaces x).0 x_in) [

@@ -39,7 +39,7 @@ module _ (xs ys : List Elem) (xs_rise : IsRising elem_number xs) (ys_rise : IsRi
 
   same_union : union elem_number xs ys ≡ union elem_number others ys
   same_union =
-      rising_same elem_number elem_exact (union elem_number xs ys) (union elem_number others ys)
+      rising_same elem_number (union elem_number xs ys) (union elem_number others ys)
       (rising_union elem_number xs ys ys_rise) (rising_union elem_number others ys ys_rise)
       (λ e h. elim (union_cases elem_number xs ys e h) [
         | inl left ↦ in_others e left (is_elem ys e) refl

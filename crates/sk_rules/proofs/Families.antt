@@ -1,13 +1,13 @@
 -- What holds of every family that merging leads to.
-use Rattle.std.proofs.Common.{◌≡◌, inl, inr, ℕ, ◌<◌, List, [], ◌∷◌, ap, sym, subst, ◌∙◌, length, get_or}
+use Rattle.std.proofs.Common.{◌≡◌, inl, inr, List, [], ◌∷◌, ap, sym, subst, ◌∙◌}
 use Rattle.std.specs.Prelude.{Contains}
 use Rattle.sk_base.specs.declared.ConId.{ConId}
 use Rattle.sk_base.specs.declared.Graph.{Graph}
 use Rattle.sk_base.specs.SoundGraph.{HasRisingEdges}
 use Rattle.sk_family.specs.Body.{Body, starts, IsRisingBody, join_all, starting, initial_bodies}
 use Rattle.sk_base.specs.Numbering.{con_number}
-use Rattle.sk_base.proofs.Members.{contains_none, contains_head, contains_one, mapped_from}
-use Rattle.sk_base.proofs.Unions.{rising_none, rising_cons}
+use Rattle.sk_base.proofs.Members.{contains_head, contains_one, mapped_from}
+use Rattle.sk_base.proofs.Unions.{rising_one}
 use Rattle.sk_family.proofs.GraphStarts.{start_at, elements_rise}
 use Rattle.sk_family.proofs.Bodies.{each_within, owner_of, rising_whole}
 use Rattle.sk_rules.specs.Reach.{StepBy, ReachBy, Step, Reach, either_rule, stays, goes}
@@ -83,9 +83,6 @@ module _ (rule : List Body → List Body → Type 0) (some : NamesSome rule) (ol
 
 pub step_family : (g : Graph) (old new : List Body) → Step g old new → IsFamily old → IsFamily new
 step_family g = step_family_by (either_rule g) (some_merges g)
-
-rising_one : {X : Type 0} (number : X → ℕ) (x : X) → (i j : ℕ) (d : X) → i < j → j < length (x ∷ []) → number (get_or (x ∷ []) i d) < number (get_or (x ∷ []) j d)
-rising_one number x = rising_cons number x [] (rising_none number) (λ y h. absurd (contains_none y h))
 
 pub initial_family : (g : Graph) → HasRisingEdges g → IsFamily (initial_bodies g)
 initial_family g rises = record {

@@ -103,12 +103,13 @@ pub same_start : (d e : Start) → starting d ≡ starting e → d.number ≡ e.
 same_start d e same = contains_one d.number e.number (subst (λ (z : Body). Contains z.owned e.number) (sym same) (contains_head e.number []))
 
 -- one merge more
-reach_then : (g : Graph) (f mid new : List Body) → Reach g f mid → Step g mid new → Reach g f new
+pub reach_then : (g : Graph) (f mid new : List Body) → Reach g f mid → Step g mid new → Reach g f new
 reach_then g f mid new stays one = goes one stays
 reach_then g f mid new (goes {mid = next} first rest) one = goes first (reach_then g next mid new rest one)
 
-step_same : (g : Graph) (m f new : List Body) → SameBodies m f → Step g f new → Step g m new
-step_same g m f new same one = record {
+-- a step from a family with the same bodies
+step_from_same : (g : Graph) (m f new : List Body) → SameBodies m f → Step g f new → Step g m new
+step_from_same g m f new same one = record {
   merged = one.merged;
   can_merge = one.can_merge;
   among = λ x h. (same x).1 (one.among x h);
@@ -121,7 +122,7 @@ step_same g m f new same one = record {
 pub reached_then : (g : Graph) (f new : List Body) → IsReached g f → Step g f new → IsReached g new
 reached_then g f new r one = record {
   reached_as = new;
-  reach = reach_then g (initial_bodies g) r.reached_as new r.reach (step_same g r.reached_as f new r.same one);
+  reach = reach_then g (initial_bodies g) r.reached_as new r.reach (step_from_same g r.reached_as f new r.same one);
   same = λ x. ((λ h. h), (λ h. h));
 }
 

@@ -1,7 +1,7 @@
 -- All normal families of a graph are the same, by containment: where each body of a family lies in
 -- one of a closed family, it does after a merge too. That is proved for every rule by which what may
 -- merge in a family lies in one body of each closed family around it.
-use Rattle.std.proofs.Common.{◌≡◌, ◌⊎◌, inl, inr, List, [], ◌∷◌, refl, sym, subst, ◌∙◌}
+use Rattle.std.proofs.Common.{◌≡◌, ◌≢◌, ◌⊎◌, inl, inr, List, [], ◌∷◌, refl, sym, subst, ◌∙◌}
 use Rattle.std.specs.Prelude.{Contains}
 use Rattle.sk_base.specs.declared.Elem.{Elem}
 use Rattle.sk_base.specs.declared.Graph.{Graph}
@@ -62,6 +62,19 @@ module _ (g : Graph) (n : List Body) (closed : IsClosed g n) where
   pub one_of_two : (a b : Body) → Contains n a → Contains n b → SharesTwo a.elements b.elements → a ≡ b
   one_of_two a b a_in b_in shares =
       elim (body_settles a b) [ inl same ↦ same | inr other ↦ absurd (closed (a ∷ b ∷ []) (two_among n a b a_in b_in) (other, shares)) ]
+
+  -- no other one has the elements of one that has two
+  pub one_of_elements : (a b : Body) → Contains n a → Contains n b → (u : Elem) × (v : Elem) × (u ≢ v) × Contains a.elements u × Contains a.elements v → a.elements ≡ b.elements → a ≡ b
+  one_of_elements a b a_in b_in (u, v, differ, u_in, v_in) same =
+      one_of_two a b a_in b_in (
+        u,
+        v,
+        record {
+          differ = differ;
+          a_shared = (u_in, subst (λ es. Contains es u) same u_in);
+          b_shared = (v_in, subst (λ es. Contains es v) same v_in);
+        },
+      )
 
   -- and bodies that meet in three are one: where two of them are, they share two elements with the third
   one_of_three : (a b c : Body) → Contains n a → Contains n b → Contains n c → MeetsInThree g a.elements b.elements c.elements → (a ≡ b) × (b ≡ c)

@@ -1,8 +1,8 @@
 -- What constraints weigh together.
-use Rattle.std.proofs.Common.{◌≡◌, ◌⊎◌, inl, inr, refl, ℕ, ◌+◌, ◌≤◌, Bool, true, false, cond, List, [], ◌∷◌, ap, sym, subst, ◌∙◌, arith}
+use Rattle.std.proofs.Common.{◌≡◌, inl, inr, refl, ℕ, ◌+◌, ◌≤◌, Bool, true, false, cond, List, [], ◌∷◌, ap, sym, subst, ◌∙◌, arith}
 use Rattle.std.specs.Prelude.{Contains, filter, sum_by, ◌||◌}
 use Rattle.std.specs.List.{list_all}
-use Rattle.std.proofs.lemmas.Bool.{and_parts}
+use Rattle.std.proofs.lemmas.Bool.{and_parts, or_cases, or_left, or_right}
 use Rattle.std.proofs.lemmas.List.Sums.{sum_by-cons}
 use Rattle.sk_base.specs.declared.Elem.{Elem}
 use Rattle.sk_base.specs.declared.ConId.{ConId}
@@ -12,13 +12,9 @@ use Rattle.sk_base.specs.Rising.{union}
 use Rattle.sk_base.proofs.Members.{contains_none, contains_head, contains_later, contains_cases}
 use Rattle.sk_base.proofs.Numbers.{elem_found, found_elem, among_found, found_among}
 use Rattle.sk_base.proofs.Unions.{union_left, union_right, union_cases}
+use Rattle.sk_base.proofs.Filters.{same_tests}
 use Rattle.sk_family.specs.Body.{Start, starts}
 use Rattle.sk_rules.specs.Excess.{weight, weight_where, weight_of, is_inside, is_owned}
-
-pub same_tests : (a b : Bool) → (a ≡ true → b ≡ true) → (b ≡ true → a ≡ true) → a ≡ b
-same_tests true b to from = sym (to refl)
-same_tests false true to from = from refl
-same_tests false false to from = refl
 
 -- a constraint is owned just where its number is one of them
 pub owned_found : (owned : List ConId) (s : Start) → is_owned owned s ≡ true → Contains owned s.number
@@ -130,28 +126,20 @@ pub weighs_itself : (g : Graph) (s : Start) → Contains (starts g) s → weight
 weighs_itself g s s_in = weighs_at_least (is_owned (s.number ∷ [])) (starts g) s s_in (found_owned (s.number ∷ []) s (contains_head s.number []))
 
 -- what two own apart weighs as much as what each owns
-pub weighs_both : (g : Graph) (xs ys : List ConId) → ((k : ConId) → Contains xs k → ¬ Contains ys k) → weight_of g (union con_number xs ys) ≡ weight_of g xs + weight_of g ys
-weighs_both g xs ys apart =
-    weights_add (is_owned xs) (is_owned ys) (is_owned (union con_number xs ys)) (starts g)
+pub weighs_apart : (ss : List Start) (xs ys : List ConId) → ((k : ConId) → Contains xs k → ¬ Contains ys k)
+    → weight_where (is_owned (union con_number xs ys)) ss ≡ weight_where (is_owned xs) ss + weight_where (is_owned ys) ss
+weighs_apart ss xs ys apart =
+    weights_add (is_owned xs) (is_owned ys) (is_owned (union con_number xs ys)) ss
     (λ s s_in. same_tests (is_owned (union con_number xs ys) s) (is_owned xs s || is_owned ys s)
     (λ passes. elim (union_cases con_number xs ys s.number (owned_found (union con_number xs ys) s passes)) [
-      | inl left ↦ first_true (is_owned xs s) (is_owned ys s) (found_owned xs s left)
-      | inr right ↦ second_true (is_owned xs s) (is_owned ys s) (found_owned ys s right)
+      | inl left ↦ or_left (is_owned xs s) (is_owned ys s) (found_owned xs s left)
+      | inr right ↦ or_right (is_owned xs s) (is_owned ys s) (found_owned ys s right)
     ])
-    (λ passes. found_owned (union con_number xs ys) s (elim (one_true (is_owned xs s) (is_owned ys s) passes) [
+    (λ passes. found_owned (union con_number xs ys) s (elim (or_cases (is_owned xs s) (is_owned ys s) passes) [
       | inl left ↦ union_left con_number con_exact xs ys s.number (owned_found xs s left)
       | inr right ↦ union_right con_number xs ys s.number (owned_found ys s right)
     ])))
     (λ s s_in left right. apart s.number (owned_found xs s left) (owned_found ys s right))
-  where
-    first_true : (a b : Bool) → a ≡ true → (a || b) ≡ true
-    first_true true b h = refl
-    first_true false b h = absurd (cc)
 
-    second_true : (a b : Bool) → b ≡ true → (a || b) ≡ true
-    second_true true b h = refl
-    second_true false b h = h
-
-    one_true : (a b : Bool) → (a || b) ≡ true → (a ≡ true) ⊎ (b ≡ true)
-    one_true true b h = inl refl
-    one_true false b h = inr h
+pub weighs_both : (g : Graph) (xs ys : List ConId) → ((k : ConId) → Contains xs k → ¬ Contains ys k) → weight_of g (union con_number xs ys) ≡ weight_of g xs + weight_of g ys
+weighs_both g = weighs_apart (starts g)

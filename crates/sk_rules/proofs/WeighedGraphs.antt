@@ -20,14 +20,15 @@ use Rattle.sk_base.proofs.Members.{contains_none, contains_head, contains_later,
 use Rattle.sk_base.proofs.Numbers.{elem_found, found_elem}
 use Rattle.sk_base.proofs.Pairs.{pairs_head, pairs_tail, pairs_map}
 use Rattle.sk_base.proofs.Sizes.{union_apart}
-use Rattle.sk_base.proofs.Unions.{which, put_first, put_later, rising_none, rising_cons, rising_union, union_cases}
+use Rattle.sk_base.proofs.Unions.{which, put_first, put_later, rising_none, rising_union, union_cases, rising_one}
+use Rattle.sk_base.proofs.Filters.{same_tests}
 use Rattle.sk_family.specs.Body.{Body, Start, start_number, edge_start, block_start, starts, initial_bodies}
 use Rattle.sk_family.specs.Starting.{start_with}
 use Rattle.sk_family.proofs.GraphStarts.{among_start, from_start, both_ends, start_comes, starts_rise, found_start}
 use Rattle.sk_rules.specs.Reach.{Reach}
 use Rattle.sk_rules.specs.Excess.{weight, weight_where, weight_of, is_inside, is_owned, held, has_ends_in, has_pins_in, block_weight, HasTwoEach}
 use Rattle.sk_rules.proofs.Counting.{reached_tight}
-use Rattle.sk_rules.proofs.SummedWeights.{weighs_one, weighs_more, weighs_by_one, none_weigh, weights_add, same_tests, owned_found, found_owned, found_inside, inside_found}
+use Rattle.sk_rules.proofs.SummedWeights.{weighs_one, weighs_more, weighs_by_one, none_weigh, weights_add, owned_found, found_owned, found_inside, inside_found}
 
 module _ (w : Start → ℕ) where
   -- a start of a number that none has is put in
@@ -61,7 +62,7 @@ module _ (w : Start → ℕ) where
 -- an edge weighs 1
 pub edge_weighs_one : (e : Edge) → e.u ≢ e.v → weight (edge_start e) ≡ 1
 edge_weighs_one e differ =
-    let size = union_apart elem_number elem_exact (e.u ∷ []) (e.v ∷ []) (rising_cons elem_number e.u [] (rising_none elem_number) (λ y h. absurd (contains_none y h)))
+    let size = union_apart elem_number elem_exact (e.u ∷ []) (e.v ∷ []) (rising_one elem_number e.u)
     (λ z in_u in_v. differ (contains_one e.u z in_u ∙ sym (contains_one e.v z in_v))) in
     let same = ap (λ (xs : List Elem). length xs) (both_ends e.u e.v) in
     omega arith
