@@ -15,6 +15,7 @@ use Rattle.sk_base.specs.Pins.{pin_words, block_words}
 use Rattle.sk_base.specs.SoundSketch.{IsCentred, IsSoundBlock}
 use Rattle.sk_base.specs.Spelling.{mm_text, spaced}
 use Rattle.sk_base.proofs.Blocks.{block_kept}
+use Rattle.sk_entry.specs.Growth.{with_element, with_constraint}
 
 -- a pin's name and place, each with a space before it
 abbrev pub pin_text : Sketch → Pin → List ℕ
@@ -35,17 +36,17 @@ pub block_line : (s : Sketch) (pins : List Pin) → spaced (block_words s pins) 
 block_line s pins = spaced_words (codes "block") (flat_map (pin_words s) pins) ∙ ap (λ text. codes "block" ++ text) (spaced_pins s pins)
 
 -- an element that is drawn stays where one more stands at the end
-found_still : (s : Sketch) (e : Element) (u : Elem) → IsCentred (shape_of s u) → element_of (record s { elements = s.elements ++ e ∷ [] }) u ≡ element_of s u
+found_still : (s : Sketch) (e : Element) (u : Elem) → IsCentred (shape_of s u) → element_of (with_element s e) u ≡ element_of s u
 found_still s e u centred = find-append (λ (x : Element). nat_eq x.number.0 u.0) s.elements (e ∷ []) ∙ first (element_of s u) centred
   where
     first : (o : Option Element) → IsCentred (option_map (λ (x : Element). x.shape) o) → option_or o (find (λ (x : Element). nat_eq x.number.0 u.0) (e ∷ [])) ≡ o
     first None centred = absurd centred
     first (Some x) centred = refl
 
-pub block_still : (s : Sketch) (e : Element) (pins : List Pin) → IsSoundBlock s pins → IsSoundBlock (record s { elements = s.elements ++ e ∷ [] }) pins
+pub block_still : (s : Sketch) (e : Element) (pins : List Pin) → IsSoundBlock s pins → IsSoundBlock (with_element s e) pins
 block_still s e pins sound =
-    let t : Sketch = record s { elements = s.elements ++ e ∷ [] } in
+    let t : Sketch = with_element s e in
     block_kept s t pins (All-weaker (λ (pin : Pin). IsCentred (shape_of s pin.elem)) (λ (pin : Pin). element_of t pin.elem ≡ element_of s pin.elem) (λ pin. found_still s e pin.elem) pins sound.centred) sound
 
-pub block_also : (s : Sketch) (c : Constraint) (pins : List Pin) → IsSoundBlock s pins → IsSoundBlock (record s { constraints = s.constraints ++ c ∷ [] }) pins
+pub block_also : (s : Sketch) (c : Constraint) (pins : List Pin) → IsSoundBlock s pins → IsSoundBlock (with_constraint s c) pins
 block_also s c pins sound = record { sound = sound.sound; centred = sound.centred; fits = sound.fits }

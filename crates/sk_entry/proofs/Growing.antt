@@ -1,13 +1,14 @@
 -- A sound sketch with one more sound element or constraint is sound.
-use Rattle.std.proofs.Common.{◌≡◌, ◌≢◌, ℕ, ◌<◌, Bool, true, false, ◌&&◌, nat_eq, List, [], ◌∷◌, ◌++◌, length, Option, Some, None, refl, sym, ap, ◌∙◌, arith, bytes_eq, IsTrue}
+use Rattle.std.proofs.Common.{◌≡◌, ◌≢◌, ℕ, ◌<◌, Bool, false, ◌&&◌, nat_eq, List, [], ◌∷◌, length, Option, Some, None, refl, sym, ap, ◌∙◌, arith, bytes_eq, IsTrue}
 use Rattle.std.specs.Prelude.{All, Contains}
 use Rattle.std.specs.List.{find}
 use Rattle.std.specs.Option.{option_map, option_or}
 use Rattle.std.specs.Ordering.{int_eq}
+use Rattle.std.proofs.lemmas.Bool.{and_from}
 use Rattle.std.proofs.lemmas.Bool.Decides.{Decides-int_eq}
 use Rattle.std.proofs.lemmas.List.{length_push}
 use Rattle.std.proofs.lemmas.List.Folds.{find-append}
-use Rattle.std.proofs.lemmas.List.Elements.{All-push, All-weaker, All-contains}
+use Rattle.std.proofs.lemmas.List.Elements.{All-nil, All-push, All-weaker, All-contains}
 use Rattle.sk_base.specs.declared.Elem.{Elem}
 use Rattle.sk_base.specs.declared.Element.{Element}
 use Rattle.sk_base.specs.declared.Constraint.{Constraint}
@@ -19,17 +20,24 @@ use Rattle.sk_base.specs.declared.Sketch.{Sketch}
 use Rattle.sk_base.specs.Labels.{is_name}
 use Rattle.sk_base.specs.Drawn.{element_of, shape_of}
 use Rattle.sk_base.specs.SoundSketch.{IsSoundSketch, IsSoundShape, IsSoundRule, BothFit, MayJoin, MayBeApart, MayLieOn, MayBeTangent, AreCircles, AreLines, MayNest}
-use Rattle.sk_base.proofs.Pairs.{pairs_push}
+use Rattle.sk_base.proofs.Pairs.{pairs_none, pairs_push}
+use Rattle.sk_entry.specs.Growth.{empty_sketch, with_element, with_constraint}
 use Rattle.sk_entry.specs.Named.{element_named, number_named}
 use Rattle.sk_base.proofs.Finding.{found_in, none_found, found_rising}
 use Rattle.sk_entry.proofs.BlockLines.{block_still, block_also}
 use Rattle.sk_lines.proofs.Finding.{same_bytes, equal_bytes}
 
-abbrev pub with_element : Sketch → Element → Sketch
-with_element s e = record s { elements = s.elements ++ e ∷ [] }
-
-abbrev pub with_constraint : Sketch → Constraint → Sketch
-with_constraint s c = record s { constraints = s.constraints ++ c ∷ [] }
+pub empty_sound : IsSoundSketch empty_sketch
+empty_sound = record {
+  elements_rise = pairs_none (λ (x y : Element). x.number.0 < y.number.0);
+  constraints_rise = pairs_none (λ (x y : Constraint). x.number.0 < y.number.0);
+  labels_are_names = All-nil (λ (x : Element). IsTrue (is_name x.label));
+  labels_differ = pairs_none (λ (x y : Element). x.label ≢ y.label);
+  few_elements = omega arith;
+  few_constraints = omega arith;
+  shapes_sound = All-nil (λ (x : Element). IsSoundShape x.shape);
+  rules_sound = All-nil (λ (x : Constraint). IsSoundRule empty_sketch x.rule);
+}
 
 -- what is drawn stays drawn
 drawn_still : (s : Sketch) (e : Element) (u : Elem) (shape : Shape) → shape_of s u ≡ Some shape → shape_of (with_element s e) u ≡ Some shape
@@ -123,15 +131,11 @@ drawn_named s name e sound is =
     found_rising (λ (x : Element). x.number.0) s.elements sound.elements_rise e (found_in (λ (x : Element). bytes_eq name x.label) s.elements e is).0
 
 -- places are two where a coordinate differs
-both_true : (a b : Bool) → a ≡ true → b ≡ true → (a && b) ≡ false → ⊥
-both_true true true p q is = cc
-both_true true false p q is = cc
-both_true false b p q is = cc
-
 pub differ : (x1 y1 x2 y2 : Um) → (int_eq x1.0 x2.0 && int_eq y1.0 y2.0) ≡ false → ¬ ((x1 ≡ x2) × (y1 ≡ y2))
 differ x1 y1 x2 y2 flat same =
     let x = (Decides-int_eq x1.0 x2.0).1 (ap (λ (u : Um). u.0) same.0) in
-    let y = (Decides-int_eq y1.0 y2.0).1 (ap (λ (u : Um). u.0) same.1) in both_true (int_eq x1.0 x2.0) (int_eq y1.0 y2.0) x y flat
+    let y = (Decides-int_eq y1.0 y2.0).1 (ap (λ (u : Um). u.0) same.1) in
+    let both = and_from (int_eq x1.0 x2.0) (int_eq y1.0 y2.0) x y in absurd (cc)
 
 -- elements of different names have different numbers
 pub numbers_apart : (s : Sketch) (u v : List ℕ) (e f : Element) → IsSoundSketch s → element_named s u ≡ Some e → element_named s v ≡ Some f → bytes_eq u v ≡ false → e.number ≢ f.number

@@ -149,12 +149,12 @@ grow_inside s (u ∷ v ∷ []) elem con said sound above p made =
 grow_inside s _ elem con said sound above p made = cc
 
 pub grow_angle : (s : Sketch) (rest : List (List ℕ)) (elem : Elem) (con : ConId) (said : Entry) → IsSoundSketch s → AreAbove s elem con → Passes s Angle rest → entry_made s Angle rest elem con ≡ Some said → Grows s said
-grow_angle s (l ∷ m ∷ slope ∷ []) elem con said sound above p made =
+grow_angle s (l ∷ m ∷ word ∷ []) elem con said sound above p made =
     let t = are_taken s Angle l m _ p.known p.kinds in
     let fit = are_lines t.first.shape t.second.shape t.taken in
     let bad = (first_of_two _ _ p.numbers).0 in
     let zero = (first_of_two _ _ (first_of_two _ _ p.zeros).0).0 in
-    said_is s _ said made (with_rule s con (rule.Angle (number_named s l) (number_named s m) (ratio slope)) sound above.constraints p.constraints (may_join s AreLines l m t.first t.second sound t.first_is t.second_is p.same fit, ratio_sound slope bad zero))
+    said_is s _ said made (with_rule s con (rule.Angle (number_named s l) (number_named s m) (ratio word)) sound above.constraints p.constraints (may_join s AreLines l m t.first t.second sound t.first_is t.second_is p.same fit, ratio_sound word bad zero))
 grow_angle s _ elem con said sound above p made = cc
 
 grow_block : (v : Version) (s : Sketch) (rest : List (List ℕ)) (elem : Elem) (con : ConId) (said : Entry) → IsSoundSketch s → AreAbove s elem con → BeginsLine v Block rest → Passes s Block rest → entry_made s Block rest elem con ≡ Some said → Grows s said

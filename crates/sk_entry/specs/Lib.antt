@@ -3,6 +3,7 @@ pub mod Conditions
 pub mod Ends
 pub mod Entry
 pub mod EntryCodes
+pub mod Growth
 pub mod Kinds
 pub mod Meaning
 pub mod Named

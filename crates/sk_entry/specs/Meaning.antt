@@ -1,5 +1,5 @@
 -- What a line without a code says.
-use Rattle.std.specs.Prelude.{ℕ, List, [], ◌∷◌, ◌++◌, map, Option, Some, None, if◌then◌else◌}
+use Rattle.std.specs.Prelude.{ℕ, List, [], ◌∷◌, map, Option, Some, None, if◌then◌else◌}
 use Rattle.sk_base.specs.declared.Elem.{Elem}
 use Rattle.sk_base.specs.declared.ConId.{ConId}
 use Rattle.sk_base.specs.declared.Shape.{Shape}
@@ -13,6 +13,7 @@ use Rattle.sk_lines.specs.declared.Keyword.TheVariants.{Point, Line, Circle, Dis
 use Rattle.sk_entry.specs.declared.entry.Entry.{Entry}
 use Rattle.sk_entry.specs.declared.entry.Entry.TheVariants as entry
 use Rattle.sk_lines.specs.Keywords.{declares}
+use Rattle.sk_entry.specs.Growth.{with_element, with_constraint}
 use Rattle.sk_entry.specs.Named.{number_named}
 use Rattle.sk_entry.specs.PinLines.{PinWords, pins_in}
 use Rattle.sk_lines.specs.Quantities.{um, ratio}
@@ -34,7 +35,7 @@ rule_asked s On (u ∷ v ∷ []) = Some (rule.On (number_named s u) (number_name
 rule_asked s Tangent (u ∷ v ∷ []) = Some (rule.Tangent (number_named s u) (number_named s v))
 rule_asked s Outside (u ∷ v ∷ []) = Some (rule.Outside (number_named s u) (number_named s v))
 rule_asked s Inside (u ∷ v ∷ []) = Some (rule.Inside (number_named s u) (number_named s v))
-rule_asked s Angle (l ∷ m ∷ slope ∷ []) = Some (rule.Angle (number_named s l) (number_named s m) (ratio slope))
+rule_asked s Angle (l ∷ m ∷ word ∷ []) = Some (rule.Angle (number_named s l) (number_named s m) (ratio word))
 rule_asked s Block words = Some (rule.Block (map (pin_asked s) (pins_in words)))
 rule_asked s _ _ = None
 
@@ -54,6 +55,6 @@ entry_made s k (first ∷ rest) elem con =
 
 -- the sketch with what a line declares at its end
 abbrev pub added : Sketch → Option Entry → Sketch
-added s (Some (entry.Element e)) = record s { elements = s.elements ++ e ∷ [] }
-added s (Some (entry.Constraint c)) = record s { constraints = s.constraints ++ c ∷ [] }
+added s (Some (entry.Element e)) = with_element s e
+added s (Some (entry.Constraint c)) = with_constraint s c
 added s _ = s

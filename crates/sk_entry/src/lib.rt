@@ -4,6 +4,7 @@
 mod block;
 mod constraint;
 mod element;
+mod empty;
 mod entry;
 mod field;
 mod law;
@@ -12,6 +13,7 @@ mod numbered;
 mod scope;
 mod write;
 
+pub use empty::empty_sketch;
 pub use entry::Entry;
 pub use field::{element_named, label, length, not_zero};
 pub use law::{entries_keep_soundness, one_entry, what_a_line_says};

@@ -1,6 +1,6 @@
 -- A text is read as a sound sketch with an element, line by line.
-use Rattle.std.proofs.Common.{◌≡◌, ◌≢◌, ℕ, ◌+◌, ◌<◌, Bool, true, false, not, cond, List, [], ◌∷◌, length, Option, Some, None, refl, sym, ap, subst, arith, bytes_eq, codes, IsTrue}
-use Rattle.std.proofs.lemmas.List.Elements.{All-nil, All-weaker}
+use Rattle.std.proofs.Common.{◌≡◌, ℕ, ◌+◌, ◌<◌, Bool, true, false, not, cond, List, [], ◌∷◌, length, Option, Some, None, refl, sym, ap, subst, arith, bytes_eq, codes}
+use Rattle.std.proofs.lemmas.List.Elements.{All-weaker}
 use Rattle.sk_base.specs.declared.Elem.{Elem}
 use Rattle.sk_base.specs.declared.ConId.{ConId}
 use Rattle.sk_base.specs.declared.Element.{Element}
@@ -8,9 +8,7 @@ use Rattle.sk_base.specs.declared.Constraint.{Constraint}
 use Rattle.sk_base.specs.declared.Shape.{Shape}
 use Rattle.sk_base.specs.declared.Rule.{Rule}
 use Rattle.sk_base.specs.declared.Sketch.{Sketch}
-use Rattle.sk_base.specs.Labels.{is_name}
-use Rattle.sk_base.specs.SoundSketch.{IsSoundSketch, IsSoundShape, IsSoundRule}
-use Rattle.sk_base.proofs.Pairs.{pairs_none}
+use Rattle.sk_base.specs.SoundSketch.{IsSoundSketch}
 use Rattle.sk_lex.specs.Words.{is_too_long, has_wrong_byte}
 use Rattle.sk_lines.specs.declared.Code.{Code}
 use Rattle.sk_lines.specs.declared.Code.TheVariants.{E2, E3, E15, E18, E19}
@@ -27,8 +25,9 @@ use Rattle.sk_lines.specs.FirstCode.{first_code}
 use Rattle.sk_lang.specs.Codes.{code_of, rows_within, word_rows}
 use Rattle.sk_lines.specs.EndLine.{is_none_left}
 use Rattle.sk_entry.specs.EntryCodes.{entry_rows}
+use Rattle.sk_entry.specs.Growth.{empty_sketch}
 use Rattle.sk_entry.specs.Meaning.{shape_drawn, rule_asked, element_with, constraint_with, entry_made, added}
-use Rattle.sk_lang.specs.Progress.{next_elem, next_con, empty_sketch, progress_within, progress_after_words, progress_after}
+use Rattle.sk_lang.specs.Progress.{next_elem, next_con, progress_within, progress_after_words, progress_after}
 use Rattle.sk_lang.specs.Reading.{Reads, HaveNoCode, progress_along}
 use Rattle.sk_base.proofs.Tables.{passed}
 use Rattle.sk_lang.specs.Renumbered.{renumbered}
@@ -36,6 +35,7 @@ use Rattle.sk_lang.proofs.SameNumbers.{CountOn, count_push, count_below, renumbe
 use Rattle.sk_lines.proofs.LineWords.{BeginsLine, begins_line}
 use Rattle.sk_entry.proofs.Passing.{passes_from}
 use Rattle.sk_entry.proofs.Declaring.{no_element}
+use Rattle.sk_entry.proofs.Growing.{empty_sound}
 use Rattle.sk_entry.proofs.Sound.{AreAbove, grows}
 
 -- a sound sketch so far, whose numbers are counts
@@ -51,16 +51,7 @@ IsSoundProgress (After v s) = IsCounted s × (0 < length s.elements)
 
 empty_counted : IsCounted empty_sketch
 empty_counted = record {
-  sound = record {
-    elements_rise = pairs_none (λ (x y : Element). x.number.0 < y.number.0);
-    constraints_rise = pairs_none (λ (x y : Constraint). x.number.0 < y.number.0);
-    labels_are_names = All-nil (λ (x : Element). IsTrue (is_name x.label));
-    labels_differ = pairs_none (λ (x y : Element). x.label ≢ y.label);
-    few_elements = omega arith;
-    few_constraints = omega arith;
-    shapes_sound = All-nil (λ (x : Element). IsSoundShape x.shape);
-    rules_sound = All-nil (λ (x : Constraint). IsSoundRule empty_sketch x.rule);
-  };
+  sound = empty_sound;
   elements = tt;
   constraints = tt;
 }

@@ -25,7 +25,7 @@ use Rattle.sk_lines.specs.declared.Keyword.TheVariants.{Distance, On, Tangent, O
 use Rattle.sk_lang.specs.declared.progress.Progress.{Progress}
 use Rattle.sk_lang.specs.declared.progress.Progress.TheVariants.{Within}
 use Rattle.sk_entry.specs.Named.{element_named, number_named}
-use Rattle.sk_lines.specs.Quantities.{um, ratio}
+use Rattle.sk_lines.specs.Quantities.{um, ratio as ratio_in}
 use Rattle.sk_lang.specs.Codes.{code_of}
 use Rattle.sk_lang.specs.Progress.{progress_after}
 use Rattle.sk_entry.specs.CanonicalLines.{rule_words, ratio_text}
@@ -278,16 +278,16 @@ inside_again version s done number u v sound is few =
     rw (j.first_is, j.second_is)
     (w, code_by_words version so_far (spaced words) (codes "inside") rest Inside w (shared version (codes "inside") Inside refl refl) (passes_to so_far Inside rest passes), progress_by_words version so_far (spaced words) (codes "inside") rest Inside w (shared version (codes "inside") Inside refl refl) ∙ ruled version s done number (rule.Inside u v) (rule.Inside (number_named so_far j.first.label) (number_named so_far j.second.label)) read)
 
-pub angle_again : (version : Version) (s : Sketch) (done : List Constraint) (number : ConId) (l m : Elem) (slope : Ratio) → IsSoundSketch s → IsSoundRule s (rule.Angle l m slope) → length done < 4000 → IsRuleAgain version s done number (rule.Angle l m slope) (rule_words s (rule.Angle l m slope))
-angle_again version s done number l m slope sound is few =
+pub angle_again : (version : Version) (s : Sketch) (done : List Constraint) (number : ConId) (l m : Elem) (ratio : Ratio) → IsSoundSketch s → IsSoundRule s (rule.Angle l m ratio) → length done < 4000 → IsRuleAgain version s done number (rule.Angle l m ratio) (rule_words s (rule.Angle l m ratio))
+angle_again version s done number l m ratio sound is few =
     let j = joined s AreLines l m sound is.0 in
     let so_far = rules_so_far s done in
     let fit = takes_angle j.first.shape j.second.shape j.fit in
     let n = named_again s done AreLines l m j sound in
-    let tests = ratio_tests slope is.1 in
-    let rest = j.first.label ∷ j.second.label ∷ ratio_text slope ∷ [] in
+    let tests = ratio_tests ratio is.1 in
+    let rest = j.first.label ∷ j.second.label ∷ ratio_text ratio ∷ [] in
     let words = codes "angle" ∷ rest in
-    let w : IsLineOf (spaced words) words = written_line (codes "angle") rest (literal (codes "angle") 16 (omega arith) (omega arith) refl, (name_spelled j.first.label j.first_name, (name_spelled j.second.label j.second_name, (ratio_text_written slope is.1, tt)))) (omega arith) in
+    let w : IsLineOf (spaced words) words = written_line (codes "angle") rest (literal (codes "angle") 16 (omega arith) (omega arith) refl, (name_spelled j.first.label j.first_name, (name_spelled j.second.label j.second_name, (ratio_text_written ratio is.1, tt)))) (omega arith) in
     let passes : Passes so_far Angle rest = record {
       radius = refl;
       count = refl;
@@ -302,7 +302,7 @@ angle_again version s done number l m slope sound is few =
       elements = refl;
       constraints = room_left s done few;
     } in
-    let value = ratio_back slope is.1 in
-    let read : rule.Angle (number_named so_far j.first.label) (number_named so_far j.second.label) (ratio (ratio_text slope)) ≡ rule.Angle (place_of s l) (place_of s m) slope = rw (n.first_number, n.second_number, value) refl in
+    let value = ratio_back ratio is.1 in
+    let read : rule.Angle (number_named so_far j.first.label) (number_named so_far j.second.label) (ratio_in (ratio_text ratio)) ≡ rule.Angle (place_of s l) (place_of s m) ratio = rw (n.first_number, n.second_number, value) refl in
     rw (j.first_is, j.second_is)
-    (w, code_by_words version so_far (spaced words) (codes "angle") rest Angle w (shared version (codes "angle") Angle refl refl) (passes_to so_far Angle rest passes), progress_by_words version so_far (spaced words) (codes "angle") rest Angle w (shared version (codes "angle") Angle refl refl) ∙ ruled version s done number (rule.Angle l m slope) (rule.Angle (number_named so_far j.first.label) (number_named so_far j.second.label) (ratio (ratio_text slope))) read)
+    (w, code_by_words version so_far (spaced words) (codes "angle") rest Angle w (shared version (codes "angle") Angle refl refl) (passes_to so_far Angle rest passes), progress_by_words version so_far (spaced words) (codes "angle") rest Angle w (shared version (codes "angle") Angle refl refl) ∙ ruled version s done number (rule.Angle l m ratio) (rule.Angle (number_named so_far j.first.label) (number_named so_far j.second.label) (ratio_in (ratio_text ratio))) read)

@@ -45,7 +45,7 @@ rule_again v s done number (rule.On u w) may = on_again v s done number u w
 rule_again v s done number (rule.Tangent u w) may = tangent_again v s done number u w
 rule_again v s done number (rule.Outside u w) may = outside_again v s done number u w
 rule_again v s done number (rule.Inside u w) may = inside_again v s done number u w
-rule_again v s done number (rule.Angle l m slope) may = angle_again v s done number l m slope
+rule_again v s done number (rule.Angle l m ratio) may = angle_again v s done number l m ratio
 rule_again One s done number (rule.Block pins) may = cc
 rule_again Two s done number (rule.Block pins) may = block_again s done number pins
 

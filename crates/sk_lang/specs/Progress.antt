@@ -10,6 +10,7 @@ use Rattle.sk_lang.specs.declared.progress.Progress.{Progress}
 use Rattle.sk_lang.specs.declared.progress.Progress.TheVariants.{Before, Within, After}
 use Rattle.sk_lang.specs.Header.{version_in, words_at}
 use Rattle.sk_lines.specs.Keywords.{keyword_of}
+use Rattle.sk_entry.specs.Growth.{empty_sketch}
 use Rattle.sk_entry.specs.Meaning.{entry_made, added}
 
 abbrev pub next_elem : Sketch → Elem
@@ -17,9 +18,6 @@ next_elem s = record { 0 = length s.elements + 1 }
 
 abbrev pub next_con : Sketch → ConId
 next_con s = record { 0 = length s.constraints + 1 }
-
-abbrev pub empty_sketch : Sketch
-empty_sketch = record { elements = []; constraints = [] }
 
 abbrev pub progress_within : Version → Sketch → Option Keyword → List (List ℕ) → Progress
 progress_within v s (Some k) rest = Within v (added s (entry_made s k rest (next_elem s) (next_con s)))

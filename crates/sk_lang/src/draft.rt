@@ -1,11 +1,11 @@
 // A sketch that is being read. Beside it stands the list of its names, which finds a name by hash: the
 // name at a place is that of the element at the same place.
-ghost use Rattle.std.specs.Prelude.{◌≡◌, ◌++◌, [], ◌∷◌, None, IfOk};
+ghost use Rattle.std.specs.Prelude.{◌≡◌, None, IfOk};
 ghost use Rattle.sk_entry.specs.Named.{element_named};
 
 use indexmap::IndexSet;
-use sk_base::{Constraint, Element, Label, List, NoMemory, Sketch};
-use sk_entry::Scope;
+use sk_base::{Constraint, Element, Label, NoMemory, Sketch};
+use sk_entry::{Scope, empty_sketch};
 use std::alloc::Global;
 use std::hash::{Hash, Hasher};
 use std::marker::Model;
@@ -68,16 +68,13 @@ impl Model for Draft {
 }
 
 impl Draft {
-    ghost use Rattle.sk_lang.specs.Progress.{empty_sketch};
+    ghost use Rattle.sk_entry.specs.Growth.{empty_sketch, with_element, with_constraint};
 
     pub(crate) fn new(alloc: Global) -> Draft
         ensures { result ≡ empty_sketch }
     {
         Draft {
-            sketch: Sketch {
-                elements: List::new(alloc),
-                constraints: List::new(alloc),
-            },
+            sketch: empty_sketch(alloc),
             names: IndexSet::new(alloc),
         }
     }
@@ -85,7 +82,7 @@ impl Draft {
     /// With one more element at its end.
     pub(crate) fn with_element(self, element: Element) -> Result<Draft, NoMemory>
         requires { element_named self element.label ≡ None }
-        ensures { IfOk result (λ draft. draft ≡ record self { elements = self.elements ++ element ∷ [] }) }
+        ensures { IfOk result (λ draft. draft ≡ with_element self element) }
     {
         let Draft {
             mut sketch,
@@ -98,7 +95,7 @@ impl Draft {
 
     /// With one more constraint at its end.
     pub(crate) fn with_constraint(self, constraint: Constraint) -> Result<Draft, NoMemory>
-        ensures { IfOk result (λ draft. draft ≡ record self { constraints = self.constraints ++ constraint ∷ [] }) }
+        ensures { IfOk result (λ draft. draft ≡ with_constraint self constraint) }
     {
         let Draft { mut sketch, names } = self;
         sketch.constraints.push(constraint)?;
