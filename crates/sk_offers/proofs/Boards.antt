@@ -7,20 +7,12 @@ use Rattle.sk_family.specs.Body.{starts, initial_bodies}
 use Rattle.sk_family.specs.Clusters.{Clusters, bodies, initial_clusters, start_of}
 use Rattle.sk_family.proofs.GraphStarts.{starts_few}
 use Rattle.sk_family.proofs.Soundness.{starting_bodies}
-use Rattle.sk_rules.specs.declared.Merge.{Merge}
-use Rattle.sk_rules.specs.declared.Merge.TheVariants.{Two, Three}
-use Rattle.sk_rules.specs.declared.Shared.{Shared}
 use Rattle.sk_rules.specs.declared.Taken.{Taken}
-use Rattle.sk_rules.specs.Merges.{Holds, IsLeastShared, merged}
+use Rattle.sk_rules.specs.Merges.{merged}
 use Rattle.sk_rules.specs.Reach.{Reach, Step, stays}
 use Rattle.sk_rules.specs.Taking.{IsTaken, Leads}
 use Rattle.sk_worklist.proofs.Runs.{reach_more, leads_more}
 use Rattle.sk_offers.specs.Offering.{Table, IsSoundTable}
-
--- the rule holds where least elements show it
-pub holds_by : (g : Graph) (f : Clusters) (m : Merge) (s : Shared) → IsLeastShared g f m s → Holds g f m
-holds_by g f (Two x y) s (a, b, a_named, b_named, least, none) = (a, b, a_named, b_named, (s.a, s.b, least.pair))
-holds_by g f (Three x y z) s (a, b, c, a_named, b_named, c_named, (e, is, least)) = (a, b, c, a_named, b_named, c_named, (s.a, s.b, e, least.triangle))
 
 -- the board at the start
 pub sound_start : (g : Graph) → IsSoundGraph g → (f : Clusters) → f ≡ initial_clusters g → (ts : List Taken) → ts ≡ [] → IsSoundTable (record { graph = g; family = f; taken = ts })

@@ -10,7 +10,7 @@ ghost use Rattle.sk_offers.specs.declared.offer_line.Place.TheVariants.{Among};
 
 use sk_base::List;
 use sk_lex::Word;
-use sk_lines::{Code, EntryError, is_word, name_of, plain_number, split_words, word};
+use sk_lines::{Code, EntryError, LineReader, is_word, name_of, plain_number, split_words, word};
 use sk_rules::Merge;
 use std::alloc::Global;
 
@@ -38,19 +38,26 @@ pub(crate) struct SoFar {
     pub(crate) offers: List<OfferLine>,
 }
 
-/// What was read behind the next line.
-pub(crate) fn after_line(alloc: Global, so_far: SoFar, line: &[u8]) -> Result<SoFar, EntryError>
-    ensures adds { IfOk result (Adds so_far line.now) }
-    ensures refused { IfErr result (IsRefusal (code_of so_far.place line.now)) }
-{
-    let words = split_words(alloc, line)?;
-    let words = words.items.as_slice();
-    if words.is_empty() {
-        return Ok(so_far);
-    }
-    match so_far.place {
-        Place::Among => after_words(so_far.offers, line, words),
-        Place::Past => Err(EntryError::Refused(Code::E17)),
+/// The lines of offers, up to their `end`.
+pub(crate) struct OfferReader;
+
+impl LineReader for OfferReader {
+    type SoFar = SoFar;
+
+    ghost code_of = { λ _ so_far line. code_of so_far.place line };
+
+    ghost adds = { λ _ so_far line after. Adds so_far line after };
+
+    fn after_line(&self, alloc: Global, so_far: SoFar, line: &[u8]) -> Result<SoFar, EntryError> {
+        let words = split_words(alloc, line)?;
+        let words = words.items.as_slice();
+        if words.is_empty() {
+            return Ok(so_far);
+        }
+        match so_far.place {
+            Place::Among => after_words(so_far.offers, line, words),
+            Place::Past => Err(EntryError::Refused(Code::E17)),
+        }
     }
 }
 

@@ -5,9 +5,9 @@ ghost use Rattle.sk_lines.specs.declared.Code.{Code as AnyCode};
 ghost use Rattle.sk_offers.specs.OfferReading.{ReadsOffers, RefusesOffers, IsOfferRefusal};
 ghost use Rattle.sk_offers.specs.declared.offer_line.OfferLine.{OfferLine as AnyOffer};
 
-use crate::offer_line::{OfferLine, Place, SoFar, after_line};
+use crate::offer_line::{OfferLine, OfferReader, Place, SoFar};
 use sk_base::List;
-use sk_lines::{Code, ReadError, split_line};
+use sk_lines::{Code, ReadError, read_lines};
 use std::alloc::Global;
 
 /// Reads the offers that stand behind the `end` of a sketch, up to their own `end`. The lines are numbered
@@ -17,21 +17,11 @@ pub fn read_offers(alloc: Global, bytes: &[u8], first: u32) -> Result<List<Offer
     ensures reads { IfOk result (ReadsOffers bytes.now) }
     ensures refuses { IfErr result (IsOfferRefusal first bytes.now) }
 {
-    let mut so_far = SoFar {
+    let nothing = SoFar {
         place: Place::Among,
         offers: List::new(alloc),
     };
-    let mut number = first;
-    let mut rest = bytes;
-    while !rest.is_empty() {
-        let (line, after) = split_line(rest);
-        number += 1;
-        so_far = match after_line(alloc, so_far, line) {
-            Ok(further) => further,
-            Err(error) => return Err(error.at_line(number)),
-        };
-        rest = after;
-    }
+    let (so_far, number) = read_lines(alloc, &OfferReader, nothing, bytes, first)?;
     match so_far.place {
         Place::Among => Err(ReadError::refused(number + 1, Code::E16)),
         Place::Past => Ok(so_far.offers),

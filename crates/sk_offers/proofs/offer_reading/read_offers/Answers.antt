@@ -1,23 +1,27 @@
-use Rattle.std.proofs.Common.{◌≡◌, List, [], ℕ, subst, arith}
-use Rattle.std.proofs.lemmas.Bool.Decides.{nat_tests}
-use Rattle.std.proofs.lemmas.List.{nil_from_length}
-use Rattle.sk_offers.proofs.offer_reading.read_offers.Goals as goal
+use Rattle.std.proofs.Common.{List, sym, subst}
+use Rattle.std.proofs.lemmas.Result.{err_from_is_err_and}
+use Rattle.sk_lines.specs.LineCodes.{LeadTo, IsLineRefusal}
 use Rattle.sk_lines.specs.Lines.{lines_in}
-use Rattle.sk_offers.proofs.OffersSoFar.{StandsAt, stands_next, refused_here, unended_here}
+use Rattle.sk_offers.specs.OfferReading.{IsOfferRefusal, Adds}
+use Rattle.sk_offers.specs.declared.offer_line.OfferLine.{OfferLine}
+use Rattle.sk_offers.proofs.OffersSoFar.{among, code_behind_all, read_refused, read_unended, read_ended}
+use Rattle.sk_offers.proofs.offer_reading.read_offers.Goals as goal
 
-pub returns-in-Err-clause-refuses : goal.returns-in-Err-clause-refuses
-returns-in-Err-clause-refuses c =
-    rw c.at_line.ensures (refused_here c.args.bytes.now (lines_in c.loop-rest.rest.now) c.split_line.result.0.now (lines_in c.split_line.result.1.now) c.loop-rest.so_far c.args.first c.loop-rest.number c.in-Err.error
-    c.loop-rest.invariant c.split_line.ensures.lines c.in-Err.ensures.refused)
-
-pub loop-rest-preserved : goal.loop-rest-preserved
-loop-rest-preserved c =
-    stands_next (lines_in c.args.bytes.now) (lines_in c.loop-rest.rest.now) c.split_line.result.0.now (lines_in c.split_line.result.1.now) c.loop-rest.so_far c.in-Ok.further c.args.first c.loop-rest.number
-    c.loop-rest.invariant c.split_line.ensures.lines c.in-Ok.ensures.adds
+pub returns-in_err-so_far-clause-refuses : goal.returns-in_err-so_far-clause-refuses
+returns-in_err-so_far-clause-refuses c =
+    let error = c.in_err-so_far.field-0.0 in
+    let refused = subst (λ (offers : List OfferLine). IsLineRefusal code_behind_all Adds (among offers) c.args.first (lines_in c.args.bytes.now) error) c.new.ensures c.in_err-so_far.ensures.refused in
+    let found = err_from_is_err_and c.from_residual.result c.from_residual.ensures.1 in
+    rw found.1 (subst (IsOfferRefusal c.args.first c.args.bytes.now) (sym found.2) (read_refused c.args.first c.args.bytes.now error refused))
 
 pub returns-in-Among-clause-refuses : goal.returns-in-Among-clause-refuses
 returns-in-Among-clause-refuses c =
-    let none : c.loop-rest.rest.now ≡ [] = nil_from_length c.loop-rest.rest.now (grind (arith, nat_tests)) in
-    let at : StandsAt (lines_in c.args.bytes.now) [] c.loop-rest.so_far c.args.first c.loop-rest.number =
-    subst (λ (rest : List ℕ). StandsAt (lines_in c.args.bytes.now) (lines_in rest) c.loop-rest.so_far c.args.first c.loop-rest.number) none c.loop-rest.invariant in
-    rw c.refused.ensures (unended_here c.args.bytes.now c.loop-rest.so_far c.args.first c.loop-rest.number at c.in-Among.is)
+    let so_far = c.in_ok-so_far.so_far in
+    let led = subst (λ (offers : List OfferLine). LeadTo Adds (among offers) (lines_in c.args.bytes.now) so_far) c.new.ensures c.in_ok-so_far.ensures.read in
+    rw c.refused.ensures (read_unended c.args.bytes.now so_far c.args.first c.in_ok-so_far.number led c.in_ok-so_far.ensures.count c.in-Among.is)
+
+pub returns-in-Past-clause-reads : goal.returns-in-Past-clause-reads
+returns-in-Past-clause-reads c =
+    let so_far = c.in_ok-so_far.so_far in
+    let led = subst (λ (offers : List OfferLine). LeadTo Adds (among offers) (lines_in c.args.bytes.now) so_far) c.new.ensures c.in_ok-so_far.ensures.read in
+    read_ended c.args.bytes.now so_far led c.in-Past.is
