@@ -35,11 +35,19 @@ impl Sink for OneByteSink {
 
     ghost sure_room = { λ _. 0 };
 
+    ghost is_flushed = { λ _. Unit {0} };
+
+    ghost is_steady = { λ _. ⊥ };
+
     fn write(&mut self, piece: &[u8]) -> Result<usize, Failed> {
         if piece.is_empty() {
             return Ok(0);
         }
         self.inner.write(&piece[..1])
+    }
+
+    fn flush(&mut self) -> Result<(), Failed> {
+        self.inner.flush()
     }
 }
 

@@ -55,8 +55,8 @@ impl<R: Read> Source for StdSource<R> {
     }
 }
 
-/// A writer of std's, which contracts see as how often it has failed or taken nothing of a piece. It
-/// tells nothing of content.
+/// A writer of std's, which contracts see as how often a write or a flush has failed, or a write has taken
+/// nothing of a piece. It tells nothing of content, nor of what is held back.
 #[derive(Drop)]
 pub struct StdSink<W: Write> {
     inner: W,
@@ -86,6 +86,10 @@ impl<W: Write> Sink for StdSink<W> {
 
     ghost sure_room = { λ _. 0 };
 
+    ghost is_flushed = { λ _. Unit {0} };
+
+    ghost is_steady = { λ _. ⊥ };
+
     fn write(&mut self, piece: &[u8]) -> Result<usize, Failed>
         ensures bound { WritesSome result piece.now }
         ensures fault { AnswersFault (IsErr result) self.old self.new }
@@ -97,6 +101,19 @@ impl<W: Write> Sink for StdSink<W> {
         match self.inner.write(piece) {
             Ok(count) if count > 0 => Ok(count),
             _ => {
+                self.faults = self.faults.saturating_add(1);
+                Err(Failed)
+            }
+        }
+    }
+
+    fn flush(&mut self) -> Result<(), Failed>
+        ensures fault { AnswersFault (IsErr result) self.old self.new }
+        ensures counted { self.new ≡ (if is_err result then one_later self.old else self.old) }
+    {
+        match self.inner.flush() {
+            Ok(()) => Ok(()),
+            Err(_) => {
                 self.faults = self.faults.saturating_add(1);
                 Err(Failed)
             }

@@ -16,4 +16,5 @@ loop-done-preserved g c =
           let before = c.loop-done.invariant.sure room in
           let after = c.in_ok-done.ensures.sure (omega (arith, piece, before, room)) in
           omega (arith, before, after.2);
+      steady = λ before. c.in_ok-done.ensures.steady (c.loop-done.invariant.steady before);
     }
