@@ -1,8 +1,6 @@
 -- A merge by the tie rule joins no classes, and leaves the merges by that rule as they are, but for those of its two clusters.
-use Rattle.std.proofs.Common.{◌≡◌, ◌⊎◌, inl, inr, ◌+◌, ◌-◌, ◌<◌, ℕ, Bool, true, false, List, [], ◌∷◌, ◌++◌, length, length-append, refl, ap, sym, subst, ◌∙◌, arith}
-use Rattle.std.specs.Prelude.{Contains, AllPairs, Some, map, not, slice_get, ◌||◌}
-use Rattle.std.proofs.lemmas.Option.{slice_get-get_or}
-use Rattle.std.proofs.Math.Seq.{get_or-append_seam}
+use Rattle.std.proofs.Common.{◌≡◌, ◌⊎◌, inl, inr, ◌<◌, ℕ, Bool, true, false, List, [], ◌∷◌, refl, ap, sym, subst, ◌∙◌}
+use Rattle.std.specs.Prelude.{Contains, AllPairs, map, not, ◌||◌}
 use Rattle.std.proofs.lemmas.List.Elements.{Contains-append_left, Contains-push, Contains-push_cases}
 use Rattle.sk_base.specs.declared.Name.{Name}
 use Rattle.sk_base.specs.declared.Name.TheVariants.{Step}
@@ -11,6 +9,7 @@ use Rattle.sk_base.specs.declared.Graph.{Graph}
 use Rattle.sk_base.specs.ClusterNames.{IsBelow, is_named}
 use Rattle.sk_base.proofs.Members.{contains_one, contains_cases, contains_mapped, mapped_from, contains_filtered, filtered_from}
 use Rattle.sk_base.proofs.Pairs.{pairs_filter}
+use Rattle.sk_base.proofs.Splits.{last_pushed}
 use Rattle.sk_family.specs.declared.Cluster.{Cluster}
 use Rattle.sk_family.specs.Body.{Body}
 use Rattle.sk_family.specs.Clusters.{Clusters, IsNamed, IsSound, bodies, body_of, made_of, named, unnamed, whole_from}
@@ -215,12 +214,6 @@ module _ (g : Graph) (f : Clusters) (sound : IsSound f) (x y : Name) (falls : Is
       pub all_now : AllPairs ComesFirst new → AreTieMerges g after new
       all_now ordered = record { in_order = ordered; exactly = λ m. (found_now m, now_found m) }
 
-last_of : {X : Type 0} (xs : List X) (x : X) → slice_get (xs ++ x ∷ []) (length (xs ++ x ∷ []) - 1) ≡ Some x
-last_of xs x =
-    let long : length (xs ++ x ∷ []) ≡ length xs + 1 = length-append xs (x ∷ []) in
-    let at : length (xs ++ x ∷ []) - 1 ≡ length xs = omega (arith, long) in
-    ap (λ n. slice_get (xs ++ x ∷ []) n) at ∙ slice_get-get_or (xs ++ x ∷ []) (length xs) x (omega (arith, long)) ∙ ap Some (get_or-append_seam xs x [] x)
-
 module _ (g : Graph) (classes : List ℕ) (merges : List Merge) (x y : Name) (after_one : Clusters) (one : IsAfterOne g classes merges (Two x y) after_one) where
   pub classes_after : AreClasses g (bodies after_one) classes
   classes_after =
@@ -232,7 +225,7 @@ module _ (g : Graph) (classes : List ℕ) (merges : List Merge) (x y : Name) (af
       let (f, (sound, ties, (falls, (a, b, a_is, b_is, (shares, tied))), is)) = one in
       let whole = whole_from (Step f.next_step) (x ∷ y ∷ []) f.live in
       let (all, ordered) = subst (λ (ms : List Merge). FindsOfLast g (merged f (Two x y)) ms new) kept_is (subst (λ (h : Clusters). FindsOfLast g h kept new) is finds)
-      whole (last_of (unnamed (x ∷ y ∷ []) f.live) whole) in
+      whole (last_pushed (unnamed (x ∷ y ∷ []) f.live) whole) in
       record {
         told = classes_after;
         all = subst (λ (h : Clusters). AreTieMerges g h new) (sym is)

@@ -1,7 +1,6 @@
 -- Sound wide normal families of one graph have one text: their lists of elements differ, so in order they are one list.
-use Rattle.std.proofs.Common.{◌≡◌, ◌≢◌, ◌⊎◌, inl, inr, refl, Bool, true, false, cond, List, [], ◌∷◌, ◌++◌, length, get_or, ap, sym, subst, ◌∙◌, arith}
+use Rattle.std.proofs.Common.{◌≡◌, ◌≢◌, ◌⊎◌, inl, inr, refl, Bool, true, false, cond, List, [], ◌∷◌, ◌++◌, length, ap, sym, subst, ◌∙◌}
 use Rattle.std.specs.Prelude.{◌↔◌, Contains, AllPairs, map, fold}
-use Rattle.std.proofs.lemmas.List.Elements.{Contains-get_or}
 use Rattle.sk_base.specs.declared.Elem.{Elem}
 use Rattle.sk_base.specs.declared.ConId.{ConId}
 use Rattle.sk_base.specs.declared.Graph.{Graph}
@@ -15,10 +14,10 @@ use Rattle.sk_family.specs.declared.Cluster.{Cluster}
 use Rattle.sk_family.specs.Body.{Body, Start, starts, starting, initial_bodies}
 use Rattle.sk_family.specs.Clusters.{Clusters, body_of, bodies, IsSound}
 use Rattle.sk_family.proofs.Bodies.{Within, owner_of}
-use Rattle.sk_family.proofs.Naming.{below_differs, one_of_body}
+use Rattle.sk_family.proofs.Naming.{elements_apart}
 use Rattle.sk_rules.specs.Reach.{StepBy}
 use Rattle.sk_rules.proofs.Families.{IsFamily, kept_by}
-use Rattle.sk_rules.proofs.NormalForm.{one_of_two, covers_by, family_by}
+use Rattle.sk_rules.proofs.NormalForm.{one_of_elements, covers_by, family_by}
 use Rattle.sk_rules.proofs.WeighedGraphs.{sound_two_each}
 use Rattle.sk_derive.specs.Ties.{wide_rule}
 use Rattle.sk_derive.specs.WideReach.{IsWideNormal}
@@ -53,8 +52,8 @@ module _ (g : Graph) (f : List Body) (sound : IsSoundGraph g) (normal : IsWideNo
       subst (λ z. Within (starting s) z) same y.2
 
   -- a body has two different elements
-  two_of : (x : Body) → Contains f x → (u : Elem) × (v : Elem) × (u ≢ v) × Contains x.elements u × Contains x.elements v
-  two_of x x_in =
+  has_two : (x : Body) → Contains f x → (u : Elem) × (v : Elem) × (u ≢ v) × Contains x.elements u × Contains x.elements v
+  has_two x x_in =
       let own = family_of.owns x x_in in
       let (s, s_in, is) = kept_by (wide_rule g) (OwnsConstraints g) (step_owns g (wide_rule g)) (initial_bodies g) f normal.reached (starts_own g) x own.0 x_in own.1 in
       let within = start_within x s x_in s_in (subst (λ k. Contains x.owned k) (sym is) own.1) in
@@ -62,18 +61,8 @@ module _ (g : Graph) (f : List Body) (sound : IsSoundGraph g) (normal : IsWideNo
       (u, v, differ, within.elements u u_in, within.elements v v_in)
 
   -- no other one has the same elements
-  one_of_elements : (x y : Body) → Contains f x → Contains f y → x.elements ≡ y.elements → x ≡ y
-  one_of_elements x y x_in y_in same =
-      let (u, v, differ, u_in, v_in) = two_of x x_in in
-      one_of_two g f (λ others among can. normal.closed others among (inl can)) x y x_in y_in (
-        u,
-        v,
-        record {
-          differ = differ;
-          a_shared = (u_in, subst (λ es. Contains es u) same u_in);
-          b_shared = (v_in, subst (λ es. Contains es v) same v_in);
-        },
-      )
+  same_elements : (x y : Body) → Contains f x → Contains f y → x.elements ≡ y.elements → x ≡ y
+  same_elements x y x_in y_in = one_of_elements g f (λ others among can. normal.closed others among (inl can)) x y x_in y_in (has_two x x_in)
 
 abbrev Differ : List Elem → List Elem → Type 0
 Differ xs ys = xs ≢ ys
@@ -83,15 +72,7 @@ elements_of c = c.elements
 
 -- no two clusters have the same elements
 clusters_differ : (g : Graph) (f : Clusters) → IsSoundGraph g → IsSound f → IsWideNormal g (bodies f) → AllPairs (λ (c d : Cluster). Differ (elements_of c) (elements_of d)) f.live
-clusters_differ g f sound family normal i j z i_j j_in same =
-    let c = get_or f.live i z in
-    let d = get_or f.live j z in
-    let c_in : Contains f.live c = Contains-get_or f.live i z (omega arith) in
-    let d_in : Contains f.live d = Contains-get_or f.live j z j_in in
-    let bodies_same : body_of c ≡ body_of d = one_of_elements g (bodies f) sound normal (body_of c) (body_of d)
-    (contains_mapped body_of f.live c c_in) (contains_mapped body_of f.live d d_in) same in
-    let is : c ≡ d = one_of_body f family c d c_in d_in bodies_same in
-    below_differs c.name d.name (family.names_rise i j z i_j j_in) (ap (λ (b : Cluster). b.name) is)
+clusters_differ g f sound family normal = elements_apart f family (same_elements g (bodies f) sound normal)
 
 module _ (xs : List Elem) where
   with_has : (lists : List (List Elem)) (zs : List Elem) → Contains (with_list lists xs) zs ↔ ((xs ≡ zs) ⊎ Contains lists zs)

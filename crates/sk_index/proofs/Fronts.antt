@@ -1,8 +1,8 @@
 -- Fronts of a list, as loops go along it.
-use Rattle.std.proofs.Common.{◌≡◌, ◌⊎◌, inl, inr, ℕ, suc, ◌+◌, ◌<◌, ◌≤◌, List, [], ◌∷◌, ◌++◌, length, get_or, take, drop, drop-cons, sym, subst, arith}
+use Rattle.std.proofs.Common.{◌≡◌, ◌⊎◌, inl, inr, ℕ, suc, ◌+◌, ◌<◌, ◌≤◌, List, [], ◌∷◌, ◌++◌, length, get_or, take, drop, drop-cons, sym, subst}
 use Rattle.std.specs.Prelude.{◌↔◌, Contains, AllPairs}
 use Rattle.std.proofs.lemmas.List.{take_all, take_more}
-use Rattle.std.proofs.lemmas.List.Elements.{Contains-append_left, Contains-append_right, Contains-append_cases, Contains-get_or}
+use Rattle.std.proofs.lemmas.List.Elements.{Contains-append_left, Contains-append_right, Contains-append_cases}
 use Rattle.sk_base.proofs.Members.{contains_head, contains_one, contains_cases}
 use Rattle.sk_base.proofs.Pairs.{pairs_head}
 use Rattle.sk_base.proofs.Splits.{in_either, pairs_across, pairs_drop}
@@ -46,8 +46,3 @@ module _ {X : Type 0} (R : X → X → Type 0) (irreflexive : (x : X) → ¬ R x
               (pairs_head R (get_or xs i d) (drop (suc i) xs) (subst (λ l. AllPairs R l) (drop-cons xs i d i_in) (pairs_drop R i xs r)) x later))
         ]
       ]
-
--- what pairs of a list have weakens
-pub pairs_weaken : {X : Type 0} (R S : X → X → Type 0) (xs : List X) → AllPairs R xs → ((x y : X) → Contains xs x → Contains xs y → R x y → S x y) → AllPairs S xs
-pairs_weaken R S xs pairs to i j d less j_in =
-    to (get_or xs i d) (get_or xs j d) (Contains-get_or xs i d (omega arith)) (Contains-get_or xs j d j_in) (pairs i j d less j_in)

@@ -4,11 +4,7 @@ use Rattle.std.specs.Prelude.{◌↔◌, Contains}
 use Rattle.std.proofs.lemmas.List.{take_all, take_more}
 use Rattle.std.proofs.lemmas.List.Elements.{Contains-append_left, Contains-append_right, Contains-append_cases}
 use Rattle.sk_base.proofs.Members.{contains_none, contains_head, contains_one}
-use Rattle.std.specs.Prelude.{Some}
 use Rattle.sk_index.specs.Walks.{GrowsBy, FromSome}
-
-pub some_inside : {X : Type 0} {p q : X} → Some p ≡ Some q → p ≡ q
-some_inside h = cc
 
 pub grows_none : {M : Type 0} (kind : M → Type 0) (old : List M) → ((m : M) → ¬ kind m) → GrowsBy kind old old
 grows_none kind old none m = ((λ h. inl h), (λ h. elim h [ inl was ↦ was | inr is ↦ absurd (none m is) ]))

@@ -4,11 +4,11 @@ use Rattle.std.specs.Prelude.{◌↔◌, Contains, Some}
 use Rattle.sk_base.specs.declared.Elem.{Elem}
 use Rattle.sk_base.specs.declared.Name.{Name}
 use Rattle.sk_base.specs.ClusterNames.{IsBelow}
+use Rattle.std.proofs.lemmas.Option.{same_Some}
 use Rattle.sk_family.specs.declared.Cluster.{Cluster}
 use Rattle.sk_index.specs.declared.index.Index.{Index}
 use Rattle.sk_index.specs.Walks.{FromSome, HolderOf}
 use Rattle.sk_index.specs.Indexed.{IsBelowAt, IsIndex, IsNamedAt, holders_of}
-use Rattle.sk_index.proofs.Growing.{some_inside}
 
 module _ (ix : Index) (index : IsIndex ix) (e : Elem) (bound : Name) (keys : List ℕ) (keys_are : (k : ℕ) → Contains keys k ↔ (Contains (holders_of ix e) k × IsBelowAt ix bound k)) where
   -- the names at the keys of an element that are below a name are those of its holders below it
@@ -21,7 +21,7 @@ module _ (ix : Index) (index : IsIndex ix) (e : Elem) (bound : Name) (keys : Lis
           let (b, b_is, e_in) = index.leads e k k_holds in
           let d_c : Some d ≡ Some c = sym d_is ∙ is in
           let b_c : Some b ≡ Some c = sym b_is ∙ is in
-          (c, (k, is), subst (λ (x : Cluster). Contains x.elements e) (some_inside b_c) e_in, subst (λ (x : Cluster). IsBelow x.name bound) (some_inside d_c) below, c_named)
+          (c, (k, is), subst (λ (x : Cluster). Contains x.elements e) (same_Some _ _ b_c) e_in, subst (λ (x : Cluster). IsBelow x.name bound) (same_Some _ _ d_c) below, c_named)
 
       named : HolderOf ix bound e n → FromSome (λ k m. IsNamedAt ix m k) keys n
       named (c, (k, is), e_in, below, c_named) = (k, (keys_are k).1 (index.finds e k c is e_in, (c, is, below)), (c, is, c_named))

@@ -11,12 +11,12 @@ use Rattle.sk_base.specs.Rising.{IsRising}
 use Rattle.sk_base.proofs.Members.{contains_none, contains_head, contains_one, nat_settles}
 use Rattle.sk_index.specs.declared.index.Index.{Index}
 use Rattle.sk_base.specs.ClusterNames.{IsBelow}
-use Rattle.sk_base.proofs.Pairs.{pairs_push}
+use Rattle.sk_base.proofs.Pairs.{pairs_push, pairs_weaken}
 use Rattle.sk_family.proofs.Naming.{below_irreflexive}
 use Rattle.sk_base.proofs.Deciding.{elem_settles}
-use Rattle.sk_index.proofs.Fronts.{front_more, front_before, pairs_weaken}
+use Rattle.std.proofs.lemmas.Option.{same_Some}
+use Rattle.sk_index.proofs.Fronts.{front_more, front_before}
 use Rattle.sk_index.specs.Indexed.{HoldersGrow, IsHeld, IsIndex, RisesIn, holders_of}
-use Rattle.sk_index.proofs.Growing.{some_inside}
 
 -- new has the key at just these elements more than old
 abbrev pub PutsKey : Index → Index → List Elem → ℕ → Type 0
@@ -83,7 +83,7 @@ module _ (old new : Index) (cluster : Cluster) (key : ℕ) (greatest : (c : Clus
   was_or_new : (k : ℕ) (c : Cluster) → get new.live k ≡ Some c → (get old.live k ≡ Some c) ⊎ ((k ≡ key) × (c ≡ cluster))
   was_or_new k c is =
       elim (nat_settles k key) [
-        | inl same ↦ inr (same, some_inside (sym is ∙ ap (λ j. get new.live j) same ∙ updates.changed))
+        | inl same ↦ inr (same, same_Some _ _ (sym is ∙ ap (λ j. get new.live j) same ∙ updates.changed))
         | inr other ↦ inl (sym (updates.others k other) ∙ is)
       ]
 
@@ -111,7 +111,7 @@ module _ (old new : Index) (cluster : Cluster) (key : ℕ) (greatest : (c : Clus
         | inl same ↦ subst (λ l. AllPairs (RisesIn new.live) l) (sym same) were
         | inr more ↦ subst (λ l. AllPairs (RisesIn new.live) l) (sym more)
             (pairs_push (RisesIn new.live) (holders_of old e) key were
-            (λ k k_in c d c_is d_is. subst (λ (x : Cluster). IsBelow c.name x.name) (some_inside (sym updates.changed ∙ d_is)) (greatest c (k, was_at e k c k_in c_is))))
+            (λ k k_in c d c_is d_is. subst (λ (x : Cluster). IsBelow c.name x.name) (same_Some _ _ (sym updates.changed ∙ d_is)) (greatest c (k, was_at e k c k_in c_is))))
       ]
 
   pub put_index : IsIndex new

@@ -7,10 +7,10 @@ use Rattle.slab.specs.Slab.{get, Updates}
 use Rattle.sk_base.specs.declared.Elem.{Elem}
 use Rattle.sk_family.specs.declared.Cluster.{Cluster}
 use Rattle.sk_base.proofs.Members.{contains_none, contains_head, contains_one}
+use Rattle.sk_base.proofs.Pairs.{pairs_weaken}
+use Rattle.std.proofs.lemmas.Option.{same_Some}
 use Rattle.sk_index.specs.declared.index.Index.{Index}
-use Rattle.sk_index.proofs.Fronts.{pairs_weaken}
 use Rattle.sk_index.specs.Indexed.{IsHeld, IsIndex, RisesIn, holders_of}
-use Rattle.sk_index.proofs.Growing.{some_inside}
 
 -- new has the key at just these elements less than old
 abbrev pub DropsKey : Index → Index → List Elem → ℕ → Type 0
@@ -57,7 +57,7 @@ module _ (old new : Index) (cluster : Cluster) (key : ℕ) (index : IsIndex old)
   pub removed_held : (c : Cluster) → IsHeld new c ↔ (IsHeld old c × (c ≢ cluster))
   removed_held c = (
     (λ (k, is). ((k, was k c is), (λ same. not_key k c is (index.once k key c (was k c is) (at_key ∙ ap Some (sym same)))))),
-    (λ ((k, is), other). (k, updates.others k (λ same. other (some_inside (sym is ∙ ap (λ j. get old.live j) same ∙ at_key))) ∙ is)),
+    (λ ((k, is), other). (k, updates.others k (λ same. other (same_Some _ _ (sym is ∙ ap (λ j. get old.live j) same ∙ at_key))) ∙ is)),
   )
 
   pub removed_index : IsIndex new
@@ -65,7 +65,7 @@ module _ (old new : Index) (cluster : Cluster) (key : ℕ) (index : IsIndex old)
     leads = λ e k k_in. (
         let (k_was, apart) = (drops e k).0 k_in in
         let (c, is, e_in) = index.leads e k k_was in
-        let other : k ≢ key = λ same. apart (subst (λ (x : Cluster). Contains x.elements e) (some_inside (sym is ∙ ap (λ j. get old.live j) same ∙ at_key)) e_in, same) in
+        let other : k ≢ key = λ same. apart (subst (λ (x : Cluster). Contains x.elements e) (same_Some _ _ (sym is ∙ ap (λ j. get old.live j) same ∙ at_key)) e_in, same) in
         (c, updates.others k other ∙ is, e_in));
     finds = λ e k c is e_in. (drops e k).1 (index.finds e k c (was k c is) e_in, (λ (_, same). not_key k c is same));
     in_order = λ e. pairs_weaken (RisesIn old.live) (RisesIn new.live) (holders_of new e) (order e (index.in_order e)) (λ j k j_in k_in rises c d c_is d_is. rises c d (was j c c_is) (was k d d_is));

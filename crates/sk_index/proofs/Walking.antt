@@ -5,8 +5,7 @@ use Rattle.std.specs.List.Sorted.{IsPartitionedBy}
 use Rattle.sk_base.specs.declared.Name.{Name}
 use Rattle.sk_base.specs.ClusterNames.{IsBelow}
 use Rattle.sk_family.specs.declared.Cluster.{Cluster}
-use Rattle.sk_family.proofs.Halving.{is_before}
-use Rattle.sk_family.proofs.Halving.{passing_front, before_below, below_before}
+use Rattle.sk_family.proofs.Halving.{is_before, passing_front, before_below, below_before}
 use Rattle.sk_family.proofs.Naming.{below_chain}
 use Rattle.sk_base.proofs.Splits.{in_take, in_either}
 use Rattle.sk_index.specs.declared.index.Index.{Index}
@@ -63,8 +62,8 @@ in_front_of P xs place before after x = (
 
 -- what the walk along the front gives is what the walk along all gives, where only the front gives any
 module _ (front all : List ℕ) (P : ℕ → Type 0) (front_is : (k : ℕ) → Contains front k ↔ (Contains all k × P k)) where
-  pub some_same : {M : Type 0} (kind : ℕ → M → Type 0) → ((k : ℕ) (m : M) → kind k m → P k) → (m : M) → FromSome kind front m ↔ FromSome kind all m
-  some_same kind only m = (
+  pub found_in_front : {M : Type 0} (kind : ℕ → M → Type 0) → ((k : ℕ) (m : M) → kind k m → P k) → (m : M) → FromSome kind front m ↔ FromSome kind all m
+  found_in_front kind only m = (
     (λ (k, k_in, is). (k, ((front_is k).0 k_in).0, is)),
     (λ (k, k_in, is). (k, (front_is k).1 (k_in, only k m is), is)),
   )

@@ -102,8 +102,8 @@ without_fraction k small =
     let numeral = decimal_is_IsNumeral k (omega arith) in
     ap unsigned_um (append-nil (decimal k)) ∙ ap (um_round (decimal k)) (none_in_digits is_point point_lacks_digits (decimal k) numeral.0.1) ∙ whole_back k small
 
-some_same : (a b : ℕ) → a ≡ b → (x : Option ℕ) → x ≡ Some a → x ≡ Some b
-some_same a b e x is = is ∙ ap (λ n. Some n) e
+some_along : (a b : ℕ) → a ≡ b → (x : Option ℕ) → x ≡ Some a → x ≡ Some b
+some_along a b e x is = is ∙ ap (λ n. Some n) e
 
 -- the canonical millimetres of an amount
 amount_back : (m : ℕ) → m ≤ 1000000000 → unsigned_um (decimal (m / 1000) ++ fraction_text m) ≡ Some m
@@ -116,22 +116,22 @@ amount_back m few =
     elim (cases_eq (m % 1000) 0) [
       | inl none ↦
           let yes : nat_eq (m % 1000) 0 ≡ true = grind (arith, nat_tests) in
-          rw yes (some_same (1000 * k) m (omega arith) _ (without_fraction k small))
+          rw yes (some_along (1000 * k) m (omega arith) _ (without_fraction k small))
       | inr some ↦
           let no : nat_eq (m % 1000) 0 ≡ false = grind (arith, nat_tests) in
           elim (cases_eq (m % 100) 0) [
             | inl one ↦
                 let yes : nat_eq (m % 100) 0 ≡ true = grind (arith, nat_tests) in
-                rw (no, yes) (some_same (1000 * k + a * 100) m (omega arith) _ (with_fraction k _ _ small (one_digit a (omega arith))))
+                rw (no, yes) (some_along (1000 * k + a * 100) m (omega arith) _ (with_fraction k _ _ small (one_digit a (omega arith))))
             | inr more ↦
                 let second : nat_eq (m % 100) 0 ≡ false = grind (arith, nat_tests) in
                 elim (cases_eq (m % 10) 0) [
                   | inl two ↦
                       let yes : nat_eq (m % 10) 0 ≡ true = grind (arith, nat_tests) in
-                      rw (no, second, yes) (some_same (1000 * k + (a * 10 + b) * 10) m (omega arith) _ (with_fraction k _ _ small (two_digits a b (omega arith) (omega arith))))
+                      rw (no, second, yes) (some_along (1000 * k + (a * 10 + b) * 10) m (omega arith) _ (with_fraction k _ _ small (two_digits a b (omega arith) (omega arith))))
                   | inr three ↦
                       let third : nat_eq (m % 10) 0 ≡ false = grind (arith, nat_tests) in
-                      rw (no, second, third) (some_same (1000 * k + ((a * 10 + b) * 10 + c) * 1) m (omega arith) _ (with_fraction k _ _ small (three_digits a b c (omega arith) (omega arith) (omega arith))))
+                      rw (no, second, third) (some_along (1000 * k + ((a * 10 + b) * 10 + c) * 1) m (omega arith) _ (with_fraction k _ _ small (three_digits a b c (omega arith) (omega arith) (omega arith))))
                 ]
           ]
     ]

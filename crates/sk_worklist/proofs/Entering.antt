@@ -1,14 +1,14 @@
 -- Clusters that leave the index and enter it at a merge.
-use Rattle.std.proofs.Common.{◌≡◌, ◌⊎◌, inl, inr, ◌+◌, ◌-◌, List, [], ◌∷◌, ◌++◌, length, length-append, sym, subst, ◌∙◌, ap, Bool, arith, Vec, Global}
+use Rattle.std.proofs.Common.{◌≡◌, ◌⊎◌, inl, inr, ◌+◌, ◌-◌, List, [], ◌∷◌, ◌++◌, length, sym, subst, ◌∙◌, ap, Bool, Vec, Global}
 use Rattle.std.specs.Prelude.{◌↔◌, Contains, Some, slice_get, not}
-use Rattle.std.proofs.lemmas.Option.{slice_get-get_or}
-use Rattle.std.proofs.Math.Seq.{get_or-append_seam}
+use Rattle.std.proofs.lemmas.Option.{same_Some}
 use Rattle.std.proofs.lemmas.List.Elements.{Contains-append_left, Contains-append_right, Contains-append_cases}
 use Rattle.sk_base.specs.declared.Name.{Name}
 use Rattle.sk_base.specs.declared.Name.TheVariants.{Step}
 use Rattle.sk_base.specs.declared.Graph.{Graph}
 use Rattle.sk_base.specs.ClusterNames.{IsBelow, is_named}
 use Rattle.sk_base.proofs.Members.{contains_head, contains_one, contains_cases, contains_filtered, filtered_from}
+use Rattle.sk_base.proofs.Splits.{last_pushed}
 use Rattle.sk_family.specs.declared.Cluster.{Cluster}
 use Rattle.sk_family.specs.Clusters.{Clusters, IsNamed, IsSound, replaced, unnamed, whole_from}
 use Rattle.sk_family.proofs.Naming.{one_of_name, unnamed_true, not_named}
@@ -19,7 +19,6 @@ use Rattle.sk_index.specs.declared.Index.{Index}
 use Rattle.sk_worklist.specs.Choices.{CanTake}
 use Rattle.sk_index.specs.Indexed.{HasElements, IsHeld, IsIndex, KeepsLines, IsLast, Represents}
 use Rattle.sk_worklist.specs.Known.{Knows}
-use Rattle.sk_index.proofs.Growing.{some_inside}
 use Rattle.sk_worklist.proofs.Mending.{knows_after, live_below_next}
 
 -- the clusters of a merge that may be taken have elements
@@ -54,22 +53,16 @@ module _ (ix new : Index) (g : Graph) (names : List Name) (live : List Cluster) 
         ((λ h. (r.lines e).0 (sym same ∙ h)), (λ h. same ∙ (r.lines e).1 h)));
   }
 
-last_of : {X : Type 0} (xs : List X) (x : X) → slice_get (xs ++ x ∷ []) (length (xs ++ x ∷ []) - 1) ≡ Some x
-last_of xs x =
-    let long : length (xs ++ x ∷ []) ≡ length xs + 1 = length-append xs (x ∷ []) in
-    let at : length (xs ++ x ∷ []) - 1 ≡ length xs = omega (arith, long) in
-    ap (λ n. slice_get (xs ++ x ∷ []) n) at ∙ slice_get-get_or (xs ++ x ∷ []) (length xs) x (omega (arith, long)) ∙ ap Some (get_or-append_seam xs x [] x)
-
 module _ (ix : Index) (g : Graph) (f : Clusters) (sound : IsSound f) (names : List Name) (r : Represents ix g (unnamed names f.live)) (after : Clusters) (after_is : after ≡ replaced f names) where
   abbrev whole : Cluster
   whole = whole_from (Step f.next_step) names f.live
 
   last_whole : (c : Cluster) → IsLast after.live c → whole ≡ c
   last_whole c last =
-      some_inside (sym (last_of (unnamed names f.live) whole) ∙ ap (λ (h : Clusters). slice_get h.live (length h.live - 1)) (sym after_is) ∙ last)
+      same_Some _ _ (sym (last_pushed (unnamed names f.live) whole) ∙ ap (λ (h : Clusters). slice_get h.live (length h.live - 1)) (sym after_is) ∙ last)
 
   whole_last : (c : Cluster) → whole ≡ c → IsLast after.live c
-  whole_last c is = ap (λ (h : Clusters). slice_get h.live (length h.live - 1)) after_is ∙ last_of (unnamed names f.live) whole ∙ ap Some is
+  whole_last c is = ap (λ (h : Clusters). slice_get h.live (length h.live - 1)) after_is ∙ last_pushed (unnamed names f.live) whole ∙ ap Some is
 
   -- the cluster that the merge made is above all in the index
   pub whole_is_greatest : (c d : Cluster) → IsHeld ix c → IsLast after.live d → IsBelow c.name d.name

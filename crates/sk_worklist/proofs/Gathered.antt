@@ -4,6 +4,7 @@ use Rattle.sk_base.specs.ClusterNames.{IsBelow}
 use Rattle.std.specs.Prelude.{Contains}
 use Rattle.sk_base.specs.declared.Name.{Name}
 use Rattle.sk_base.specs.declared.Graph.{Graph}
+use Rattle.std.proofs.lemmas.Option.{same_Some}
 use Rattle.sk_family.specs.declared.Cluster.{Cluster}
 use Rattle.sk_family.specs.Clusters.{Clusters, IsSound}
 use Rattle.sk_family.proofs.Naming.{one_of_name}
@@ -14,15 +15,14 @@ use Rattle.sk_index.specs.declared.Index.{Index}
 use Rattle.sk_worklist.specs.Choices.{CanTake}
 use Rattle.sk_index.specs.Indexed.{Represents}
 use Rattle.sk_worklist.specs.Gather.{TriplesOf, Partner, TakesFrom}
-use Rattle.sk_index.proofs.Growing.{some_inside}
 
 module _ (ix : Index) (g : Graph) (f : Clusters) (sound : IsSound f) (r : Represents ix g f.live) (x : Cluster) (x_in : Contains f.live x) where
   pub found_can : (m : Merge) → TriplesOf ix x m → TakesFrom g f x m
   found_can m (a, a_x, (k, k_in, (y, y_is, y_below, (b, b_y, (j, j_in, (z, z_is, (z_below, a_b, (c, c_x, c_z, (c_a, c_b, lines))), m_is)))))) =
       let at_a = r.index.leads a k k_in in
       let at_b = r.index.leads b j j_in in
-      let a_y : Contains y.elements a = subst (λ (w : Cluster). Contains w.elements a) (some_inside (sym at_a.1 ∙ y_is)) at_a.2 in
-      let b_z : Contains z.elements b = subst (λ (w : Cluster). Contains w.elements b) (some_inside (sym at_b.1 ∙ z_is)) at_b.2 in
+      let a_y : Contains y.elements a = subst (λ (w : Cluster). Contains w.elements a) (same_Some _ _ (sym at_a.1 ∙ y_is)) at_a.2 in
+      let b_z : Contains z.elements b = subst (λ (w : Cluster). Contains w.elements b) (same_Some _ _ (sym at_b.1 ∙ z_is)) at_b.2 in
       let can : CanTake g f (Three x.name y.name z.name) = (
         (y_below, z_below),
         (

@@ -1,12 +1,11 @@
 -- The clusters that hold some elements, as a walk through the index finds them.
-use Rattle.std.proofs.Common.{◌≡◌, ◌∙◌, inl, inr, ℕ, List, [], sym, subst}
-use Rattle.std.specs.Prelude.{◌↔◌, Contains, Some}
+use Rattle.std.proofs.Common.{◌≡◌, inl, inr, List, [], sym, subst}
+use Rattle.std.specs.Prelude.{◌↔◌, Contains}
 use Rattle.sk_base.specs.declared.Elem.{Elem}
 use Rattle.sk_base.specs.declared.Name.{Name}
 use Rattle.sk_base.specs.declared.Graph.{Graph}
 use Rattle.sk_base.specs.ClusterNames.{IsBelow}
 use Rattle.sk_base.proofs.Members.{contains_none}
-use Rattle.sk_family.specs.declared.Cluster.{Cluster}
 use Rattle.sk_family.specs.Clusters.{Clusters}
 use Rattle.sk_index.specs.declared.Index.{Index}
 use Rattle.sk_index.specs.Walks.{FromSome, GrowsBy, HolderOf}

@@ -7,13 +7,14 @@ use Rattle.sk_base.specs.declared.Graph.{Graph}
 use Rattle.sk_base.specs.ClusterNames.{IsBelow}
 use Rattle.sk_base.proofs.Unions.{which}
 use Rattle.sk_base.proofs.Pairs.{pairs_same}
+use Rattle.std.proofs.lemmas.Option.{same_Some}
 use Rattle.sk_family.specs.Clusters.{Clusters}
 use Rattle.sk_family.proofs.Naming.{below_irreflexive, below_asymmetric}
 use Rattle.sk_rules.specs.declared.Merge.{Merge}
 use Rattle.sk_rules.specs.declared.Merge.TheVariants.{Two}
 use Rattle.sk_rules.specs.Merges.{names_of, merged}
 use Rattle.sk_worklist.specs.Choices.{NamesBefore, ComesFirst, CanTake, IsFirstPair, AreTriples, AreChoices}
-use Rattle.sk_worklist.specs.Run.{PicksLead}
+use Rattle.sk_worklist.specs.Run.{PicksLeadBy}
 
 pub below_tells : (m n : Name) → IsBelow m n ⊎ ((m ≡ n) ⊎ IsBelow n m)
 below_tells (Con j) (Con k) = elim (which j k) [ inl less ↦ inl less | inr (inl level) ↦ inr (inl (ap Con level)) | inr (inr more) ↦ inr (inr more) ]
@@ -73,34 +74,33 @@ choices_are_one g f one other (inr ours) (inr theirs) =
     pairs_same ComesFirst (λ m. names_irreflexive (names_of m)) (λ m n. names_asymmetric (names_of m) (names_of n)) one other ours.in_order theirs.in_order
     (λ m h. (theirs.exactly m).1 ((ours.exactly m).0 h)) (λ m h. (ours.exactly m).1 ((theirs.exactly m).0 h))
 
-pub some_inside : {X : Type 0} (x y : X) → Some x ≡ Some y → x ≡ y
-some_inside x y e = cc
-
 pub nothing_picked : (n : ℕ) (m : Merge) → slice_get [] n ≡ Some m → ⊥
 nothing_picked n m e = cc
 
-module _ {P : Type 0} (answer : P → ℕ → ℕ) (after : P → ℕ → P) (g : Graph) where
+-- where a family has one list of choices, a picker has one run
+module _ {P : Type 0} (are : Clusters → List Merge → Type 0) (one_list : (f : Clusters) (xs ys : List Merge) → are f xs → are f ys → xs ≡ ys)
+    (answer : P → ℕ → ℕ) (after : P → ℕ → P) where
   -- where there is no choice none is picked
-  stopped : (f : Clusters) (p : P) (choices : List Merge) (m : Merge) → AreChoices g f choices → slice_get choices (answer p (length choices)) ≡ Some m → AreChoices g f [] → ⊥
-  stopped f p choices m are picked none =
-      let empty : choices ≡ [] = choices_are_one g f choices [] are none in
+  stopped : (f : Clusters) (p : P) (choices : List Merge) (m : Merge) → are f choices → slice_get choices (answer p (length choices)) ≡ Some m → are f [] → ⊥
+  stopped f p choices m these picked none =
+      let empty : choices ≡ [] = one_list f choices [] these none in
       nothing_picked (answer p (length choices)) m (ap (λ cs. slice_get cs (answer p (length choices))) (sym empty) ∙ picked)
 
   -- the same start leads the same way as long as there are choices
   pub runs_are_one : (f : Clusters) (p : P) (ms ns : List Merge) (one other : Clusters) (last end : P)
-      → PicksLead answer after g f p ms one last → AreChoices g one [] → PicksLead answer after g f p ns other end → AreChoices g other []
+      → PicksLeadBy are answer after f p ms one last → are one [] → PicksLeadBy are answer after f p ns other end → are other []
       → (ms ≡ ns) × (one ≡ other) × (last ≡ end)
   runs_are_one f p [] [] one other last end (one_is, last_is) none (other_is, end_is) no_more =
       (refl, one_is ∙ sym other_is, last_is ∙ sym end_is)
-  runs_are_one f p [] (n ∷ ns) one other last end (one_is, last_is) none (choices, are, picked, rest) no_more =
-      absurd (stopped f p choices n are picked (subst (λ (h : Clusters). AreChoices g h []) one_is none))
-  runs_are_one f p (m ∷ ms) [] one other last end (choices, are, picked, rest) none (other_is, end_is) no_more =
-      absurd (stopped f p choices m are picked (subst (λ (h : Clusters). AreChoices g h []) other_is no_more))
+  runs_are_one f p [] (n ∷ ns) one other last end (one_is, last_is) none (choices, these, picked, rest) no_more =
+      absurd (stopped f p choices n these picked (subst (λ (h : Clusters). are h []) one_is none))
+  runs_are_one f p (m ∷ ms) [] one other last end (choices, these, picked, rest) none (other_is, end_is) no_more =
+      absurd (stopped f p choices m these picked (subst (λ (h : Clusters). are h []) other_is no_more))
   runs_are_one f p (m ∷ ms) (n ∷ ns) one other last end (cs, cs_are, m_picked, ms_lead) none (ds, ds_are, n_picked, ns_lead) no_more =
-      let lists : cs ≡ ds = choices_are_one g f cs ds cs_are ds_are in
-      let same : m ≡ n = some_inside m n (sym m_picked ∙ ap (λ ks. slice_get ks (answer p (length ks))) lists ∙ n_picked) in
-      let moved : PicksLead answer after g (merged f m) (after p (length cs)) ns other end =
-      subst (λ (k : Merge). PicksLead answer after g (merged f k) (after p (length cs)) ns other end) (sym same)
-      (subst (λ ks. PicksLead answer after g (merged f n) (after p (length ks)) ns other end) (sym lists) ns_lead) in
+      let lists : cs ≡ ds = one_list f cs ds cs_are ds_are in
+      let same : m ≡ n = same_Some m n (sym m_picked ∙ ap (λ ks. slice_get ks (answer p (length ks))) lists ∙ n_picked) in
+      let moved : PicksLeadBy are answer after (merged f m) (after p (length cs)) ns other end =
+      subst (λ (k : Merge). PicksLeadBy are answer after (merged f k) (after p (length cs)) ns other end) (sym same)
+      (subst (λ ks. PicksLeadBy are answer after (merged f n) (after p (length ks)) ns other end) (sym lists) ns_lead) in
       let (rest, ends, lasts) = runs_are_one (merged f m) (after p (length cs)) ms ns one other last end ms_lead none moved no_more in
       (cc, ends, lasts)

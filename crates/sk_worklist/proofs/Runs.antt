@@ -11,7 +11,7 @@ use Rattle.sk_rules.specs.declared.Merge.{Merge}
 use Rattle.sk_rules.specs.declared.Taken.{Taken}
 use Rattle.sk_rules.specs.Merges.{Falls, Holds, merged, names_of}
 use Rattle.sk_rules.specs.Taking.{IsTaken, Leads}
-use Rattle.sk_rules.specs.Reach.{Step, Reach, stays, goes, IsClosed}
+use Rattle.sk_rules.specs.Reach.{Reach, stays, goes, IsClosed}
 use Rattle.sk_rules.proofs.Merging.{merge_lessens, closed_by_merges, can_be_replaced}
 use Rattle.sk_family.proofs.Soundness.{sound_replaced}
 use Rattle.sk_worklist.specs.Choices.{CanTake, AreChoices}
@@ -22,10 +22,6 @@ use Rattle.sk_index.proofs.Holding.{in_list}
 pub on_err : {T E P : Type 0} (r : Result T E) → P → OnErr r P
 on_err (Ok x) h = tt
 on_err (Err e) h = h
-
-pub reach_more : (g : Graph) (f m n : List Body) → Reach g f m → Step g m n → Reach g f n
-reach_more g f m n stays one = goes one stays
-reach_more g f m n (goes {mid = mid} first rest) one = goes first (reach_more g mid m n rest one)
 
 pub reach_on : (g : Graph) (f m n : List Body) → Reach g f m → Reach g m n → Reach g f n
 reach_on g f m n stays rest = rest

@@ -9,6 +9,7 @@ use Rattle.sk_base.specs.ClusterNames.{is_named}
 use Rattle.sk_base.proofs.Filters.{filter_keeps}
 use Rattle.sk_base.proofs.Members.{contains_none, contains_head, contains_later, contains_one, contains_cases, contains_mapped, mapped_from, contains_filtered, filtered_from}
 use Rattle.sk_base.proofs.Pairs.{pairs_none, pairs_push}
+use Rattle.sk_rules.proofs.Keeping.{reach_then}
 use Rattle.sk_family.specs.declared.Cluster.{Cluster}
 use Rattle.sk_family.specs.Body.{Body, IsRisingBody, join_all}
 use Rattle.sk_family.specs.Clusters.{Clusters, IsLive, IsNamed, IsSound, body_of, bodies, named, made_of, replaced, unnamed}
@@ -27,7 +28,6 @@ use Rattle.sk_index.specs.Marks.{IsMarked}
 use Rattle.sk_worklist.specs.Choices.{CanTake}
 use Rattle.sk_index.specs.Indexed.{HasElements, IsHeld, IsIndex, KeepsLines, IsThird, Represents}
 use Rattle.sk_worklist.proofs.Entering.{represents_left}
-use Rattle.sk_worklist.proofs.Runs.{reach_more}
 
 module _ (f : Clusters) where
   abbrev pub parts : List Name → List Body
@@ -270,7 +270,7 @@ module _ (ix : Index) (g : Graph) (f : Clusters) (sound : IsSound f) (names : Li
   reached_with : (more : List Name) (some : List Body) → ((b : Body) → Contains some b ↔ Contains (parts f more) b) → ((n : Name) → Contains more n → ¬ Contains names n)
       → CanMerge g (made_of names f.live ∷ some) → Reach g (bodies f) (bodies (replaced f (names ++ more)))
   reached_with more some some_are apart can =
-      reach_more g (bodies f) (bodies (replaced f names)) (bodies (replaced f (names ++ more))) grown.reached (step_in f sound names more some some_are g apart can)
+      reach_then g (bodies f) (bodies (replaced f names)) (bodies (replaced f (names ++ more))) grown.reached (step_in f sound names more some some_are g apart can)
 
   pub reached_one : (n : Name) → Joins ix marks (One n) → Reach g (bodies f) (bodies (replaced f (names ++ n ∷ [])))
   reached_one n (x, held, is, two) =
@@ -312,7 +312,7 @@ module _ (ix : Index) (g : Graph) (f : Clusters) (sound : IsSound f) (names : Li
   pub grown_one : (n : Name) → Joins ix marks (One n) → names' ≡ names ++ n ∷ [] → IsGrown new g f names' marks'
   grown_one n joins is = record {
     has = has;
-    some = (let long = ap length is in let sum = length-append names (n ∷ []) in let some = grown.some in omega (arith, long, sum, some));
+    at_least_two = (let long = ap length is in let sum = length-append names (n ∷ []) in let some = grown.at_least_two in omega (arith, long, sum, some));
     reached = subst (λ ns. Reach g (bodies f) (bodies (replaced f ns))) (sym is) (reached_one ix g f sound names marks grown n joins);
   }
 
@@ -321,7 +321,7 @@ module _ (ix : Index) (g : Graph) (f : Clusters) (sound : IsSound f) (names : Li
       let both : names' ≡ names ++ m ∷ n ∷ [] = is ∙ append_assoc names (m ∷ []) (n ∷ []) in
       record {
         has = has;
-        some = (let long = ap length both in let sum = length-append names (m ∷ n ∷ []) in let some = grown.some in omega (arith, long, sum, some));
+        at_least_two = (let long = ap length both in let sum = length-append names (m ∷ n ∷ []) in let some = grown.at_least_two in omega (arith, long, sum, some));
         reached = subst (λ ns. Reach g (bodies f) (bodies (replaced f ns))) (sym both) (reached_both ix g f sound names marks grown m n joins);
       }
 
@@ -329,7 +329,7 @@ module _ (ix : Index) (g : Graph) (f : Clusters) (sound : IsSound f) (names : Li
 pub begun : (g : Graph) (f : Clusters) → IsSound f → (m : Merge) → CanTake g f m → (new : Index) (names : List Name) (marks : List Bool) → names ≡ names_of m → HasGrown new g f names marks → IsGrown new g f names marks
 begun g f sound m can new names marks is has = record {
   has = has;
-  some = subst (λ ns. 1 < length ns) (sym is) (two_or_more m);
+  at_least_two = subst (λ ns. 1 < length ns) (sym is) (two_or_more m);
   reached = subst (λ ns. Reach g (bodies f) (bodies (replaced f ns))) (sym is) (goes (merge_steps g f sound m can.0 can.1) stays);
 }
   where

@@ -44,5 +44,5 @@ pub record HasGrown (ix : Index) (g : Graph) (f : Clusters) (names : List Name) 
 -- and merging leads to the family with what they make in their place
 pub record IsGrown (ix : Index) (g : Graph) (f : Clusters) (names : List Name) (marks : List Bool) : Type 0 where
   pub has : HasGrown ix g f names marks
-  pub some : 1 < length names
+  pub at_least_two : 1 < length names
   pub reached : Reach g (bodies f) (bodies (replaced f names))

@@ -1,17 +1,14 @@
 -- What is known of the merges of a family, and which triples are kept.
-use Rattle.std.specs.Prelude.{◌≡◌, ◌≢◌, ◌↔◌, ◌⊎◌, ◌++◌, ℕ, Bool, true, false, not, ◌||◌, List, [], ◌∷◌, Option, None, Some, Contains, AllPairs, filter, length, ◌-◌, slice_get}
+use Rattle.std.specs.Prelude.{◌≡◌, ◌≢◌, Bool, false, not, ◌||◌, List, Contains, AllPairs, filter}
 use Rattle.sk_base.specs.declared.Name.{Name}
 use Rattle.sk_base.specs.declared.Name.TheVariants.{Step}
-use Rattle.sk_base.specs.declared.Elem.{Elem}
 use Rattle.sk_base.specs.declared.Graph.{Graph}
 use Rattle.sk_base.specs.ClusterNames.{IsBelow, is_named}
-use Rattle.sk_base.specs.Numbering.{elem_number}
 use Rattle.sk_family.specs.declared.Cluster.{Cluster}
-use Rattle.sk_base.specs.Rising.{IsRising}
-use Rattle.sk_family.specs.Clusters.{Clusters, IsNamed}
+use Rattle.sk_family.specs.Clusters.{Clusters}
 use Rattle.sk_rules.specs.declared.Merge.{Merge}
 use Rattle.sk_rules.specs.declared.Merge.TheVariants.{Two, Three}
-use Rattle.sk_rules.specs.Rules.{SharesTwo, IsLine}
+use Rattle.sk_rules.specs.Rules.{SharesTwo}
 use Rattle.sk_rules.specs.Merges.{names_of}
 use Rattle.sk_worklist.specs.Choices.{CanTake, ComesFirst}
 

@@ -1,8 +1,8 @@
 use Rattle.std.proofs.Common.{◌≡◌, ◌-◌, ◌∙◌, List, length, subst}
 use Rattle.std.specs.Prelude.{AllPairs, Some, slice_get}
+use Rattle.std.proofs.lemmas.Option.{same_Some}
 use Rattle.sk_family.specs.declared.Cluster.{Cluster}
 use Rattle.sk_worklist.specs.Choices.{ComesFirst}
-use Rattle.sk_index.proofs.Growing.{some_inside}
 use Rattle.sk_worklist.proofs.TakingIn.{both_on_ok}
 use Rattle.sk_derive.specs.TieMerges.{AreBelow, FindsOf}
 use Rattle.sk_derive.proofs.tie_merges.add_merges_of_last.Goals as goal
@@ -16,4 +16,4 @@ returns-in-Some-clause-found c =
     let here = c.in-Some.last.now in
     let here_is : Some here ≡ slice_get family.live (length family.live - 1) = subst (λ (cs : List Cluster). Some here ≡ slice_get cs (length cs - 1)) c.clusters.ensures.live c.in-Some.ensures.value in
     both_on_ok c.add_merges_with.result c.add_merges_with.ensures.found c.add_merges_with.ensures.in_order (λ finds ordered a last.
-    subst (λ (z : Cluster). FindsOf graph family z family.live old new × (AllPairs ComesFirst old → AreBelow old z.name → AllPairs ComesFirst new)) (some_inside (here_is ∙ last)) (finds, ordered))
+    subst (λ (z : Cluster). FindsOf graph family z family.live old new × (AllPairs ComesFirst old → AreBelow old z.name → AllPairs ComesFirst new)) (same_Some _ _ (here_is ∙ last)) (finds, ordered))

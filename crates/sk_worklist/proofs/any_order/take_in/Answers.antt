@@ -18,7 +18,7 @@ returns-in_err-grow-clause-reached c = stays
 pub replace_all-requires-clause-from : goal.replace_all-requires-clause-from
 replace_all-requires-clause-from c =
     let has = c.in_ok-grow.ensures.has in
-    let can : CanBeJoined c.args.family.now c.grow.new.self.names = record { at_least_two = c.in_ok-grow.ensures.some; all_live = has.all_live; differ = has.differ } in
+    let can : CanBeJoined c.args.family.now c.grow.new.self.names = record { at_least_two = c.in_ok-grow.ensures.at_least_two; all_live = has.all_live; differ = has.differ } in
     subst (λ (ns : List Name). CanBeJoined c.args.family.now ns) (sym c.as_slice.ensures) can
 
 pub returns-in_err-replace_all-clause-reached : goal.returns-in_err-replace_all-clause-reached

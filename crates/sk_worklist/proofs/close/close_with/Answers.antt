@@ -1,5 +1,6 @@
 use Rattle.std.proofs.Common.{◌≡◌, List, [], ◌∷◌, ◌++◌, ap, sym, subst, ◌∙◌, arith, refl}
 use Rattle.std.specs.Prelude.{map, Option, None}
+use Rattle.sk_rules.proofs.Keeping.{reach_then}
 use Rattle.sk_family.specs.Body.{initial_bodies}
 use Rattle.sk_family.specs.Clusters.{Clusters, bodies}
 use Rattle.sk_rules.specs.declared.Merge.{Merge}
@@ -10,7 +11,7 @@ use Rattle.sk_rules.specs.Taking.{Leads}
 use Rattle.sk_worklist.specs.Run.{PicksLead, merge_of}
 use Rattle.sk_worklist.specs.Turns.{Answers}
 use Rattle.sk_worklist.proofs.Entering.{have_elements}
-use Rattle.sk_worklist.proofs.Runs.{on_err, reach_more, reach_on, none_closes, two_live, answer_can, picks_turn, picks_taken, leads_more}
+use Rattle.sk_worklist.proofs.Runs.{on_err, reach_on, none_closes, two_live, answer_can, picks_turn, picks_taken, leads_more}
 use Rattle.sk_rules.proofs.NormalForm.{normal_same}
 use Rattle.sk_worklist.proofs.close.close_with.Goals as goal
 
@@ -100,7 +101,7 @@ returns-in_err-enter-clause-err g c =
 
 pub returns-in_err-enter-clause-reached : goal.returns-in_err-enter-clause-reached
 returns-in_err-enter-clause-reached g c =
-    reach_more c.args.graph.now (bodies c.args.family.now) (bodies c.loop-taken.family) (bodies c.take.new.family) c.loop-taken.invariant.reached c.in_ok-done.ensures.step
+    reach_then c.args.graph.now (bodies c.args.family.now) (bodies c.loop-taken.family) (bodies c.take.new.family) c.loop-taken.invariant.reached c.in_ok-done.ensures.step
 
 pub returns-in_err-push-clause-err : goal.returns-in_err-push-clause-err
 returns-in_err-push-clause-err g c =
@@ -116,7 +117,7 @@ returns-in_err-push-clause-err g c =
 
 pub returns-in_err-push-clause-reached : goal.returns-in_err-push-clause-reached
 returns-in_err-push-clause-reached g c =
-    reach_more c.args.graph.now (bodies c.args.family.now) (bodies c.loop-taken.family) (bodies c.take.new.family) c.loop-taken.invariant.reached c.in_ok-done.ensures.step
+    reach_then c.args.graph.now (bodies c.args.family.now) (bodies c.loop-taken.family) (bodies c.take.new.family) c.loop-taken.invariant.reached c.in_ok-done.ensures.step
 
 pub loop-taken-preserved : goal.loop-taken-preserved
 loop-taken-preserved g c =
@@ -129,7 +130,7 @@ loop-taken-preserved g c =
     record {
       room = (let next = ap (λ (f : Clusters). f.next_step) ok in let fewer = c.in_ok-done.ensures.fewer in omega (arith, next, fewer, c.loop-taken.invariant.room));
       no_more = (let fewer = c.in_ok-done.ensures.fewer in omega (arith, fewer, c.loop-taken.invariant.no_more));
-      reached = reach_more graph (bodies c.args.family.now) (bodies family) (bodies new) c.loop-taken.invariant.reached c.in_ok-done.ensures.step;
+      reached = reach_then graph (bodies c.args.family.now) (bodies family) (bodies new) c.loop-taken.invariant.reached c.in_ok-done.ensures.step;
       leads = subst (λ (ts : List Taken). Leads graph c.args.family.now ts new) (sym c.in_ok-push.ensures.ok)
           (subst (λ (e : Clusters). Leads graph c.args.family.now (c.loop-taken.taken ++ done ∷ []) e)
           (sym (ok ∙ ap (λ (m : Merge). merged family m) (sym same)))

@@ -2,7 +2,7 @@ use Rattle.sk_index.specs.Walks.{FromSome}
 use Rattle.sk_worklist.specs.Gather.{ThirdAt}
 use Rattle.sk_index.proofs.Growing.{grows_start, grows_step, grows_end, grows_same}
 use Rattle.sk_index.specs.Indexed.{IsBelowAt, holders_of}
-use Rattle.sk_index.proofs.Walking.{some_same}
+use Rattle.sk_index.proofs.Walking.{found_in_front}
 use Rattle.sk_worklist.proofs.triples.add_with_corners.Goals as goal
 
 pub loop-key-init : goal.loop-key-init
@@ -17,5 +17,5 @@ returns c =
     let kind = ThirdAt c.args.index.now c.args.x.now c.args.y.now c.args.a c.args.b in
     let all = holders_of c.args.index.now c.args.b in
     grows_same (FromSome kind c.below-key-items.result.now) (FromSome kind all) c.args.all.now c.loop-key.all
-    (some_same c.below-key-items.result.now all (IsBelowAt c.args.index.now c.args.y.now.name) c.below-key-items.ensures kind (λ k m (z, is, third, m_is). (z, is, third.0)))
+    (found_in_front c.below-key-items.result.now all (IsBelowAt c.args.index.now c.args.y.now.name) c.below-key-items.ensures kind (λ k m (z, is, third, m_is). (z, is, third.0)))
     (grows_end kind c.below-key-items.result.now c.args.all.now c.loop-key.all c.loop-key.key-index c.loop-key-test.false c.loop-key.invariant)
