@@ -1,29 +1,23 @@
 -- What edits leave of the drawing: the elements that rules name, and so the rules.
-use Rattle.std.proofs.Common.{◌≡◌, ◌≢◌, inl, inr, ◌<◌, ◌==◌, Bool, true, false, cond, List, [], ◌∷◌, get_or, refl, ap, sym, subst, ◌∙◌, arith}
-use Rattle.std.specs.Prelude.{Contains, IsSome, IsTrue, Option, None, Some, find, map, not}
+use Rattle.std.proofs.Common.{◌≡◌, ◌≢◌, ◌<◌, ◌==◌, Bool, true, false, cond, List, [], ◌∷◌, get_or, refl, ap, sym, subst, ◌∙◌, arith}
+use Rattle.std.specs.Prelude.{Contains, IsTrue, Some, find, map, not}
 use Rattle.sk_base.specs.Labels.{is_name}
-use Rattle.std.specs.Option.{option_map}
 use Rattle.std.proofs.lemmas.Bool.Decides.{nat_tests}
 use Rattle.std.proofs.lemmas.List.{length-map}
 use Rattle.std.proofs.lemmas.List.Filters.{length-filter_both}
-use Rattle.std.proofs.lemmas.List.Elements.{All-contains, All-filter, All-map, All-weaker, Contains-get_or}
+use Rattle.std.proofs.lemmas.List.Elements.{All-filter, All-map, All-weaker, Contains-get_or}
 use Rattle.sk_base.specs.declared.Elem.{Elem}
 use Rattle.sk_base.specs.declared.ConId.{ConId}
 use Rattle.sk_base.specs.declared.Um.{Um}
 use Rattle.sk_base.specs.declared.Ratio.{Ratio}
 use Rattle.sk_base.specs.declared.Element.{Element}
 use Rattle.sk_base.specs.declared.Constraint.{Constraint}
-use Rattle.sk_base.specs.declared.Pin.{Pin}
-use Rattle.sk_base.specs.declared.Shape.{Shape}
 use Rattle.sk_base.specs.declared.Rule.{Rule}
 use Rattle.sk_base.specs.declared.Rule.TheVariants as rule
 use Rattle.sk_base.specs.declared.Sketch.{Sketch}
-use Rattle.sk_base.specs.Drawn.{element_of, shape_of}
 use Rattle.sk_base.specs.Numbering.{elem_exact}
-use Rattle.sk_base.specs.SoundSketch.{IsSoundSketch, IsSoundRule, IsSoundShape, IsSoundRatio, IsLength, IsCentred, BothFit, MayJoin, MayBeApart, MayLieOn, MayBeTangent, AreCircles, MayNest, AreLines}
-use Rattle.sk_base.proofs.Blocks.{block_kept}
+use Rattle.sk_base.specs.SoundSketch.{IsSoundSketch, IsSoundRule, IsSoundShape, IsSoundRatio, IsLength}
 use Rattle.sk_base.proofs.Pairs.{pairs_map, pairs_filter}
-use Rattle.sk_base.proofs.Members.{contains_head, contains_later, contains_cases, contains_one, contains_mapped, mapped_from}
 use Rattle.sk_graph.specs.Naming.{named_by}
 use Rattle.sk_graph.proofs.Drawing.{DrawnAlike, rule_alike}
 use Rattle.sk_edits.specs.declared.edit.Edit.TheVariants as edit

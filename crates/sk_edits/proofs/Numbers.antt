@@ -10,7 +10,8 @@ use Rattle.sk_base.specs.declared.Sketch.{Sketch}
 use Rattle.sk_base.proofs.Members.{contains_none, filtered_from, mapped_from}
 use Rattle.sk_edits.specs.declared.edit.Edit.{Edit}
 use Rattle.sk_edits.specs.declared.edit.Edit.TheVariants as edit
-use Rattle.sk_edits.specs.Edits.{empty, applied, changed, with_length, with_ratio, sketch_of, element_given, constraint_given, next_element, next_constraint}
+use Rattle.sk_entry.specs.Growth.{empty_sketch}
+use Rattle.sk_edits.specs.Edits.{applied, changed, with_length, with_ratio, sketch_of, element_given, constraint_given, next_element, next_constraint}
 
 -- no element, and no constraint, has a number above n
 abbrev ElementsUpTo : ℕ → Sketch → Type 0
@@ -57,7 +58,7 @@ constraints_up_to [] s n below = below
 constraints_up_to (e ∷ edits) s n below = constraints_up_to edits (applied e s) (max n (constraint_given e)) (constraint_up_to e s n below)
 
 pub elements_below : (edits : List Edit) (x : Element) → Contains (sketch_of edits).elements x → x.number.0 < next_element edits
-elements_below edits x x_in = (let most = elements_up_to edits empty 0 (λ y h. absurd (contains_none y h)) x x_in in omega (arith, most))
+elements_below edits x x_in = (let most = elements_up_to edits empty_sketch 0 (λ y h. absurd (contains_none y h)) x x_in in omega (arith, most))
 
 pub constraints_below : (edits : List Edit) (x : Constraint) → Contains (sketch_of edits).constraints x → x.number.0 < next_constraint edits
-constraints_below edits x x_in = (let most = constraints_up_to edits empty 0 (λ y h. absurd (contains_none y h)) x x_in in omega (arith, most))
+constraints_below edits x x_in = (let most = constraints_up_to edits empty_sketch 0 (λ y h. absurd (contains_none y h)) x x_in in omega (arith, most))

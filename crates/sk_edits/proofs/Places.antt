@@ -30,19 +30,19 @@ module _ {X : Type 0} (number : X → ℕ) where
       (ap (λ ys. x ∷ ys) (removed xs i n d (pairs_tail (λ a b. number a < number b) x xs rises) (omega arith) is))
 
   -- another item in its place
-  pub exchanged : (xs : List X) (i : ℕ) (item d : X) → IsRising number xs → i < length xs → number (get_or xs i d) ≡ number item → slice_set xs i item ≡ with_item number item xs
-  exchanged [] i item d rises i_in is = absurd (omega arith)
-  exchanged (x ∷ xs) zero item d rises i_in is =
+  pub replaced : (xs : List X) (i : ℕ) (item d : X) → IsRising number xs → i < length xs → number (get_or xs i d) ≡ number item → slice_set xs i item ≡ with_item number item xs
+  replaced [] i item d rises i_in is = absurd (omega arith)
+  replaced (x ∷ xs) zero item d rises i_in is =
       let here : (number x == number item) ≡ true = grind (arith, nat_tests) in
       rw here
       (ap (λ ys. item ∷ ys) (sym (same_all (λ y. cond (number y == number item) item y) xs (λ y y_in. (
       let less = pairs_head (λ a b. number a < number b) x xs rises y y_in in
       let other : (number y == number item) ≡ false = grind (arith, nat_tests) in rw other)))))
-  exchanged (x ∷ xs) (suc i) item d rises i_in is =
+  replaced (x ∷ xs) (suc i) item d rises i_in is =
       let less : number x < number (get_or xs i d) = pairs_head (λ a b. number a < number b) x xs rises (get_or xs i d) (i, omega arith, get_or_default xs i (get_or xs i d) d (omega arith)) in
       let other : (number x == number item) ≡ false = grind (arith, nat_tests) in
       rw other
-      (ap (λ ys. x ∷ ys) (exchanged xs i item d (pairs_tail (λ a b. number a < number b) x xs rises) (omega arith) is))
+      (ap (λ ys. x ∷ ys) (replaced xs i item d (pairs_tail (λ a b. number a < number b) x xs rises) (omega arith) is))
 
   module _ (xs : List X) (rises : IsRising number xs) (n place : ℕ) (bound : place ≤ length xs)
       (before : (k : ℕ) (d : X) → k < place → number (get_or xs k d) < n) (behind : (d : X) → place < length xs → n ≤ number (get_or xs place d)) where

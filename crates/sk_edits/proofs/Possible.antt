@@ -1,9 +1,10 @@
 -- Lines without a code say edits that can be made.
-use Rattle.std.proofs.Common.{◌≡◌, inl, inr, ℕ, ◌==◌, ◌||◌, Bool, true, false, cond, List, [], ◌∷◌, Option, Some, None, Ok, Err, is_none, refl, ap, sym, subst, ◌∙◌, arith}
+use Rattle.std.proofs.Common.{◌≡◌, inl, inr, ℕ, ◌==◌, false, cond, List, [], ◌∷◌, Option, Some, None, Ok, Err, is_none, refl, ap, sym, subst, ◌∙◌, arith}
 use Rattle.std.specs.Prelude.{Contains, not, unwrap_or, bytes_eq}
 use Rattle.std.specs.List.{list_any}
 use Rattle.std.specs.Option.{option_map}
 use Rattle.std.proofs.lemmas.List.Elements.{All-contains, Contains-push}
+use Rattle.std.proofs.lemmas.Bool.{or_parts}
 use Rattle.std.proofs.lemmas.Bool.Decides.{nat_tests}
 use Rattle.sk_base.specs.declared.Elem.{Elem}
 use Rattle.sk_base.specs.declared.ConId.{ConId}
@@ -22,6 +23,7 @@ use Rattle.sk_lines.specs.declared.Code.TheVariants.{E4, E6, E8, E9, S1, S2}
 use Rattle.sk_lines.specs.Quantities.{is_zero, length_of, ratio_of, um, ratio}
 use Rattle.sk_lines.specs.FirstCode.{first_code}
 use Rattle.sk_entry.specs.Named.{element_named, number_named}
+use Rattle.sk_entry.specs.NumberedConstraint.{constraint_of}
 use Rattle.sk_base.proofs.Tables.{passed}
 use Rattle.sk_base.proofs.Numbers.{found_elem}
 use Rattle.sk_graph.specs.Naming.{named_by}
@@ -29,7 +31,7 @@ use Rattle.sk_edits.specs.declared.command.Change.{Change}
 use Rattle.sk_edits.specs.declared.command.Change.TheVariants.{Drop, Set, Erase}
 use Rattle.sk_edits.specs.declared.edit.Edit.{Edit}
 use Rattle.sk_edits.specs.declared.edit.Edit.TheVariants as edit
-use Rattle.sk_edits.specs.Commands.{number_of, id_of, constraint_with, rule_with, is_used, value_rows, setting, change_rows, edit_made, from_made}
+use Rattle.sk_edits.specs.Commands.{number_of, id_of, rule_with, is_used, value_rows, setting, change_rows, edit_made, from_made}
 use Rattle.sk_edits.specs.Edits.{applied, sketch_of, next_element, next_constraint}
 use Rattle.sk_edits.specs.Making.{CanMake, HasConstraint, HasElement, HasSoundValue}
 use Rattle.sk_graph.proofs.Drawing.{rule_alike}
@@ -60,7 +62,7 @@ some_of : {X : Type 0} (o : Option X) → is_none o ≡ false → (x : X) × (o 
 some_of None is = absurd (cc)
 some_of (Some x) is = (x, refl)
 
-has_numbered : (s : Sketch) (k : ConId) (c : Constraint) → constraint_with s k ≡ Some c → HasConstraint s k
+has_numbered : (s : Sketch) (k : ConId) (c : Constraint) → constraint_of s k ≡ Some c → HasConstraint s k
 has_numbered s k c is =
     let found = found_in (λ (x : Constraint). x.number.0 == k.0) s.constraints c is in
     let passes = found.1 in
@@ -71,16 +73,12 @@ has_numbered s k c is =
 unused : (x : Elem) (cs : List Constraint) → list_any (λ (c : Constraint). is_elem (named_by c.rule) x) cs ≡ false → (c : Constraint) → Contains cs c → ¬ Contains (named_by c.rule) x
 unused x [] none c c_in = absurd (contains_none c c_in)
 unused x (d ∷ cs) none c c_in =
-    let split = neither (is_elem (named_by d.rule) x) (list_any (λ (y : Constraint). is_elem (named_by y.rule) x) cs) none in
+    let split = or_parts (is_elem (named_by d.rule) x) (list_any (λ (y : Constraint). is_elem (named_by y.rule) x) cs) none in
     elim (contains_cases d cs c c_in) [
       | inl here ↦ subst (λ (y : Constraint). ¬ Contains (named_by y.rule) x) here (apart d split.0)
       | inr later ↦ unused x cs split.1 c later
     ]
   where
-    neither : (a b : Bool) → (a || b) ≡ false → (a ≡ false) × (b ≡ false)
-    neither true b is = absurd (cc)
-    neither false b is = (refl, is)
-
     apart : (y : Constraint) → is_elem (named_by y.rule) x ≡ false → ¬ Contains (named_by y.rule) x
     apart y is named = (let found = found_elem (named_by y.rule) x named in absurd (cc))
 
@@ -110,18 +108,18 @@ pub can_change : (s : Sketch) → IsSoundSketch s → (change : Change) (rest : 
 can_change s sound Drop [] clean = absurd (cc)
 can_change s sound Drop (number ∷ []) clean =
     let k = id_of number in
-    let one = passed (is_none (number_of number)) E8 (cond (is_none (constraint_with s k)) (Some S1) None) clean in
-    let two = passed (is_none (constraint_with s k)) S1 None one.1 in
-    let found = some_of (constraint_with s k) two.0 in
+    let one = passed (is_none (number_of number)) E8 (cond (is_none (constraint_of s k)) (Some S1) None) clean in
+    let two = passed (is_none (constraint_of s k)) S1 None one.1 in
+    let found = some_of (constraint_of s k) two.0 in
     (edit.Dropped k, refl, λ fine. record { possible = has_numbered s k found.0 found.1; sound = sound; stays_sound = drop_sound s k sound })
 can_change s sound Drop (number ∷ more ∷ rest) clean = absurd (cc)
 can_change s sound Set [] clean = absurd (cc)
 can_change s sound Set (number ∷ []) clean = absurd (cc)
 can_change s sound Set (number ∷ value ∷ []) clean =
     let k = id_of number in
-    let one = passed (is_none (number_of number)) E8 (cond (is_none (constraint_with s k)) (Some S1) (first_code (value_rows (rule_with s k) value))) clean in
-    let two = passed (is_none (constraint_with s k)) S1 (first_code (value_rows (rule_with s k) value)) one.1 in
-    let found = some_of (constraint_with s k) two.0 in
+    let one = passed (is_none (number_of number)) E8 (cond (is_none (constraint_of s k)) (Some S1) (first_code (value_rows (rule_with s k) value))) clean in
+    let two = passed (is_none (constraint_of s k)) S1 (first_code (value_rows (rule_with s k) value)) one.1 in
+    let found = some_of (constraint_of s k) two.0 in
     can_set s sound k (has_numbered s k found.0 found.1) (rule_with s k) value two.1
 can_change s sound Set (number ∷ value ∷ more ∷ rest) clean = absurd (cc)
 can_change s sound Erase [] clean = absurd (cc)
@@ -165,8 +163,8 @@ module _ (quantities : SoundQuantities) where
   sound_value s Drop (number ∷ []) e clean is = value_as e (edit.Dropped (id_of number)) is tt
   sound_value s Set (number ∷ value ∷ []) e clean is =
       let k = id_of number in
-      let one = passed (is_none (number_of number)) E8 (cond (is_none (constraint_with s k)) (Some S1) (first_code (value_rows (rule_with s k) value))) clean in
-      let two = passed (is_none (constraint_with s k)) S1 (first_code (value_rows (rule_with s k) value)) one.1 in
+      let one = passed (is_none (number_of number)) E8 (cond (is_none (constraint_of s k)) (Some S1) (first_code (value_rows (rule_with s k) value))) clean in
+      let two = passed (is_none (constraint_of s k)) S1 (first_code (value_rows (rule_with s k) value)) one.1 in
       value_set (rule_with s k) k value e two.1 is
   sound_value s Erase (name ∷ []) e clean is = value_as e (edit.Erased (number_named s name)) is tt
   sound_value s change rest e clean is = absurd (cc)

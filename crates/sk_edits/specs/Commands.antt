@@ -1,5 +1,5 @@
 -- The commands of a session, and the changes that their lines say, with their codes in order.
-use Rattle.std.specs.Prelude.{ℕ, Bool, true, false, ◌==◌, nat_le, not, List, [], ◌∷◌, ◌++◌, Option, Some, None, Result, Ok, Err, is_none, is_some, unwrap_or, find, codes, bytes_eq, if◌then◌else◌}
+use Rattle.std.specs.Prelude.{ℕ, Bool, true, not, List, [], ◌∷◌, Option, Some, None, Result, Ok, Err, is_none, unwrap_or, codes, bytes_eq, if◌then◌else◌}
 use Rattle.std.specs.List.{list_any}
 use Rattle.std.specs.Option.{option_map}
 use Rattle.sk_base.specs.declared.Elem.{Elem}
@@ -9,18 +9,12 @@ use Rattle.sk_base.specs.declared.Rule.{Rule}
 use Rattle.sk_base.specs.declared.Rule.TheVariants as rule
 use Rattle.sk_base.specs.declared.Sketch.{Sketch}
 use Rattle.sk_base.specs.Labels.{is_name}
-use Rattle.sk_lines.specs.declared.Version.TheVariants.{Two}
-use Rattle.sk_lines.specs.Comments.{words_under}
 use Rattle.sk_lines.specs.declared.Code.{Code}
-use Rattle.sk_lines.specs.declared.Code.TheVariants.{E2, E3, E4, E6, E8, E9, E18, S1, S2, S3, S4, S5}
+use Rattle.sk_lines.specs.declared.Code.TheVariants.{E3, E4, E6, E8, E9, S1, S2, S4}
 use Rattle.sk_lines.specs.ClusterWords.{plain_number}
-use Rattle.sk_lines.specs.ByteCodes.{byte_rows}
-use Rattle.sk_lines.specs.EndLine.{is_none_left}
-use Rattle.sk_entry.specs.Entry.{rows_of}
 use Rattle.sk_lines.specs.Quantities.{is_zero, length_of, ratio_of, um, ratio}
-use Rattle.sk_lines.specs.FirstCode.{first_code}
-use Rattle.sk_lines.specs.Keywords.{keyword_of}
 use Rattle.sk_entry.specs.Named.{element_named, number_named}
+use Rattle.sk_entry.specs.NumberedConstraint.{constraint_of}
 use Rattle.sk_base.specs.Numbering.{is_elem}
 use Rattle.sk_graph.specs.Naming.{named_by}
 use Rattle.sk_edits.specs.declared.command.Command.{Command}
@@ -50,12 +44,9 @@ number_of word = plain_number 7 word
 abbrev pub id_of : List ℕ → ConId
 id_of word = record { 0 = unwrap_or (number_of word) 0 }
 
--- the constraint of a number, and its rule
-abbrev pub constraint_with : Sketch → ConId → Option Constraint
-constraint_with s k = find (λ (c : Constraint). c.number.0 == k.0) s.constraints
-
+-- the rule of the constraint of a number
 abbrev pub rule_with : Sketch → ConId → Option Rule
-rule_with s k = option_map (λ (c : Constraint). c.rule) (constraint_with s k)
+rule_with s k = option_map (λ (c : Constraint). c.rule) (constraint_of s k)
 
 -- whether a constraint names the element
 abbrev pub is_used : Sketch → Elem → Bool
@@ -69,8 +60,8 @@ value_rows _ word = (true, S4) ∷ []
 
 -- the codes of a change, by the words behind the first
 abbrev pub change_rows : Sketch → Changing → List (List ℕ) → List (Bool × Code)
-change_rows s Drop (number ∷ []) = (is_none (number_of number), E8) ∷ (is_none (constraint_with s (id_of number)), S1) ∷ []
-change_rows s Set (number ∷ value ∷ []) = (is_none (number_of number), E8) ∷ (is_none (constraint_with s (id_of number)), S1) ∷ value_rows (rule_with s (id_of number)) value
+change_rows s Drop (number ∷ []) = (is_none (number_of number), E8) ∷ (is_none (constraint_of s (id_of number)), S1) ∷ []
+change_rows s Set (number ∷ value ∷ []) = (is_none (number_of number), E8) ∷ (is_none (constraint_of s (id_of number)), S1) ∷ value_rows (rule_with s (id_of number)) value
 change_rows s Erase (name ∷ []) = (not (is_name name), E4) ∷ (is_none (element_named s name), E6) ∷ (is_used s (number_named s name), S2) ∷ []
 change_rows s _ _ = (true, E3) ∷ []
 

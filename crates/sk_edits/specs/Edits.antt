@@ -1,5 +1,5 @@
 -- The sketch that a list of edits makes, and the numbers that they give.
-use Rattle.std.specs.Prelude.{ℕ, ◌+◌, ◌==◌, if◌then◌else◌, max, fold, map, List, [], ◌∷◌, ◌++◌}
+use Rattle.std.specs.Prelude.{ℕ, ◌+◌, ◌==◌, if◌then◌else◌, max, fold, map, List}
 use Rattle.sk_base.specs.declared.ConId.{ConId}
 use Rattle.sk_base.specs.declared.Um.{Um}
 use Rattle.sk_base.specs.declared.Ratio.{Ratio}
@@ -8,12 +8,10 @@ use Rattle.sk_base.specs.declared.Constraint.{Constraint}
 use Rattle.sk_base.specs.declared.Rule.{Rule}
 use Rattle.sk_base.specs.declared.Rule.TheVariants as rule
 use Rattle.sk_base.specs.declared.Sketch.{Sketch}
+use Rattle.sk_entry.specs.Growth.{empty_sketch, with_element, with_constraint}
 use Rattle.sk_edits.specs.declared.edit.Edit.{Edit}
 use Rattle.sk_edits.specs.declared.edit.Edit.TheVariants as edit
 use Rattle.sk_edits.specs.Changes.{without}
-
-abbrev pub empty : Sketch
-empty = record { elements = []; constraints = [] }
 
 abbrev pub element_number : Element → ℕ
 element_number e = e.number.0
@@ -36,8 +34,8 @@ changed k change c = record { number = c.number; rule = if c.number.0 == k.0 the
 
 -- the sketch after the edit
 abbrev pub applied : Edit → Sketch → Sketch
-applied (edit.Element e) s = record { elements = s.elements ++ e ∷ []; constraints = s.constraints }
-applied (edit.Constraint c) s = record { elements = s.elements; constraints = s.constraints ++ c ∷ [] }
+applied (edit.Element e) s = with_element s e
+applied (edit.Constraint c) s = with_constraint s c
 applied (edit.Dropped k) s = record { elements = s.elements; constraints = without constraint_number k.0 s.constraints }
 applied (edit.Length k len) s = record { elements = s.elements; constraints = map (changed k (with_length len)) s.constraints }
 applied (edit.Turned k ratio) s = record { elements = s.elements; constraints = map (changed k (with_ratio ratio)) s.constraints }
@@ -45,7 +43,7 @@ applied (edit.Erased x) s = record { elements = without element_number x.0 s.ele
 
 -- the edits applied in order to the sketch without elements
 abbrev pub sketch_of : List Edit → Sketch
-sketch_of edits = fold (λ s e. applied e s) empty edits
+sketch_of edits = fold (λ s e. applied e s) empty_sketch edits
 
 -- the numbers that an edit gives
 abbrev pub element_given : Edit → ℕ

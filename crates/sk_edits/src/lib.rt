@@ -10,5 +10,5 @@ mod reading;
 pub use command::{Change, Command, command_of};
 pub use edit::Edit;
 pub use law::stays_sound;
-pub use numbered::{HasNumber, exchange, get, put, take};
+pub use numbered::{HasNumber, get, put, remove, replace};
 pub use reading::read_change;

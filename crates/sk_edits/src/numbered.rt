@@ -1,5 +1,5 @@
 // Lists in order of number, and changes of one item.
-ghost use Rattle.std.specs.Prelude.{◌≡◌, ◌≢◌, ◌<◌, ◌≤◌, ◌==◌, ℕ, Contains, length, find, slice_index_or, option_copied, OnOk, OnErr};
+ghost use Rattle.std.specs.Prelude.{◌≡◌, ◌≢◌, ◌<◌, ◌≤◌, ℕ, Contains, length, slice_index_or, OnOk, OnErr};
 ghost use Rattle.sk_base.specs.Rising.{IsRising};
 ghost use Rattle.sk_edits.specs.Changes.{HasItem, without, with_item};
 
@@ -52,25 +52,23 @@ pub fn put<T: HasNumber>(items: &mut List<T>, item: T) -> Result<(), NoMemory>
 }
 
 /// Takes the item of the number out.
-pub fn take<T: HasNumber>(items: &mut List<T>, number: u32) -> T
+pub fn remove<T: HasNumber>(items: &mut List<T>, number: u32)
     requires rise { IsRising T.number items.old }
     requires some { (x : T) × Contains items.old x × (T.number x ≡ number) }
-    ensures item { Contains items.old result × (T.number result ≡ number) }
-    ensures rest { items.new ≡ without T.number number items.old }
+    ensures { items.new ≡ without T.number number items.old }
 {
     let place = place_of(items.as_slice(), number);
-    items.remove(place)
+    items.remove(place);
 }
 
-/// Puts the item in the place of the one with its number, and answers that one.
-pub fn exchange<T: HasNumber>(items: &mut List<T>, item: T) -> T
+/// Puts the item in the place of the one with its number.
+pub fn replace<T: HasNumber>(items: &mut List<T>, item: T)
     requires rise { IsRising T.number items.old }
     requires some { (x : T) × Contains items.old x × (T.number x ≡ T.number item) }
-    ensures item { Contains items.old result × (T.number result ≡ T.number item) }
-    ensures new { items.new ≡ with_item T.number item items.old }
+    ensures { items.new ≡ with_item T.number item items.old }
 {
     let place = place_of(items.as_slice(), item.number());
-    items.set(place, item)
+    items.set(place, item);
 }
 
 /// The item of the number.
@@ -80,15 +78,4 @@ pub fn get<T: HasNumber>(items: &[T], number: u32) -> &T
     ensures { Contains items.now result.now × (T.number result.now ≡ number) }
 {
     &items[place_of(items, number)]
-}
-
-/// The item of the number, if there is one.
-pub fn item_of<T: HasNumber>(items: &[T], number: u32) -> Option<&T>
-    requires { IsRising T.number items.now }
-    ensures { option_copied result ≡ find (λ x. T.number x == number) items.now }
-{
-    match items.binary_search_by_key(&number, |item| item.number()) {
-        Ok(place) => Some(&items[place]),
-        Err(_) => None,
-    }
 }

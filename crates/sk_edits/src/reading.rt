@@ -1,6 +1,5 @@
 // Lines that drop, set or erase.
-ghost use Rattle.std.specs.Prelude.{◌≡◌, ◌==◌, ◌<◌, [], ◌∷◌, length, map, drop, Some, None, Ok, Err, is_none, MatchResult, IfOk, option_copied};
-ghost use Rattle.sk_base.specs.Rising.{IsRising};
+ghost use Rattle.std.specs.Prelude.{◌≡◌, ◌==◌, ◌<◌, [], ◌∷◌, length, map, drop, Some, None, Ok, Err, is_none, MatchResult, IfOk};
 ghost use Rattle.sk_lex.specs.Words.{bytes_of, StandInOrder};
 ghost use Rattle.sk_lines.specs.FirstCode.{first_code};
 ghost use Rattle.std.specs.Option.{option_map};
@@ -12,15 +11,14 @@ ghost use Rattle.sk_lines.specs.declared.Code.TheVariants.{E8, E9, S1, S2};
 ghost use Rattle.sk_base.specs.declared.Pin.{Pin as APin};
 ghost use Rattle.sk_base.specs.Numbering.{is_elem};
 ghost use Rattle.sk_graph.specs.Naming.{named_by};
-ghost use Rattle.sk_edits.specs.Commands.{value_rows, setting, from_made, number_of, constraint_with, is_used, change_rows, edit_made};
-ghost use Rattle.sk_edits.specs.Edits.{constraint_number};
+ghost use Rattle.sk_entry.specs.NumberedConstraint.{constraint_of};
+ghost use Rattle.sk_edits.specs.Commands.{value_rows, setting, from_made, number_of, is_used, change_rows, edit_made};
 ghost use Rattle.sk_edits.specs.Making.{HasSoundValue};
 
 use crate::command::Change;
 use crate::edit::Edit;
-use crate::numbered::item_of;
 use sk_base::{ConId, Constraint, Elem, Pin, Rule, Sketch};
-use sk_entry::{element_named, label, length, not_zero};
+use sk_entry::{constraint_of, element_named, label, length, not_zero};
 use sk_lex::Word;
 use sk_lines::{Code, angle_ratio, plain_number, word};
 
@@ -36,20 +34,12 @@ fn number_of(word: &[u8]) -> Result<ConId, Code>
 
 /// The constraint of that number.
 fn numbered(sketch: &Sketch, number: ConId) -> Result<&Constraint, Code>
-    requires { IsRising constraint_number sketch.now.constraints }
-    ensures { MatchResult result (λ c. constraint_with sketch.now number ≡ Some c.now) (λ code. (constraint_with sketch.now number ≡ None) × (code ≡ S1)) }
+    ensures { MatchResult result (λ c. constraint_of sketch.now number ≡ Some c.now) (λ code. (constraint_of sketch.now number ≡ None) × (code ≡ S1)) }
 {
-    match find_numbered(sketch, number) {
+    match constraint_of(sketch, number) {
         Some(constraint) => Ok(constraint),
         None => Err(Code::S1),
     }
-}
-
-fn find_numbered(sketch: &Sketch, number: ConId) -> Option<&Constraint>
-    requires { IsRising constraint_number sketch.now.constraints }
-    ensures { option_copied result ≡ constraint_with sketch.now number }
-{
-    item_of(sketch.constraints.as_slice(), number.0)
 }
 
 /// Whether a constraint names the element.
@@ -86,7 +76,6 @@ fn is_pinned(pins: &[Pin], elem: Elem) -> bool
 
 /// The drop that a line says, by the word behind the first.
 fn read_drop(sketch: &Sketch, number: &[u8]) -> Result<Edit, Code>
-    requires { IsRising constraint_number sketch.now.constraints }
     ensures made { result ≡ from_made (first_code (change_rows sketch.now a_change.Drop (number.now ∷ []))) (edit_made sketch.now a_change.Drop (number.now ∷ [])) }
     ensures value { IfOk result HasSoundValue }
 {
@@ -97,7 +86,6 @@ fn read_drop(sketch: &Sketch, number: &[u8]) -> Result<Edit, Code>
 
 /// The new value that a line says.
 fn read_set(sketch: &Sketch, number: &[u8], value: &[u8]) -> Result<Edit, Code>
-    requires { IsRising constraint_number sketch.now.constraints }
     ensures made { result ≡ from_made (first_code (change_rows sketch.now a_change.Set (number.now ∷ value.now ∷ []))) (edit_made sketch.now a_change.Set (number.now ∷ value.now ∷ [])) }
     ensures value { IfOk result HasSoundValue }
 {
@@ -162,7 +150,6 @@ pub fn read_change(
     line: &[u8],
     words: &[Word],
 ) -> Result<Edit, Code>
-    requires rise { IsRising constraint_number sketch.now.constraints }
     requires some { 0 < length words.now }
     requires order { StandInOrder 0 words.now (length line.now) }
     ensures made { let rest = drop 1 (map (bytes_of line.now) words.now) in result ≡ from_made (first_code (change_rows sketch.now change rest)) (edit_made sketch.now change rest) }
