@@ -1,21 +1,25 @@
 -- What was read of a claim, line by line, and the one answer to its text.
-use Rattle.std.proofs.Common.{◌≡◌, ◌⊎◌, inl, inr, ℕ, ◌+◌, List, [], ◌∷◌, length, Option, Some, None, refl, sym, ap, subst, ◌∙◌, arith}
+use Rattle.std.proofs.Common.{◌≡◌, ◌⊎◌, inl, inr, ℕ, ◌+◌, List, length, Option, Some, None, refl, sym, ap, subst, ◌∙◌, arith}
 use Rattle.sk_base.specs.declared.Placed.{Placed}
 use Rattle.sk_base.specs.declared.Sketch.{Sketch}
 use Rattle.sk_lines.specs.declared.Code.{Code}
 use Rattle.sk_lines.specs.declared.Code.TheVariants.{E16}
-use Rattle.sk_lines.specs.declared.EntryError.{EntryError}
-use Rattle.sk_lines.specs.declared.EntryError.TheVariants.{Refused, NoMemory}
-use Rattle.sk_lines.specs.Refusals.{IsRefusal, error_at}
+use Rattle.sk_lines.specs.declared.ReadError.{ReadError}
+use Rattle.sk_lines.specs.declared.ReadError.TheVariants.{Refused, NoMemory}
+use Rattle.sk_lines.specs.ByteCodes.{byte_rows}
+use Rattle.sk_lines.specs.LineCodes.{LeadTo, IsLineRefusal}
 use Rattle.sk_lines.specs.Lines.{lines_in}
-use Rattle.sk_lines.proofs.LineFaults.{StandsAt, IsClean, IsFault, faulty_here, all_read, clean_or_fault, no_fault, one_fault}
+use Rattle.sk_lines.proofs.LineFaults.{IsClean, IsFault, clean_or_fault, no_fault, one_fault}
+use Rattle.sk_lines.proofs.FirstCodes.{code_behind}
+use Rattle.sk_lines.proofs.Leading.{led_along, refused_along}
+use Rattle.sk_lex.specs.Words.{words_in}
 use Rattle.sk_tree.specs.declared.PlanStep.{PlanStep}
 use Rattle.sk_claims.specs.declared.claim.Claim.{Claim}
 use Rattle.sk_claims.specs.declared.claim.Radius.{Radius}
 use Rattle.sk_claims.specs.declared.claim_line.SoFar.{SoFar}
 use Rattle.sk_claims.specs.declared.claim_line.Tolerances.{Tolerances}
-use Rattle.sk_claims.specs.ClaimLines.{code_of}
-use Rattle.sk_claims.specs.ClaimReading.{nothing_yet, claimed_after, claimed_along, IsClaimOf, ReadsClaim, RefusesClaim, AtLine, NoTolerances, IsClaimRefusal}
+use Rattle.sk_claims.specs.ClaimLines.{word_rows, code_of}
+use Rattle.sk_claims.specs.ClaimReading.{nothing_yet, claimed_after, claimed_along, HaveNoCode, Adds, IsClaimOf, ReadsClaim, RefusesClaim, AtLine, NoTolerances, IsClaimRefusal}
 
 abbrev end_of : Option Tolerances → Option Code
 end_of None = Some E16
@@ -24,10 +28,6 @@ end_of (Some tolerances) = None
 -- the code at the end of the lines, where no tolerances stand
 abbrev pub end_code : SoFar → Option Code
 end_code c = end_of c.tolerances
-
--- the lines before the rest have no code, and claim so much
-abbrev pub Stands : Sketch → List ℕ → List ℕ → SoFar → ℕ → ℕ → Type 0
-Stands s bytes rest so_far first number = StandsAt (code_of s) (claimed_after s) nothing_yet (lines_in bytes) (lines_in rest) so_far first number
 
 abbrev IsRead : Sketch → List ℕ → Type 0
 IsRead s bytes = IsClean (code_of s) (claimed_after s) end_code nothing_yet (lines_in bytes)
@@ -58,23 +58,28 @@ faulty : (s : Sketch) (first : ℕ) (bytes : List ℕ) (n : ℕ) (code : Code) �
 faulty s first bytes n code (AtLine before line c found) = inl (record { before = before; line = line; first = found; number = omega arith })
 faulty s first bytes n code (NoTolerances clean none) = inr (record { clean = clean; code_is = ap end_of none; number = omega arith })
 
-pub refused_here : (s : Sketch) (bytes rest : List ℕ) (line : List ℕ) (more : List (List ℕ)) (so_far : SoFar) (first number : ℕ) (error : EntryError)
-    → Stands s bytes rest so_far first number → lines_in rest ≡ line ∷ more → IsRefusal (code_of s so_far line) error → IsClaimRefusal s first bytes (error_at (number + 1) error)
-refused_here s bytes rest line more so_far first number NoMemory at is code_is = tt
-refused_here s bytes rest line more so_far first number (Refused code) at is code_is =
-    refuses s first bytes (number + 1) code (inl (faulty_here (code_of s) (claimed_after s) nothing_yet (lines_in bytes) (lines_in rest) line more so_far first number code at is code_is))
+-- a line that is added has no code, and claims just that
+told : (s : Sketch) (so_far : SoFar) (line : List ℕ) (after : SoFar) → Adds s so_far line after → (code_of s so_far line ≡ None) × (after ≡ claimed_after s so_far line)
+told s so_far line after adds = (code_behind (byte_rows line) (word_rows s so_far (words_in line)) adds.fine ∙ adds.words.clean, adds.words.claimed)
+
+all_claimed : (s : Sketch) (lines : List (List ℕ)) (so_far : SoFar) → LeadTo (Adds s) nothing_yet lines so_far → HaveNoCode s nothing_yet lines × (claimed_along s nothing_yet lines ≡ so_far)
+all_claimed s lines so_far led = led_along (code_of s) (Adds s) (claimed_after s) (told s) lines nothing_yet so_far led
+
+pub read_refused : (s : Sketch) (first : ℕ) (bytes : List ℕ) (error : ReadError) → IsLineRefusal (code_of s) (Adds s) nothing_yet first (lines_in bytes) error → IsClaimRefusal s first bytes error
+read_refused s first bytes (Refused refusal) at = refuses s first bytes refusal.line refusal.code (inl (refused_along (code_of s) (Adds s) (claimed_after s) (told s) nothing_yet (lines_in bytes) first refusal.line refusal.code at))
+read_refused s first bytes NoMemory at = tt
 
 -- the tolerances are missing at the end
-pub unended_here : (s : Sketch) (bytes : List ℕ) (so_far : SoFar) (first number : ℕ) → Stands s bytes [] so_far first number → so_far.tolerances ≡ None → RefusesClaim s first bytes (number + 1) E16
-unended_here s bytes so_far first number at none =
-    let all = all_read (code_of s) (claimed_after s) nothing_yet (lines_in bytes) so_far first number at in
-    refuses s first bytes (number + 1) E16 (inr (record { clean = all.0; code_is = ap end_code all.1 ∙ ap end_of none; number = (let count = all.2 in omega (arith, count)) }))
+pub read_unended : (s : Sketch) (bytes : List ℕ) (so_far : SoFar) (first number : ℕ) → LeadTo (Adds s) nothing_yet (lines_in bytes) so_far → number ≡ first + length (lines_in bytes) → so_far.tolerances ≡ None → RefusesClaim s first bytes (number + 1) E16
+read_unended s bytes so_far first number led count none =
+    let all = all_claimed s (lines_in bytes) so_far led in
+    refuses s first bytes (number + 1) E16 (inr (record { clean = all.0; code_is = ap end_code all.1 ∙ ap end_of none; number = omega (arith, count) }))
 
 -- and where they stand, the claim was read
-pub reads_here : (s : Sketch) (bytes : List ℕ) (so_far : SoFar) (first number : ℕ) (tolerances : Tolerances) → Stands s bytes [] so_far first number → so_far.tolerances ≡ Some tolerances
+pub read_ended : (s : Sketch) (bytes : List ℕ) (so_far : SoFar) (tolerances : Tolerances) → LeadTo (Adds s) nothing_yet (lines_in bytes) so_far → so_far.tolerances ≡ Some tolerances
     → ReadsClaim s bytes (record { steps = so_far.steps; at = so_far.at; radii = so_far.radii; t = tolerances.t; w = tolerances.w })
-reads_here s bytes so_far first number tolerances at some =
-    let all = all_read (code_of s) (claimed_after s) nothing_yet (lines_in bytes) so_far first number at in
+read_ended s bytes so_far tolerances led some =
+    let all = all_claimed s (lines_in bytes) so_far led in
     let is : so_far ≡ claimed_along s nothing_yet (lines_in bytes) = sym all.1 in
     record {
       clean = all.0;

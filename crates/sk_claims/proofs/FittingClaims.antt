@@ -45,7 +45,7 @@ use Rattle.sk_claims.specs.declared.first_word.First.TheVariants as begins
 use Rattle.sk_claims.specs.declared.first_word.Figure.{Figure}
 use Rattle.sk_claims.specs.declared.first_word.Figure.TheVariants as figure
 use Rattle.sk_claims.specs.Claims.{IsFitting, TellsCircles}
-use Rattle.sk_claims.specs.ClaimLines.{whole_of, whole, tolerance, tolerance_limit, length_limit, normal_limit, limits_of, is_bad_whole, is_no_name, is_unknown, is_placed, first_of, fits_shape, fits_element, element_rows, tolerance_rows, rows_behind, word_rows, tolerances_said, with_words, with_line}
+use Rattle.sk_claims.specs.ClaimLines.{whole_of, whole, tolerance, tolerance_limit, length_limit, normal_limit, limits_of, is_bad_whole, is_no_name, is_unknown, is_placed, first_of, fits_shape, fits_element, element_rows, tolerance_rows, rows_behind, word_rows, tolerances_said, with_words, claimed_with}
 use Rattle.sk_claims.specs.ClaimReading.{nothing_yet, claimed_after, claimed_along, HaveNoCode, IsClaimOf, ReadsClaim}
 
 -- what is found, where something is
@@ -297,7 +297,7 @@ module _ (s : Sketch) (c : SoFar) (fits : Fits s c) where
     bounded = (tolerance_within t, tolerance_within w);
   }
 
-  fits_words : (words : List (List ℕ)) → first_code (word_rows s c words) ≡ None → Fits s (with_line s c words)
+  fits_words : (words : List (List ℕ)) → first_code (word_rows s c words) ≡ None → Fits s (claimed_with s c words)
   fits_words [] is = fits
   fits_words (first ∷ rest) is = by (first_of first) (passed (is_some c.tolerances) E17 _ is).1
     where

@@ -1,5 +1,5 @@
 -- Words as they are printed are read back.
-use Rattle.std.proofs.Common.{◌≡◌, ℕ, suc, ◌+◌, ◌<◌, ◌≤◌, ◌^◌, true, false, nat_le, List, [], ◌∷◌, get_or, Some, refl, ap, subst, arith, append-nil, ℤ, pos, negsuc}
+use Rattle.std.proofs.Common.{◌≡◌, ℕ, suc, ◌<◌, ◌≤◌, ◌^◌, true, false, nat_le, List, [], ◌∷◌, get_or, Some, refl, ap, subst, arith, append-nil, ℤ, pos, negsuc}
 use Rattle.std.specs.Prelude.{option_and_then}
 use Rattle.std.specs.Fmt.{decimal}
 use Rattle.std.proofs.lemmas.Bool.Decides.{nat_tests}
@@ -8,8 +8,8 @@ use Rattle.std.proofs.lemmas.Int.{ints}
 use Rattle.sk_base.specs.declared.Name.{Name}
 use Rattle.sk_base.specs.declared.Name.TheVariants.{Con, Step}
 use Rattle.sk_base.specs.Bounds.{IsWithin}
-use Rattle.sk_base.specs.Millimetres.{digits_of, has_sign, without_sign}
-use Rattle.sk_base.specs.Spelling.{magnitude, whole_text}
+use Rattle.sk_base.specs.Millimetres.{has_sign, without_sign}
+use Rattle.sk_base.specs.Spelling.{whole_text}
 use Rattle.sk_lines.specs.ClusterWords.{begins_with_zero, plain_number, name_of}
 use Rattle.sk_lines.specs.Quantities.{not_negative}
 use Rattle.sk_text.specs.ClusterName.{cluster_name}

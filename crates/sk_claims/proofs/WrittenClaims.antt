@@ -1,12 +1,10 @@
 -- A claim that is written is read as itself.
-use Rattle.std.proofs.Common.{◌≡◌, ◌≢◌, inl, inr, ℕ, ◌≤◌, ◌^◌, false, List, [], ◌∷◌, ◌++◌, length, map, Option, Some, None, is_none, codes, refl, sym, ap, subst, ◌∙◌, arith, append_assoc, append-nil}
+use Rattle.std.proofs.Common.{◌≡◌, ◌≢◌, inl, inr, ℕ, ◌≤◌, ◌^◌, List, [], ◌∷◌, ◌++◌, map, Some, None, codes, refl, sym, ap, subst, ◌∙◌, arith, append_assoc, append-nil}
 use Rattle.std.specs.Prelude.{AllPairs, Contains}
-use Rattle.std.specs.List.{flat_map, AllByRecursion}
+use Rattle.std.specs.List.{AllByRecursion}
 use Rattle.std.specs.Fmt.{decimal}
 use Rattle.std.proofs.lemmas.List.Concat.{flat_map-append}
 use Rattle.std.proofs.lemmas.List.Elements.{Contains-append_right}
-use Rattle.sk_base.specs.declared.Elem.{Elem}
-use Rattle.sk_base.specs.declared.Element.{Element}
 use Rattle.sk_base.specs.declared.Kind.{Kind}
 use Rattle.sk_base.specs.declared.Node.{Node}
 use Rattle.sk_base.specs.declared.Sketch.{Sketch}
@@ -23,13 +21,12 @@ use Rattle.sk_lines.proofs.ReadBack.{IsLine, lines_in-ended}
 use Rattle.sk_lines.proofs.SolidLines.{IsLineOf, literal, solid, solid_line, words_in_line}
 use Rattle.sk_lines.specs.FirstCode.{first_code}
 use Rattle.sk_lines.specs.Lines.{lines_in}
-use Rattle.sk_lines.specs.declared.Code.{Code}
 use Rattle.sk_tree.specs.declared.PlanStep.{PlanStep}
 use Rattle.sk_claims.specs.declared.claim.Claim.{Claim}
 use Rattle.sk_claims.specs.declared.claim.Radius.{Radius}
 use Rattle.sk_claims.specs.declared.claim_line.SoFar.{SoFar}
 use Rattle.sk_claims.specs.Claims.{IsFitting}
-use Rattle.sk_claims.specs.ClaimLines.{code_of, tolerance_limit, count_of, tolerance_rows, tolerances_said, word_rows, with_line}
+use Rattle.sk_claims.specs.ClaimLines.{code_of, tolerance_limit, count_of, tolerance_rows, tolerances_said, word_rows, claimed_with}
 use Rattle.sk_claims.specs.ClaimReading.{nothing_yet, claimed_after, claimed_along, HaveNoCode, ReadsClaim}
 use Rattle.sk_claims.specs.ClaimText.{step_words, spot_words, tolerance_words, claim_words, claim_text, radius_drawn, radii_drawn, IsDeclared, CanBeSaid}
 use Rattle.sk_claims.proofs.PrintedWords.{tolerance_back}
@@ -49,7 +46,7 @@ code_by_words s from line words is clean = rw (is.short, is.ascii, words_in_line
 
 leads_first : (s : Sketch) (from mid to : SoFar) (words : List (List ℕ)) (lines : List (List (List ℕ))) → ReadsOn s from mid words → Leads s mid to lines → Leads s from to (words ∷ lines)
 leads_first s from mid to words lines here rest =
-    let next : claimed_after s from (spaced words) ≡ mid = ap (with_line s from) (words_in_line (spaced words) words here.line) ∙ here.leads in
+    let next : claimed_after s from (spaced words) ≡ mid = ap (claimed_with s from) (words_in_line (spaced words) words here.line) ∙ here.leads in
     record {
       clean = (code_by_words s from (spaced words) words here.line here.clean, subst (λ (c : SoFar). HaveNoCode s c (map spaced lines)) (sym next) rest.clean);
       reached = ap (λ (c : SoFar). claimed_along s c (map spaced lines)) next ∙ rest.reached;

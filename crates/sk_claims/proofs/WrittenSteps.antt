@@ -20,7 +20,7 @@ use Rattle.sk_tree.specs.declared.Choice.TheVariants.{Turn, Advance, Nothing}
 use Rattle.sk_tree.specs.declared.PlanStep.{PlanStep}
 use Rattle.sk_claims.specs.declared.claim.Radius.{Radius}
 use Rattle.sk_claims.specs.declared.claim_line.SoFar.{SoFar}
-use Rattle.sk_claims.specs.ClaimLines.{choice_of, is_choice_long, is_no_name, is_unknown, corner_rows, step_said, word_rows, with_line}
+use Rattle.sk_claims.specs.ClaimLines.{choice_of, is_choice_long, is_no_name, is_unknown, corner_rows, step_said, word_rows, claimed_with}
 use Rattle.sk_claims.specs.ClaimText.{choice_words, step_words, CanBeSaid}
 use Rattle.sk_claims.specs.Printed.{HasPlainNumber}
 use Rattle.sk_claims.proofs.PrintedWords.{cluster_back}
@@ -36,7 +36,7 @@ so_far steps spots radii = record { steps = steps; at = record { spots = spots }
 pub record ReadsOn (s : Sketch) (from to : SoFar) (words : List (List ℕ)) : Type 0 where
   pub line : IsLineOf (spaced words) words
   pub clean : first_code (word_rows s from words) ≡ None
-  pub leads : with_line s from words ≡ to
+  pub leads : claimed_with s from words ≡ to
 
 -- ---- the choice
 

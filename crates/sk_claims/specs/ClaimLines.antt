@@ -203,13 +203,14 @@ abbrev pub tolerances_said : List (List ℕ) → Option Tolerances
 tolerances_said (t ∷ w ∷ rest) = Some (record { t = tolerance t; w = tolerance w })
 tolerances_said _ = None
 
--- what is claimed with a line that has no code
+-- what is claimed with the words behind the first
 abbrev pub with_words : Sketch → SoFar → Option First → List (List ℕ) → SoFar
 with_words s c None rest = c
 with_words s c (Some begins.Step) rest = record c { steps = c.steps ++ step_said s rest }
 with_words s c (Some (begins.Element kind)) rest = record c { at = record { spots = c.at.spots ++ spot_said s kind rest }; radii = c.radii ++ radius_said s kind rest }
 with_words s c (Some begins.Tolerance) rest = record c { tolerances = tolerances_said rest }
 
-abbrev pub with_line : Sketch → SoFar → List (List ℕ) → SoFar
-with_line s c [] = c
-with_line s c (first ∷ rest) = with_words s c (first_of first) rest
+-- what is claimed with the words of a line that has no code
+abbrev pub claimed_with : Sketch → SoFar → List (List ℕ) → SoFar
+claimed_with s c [] = c
+claimed_with s c (first ∷ rest) = with_words s c (first_of first) rest

@@ -2,9 +2,11 @@
 use Rattle.std.specs.Prelude.{◌≡◌, ⊤, ℕ, ◌+◌, List, [], length, Some, None}
 use Rattle.sk_base.specs.declared.Sketch.{Sketch}
 use Rattle.sk_lex.specs.Words.{words_in}
-use Rattle.sk_claims.specs.ClaimLines.{code_of, with_line}
+use Rattle.sk_claims.specs.ClaimLines.{word_rows, code_of, claimed_with}
 use Rattle.sk_claims.specs.declared.claim.Claim.{Claim}
 use Rattle.sk_claims.specs.declared.claim_line.SoFar.{SoFar}
+use Rattle.sk_lines.specs.ByteCodes.{byte_rows}
+use Rattle.sk_lines.specs.FirstCode.{first_code}
 use Rattle.sk_lines.specs.LineCodes.{along, HaveNone, HasFirst}
 use Rattle.sk_lines.specs.Lines.{lines_in}
 use Rattle.sk_lines.specs.declared.Code.{Code}
@@ -17,7 +19,7 @@ nothing_yet = record { steps = []; at = record { spots = [] }; radii = []; toler
 
 -- what is claimed with one more line
 abbrev pub claimed_after : Sketch → SoFar → List ℕ → SoFar
-claimed_after s c line = with_line s c (words_in line)
+claimed_after s c line = claimed_with s c (words_in line)
 
 -- what the lines claim
 abbrev pub claimed_along : Sketch → SoFar → List (List ℕ) → SoFar
@@ -54,3 +56,13 @@ pub data RefusesClaim (s : Sketch) (first : ℕ) (bytes : List ℕ) : ℕ → Co
 abbrev pub IsClaimRefusal : Sketch → ℕ → List ℕ → ReadError → Type 0
 IsClaimRefusal s first bytes (Refused refusal) = RefusesClaim s first bytes refusal.line refusal.code
 IsClaimRefusal s first bytes NoMemory = ⊤
+
+-- The words have no code where they stand, and what they say is claimed.
+pub record AddsWords (s : Sketch) (so_far : SoFar) (words : List (List ℕ)) (after : SoFar) : Type 0 where
+  pub clean : first_code (word_rows s so_far words) ≡ None
+  pub claimed : after ≡ claimed_with s so_far words
+
+-- The line has no code where it stands, and what it says is claimed.
+pub record Adds (s : Sketch) (so_far : SoFar) (line : List ℕ) (after : SoFar) : Type 0 where
+  pub fine : first_code (byte_rows line) ≡ None
+  pub words : AddsWords s so_far (words_in line) after

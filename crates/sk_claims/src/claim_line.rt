@@ -3,8 +3,8 @@ ghost use Rattle.std.specs.Prelude.{◌≡◌, ◌<◌, [], ◌∷◌, length, m
 ghost use Rattle.sk_lex.specs.Words.{bytes_of, StandInOrder};
 ghost use Rattle.sk_claims.specs.declared.first_word.First.TheVariants as begins;
 ghost use Rattle.sk_claims.specs.declared.first_word.Figure.TheVariants as figure;
-ghost use Rattle.sk_claims.specs.ClaimLines.{tolerance, tolerance_rows, word_rows, rows_behind, code_of, tolerances_said, with_words, with_line};
-ghost use Rattle.sk_claims.specs.ClaimReading.{claimed_after};
+ghost use Rattle.sk_claims.specs.ClaimLines.{tolerance, tolerance_rows, word_rows, rows_behind, code_of, tolerances_said, with_words};
+ghost use Rattle.sk_claims.specs.ClaimReading.{nothing_yet, AddsWords, Adds};
 ghost use Rattle.sk_lines.specs.FirstCode.{first_code, unless};
 ghost use Rattle.sk_lines.specs.Refusals.{IsRefusal};
 
@@ -15,7 +15,7 @@ use crate::number::count_of;
 use crate::step_line::step_of;
 use sk_base::{List, Placed, Sketch};
 use sk_lex::Word;
-use sk_lines::{Code, EntryError, split_words, word};
+use sk_lines::{Code, EntryError, LineReader, split_words, word};
 use sk_tree::PlanStep;
 use std::alloc::Global;
 
@@ -38,23 +38,41 @@ pub(crate) struct SoFar {
     pub(crate) tolerances: Option<Tolerances>,
 }
 
-/// What is claimed with the next line.
-pub(crate) fn after_line(
-    alloc: Global,
-    s: &Sketch,
-    so_far: SoFar,
-    line: &[u8],
-) -> Result<SoFar, EntryError>
-    ensures clean { IfOk result (λ _. code_of s.now so_far line.now ≡ None) }
-    ensures claimed { IfOk result (λ after. after ≡ claimed_after s.now so_far line.now) }
-    ensures refused { IfErr result (IsRefusal (code_of s.now so_far line.now)) }
+/// A claim of which nothing is read yet.
+pub(crate) fn nothing_yet(alloc: Global) -> SoFar
+    ensures { result ≡ nothing_yet }
 {
-    let words = split_words(alloc, line)?;
-    let words = words.items.as_slice();
-    if words.is_empty() {
-        return Ok(so_far);
+    SoFar {
+        steps: List::new(alloc),
+        at: Placed {
+            spots: List::new(alloc),
+        },
+        radii: List::new(alloc),
+        tolerances: None,
     }
-    after_words(s, so_far, line, words)
+}
+
+/// The lines of a claim of the sketch, up to its tolerances.
+#[derive(Drop)]
+pub(crate) struct ClaimReader<'a> {
+    pub(crate) sketch: &'a Sketch,
+}
+
+impl<'a> LineReader for ClaimReader<'a> {
+    type SoFar = SoFar;
+
+    ghost code_of = { λ reader so_far line. code_of reader.sketch.now so_far line };
+
+    ghost adds = { λ reader so_far line after. Adds reader.sketch.now so_far line after };
+
+    fn after_line(&self, alloc: Global, so_far: SoFar, line: &[u8]) -> Result<SoFar, EntryError> {
+        let words = split_words(alloc, line)?;
+        let words = words.items.as_slice();
+        if words.is_empty() {
+            return Ok(so_far);
+        }
+        after_words(self.sketch, so_far, line, words)
+    }
 }
 
 /// What is claimed with the words of the next line.
@@ -62,7 +80,7 @@ fn after_words(s: &Sketch, so_far: SoFar, line: &[u8], words: &[Word]) -> Result
     requires some { 0 < length words.now }
     requires order { StandInOrder 0 words.now (length line.now) }
     ensures { let ws = map (bytes_of line.now) words.now in MatchResult result
-        (λ after. (first_code (word_rows s.now so_far ws) ≡ None) × (after ≡ with_line s.now so_far ws))
+        (AddsWords s.now so_far ws)
         (IsRefusal (first_code (word_rows s.now so_far ws))) }
 {
     if so_far.tolerances.is_some() {
@@ -109,14 +127,14 @@ fn with_element(
         (IsRefusal (first_code (rows_behind s.now so_far (Some (begins.Element figure)) rest))) }
 {
     match figure {
-        Figure::Point => with_point(s, so_far, line, words),
-        Figure::Circle => with_circle(s, so_far, line, words),
-        Figure::Line => with_line(s, so_far, line, words),
+        Figure::Point => with_placed_point(s, so_far, line, words),
+        Figure::Circle => with_placed_circle(s, so_far, line, words),
+        Figure::Line => with_placed_line(s, so_far, line, words),
     }
 }
 
 /// The claim with the place of a further point.
-fn with_point(
+fn with_placed_point(
     s: &Sketch,
     mut so_far: SoFar,
     line: &[u8],
@@ -134,7 +152,7 @@ fn with_point(
 }
 
 /// The claim with the place and the radius of a further circle.
-fn with_circle(
+fn with_placed_circle(
     s: &Sketch,
     mut so_far: SoFar,
     line: &[u8],
@@ -153,7 +171,7 @@ fn with_circle(
 }
 
 /// The claim with the place of a further line.
-fn with_line(
+fn with_placed_line(
     s: &Sketch,
     mut so_far: SoFar,
     line: &[u8],

@@ -10,9 +10,9 @@ ghost use Rattle.sk_claims.specs.Claims.{IsFitting, TellsCircles};
 ghost use Rattle.sk_claims.specs.ClaimReading.{ReadsClaim, RefusesClaim, IsClaimRefusal};
 
 use crate::claim::Claim;
-use crate::claim_line::{SoFar, after_line};
-use sk_base::{List, Placed, Sketch};
-use sk_lines::{Code, ReadError, split_line};
+use crate::claim_line::{ClaimReader, nothing_yet};
+use sk_base::Sketch;
+use sk_lines::{Code, ReadError, read_lines};
 use std::alloc::Global;
 
 /// Reads the claim that stands behind the `end` of a sketch, up to its tolerances. The lines are numbered
@@ -24,25 +24,8 @@ pub fn read_claim(alloc: Global, s: &Sketch, bytes: &[u8], first: u32) -> Result
     ensures circles { IsSoundSketch s.now → IfOk result (TellsCircles s.now) }
     ensures refuses { IfErr result (IsClaimRefusal s.now first bytes.now) }
 {
-    let mut so_far = SoFar {
-        steps: List::new(alloc),
-        at: Placed {
-            spots: List::new(alloc),
-        },
-        radii: List::new(alloc),
-        tolerances: None,
-    };
-    let mut number = first;
-    let mut rest = bytes;
-    while !rest.is_empty() {
-        let (line, after) = split_line(rest);
-        number += 1;
-        so_far = match after_line(alloc, s, so_far, line) {
-            Ok(further) => further,
-            Err(error) => return Err(error.at_line(number)),
-        };
-        rest = after;
-    }
+    let reader = ClaimReader { sketch: s };
+    let (so_far, number) = read_lines(alloc, &reader, nothing_yet(alloc), bytes, first)?;
     match so_far.tolerances {
         None => Err(ReadError::refused(number + 1, Code::E16)),
         Some(tolerances) => Ok(Claim {

@@ -1,5 +1,5 @@
 -- What was read of the text behind a sketch, line by line.
-use Rattle.std.proofs.Common.{◌≡◌, ℕ, ◌+◌, List, [], ◌∷◌, ◌++◌, length, Option, None, sym, ap, subst, ◌∙◌, arith, append_assoc, append-nil}
+use Rattle.std.proofs.Common.{◌≡◌, ℕ, ◌+◌, List, [], ◌∷◌, ◌++◌, length, Option, sym, ap, subst, ◌∙◌, append_assoc, append-nil}
 use Rattle.sk_lex.specs.Words.{words_in}
 use Rattle.sk_lines.proofs.FirstCodes.{code_behind}
 use Rattle.sk_lines.specs.ByteCodes.{byte_rows}
@@ -9,7 +9,7 @@ use Rattle.sk_lines.specs.declared.Code.{Code}
 use Rattle.sk_lines.specs.declared.Code.TheVariants.{E16}
 use Rattle.sk_lines.specs.declared.ReadError.{ReadError}
 use Rattle.sk_lines.specs.declared.ReadError.TheVariants.{Refused, NoMemory}
-use Rattle.sk_offers.specs.OfferLines.{code_of, word_rows, place_after, behind_offer, offered, AreOffersOf}
+use Rattle.sk_offers.specs.OfferLines.{code_of, word_rows, behind_offer, offered, AreOffersOf}
 use Rattle.sk_offers.specs.OfferReading.{place_along, HaveNoCode, HasFirstCode, ReadsOffers, RefusesOffers, AtLine, NoEnd, IsOfferRefusal, Adds}
 use Rattle.sk_offers.specs.declared.offer_line.OfferLine.{OfferLine}
 use Rattle.sk_offers.specs.declared.offer_line.Place.{Place}
