@@ -6,3 +6,5 @@ pub mod InOrder
 pub mod Widening
 pub mod BlockLeast
 pub mod SomeLeast
+pub mod Reach
+pub mod Signing

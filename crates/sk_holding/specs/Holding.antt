@@ -1,5 +1,5 @@
 -- When a line's normal, what a constraint measures, or a block holds within a tolerance.
-use Rattle.std.specs.Prelude.{ℕ, ◌≤◌, ◌+◌, ◌-◌, ◌*◌, unsigned_abs}
+use Rattle.std.specs.Prelude.{ℕ, pos, ◌≤◌, ◌<◌, ◌<ℤ◌, ◌+◌, ◌-◌, ◌*◌, unsigned_abs}
 use Rattle.sk_base.specs.declared.Measure.{Measure}
 use Rattle.sk_base.specs.declared.Measure.TheVariants.{PointPoint, PointLine, LineLine}
 use Rattle.sk_base.specs.declared.At.{At}
@@ -7,7 +7,7 @@ use Rattle.sk_base.specs.declared.At.TheVariants.{Point, Line}
 use Rattle.sk_base.specs.declared.Pin.{Pin}
 use Rattle.sk_base.specs.Places.{IsPoint, IsLine}
 use Rattle.sk_root.specs.Roots.{floor_root, ceil_root}
-use Rattle.sk_holding.specs.Offsets.{billion, distance_squared, height_above, height_offset, normal_offset, angle_offset, angle_unit}
+use Rattle.sk_holding.specs.Offsets.{billion, signed, distance_squared, height_above, height_excess, height_offset, normal_offset, angle_excess, angle_offset, angle_unit}
 
 -- a distance of that square is from shortest - t, or 0, to longest + t
 pub record IsLength (shortest longest square t : ℕ) : Type 0 where
@@ -29,6 +29,13 @@ IsMet (PointPoint len) (Point x y) (Point z u) t = IsLength (1000 * unsigned_abs
 IsMet (PointLine len side) (Point x y) (Line a b c) t = IsOffset billion (height_offset len.0 side (height_above x y a b c)) t
 IsMet (LineLine ratio sense) (Line a b c) (Line d e f) w = IsOffset (angle_unit ratio) (angle_offset ratio a b d e) w
 IsMet _ _ _ n = ⊥
+
+-- the two places give less than the measure asks: they are nearer, not so high on its side, or not so far round in its sense
+abbrev pub FallsShort : Measure → At → At → Type 0
+FallsShort (PointPoint len) (Point x y) (Point z u) = distance_squared x y z u < (1000 * unsigned_abs len.0) * (1000 * unsigned_abs len.0)
+FallsShort (PointLine len side) (Point x y) (Line a b c) = height_excess len.0 side (height_above x y a b c) <ℤ pos 0
+FallsShort (LineLine ratio sense) (Line a b c) (Line d e f) = signed sense (angle_excess ratio a b d e) <ℤ pos 0
+FallsShort _ _ _ = ⊥
 
 -- the places are of the kinds that the measure is between
 abbrev pub FitsKinds : Measure → At → At → Type 0

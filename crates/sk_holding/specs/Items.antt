@@ -1,12 +1,12 @@
 -- What has a tolerance of its own, and when it holds where the elements are placed.
-use Rattle.std.specs.Prelude.{ℕ, List, AllPairs, Contains}
+use Rattle.std.specs.Prelude.{ℕ, ℤ, pos, ◌<ℤ◌, ◌↔◌, List, AllPairs, Contains, unsigned_abs}
 use Rattle.sk_base.specs.declared.Elem.{Elem}
 use Rattle.sk_base.specs.declared.Edge.{Edge}
 use Rattle.sk_base.specs.declared.Block.{Block}
 use Rattle.sk_base.specs.declared.Pin.{Pin}
 use Rattle.sk_base.specs.declared.Placed.{Placed}
 use Rattle.sk_holding.specs.Least.{IsLeast}
-use Rattle.sk_holding.specs.Holding.{IsNormal, IsMet, AreAsGiven}
+use Rattle.sk_holding.specs.Holding.{IsNormal, IsMet, AreAsGiven, FallsShort}
 use Rattle.sk_holding.specs.Placing.{lies}
 
 -- the normal of a line, a constraint between two elements, or a block
@@ -36,3 +36,14 @@ Holds p (block b) n = ArePinsMet p b.pins n
 -- n is the item's own least number
 abbrev pub IsOwnLeast : Placed → Item → ℕ → Type 0
 IsOwnLeast p item n = IsLeast (Holds p item) n
+
+-- the places give less than the item says; a block and a normal have no less
+abbrev pub GivesLess : Placed → Item → Type 0
+GivesLess p (normal line) = ⊥
+GivesLess p (constraint e) = FallsShort e.measure (lies p e.u) (lies p e.v)
+GivesLess p (block b) = ⊥
+
+-- by so much the places give more than the item says: its own least number, or its negative where they give less
+pub record IsOffBy (p : Placed) (item : Item) (off : ℤ) : Type 0 where
+  pub size : IsOwnLeast p item (unsigned_abs off)
+  pub less : (off <ℤ pos 0) ↔ GivesLess p item

@@ -24,9 +24,13 @@ signed Minus z = neg_ℤ z
 abbrev pub height_above : ℤ → ℤ → ℤ → ℤ → ℤ → ℤ
 height_above x y a b c = ((a *ℤ x) +ℤ (b *ℤ y)) -ℤ (pos billion *ℤ c)
 
--- how far a height is from the asked micrometres on that side
+-- by how much a height is more than the asked micrometres on that side
+abbrev pub height_excess : ℤ → Sign → ℤ → ℤ
+height_excess asked side height = signed side height -ℤ (pos billion *ℤ (pos 1000 *ℤ asked))
+
+-- how far it is from them
 abbrev pub height_offset : ℤ → Sign → ℤ → ℕ
-height_offset asked side height = unsigned_abs (signed side height -ℤ (pos billion *ℤ (pos 1000 *ℤ asked)))
+height_offset asked side height = unsigned_abs (height_excess asked side height)
 
 -- how far the square of the length of the normal (a, b) is from one
 abbrev pub normal_offset : ℤ → ℤ → ℕ
@@ -38,9 +42,13 @@ cross x y z t = (x *ℤ t) -ℤ (y *ℤ z)
 abbrev pub dot : ℤ → ℤ → ℤ → ℤ → ℤ
 dot x y z t = (x *ℤ z) +ℤ (y *ℤ t)
 
--- how far the angle from the normal (a, b) to the normal (d, e) is from the asked one
+-- by how much the second normal (d, e) goes further round from the first (a, b) than the asked angle
+abbrev pub angle_excess : Ratio → ℤ → ℤ → ℤ → ℤ → ℤ
+angle_excess ratio a b d e = (ratio.q *ℤ cross a b d e) -ℤ (ratio.p *ℤ dot a b d e)
+
+-- how far the angle from the one to the other is from the asked one
 abbrev pub angle_offset : Ratio → ℤ → ℤ → ℤ → ℤ → ℕ
-angle_offset ratio a b d e = unsigned_abs ((ratio.q *ℤ cross a b d e) -ℤ (ratio.p *ℤ dot a b d e))
+angle_offset ratio a b d e = unsigned_abs (angle_excess ratio a b d e)
 
 -- the unit of that offset
 abbrev pub angle_unit : Ratio → ℕ

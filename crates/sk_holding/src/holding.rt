@@ -1,15 +1,16 @@
 // Whether constraints hold where their ends are placed, and their own least numbers.
-ghost use Rattle.std.specs.Prelude.{◌≡◌, ◌≤◌, ◌^◌, ◌↔◌, All, IsTrue, Contains};
+ghost use Rattle.std.specs.Prelude.{◌≡◌, ◌≤◌, ◌<◌, ◌^◌, ◌↔◌, pos, All, IsTrue, Contains};
 ghost use Rattle.sk_base.specs.declared.Graph.{Graph as OfGraph};
 ghost use Rattle.sk_base.specs.declared.Kind.TheVariants as kinds;
 ghost use Rattle.sk_base.specs.SoundGraph.{IsSoundGraph};
 ghost use Rattle.sk_holding.specs.Holding.{tolerance_of};
 ghost use Rattle.sk_holding.specs.Placing.{IsPlacedAs, EndsArePlaced, IsMeasurable, IsPinPlaced, AreMeasurable};
-ghost use Rattle.sk_holding.specs.Items.{normal, constraint, block, Holds, IsOwnLeast};
+ghost use Rattle.sk_holding.specs.Items.{normal, constraint, block, Holds, IsOwnLeast, IsOffBy};
 
 use crate::lookup::place;
-use crate::measured::{is_met, least_of, least_of_normal};
+use crate::measured::{falls_short, is_met, least_of, least_of_normal};
 use crate::pins::least_of_pins;
+use crate::whole::with_sign;
 use sk_base::{Block, Edge, Elem, Measure, Placed};
 
 /// Whether the constraint holds within `t`, or within `w` if it is an angle.
@@ -70,6 +71,24 @@ pub fn own_least_of_block(p: &Placed, b: &Block) -> u64
     ensures { IsOwnLeast p.now (block b.now) result }
 {
     least_of_pins(p, b.pins.as_slice())
+}
+
+/// By how much the places of its ends give more than the constraint says, in nanometres or, for an angle, in
+/// parts per 10^9: its own least number, or its negative where they give less.
+pub fn own_off(p: &Placed, e: &Edge) -> i64
+    requires { IsMeasurable p.now e.now }
+    ensures { IsOffBy p.now (constraint e.now) result }
+{
+    let short = falls_short(e.measure, place(p, e.u), place(p, e.v));
+    with_sign(own_least(p, e), short)
+}
+
+/// How far the pins of the block are from where they are given to lie, in nanometres: its own least number.
+pub fn own_off_of_block(p: &Placed, b: &Block) -> i64
+    requires { AreMeasurable p.now b.now.pins }
+    ensures { IsOffBy p.now (block b.now) result }
+{
+    with_sign(own_least_of_block(p, b), false)
 }
 
 /// The own least number of the line's normal.

@@ -1,4 +1,4 @@
-ghost use Rattle.std.specs.Prelude.{◌≤◌, ◌^◌, ◌↔◌, IsTrue};
+ghost use Rattle.std.specs.Prelude.{◌≤◌, ◌<◌, ◌*◌, ◌^◌, ◌↔◌, IsTrue};
 ghost use Rattle.sk_holding.specs.Least.{IsLeast};
 ghost use Rattle.sk_holding.specs.Holding.{IsLength};
 
@@ -13,6 +13,15 @@ pub fn length_holds(square: u128, length: u64, t: u64) -> bool
     let low = length.saturating_sub(t) as u128;
     let high = (length + t) as u128;
     low * low <= square && square <= high * high
+}
+
+/// Tells whether a distance of that square is below the length.
+pub fn is_shorter(square: u128, length: u64) -> bool
+    requires { length ≤ 2 ^ 41 }
+    ensures { IsTrue result ↔ (square < length * length) }
+{
+    let length = length as u128;
+    square < length * length
 }
 
 /// The least tolerance with which a distance of that square is from the shortest to the longest.

@@ -5,13 +5,13 @@ ghost use Rattle.sk_base.specs.Pins.{IsOnSheet};
 ghost use Rattle.sk_base.specs.Places.{IsPoint, IsLine, IsBounded};
 ghost use Rattle.sk_base.specs.SoundSketch.{IsSoundRatio};
 ghost use Rattle.sk_holding.specs.Least.{IsLeast};
-ghost use Rattle.sk_holding.specs.Offsets.{billion, distance_squared, height_above, height_offset, normal_offset, angle_offset, angle_unit};
-ghost use Rattle.sk_holding.specs.Holding.{IsMet, IsNormal, FitsKinds, given_squared, AreAsGiven};
+ghost use Rattle.sk_holding.specs.Offsets.{billion, distance_squared, height_above, height_excess, height_offset, normal_offset, angle_excess, angle_offset, angle_unit};
+ghost use Rattle.sk_holding.specs.Holding.{IsMet, IsNormal, FallsShort, FitsKinds, given_squared, AreAsGiven};
 ghost use Rattle.sk_holding.specs.Placing.{IsModerate};
 
-use crate::length::{least_of_length, length_holds};
+use crate::length::{is_shorter, least_of_length, length_holds};
 use crate::offset::{least_of_offset, offset_holds};
-use crate::whole::{cross, dot, scaled, signed, squared_difference};
+use crate::whole::{cross, dot, is_negative, scaled, signed, squared_difference};
 use sk_base::{At, Measure, Pin, Ratio, Sign, Um};
 use sk_root::{root_ceil, root_floor};
 
@@ -66,6 +66,27 @@ pub fn least_of(measure: Measure, u: At, v: At) -> u64
         (Measure::LineLine(ratio, _), At::Line { a, b, .. }, At::Line { a: d, b: e, .. }) => {
             least_of_offset(angle_offset(ratio, a, b, d, e), angle_unit(ratio))
         }
+        _ => unreachable!(),
+    }
+}
+
+/// Whether the two places give less than the measure asks.
+pub fn falls_short(measure: Measure, u: At, v: At) -> bool
+    requires fits { FitsKinds measure u v }
+    requires moderate { IsModerate measure }
+    requires u_bounded { IsBounded u }
+    requires v_bounded { IsBounded v }
+    ensures { IsTrue result ↔ FallsShort measure u v }
+{
+    match (measure, u, v) {
+        (Measure::PointPoint(len), At::Point { x, y }, At::Point { x: z, y: t }) => {
+            is_shorter(square_of(x, y, z, t), nanometres(len))
+        }
+        (Measure::PointLine(len, side), At::Point { x, y }, At::Line { a, b, c }) => {
+            is_negative(height_excess(len, side, height(x, y, a, b, c)))
+        }
+        (Measure::LineLine(ratio, sense), At::Line { a, b, .. }, At::Line { a: d, b: e, .. }) =>
+            is_negative(signed(sense, angle_excess(ratio, a, b, d, e))),
         _ => unreachable!(),
     }
 }
@@ -144,6 +165,16 @@ fn height(x: i64, y: i64, a: i64, b: i64, c: i64) -> i128
     scaled(a, i128::from(x)) + scaled(b, i128::from(y)) - scaled(ONE, i128::from(c))
 }
 
+/// By how much a height is more than the asked one on that side.
+fn height_excess(len: Um, side: Sign, height: i128) -> i128
+    requires asked { IsFromTo 0 1000000000 len.0 }
+    requires height { unsigned_abs height ≤ 5 * billion * 2 ^ 60 }
+    ensures value { result ≡ height_excess len.0 side height }
+    ensures within { unsigned_abs result ≤ 2 ^ 63 * billion }
+{
+    signed(side, height) - scaled(ONE, 1000 * i128::from(len.0))
+}
+
 /// How far a height is from the asked one on that side.
 fn height_offset(len: Um, side: Sign, height: i128) -> u128
     requires asked { IsFromTo 0 1000000000 len.0 }
@@ -151,7 +182,7 @@ fn height_offset(len: Um, side: Sign, height: i128) -> u128
     ensures value { result ≡ height_offset len.0 side height }
     ensures within { result ≤ 2 ^ 63 * billion }
 {
-    (signed(side, height) - scaled(ONE, 1000 * i128::from(len.0))).unsigned_abs()
+    height_excess(len, side, height).unsigned_abs()
 }
 
 /// How far the square of the length of a normal is from one.
@@ -164,6 +195,21 @@ fn normal_offset(a: i64, b: i64) -> u128
     (dot(a, b, a, b) - ONE_SQUARED).unsigned_abs()
 }
 
+/// By how much the second of two normals goes further round from the first than the asked angle.
+fn angle_excess(ratio: Ratio, a: i64, b: i64, d: i64, e: i64) -> i128
+    requires ratio { IsSoundRatio ratio }
+    requires a { IsWithin 2000000000 a }
+    requires b { IsWithin 2000000000 b }
+    requires d { IsWithin 2000000000 d }
+    requires e { IsWithin 2000000000 e }
+    ensures value { result ≡ angle_excess ratio a b d e }
+    ensures within { unsigned_abs result ≤ 2 ^ 63 * billion }
+{
+    let along = scaled(i64::from(ratio.q), cross(a, b, d, e));
+    let across = scaled(i64::from(ratio.p), dot(a, b, d, e));
+    along - across
+}
+
 /// How far the angle between two normals is from the asked one.
 fn angle_offset(ratio: Ratio, a: i64, b: i64, d: i64, e: i64) -> u128
     requires ratio { IsSoundRatio ratio }
@@ -174,9 +220,7 @@ fn angle_offset(ratio: Ratio, a: i64, b: i64, d: i64, e: i64) -> u128
     ensures value { result ≡ angle_offset ratio a b d e }
     ensures within { result ≤ 2 ^ 63 * billion }
 {
-    let along = scaled(i64::from(ratio.q), cross(a, b, d, e));
-    let across = scaled(i64::from(ratio.p), dot(a, b, d, e));
-    (along - across).unsigned_abs()
+    angle_excess(ratio, a, b, d, e).unsigned_abs()
 }
 
 /// The unit of that offset.

@@ -1,7 +1,8 @@
 // Products of whole numbers that stay within 128 bits.
-ghost use Rattle.std.specs.Prelude.{◌≡◌, ◌≤◌, ◌^◌, ◌*◌, ◌-ℤ◌, ◌*ℤ◌, ℕ, unsigned_abs};
+ghost use Rattle.std.specs.Prelude.{◌≡◌, ◌≤◌, ◌^◌, ◌*◌, ◌-ℤ◌, ◌*ℤ◌, ◌<◌, ◌<ℤ◌, ◌↔◌, ℕ, pos, IsTrue, unsigned_abs};
 ghost use Rattle.sk_base.specs.Bounds.{IsWithin};
 ghost use Rattle.sk_holding.specs.Offsets.{squared, signed, cross, dot};
+ghost use Rattle.sk_holding.specs.WithSign.{with_sign};
 
 use sk_base::Sign;
 
@@ -71,4 +72,20 @@ pub fn signed(sign: Sign, number: i128) -> i128
         Sign::Plus => number,
         Sign::Minus => -number,
     }
+}
+
+/// Whether the number is below zero.
+pub fn is_negative(number: i128) -> bool
+    ensures { IsTrue result ↔ (number <ℤ pos 0) }
+{
+    number < 0
+}
+
+/// The size, or its negative where it is of what is less.
+pub fn with_sign(size: u64, less: bool) -> i64
+    requires { size < 2 ^ 63 }
+    ensures { result ≡ with_sign less size }
+{
+    let size = size as i64;
+    if less { -size } else { size }
 }
