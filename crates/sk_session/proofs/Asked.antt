@@ -1,6 +1,5 @@
 -- What the reply to a question tells of the sketch after the line; and no line changes the order of merges.
-use Rattle.std.proofs.Common.{◌≡◌, ◌≢◌, ◌<◌, inl, inr, ℕ, Bool, true, false, List, [], ◌∷◌, ◌++◌, Option, Some, None, is_some, length, refl, ap, sym, subst, ◌∙◌}
-use Rattle.std.specs.Prelude.{not}
+use Rattle.std.proofs.Common.{◌≡◌, ◌≢◌, ◌<◌, inl, inr, ℕ, Bool, false, List, ◌∷◌, ◌++◌, Option, Some, None, is_some, length, refl, ap, sym, subst, ◌∙◌}
 use Rattle.sk_base.specs.declared.ConId.{ConId}
 use Rattle.sk_base.specs.declared.Elem.{Elem}
 use Rattle.sk_base.specs.declared.Sketch.{Sketch}
@@ -8,16 +7,15 @@ use Rattle.sk_graph.specs.SketchGraph.{graph_of}
 use Rattle.sk_lines.specs.declared.Version.TheVariants.{Two}
 use Rattle.sk_lines.specs.Comments.{words_under}
 use Rattle.sk_lines.specs.declared.Code.{Code}
-use Rattle.sk_lines.specs.declared.Code.TheVariants.{E3, E18}
 use Rattle.sk_entry.specs.declared.Entry.{Entry}
 use Rattle.sk_entry.specs.declared.Entry.TheVariants as entry
 use Rattle.sk_lines.specs.ByteCodes.{byte_rows}
-use Rattle.sk_lines.specs.EndLine.{is_none_left}
 use Rattle.sk_entry.specs.Entry.{rows_of, IsEntryOf}
 use Rattle.sk_lines.specs.FirstCode.{first_code}
 use Rattle.sk_lines.specs.Keywords.{keyword_of}
 use Rattle.sk_lex.specs.declared.Words.{Words}
 use Rattle.sk_plan.specs.Judged.{IsTheJudgement}
+use Rattle.sk_plan.specs.PlanBy.{IsPlanBy}
 use Rattle.sk_verdict.specs.declared.Verdict.TheVariants.{Well}
 use Rattle.sk_worklist.specs.declared.Order.{Order}
 use Rattle.sk_edits.specs.declared.Command.{Command}
@@ -30,9 +28,9 @@ use Rattle.sk_edits.specs.Commands.{command_of, edit_made}
 use Rattle.sk_session.specs.LineCodes.{command_rows, own_rows, word_rows, code_in}
 use Rattle.sk_edits.specs.Edits.{sketch_of}
 use Rattle.sk_session.specs.State.{State, sketch_in}
-use Rattle.sk_session.specs.Replies.{IsThePlan, Only, Stands, Obeys, ObeysWords, Enters, ByCode, Answers, next_elem, next_con}
+use Rattle.sk_session.specs.Replies.{Only, Stands, Obeys, ObeysWords, Enters, ByCode, Answers, next_elem, next_con}
 use Rattle.sk_lines.proofs.FirstCodes.{none_behind}
-use Rattle.sk_session.proofs.ToSolve.{some_left}
+use Rattle.sk_session.proofs.ToSolve.{some_asked}
 
 -- a line that says neither an element nor a constraint, and isn't blank, begins with another word than those lines do
 abbrev pub OtherBegins : Type 0
@@ -42,16 +40,10 @@ OtherBegins = (s : Sketch) (line : List ℕ) (elem : Elem) (con : ConId) (words 
 -- what a reply tells of a sketch
 abbrev pub TellsOf : Order → Sketch → Reply → Type 0
 TellsOf order s (reply.Checked j) = (0 < length s.elements) × IsTheJudgement (graph_of s) j
-TellsOf order s (reply.Planned p) = (0 < length s.elements) × IsThePlan order s p
+TellsOf order s (reply.Planned p) = (0 < length s.elements) × IsPlanBy order s p
 TellsOf order s (reply.NotWell j) = (0 < length s.elements) × IsTheJudgement (graph_of s) j × (j.verdict ≢ Well)
 TellsOf order s reply.Solve = 0 < length s.elements
 TellsOf order s r = Unit {0}
-
--- the codes of a question
-none_of_both : (t u : Bool) → first_code ((t, E3) ∷ (u, E18) ∷ []) ≡ None → u ≡ false
-none_of_both true u is = absurd (cc)
-none_of_both false true is = absurd (cc)
-none_of_both false false is = refl
 
 module _ (begins : OtherBegins) (old new : State) where
   abbrev Told : Reply → Type 0
@@ -67,9 +59,6 @@ module _ (begins : OtherBegins) (old new : State) where
   stands_told None this r tells h = absurd h
   stands_told (Some e) this r tells (is, accepts) = (accepts.order, subst (λ (z : Reply). TellsOf old.order (sketch_in new) z) (sym is) tells)
 
-  some_asked : (rest : List (List ℕ)) → first_code ((not (is_none_left rest), E3) ∷ (is_none_left (sketch_in old).elements, E18) ∷ []) ≡ None → 0 < length (sketch_in old).elements
-  some_asked rest clean = some_left (sketch_in old).elements (none_of_both (not (is_none_left rest)) (is_none_left (sketch_in old).elements) clean)
-
   obeys_told : (o : Option Command) (rest : List (List ℕ)) (r : Reply) → first_code (command_rows old o rest) ≡ None → Obeys old o rest r new → Told r
   obeys_told None rest r clean h = absurd h
   obeys_told (Some (Change change)) rest r clean h = stands_told (edit_made (sketch_in old) change rest) reply.Done r tt h
@@ -77,11 +66,11 @@ module _ (begins : OtherBegins) (old new : State) where
   obeys_told (Some Check) rest r clean (j, is, judged, closes) = (
     closes.else_same.order,
     subst (λ (z : Reply). TellsOf old.order (sketch_in new) z) (sym is)
-        (subst (λ (edits : List Edit). TellsOf old.order (sketch_of edits) (reply.Checked j)) (sym closes.else_same.edits) (some_asked rest clean, judged)),
+        (subst (λ (edits : List Edit). TellsOf old.order (sketch_of edits) (reply.Checked j)) (sym closes.else_same.edits) (some_asked old rest clean, judged)),
   )
-  obeys_told (Some Plan) rest r clean (inl (p, is, plan), same) = only_told (reply.Planned p) r (some_asked rest clean, plan) (is, same)
-  obeys_told (Some Plan) rest r clean (inr (j, is, judged, other), same) = only_told (reply.NotWell j) r (some_asked rest clean, judged, other) (is, same)
-  obeys_told (Some Solve) rest r clean h = only_told reply.Solve r (some_asked rest clean) h
+  obeys_told (Some Plan) rest r clean (inl (p, is, plan), same) = only_told (reply.Planned p) r (some_asked old rest clean, plan) (is, same)
+  obeys_told (Some Plan) rest r clean (inr (j, is, judged, other), same) = only_told (reply.NotWell j) r (some_asked old rest clean, judged, other) (is, same)
+  obeys_told (Some Solve) rest r clean h = only_told reply.Solve r (some_asked old rest clean) h
   obeys_told (Some Write) rest r clean h = only_told reply.Write r tt h
   obeys_told (Some End) rest r clean h = only_told reply.End r tt h
 

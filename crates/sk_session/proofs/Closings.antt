@@ -4,9 +4,10 @@ use Rattle.sk_base.specs.declared.Graph.{Graph}
 use Rattle.sk_family.specs.Clusters.{Clusters}
 use Rattle.sk_rules.specs.Reach.{stays}
 use Rattle.sk_worklist.specs.declared.Order.{Order}
+use Rattle.sk_plan.specs.PlanBy.{fresh}
 use Rattle.sk_session.specs.declared.closing.Closing.{Closing}
 use Rattle.sk_session.specs.declared.closing.Closing.TheVariants.{ByRun, InAnyOrder}
-use Rattle.sk_session.specs.State.{EndsBy, HasBegunBy, fresh}
+use Rattle.sk_session.specs.State.{EndsBy, HasBegunBy}
 
 -- a family is on its own way
 pub begun_there : (closing : Closing) (order : Order) (g : Graph) (f : Clusters) → HasBegunBy closing order g f f

@@ -1,17 +1,12 @@
 -- A line has one reply, and after it one list of standing edits: the kept family, and how it is closed, have no part in
 -- that.
-use Rattle.std.proofs.Common.{◌≡◌, ◌≢◌, ◌⊎◌, inl, inr, ℕ, Bool, true, false, List, [], ◌∷◌, ◌++◌, Option, Some, None, is_some, map, refl, ap, sym, subst, ◌∙◌}
-use Rattle.std.specs.Prelude.{All}
+use Rattle.std.proofs.Common.{◌≡◌, ◌⊎◌, inl, inr, ℕ, Bool, true, false, List, [], ◌∷◌, ◌++◌, Option, Some, None, is_some, refl, ap, sym, subst, ◌∙◌}
 use Rattle.std.proofs.lemmas.List.{same_from_push}
 use Rattle.sk_base.specs.declared.Elem.{Elem}
 use Rattle.sk_base.specs.declared.ConId.{ConId}
-use Rattle.sk_base.specs.declared.Graph.{Graph}
 use Rattle.sk_base.specs.declared.Sketch.{Sketch}
-use Rattle.sk_base.specs.SoundGraph.{IsSoundGraph}
 use Rattle.sk_base.specs.SoundSketch.{IsSoundSketch}
-use Rattle.sk_family.specs.Body.{Body, SameBodies}
-use Rattle.sk_family.specs.Clusters.{Clusters, initial_clusters}
-use Rattle.sk_rules.specs.declared.Merge.{Merge}
+use Rattle.sk_family.specs.Clusters.{Clusters}
 use Rattle.sk_lines.specs.declared.Version.TheVariants.{Two}
 use Rattle.sk_lines.specs.Comments.{words_under}
 use Rattle.sk_lines.specs.declared.Code.{Code}
@@ -24,15 +19,8 @@ use Rattle.sk_lines.specs.Keywords.{keyword_of}
 use Rattle.sk_graph.specs.SketchGraph.{graph_of}
 use Rattle.sk_graph.proofs.Soundness.{graph_is_sound}
 use Rattle.sk_worklist.specs.declared.Order.{Order}
-use Rattle.sk_worklist.specs.Orders.{Choosing, place_of, next_call}
-use Rattle.sk_worklist.specs.Run.{IsRun}
-use Rattle.sk_verdict.specs.declared.Judgement.{Judgement}
-use Rattle.sk_verdict.specs.declared.Verdict.TheVariants.{Well}
-use Rattle.sk_verdict.specs.Judging.{IsJudgement}
-use Rattle.sk_tree.specs.declared.Plan.{Plan}
-use Rattle.sk_tree.specs.LegalPlan.{IsLegalPlan, merge_told}
-use Rattle.sk_tree.specs.DrawnChoice.{HasDrawnChoice}
-use Rattle.sk_plan.specs.Judged.{IsTheJudgement}
+use Rattle.sk_plan.proofs.OnePlan.{one_plan_by}
+use Rattle.sk_plan.proofs.TheJudgement.{one_judgement, well_alone}
 use Rattle.sk_session.specs.declared.closing.Closing.{Closing}
 use Rattle.sk_edits.specs.declared.Command.{Command}
 use Rattle.sk_edits.specs.declared.Command.TheVariants as command
@@ -42,49 +30,28 @@ use Rattle.sk_session.specs.declared.reply.Reply.{Reply}
 use Rattle.sk_session.specs.declared.reply.Reply.TheVariants as reply
 use Rattle.sk_edits.specs.Commands.{command_of, edit_made}
 use Rattle.sk_session.specs.LineCodes.{command_rows, own_rows, word_rows, code_in}
-use Rattle.sk_session.specs.State.{State, sketch_in, fresh, IsSameElse}
-use Rattle.sk_session.specs.Replies.{IsThePlan, Plans, Only, Stands, Obeys, ObeysWords, Enters, ByCode, Answers, next_elem, next_con}
+use Rattle.sk_session.specs.State.{State, sketch_in, IsSameElse}
+use Rattle.sk_session.specs.Replies.{Plans, Only, Stands, Obeys, ObeysWords, Enters, ByCode, Answers, next_elem, next_con}
 
--- the laws of the layers below
-pub record Laws : Type 0 where
-  pub one_entry : (s : Sketch) (line : List ℕ) (elem : Elem) (con : ConId) (x y : Entry) → IsEntryOf Two s line elem con x → IsEntryOf Two s line elem con y → (x ≡ y) ⊎ (IsOther Two line x × IsOther Two line y)
-  pub one_judgement : (g : Graph) (one other : List Body) (j k : Judgement) → SameBodies one other → IsJudgement g one j → IsJudgement g other k → j ≡ k
-  pub one_run : (g : Graph) (f : Clusters) (p : Choosing) (ms ns : List Merge) (one other : Clusters) (last end : Choosing)
-      → IsRun place_of next_call g f p ms one last → IsRun place_of next_call g f p ns other end → (ms ≡ ns) × (one ≡ other) × (last ≡ end)
-  pub one_plan : (g : Graph) (s : Sketch) (p q : Plan) → IsSoundGraph g → IsLegalPlan g p → IsLegalPlan g q → map merge_told p.steps ≡ map merge_told q.steps
-      → All (HasDrawnChoice s) p.steps → All (HasDrawnChoice s) q.steps → p ≡ q
+-- a line says one thing, by the law of the language
+abbrev pub OneEntry : Type 0
+OneEntry = (s : Sketch) (line : List ℕ) (elem : Elem) (con : ConId) (x y : Entry) → IsEntryOf Two s line elem con x → IsEntryOf Two s line elem con y → (x ≡ y) ⊎ (IsOther Two line x × IsOther Two line y)
 
-pub same_judgement : Laws → (g : Graph) (j k : Judgement) → IsTheJudgement g j → IsTheJudgement g k → j ≡ k
-same_judgement laws g j k first second =
-    laws.one_judgement g first.normal first.normal j k (λ x. ((λ h. h), (λ h. h))) (first.every first.normal first.is_normal) (second.every first.normal first.is_normal)
-
-pub same_plan : Laws → (order : Order) (s : Sketch) → IsSoundGraph (graph_of s) → (p q : Plan) → IsThePlan order s p → IsThePlan order s q → p ≡ q
-same_plan laws order s sound p q first second =
-    let (one, (last, run)) = first.run in
-    let (other, (end, run')) = second.run in
-    let merges = laws.one_run (graph_of s) (initial_clusters (graph_of s)) (fresh order) (map merge_told p.steps) (map merge_told q.steps) one other last end run run' in
-    laws.one_plan (graph_of s) s p q sound first.legal second.legal merges.0 first.drawn second.drawn
-
-not_both : Laws → (order : Order) (s : Sketch) (p : Plan) (j : Judgement) → IsThePlan order s p → IsTheJudgement (graph_of s) j → j.verdict ≢ Well → ⊥
-not_both laws order s p j plan judged not_well =
-    let (k, judged', well) = plan.well in
-    not_well (subst (λ (z : Judgement). z.verdict ≡ Well) (same_judgement laws (graph_of s) k j judged' judged) well)
-
-same_plans : Laws → (state : State) → IsSoundSketch (sketch_in state) → (one other : Reply) → Plans state one → Plans state other → one ≡ other
-same_plans laws state sound one other first second =
+same_plans : (state : State) → IsSoundSketch (sketch_in state) → (one other : Reply) → Plans state one → Plans state other → one ≡ other
+same_plans state sound one other first second =
     let s = sketch_in state in
     elim first [
       | inl (p, is, plan) ↦ elim second [
-        | inl (q, is', plan') ↦ is ∙ ap reply.Planned (same_plan laws state.order s (graph_is_sound s sound) p q plan plan') ∙ sym is'
-        | inr (j, is', judged, not_well) ↦ absurd (not_both laws state.order s p j plan judged not_well)
+        | inl (q, is', plan') ↦ is ∙ ap reply.Planned (one_plan_by state.order s p q (graph_is_sound s sound) plan plan') ∙ sym is'
+        | inr (j, is', judged, not_well) ↦ absurd (well_alone (graph_of s) j plan.well judged not_well)
       ]
       | inr (j, is, judged, not_well) ↦ elim second [
-        | inl (q, is', plan') ↦ absurd (not_both laws state.order s q j plan' judged not_well)
-        | inr (k, is', judged', not_well') ↦ is ∙ ap reply.NotWell (same_judgement laws (graph_of s) j k judged judged') ∙ sym is'
+        | inl (q, is', plan') ↦ absurd (well_alone (graph_of s) j plan'.well judged not_well)
+        | inr (k, is', judged', not_well') ↦ is ∙ ap reply.NotWell (one_judgement (graph_of s) j k judged judged') ∙ sym is'
       ]
     ]
 
-module _ (laws : Laws) (old : State) (closing : Closing) (kept : Clusters) (sound : IsSoundSketch (sketch_in old)) where
+module _ (one_entry : OneEntry) (old : State) (closing : Closing) (kept : Clusters) (sound : IsSoundSketch (sketch_in old)) where
   -- the state with another kept family, closed so
   abbrev like : State
   like = record { order = old.order; closing = closing; edits = old.edits; count = old.count; family = kept }
@@ -121,7 +88,7 @@ module _ (laws : Laws) (old : State) (closing : Closing) (kept : Clusters) (soun
     },
   )
   obeys_same (Some command.Check) rest one other new last (j, is, judged, closes) (k, is', judged', closes') = (
-    is ∙ ap reply.Checked (same_judgement laws (graph_of (sketch_in old)) j k judged judged') ∙ sym is',
+    is ∙ ap reply.Checked (one_judgement (graph_of (sketch_in old)) j k judged judged') ∙ sym is',
     record {
       order = closes'.else_same.order ∙ sym closes.else_same.order;
       edits = closes'.else_same.edits ∙ sym closes.else_same.edits;
@@ -129,7 +96,7 @@ module _ (laws : Laws) (old : State) (closing : Closing) (kept : Clusters) (soun
     },
   )
   obeys_same (Some command.Plan) rest one other new last (plans, same) (plans', same') =
-      let said = same_plans laws old sound one other plans plans' in
+      let said = same_plans old sound one other plans plans' in
       (said, (only_same one one one new last (refl, same) (refl, same')).1)
   obeys_same (Some command.Solve) rest one other new last h h' = only_same reply.Solve one other new last h h'
   obeys_same (Some command.Write) rest one other new last h h' = only_same reply.Write one other new last h h'
@@ -180,7 +147,7 @@ module _ (laws : Laws) (old : State) (closing : Closing) (kept : Clusters) (soun
   by_code_same : (line : List ℕ) (code : Option Code) (one other : Reply) (new last : State) → ByCode code old (Says line old one new) one new → ByCode code like (Says line like other last) other last → AreSame one other new last
   by_code_same line (Some code) one other new last h h' = only_same (reply.Refused code) one other new last h h'
   by_code_same line None one other new last (said, is, enters) (said', is', enters') =
-      elim (laws.one_entry (sketch_in old) line (next_elem old) (next_con old) said said' is is') [
+      elim (one_entry (sketch_in old) line (next_elem old) (next_con old) said said' is is') [
         | inl same ↦ enters_same (words_under Two line) said' one other new last (subst (λ z. Enters old (words_under Two line) z one new) same enters) enters'
         | inr (first, second) ↦ words_same (words_under Two line) one other new last (other_enters old line (words_under Two line) said one new first enters) (other_enters like line (words_under Two line) said' other last second enters')
       ]
@@ -189,10 +156,10 @@ module _ (laws : Laws) (old : State) (closing : Closing) (kept : Clusters) (soun
   answers_same line one other new last first second =
       by_code_same line (code_in old line) one other new last first (subst (λ code. ByCode code like (Says line like other last) other last) (code_alike line) second)
 
-pub one_reply : Laws → (old other new last : State) (line : List ℕ) (one said : Reply) → IsSoundSketch (sketch_in old) → IsSameElse old other → Answers old line one new → Answers other line said last
+pub one_reply : OneEntry → (old other new last : State) (line : List ℕ) (one said : Reply) → IsSoundSketch (sketch_in old) → IsSameElse old other → Answers old line one new → Answers other line said last
     → (one ≡ said) × IsSameElse new last
-one_reply laws old other new last line one said sound same first second =
+one_reply one_entry old other new last line one said sound same first second =
     let make : Order → List Edit → ℕ → State = λ order edits count. record { order = order; closing = other.closing; edits = edits; count = count; family = other.family } in
     let is : other ≡ make old.order old.edits old.count =
     ap (λ order. make order other.edits other.count) same.order ∙ ap (λ edits. make old.order edits other.count) same.edits ∙ ap (λ count. make old.order old.edits count) same.count in
-    answers_same laws old other.closing other.family sound line one said new last first (subst (λ z. Answers z line said last) is second)
+    answers_same one_entry old other.closing other.family sound line one said new last first (subst (λ z. Answers z line said last) is second)

@@ -22,7 +22,7 @@ use Rattle.sk_graph.proofs.Soundness.{graph_is_sound}
 use Rattle.sk_lines.specs.declared.Version.TheVariants.{Two}
 use Rattle.sk_lines.specs.Comments.{words_under}
 use Rattle.sk_lines.specs.declared.Code.{Code}
-use Rattle.sk_lines.specs.declared.Code.TheVariants.{E3, E18, S3, S5}
+use Rattle.sk_lines.specs.declared.Code.TheVariants.{E3, S3, S5}
 use Rattle.sk_entry.specs.declared.Entry.{Entry}
 use Rattle.sk_entry.specs.declared.Entry.TheVariants as entry
 use Rattle.sk_lines.specs.ByteCodes.{byte_rows}
@@ -44,7 +44,8 @@ use Rattle.sk_tree.specs.declared.Plan.{Plan}
 use Rattle.sk_verdict.specs.declared.Judgement.{Judgement}
 use Rattle.sk_verdict.specs.declared.Verdict.{Verdict}
 use Rattle.sk_verdict.specs.declared.Verdict.TheVariants.{Well, Over, Several}
-use Rattle.sk_plan.specs.Judged.{IsTheJudgement}
+use Rattle.sk_plan.specs.Judged.{IsTheJudgement, IsWell}
+use Rattle.sk_plan.specs.PlanBy.{fresh, IsPlanBy}
 use Rattle.sk_session.specs.declared.closing.Closing.{Closing}
 use Rattle.sk_session.specs.declared.closing.Closing.TheVariants.{ByRun, InAnyOrder}
 use Rattle.sk_edits.specs.declared.Command.{Command}
@@ -66,14 +67,14 @@ use Rattle.sk_lines.specs.Quantities.{um, ratio}
 use Rattle.sk_session.specs.LineCodes.{command_rows, word_rows, code_in, is_spent}
 use Rattle.sk_session.specs.Past.{edit_of, edits_of, Stood}
 use Rattle.sk_session.specs.Standing.{Gives, IsConsistent, element_after, element_before}
-use Rattle.sk_session.specs.State.{State, sketch_in, graph_in, fresh, Accepts, TakesBack, EndsBy, Closes}
-use Rattle.sk_session.specs.Replies.{IsThePlan, Stands, Takes, Obeys, Enters, ByCode, Answers, next_elem, next_con}
+use Rattle.sk_session.specs.State.{State, sketch_in, graph_in, Accepts, TakesBack, EndsBy, Closes}
+use Rattle.sk_session.specs.Replies.{Stands, Takes, Obeys, Enters, ByCode, Answers, next_elem, next_con}
 use Rattle.sk_lines.proofs.FirstCodes.{code_front, code_behind}
 use Rattle.sk_session.proofs.Coding.{answers_entry, answers_command, answers_refused}
 use Rattle.sk_session.proofs.Consistency.{edits_push, consistent_made, consistent_undone, consistent_merged, last_led}
 use Rattle.sk_edits.proofs.Numbers.{elements_below, constraints_below}
 use Rattle.sk_edits.proofs.Possible.{SoundQuantities, sound_value, can_declare, can_constrain, can_change}
-use Rattle.sk_session.proofs.ToSolve.{EachStandsOn, some_left}
+use Rattle.sk_session.proofs.ToSolve.{EachStandsOn, some_asked}
 use Rattle.sk_session.proofs.SomeFollowing.{followed, followed_back, some_done}
 
 -- what a session keeps to stands for the state
@@ -95,7 +96,7 @@ pub record GivenBelow : Type 0 where
   pub language : GivenByLanguage
   pub run : (order : Order) (g : Graph) (f : Clusters) → IsSound f → (ms : List Merge) × (end : Clusters) × (last : Choosing) × IsRun place_of next_call g f (fresh order) ms end last
   pub judgement : (g : Graph) → IsSoundGraph g → (j : Judgement) × IsTheJudgement g j
-  pub plan : (order : Order) (s : Sketch) → IsSoundSketch s → 0 < length s.elements → (j : Judgement) → IsTheJudgement (graph_of s) j → j.verdict ≡ Well → (p : Plan) × IsThePlan order s p
+  pub plan : (order : Order) (s : Sketch) → IsSoundSketch s → 0 < length s.elements → IsWell (graph_of s) → (p : Plan) × IsPlanBy order s p
 
 -- ---- edits
 
@@ -322,23 +323,16 @@ module _ (below : GivenBelow) (old : State) (was : IsKept old) where
   plans rest some =
       let j = below.judgement (graph_in old) graph_sound in
       elim (well_or_not j.0.verdict) [
-        | inl well ↦ (let p = below.plan old.order (sketch_in old) sound some j.0 j.1 well in record { answer = reply.Planned p.0; new = old; obeys = (inl (p.0, refl, p.1), refl); kept = was })
+        | inl well ↦ (let p = below.plan old.order (sketch_in old) sound some (j.0, j.1, well) in record { answer = reply.Planned p.0; new = old; obeys = (inl (p.0, refl, p.1), refl); kept = was })
         | inr never ↦ record { answer = reply.NotWell j.0; new = old; obeys = (inr (j.0, refl, j.1, never), refl); kept = was }
       ]
-
-  -- a query needs an element
-  some_elements : (rest : List (List ℕ)) → first_code ((not (is_none_left rest), E3) ∷ (is_none_left (sketch_in old).elements, E18) ∷ []) ≡ None → 0 < length (sketch_in old).elements
-  some_elements rest clean =
-      let alone = passed (not (is_none_left rest)) E3 (first_code ((is_none_left (sketch_in old).elements, E18) ∷ [])) clean in
-      let some = passed (is_none_left (sketch_in old).elements) E18 None alone.1 in
-      some_left (sketch_in old).elements some.0
 
   obeyed : (o : Option Command) (rest : List (List ℕ)) → first_code (command_rows old o rest) ≡ None → IsObeyed old o rest
   obeyed None rest clean = absurd (cc)
   obeyed (Some (command.Change change)) rest clean = changes change rest clean
   obeyed (Some command.Undo) rest clean = undoes rest clean
   obeyed (Some command.Check) rest clean = checks rest
-  obeyed (Some command.Plan) rest clean = plans rest (some_elements rest clean)
+  obeyed (Some command.Plan) rest clean = plans rest (some_asked old rest clean)
   obeyed (Some command.Solve) rest clean = record { answer = reply.Solve; new = old; obeys = (refl, refl); kept = was }
   obeyed (Some command.Write) rest clean = record { answer = reply.Write; new = old; obeys = (refl, refl); kept = was }
   obeyed (Some command.End) rest clean = record { answer = reply.End; new = old; obeys = (refl, refl); kept = was }

@@ -1,9 +1,10 @@
 -- `solve` is answered only where there is something to solve.
-use Rattle.std.proofs.Common.{◌≡◌, ◌<◌, ℕ, Bool, true, false, List, [], ◌∷◌, ◌++◌, Option, Some, None, length, refl, sym, subst, ◌∙◌, arith, inl, inr}
+use Rattle.std.proofs.Common.{◌≡◌, ◌<◌, not, ℕ, Bool, true, false, List, [], ◌∷◌, ◌++◌, Option, Some, None, length, refl, sym, subst, ◌∙◌, arith, inl, inr}
 use Rattle.sk_base.specs.declared.ConId.{ConId}
 use Rattle.sk_base.specs.declared.Elem.{Elem}
 use Rattle.sk_base.specs.declared.Element.{Element}
 use Rattle.sk_base.specs.declared.Sketch.{Sketch}
+use Rattle.sk_base.proofs.Tables.{passed}
 use Rattle.sk_entry.specs.declared.Entry.TheVariants as entry
 use Rattle.sk_edits.specs.declared.Edit.TheVariants as edit
 use Rattle.sk_edits.specs.declared.Command.{Command}
@@ -11,7 +12,7 @@ use Rattle.sk_edits.specs.declared.Command.TheVariants.{Change, Undo, Check, Pla
 use Rattle.sk_edits.specs.declared.Edit.{Edit}
 use Rattle.sk_entry.specs.Entry.{rows_of, IsEntryOf, StandsOn}
 use Rattle.sk_entry.specs.declared.Entry.{Entry}
-use Rattle.sk_lines.specs.declared.Code.TheVariants.{S5, E18}
+use Rattle.sk_lines.specs.declared.Code.TheVariants.{E3, E18, S5}
 use Rattle.sk_lines.proofs.FirstCodes.{none_behind}
 use Rattle.sk_lines.specs.ByteCodes.{byte_rows}
 use Rattle.sk_lines.specs.Comments.{words_under}
@@ -27,9 +28,16 @@ use Rattle.sk_session.specs.State.{State, sketch_in}
 use Rattle.sk_session.specs.Replies.{Takes, Stands, Obeys, ObeysWords, Enters, ByCode, Answers, next_elem, next_con}
 use Rattle.sk_session.proofs.Coding.{code_of_command}
 
-pub some_left : (xs : List Element) → is_none_left xs ≡ false → 0 < length xs
+some_left : (xs : List Element) → is_none_left xs ≡ false → 0 < length xs
 some_left [] is = absurd (cc)
 some_left (x ∷ xs) is = omega arith
+
+-- a question without a code has an element to ask of
+pub some_asked : (state : State) (rest : List (List ℕ)) → first_code ((not (is_none_left rest), E3) ∷ (is_none_left (sketch_in state).elements, E18) ∷ []) ≡ None → 0 < length (sketch_in state).elements
+some_asked state rest clean =
+    let alone = passed (not (is_none_left rest)) E3 (first_code ((is_none_left (sketch_in state).elements, E18) ∷ [])) clean in
+    let some = passed (is_none_left (sketch_in state).elements) E18 None alone.1 in
+    some_left (sketch_in state).elements some.0
 
 module _ (old new : State) where
   none_stands : (made : Option Edit) (this : Reply) → (reply.Solve ≡ this → ⊥) → ¬ Stands old made this reply.Solve new
@@ -48,13 +56,7 @@ module _ (old new : State) where
   solve_obeys (Some End) rest (is, same) = absurd (cc)
 
   some_by_rows : (o : Option Command) (rest : List (List ℕ)) → o ≡ Some Solve → first_code (command_rows old o rest) ≡ None → 0 < length (sketch_in old).elements
-  some_by_rows o rest is none =
-      let clean : first_code (command_rows old (Some Solve) rest) ≡ None = subst (λ (z : Option Command). first_code (command_rows old z rest) ≡ None) is none in
-      some_left (sketch_in old).elements (told (is_none_left (sketch_in old).elements) (none_behind (_ ∷ []) ((is_none_left (sketch_in old).elements, E18) ∷ []) clean))
-    where
-      told : (t : Bool) → first_code ((t, E18) ∷ []) ≡ None → t ≡ false
-      told true is = absurd (cc)
-      told false is = refl
+  some_by_rows o rest is none = some_asked old rest (subst (λ (z : Option Command). first_code (command_rows old z rest) ≡ None) is none)
 
   -- a command is answered so only where there is an element
   pub obeyed_some : (o : Option Command) (rest : List (List ℕ)) (answer : Reply) → ByCode (first_code (command_rows old o rest)) old (Obeys old o rest answer new) answer new → answer ≡ reply.Solve → 0 < length (sketch_in new).elements

@@ -1,5 +1,5 @@
 -- What a session answers to a line, and its next state.
-use Rattle.std.specs.Prelude.{◌≡◌, ◌≢◌, ◌⊎◌, ℕ, Bool, true, false, All, List, [], ◌∷◌, map, Option, Some, None}
+use Rattle.std.specs.Prelude.{◌≡◌, ◌≢◌, ◌⊎◌, ℕ, Bool, true, false, List, [], ◌∷◌, Option, Some, None}
 use Rattle.sk_base.specs.declared.Elem.{Elem}
 use Rattle.sk_base.specs.declared.ConId.{ConId}
 use Rattle.sk_lines.specs.declared.Version.TheVariants.{Two}
@@ -9,18 +9,11 @@ use Rattle.sk_lines.specs.declared.Code.TheVariants.{S5}
 use Rattle.sk_entry.specs.declared.Entry.{Entry}
 use Rattle.sk_entry.specs.declared.Entry.TheVariants as entry
 use Rattle.sk_entry.specs.Entry.{IsEntryOf}
-use Rattle.sk_base.specs.declared.Sketch.{Sketch}
-use Rattle.sk_family.specs.Clusters.{Clusters, initial_clusters}
-use Rattle.sk_graph.specs.SketchGraph.{graph_of}
-use Rattle.sk_worklist.specs.declared.Order.{Order}
-use Rattle.sk_worklist.specs.Orders.{Choosing, place_of, next_call}
-use Rattle.sk_worklist.specs.Run.{IsRun}
 use Rattle.sk_verdict.specs.declared.Judgement.{Judgement}
 use Rattle.sk_verdict.specs.declared.Verdict.TheVariants.{Well}
 use Rattle.sk_tree.specs.declared.Plan.{Plan}
-use Rattle.sk_tree.specs.LegalPlan.{IsLegalPlan, merge_told}
-use Rattle.sk_tree.specs.DrawnChoice.{HasDrawnChoice}
-use Rattle.sk_plan.specs.Judged.{IsTheJudgement, IsWell}
+use Rattle.sk_plan.specs.Judged.{IsTheJudgement}
+use Rattle.sk_plan.specs.PlanBy.{IsPlanBy}
 use Rattle.sk_session.specs.declared.reply.Reply.{Reply}
 use Rattle.sk_session.specs.declared.reply.Reply.TheVariants as reply
 use Rattle.sk_edits.specs.declared.Command.{Command}
@@ -30,14 +23,7 @@ use Rattle.sk_edits.specs.declared.Edit.TheVariants as edit
 use Rattle.sk_edits.specs.Edits.{next_element, next_constraint}
 use Rattle.sk_edits.specs.Commands.{command_of, edit_made}
 use Rattle.sk_session.specs.LineCodes.{code_in}
-use Rattle.sk_session.specs.State.{State, sketch_in, graph_in, fresh, Accepts, TakesBack, Closes, IsHeldUp}
-
--- the plan of the run, from the initial family, of a fresh picker of the order
-pub record IsThePlan (order : Order) (s : Sketch) (p : Plan) : Type 0 where
-  pub legal : IsLegalPlan (graph_of s) p
-  pub run : (end : Clusters) × ((last : Choosing) × IsRun place_of next_call (graph_of s) (initial_clusters (graph_of s)) (fresh order) (map merge_told p.steps) end last)
-  pub drawn : All (λ step. HasDrawnChoice s step) p.steps
-  pub well : IsWell (graph_of s)
+use Rattle.sk_session.specs.State.{State, sketch_in, graph_in, Accepts, TakesBack, Closes, IsHeldUp}
 
 -- the judgement on the sketch, with the kept family closed
 abbrev pub Checks : State → Reply → State → Type 0
@@ -46,7 +32,7 @@ Checks old answer new = (j : Judgement) × (answer ≡ reply.Checked j) × IsThe
 -- the plan of the sketch, or the judgement on it where the verdict isn't well
 abbrev pub Plans : State → Reply → Type 0
 Plans state answer =
-    ((p : Plan) × (answer ≡ reply.Planned p) × IsThePlan state.order (sketch_in state) p)
+    ((p : Plan) × (answer ≡ reply.Planned p) × IsPlanBy state.order (sketch_in state) p)
     ⊎ ((j : Judgement) × (answer ≡ reply.NotWell j) × IsTheJudgement (graph_in state) j × (j.verdict ≢ Well))
 
 -- nothing but the answer

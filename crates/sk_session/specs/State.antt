@@ -9,6 +9,7 @@ use Rattle.sk_graph.specs.SketchGraph.{graph_of}
 use Rattle.sk_worklist.specs.declared.Order.{Order}
 use Rattle.sk_worklist.specs.Orders.{Choosing, place_of, next_call}
 use Rattle.sk_worklist.specs.Run.{IsRun, IsOnTheWay}
+use Rattle.sk_plan.specs.PlanBy.{fresh}
 use Rattle.sk_session.specs.declared.closing.Closing.{Closing}
 use Rattle.sk_session.specs.declared.closing.Closing.TheVariants.{ByRun, InAnyOrder}
 use Rattle.sk_edits.specs.declared.Edit.{Edit}
@@ -30,10 +31,6 @@ sketch_in state = sketch_of state.edits
 
 abbrev pub graph_in : State → Graph
 graph_in state = graph_of (sketch_in state)
-
--- a picker of the session's order before its first call
-abbrev pub fresh : Order → Choosing
-fresh order = record { order = order; call = 0 }
 
 -- the edit stands now, and the kept family has followed it
 pub record Accepts (old : State) (e : Edit) (new : State) : Type 0 where

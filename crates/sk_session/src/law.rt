@@ -19,9 +19,6 @@ ghost use Rattle.sk_edits.specs.Making.{CanMake};
 ghost use Rattle.sk_session.specs.Following.{Follows, FollowsBack};
 
 use sk_entry::{one_entry, what_a_line_says};
-use sk_plan::one_plan;
-use sk_verdict::one_judgement;
-use sk_worklist::{Chosen, one_run};
 
 /// The constraints of a sound sketch's graph start as those of the sketch do, in their order.
 pub fn starts_as_named()
@@ -49,9 +46,6 @@ pub fn one_reply()
         → (one ≡ said) × IsSameElse new last }
 {
     one_entry();
-    one_judgement();
-    one_plan();
-    one_run::<Chosen>();
 }
 
 /// `solve` is answered only where the sketch has an element.

@@ -20,9 +20,9 @@ use sk_base::{List, NoMemory, Sketch};
 use sk_edits::Edit;
 use sk_family::{Family, initial};
 use sk_graph::reduce;
-use sk_plan::{PlanError, plan_of};
+use sk_plan::{PlanError, planned_by};
 use sk_verdict::judge;
-use sk_worklist::{Chosen, Order};
+use sk_worklist::Order;
 use std::alloc::Global;
 use std::marker::Model;
 
@@ -190,10 +190,8 @@ impl Session {
         requires { 0 < length (sketch_in self.now).elements }
         ensures { IfOk result (Plans self.now) }
     {
-        let graph = reduce(self.alloc, &self.sketch)?;
-        let mut picker = Chosen::new(self.order);
-        match plan_of(self.alloc, &self.sketch, &graph, &mut picker) {
-            Ok(plan) => Ok(Reply::Planned(plan)),
+        match planned_by(self.alloc, self.order, &self.sketch) {
+            Ok(planned) => Ok(Reply::Planned(planned.plan)),
             Err(PlanError::NotWell(judgement)) => Ok(Reply::NotWell(judgement)),
             Err(PlanError::NoMemory) => Err(NoMemory),
         }
