@@ -1,5 +1,5 @@
 -- What a rule needs of the drawing: the elements that it names.
-use Rattle.std.proofs.Common.{◌≡◌, inl, inr, List, [], ◌∷◌, get_or, refl, ap, sym, subst}
+use Rattle.std.proofs.Common.{◌≡◌, inl, inr, [], ◌∷◌, get_or, refl, ap, sym, subst}
 use Rattle.std.specs.Prelude.{Contains, IsSome, Option, None, Some}
 use Rattle.std.specs.Option.{option_map}
 use Rattle.std.proofs.lemmas.List.Elements.{All-contains, Contains-get_or}

@@ -1,6 +1,6 @@
 -- The elements that a constraint names are the ends of its edge, or the elements of its pins.
 use Rattle.std.proofs.Common.{◌≡◌, inl, inr, Bool, true, false, List, [], ◌∷◌, refl, cond, ℤ}
-use Rattle.std.specs.Prelude.{IfSome, map, nat_lt}
+use Rattle.std.specs.Prelude.{IfSome, nat_lt}
 use Rattle.sk_base.specs.declared.numbered.Elem.{Elem}
 use Rattle.sk_base.specs.declared.numbered.ConId.{ConId}
 use Rattle.sk_base.specs.declared.measure.Um.{Um}

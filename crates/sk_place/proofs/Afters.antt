@@ -9,7 +9,7 @@ use Rattle.sk_base.specs.declared.Elem.{Elem}
 use Rattle.sk_base.specs.declared.Graph.{Graph}
 use Rattle.sk_base.specs.declared.Name.{Name}
 use Rattle.sk_base.specs.declared.Name.TheVariants.{Con, Step}
-use Rattle.sk_base.specs.Numbering.{elem_number, elem_exact}
+use Rattle.sk_base.specs.Numbering.{elem_number}
 use Rattle.sk_base.specs.Rising.{IsRising}
 use Rattle.sk_base.specs.ClusterNames.{name_eq, is_named}
 use Rattle.sk_base.specs.SoundGraph.{IsSoundGraph}
@@ -266,7 +266,7 @@ module _ {G : Type 0} (placing : PlaceBy) (F : ℕ) (g : Graph) (p : Plan) (soun
       new_elements : elements_of bs ≡ (made_of (s.one ∷ s.two ∷ s.three ∷ []) after.family.live).elements
       unfolding bs_body
       new_elements =
-          rising_same elem_number elem_exact (elements_of bs) (join_all three).elements bs_rises bodies_rise bs_in_whole whole_in_bs.elements
+          rising_same elem_number (elements_of bs) (join_all three).elements bs_rises bodies_rise bs_in_whole whole_in_bs.elements
           ∙ ap (λ (b : Body). b.elements) (sym made_is)
 
       pub new_trees : (t : Tree) → HasTree p s.step t → HasBoxes placing F g p.steps t bs

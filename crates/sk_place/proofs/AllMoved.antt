@@ -6,7 +6,6 @@ use Rattle.sk_motion.specs.Nesting.{IsMotionInside}
 use Rattle.sk_place.specs.declared.boxes.BoxAt.{BoxAt}
 use Rattle.sk_place.specs.declared.fault.BoxFault.{BoxFault}
 use Rattle.sk_place.specs.declared.fault.MoveError.{MoveError}
-use Rattle.sk_place.specs.declared.fault.MoveError.TheVariants.{Fault, NoMemory}
 use Rattle.sk_place.specs.declared.settling.PlaceBy.{PlaceBy}
 use Rattle.sk_place.specs.declared.settling.PlaceBy.TheVariants.{Boxes}
 use Rattle.sk_place.specs.Carrying.{carried_each, AnswersMove}
@@ -23,9 +22,7 @@ at_boxes : {G : Type 0} (F k : ℕ) (fine m : Motion G) (inside bs : List (BoxAt
     → (r : Result (List (BoxAt G)) MoveError) → AnswersMove r (carried_each Boxes F m bs) → KeepsMoved k (carried_each Boxes (F + k) fine inside) r
 at_boxes {G} F k fine m inside bs by lies (Ok ys) is =
     subst (λ (r : Result (List (BoxAt G)) BoxFault). KeepsBox (AreInside {G = G} {H = G} k) (carried_each Boxes (F + k) fine inside) r) is (each_box G G F k fine m by inside bs lies)
-at_boxes {G} F k fine m inside bs by lies (Err (Fault f)) is =
-    subst (λ (r : Result (List (BoxAt G)) BoxFault). KeepsBox (AreInside {G = G} {H = G} k) (carried_each Boxes (F + k) fine inside) r) is (each_box G G F k fine m by inside bs lies)
-at_boxes F k fine m inside bs by lies (Err NoMemory) is = tt
+at_boxes F k fine m inside bs by lies (Err e) is = tt
 
 pub moved_inside : {G : Type 0} (placing : PlaceBy) (F : ℕ) (m : Motion G) (bs : List (BoxAt G)) (r : Result (List (BoxAt G)) MoveError) → AnswersMove r (carried_each placing F m bs)
     → placing ≡ Boxes → (k : ℕ) (fine : Motion G) (inside : List (BoxAt G)) → IsMotionInside k fine m → AreInside k inside bs → KeepsMoved k (carried_each Boxes (F + k) fine inside) r

@@ -91,7 +91,7 @@ module _ {G : Type 0} where
         q_alike = kinds.second_w ∙ sym (ap kind_of (box_new b t.kept corners.kept_rises corners.new));
       }
 
-  corners_exchanged : (t : Setting G) → HasCorners t → HasCorners (exchanged t)
+  pub corners_exchanged : (t : Setting G) → HasCorners t → HasCorners (exchanged t)
   corners_exchanged t h = record {
     kept_rises = h.kept_rises;
     first_rises = h.second_rises;

@@ -1,20 +1,16 @@
--- Constraints and blocks by their numbers, and what they measure.
+-- Constraints and blocks by their numbers.
 use Rattle.std.proofs.Common.{◌≡◌, ℕ, Some, None, refl, sym}
 use Rattle.std.specs.Prelude.{Contains, All, ◌==◌, true, false}
 use Rattle.std.proofs.lemmas.Bool.Decides.{nat_tests}
 use Rattle.std.proofs.Common.{arith}
 use Rattle.sk_base.specs.declared.Edge.{Edge}
 use Rattle.sk_base.specs.declared.Block.{Block}
-use Rattle.sk_base.specs.declared.Elem.{Elem}
 use Rattle.sk_base.specs.declared.Graph.{Graph}
-use Rattle.sk_base.specs.declared.Measure.{Measure}
-use Rattle.sk_base.specs.declared.Measure.TheVariants.{PointPoint, PointLine, LineLine}
 use Rattle.sk_base.specs.Lookups.{edge_numbered, block_numbered}
-use Rattle.sk_base.specs.SoundGraph.{IsSoundGraph, Measures}
+use Rattle.sk_base.specs.SoundGraph.{IsSoundGraph}
 use Rattle.sk_base.specs.Numbering.{con_exact}
 use Rattle.sk_base.specs.Pins.{IsOnSheet}
 use Rattle.sk_base.proofs.Finding.{found_in, nothing_found, found_rising}
-use Rattle.sk_steps.specs.Leaves.{IsSoundMeasure}
 use Rattle.sk_place.specs.Trees.{edge, block, framed_of}
 
 pub record IsEdge (g : Graph) (k : ℕ) (e : Edge) : Type 0 where
@@ -46,11 +42,3 @@ framed_block g sound b h = rw (found_rising (λ (x : Block). x.id.0) g.blocks so
 -- the pins of a block that is found are on the sheet
 pub block_on_sheet : (g : Graph) → IsSoundGraph g → (k : ℕ) (b : Block) → block_numbered g k ≡ Some b → All IsOnSheet b.pins
 block_on_sheet g sound k b is = (sound.blocks_sound b (found_in (λ (x : Block). x.id.0 == k) g.blocks b is).0).pins.on_sheet
-
-pub measured : (g : Graph) (u v : Elem) (m : Measure) → Measures g u v m → IsSoundMeasure m
-measured g u v (PointPoint far) h = h.2
-measured g u v (PointLine far side) h = h.2
-measured g u v (LineLine ratio sense) h = h.2
-
-pub edge_measured : (g : Graph) → IsSoundGraph g → (k : ℕ) (e : Edge) → edge_numbered g k ≡ Some e → IsSoundMeasure e.measure
-edge_measured g sound k e is = measured g e.u e.v e.measure (sound.edges_measure e (edge_found g k e is).there)

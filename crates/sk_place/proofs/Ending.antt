@@ -11,7 +11,7 @@ use Rattle.sk_base.specs.declared.Name.{Name}
 use Rattle.sk_base.specs.declared.Name.TheVariants.{Con, Step}
 use Rattle.sk_base.specs.declared.Node.{Node}
 use Rattle.sk_base.specs.SoundGraph.{HasNode, IsSoundGraph}
-use Rattle.sk_base.proofs.Members.{contains_head, contains_one, contains_mapped, mapped_from}
+use Rattle.sk_base.proofs.Members.{contains_head, contains_one, contains_mapped, mapped_from, nothing_mapped}
 use Rattle.sk_base.proofs.Pairs.{pairs_map, pairs_same}
 use Rattle.sk_family.specs.declared.Cluster.{Cluster}
 use Rattle.sk_family.specs.Body.{Start, starts}
@@ -89,11 +89,7 @@ module _ (g : Graph) (p : Plan) (legal : IsLegalPlan g p) where
 
   pub leaf_there : (n : Name) → IsLastName p (Some n) → ¬ (p.leaves ≡ [])
   leaf_there n (inl (before, last, is, n_is)) none =
-      no_starts_no_steps g p.steps legal.steps (some_steps before last is) (nothing_mapped (starts g) (sym legal.leaves ∙ none))
-    where
-      nothing_mapped : (ss : List Start) → map (λ (s : Start). s.number) ss ≡ [] → ss ≡ []
-      nothing_mapped [] h = refl
-      nothing_mapped (s ∷ ss) h = cc
+      no_starts_no_steps g p.steps legal.steps (some_steps before last is) (nothing_mapped (λ (s : Start). s.number) (starts g) (sym legal.leaves ∙ none))
   leaf_there n (inr (k, rest, none, leaves_are, n_is)) empty = (let never : [] ≡ k ∷ rest = sym empty ∙ leaves_are in absurd (cc))
 
 -- ---- the cluster that is left

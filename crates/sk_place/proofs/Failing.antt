@@ -9,7 +9,7 @@ use Rattle.sk_base.specs.declared.Name.{Name}
 use Rattle.sk_base.specs.declared.Name.TheVariants.{Con, Step}
 use Rattle.sk_base.specs.ClusterNames.{IsBelow, is_named}
 use Rattle.sk_base.specs.SoundGraph.{IsSoundGraph}
-use Rattle.sk_base.proofs.Members.{contains_none, contains_head, contains_later, contains_cases, contains_one, contains_filtered}
+use Rattle.sk_base.proofs.Members.{contains_none, contains_head, contains_later, contains_cases, contains_one, contains_filtered, nothing_mapped}
 use Rattle.sk_family.specs.declared.Cluster.{Cluster}
 use Rattle.sk_family.specs.Body.{Start, starts}
 use Rattle.sk_family.specs.Clusters.{Clusters, IsSound, IsLive, initial_clusters, start_of, unnamed, whole_from}
@@ -167,11 +167,7 @@ module _ {G : Type 0} (placing : PlaceBy) (F : ℕ) (g : Graph) (p : Plan) (soun
   starts_there = no_starts_no_steps g p.steps legal.steps (omega arith)
 
   pub leaves_there : ¬ (p.leaves ≡ [])
-  leaves_there none = starts_there (nothing_mapped (starts g) (sym legal.leaves ∙ none))
-    where
-      nothing_mapped : (ss : List Start) → map (λ (t : Start). t.number) ss ≡ [] → ss ≡ []
-      nothing_mapped [] h = refl
-      nothing_mapped (t ∷ ss) h = cc
+  leaves_there none = starts_there (nothing_mapped (λ (t : Start). t.number) (starts g) (sym legal.leaves ∙ none))
 
   rest_is : drop i p.steps ≡ s ∷ drop (suc i) p.steps
   rest_is = drop-cons p.steps i s inside ∙ ap (λ (q : PlanStep). q ∷ drop (suc i) p.steps) s_is

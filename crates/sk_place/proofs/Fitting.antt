@@ -26,6 +26,7 @@ use Rattle.sk_place.specs.Clusters.{Rise, Holds, elements_of, box_of, precedes, 
 use Rattle.sk_place.specs.Steps.{setting, exchanged, ordered, given, HasCorners}
 use Rattle.sk_place.specs.Running.{AreOfKinds}
 use Rattle.sk_place.proofs.Lookups.{held_box, box_is}
+use Rattle.sk_place.proofs.Corners.{corners_exchanged}
 
 -- boxes rise as their elements do
 pub rise_of : {G : Type 0} (bs : List (BoxAt G)) (xs : List Elem) → elements_of bs ≡ xs → IsRising elem_number xs → Rise bs
@@ -82,32 +83,15 @@ constructible_in g sound choice t corners of_graph order =
           (subst (λ (k : Kind). HasNode g t.u k) lines.0 kept_u, subst (λ (k : Kind). HasNode g t.v k) lines.1 kept_v, subst (λ (k : Kind). HasNode g t.w k) lines.2 first_w));
     }
 
+lesser : (p q : Elem) → p ≢ q → nat_lt p.0 q.0 ≡ false → nat_lt q.0 p.0 ≡ true
+lesser p q differ order = (let other : p.0 ≢ q.0 = λ e. differ (elem_exact p q e) in grind (arith, nat_tests))
+
 -- of two different elements that aren't in order, the other order is one
 turned : (u v : Kind) (p q : Elem) → p ≢ q → precedes u p v q ≡ false → precedes v q u p ≡ true
 turned Kind.Point Kind.Point p q differ order = lesser p q differ order
-  where
-    lesser : (p q : Elem) → p ≢ q → nat_lt p.0 q.0 ≡ false → nat_lt q.0 p.0 ≡ true
-    lesser p q differ order = (let other : p.0 ≢ q.0 = λ e. differ (elem_exact p q e) in grind (arith, nat_tests))
 turned Kind.Point Kind.Line p q differ order = (let never : true ≡ false = order in absurd (cc))
 turned Kind.Line Kind.Point p q differ order = refl
 turned Kind.Line Kind.Line p q differ order = lesser p q differ order
-  where
-    lesser : (p q : Elem) → p ≢ q → nat_lt p.0 q.0 ≡ false → nat_lt q.0 p.0 ≡ true
-    lesser p q differ order = (let other : p.0 ≢ q.0 = λ e. differ (elem_exact p q e) in grind (arith, nat_tests))
-
-corners_exchanged : {G : Type 0} (t : Setting G) → HasCorners t → HasCorners (exchanged t)
-corners_exchanged t h = record {
-  kept_rises = h.kept_rises;
-  first_rises = h.second_rises;
-  second_rises = h.first_rises;
-  kept_u = h.kept_v;
-  kept_v = h.kept_u;
-  first_u = h.second_v;
-  first_w = h.second_w;
-  second_v = h.first_u;
-  second_w = h.first_w;
-  new = h.new;
-}
 
 pub constructible : {G : Type 0} (g : Graph) → IsSoundGraph g → (choice : Choice) (t : Setting G) → HasCorners t → IsOfGraph g t → t.u ≢ t.v → IsConstructible (given choice (ordered t))
 constructible {G} g sound choice t corners of_graph differ = elim (cases_Bool (comes_first t.kept t.u t.v)) [

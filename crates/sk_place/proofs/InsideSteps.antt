@@ -27,10 +27,16 @@ use Rattle.sk_place.specs.declared.setting.Setting.{Setting}
 use Rattle.sk_place.specs.Clusters.{box_of, with_box, with_boxes, besides, comes_first}
 use Rattle.sk_place.specs.Carrying.{faulty, box_faulty, in_step, and_then, carried_each, pair_in, moved, carried_child}
 use Rattle.sk_place.specs.Steps.{ordered, root, given, joined_in, joined}
-use Rattle.sk_place.specs.Nesting.{AreInside, with_gap, KeepsBoxGap}
+use Rattle.sk_place.specs.Nesting.{AreInside, with_gap}
 use Rattle.sk_place.proofs.InsideLists.{box_inside, put_inside, union_inside, besides_inside, kind_inside, first_inside}
 
 -- ---- boxes that are carried
+
+-- a gap stays a gap of the same fault
+abbrev pub KeepsBoxGap : {X : Type 0} → Result X BoxFault → BoxFault → Cause → Type 0
+KeepsBoxGap fine f (Gap lo hi) = (l : ℤ) × (h : ℤ) × (fine ≡ Err (record { what = f.what; elem = f.elem; cause = Gap l h }))
+KeepsBoxGap fine f (Flat lo hi) = Unit {0}
+KeepsBoxGap fine f Range = Unit {0}
 
 -- a result holds one inside it, in the sense of P, and a gap stays one
 abbrev pub KeepsBox : {X Y : Type 0} → (X → Y → Type 0) → Result X BoxFault → Result Y BoxFault → Type 0

@@ -4,6 +4,7 @@ use Rattle.std.proofs.lemmas.Bool.{cases_Bool}
 use Rattle.sk_base.specs.declared.Elem.{Elem}
 use Rattle.sk_base.specs.declared.Name.{Name}
 use Rattle.sk_base.specs.declared.Graph.{Graph}
+use Rattle.std.proofs.lemmas.Option.{same_Some}
 use Rattle.sk_interval.specs.declared.Cause.{Cause}
 use Rattle.sk_steps.specs.declared.What.{What}
 use Rattle.sk_steps.specs.ThirdElement.{third_element}
@@ -25,9 +26,6 @@ use Rattle.sk_place.specs.Clusters.{with_box, besides, comes_first}
 use Rattle.sk_place.specs.Carrying.{faulty, in_step, and_then, carried_each, pair_in, moved, carried_child}
 use Rattle.sk_place.specs.Steps.{setting, ordered, given, joined}
 use Rattle.sk_place.specs.Trees.{made, boxes_in, boxes, step_of, HasBoxes}
-
-some_inside : {X : Type 0} (x y : X) → Some x ≡ Some y → x ≡ y
-some_inside x y e = cc
 
 -- ---- a fault names its step
 
@@ -73,7 +71,7 @@ pub fault_named : {G : Type 0} (placing : PlaceBy) (F : ℕ) (s : PlanStep) (x y
 fault_named placing F s x y z f is = (joined_named placing F s x y z).named f is
 
 made_named : {G : Type 0} (placing : PlaceBy) (F : ℕ) (s : PlanStep) (one two three : Option (List (BoxAt G))) (f : StepFault) → made placing F (Some s) one two three ≡ Some (Err f) → f.step ≡ s.step
-made_named placing F s (Some x) (Some y) (Some z) f h = fault_named placing F s x y z f (some_inside (joined placing F s x y z) (Err f) h)
+made_named placing F s (Some x) (Some y) (Some z) f h = fault_named placing F s x y z f (same_Some (joined placing F s x y z) (Err f) h)
 made_named placing F s (Some x) (Some y) None f h = cc
 made_named placing F s (Some x) None z f h = cc
 made_named placing F s None y z f h = cc
@@ -93,7 +91,7 @@ module _ {G : Type 0} (placing : PlaceBy) (F : ℕ) (g : Graph) (steps : List Pl
     settled_join shared bs is = record {
       are = ap boxes_in makes ∙ ap (λ (r : Result (List (BoxAt G)) StepFault). boxes_in (Some r)) is;
       faultless = λ f fault. elim fault [
-        | inl here ↦ (let never : Ok bs ≡ Err f = sym is ∙ some_inside (joined placing F s x y z) (Err f) (sym makes ∙ here) in absurd (cc))
+        | inl here ↦ (let never : Ok bs ≡ Err f = sym is ∙ same_Some (joined placing F s x y z) (Err f) (sym makes ∙ here) in absurd (cc))
         | inr a ↦ elim a [
           | inl b ↦ p.faultless f b
           | inr b ↦ elim b [

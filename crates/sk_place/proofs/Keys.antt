@@ -25,9 +25,6 @@ kept_inside keys i key is = elim (cases_lt i (length keys)) [
 ]
 
 module _ {T : Type 0} where
-  some_inside : (x y : T) → Some x ≡ Some y → x ≡ y
-  some_inside x y e = cc
-
   pub read : (s : Slab T) (keys : List (Option ℕ)) (i : ℕ) → get_or (slots_of s keys) i None ≡ slot_of s (get_or keys i None)
   read s keys i = elim (cases_lt i (length keys)) [
     | inl inside ↦ get_or-map (slot_of s) keys i None None inside

@@ -7,6 +7,7 @@ use Rattle.sk_base.specs.declared.Name.{Name}
 use Rattle.sk_base.specs.declared.Name.TheVariants.{Con, Step}
 use Rattle.sk_base.specs.ClusterNames.{IsBelow}
 use Rattle.sk_base.proofs.Unions.{which}
+use Rattle.std.proofs.lemmas.Option.{same_Some}
 use Rattle.sk_tree.specs.declared.Plan.{Plan}
 use Rattle.sk_tree.specs.declared.PlanStep.{PlanStep}
 use Rattle.sk_tree.specs.declared.Tree.{Tree}
@@ -122,14 +123,11 @@ module _ (G : Type 0) (placing : PlaceBy) (F : ℕ) (g : Graph) (p : Plan) (lega
       one_fault f e (neither_below f.step e.step (second.first f first.fails) (first.first e second.fails)) (fails_at t named.0 named.1 f first.fails) (fails_at t named.0 named.1 e second.fails)
 
   module _ (tree : ¬ (p.leaves ≡ []) → (t : Tree) × IsPlanTree p t) where
-    some_same : (bs cs : List (BoxAt G)) → Some bs ≡ Some cs → bs ≡ cs
-    some_same bs cs e = cc
-
     by_leaves : (ks : List ConId) → p.leaves ≡ ks → (bs cs : List (BoxAt G)) → IsPlaced placing F g p (Ok bs) → IsPlaced placing F g p (Ok cs) → bs ≡ cs
     by_leaves [] none bs cs first second = first.1 none ∙ sym (second.1 none)
     by_leaves (k ∷ ks) are bs cs first second =
         let t = tree (λ none. (let never : [] ≡ k ∷ ks = sym none ∙ are in cc)) in
-        some_same bs cs (sym (first.0 t.0 t.1).are ∙ (second.0 t.0 t.1).are)
+        same_Some bs cs (sym (first.0 t.0 t.1).are ∙ (second.0 t.0 t.1).are)
 
     pub one_list : (bs cs : List (BoxAt G)) → IsPlaced placing F g p (Ok bs) → IsPlaced placing F g p (Ok cs) → bs ≡ cs
     one_list = by_leaves p.leaves refl

@@ -1,5 +1,5 @@
 -- What is live, when others are taken out.
-use Rattle.std.proofs.Common.{◌≡◌, ℕ, true, false, ap, List, Option, IsSome, IsErr, IsErrAnd, Result, Ok, Err, sym, subst}
+use Rattle.std.proofs.Common.{◌≡◌, ℕ, List, Option, IsSome, Result, Ok, Err, sym, subst}
 use Rattle.sk_base.specs.declared.Graph.{Graph}
 use Rattle.sk_base.specs.declared.Name.{Name}
 use Rattle.sk_base.specs.declared.Name.TheVariants.{Con, Step}
@@ -21,7 +21,3 @@ pub answered : {G : Type 0} (placing : PlaceBy) (F : ℕ) (g : Graph) (live : Li
 answered placing F g live s x y z are (Ok bs) is = record { one = x; two = y; three = z; are = are; is = is }
 answered placing F g live s x y z are (Err (Fault f)) is = record { one = x; two = y; three = z; are = are; is = is }
 answered placing F g live s x y z are (Err NoMemory) is = tt
-
-pub err_is : {X E : Type 0} (r : Result X E) (e : E) → IsErr r × IsErrAnd r (λ x. x ≡ e) → r ≡ Err e
-err_is (Ok x) e h = (let never : false ≡ true = h.0 in absurd (cc))
-err_is (Err d) e h = ap Err h.1

@@ -25,7 +25,7 @@ use Rattle.sk_steps.proofs.LeafLemmas.{length-ok, whole-ok, norm, ratio, root-ok
 use Rattle.sk_place.specs.declared.boxes.BoxAt.{BoxAt}
 use Rattle.sk_base.specs.Lookups.{edge_numbered, block_numbered}
 use Rattle.sk_place.specs.Trees.{edge, block, framed_of, two_boxes, pin_boxes, frame_of as frame_in}
-use Rattle.sk_place.proofs.Edges.{edge_measured}
+use Rattle.sk_steps.proofs.SoundMeasures.{edge_measured}
 
 module _ (F : ℕ) where
   -- the expression has no cause

@@ -11,7 +11,6 @@ use Rattle.sk_place.specs.declared.settling.PlaceBy.TheVariants.{Boxes}
 use Rattle.sk_place.specs.declared.fault.StepFault.{StepFault}
 use Rattle.sk_place.specs.declared.fault.BoxFault.{BoxFault}
 use Rattle.sk_place.specs.declared.fault.MoveError.{MoveError}
-use Rattle.sk_place.specs.declared.fault.MoveError.TheVariants as moving
 use Rattle.sk_place.specs.declared.fault.PlaceError.{PlaceError}
 use Rattle.sk_place.specs.declared.fault.PlaceError.TheVariants.{Fault, NoMemory}
 use Rattle.sk_place.specs.Trees.{HasBoxes, IsFirstFault}
@@ -43,13 +42,8 @@ IsKept {G} F k g p (Ok bs) =
 IsKept {G} F k g p (Err (Fault f)) = KeepsGap G (F + k) g p f f.cause
 IsKept F k g p (Err NoMemory) = Unit {0}
 
--- the same for boxes that are all carried by one motion
-abbrev pub KeepsBoxGap : {X : Type 0} → Result X BoxFault → BoxFault → Cause → Type 0
-KeepsBoxGap fine f (Gap lo hi) = (l : ℤ) × (h : ℤ) × (fine ≡ Err (record { what = f.what; elem = f.elem; cause = Gap l h }))
-KeepsBoxGap fine f (Flat lo hi) = Unit {0}
-KeepsBoxGap fine f Range = Unit {0}
-
+-- the same for boxes that are all carried by one motion; one that can't be carried leaves nothing to say of the finer grid,
+-- since its cause is never a gap
 abbrev pub KeepsMoved : {G : Type 0} → ℕ → Result (List (BoxAt G)) BoxFault → Result (List (BoxAt G)) MoveError → Type 0
 KeepsMoved {G} k fine (Ok bs) = (xs : List (BoxAt G)) × (fine ≡ Ok xs) × AreInside k xs bs
-KeepsMoved k fine (Err (moving.Fault f)) = KeepsBoxGap fine f f.cause
-KeepsMoved k fine (Err moving.NoMemory) = Unit {0}
+KeepsMoved k fine (Err e) = Unit {0}

@@ -1,11 +1,12 @@
 -- Frames have no fault.
-use Rattle.std.proofs.Common.{◌≡◌, ◌≢◌, ℕ, ◌+◌, ◌*◌, ◌≤◌, ◌<◌, ◌^◌, ℤ, pos, negsuc, ◌+ℤ◌, ◌*ℤ◌, ◌≤ℤ◌, ◌<ℤ◌, unsigned_abs, false, inl, inr, Ok, sym, ◌∙◌, arith}
+use Rattle.std.proofs.Common.{◌≡◌, ◌≢◌, ℕ, ◌+◌, ◌*◌, ◌≤◌, ◌<◌, ◌^◌, ℤ, pos, ◌+ℤ◌, ◌*ℤ◌, ◌≤ℤ◌, ◌<ℤ◌, unsigned_abs, false, inl, inr, Ok, sym, ◌∙◌, arith}
 use Rattle.std.proofs.lemmas.Int.{ints, unsigned_abs-mul}
 use Rattle.std.proofs.lemmas.Nat.{mul-le, pow-add}
 use native.Mathlib.Nat.{le_refl}
 use Rattle.std.proofs.lemmas.Bool.{cases_lt}
 use Rattle.sk_base.specs.declared.Sign.{Sign}
 use Rattle.sk_base.specs.declared.Sign.TheVariants.{Plus, Minus}
+use Rattle.sk_base.proofs.Magnitudes.{square_size}
 use Rattle.sk_root.specs.Roots.{floor_root, ceil_root}
 use Rattle.sk_root.proofs.RootLemmas.{root_below, floor_root-bounds}
 use Rattle.sk_interval.specs.Interval.{Interval, one}
@@ -105,10 +106,6 @@ normal-ok F n s h positive =
 
 -- ---- the square of a ratio
 
-square-size : (z : ℤ) → z *ℤ z ≡ pos (unsigned_abs z * unsigned_abs z)
-square-size (pos n) = omega (arith, ints)
-square-size (negsuc n) = omega (arith, ints)
-
 pub record IsSquare (p q : ℤ) (s : ℤ) : Type 0 where
   pub positive : pos 0 <ℤ s
   pub most : s ≤ℤ pos 200000000
@@ -123,4 +120,4 @@ square_within p q slanted p_within q_within =
     let least = mul-le 1 1 a a nonzero nonzero in
     let p_most = mul-le a a 10000 10000 p_within p_within in
     let q_most = mul-le b b 10000 10000 q_within q_within in
-    rw (square-size p, square-size q) (record { positive = omega (arith, ints); most = omega (arith, ints); p_least = omega (arith, ints); q_least = omega (arith, ints) })
+    rw (square_size p, square_size q) (record { positive = omega (arith, ints); most = omega (arith, ints); p_least = omega (arith, ints); q_least = omega (arith, ints) })

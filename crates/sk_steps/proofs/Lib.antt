@@ -2,3 +2,4 @@ pub mod ExpressionLemmas
 pub mod KindLemmas
 pub mod LeafLemmas
 pub mod NestingLemmas
+pub mod SoundMeasures

@@ -1,7 +1,7 @@
 -- What stands before a merge in a list of joins, and trees in longer lists.
 use Rattle.std.proofs.Common.{◌≡◌, ℕ, ◌<◌, List, [], ◌∷◌, ◌++◌, length, get_or, take, drop, drop-cons, suc, ap, sym, subst, ◌∙◌, append_assoc}
 use Rattle.std.specs.Prelude.{Contains, slice_get, Some}
-use Rattle.std.proofs.lemmas.Option.{slice_get-get_or}
+use Rattle.std.proofs.lemmas.Option.{slice_get-get_or, same_Some}
 use Rattle.std.proofs.lemmas.List.{take-append-drop}
 use Rattle.std.proofs.lemmas.List.Elements.{Contains-append_left, Contains-get_or}
 use Rattle.sk_base.specs.declared.Name.{Name}
@@ -63,8 +63,5 @@ module _ (taken : List Taken) (i : ℕ) (d : Taken) (inside : i < length taken) 
 
   pub named_at : (name : Name) → ((t : Taken) × (slice_get taken i ≡ Some t) × (t.step ≡ name)) → name ≡ (get_or taken i d).step
   named_at name (t, found, is) =
-      let same : t ≡ get_or taken i d = some_same (sym found ∙ slice_get-get_or taken i d inside) in
+      let same : t ≡ get_or taken i d = same_Some _ _ (sym found ∙ slice_get-get_or taken i d inside) in
       sym is ∙ ap (λ (u : Taken). u.step) same
-    where
-      some_same : {u v : Taken} → Some u ≡ Some v → u ≡ v
-      some_same e = cc

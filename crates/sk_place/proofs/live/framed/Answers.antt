@@ -2,7 +2,8 @@ use Rattle.std.proofs.Common.{List, subst, sym}
 use Rattle.std.specs.Prelude.{All}
 use Rattle.sk_base.specs.declared.Pin.{Pin}
 use Rattle.sk_base.specs.Pins.{IsOnSheet}
-use Rattle.sk_place.proofs.Edges.{edge_measured, block_on_sheet}
+use Rattle.sk_steps.proofs.SoundMeasures.{edge_measured}
+use Rattle.sk_place.proofs.Edges.{block_on_sheet}
 use Rattle.sk_place.proofs.live.framed.Goals as goal
 
 pub pins_framed-requires : goal.pins_framed-requires

@@ -1,11 +1,11 @@
 use Rattle.std.proofs.Common.{List as Items}
 use Rattle.std.proofs.Common.{◌≡◌, ◌<◌, ℕ, length, ap, get_or, ◌∙◌, sym, subst}
 use Rattle.std.proofs.lemmas.List.{get_or_default}
+use Rattle.sk_base.proofs.Results.{err_is}
 use Rattle.sk_tree.specs.declared.PlanStep.{PlanStep}
 use Rattle.sk_place.proofs.Afters.{at_start, can_join, at_next}
 use Rattle.sk_place.proofs.placing.run.Given.{Over}
 use Rattle.sk_place.proofs.Failing.{failed_run}
-use Rattle.sk_place.proofs.Slots.{err_is}
 use Rattle.sk_place.proofs.placing.run.Goals as goal
 
 pub loop-step-init : goal.loop-step-init
