@@ -1,15 +1,7 @@
--- Lines that are read one after another: where the reading stands, and the first of them with a code.
-use Rattle.std.proofs.Common.{◌≡◌, ◌⊎◌, inl, inr, ℕ, ◌+◌, ◌≤◌, List, [], ◌∷◌, ◌++◌, length, Option, Some, None, refl, sym, ap, subst, ◌∙◌, arith, append_assoc, append-nil, length-append}
+-- Lines that are read one after another: the first of them with a code, or none.
+use Rattle.std.proofs.Common.{◌≡◌, ◌⊎◌, inl, inr, ℕ, ◌+◌, List, [], ◌∷◌, ◌++◌, length, Option, Some, None, refl, sym, ap, ◌∙◌, arith}
 use Rattle.sk_lines.specs.declared.code.Code.{Code}
 use Rattle.sk_lines.specs.LineCodes.{along, HaveNone, HasFirst}
-
--- the lines before the rest have no code, and lead to the place
-pub record StandsAt {P : Type 0} (code_of : P → List ℕ → Option Code) (lead : P → List ℕ → P) (start : P) (lines rest : List (List ℕ)) (place : P) (first number : ℕ) : Type 0 where
-  pub before : List (List ℕ)
-  pub parts : lines ≡ before ++ rest
-  pub clean : HaveNone code_of lead start before
-  pub reached : along lead start before ≡ place
-  pub count : number ≡ first + length before
 
 -- no line has a code, and the end has none where they lead
 pub record IsClean {P : Type 0} (code_of : P → List ℕ → Option Code) (lead : P → List ℕ → P) (at_end : P → Option Code) (start : P) (lines : List (List ℕ)) : Type 0 where
@@ -55,55 +47,6 @@ unfolding line_of code_in
 same_fault n m c d a is_a is_b = (ap line_of (sym is_a) ∙ ap line_of is_b, ap (code_in c) (sym is_a) ∙ ap (code_in c) is_b)
 
 module _ {P : Type 0} (code_of : P → List ℕ → Option Code) (lead : P → List ℕ → P) where
-  pub stands_first : (start : P) (lines : List (List ℕ)) (first : ℕ) → StandsAt code_of lead start lines lines start first first
-  stands_first start lines first = record { before = []; parts = refl; clean = tt; reached = refl; count = omega arith }
-
-  clean_push : (lines : List (List ℕ)) (line : List ℕ) (start : P) → HaveNone code_of lead start lines → code_of (along lead start lines) line ≡ None → HaveNone code_of lead start (lines ++ line ∷ [])
-  clean_push [] line start clean is = (is, tt)
-  clean_push (first ∷ lines) line start clean is = (clean.0, clean_push lines line (lead start first) clean.1 is)
-
-  along_push : (lines : List (List ℕ)) (line : List ℕ) (start : P) → along lead start (lines ++ line ∷ []) ≡ lead (along lead start lines) line
-  along_push [] line start = refl
-  along_push (first ∷ lines) line start = along_push lines line (lead start first)
-
-  -- one line further
-  pub stands_next : (start : P) (lines rest : List (List ℕ)) (line : List ℕ) (more : List (List ℕ)) (place after : P) (first number : ℕ)
-      → StandsAt code_of lead start lines rest place first number → rest ≡ line ∷ more → code_of place line ≡ None → after ≡ lead place line → StandsAt code_of lead start lines more after first (number + 1)
-  stands_next start lines rest line more place after first number at is code leads = record {
-    before = at.before ++ line ∷ [];
-    parts = at.parts ∙ ap (λ (ls : List (List ℕ)). at.before ++ ls) is ∙ sym (append_assoc at.before (line ∷ []) more);
-    clean = clean_push at.before line start at.clean (ap (λ (p : P). code_of p line) at.reached ∙ code);
-    reached = along_push at.before line start ∙ ap (λ (p : P). lead p line) at.reached ∙ sym leads;
-    count = let long = length-append at.before (line ∷ []) in omega (arith, long, at.count);
-  }
-
-  -- a further line has a number
-  pub room : (start : P) (lines rest : List (List ℕ)) (line : List ℕ) (more : List (List ℕ)) (place : P) (first number : ℕ) → StandsAt code_of lead start lines rest place first number → rest ≡ line ∷ more → number + 1 ≤ first + length lines
-  room start lines rest line more place first number at is =
-      let parts = ap length (at.parts ∙ ap (λ (ls : List (List ℕ)). at.before ++ ls) is) in
-      let long = length-append at.before (line ∷ more) in omega (arith, parts, long, at.count)
-
-  -- the line here is the first with a code
-  pub faulty_here : (start : P) (lines rest : List (List ℕ)) (line : List ℕ) (more : List (List ℕ)) (place : P) (first number : ℕ) (code : Code)
-      → StandsAt code_of lead start lines rest place first number → rest ≡ line ∷ more → code_of place line ≡ Some code → IsFaultOfLine code_of lead start lines (first + 1) (number + 1) code
-  faulty_here start lines rest line more place first number code at is coded = record {
-    before = at.before;
-    line = line;
-    first = record {
-      after = more;
-      parts = at.parts ∙ ap (λ (ls : List (List ℕ)). at.before ++ ls) is;
-      clean = at.clean;
-      code_is = ap (λ (p : P). code_of p line) at.reached ∙ coded;
-    };
-    number = omega (arith, at.count);
-  }
-
-  -- at the end all lines were read
-  pub all_read : (start : P) (lines : List (List ℕ)) (place : P) (first number : ℕ) → StandsAt code_of lead start lines [] place first number → HaveNone code_of lead start lines × (along lead start lines ≡ place) × (number ≡ first + length lines)
-  all_read start lines place first number at =
-      let all : at.before ≡ lines = sym (at.parts ∙ append-nil at.before) in
-      (subst (λ (ls : List (List ℕ)). HaveNone code_of lead start ls) all at.clean, ap (along lead start) (sym all) ∙ at.reached, (let long = ap length all in omega (arith, at.count, long)))
-
   module _ (at_end : P → Option Code) where
     none_here : (lines : List (List ℕ)) (start : P) (n : ℕ) → HaveNone code_of lead start lines → fault_from code_of lead at_end start n lines ≡ or_code (at_end (along lead start lines)) (n + length lines) None
     none_here [] start n clean = let none : n ≡ n + 0 = omega arith in ap (λ (k : ℕ). or_code (at_end start) k None) none
