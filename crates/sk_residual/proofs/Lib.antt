@@ -8,3 +8,5 @@ pub mod Rising
 pub mod Merging
 pub mod Threes
 pub mod SomeMeasures
+pub mod Numbered
+pub mod Nearness

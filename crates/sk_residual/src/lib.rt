@@ -4,6 +4,7 @@
 mod beyond;
 mod corners;
 mod law;
+mod single;
 mod spotted;
 mod tolerance;
 mod turned;
@@ -11,6 +12,7 @@ mod worst;
 
 pub use beyond::{Beyond, passed};
 pub use law::constraints_in_order;
+pub use single::{OffBy, off};
 pub use spotted::{Named, Spotted, earlier};
 pub use tolerance::{Tolerance, least};
 pub use turned::{Turned, Wanted, first_off, first_turned, first_unlike};

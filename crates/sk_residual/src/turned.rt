@@ -108,7 +108,7 @@ fn turned_step(p: &Placed, s: &Sketch, steps: &[PlanStep], wanted: Wanted) -> Op
 }
 
 /// The sense of the constraint, if it is on an angle, or its turn, if it is a block, and it is turned over.
-fn turned_sense(p: &Placed, s: &Sketch, constraint: &Constraint) -> Option<Turned>
+pub(crate) fn turned_sense(p: &Placed, s: &Sketch, constraint: &Constraint) -> Option<Turned>
     requires sketch { IsSoundSketch s.now }
     requires placed { PlacesExactly (graph_of s.now) p.now }
     requires rule { IsSoundRule s.now constraint.now.rule }
