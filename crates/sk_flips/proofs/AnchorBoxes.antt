@@ -1,32 +1,27 @@
 -- The box of a base's anchor in its own frame: the very place that is taken to the drawing.
-use Rattle.std.proofs.Common.{◌≡◌, inl, inr, ℕ, suc, ◌<◌, ◌≤◌, ℤ, pos, neg_ℤ, ◌≤ℤ◌, ◌*ℤ◌, unsigned_abs, List, [], ◌∷◌, Result, Ok, refl, ap, sym, subst, ◌∙◌, arith, lit≤}
+use Rattle.std.proofs.Common.{◌≡◌, inl, inr, ℕ, suc, ◌≤◌, ℤ, pos, neg_ℤ, ◌≤ℤ◌, ◌*ℤ◌, unsigned_abs, List, [], ◌∷◌, Ok, refl, ap, sym, ◌∙◌, arith, lit≤}
 use Rattle.std.specs.Prelude.{Contains, map}
 use Rattle.std.proofs.lemmas.Int.{ints}
 use Rattle.sk_base.specs.declared.Elem.{Elem}
-use Rattle.sk_base.specs.declared.Edge.{Edge}
-use Rattle.sk_base.specs.declared.Measure.{Measure}
 use Rattle.sk_base.specs.declared.Measure.TheVariants.{PointPoint, PointLine}
 use Rattle.sk_base.specs.declared.Pin.{Pin}
 use Rattle.sk_base.specs.declared.Sign.{Sign}
 use Rattle.sk_base.specs.declared.Sign.TheVariants.{Plus, Minus}
 use Rattle.sk_base.specs.declared.Um.{Um}
-use Rattle.sk_base.specs.Bounds.{IsFromTo}
 use Rattle.sk_base.specs.Pins.{AreSoundPins}
 use Rattle.sk_base.specs.Rising.{union}
-use Rattle.sk_base.proofs.Members.{contains_none, contains_one, mapped_from}
+use Rattle.sk_base.proofs.Members.{contains_none, mapped_from}
 use Rattle.sk_base.proofs.Unions.{union_cases}
 use Rattle.sk_interval.specs.Interval.{Interval, one}
 use Rattle.sk_interval.specs.Rounding.{floor_of, ceil_of}
-use Rattle.sk_interval.specs.Operations.{of_micrometres, whole, negative}
+use Rattle.sk_interval.specs.Operations.{of_micrometres, whole}
 use Rattle.sk_interval.proofs.QuotientLemmas.{neg-product}
 use Rattle.sk_orient.specs.declared.Vector.{Vector}
 use Rattle.sk_steps.specs.declared.BoxOf.{BoxOf}
 use Rattle.sk_steps.specs.declared.BoxOf.TheVariants.{Point, Line}
-use Rattle.sk_steps.specs.declared.What.{What}
 use Rattle.sk_steps.specs.Expressions.{with_sign}
 use Rattle.sk_steps.specs.Leaves.{leaf, by_sign, pin_box}
 use Rattle.sk_steps.proofs.LeafLemmas.{length-ok, whole-ok}
-use Rattle.sk_interval.specs.declared.Cause.{Cause}
 use Rattle.sk_place.specs.declared.BoxAt.{BoxAt}
 use Rattle.sk_place.specs.Clusters.{Rise, Holds, number_of, box_of, with_box, with_boxes}
 use Rattle.sk_place.specs.Trees.{pin_at, pin_boxes}

@@ -1,13 +1,9 @@
 -- The anchor of a plan is printed exactly where it is drawn.
-use Rattle.std.proofs.Common.{◌≡◌, ◌≢◌, ◌⊎◌, inl, inr, ℕ, suc, ◌+◌, ◌-◌, ◌<◌, ◌≤◌, pos, true, false, List, [], ◌∷◌, ◌++◌, length, length-append, get_or, Option, Some, None, Result, Ok, Err, refl, ap, sym, subst, ◌∙◌, arith}
-use Rattle.std.specs.Prelude.{Contains, map, ◌==◌}
-use Rattle.std.specs.List.{slice_get}
-use Rattle.std.specs.Option.{option_map, option_or}
-use Rattle.std.proofs.Math.Seq.{get_or-append_seam}
+use Rattle.std.proofs.Common.{◌≡◌, ◌≢◌, inl, inr, ℕ, ◌≤◌, pos, true, false, List, [], ◌∷◌, Option, Some, None, Result, Ok, refl, ap, sym, subst, ◌∙◌, arith}
+use Rattle.std.specs.Prelude.{map, ◌==◌}
 use Rattle.std.proofs.lemmas.Bool.{cases_Bool}
 use Rattle.std.proofs.lemmas.Bool.Decides.{nat_tests}
 use Rattle.std.proofs.lemmas.Int.{ints}
-use Rattle.std.proofs.lemmas.Option.{slice_get-get_or}
 use Rattle.sk_base.specs.declared.Block.{Block}
 use Rattle.sk_base.specs.declared.ConId.{ConId}
 use Rattle.sk_base.specs.declared.Edge.{Edge}
@@ -18,7 +14,6 @@ use Rattle.sk_base.specs.declared.Kind.TheVariants as kinds
 use Rattle.sk_base.specs.declared.Measure.{Measure}
 use Rattle.sk_base.specs.declared.Measure.TheVariants.{PointPoint, PointLine, LineLine}
 use Rattle.sk_base.specs.declared.Name.{Name}
-use Rattle.sk_base.specs.declared.Name.TheVariants.{Con, Step}
 use Rattle.sk_base.specs.declared.Node.{Node}
 use Rattle.sk_base.specs.declared.Pin.{Pin}
 use Rattle.sk_base.specs.declared.Sketch.{Sketch}
@@ -29,7 +24,6 @@ use Rattle.sk_base.specs.SoundGraph.{IsSoundGraph}
 use Rattle.sk_base.specs.SoundSketch.{IsSoundSketch}
 use Rattle.sk_base.proofs.Finding.{found_in}
 use Rattle.sk_base.proofs.Members.{contains_none, contains_one, contains_head, contains_cases}
-use Rattle.sk_base.proofs.Splits.{last_or_none}
 use Rattle.sk_interval.specs.declared.Cause.{Cause}
 use Rattle.sk_interval.specs.Operations.{of_micrometres, whole}
 use Rattle.sk_orient.specs.declared.Vector.{Vector}
@@ -43,26 +37,24 @@ use Rattle.sk_steps.specs.Leaves.{leaf, by_sign, IsSoundMeasure}
 use Rattle.sk_motion.specs.declared.Motion.{Motion}
 use Rattle.sk_motion.specs.Carried.{carried}
 use Rattle.sk_tree.specs.declared.Plan.{Plan}
-use Rattle.sk_tree.specs.declared.PlanStep.{PlanStep}
 use Rattle.sk_tree.specs.declared.Tree.{Tree}
 use Rattle.sk_tree.specs.LastName.{last_name}
 use Rattle.sk_tree.specs.LegalPlan.{IsLegalPlan}
 use Rattle.sk_tree.specs.PlanTree.{IsPlanTree}
 use Rattle.sk_tree.proofs.LastNames.{IsLastName, last_named}
 use Rattle.sk_place.specs.declared.BoxAt.{BoxAt}
-use Rattle.sk_place.specs.declared.BoxFault.{BoxFault}
 use Rattle.sk_place.specs.declared.PlaceBy.{PlaceBy}
 use Rattle.sk_place.specs.Carrying.{box_faulty, and_then, carried_each}
-use Rattle.sk_place.specs.Clusters.{Rise, Holds, box_of, elements_of, with_box}
-use Rattle.sk_place.specs.Placing.{IsPlaced, lone_box, lone_boxes}
+use Rattle.sk_place.specs.Clusters.{Holds, box_of, elements_of, with_box}
+use Rattle.sk_place.specs.Placing.{IsPlaced, lone_box}
 use Rattle.sk_place.specs.Rounding.{rounded_box}
 use Rattle.sk_place.specs.Settling.{settled_box}
 use Rattle.sk_place.specs.Trees.{edge, block, framed_of, frame_of, two_boxes, pin_boxes}
-use Rattle.sk_place.proofs.Edges.{IsEdge, edge_found, framed_edge, edge_measured}
+use Rattle.sk_place.proofs.Edges.{edge_found, framed_edge, edge_measured}
 use Rattle.sk_place.proofs.Ending.{tree_named, leaf_there}
 use Rattle.sk_place.proofs.Results.{then_ok, box_ok, ok_inside}
 use Rattle.sk_place.specs.declared.FrameBy.TheVariants.{Drawn}
-use Rattle.sk_frame.specs.Bases.{kept_from, constraint_named, base_in}
+use Rattle.sk_frame.specs.Bases.{constraint_named, base_in}
 use Rattle.sk_frame.specs.Crossings.{nanometres}
 use Rattle.sk_frame.specs.Frames.{measured_frame, block_frame, lone_frame, constraint_frame, based_frame, frame_of as frame_in, given_place}
 use Rattle.sk_frame.proofs.SoundFrames.{frame_is_sound}
@@ -70,8 +62,7 @@ use Rattle.sk_flips.specs.Anchors.{measured_anchor, first_pinned, lone_anchor, f
 use Rattle.sk_flips.specs.Placements.{midpoints, IsLaid}
 use Rattle.sk_flips.proofs.AnchorBoxes.{nothing_is, signed_is, small_of, point_at, LiesAt, put_there, points_leaf, mixed_leaf, first_pin}
 use Rattle.sk_flips.proofs.AnchorPlaces.{place_printed}
-use Rattle.sk_flips.proofs.BaseBoxes.{Keeps}
-use Rattle.sk_flips.proofs.BasePlaces.{Based, based, some_same}
+use Rattle.sk_flips.proofs.BasePlaces.{based, some_same}
 
 same_number : (e : Elem) → (e.0 == e.0) ≡ true
 same_number e = grind (arith, nat_tests)

@@ -1,27 +1,25 @@
 -- The place of a frame that is taken to the drawing is printed exactly as it is drawn.
-use Rattle.std.proofs.Common.{◌≡◌, ◌⊎◌, inl, inr, ℕ, zero, suc, ◌+◌, ◌-◌, ◌*◌, ◌^◌, ◌<◌, ◌≤◌, ℤ, pos, negsuc, neg_ℤ, ◌+ℤ◌, ◌-ℤ◌, ◌*ℤ◌, ◌≤ℤ◌, ◌<ℤ◌, unsigned_abs, List, [], ◌∷◌, ◌++◌, Result, Ok, Err, refl, sym, ap, ◌∙◌, subst, arith}
+use Rattle.std.proofs.Common.{◌≡◌, ℕ, ◌+◌, ◌-◌, ◌*◌, ◌^◌, ◌<◌, ◌≤◌, ℤ, pos, neg_ℤ, ◌+ℤ◌, ◌-ℤ◌, ◌*ℤ◌, ◌≤ℤ◌, unsigned_abs, Ok, refl, sym, ap, ◌∙◌, arith}
 use Rattle.std.specs.Int.{int_min, int_max}
 use Rattle.std.proofs.lemmas.Int.{ints, by_lt_z, unsigned_abs-mul}
 use Rattle.std.proofs.lemmas.Nat.{mul-le, pow-add}
 use native.Mathlib.Nat.{le_refl}
 use Rattle.std.specs.Int.Signed.{≤ℤ_refl}
-use Rattle.sk_base.specs.Nearest.{nearest, IsNearest}
+use Rattle.sk_base.specs.Nearest.{nearest}
 use Rattle.sk_base.specs.declared.At.{At}
 use Rattle.sk_base.proofs.Quotients.{nearest_is_nearest}
-use Rattle.sk_interval.specs.declared.Cause.{Cause}
 use Rattle.sk_interval.specs.Interval.{Interval, one}
 use Rattle.sk_interval.specs.Rounding.{floor_of, ceil_of}
-use Rattle.sk_interval.specs.Operations.{of_micrometres, sum, difference, product, bounded, length_of, middle, least_at, greatest_at, times}
-use Rattle.sk_interval.proofs.AroundLemmas.{pos-nonzero, quotients_bounded, floor_below_ceil, ceil_to, size_of_bounds}
+use Rattle.sk_interval.specs.Operations.{of_micrometres, sum, difference, product, length_of, middle, least_at, greatest_at, times}
+use Rattle.sk_interval.proofs.AroundLemmas.{pos-nonzero, quotients_bounded, floor_below_ceil, size_of_bounds}
 use Rattle.sk_interval.proofs.CornerLemmas.{below_least, least_below, above_greatest, greatest_above, greatest_within}
 use Rattle.sk_interval.proofs.PowerLemmas.{power_below, unit-positive}
 use Rattle.sk_interval.proofs.ProductLemmas.{bounded-ok, product-quotients}
-use Rattle.sk_interval.proofs.QuotientLemmas.{scaled, floor-at_most, at_most-floor, ceil-at_least, at_least-ceil, neg-product}
+use Rattle.sk_interval.proofs.QuotientLemmas.{scaled, floor-at_most, at_most-floor, ceil-at_least, at_least-ceil}
 use Rattle.sk_interval.proofs.ScaleLemmas.{scale-scale, scale-sum, product-neg}
 use Rattle.sk_base.specs.Bounds.{IsWithin}
 use Rattle.sk_steps.specs.declared.BoxOf.{BoxOf}
 use Rattle.sk_steps.specs.declared.BoxOf.TheVariants.{Point}
-use Rattle.sk_steps.specs.declared.What.{What}
 use Rattle.sk_motion.specs.declared.Motion.{Motion}
 use Rattle.sk_motion.specs.Carried.{carried, carried_point}
 use Rattle.sk_place.specs.declared.PlaceBy.{PlaceBy}

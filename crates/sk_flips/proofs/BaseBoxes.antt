@@ -1,23 +1,18 @@
 -- The boxes of a plan's base stay as they are in its frame.
-use Rattle.std.proofs.Common.{◌≡◌, ◌⊎◌, inl, inr, ℕ, zero, suc, ◌+◌, ◌<◌, Bool, true, false, List, [], ◌∷◌, Option, Some, None, Result, Ok, Err, refl, ap, sym, subst, ◌∙◌}
-use Rattle.std.specs.Prelude.{Contains, map, if◌then◌else◌}
-use Rattle.sk_base.specs.declared.ConId.{ConId}
+use Rattle.std.proofs.Common.{◌≡◌, ℕ, Bool, true, false, List, [], ◌∷◌, Ok, refl, sym, subst, ◌∙◌}
+use Rattle.std.specs.Prelude.{if◌then◌else◌}
 use Rattle.sk_base.specs.declared.Elem.{Elem}
-use Rattle.sk_base.specs.declared.Graph.{Graph}
-use Rattle.sk_base.specs.declared.Name.{Name}
-use Rattle.sk_base.specs.declared.Name.TheVariants.{Con, Step}
-use Rattle.sk_base.specs.ClusterNames.{name_eq}
-use Rattle.sk_base.specs.Rising.{put, union}
+use Rattle.sk_base.specs.Rising.{union}
 use Rattle.sk_steps.specs.ThirdElement.{third_element}
 use Rattle.sk_tree.specs.declared.PlanStep.{PlanStep}
 use Rattle.sk_place.specs.declared.BoxAt.{BoxAt}
 use Rattle.sk_place.specs.declared.Phase.TheVariants.{Build, First, Second}
 use Rattle.sk_place.specs.declared.PlaceBy.{PlaceBy}
-use Rattle.sk_place.specs.Clusters.{Rise, Holds, number_of, box_of, with_box, with_boxes, comes_first}
+use Rattle.sk_place.specs.Clusters.{Rise, Holds, box_of, with_box, with_boxes, comes_first}
 use Rattle.sk_place.specs.Carrying.{faulty, and_then, carried_child}
 use Rattle.sk_place.specs.Settling.{settled_box}
 use Rattle.sk_place.specs.Steps.{setting, exchanged, ordered, given, joined, with_children}
-use Rattle.sk_place.proofs.Corners.{box_same, holds_with, rises_with_all}
+use Rattle.sk_place.proofs.Corners.{box_same, holds_with}
 use Rattle.sk_place.proofs.Lookups.{rises_with}
 use Rattle.sk_place.proofs.Results.{then_ok, ok_inside}
 

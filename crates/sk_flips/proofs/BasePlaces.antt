@@ -1,16 +1,13 @@
 -- The boxes of a legal plan's base are those of its own frame.
-use Rattle.std.proofs.Common.{◌≡◌, ◌⊎◌, inl, inr, ℕ, Bool, true, false, List, [], ◌∷◌, Option, Some, None, Result, Ok, Err, refl, ap, sym, subst, ◌∙◌, arith}
+use Rattle.std.proofs.Common.{◌≡◌, inl, inr, ℕ, Bool, true, false, List, [], ◌∷◌, Option, Some, None, Result, Ok, Err, refl, ap, sym, subst, ◌∙◌, arith}
 use Rattle.std.specs.Prelude.{Contains, map}
-use Rattle.sk_base.specs.declared.ConId.{ConId}
-use Rattle.sk_base.specs.declared.Elem.{Elem}
 use Rattle.sk_base.specs.declared.Graph.{Graph}
 use Rattle.sk_base.specs.declared.Name.{Name}
-use Rattle.sk_base.specs.declared.Name.TheVariants.{Con, Step}
+use Rattle.sk_base.specs.declared.Name.TheVariants.{Con}
 use Rattle.sk_base.specs.ClusterNames.{name_eq}
 use Rattle.sk_base.proofs.Members.{contains_none, contains_cases}
 use Rattle.sk_family.proofs.Naming.{name_eq_true, name_eq_same}
 use Rattle.sk_steps.specs.declared.BoxOf.{BoxOf}
-use Rattle.sk_steps.specs.declared.What.{What}
 use Rattle.sk_steps.specs.Leaves.{leaf}
 use Rattle.sk_tree.specs.declared.Plan.{Plan}
 use Rattle.sk_tree.specs.declared.PlanStep.{PlanStep}

@@ -1,5 +1,5 @@
 -- Boxes that are laid on a finer grid lie inside those on a coarser one.
-use Rattle.std.proofs.Common.{◌≡◌, inl, inr, ℕ, ◌+◌, ◌≤◌, List, [], ◌∷◌, Some, Result, Ok, Err, refl, ap, sym, subst, ◌∙◌}
+use Rattle.std.proofs.Common.{◌≡◌, inl, inr, ℕ, ◌+◌, ◌≤◌, List, [], ◌∷◌, Result, Ok, Err, refl, sym, subst, ◌∙◌}
 use Rattle.sk_base.specs.declared.ConId.{ConId}
 use Rattle.sk_base.specs.declared.Graph.{Graph}
 use Rattle.sk_base.specs.declared.Sketch.{Sketch}
@@ -7,7 +7,6 @@ use Rattle.sk_base.specs.SoundGraph.{IsSoundGraph}
 use Rattle.sk_base.specs.SoundSketch.{IsSoundSketch}
 use Rattle.sk_graph.specs.SketchGraph.{graph_of}
 use Rattle.sk_interval.specs.declared.Cause.TheVariants.{Range}
-use Rattle.sk_motion.specs.declared.Motion.{Motion}
 use Rattle.sk_tree.specs.declared.Plan.{Plan}
 use Rattle.sk_tree.specs.declared.Tree.{Tree}
 use Rattle.sk_tree.specs.LegalPlan.{IsLegalPlan}
@@ -17,7 +16,7 @@ use Rattle.sk_place.specs.declared.BoxFault.{BoxFault}
 use Rattle.sk_place.specs.declared.PlaceBy.TheVariants.{Boxes}
 use Rattle.sk_place.specs.Carrying.{carried_each}
 use Rattle.sk_place.specs.Nesting.{AreInside}
-use Rattle.sk_place.specs.Placing.{IsPlaced, lone_boxes}
+use Rattle.sk_place.specs.Placing.{IsPlaced}
 use Rattle.sk_place.proofs.Ending.{lone_kept}
 use Rattle.sk_place.proofs.InsideSteps.{KeepsBox, each_box}
 use Rattle.sk_place.proofs.InsideTrees.{nest}

@@ -1,16 +1,15 @@
 -- Where the kept children of a legal plan lead to.
-use Rattle.std.proofs.Common.{◌≡◌, ◌⊎◌, inl, inr, ℕ, zero, suc, ◌+◌, ◌<◌, Bool, true, false, List, [], ◌∷◌, ◌++◌, Option, Some, None, refl, ap, sym, subst, ◌∙◌, arith}
+use Rattle.std.proofs.Common.{◌≡◌, inl, inr, ℕ, ◌+◌, ◌<◌, Bool, true, false, List, [], ◌∷◌, refl, ap, sym, subst, ◌∙◌, arith}
 use Rattle.std.specs.Prelude.{Contains}
 use Rattle.std.proofs.lemmas.List.Elements.{Contains-append_cases}
-use Rattle.sk_base.specs.declared.ConId.{ConId}
 use Rattle.sk_base.specs.declared.Graph.{Graph}
 use Rattle.sk_base.specs.declared.Name.{Name}
 use Rattle.sk_base.specs.declared.Name.TheVariants.{Con, Step}
-use Rattle.sk_base.specs.ClusterNames.{name_eq, is_named}
+use Rattle.sk_base.specs.ClusterNames.{name_eq}
 use Rattle.sk_base.proofs.Members.{contains_head, contains_later, contains_one, contains_cases, mapped_from, filtered_from}
 use Rattle.sk_family.specs.declared.Cluster.{Cluster}
-use Rattle.sk_family.specs.Body.{Start, starts}
-use Rattle.sk_family.specs.Clusters.{Clusters, IsNamed, initial_clusters, start_of, replaced, unnamed, whole_from}
+use Rattle.sk_family.specs.Body.{starts}
+use Rattle.sk_family.specs.Clusters.{Clusters, initial_clusters, start_of, replaced, unnamed, whole_from}
 use Rattle.sk_family.proofs.Naming.{name_eq_true, name_eq_same}
 use Rattle.sk_rules.specs.Merges.{merged, names_of}
 use Rattle.sk_tree.specs.declared.Plan.{Plan}

@@ -20,9 +20,6 @@ use Rattle.sk_place.specs.declared.BoxAt.{BoxAt}
 use Rattle.sk_place.specs.declared.BoxFault.{BoxFault}
 use Rattle.sk_place.specs.declared.PlaceBy.{PlaceBy}
 use Rattle.sk_place.specs.Carrying.{carried_each}
-use Rattle.sk_interval.specs.declared.Cause.{Cause}
-use Rattle.sk_steps.specs.declared.What.{What}
-use Rattle.sk_motion.specs.declared.Motion.{Motion}
 use Rattle.sk_place.specs.declared.FrameBy.{FrameBy}
 use Rattle.sk_place.specs.declared.FrameBy.TheVariants.{Base, Drawn}
 use Rattle.sk_place.specs.declared.StepFault.{StepFault}

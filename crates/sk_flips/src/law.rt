@@ -43,7 +43,6 @@ ghost use Rattle.sk_flips.specs.Alternatives.{alternative_of, placed_signs, IsAl
 ghost use Rattle.sk_flips.specs.Flipping.{flipped};
 ghost use Rattle.sk_flips.specs.Placements.{midpoints, IsLaid, IsTolerance, IsPlacement};
 
-use sk_graph::sound_graph;
 use sk_interval::Grid;
 
 /// A plan is as legal with some of its choices turned over.
@@ -61,9 +60,7 @@ pub fn untouched_plan_is_drawn()
 pub fn found_is_met<G: Grid>()
     ensures met { (placing : Layout) (F limit : ℕ) (s : Sketch) (p : Plan) (names : Items Name) (at : Placed) (tol : Tolerance) → IsSoundSketch s → IsAlternative G placing F limit s p names (Found at tol) → AllHoldWithin at (graph_of s) tol.t tol.w }
     ensures least { (placing : Layout) (F limit : ℕ) (s : Sketch) (p : Plan) (names : Items Name) (at : Placed) (tol : Tolerance) → IsAlternative G placing F limit s p names (Found at tol) → IsTolerance at (graph_of s) tol }
-{
-    sound_graph();
-}
+{}
 
 /// Where elements are found for two lists, each step that stands in one of them alone has another placed
 /// sign there than here.
@@ -98,9 +95,7 @@ pub fn place_is_printed<G: Grid>()
 pub fn anchor_is_printed<G: Grid>()
     ensures { (by : PlaceBy) (F : ℕ) (s : Sketch) (p : Plan) (there : Items (BoxAt G)) (e : Elem) → 21 ≤ F → IsSoundSketch s → IsLegalPlan (graph_of s) p → (¬ (p.leaves ≡ []) → (t : Tree) × IsPlanTree p t)
         → IsLaid (record { by = by; frame = FrameBy.Drawn }) F s p there → anchor_of (graph_of s) p ≡ Some e → LiesAsDrawn s (midpoints F there) e }
-{
-    sound_graph();
-}
+{}
 
 /// Where places are boxes, a finer grid has boxes inside those of a coarser one, in the frame of the base
 /// and in that of the drawing, and no others.
@@ -109,9 +104,7 @@ pub fn finer_boxes_lie_inside<G: Grid>()
         → IsLaid (record { by = PlaceBy.Boxes; frame = frame }) F s p coarse → (fine : Items (BoxAt G)) × IsLaid (record { by = PlaceBy.Boxes; frame = frame }) (F + k) s p fine × AreInside k fine coarse }
     ensures each { (frame : FrameBy) (F k : ℕ) (s : Sketch) (p : Plan) (coarse fine : Items (BoxAt G)) → 8 ≤ F → IsSoundSketch s → IsLegalPlan (graph_of s) p → (¬ (p.leaves ≡ []) → (t : Tree) × IsPlanTree p t)
         → IsLaid (record { by = PlaceBy.Boxes; frame = frame }) F s p coarse → IsLaid (record { by = PlaceBy.Boxes; frame = frame }) (F + k) s p fine → AreInside k fine coarse }
-{
-    sound_graph();
-}
+{}
 
 /// Where places are boxes, a box can't be carried to the drawing only because a number gets too great.
 pub fn uncarried_is_out_of_range<G: Grid>()

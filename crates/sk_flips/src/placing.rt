@@ -12,8 +12,6 @@ ghost use Rattle.sk_flips.specs.Placements.{AnswersCarried, IsMeasured, IsPlacem
 
 use sk_base::{Graph, NoMemory, Placed, Sketch};
 use sk_frame::{frame_motion, frame_of};
-use sk_graph::sound_graph;
-use sk_holding::placed_in_order;
 use sk_interval::Grid;
 use sk_place::{
     BoxFault, Boxes, FrameBy, Layout, MoveError, PlaceError, StepFault, moved, place, round,
@@ -50,7 +48,6 @@ pub fn placed_on<G: Grid>(
     ensures placement { IfOk result (IsPlacement wanted G placing G.BITS limit s.now p.now) }
     ensures bounded { IfOk result LiesWithinBounds }
 {
-    sound_graph();
     match place::<G>(alloc, placing.by, p, g) {
         Ok(boxes) => placed_boxes(alloc, placing, wanted, limit, s, g, p, boxes),
         Err(PlaceError::Fault(fault)) => Ok(Placement::Fault(fault)),
@@ -81,7 +78,6 @@ fn placed_boxes<G: Grid>(
     match carried(alloc, placing, s, g, p, boxes) {
         Ok(there) => {
             let at = round(alloc, &there)?;
-            placed_in_order();
             Ok(measured(wanted, limit, s, g, p, at))
         }
         Err(error) => uncarried(error),

@@ -1,10 +1,11 @@
 use Rattle.std.proofs.Common.{◌∙◌}
+use Rattle.sk_holding.proofs.InOrder.{exactly_in_order}
 use Rattle.sk_flips.proofs.SpotsPlaced.{spots_made, placement_of, measured_within, uncarried, uncarried_within}
 use Rattle.sk_flips.proofs.placing.placed_boxes.Goals as goal
 
 pub measured-requires-clause-placed : goal.measured-requires-clause-placed
 measured-requires-clause-placed g c =
-    c.placed_in_order.ensures c.args.g.now c.in_ok-at-in-Ok.at c.requires.sound.nodes_rise
+    exactly_in_order c.args.g.now c.in_ok-at-in-Ok.at c.requires.sound.nodes_rise
     (spots_made g.G.Grid.BITS c.in-Ok.there c.args.g.now.nodes c.in_ok-at-in-Ok.at.spots (c.in-Ok.ensures.nodes ∙ c.requires.nodes) c.in_ok-at-in-Ok.ensures.value c.in_ok-at-in-Ok.ensures.bounded)
 
 pub returns-in_ok-at-in-Ok-clause-placement : goal.returns-in_ok-at-in-Ok-clause-placement
