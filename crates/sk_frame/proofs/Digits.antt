@@ -1,11 +1,11 @@
 -- The highest binary digit of a number, and vectors by a power of two.
-use Rattle.std.proofs.Common.{◌≡◌, inl, inr, ℕ, ◌+◌, ◌-◌, ◌*◌, ◌/◌, ◌^◌, ◌<◌, ◌≤◌, ℤ, pos, negsuc, neg_ℤ, ◌*ℤ◌, max, unsigned_abs, refl, sym, ◌∙◌, ap, arith}
+use Rattle.std.proofs.Common.{◌≡◌, inl, inr, ℕ, ◌-◌, ◌*◌, ◌/◌, ◌^◌, ◌<◌, ◌≤◌, ℤ, pos, negsuc, ◌*ℤ◌, max, unsigned_abs, ◌∙◌, ap, arith}
 use Rattle.std.proofs.lemmas.Bool.{cases_lt}
 use Rattle.std.proofs.lemmas.Int.{ints, unsigned_abs-mul}
-use Rattle.std.proofs.lemmas.Nat.{leading_top, mul-le, le-div}
+use Rattle.std.proofs.lemmas.Nat.{leading_top, le-div}
 use Rattle.std.proofs.Math.Nat.{div-lt_iff_lt-mul}
 use Rattle.std.specs.Int.Count.{count_leading_zeros}
-use Rattle.sk_base.specs.Bounds.{IsWithin}
+use Rattle.sk_base.proofs.Magnitudes.{within_of_abs}
 use Rattle.sk_orient.specs.declared.Vector.{Vector}
 use Rattle.sk_orient.specs.Vectors.{IsShort}
 use Rattle.sk_interval.proofs.PowerLemmas.{power_below}
@@ -48,9 +48,6 @@ part_small digit n below =
 part_great : (digit n : ℕ) → 2 ^ digit ≤ n → 2 ^ 30 ≤ n * 2 ^ 30 / 2 ^ digit
 part_great digit n below = le-div (2 ^ 30) (n * 2 ^ 30) (2 ^ digit) (power_positive digit) (omega arith)
 
-within_of_size : (most : ℕ) (z : ℤ) → unsigned_abs z ≤ most → IsWithin most z
-within_of_size most z few = (omega (arith, ints), omega (arith, ints))
-
 pub scaled_turns : (v : Vector) (digit : ℕ) → IsHighest (max (unsigned_abs v.x) (unsigned_abs v.y)) digit → IsTurn (record { x = scaled_part digit v.x; y = scaled_part digit v.y })
 scaled_turns v digit is =
     let a : ℕ = unsigned_abs v.x in
@@ -60,7 +57,7 @@ scaled_turns v digit is =
     let x_small = part_small digit a (omega arith) in
     let y_small = part_small digit b (omega arith) in
     record {
-      short = (within_of_size 2147483647 (scaled_part digit v.x) (rw (part-size digit v.x) x_small), within_of_size 2147483647 (scaled_part digit v.y) (rw (part-size digit v.y) y_small));
+      short = (within_of_abs 2147483647 (scaled_part digit v.x) (rw (part-size digit v.x) x_small), within_of_abs 2147483647 (scaled_part digit v.y) (rw (part-size digit v.y) y_small));
       turns = rw (part-size digit v.x, part-size digit v.y) (elim (cases_lt a b) [
         | inl less ↦ (let great = part_great digit b (omega arith) in omega arith)
         | inr less ↦ (let great = part_great digit a (omega arith) in omega arith)

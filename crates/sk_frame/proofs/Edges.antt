@@ -1,31 +1,18 @@
--- What a constraint that is found by its number measures, the pins of a block that is, and that these lie apart.
+-- The pins of a block that is found by its number, and that these lie apart.
 use Rattle.std.proofs.Common.{◌≡◌, ℕ, ℤ, List, get_or, Some, ap, arith}
 use Rattle.std.proofs.lemmas.Int.{ints}
 use Rattle.std.specs.Prelude.{◌==◌}
 use Rattle.sk_base.specs.declared.Block.{Block}
-use Rattle.sk_base.specs.declared.Edge.{Edge}
-use Rattle.sk_base.specs.declared.Elem.{Elem}
 use Rattle.sk_base.specs.declared.Graph.{Graph}
 use Rattle.sk_base.specs.declared.Pin.{Pin}
 use Rattle.sk_base.specs.declared.Um.{Um}
-use Rattle.sk_base.specs.declared.Measure.{Measure}
-use Rattle.sk_base.specs.declared.Measure.TheVariants.{PointPoint, PointLine, LineLine}
-use Rattle.sk_base.specs.Lookups.{edge_numbered, block_numbered}
+use Rattle.sk_base.specs.Lookups.{block_numbered}
 use Rattle.sk_base.specs.Pins.{AreSoundPins}
-use Rattle.sk_base.specs.SoundGraph.{IsSoundGraph, Measures}
+use Rattle.sk_base.specs.SoundGraph.{IsSoundGraph}
 use Rattle.sk_base.proofs.Finding.{found_in}
-use Rattle.sk_steps.specs.Leaves.{IsSoundMeasure}
 use Rattle.sk_orient.specs.Vectors.{way}
 use Rattle.sk_frame.specs.Frames.{given_place}
 use Rattle.sk_frame.specs.TurnBounds.{IsSomewhere}
-
-measured : (g : Graph) (u v : Elem) (m : Measure) → Measures g u v m → IsSoundMeasure m
-measured g u v (PointPoint far) h = h.2
-measured g u v (PointLine far side) h = h.2
-measured g u v (LineLine ratio sense) h = h.2
-
-pub edge_measured : (g : Graph) → IsSoundGraph g → (k : ℕ) (e : Edge) → edge_numbered g k ≡ Some e → IsSoundMeasure e.measure
-edge_measured g sound k e is = measured g e.u e.v e.measure (sound.edges_measure e (found_in (λ (x : Edge). x.id.0 == k) g.edges e is).0)
 
 pub block_pins : (g : Graph) → IsSoundGraph g → (k : ℕ) (b : Block) → block_numbered g k ≡ Some b → AreSoundPins b.pins
 block_pins g sound k b is = (sound.blocks_sound b (found_in (λ (x : Block). x.id.0 == k) g.blocks b is).0).pins

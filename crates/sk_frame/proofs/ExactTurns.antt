@@ -1,17 +1,16 @@
 -- A turn along an axis is exact.
-use Rattle.std.proofs.Common.{◌≡◌, ℕ, zero, suc, ◌+◌, ◌-◌, ◌*◌, ◌^◌, ◌<◌, ◌≤◌, ℤ, pos, negsuc, ◌+ℤ◌, ◌*ℤ◌, ◌≤ℤ◌, ◌<ℤ◌, max, unsigned_abs, [], ◌∷◌, Result, Ok, false, refl, sym, ap, ◌∙◌, subst, arith}
+use Rattle.std.proofs.Common.{◌≡◌, ℕ, zero, suc, ◌+◌, ◌-◌, ◌*◌, ◌^◌, ◌<◌, ◌≤◌, ℤ, pos, negsuc, ◌+ℤ◌, ◌*ℤ◌, unsigned_abs, [], ◌∷◌, Ok, false, sym, ap, ◌∙◌, arith}
 use Rattle.std.proofs.lemmas.Int.{ints, unsigned_abs-mul}
 use Rattle.std.proofs.lemmas.Nat.{mul-le, pow-add}
+use Rattle.sk_base.proofs.Magnitudes.{square_size}
 use native.Mathlib.Nat.{le_refl}
-use Rattle.sk_root.specs.Roots.{floor_root, ceil_root}
+use Rattle.sk_root.specs.Roots.{ceil_root}
 use Rattle.sk_root.proofs.RootLemmas.{floor_root-is, ceil_root-square}
 use Rattle.sk_orient.specs.PlacedSigns.{placed_sign}
-use Rattle.sk_interval.specs.declared.Cause.{Cause}
 use Rattle.sk_interval.specs.Interval.{Interval, one}
 use Rattle.sk_interval.specs.Rounding.{floor_of, ceil_of}
 use Rattle.sk_interval.specs.Operations.{whole, product, sum, root, quotient, bounded, holds_zero, least_at, greatest_at}
 use Rattle.sk_interval.proofs.PowerLemmas.{unit-positive}
-use Rattle.sk_interval.proofs.AroundLemmas.{size_of_bounds}
 use Rattle.sk_interval.proofs.ProductLemmas.{bounded-ok}
 use Rattle.sk_interval.proofs.RatioLemmas.{root-real, quotient-bounded}
 use Rattle.sk_interval.proofs.ScaleLemmas.{scale-scale}
@@ -74,10 +73,6 @@ record IsAxis (F u : ℕ) (z : ℤ) : Type 0 where
   some : 0 < size
   part_is : quotient F (exactly (z *ℤ pos u)) (exactly (pos size)) ≡ Ok (whole F (placed_sign z))
 
-abs_square : (z : ℤ) → z *ℤ z ≡ pos (unsigned_abs z * unsigned_abs z)
-abs_square (pos n) = omega (arith, ints)
-abs_square (negsuc n) = omega (arith, ints)
-
 by_sign : (z : ℤ) (u : ℕ) → 0 < unsigned_abs z → z *ℤ pos u ≡ placed_sign z *ℤ pos (unsigned_abs z * u)
 by_sign (pos zero) u some = absurd (omega (arith, some))
 by_sign (pos (suc n)) u some = omega (arith, ints)
@@ -100,7 +95,7 @@ axis F u t unit finer u_some z few z_some =
     let t_some : 0 < t = omega (arith, finer, u_some) in
     let q_some : 0 < q = mul-le 1 1 (p * p) t (mul-le 1 1 p p z_some z_some) t_some in
     let squares : s * s ≡ q * 2 ^ F = rw (unit, finer) (products p t) in
-    let a_square : a *ℤ a ≡ pos q *ℤ pos (2 ^ F) = abs_square a ∙ ap pos (ap (λ (n : ℕ). n * n) a_size ∙ squares) in
+    let a_square : a *ℤ a ≡ pos q *ℤ pos (2 ^ F) = square_size a ∙ ap pos (ap (λ (n : ℕ). n * n) a_size ∙ squares) in
     let q_small : q ≤ 2 ^ 46 * 2 ^ F = rw unit (rw finer (omega (arith, mul-le (p * p) t (2 ^ 62) t (mul-le p p (2 ^ 31) (2 ^ 31) (omega (arith, few)) (omega (arith, few))) (le_refl _)))) in
     record {
       square = q;

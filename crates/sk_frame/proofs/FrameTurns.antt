@@ -1,7 +1,7 @@
 -- The motion of a sound frame.
 use Rattle.std.proofs.Common.{◌≡◌, inl, inr, ℕ, ◌-◌, ◌*◌, ◌^◌, ◌≤◌, ℤ, pos, ◌*ℤ◌, max, unsigned_abs, [], ◌∷◌, Result, Ok, Err, ap, ◌∙◌, arith}
 use Rattle.std.proofs.lemmas.Bool.{cases_lt}
-use Rattle.std.proofs.lemmas.Int.{ints, unsigned_abs-mul}
+use Rattle.std.proofs.lemmas.Int.{unsigned_abs-mul}
 use Rattle.std.proofs.lemmas.Nat.{mul-le}
 use native.Mathlib.Nat.{le_refl}
 use Rattle.sk_base.specs.Bounds.{IsWithin}

@@ -1,10 +1,10 @@
 -- The numbers of a crossing fit 128 bits.
-use Rattle.std.proofs.Common.{◌≡◌, ◌≢◌, ℕ, zero, suc, ◌≤◌, ◌^◌, ℤ, pos, negsuc, ◌+ℤ◌, ◌*ℤ◌, unsigned_abs, true, false, int_eq, FitsSigned, refl, arith}
+use Rattle.std.proofs.Common.{◌≡◌, ◌≢◌, ◌≤◌, ◌^◌, ℤ, pos, ◌+ℤ◌, ◌*ℤ◌, unsigned_abs, false, int_eq, FitsSigned, arith}
 use Rattle.std.proofs.lemmas.Int.{ints}
 use Rattle.std.specs.Int.{w128}
 use Rattle.sk_base.specs.Bounds.{IsWithin}
 use Rattle.sk_interval.proofs.AroundLemmas.{size_of_bounds}
-use Rattle.sk_orient.proofs.Products.{product_within, fits}
+use Rattle.sk_base.proofs.Magnitudes.{product_within, fits}
 
 pub record AreFitting (p d n det : ℤ) : Type 0 where
   pub along : FitsSigned w128 (p *ℤ det)

@@ -1,10 +1,11 @@
 -- Fractions on a grid.
-use Rattle.std.proofs.Common.{◌≡◌, ℕ, zero, suc, ◌+◌, ◌*◌, ◌^◌, ◌<◌, ◌≤◌, ℤ, pos, ◌*ℤ◌, ◌≤ℤ◌, unsigned_abs, Ok, false, refl, sym, ap, ◌∙◌, arith}
+use Rattle.std.proofs.Common.{◌≡◌, ℕ, ◌+◌, ◌*◌, ◌^◌, ◌<◌, ◌≤◌, ℤ, pos, ◌*ℤ◌, ◌≤ℤ◌, unsigned_abs, Ok, false, sym, ap, ◌∙◌, arith}
 use Rattle.std.proofs.lemmas.Int.{ints, unsigned_abs-mul}
 use Rattle.std.proofs.lemmas.Nat.{mul-le, pow-add}
 use Rattle.std.specs.Int.{int_min, int_max}
 use native.Mathlib.Nat.{le_refl}
 use Rattle.std.specs.Int.Signed.{≤ℤ_refl}
+use Rattle.sk_base.proofs.Magnitudes.{≤ℤ_antisymm}
 use Rattle.sk_interval.proofs.CornerLemmas.{below_least, least_below, above_greatest, greatest_above}
 use Rattle.sk_interval.specs.Interval.{Interval, one}
 use Rattle.sk_interval.specs.Rounding.{floor_of, ceil_of}
@@ -17,9 +18,6 @@ use Rattle.sk_interval.proofs.RatioLemmas.{quotient-bounded}
 use Rattle.sk_interval.proofs.ScaleLemmas.{scale-scale}
 use Rattle.sk_frame.specs.FrameMotions.{ratio}
 
-pub same_z : (a b : ℤ) → a ≤ℤ b → b ≤ℤ a → a ≡ b
-same_z a b h k = omega (arith, ints)
-
 -- a common factor leaves a floor and a ceiling as they are
 pub floor_common : (a : ℤ) (d k : ℕ) → 0 < d → 0 < k → floor_of (a *ℤ pos k) (pos (d * k)) ≡ floor_of a (pos d)
 floor_common a d k d_some k_some =
@@ -28,7 +26,7 @@ floor_common a d k d_some k_some =
     let w : ℤ = floor_of a (pos d) in
     let low : (z *ℤ pos (d * k)) ≤ℤ (a *ℤ pos k) = floor-at_most (a *ℤ pos k) (pos (d * k)) (pos-nonzero (d * k) both) in
     let up : (w *ℤ pos d) ≤ℤ a = floor-at_most a (pos d) (pos-nonzero d d_some) in
-    same_z z w
+    ≤ℤ_antisymm z w
     (at_most-floor z a (pos d) (pos-nonzero d d_some) (unscaled_by (z *ℤ pos d) a k k_some (rw (scale-scale z d k) low)))
     (at_most-floor w (a *ℤ pos k) (pos (d * k)) (pos-nonzero (d * k) both) (rw (← scale-scale w d k) (scaled (w *ℤ pos d) a k up)))
 
@@ -39,16 +37,16 @@ ceil_common a d k d_some k_some =
     let w : ℤ = ceil_of a (pos d) in
     let high : (a *ℤ pos k) ≤ℤ (z *ℤ pos (d * k)) = ceil-at_least (a *ℤ pos k) (pos (d * k)) (pos-nonzero (d * k) both) in
     let up : a ≤ℤ (w *ℤ pos d) = ceil-at_least a (pos d) (pos-nonzero d d_some) in
-    same_z z w
+    ≤ℤ_antisymm z w
     (at_least-ceil w (a *ℤ pos k) (pos (d * k)) (pos-nonzero (d * k) both) (rw (← scale-scale w d k) (scaled a (w *ℤ pos d) k up)))
     (at_least-ceil z a (pos d) (pos-nonzero d d_some) (unscaled_by a (z *ℤ pos d) k k_some (rw (scale-scale z d k) high)))
 
 -- the least and the greatest of four that are one
 pub least_same : (p : ℤ) → int_min (int_min p p) (int_min p p) ≡ p
-least_same p = same_z (int_min (int_min p p) (int_min p p)) p (least_below (int_min (int_min p p) (int_min p p)) p p p p (≤ℤ_refl _)).0 (below_least p p p p p (≤ℤ_refl p) (≤ℤ_refl p) (≤ℤ_refl p) (≤ℤ_refl p))
+least_same p = ≤ℤ_antisymm (int_min (int_min p p) (int_min p p)) p (least_below (int_min (int_min p p) (int_min p p)) p p p p (≤ℤ_refl _)).0 (below_least p p p p p (≤ℤ_refl p) (≤ℤ_refl p) (≤ℤ_refl p) (≤ℤ_refl p))
 
 pub greatest_same : (p : ℤ) → int_max (int_max p p) (int_max p p) ≡ p
-greatest_same p = same_z (int_max (int_max p p) (int_max p p)) p (above_greatest p p p p p (≤ℤ_refl p) (≤ℤ_refl p) (≤ℤ_refl p) (≤ℤ_refl p)) (greatest_above (int_max (int_max p p) (int_max p p)) p p p p (≤ℤ_refl _)).0
+greatest_same p = ≤ℤ_antisymm (int_max (int_max p p) (int_max p p)) p (above_greatest p p p p p (≤ℤ_refl p) (≤ℤ_refl p) (≤ℤ_refl p) (≤ℤ_refl p)) (greatest_above (int_max (int_max p p) (int_max p p)) p p p p (≤ℤ_refl _)).0
 
 pub ratio_within : (F : ℕ) (n : ℤ) (d : ℕ) → 0 < d → unsigned_abs n ≤ 1000000000000 → (unsigned_abs (ratio F d n).lo ≤ 2 ^ (40 + F)) × (unsigned_abs (ratio F d n).hi ≤ 2 ^ (40 + F))
 ratio_within F n d d_some small =

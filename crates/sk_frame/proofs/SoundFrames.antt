@@ -1,6 +1,6 @@
 -- The frame of a plan's base in a sound sketch is sound.
-use Rattle.std.proofs.Common.{◌≡◌, ◌⊎◌, inl, inr, ℕ, ◌≤◌, ℤ, pos, max, unsigned_abs, Bool, true, false, int_eq, List, [], ◌∷◌, Option, None, Some, refl, sym, subst, arith}
-use Rattle.std.specs.Prelude.{All, Contains, ◌&&◌, nat_le, unwrap_or}
+use Rattle.std.proofs.Common.{◌≡◌, ◌⊎◌, inl, inr, ℕ, ◌≤◌, ℤ, pos, max, unsigned_abs, true, false, int_eq, List, [], ◌∷◌, Option, None, Some, refl, arith}
+use Rattle.std.specs.Prelude.{◌&&◌, nat_le, unwrap_or}
 use Rattle.std.specs.Option.{option_map}
 use Rattle.std.proofs.lemmas.Bool.{cases_Bool, and_parts}
 use Rattle.std.proofs.lemmas.Bool.Decides.{nat_tests}
@@ -32,7 +32,8 @@ use Rattle.sk_orient.specs.declared.Vector.{Vector}
 use Rattle.sk_orient.specs.DrawnSigns.{IsOnPaper, place_of, direction_of}
 use Rattle.sk_orient.specs.Vectors.{IsShort, way, cross}
 use Rattle.sk_orient.proofs.Papers.{on_paper}
-use Rattle.sk_orient.proofs.Products.{product_within, way_short, cross_within, dot_within}
+use Rattle.sk_base.proofs.Magnitudes.{product_within, within_of_abs}
+use Rattle.sk_orient.proofs.Products.{way_short, cross_within, dot_within}
 use Rattle.sk_graph.specs.SketchGraph.{drawn_as}
 use Rattle.sk_steps.specs.Leaves.{by_sign, IsSoundMeasure}
 use Rattle.sk_tree.specs.declared.Plan.{Plan}
@@ -40,9 +41,10 @@ use Rattle.sk_frame.specs.Bases.{base_of}
 use Rattle.sk_frame.specs.Turns.{forward, origin, or_forward, turn_between, scaled}
 use Rattle.sk_frame.specs.TurnBounds.{IsSomewhere, IsTurn}
 use Rattle.sk_frame.specs.Crossings.{nanometres, crossing, is_near, near_or, meeting}
-use Rattle.sk_frame.specs.Frames.{frame_from, still, measured_frame, given_place, drawn_place, block_frame, lone_frame, constraint_frame, based_frame, frame_of, IsSoundFrame}
+use Rattle.sk_frame.specs.Frames.{frame_from, still, measured_frame, given_place, drawn_place, block_frame, lone_frame, found_frame, based_frame, frame_of, IsSoundFrame}
 use Rattle.sk_frame.proofs.Digits.{highest, scaled_turns, greater_some, greater_few}
-use Rattle.sk_frame.proofs.Edges.{edge_measured, block_pins, pins_apart}
+use Rattle.sk_steps.proofs.SoundMeasures.{edge_measured}
+use Rattle.sk_frame.proofs.Edges.{block_pins, pins_apart}
 use Rattle.sk_frame.proofs.Turning.{turn_somewhere}
 
 -- ---- where shapes are drawn
@@ -116,14 +118,11 @@ nanometres_short v short =
 test_few : (m n : ℕ) → nat_le m n ≡ true → m ≤ n
 test_few m n is = grind (arith, nat_tests)
 
-within_of : (most : ℕ) (z : ℤ) → unsigned_abs z ≤ most → IsWithin most z
-within_of most z few = (omega (arith, ints), omega (arith, ints))
-
 near_or_short : (v other : Vector) → IsShort 1000000000000 other → IsShort 1000000000000 (near_or v other)
 near_or_short v other short = elim (cases_Bool (is_near v)) [
   | inl near ↦ (
       let parts = and_parts (nat_le (unsigned_abs v.x) 1000000000000) (nat_le (unsigned_abs v.y) 1000000000000) near in
-      rw near (within_of 1000000000000 v.x (test_few _ _ parts.0), within_of 1000000000000 v.y (test_few _ _ parts.1)))
+      rw near (within_of_abs 1000000000000 v.x (test_few _ _ parts.0), within_of_abs 1000000000000 v.y (test_few _ _ parts.1)))
   | inr far ↦ rw far short
 ]
 
@@ -178,13 +177,13 @@ module _ (s : Sketch) (sketch : IsSoundSketch s) where
       (nanometres_short (place_of (drawn_as s n.elem)) (place_short (drawn_as s n.elem) on)) (direction_short (drawn_as s n.elem) on)
 
   module _ (g : Graph) (graph : IsSoundGraph g) where
-    constraint_sound : (k : ℕ) (e : Option Edge) (b : Option Block) → edge_numbered g k ≡ e → block_numbered g k ≡ b → IsSoundFrame (constraint_frame s e b)
-    constraint_sound k (Some e) b e_is b_is = measured_sound e.measure (drawn_as s e.u) (drawn_as s e.v) (edge_measured g graph k e e_is) (drawn_on_paper s sketch e.u) (drawn_on_paper s sketch e.v)
-    constraint_sound k None (Some b) e_is b_is = block_sound b.pins (block_pins g graph k b b_is)
-    constraint_sound k None None e_is b_is = still_sound
+    found_sound : (k : ℕ) (e : Option Edge) (b : Option Block) → edge_numbered g k ≡ e → block_numbered g k ≡ b → IsSoundFrame (found_frame s e b)
+    found_sound k (Some e) b e_is b_is = measured_sound e.measure (drawn_as s e.u) (drawn_as s e.v) (edge_measured g graph k e e_is) (drawn_on_paper s sketch e.u) (drawn_on_paper s sketch e.v)
+    found_sound k None (Some b) e_is b_is = block_sound b.pins (block_pins g graph k b b_is)
+    found_sound k None None e_is b_is = still_sound
 
     based_sound : (k : Option ConId) → IsSoundFrame (based_frame s g k)
-    based_sound (Some k) = constraint_sound k.0 (edge_numbered g k.0) (block_numbered g k.0) refl refl
+    based_sound (Some k) = found_sound k.0 (edge_numbered g k.0) (block_numbered g k.0) refl refl
     based_sound None = lone_sound g.nodes
 
     pub frame_is_sound : (p : Plan) → IsSoundFrame (frame_of s g p)

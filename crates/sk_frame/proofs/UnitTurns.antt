@@ -1,19 +1,19 @@
 -- The motion of a sound frame has no fault.
-use Rattle.std.proofs.Common.{◌≡◌, inl, inr, ℕ, zero, suc, ◌+◌, ◌-◌, ◌*◌, ◌^◌, ◌<◌, ◌≤◌, ℤ, pos, negsuc, ◌+ℤ◌, ◌*ℤ◌, ◌≤ℤ◌, ◌<ℤ◌, max, unsigned_abs, List, [], ◌∷◌, Ok, false, refl, sym, ap, ◌∙◌, subst, arith}
+use Rattle.std.proofs.Common.{◌≡◌, inl, inr, ℕ, ◌+◌, ◌-◌, ◌*◌, ◌^◌, ◌<◌, ◌≤◌, ℤ, pos, ◌+ℤ◌, ◌*ℤ◌, ◌≤ℤ◌, ◌<ℤ◌, max, unsigned_abs, [], ◌∷◌, Ok, false, refl, sym, ap, ◌∙◌, arith}
 use Rattle.std.proofs.lemmas.Bool.{cases_lt}
 use Rattle.std.proofs.lemmas.Int.{ints, unsigned_abs-mul}
 use Rattle.std.proofs.lemmas.Nat.{mul-le, pow-add}
 use native.Mathlib.Nat.{le_refl}
 use Rattle.std.specs.Int.Signed.{≤ℤ_refl}
+use Rattle.sk_base.proofs.Magnitudes.{≤ℤ_antisymm, square_size}
 use Rattle.sk_root.specs.Roots.{floor_root, ceil_root}
 use Rattle.sk_root.proofs.RootLemmas.{root_below, floor_root-bounds}
-use Rattle.sk_interval.specs.declared.Cause.{Cause}
 use Rattle.sk_interval.specs.Interval.{Interval, one}
 use Rattle.sk_interval.specs.Rounding.{floor_of, ceil_of}
 use Rattle.sk_interval.specs.Operations.{product, sum, root, quotient, bounded, holds_zero, least_at, greatest_at, times}
 use Rattle.sk_interval.proofs.PowerLemmas.{power_below, unit-positive}
 use Rattle.sk_interval.proofs.CornerLemmas.{least_within, greatest_within}
-use Rattle.sk_interval.proofs.AroundLemmas.{quotients_bounded, floor_from, ceil_to, floor_below_ceil, pos-nonzero, size_of_bounds}
+use Rattle.sk_interval.proofs.AroundLemmas.{quotients_bounded, ceil_to, floor_below_ceil, pos-nonzero, size_of_bounds}
 use Rattle.sk_interval.proofs.ProductLemmas.{bounded-ok, product-quotients}
 use Rattle.sk_interval.proofs.QuotientLemmas.{at_most-floor, floor-at_most, at_least-ceil, ceil-at_least, unscaled_by}
 use Rattle.sk_interval.proofs.ScaleLemmas.{scale-scale}
@@ -23,7 +23,7 @@ use Rattle.sk_steps.specs.declared.What.{What}
 use Rattle.sk_steps.specs.Quantities.{evaluate}
 use Rattle.sk_motion.specs.Settling.{unit_turn}
 use Rattle.sk_frame.specs.FrameMotions.{ratio}
-use Rattle.sk_frame.proofs.Ratios.{same_z, least_same, greatest_same}
+use Rattle.sk_frame.proofs.Ratios.{least_same, greatest_same}
 
 -- the grid has so many units to 1 / 256
 pub record IsUnit (F u : ℕ) : Type 0 where
@@ -36,10 +36,6 @@ unit_of F enough = record { is = (let sum : F ≡ 8 + (F - 8) = omega arith in a
 -- an interval of one number
 abbrev pub exactly : ℤ → Interval
 exactly a = record { lo = a; hi = a }
-
-square_size : (z : ℤ) → z *ℤ z ≡ pos (unsigned_abs z * unsigned_abs z)
-square_size (pos n) = omega (arith, ints)
-square_size (negsuc n) = omega (arith, ints)
 
 square_small : (F : ℕ) (a : ℤ) → unsigned_abs a ≤ 2 ^ 23 * 2 ^ F → unsigned_abs a * unsigned_abs a ≤ 2 ^ 46 * 2 ^ F * 2 ^ F
 square_small F a small = omega (arith, mul-le (unsigned_abs a) (unsigned_abs a) (2 ^ 23 * 2 ^ F) (2 ^ 23 * 2 ^ F) small small)
@@ -87,12 +83,12 @@ square_of F a small = record {
 pub floor_whole : (z : ℤ) (d : ℕ) → 0 < d → floor_of (z *ℤ pos d) (pos d) ≡ z
 floor_whole z d some =
     let w : ℤ = floor_of (z *ℤ pos d) (pos d) in
-    same_z w z (unscaled_by w z d some (floor-at_most (z *ℤ pos d) (pos d) (pos-nonzero d some))) (at_most-floor z (z *ℤ pos d) (pos d) (pos-nonzero d some) (≤ℤ_refl _))
+    ≤ℤ_antisymm w z (unscaled_by w z d some (floor-at_most (z *ℤ pos d) (pos d) (pos-nonzero d some))) (at_most-floor z (z *ℤ pos d) (pos d) (pos-nonzero d some) (≤ℤ_refl _))
 
 pub ceil_whole : (z : ℤ) (d : ℕ) → 0 < d → ceil_of (z *ℤ pos d) (pos d) ≡ z
 ceil_whole z d some =
     let w : ℤ = ceil_of (z *ℤ pos d) (pos d) in
-    same_z w z (at_least-ceil z (z *ℤ pos d) (pos d) (pos-nonzero d some) (≤ℤ_refl _)) (unscaled_by z w d some (ceil-at_least (z *ℤ pos d) (pos d) (pos-nonzero d some)))
+    ≤ℤ_antisymm w z (at_least-ceil z (z *ℤ pos d) (pos d) (pos-nonzero d some) (≤ℤ_refl _)) (unscaled_by z w d some (ceil-at_least (z *ℤ pos d) (pos d) (pos-nonzero d some)))
 
 pub ratio_exact : (F u : ℕ) → IsUnit F u → (z : ℤ) → ratio F 256 z ≡ exactly (z *ℤ pos u)
 ratio_exact F u unit z =

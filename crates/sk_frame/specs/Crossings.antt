@@ -1,5 +1,5 @@
 -- Where two drawn lines meet.
-use Rattle.std.specs.Prelude.{ℕ, ℤ, pos, negsuc, neg_ℤ, suc, ◌+ℤ◌, ◌*ℤ◌, ◌&&◌, Bool, nat_le, unsigned_abs, if◌then◌else◌}
+use Rattle.std.specs.Prelude.{ℤ, pos, negsuc, neg_ℤ, suc, ◌+ℤ◌, ◌*ℤ◌, ◌&&◌, Bool, nat_le, unsigned_abs, if◌then◌else◌}
 use Rattle.std.specs.Ordering.{int_eq}
 use Rattle.sk_base.specs.declared.Shape.{Shape}
 use Rattle.sk_base.specs.Nearest.{nearest}

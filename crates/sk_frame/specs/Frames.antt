@@ -1,5 +1,5 @@
 -- Where the frame of a plan's base lies in the drawing.
-use Rattle.std.specs.Prelude.{ℤ, pos, List, [], ◌∷◌, Option, Some, None}
+use Rattle.std.specs.Prelude.{pos, List, [], ◌∷◌, Option, Some, None}
 use Rattle.sk_base.specs.declared.Block.{Block}
 use Rattle.sk_base.specs.declared.ConId.{ConId}
 use Rattle.sk_base.specs.declared.Edge.{Edge}
@@ -58,14 +58,19 @@ abbrev pub lone_frame : Sketch → List Node → Frame
 lone_frame s (n ∷ others) = frame_from origin (nanometres (place_of (drawn_as s n.elem))) forward (direction_of (drawn_as s n.elem))
 lone_frame s [] = still
 
-abbrev pub constraint_frame : Sketch → Option Edge → Option Block → Frame
-constraint_frame s (Some e) block = edge_frame s e
-constraint_frame s None (Some b) = block_frame s b.pins
-constraint_frame s None None = still
+-- the frame of the edge or the block that a number finds
+abbrev pub found_frame : Sketch → Option Edge → Option Block → Frame
+found_frame s (Some e) block = edge_frame s e
+found_frame s None (Some b) = block_frame s b.pins
+found_frame s None None = still
+
+-- the frame of a constraint
+abbrev pub constraint_frame : Sketch → Graph → ConId → Frame
+constraint_frame s g number = found_frame s (edge_numbered g number.0) (block_numbered g number.0)
 
 -- the frame of the base, or of the only element; a legal plan of a sketch's graph has one or the other
 abbrev pub based_frame : Sketch → Graph → Option ConId → Frame
-based_frame s g (Some k) = constraint_frame s (edge_numbered g k.0) (block_numbered g k.0)
+based_frame s g (Some number) = constraint_frame s g number
 based_frame s g None = lone_frame s g.nodes
 
 abbrev pub frame_of : Sketch → Graph → Plan → Frame

@@ -1,5 +1,5 @@
 -- The turn that takes one direction to another, as two whole numbers of 30 to 31 binary digits.
-use Rattle.std.specs.Prelude.{ℕ, ℤ, pos, neg_ℤ, ◌-◌, ◌*ℤ◌, ◌^◌, ◌/◌, ◌<◌, max, unsigned_abs, int_lt, ◌&&◌, if◌then◌else◌}
+use Rattle.std.specs.Prelude.{ℕ, ℤ, pos, neg_ℤ, ◌-◌, ◌*ℤ◌, ◌^◌, ◌/◌, max, unsigned_abs, int_lt, ◌&&◌, if◌then◌else◌}
 use Rattle.std.specs.Int.{leading_zeros, w128}
 use Rattle.std.specs.Ordering.{int_eq}
 use Rattle.sk_orient.specs.declared.Vector.{Vector}

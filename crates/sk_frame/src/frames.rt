@@ -1,5 +1,5 @@
 // Where the frame of the base lies.
-ghost use Rattle.std.specs.Prelude.{◌≡◌, Some};
+ghost use Rattle.std.specs.Prelude.{◌≡◌};
 ghost use Rattle.sk_base.specs.Bounds.{IsWithin};
 ghost use Rattle.sk_base.specs.Pins.{IsOnSheet, AreSoundPins};
 ghost use Rattle.sk_base.specs.SoundGraph.{IsSoundGraph};
@@ -8,7 +8,7 @@ ghost use Rattle.sk_graph.specs.SketchGraph.{drawn_as};
 ghost use Rattle.sk_orient.specs.DrawnSigns.{IsOnPaper};
 ghost use Rattle.sk_orient.specs.Vectors.{IsShort, way};
 ghost use Rattle.sk_steps.specs.Leaves.{by_sign, IsSoundMeasure};
-ghost use Rattle.sk_frame.specs.Frames.{frame_from, still, measured_frame, edge_frame, given_place, drawn_place, block_frame, lone_frame, constraint_frame, based_frame, frame_of, IsSoundFrame};
+ghost use Rattle.sk_frame.specs.Frames.{frame_from, still, measured_frame, edge_frame, given_place, drawn_place, block_frame, lone_frame, constraint_frame, frame_of, IsSoundFrame};
 ghost use Rattle.sk_frame.specs.TurnBounds.{IsSomewhere};
 ghost use Rattle.sk_frame.specs.Turns.{origin, forward};
 
@@ -45,7 +45,7 @@ pub fn frame_of(s: &Sketch, g: &Graph, p: &Plan) -> Frame
 fn constraint_frame(s: &Sketch, g: &Graph, number: ConId) -> Frame
     requires sketch { IsSoundSketch s.now }
     requires graph { IsSoundGraph g.now }
-    ensures value { result ≡ based_frame s.now g.now (Some number) }
+    ensures value { result ≡ constraint_frame s.now g.now number }
     ensures sound { IsSoundFrame result }
 {
     if let Some(edge) = g.edge(number) {

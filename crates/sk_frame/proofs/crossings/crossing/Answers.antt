@@ -4,7 +4,8 @@ use Rattle.std.proofs.lemmas.Int.{ints}
 use Rattle.sk_base.specs.Bounds.{IsWithin}
 use Rattle.sk_orient.specs.declared.Vector.{Vector}
 use Rattle.sk_orient.specs.Vectors.{way, cross}
-use Rattle.sk_orient.proofs.Products.{way_short, cross_within, fits}
+use Rattle.sk_base.proofs.Magnitudes.{fits}
+use Rattle.sk_orient.proofs.Products.{way_short, cross_within}
 use Rattle.sk_frame.specs.Crossings.{crossing_at, crossing}
 use Rattle.sk_frame.proofs.crossings.crossing.Goals as goal
 

@@ -1,5 +1,6 @@
 use Rattle.std.proofs.Common.{sym}
-use Rattle.sk_frame.proofs.Edges.{edge_measured, block_pins}
+use Rattle.sk_steps.proofs.SoundMeasures.{edge_measured}
+use Rattle.sk_frame.proofs.Edges.{block_pins}
 use Rattle.sk_frame.proofs.frames.constraint_frame.Goals as goal
 
 pub edge_frame-requires-clause-measure : goal.edge_frame-requires-clause-measure

@@ -1,7 +1,8 @@
 use Rattle.std.proofs.Common.{FitsSigned, arith, to_z-of_z}
 use Rattle.std.specs.Int.{w128}
 use Rattle.sk_orient.specs.Vectors.{cross, dot}
-use Rattle.sk_orient.proofs.Products.{cross_within, dot_within, fits}
+use Rattle.sk_base.proofs.Magnitudes.{fits}
+use Rattle.sk_orient.proofs.Products.{cross_within, dot_within}
 use Rattle.sk_frame.proofs.Turning.{turn_somewhere}
 use Rattle.sk_frame.proofs.scaling.turn_between.Goals as goal
 

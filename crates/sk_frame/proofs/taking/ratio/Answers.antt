@@ -1,4 +1,4 @@
-use Rattle.std.proofs.Common.{◌≡◌, ℕ, ℤ, pos, unsigned_abs, FitsSigned, Ok, refl, ◌∙◌, arith, to_z-of_z}
+use Rattle.std.proofs.Common.{◌≡◌, ℕ, pos, FitsSigned, Ok, refl, ◌∙◌, arith, to_z-of_z}
 use Rattle.std.specs.Int.{w64, w128}
 use Rattle.std.proofs.lemmas.Int.{ints}
 use Rattle.sk_interval.specs.Operations.{whole}

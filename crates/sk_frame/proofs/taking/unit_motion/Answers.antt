@@ -1,4 +1,4 @@
-use Rattle.std.proofs.Common.{Err, sym, ap, ◌∙◌}
+use Rattle.std.proofs.Common.{sym, ap, ◌∙◌}
 use Rattle.sk_motion.specs.Settling.{settled_motion}
 use Rattle.sk_frame.proofs.FrameTurns.{never}
 use Rattle.sk_frame.proofs.taking.unit_motion.Goals as goal
