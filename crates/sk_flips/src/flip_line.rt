@@ -11,7 +11,7 @@ ghost use Rattle.sk_flips.specs.FlipReading.{among, AddsWords, Adds, IsNameRefus
 
 use sk_base::{List, Name};
 use sk_lex::Word;
-use sk_lines::{Code, EntryError, LineReader, is_word, name_of, split_words, word};
+use sk_lines::{Code, EntryError, LineReader, check_end, is_word, name_of, split_words, word};
 use std::alloc::Global;
 
 /// The most lines of flips.
@@ -70,16 +70,10 @@ fn after_words(
         (AddsWords so_far ws)
         (IsRefusal (first_code (word_rows so_far ws))) }
 {
-    let first = word(line, words, 0);
-    if is_word(first, "flip") {
+    if is_word(word(line, words, 0), "flip") {
         return with_flip(alloc, flips, line, words);
     }
-    if !is_word(first, "end") {
-        return Err(EntryError::Refused(Code::E2));
-    }
-    if words.len() != 1 {
-        return Err(EntryError::Refused(Code::E3));
-    }
+    check_end(line, words).map_err(EntryError::Refused)?;
     Ok(SoFar {
         place: Place::Past,
         flips,

@@ -12,3 +12,8 @@ abbrev pub end_rows : List ℕ → List (List ℕ) → List (Bool × Code)
 end_rows first rest =
     (not (bytes_eq first (codes "end")), E2) ∷
     (not (is_none_left rest), E3) ∷ []
+
+-- the same by all words of the line
+abbrev pub ending_rows : List (List ℕ) → List (Bool × Code)
+ending_rows [] = []
+ending_rows (first ∷ rest) = end_rows first rest

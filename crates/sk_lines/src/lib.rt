@@ -16,7 +16,7 @@ pub use code::{Code, ReadError, Refusal};
 pub use error::EntryError;
 pub use keyword::{Keyword, keyword_of};
 pub use law::quantities_are_sound;
-pub use lines::{bytes_at, is_word, split_line, split_words, word, words_under};
+pub use lines::{bytes_at, check_end, is_word, split_line, split_words, word, words_under};
 pub use ratio::angle_ratio;
 pub use reading::{LineReader, read_lines};
 pub use version::Version;

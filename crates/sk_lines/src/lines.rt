@@ -1,11 +1,12 @@
 // The lines of a text, and the words of a line.
-ghost use Rattle.std.specs.Prelude.{◌≡◌, ◌<◌, ◌≤◌, [], ◌∷◌, length, map, position, bytes_eq, None, IfSome, IfOk, IfErr};
+ghost use Rattle.std.specs.Prelude.{◌≡◌, ◌<◌, ◌≤◌, [], ◌∷◌, length, map, position, bytes_eq, None, Some, IfSome, IfOk, IfErr, MatchResult};
 ghost use Rattle.std.specs.List.{slice_index_or, slice_range};
 ghost use Rattle.std.specs.Str.Lines.{strip_carriage_return};
 ghost use Rattle.sk_lex.specs.Words.{bytes_of, words_in, StandInOrder};
 ghost use Rattle.sk_lines.specs.Comments.{words_under};
 ghost use Rattle.sk_lines.specs.Lines.{is_line_feed, lines_in, IsFirstLine};
 ghost use Rattle.sk_lines.specs.ByteCodes.{byte_rows};
+ghost use Rattle.sk_lines.specs.EndLine.{ending_rows};
 ghost use Rattle.sk_lines.specs.FirstCode.{first_code};
 ghost use Rattle.sk_lines.specs.Refusals.{IsRefusal};
 
@@ -103,4 +104,21 @@ pub fn is_word(word: &[u8], text: &str) -> bool
     ensures { result ≡ bytes_eq word.now text.now }
 {
     word == text.as_bytes()
+}
+
+/// Tells that the words are `end` alone: else E2 where another word is the first, and E3 where more follow.
+pub fn check_end(line: &[u8], words: &[Word]) -> Result<(), Code>
+    requires some { 0 < length words.now }
+    requires order { StandInOrder 0 words.now (length line.now) }
+    ensures { let ws = map (bytes_of line.now) words.now in MatchResult result
+        (λ _. first_code (ending_rows ws) ≡ None)
+        (λ code. first_code (ending_rows ws) ≡ Some code) }
+{
+    if !is_word(word(line, words, 0), "end") {
+        return Err(Code::E2);
+    }
+    if words.len() != 1 {
+        return Err(Code::E3);
+    }
+    Ok(())
 }

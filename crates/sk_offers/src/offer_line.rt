@@ -10,7 +10,9 @@ ghost use Rattle.sk_offers.specs.declared.offer_line.Place.TheVariants.{Among};
 
 use sk_base::List;
 use sk_lex::Word;
-use sk_lines::{Code, EntryError, LineReader, is_word, name_of, plain_number, split_words, word};
+use sk_lines::{
+    Code, EntryError, LineReader, check_end, is_word, name_of, plain_number, split_words, word,
+};
 use sk_rules::Merge;
 use std::alloc::Global;
 
@@ -69,16 +71,10 @@ fn after_words(offers: List<OfferLine>, line: &[u8], words: &[Word]) -> Result<S
         (AddsWords (record { place = Among; offers = offers }) ws)
         (IsRefusal (first_code (word_rows Among ws))) }
 {
-    let first = word(line, words, 0);
-    if is_word(first, "offer") {
+    if is_word(word(line, words, 0), "offer") {
         return with_offer(offers, line, words);
     }
-    if !is_word(first, "end") {
-        return Err(EntryError::Refused(Code::E2));
-    }
-    if words.len() != 1 {
-        return Err(EntryError::Refused(Code::E3));
-    }
+    check_end(line, words).map_err(EntryError::Refused)?;
     Ok(SoFar {
         place: Place::Past,
         offers,
