@@ -1,0 +1,59 @@
+-- What is heard of an input that comes piece by piece.
+use Rattle.std.specs.Prelude.{◌≡◌, ◌≤◌, ◌<◌, ℕ, false, List, [], ◌∷◌, ◌++◌, length, take, All, Option}
+use Rattle.std.specs.Io.KnownBytes.{Appends, Consumes}
+use Rattle.sk_io.specs.Transfer.{AppendsFront}
+use Rattle.sk_lines.specs.Lines.{is_line_feed, lines_in, EndsLine}
+use Rattle.sk_turns.specs.declared.ending.TurnEnd.{TurnEnd}
+use Rattle.sk_turns.specs.declared.ending.TurnEnd.TheVariants.{Done, WriteFault, NoMemory}
+use Rattle.sk_turns.specs.Answering.{AreAnswered, Ends, IsTold}
+
+-- what is kept of the line that is being heard, and how many bytes were taken
+pub record Heard : Type 0 where
+  pub kept : List ℕ
+  pub taken : ℕ
+
+-- These bytes were taken. They are whole lines, all of them answered, this being the text of the replies, and the front of one more
+-- line, of which so much is kept as tells whether it is too long.
+pub record HasHeard {X : Type 0} (replies : X → List ℕ → X → List ℕ → Type 0) (first : X) (taken kept : List ℕ) (now : X) (text : List ℕ) : Type 0 where
+  pub lines : List ℕ
+  pub line : List ℕ
+  pub cut : taken ≡ lines ++ line
+  pub whole : EndsLine lines
+  pub solid : All (λ b. is_line_feed b ≡ false) line
+  pub kept_is : kept ≡ take 202 line
+  pub answered : AreAnswered replies first (lines_in lines) now text
+
+-- whatever was taken before, with these bytes behind it all lines that end are answered, their replies being what the sink gained
+abbrev pub GoesOn : {X : Type 0} → (X → List ℕ → X → List ℕ → Type 0) → List ℕ → X → Option (List ℕ) → List ℕ → X → Option (List ℕ) → List ℕ → Type 0
+GoesOn {X = X} replies kept old before kept_now new now bytes =
+    (first : X) (taken text : List ℕ) → HasHeard replies first taken kept old text
+    → (more : List ℕ) × Appends before now more × HasHeard replies first (taken ++ bytes) kept_now new (text ++ more)
+
+-- whatever was taken before, not more than there may be with these bytes behind it, this is how it ends, however the input goes on
+abbrev pub EndsHeard : {X : Type 0} → (X → List ℕ → X → List ℕ → Type 0) → (X → List ℕ → Type 0) → List ℕ → X → Option (List ℕ) → Option (List ℕ) → List ℕ → TurnEnd → Type 0
+EndsHeard {X = X} replies ends kept old before now bytes end =
+    (first : X) (taken text rest : List ℕ) → HasHeard replies first taken kept old text → length (taken ++ bytes) ≤ 4294967295
+    → (more : List ℕ) × Appends before now more × Ends replies ends first (taken ++ (bytes ++ rest)) end (text ++ more)
+
+-- a front that isn't empty was taken off
+pub record IsLeft (bytes front after : List ℕ) : Type 0 where
+  pub cut : bytes ≡ front ++ after
+  pub some : 0 < length front
+
+-- the bytes in front of the first line feed, and those behind it
+pub record IsCut (bytes front after : List ℕ) : Type 0 where
+  pub cut : bytes ≡ (front ++ 10 ∷ []) ++ after
+  pub solid : All (λ b. is_line_feed b ≡ false) front
+
+-- how it stops at a line
+abbrev pub Stops : {X : Type 0} → (X → List ℕ → X → List ℕ → Type 0) → (X → List ℕ → Type 0) → X → List ℕ → Option (List ℕ) → Option (List ℕ) → TurnEnd → Type 0
+Stops replies ends old line before now Done = ends old line × Appends before now []
+Stops replies ends old line before now NoMemory = Appends before now []
+Stops {X = X} replies ends old line before now WriteFault = (new : X) × (text : List ℕ) × replies old line new text × AppendsFront before now text
+Stops replies ends old line before now end = ⊥
+
+-- a piece was taken off, and whatever was taken before, this is how it ends
+abbrev pub EndsTurn : {X : Type 0} → (X → List ℕ → X → List ℕ → Type 0) → (X → List ℕ → Type 0) → X → List ℕ → List ℕ → Option (List ℕ) → Option (List ℕ) → Option (List ℕ) → Option (List ℕ) → TurnEnd → Type 0
+EndsTurn replies ends first taken text left behind before now end =
+    (piece : List ℕ) × (rest : List ℕ) × (more : List ℕ) × Consumes left behind piece × IsTold behind rest × Appends before now more
+    × Ends replies ends first (taken ++ (piece ++ rest)) end (text ++ more)

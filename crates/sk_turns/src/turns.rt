@@ -1,0 +1,61 @@
+// A turn.
+ghost use Rattle.std.specs.Prelude.{◌≡◌, ◌<◌, ◌≤◌, ◌+◌, ℕ, List, length, OnOk, IfErr, IsOk, IsErrOf};
+ghost use Rattle.std.specs.Io.KnownBytes.{Consumes};
+ghost use Rattle.sk_io.specs.Causes.{AnswersFault};
+ghost use Rattle.sk_io.specs.Transfer.{TakesAtMost};
+ghost use Rattle.sk_turns.specs.Heard.{HasHeard, GoesOn, EndsTurn};
+
+use crate::ending::TurnEnd;
+use crate::hearing::Hearing;
+use crate::replier::Replier;
+use sk_io::{Sink, Source};
+
+/// The most bytes of one read.
+const PIECE: usize = 4096;
+
+/// Takes a piece of the source, and answers each line that ends in it: when it returns, the replies to all lines that have come to
+/// their end so far are in the sink, and flushed. Where it goes on it took a byte at least; else it says how it ended, and what the
+/// sink gained from the first turn on is what its end says of the whole input. The input has at most 4,294,967,295 bytes.
+pub fn turn<R: Replier, S: Source, K: Sink>(
+    hearing: &mut Hearing,
+    replier: &mut R,
+    source: &mut S,
+    sink: &mut K,
+) -> Result<(), TurnEnd>
+    ensures goes_on { OnOk result ((piece : List ℕ) × (0 < length piece) × Consumes (S.left source.old) (S.left source.new) piece
+        × (hearing.new.taken ≡ hearing.old.taken + length piece)
+        × GoesOn R.replies hearing.old.kept replier.old (K.written sink.old) hearing.new.kept replier.new (K.written sink.new) piece) }
+    ensures ended { IfErr result (λ end. (first : R) (taken text : List ℕ) → HasHeard R.replies first taken hearing.old.kept replier.old text → hearing.old.taken ≡ length taken
+        → EndsTurn R.replies R.ends first taken text (S.left source.old) (S.left source.new) (K.written sink.old) (K.written sink.new) end) }
+    ensures few { TakesAtMost 4096 (S.left source.old) (S.left source.new) }
+    ensures flushed { IsOk result → K.is_flushed sink.old → K.is_flushed sink.new }
+    ensures read_fault { AnswersFault (IsErrOf result TurnEnd.ReadFault) (S.faults source.old) (S.faults source.new) }
+    ensures write_fault { AnswersFault (IsErrOf result TurnEnd.WriteFault) (K.faults sink.old) (K.faults sink.new) }
+    ensures sure_source { S.is_sure source.old
+        → S.is_sure source.new × (S.faults source.new ≡ S.faults source.old) × (IsErrOf result TurnEnd.ReadFault → ⊥) }
+{
+    let mut piece = [0u8; PIECE];
+    let left = u32::MAX - hearing.taken();
+    let taken = &mut piece[..room(left)];
+    let count = match source.read(taken) {
+        Ok(count) => count,
+        Err(_) => return Err(TurnEnd::ReadFault),
+    };
+    if count == 0 {
+        return Err(hearing.finish(replier, sink));
+    }
+    if left == 0 {
+        return Err(TurnEnd::TooLong);
+    }
+    hearing.count(count as u32);
+    hearing.hear(replier, &taken[..count], sink)
+}
+
+/// How many bytes are asked for where so many may still be taken: one more than none, to see whether there is more.
+fn room(left: u32) -> usize
+    ensures some { 0 < result }
+    ensures most { result ≤ 4096 }
+    ensures within { 0 < left → result ≤ left }
+{
+    PIECE.min(left as usize).max(1)
+}
