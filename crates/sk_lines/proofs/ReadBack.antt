@@ -4,6 +4,7 @@ use Rattle.std.specs.List.{slice_split, All, AllByRecursion}
 use Rattle.std.specs.Str.Lines.{strip_carriage_return}
 use Rattle.std.proofs.lemmas.List.Splits.{slice_split_at, slice_split_none, length-slice_split}
 use Rattle.sk_lex.specs.Words.{is_blank, is_empty, words_in}
+use Rattle.sk_lines.proofs.LineByLine.{without_end-cons}
 use Rattle.sk_lines.specs.Lines.{is_line_feed, without_empty_end, lines_in, ended_lines}
 use Rattle.sk_base.specs.Spelling.{spaced}
 
@@ -23,10 +24,6 @@ pub record IsLine (line : List ℕ) : Type 0 where
   pub solid : All (λ b. is_line_feed b ≡ false) line
   pub plain : strip_carriage_return line ≡ line
 
-without_end_lines : (line : List ℕ) (parts : List (List ℕ)) → 0 < length parts → without_empty_end (line ∷ parts) ≡ line ∷ without_empty_end parts
-without_end_lines line [] more = absurd (omega arith)
-without_end_lines line (next ∷ parts) more = refl
-
 -- lines with a line feed each are those lines
 pub lines_in-ended : (lines : List (List ℕ)) → AllByRecursion IsLine lines → lines_in (ended_lines lines) ≡ lines
 lines_in-ended [] all = refl
@@ -36,5 +33,5 @@ lines_in-ended (line ∷ lines) all =
     let more : 0 < length parts = omega (arith, length-slice_split is_line_feed rest) in
     let text : ended_lines (line ∷ lines) ≡ line ++ 10 ∷ rest = append_assoc line (10 ∷ []) rest in
     let split = slice_split_at is_line_feed line 10 rest all.0.solid refl in
-    let ends = ap without_empty_end split ∙ without_end_lines line parts more in
+    let ends = ap without_empty_end split ∙ without_end-cons line parts more in
     ap lines_in text ∙ ap (map strip_carriage_return) ends ∙ ap (λ first. first ∷ lines_in rest) all.0.plain ∙ ap (λ ls. line ∷ ls) (lines_in-ended lines all.1)

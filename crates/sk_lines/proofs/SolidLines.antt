@@ -9,7 +9,7 @@ use Rattle.std.proofs.lemmas.Fmt.{decimal_is_IsNumeral, length-decimal-le}
 use Rattle.std.proofs.lemmas.List.Elements.{All-from_recursion}
 use Rattle.sk_base.specs.Labels.{is_name, is_name_byte}
 use Rattle.sk_base.specs.Spelling.{spaced}
-use Rattle.sk_base.proofs.Decimals.{both}
+use Rattle.std.proofs.lemmas.Bool.{and_parts}
 use Rattle.sk_lex.specs.Words.{is_too_long, is_text_byte, has_wrong_byte, is_blank, is_empty, words_in}
 use Rattle.sk_lines.specs.declared.version.Version.{Version}
 use Rattle.sk_lines.specs.declared.version.Version.TheVariants.{One, Two}
@@ -28,7 +28,7 @@ AreSolid (b ∷ bytes) = (is_solid b ≡ true) × AreSolid bytes
 
 solid_all : (bytes : List ℕ) → list_all is_solid bytes ≡ true → AreSolid bytes
 solid_all [] is = tt
-solid_all (b ∷ bytes) is = let parts = both (is_solid b) (list_all is_solid bytes) is in (parts.0, solid_all bytes parts.1)
+solid_all (b ∷ bytes) is = let parts = and_parts (is_solid b) (list_all is_solid bytes) is in (parts.0, solid_all bytes parts.1)
 
 pub solid_append : (xs ys : List ℕ) → AreSolid xs → AreSolid ys → AreSolid (xs ++ ys)
 solid_append [] ys p q = q
@@ -49,7 +49,7 @@ letter_solid b is = grind (arith, nat_tests)
 
 name_bytes_solid : (bytes : List ℕ) → list_all is_name_byte bytes ≡ true → AreSolid bytes
 name_bytes_solid [] is = tt
-name_bytes_solid (b ∷ bytes) is = let parts = both (is_name_byte b) (list_all is_name_byte bytes) is in (name_byte_solid b parts.0, name_bytes_solid bytes parts.1)
+name_bytes_solid (b ∷ bytes) is = let parts = and_parts (is_name_byte b) (list_all is_name_byte bytes) is in (name_byte_solid b parts.0, name_bytes_solid bytes parts.1)
 
 -- at least one byte and at most so many, none of them a blank
 pub record IsSpelled (word : List ℕ) (most : ℕ) : Type 0 where
@@ -63,8 +63,8 @@ literal word most some few is = record { some = some; few = few; solid = solid_a
 pub name_spelled : (name : List ℕ) → IsTrue (is_name name) → IsSpelled name 16
 name_spelled [] is = cc
 name_spelled (first ∷ rest) is =
-    let outer = both (is_ascii_alphabetic first && nat_le (length rest) 15) (list_all is_name_byte rest) is in
-    let inner = both (is_ascii_alphabetic first) (nat_le (length rest) 15) outer.0 in
+    let outer = and_parts (is_ascii_alphabetic first && nat_le (length rest) 15) (list_all is_name_byte rest) is in
+    let inner = and_parts (is_ascii_alphabetic first) (nat_le (length rest) 15) outer.0 in
     let short = inner.1 in
     let few : length rest ≤ 15 = grind (arith, nat_tests) in
     record { some = omega arith; few = omega arith; solid = (letter_solid first inner.0, name_bytes_solid rest outer.1) }
@@ -198,7 +198,7 @@ words_in_line line words is = is.words_are One
 
 plain_all : (bytes : List ℕ) → list_all is_plain bytes ≡ true → ArePlain bytes
 plain_all [] is = tt
-plain_all (b ∷ bytes) is = let parts = both (is_plain b) (list_all is_plain bytes) is in (parts.0, plain_all bytes parts.1)
+plain_all (b ∷ bytes) is = let parts = and_parts (is_plain b) (list_all is_plain bytes) is in (parts.0, plain_all bytes parts.1)
 
 pub plain_text : (bytes : List ℕ) → list_all is_plain bytes ≡ true → IsLine bytes
 plain_text bytes is = plain_line bytes (plain_all bytes is)

@@ -21,7 +21,7 @@ use Rattle.sk_family.proofs.GraphStarts.{found_start}
 use Rattle.sk_rules.specs.Reach.{Reach, IsClosed, IsNormal}
 use Rattle.sk_rules.specs.Keeping.{IsReached, IsOwned, CarriesOver, Completes}
 use Rattle.sk_rules.specs.Excess.{weight, weight_of, is_owned, AreConstraints}
-use Rattle.sk_rules.proofs.Counting.{IsTight, reached_tight}
+use Rattle.sk_rules.proofs.Counting.{HasEnough, IsTight, reached_tight}
 use Rattle.sk_rules.proofs.Keeping.{contains_settles, kept_is_reached}
 use Rattle.sk_rules.proofs.KeptClusters.{reached_as_it_is}
 use Rattle.sk_rules.proofs.KeptFamily.{each_owned}
@@ -40,7 +40,7 @@ use Rattle.sk_spare.proofs.Lighter.{weighs_something}
 use Rattle.sk_spare.proofs.Deciding.{owned_constraints, owner_in, one_decides, not_told, found_nothing}
 use Rattle.sk_spare.proofs.Holding.{test_tells}
 use Rattle.sk_rules.proofs.SomeClosed.{some_closed}
-use Rattle.sk_spare.proofs.Budget.{left_over, HasEnough, HaveEnough, made_along}
+use Rattle.sk_spare.proofs.Budget.{left_over, HaveEnough, made_along}
 
 -- what a body weighs as a constraint between all its elements
 abbrev pub body_weight : Body → ℕ

@@ -8,11 +8,9 @@ use Rattle.sk_base.specs.declared.Node.{Node}
 use Rattle.sk_base.specs.declared.Edge.{Edge}
 use Rattle.sk_base.specs.declared.Pin.{Pin}
 use Rattle.sk_base.specs.declared.Graph.{Graph}
-use Rattle.sk_base.proofs.Members.{contains_none, contains_head, contains_one, contains_mapped, mapped_from, contains_cases}
+use Rattle.sk_base.proofs.Members.{contains_head, contains_one, contains_mapped, mapped_from, contains_cases}
 use Rattle.sk_family.specs.declared.Cluster.{Cluster}
 use Rattle.sk_base.proofs.Splits.{pairs_across}
-use Rattle.sk_base.specs.Numbering.{elem_number}
-use Rattle.sk_base.proofs.Unions.{union_cases}
 use Rattle.sk_base.specs.Pins.{elements_of}
 use Rattle.sk_family.specs.Body.{Start, starts}
 use Rattle.sk_family.proofs.GraphStarts.{start_comes, from_start}

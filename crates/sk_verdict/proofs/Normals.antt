@@ -1,7 +1,6 @@
 -- What a normal family of a sound graph tells of its clusters.
-use Rattle.std.proofs.Common.{◌≡◌, ◌≢◌, ℕ, ◌+◌, ◌-◌, ◌*◌, ◌≤◌, List, [], ◌∷◌, length, get_or, ap, sym, subst, ◌∙◌, arith}
+use Rattle.std.proofs.Common.{◌≡◌, ◌≢◌, ℕ, ◌+◌, ◌-◌, ◌*◌, ◌≤◌, List, [], ◌∷◌, length, ap, sym, subst, ◌∙◌, arith}
 use Rattle.std.specs.Prelude.{Contains, AllPairs}
-use Rattle.std.proofs.lemmas.List.Elements.{Contains-get_or}
 use Rattle.sk_base.specs.declared.Elem.{Elem}
 use Rattle.sk_base.specs.declared.Graph.{Graph}
 use Rattle.sk_base.specs.SoundGraph.{IsSoundGraph}
@@ -9,10 +8,10 @@ use Rattle.sk_base.proofs.Members.{contains_one, contains_mapped}
 use Rattle.sk_family.specs.declared.Cluster.{Cluster}
 use Rattle.sk_family.specs.Body.{Body}
 use Rattle.sk_family.specs.Clusters.{Clusters, body_of, bodies, IsSound}
-use Rattle.sk_family.proofs.Naming.{below_differs, one_of_body}
+use Rattle.sk_family.proofs.Naming.{elements_apart}
 use Rattle.sk_rules.specs.Excess.{weight_of, held, AreConstraints}
 use Rattle.sk_rules.specs.Reach.{IsNormal}
-use Rattle.sk_rules.proofs.NormalForm.{one_of_two}
+use Rattle.sk_rules.proofs.NormalForm.{one_of_elements}
 use Rattle.sk_rules.proofs.Counting.{reached_tight, owned_is_held}
 use Rattle.sk_rules.proofs.KeptClusters.{owned_are_few}
 use Rattle.sk_rules.proofs.WeighedGraphs.{sound_two_each}
@@ -43,30 +42,12 @@ module _ (g : Graph) (f : List Body) (sound : IsSoundGraph g) (normal : IsNormal
 
   -- no other one has the same elements
   pub same_elements : (x y : Body) → Contains f x → Contains f y → x.elements ≡ y.elements → x ≡ y
-  same_elements x y x_in y_in same =
-      let (u, v, differ, u_in, v_in) = has_two x x_in in
-      one_of_two g f normal.closed x y x_in y_in (
-        u,
-        v,
-        record {
-          differ = differ;
-          a_shared = (u_in, subst (λ es. Contains es u) same u_in);
-          b_shared = (v_in, subst (λ es. Contains es v) same v_in);
-        },
-      )
+  same_elements x y x_in y_in = one_of_elements g f normal.closed x y x_in y_in (has_two x x_in)
 
 module _ (g : Graph) (f : Clusters) (sound : IsSoundGraph g) (normal : IsNormal g (bodies f)) (family : IsSound f) where
   -- no two clusters have the same elements
   pub elements_differ : AllPairs (λ (c d : Cluster). c.elements ≢ d.elements) f.live
-  elements_differ i j z i_j j_in same =
-      let c = get_or f.live i z in
-      let d = get_or f.live j z in
-      let c_in : Contains f.live c = Contains-get_or f.live i z (omega arith) in
-      let d_in : Contains f.live d = Contains-get_or f.live j z j_in in
-      let bodies_same : body_of c ≡ body_of d = same_elements g (bodies f) sound normal (body_of c) (body_of d)
-      (contains_mapped body_of f.live c c_in) (contains_mapped body_of f.live d d_in) same in
-      let is : c ≡ d = one_of_body f family c d c_in d_in bodies_same in
-      below_differs c.name d.name (family.names_rise i j z i_j j_in) (ap (λ (b : Cluster). b.name) is)
+  elements_differ = elements_apart f family (same_elements g (bodies f) sound normal)
 
   module _ (c : Cluster) (c_in : Contains f.live c) where
     body_in : Contains (bodies f) (body_of c)

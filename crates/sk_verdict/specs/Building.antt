@@ -1,5 +1,5 @@
 -- Parts that are put together one by one.
-use Rattle.std.specs.Prelude.{◌≡◌, ◌≢◌, ◌↔◌, ◌⊎◌, ◌*◌, ◌-◌, ◌≤◌, length, List, [], ◌∷◌, map, Contains}
+use Rattle.std.specs.Prelude.{◌≡◌, ◌≢◌, ◌↔◌, ◌⊎◌, ◌*◌, ◌-◌, length, List, [], ◌∷◌, map, Contains}
 use Rattle.sk_base.specs.declared.Elem.{Elem}
 use Rattle.sk_base.specs.declared.Node.{Node}
 use Rattle.sk_base.specs.declared.Graph.{Graph}
