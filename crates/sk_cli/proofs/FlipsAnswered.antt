@@ -59,10 +59,9 @@ module _ (request : Request) (s : Sketch) (text : List ℕ) (sound : IsSoundSket
         at,
         tol,
         is,
-        (placed.well, placed.plan),
+        placed.plan,
         found,
         record {
-          well = placed.well;
           plan = p;
           by = placed.plan;
           found = Found at tol ∷ [];

@@ -1,6 +1,6 @@
 -- Words and an input have one outcome at most.
-use Rattle.std.proofs.Common.{◌≡◌, ◌⊎◌, inl, inr, ℕ, ◌+◌, ◌<◌, ◌≤◌, List, [], ◌∷◌, ◌++◌, length, refl, sym, ap, ◌∙◌, subst, Option, arith}
-use Rattle.std.specs.Prelude.{All, map, take, drop}
+use Rattle.std.proofs.Common.{◌≡◌, ◌⊎◌, inl, inr, ℕ, ◌+◌, ◌<◌, ◌≤◌, List, [], ◌∷◌, ◌++◌, length, refl, sym, ap, ◌∙◌, subst, arith}
+use Rattle.std.specs.Prelude.{take, drop}
 use Rattle.sk_base.specs.declared.ConId.{ConId}
 use Rattle.sk_base.specs.declared.Name.{Name}
 use Rattle.sk_base.specs.declared.Sketch.{Sketch}
@@ -10,11 +10,6 @@ use Rattle.sk_lines.specs.declared.Code.{Code}
 use Rattle.sk_lines.specs.declared.Code.TheVariants.{E20}
 use Rattle.sk_lines.specs.declared.Refusal.{Refusal}
 use Rattle.sk_lang.specs.Reading.{Reads, Refuses}
-use Rattle.sk_place.specs.declared.FrameBy.{FrameBy}
-use Rattle.sk_place.specs.declared.FrameBy.TheVariants.{Base}
-use Rattle.sk_place.specs.declared.Layout.{Layout}
-use Rattle.sk_place.specs.declared.PlaceBy.{PlaceBy}
-use Rattle.sk_place.specs.declared.PlaceBy.TheVariants.{Boxes}
 use Rattle.sk_report.specs.CheckReport.{part_line, parts_head, check_report}
 use Rattle.sk_report.specs.RefusalLine.{refusal_line}
 use Rattle.sk_graph.specs.SketchGraph.{graph_of}
@@ -24,14 +19,11 @@ use Rattle.sk_verdict.specs.declared.Verdict.TheVariants.{Well}
 use Rattle.sk_base.specs.SoundSketch.{IsSoundSketch}
 use Rattle.sk_base.specs.SoundGraph.{IsSoundGraph}
 use Rattle.sk_graph.proofs.Soundness.{graph_is_sound}
-use Rattle.sk_family.specs.Clusters.{Clusters, IsSound, bodies, initial_clusters}
-use Rattle.sk_rules.specs.declared.Merge.{Merge}
-use Rattle.sk_worklist.specs.Orders.{Choosing, place_of, next_call}
-use Rattle.sk_worklist.specs.Run.{IsRun}
+use Rattle.sk_family.specs.Clusters.{Clusters, IsSound, bodies}
 use Rattle.sk_tree.specs.declared.Plan.{Plan as ThePlan}
-use Rattle.sk_tree.specs.LegalPlan.{IsLegalPlan, merge_told}
-use Rattle.sk_tree.specs.DrawnChoice.{HasDrawnChoice}
 use Rattle.sk_plan.specs.Judged.{IsTheJudgement, IsWell}
+use Rattle.sk_plan.specs.PlanBy.{IsPlanBy}
+use Rattle.sk_plan.proofs.OnePlan.{one_plan_by}
 use Rattle.sk_report.specs.PlanReport.{plan_report}
 use Rattle.sk_spare.specs.Sparing.{AreSpares}
 use Rattle.sk_spare.specs.SpareReport.{spare_report}
@@ -61,7 +53,6 @@ use Rattle.sk_verify.proofs.Answering.{not_both as not_both_failing, one_failure
 use Rattle.sk_claims.proofs.ClaimSoFar.{one_claim, one_refusal as one_claim_refusal, not_both as not_both_claims}
 use Rattle.sk_cli.specs.VerifyAnswer.{HasClaim, IsVerified, IsNotVerified, RefusesClaimBehind, IsVerifyRefusal, IsVerifyAnswer}
 use Rattle.sk_worklist.specs.declared.Order.{Order}
-use Rattle.sk_worklist.specs.declared.Order.TheVariants.{First}
 use Rattle.sk_cli.specs.declared.accounts.Account.{Account}
 use Rattle.sk_cli.specs.declared.accounts.Account.TheVariants.{Judged, Spares, Derived, Migrated, Shapes}
 use Rattle.sk_request.specs.declared.Command.{Command}
@@ -69,13 +60,10 @@ use Rattle.sk_request.specs.declared.Command.TheVariants.{Check, Plan, Solve, Dx
 use Rattle.sk_request.specs.declared.Request.{Request}
 use Rattle.sk_cli.specs.declared.status.Status.{Status}
 use Rattle.sk_cli.specs.declared.status.Status.TheVariants.{Done, Refused, NotWell, NotVerified}
-use Rattle.sk_request.specs.declared.Bits.{Bits}
-use Rattle.sk_request.specs.declared.Bits.TheVariants.{ThirtyEight}
 use Rattle.sk_cli.specs.declared.solving.Report.{Report}
 use Rattle.sk_cli.specs.declared.solving.Report.TheVariants.{Places, Drawing, Sums, Shape}
 use Rattle.sk_request.proofs.Sizes.{HasFitSize, size_fits, some_injective}
 use Rattle.sk_gen.specs.DatumSketch.{datum_sketch}
-use Rattle.sk_request.specs.Asking.{OrderKey, BitsKey, WithinKey, PlaceKey, FrameKey, SizeKey, values_of, IsOrder, IsBits, IsLimit, IsPlace, IsFrame, IsSize, Asks}
 use Rattle.sk_cli.specs.Accounts.{IsAccount}
 use Rattle.sk_cli.specs.PartsReport.{IsShape, IsBelowPart, ArePartsTold}
 use Rattle.sk_parts.specs.OwnSketch.{part_sketch}
@@ -87,7 +75,7 @@ use Rattle.sk_request.proofs.OneRequest.{same_request}
 use Rattle.sk_flips.proofs.OnePlacement.{same_placement, same_alternatives}
 use Rattle.sk_flips.proofs.FlipsSoFar.{same_flips, same_refusal as one_flips_refusal, read_or_refused}
 use Rattle.sk_plan.proofs.PlanTrees.{some_plan_tree}
-use Rattle.sk_cli.specs.Outcome.{IsAccountOf, IsRefusalText, IsAccountAnswer, IsPlanBy, IsPlanReport, IsReportNotWell, IsPlanAnswer, IsPlanOrReport, IsSolved, IsSolveAnswer, IsGrowAnswer, IsAnswer, IsAnswerOf, IsOutcome, AreFirstReplies}
+use Rattle.sk_cli.specs.Outcome.{IsAccountOf, IsRefusalText, IsAccountAnswer, IsPlanReport, IsReportNotWell, IsPlanAnswer, IsPlanOrReport, IsSolved, IsSolveAnswer, IsGrowAnswer, IsAnswer, IsAnswerOf, IsOutcome, AreFirstReplies}
 use Rattle.sk_cli.proofs.OneSession.{OneReply, same_replies, front_replies}
 use Rattle.sk_cli.specs.SessionAnswer.{IsSessionAnswer, RepliesToFront, HasEnded, at_start}
 
@@ -121,14 +109,6 @@ no_account not_both account bytes text another (s, reads, told) (r, refuses, is)
 abbrev SoundRead : Type 0
 SoundRead = (bytes : List ℕ) (s : Sketch) → Reads bytes s → IsSoundSketch s
 
-abbrev OnePlan : Type 0
-OnePlan = (g : Graph) (s : Sketch) (p q : ThePlan) → IsSoundGraph g → IsLegalPlan g p → IsLegalPlan g q → map merge_told p.steps ≡ map merge_told q.steps
-    → All (HasDrawnChoice s) p.steps → All (HasDrawnChoice s) q.steps → p ≡ q
-
-abbrev OneRun : Type 0
-OneRun = (g : Graph) (f : Clusters) (p : Choosing) (ms ns : List Merge) (one other : Clusters) (last end : Choosing)
-    → IsRun place_of next_call g f p ms one last → IsRun place_of next_call g f p ns other end → (ms ≡ ns) × (one ≡ other) × (last ≡ end)
-
 abbrev SoundMade : Type 0
 SoundMade = (n : ℕ) → 3 ≤ n → n ≤ 1000 → IsSoundSketch (datum_sketch n)
 
@@ -146,21 +126,14 @@ pub record FrontLaws : Type 0 where
 
 pub record LowerLaws : Type 0 where
   pub sound : SoundRead
-  pub plan : OnePlan
-  pub run : OneRun
   pub front : FrontLaws
   pub made : SoundMade
   pub reply : OneReply
   pub spares : OneSpares
   pub derived : OneDerived
 
-pub same_plan : LowerLaws → (order : Order) (s : Sketch) → IsSoundGraph (graph_of s) → (p q : ThePlan) → IsPlanBy order s p → IsPlanBy order s q → p ≡ q
-same_plan laws order s sound p q first second =
-    let merges = laws.run (graph_of s) (initial_clusters (graph_of s)) (record { order = order; call = 0 }) (map merge_told p.steps) (map merge_told q.steps) first.end second.end first.last second.last first.run second.run in
-    laws.plan (graph_of s) s p q sound first.legal second.legal merges.0 first.drawn second.drawn
-
-same_plan_report : LowerLaws → (order : Order) (s : Sketch) → IsSoundGraph (graph_of s) → (p q : ThePlan) → IsPlanBy order s p → IsPlanBy order s q → plan_report s p ≡ plan_report s q
-same_plan_report laws order s sound p q first second = ap (λ z. plan_report s z) (same_plan laws order s sound p q first second)
+same_plan_report : (order : Order) (s : Sketch) → IsSoundGraph (graph_of s) → (p q : ThePlan) → IsPlanBy order s p → IsPlanBy order s q → plan_report s p ≡ plan_report s q
+same_plan_report order s sound p q first second = ap (λ z. plan_report s z) (one_plan_by order s p q sound first second)
 
 -- a plan, or a report where the verdict isn't well
 pub told_planned : (order : Order) (s : Sketch) (status : Status) (text : List ℕ) → IsPlanOrReport order s status text → ((status ≡ Done) × IsPlanReport order s text) ⊎ ((status ≡ NotWell) × IsReportNotWell s text)
@@ -168,20 +141,19 @@ told_planned order s Done text answer = inl (refl, answer)
 told_planned order s NotWell text answer = inr (refl, answer)
 told_planned order s status text answer = absurd answer
 
-not_well_too : OneJudgement → (order : Order) (s : Sketch) (text another : List ℕ) → IsPlanReport order s text → IsReportNotWell s another → ⊥
-not_well_too law order s text another (p, (k, judged', well), by, is) (j, judged, not_well, is') =
-    not_well (subst (λ (z : Judgement). z.verdict ≡ Well) (same_judgement law (graph_of s) k j judged' judged) well)
+pub still_well : OneJudgement → (s : Sketch) (text : List ℕ) → IsWell (graph_of s) → IsReportNotWell s text → ⊥
+still_well law s text (k, judged', well) (j, judged, not_well, is) = not_well (subst (λ (z : Judgement). z.verdict ≡ Well) (same_judgement law (graph_of s) k j judged' judged) well)
 
 same_planned : OneJudgement → LowerLaws → (order : Order) (s : Sketch) → IsSoundGraph (graph_of s) → (status other : Status) (text another : List ℕ)
     → IsPlanOrReport order s status text → IsPlanOrReport order s other another → (status ≡ other) × (text ≡ another)
 same_planned law laws order s sound status other text another first second =
     elim (told_planned order s status text first) [
-      | inl (done, (p, well, by, is)) ↦ elim (told_planned order s other another second) [
-        | inl (done', (q, well', by', is')) ↦ (done ∙ sym done', is ∙ same_plan_report laws order s sound p q by by' ∙ sym is')
-        | inr (short, report) ↦ absurd (not_well_too law order s text another (p, well, by, is) report)
+      | inl (done, (p, by, is)) ↦ elim (told_planned order s other another second) [
+        | inl (done', (q, by', is')) ↦ (done ∙ sym done', is ∙ same_plan_report order s sound p q by by' ∙ sym is')
+        | inr (short, report) ↦ absurd (still_well law s another by.well report)
       ]
       | inr (short, (j, judged, not_well, is)) ↦ elim (told_planned order s other another second) [
-        | inl (done, report) ↦ absurd (not_well_too law order s another text report (j, judged, not_well, is))
+        | inl (done, report) ↦ absurd (still_well law s text report.1.well (j, judged, not_well, is))
         | inr (short', (k, judged', not_well', is')) ↦ (short ∙ sym short', is ∙ ap (λ z. check_report s z) (same_judgement law (graph_of s) j k judged judged') ∙ sym is')
       ]
     ]
@@ -208,21 +180,18 @@ same_plan_answer one_sketch one_refusal not_both law laws order bytes status oth
       ]
     ]
 
-pub still_well : OneJudgement → (s : Sketch) (text : List ℕ) → IsWell (graph_of s) → IsReportNotWell s text → ⊥
-still_well law s text (k, judged', well) (j, judged, not_well, is) = not_well (subst (λ (z : Judgement). z.verdict ≡ Well) (same_judgement law (graph_of s) k j judged' judged) well)
-
 same_solved : OneJudgement → LowerLaws → (report : Report) (request : Request) (s : Sketch) → IsSoundGraph (graph_of s) → (status other : Status) (text another : List ℕ)
     → IsSolved report request s status text → IsSolved report request s other another → (status ≡ other) × (text ≡ another)
 same_solved law laws report request s sound status other text another (inl (p, q, placed, is, text_is)) (inl (p', q', placed', is', text_is')) =
-    let plan_is = same_plan laws request.order s sound p p' placed.plan placed'.plan in
+    let plan_is = one_plan_by request.order s p p' sound placed.plan placed'.plan in
     let placement_is : q ≡ q' = same_placement Drawn (grid_of request.bits) request.layout (digits_of request.bits) request.within s p' placed'.plan.legal (some_plan_tree (graph_of s) p' sound placed'.plan.legal) q q'
     (subst (λ (z : ThePlan). IsPlacement (grid_of request.bits) request.layout (digits_of request.bits) request.within s z q) plan_is placed.placed) placed'.placed in (
       is ∙ ap status_of placement_is ∙ sym is',
       text_is ∙ ap (λ z. placement_words report (digits_of request.bits) s z q) plan_is
           ∙ ap (λ z. placement_words report (digits_of request.bits) s p' z) placement_is ∙ sym text_is',
     )
-same_solved law laws report request s sound status other text another (inl (p, q, placed, is, text_is)) (inr (short, told)) = absurd (still_well law s another placed.well told)
-same_solved law laws report request s sound status other text another (inr (short, told)) (inl (p, q, placed, is, text_is)) = absurd (still_well law s text placed.well told)
+same_solved law laws report request s sound status other text another (inl (p, q, placed, is, text_is)) (inr (short, told)) = absurd (still_well law s another placed.plan.well told)
+same_solved law laws report request s sound status other text another (inr (short, told)) (inl (p, q, placed, is, text_is)) = absurd (still_well law s text placed.plan.well told)
 same_solved law laws report request s sound status other text another (inr (short, (j, judged, not_well, is))) (inr (short', (k, judged', not_well', is'))) =
     (short ∙ sym short', is ∙ ap (λ z. check_report s z) (same_judgement law (graph_of s) j k judged judged') ∙ sym is')
 
@@ -343,7 +312,7 @@ same_report_on_flips : LowerLaws → (request : Request) (s : Sketch) → IsSoun
     → IsReportOnFlips request s lists text → IsReportOnFlips request s lists another → text ≡ another
 same_report_on_flips laws request s sound lists text another one other =
     let F = digits_of request.bits in
-    let plan_is : one.plan ≡ other.plan = same_plan laws request.order s sound one.plan other.plan one.by other.by in
+    let plan_is : one.plan ≡ other.plan = one_plan_by request.order s one.plan other.plan sound one.by other.by in
     let moved : AreAlternatives (grid_of request.bits) request.layout F request.within s other.plan lists one.found =
     subst (λ (p : ThePlan). AreAlternatives (grid_of request.bits) request.layout F request.within s p lists one.found) plan_is one.are in
     let tree = some_plan_tree (graph_of s) other.plan sound other.by.legal in
@@ -356,10 +325,10 @@ same_flipped law laws request s sound lists status other text another first seco
     elim (told_flipped request s lists status text first) [
       | inl (done, report) ↦ elim (told_flipped request s lists other another second) [
         | inl (done', report') ↦ (done ∙ sym done', same_report_on_flips laws request s sound lists text another report report')
-        | inr (short, told) ↦ absurd (still_well law s another report.well told)
+        | inr (short, told) ↦ absurd (still_well law s another report.by.well told)
       ]
       | inr (short, (j, judged, not_well, is)) ↦ elim (told_flipped request s lists other another second) [
-        | inl (done, report) ↦ absurd (still_well law s text report.well (j, judged, not_well, is))
+        | inl (done, report) ↦ absurd (still_well law s text report.by.well (j, judged, not_well, is))
         | inr (short', (k, judged', not_well', is')) ↦ (short ∙ sym short', is ∙ ap (λ z. check_report s z) (same_judgement law (graph_of s) j k judged judged') ∙ sym is')
       ]
     ]

@@ -10,8 +10,8 @@ use Rattle.sk_graph.specs.SketchGraph.{graph_of}
 use Rattle.sk_verdict.specs.declared.Judgement.{Judgement}
 use Rattle.sk_verdict.specs.declared.Part.{Part}
 use Rattle.sk_verdict.specs.declared.Verdict.TheVariants.{Well}
-use Rattle.sk_verdict.proofs.Judgements.{same_judgement}
 use Rattle.sk_plan.specs.Judged.{IsTheJudgement, IsWell}
+use Rattle.sk_plan.proofs.TheJudgement.{one_judgement}
 use Rattle.sk_flips.specs.declared.Placement.{Placement}
 use Rattle.sk_flips.specs.declared.Placement.TheVariants.{Fault, Uncarried, Beyond, Turned, Holds}
 use Rattle.sk_parts.proofs.Sharing.{covered_judged, sole_judged, whole_judged, well_judged}
@@ -47,8 +47,7 @@ module _ (request : Request) (s : Sketch) (sound : IsSoundSketch s) (some : 0 < 
   verdict_well : (j : Judgement) → IsTheJudgement (graph_of s) j → j.verdict ≡ Well
   verdict_well j judged =
       let (k, k_is, k_well) = well in
-      subst (λ (z : Judgement). z.verdict ≡ Well)
-      (same_judgement (graph_of s) k_is.normal k_is.normal k j (λ x. (λ h. h, λ h. h)) (k_is.every k_is.normal k_is.is_normal) (judged.every k_is.normal k_is.is_normal)) k_well
+      subst (λ (z : Judgement). z.verdict ≡ Well) (one_judgement (graph_of s) k j k_is judged) k_well
 
   some_part : (j : Judgement) → IsTheJudgement (graph_of s) j → (p : Part) × Contains j.parts p
   some_part j judged = by_elements s.elements refl

@@ -1,5 +1,5 @@
 -- What is told of parts, one behind another, and the shape of a part that isn't over.
-use Rattle.std.proofs.Common.{◌≡◌, ◌⊎◌, inl, inr, refl, ℕ, suc, ◌+◌, ◌<◌, ◌≤◌, Bool, true, false, List, [], ◌∷◌, ◌++◌, length, get_or, take, ap, sym, subst, ◌∙◌, arith, append_assoc}
+use Rattle.std.proofs.Common.{◌≡◌, ◌⊎◌, inl, inr, refl, ℕ, suc, ◌+◌, ◌<◌, Bool, true, false, List, [], ◌∷◌, ◌++◌, length, get_or, take, ap, sym, subst, ◌∙◌, arith, append_assoc}
 use Rattle.std.specs.Prelude.{Contains, nat_lt}
 use Rattle.std.proofs.lemmas.Bool.Decides.{nat_tests}
 use Rattle.std.proofs.lemmas.List.{append-nil, length-take-le}
@@ -10,10 +10,9 @@ use Rattle.sk_base.proofs.Members.{contains_head, contains_later}
 use Rattle.sk_graph.specs.SketchGraph.{graph_of}
 use Rattle.sk_verdict.specs.declared.Judgement.{Judgement}
 use Rattle.sk_verdict.specs.declared.Part.{Part}
-use Rattle.sk_verdict.specs.declared.Verdict.TheVariants.{Well}
 use Rattle.sk_verdict.specs.Judging.{IsOver}
-use Rattle.sk_verdict.proofs.Judgements.{same_judgement}
 use Rattle.sk_plan.specs.Judged.{IsTheJudgement, IsWell}
+use Rattle.sk_plan.proofs.TheJudgement.{well_alone}
 use Rattle.sk_parts.specs.OwnSketch.{part_sketch}
 use Rattle.sk_parts.proofs.Sharing.{well_judged}
 use Rattle.sk_report.specs.CheckReport.{part_line}
@@ -25,9 +24,7 @@ use Rattle.sk_cli.specs.Solved.{IsReportNotWell, IsSolved}
 
 -- where the verdict is well, no report says otherwise
 pub never_reported : (s : Sketch) (text : List ℕ) → IsWell (graph_of s) → IsReportNotWell s text → ⊥
-never_reported s text (k, k_is, well) (j, j_is, not_well, is) =
-    not_well (subst (λ (z : Judgement). z.verdict ≡ Well)
-    (same_judgement (graph_of s) k_is.normal k_is.normal k j (λ x. (λ h. h, λ h. h)) (k_is.every k_is.normal k_is.is_normal) (j_is.every k_is.normal k_is.is_normal)) well)
+never_reported s text well (j, judged, not_well, is) = well_alone (graph_of s) j well judged not_well
 
 -- so what is solved of it is its shape
 pub shape_solved : (request : Request) (s : Sketch) (status : Status) (text : List ℕ) → IsWell (graph_of s) → IsSolved Shape request s status text → IsShape request s text
@@ -39,9 +36,6 @@ pub below_sound : (request : Request) (s : Sketch) → IsSoundSketch s → (j : 
     → (status : Status) (text : List ℕ) → IsSolved Shape request (part_sketch s p.elements) status text → IsBelowPart request s p text
 below_sound request s sound j judged p p_in not_over status text solved =
     inr (not_over, shape_solved request (part_sketch s p.elements) status text ((well_judged s j sound judged p p_in).1 not_over) solved)
-
-pub at_most_due : (p : Part) → p.held ≤ p.due → ¬ IsOver p
-at_most_due p few over = omega (arith, few, over)
 
 pub over_or_not : (p : Part) → IsOver p ⊎ (¬ IsOver p)
 over_or_not p = told (nat_lt p.due p.held) refl

@@ -29,6 +29,7 @@ use Rattle.sk_verdict.proofs.Normals.{has_two, more_than_one}
 use Rattle.sk_graph.specs.SketchGraph.{graph_of, node_of}
 use Rattle.sk_tree.specs.declared.Plan.{Plan as ThePlan}
 use Rattle.sk_plan.specs.Judged.{IsTheJudgement, IsWell}
+use Rattle.sk_plan.specs.PlanBy.{IsPlanBy}
 use Rattle.sk_residual.specs.declared.Tolerance.{Tolerance}
 use Rattle.sk_holding.specs.Placing.{PlacesExactly}
 use Rattle.sk_residual.specs.Turns.{signs, AllAsDrawn}
@@ -45,7 +46,7 @@ use Rattle.sk_cli.specs.declared.status.Status.TheVariants.{Done, NotWell}
 use Rattle.sk_cli.specs.Causes.{IsItsPlan, LieAt, NonePasses}
 use Rattle.sk_request.specs.Grids.{grid_of, digits_of}
 use Rattle.sk_cli.specs.Headline.{TellsClusters, IsOneSoundPart, HoldsAt, NamesTheFirst}
-use Rattle.sk_cli.specs.Outcome.{IsPlanBy, IsPlanOrReport, IsReportNotWell, IsSolved}
+use Rattle.sk_cli.specs.Outcome.{IsPlanOrReport, IsReportNotWell, IsSolved}
 use Rattle.sk_cli.specs.Solving.{midpoints, IsTolerance, status_of, report_words, placement_words}
 use Rattle.sk_cli.proofs.OneOutcome.{OneJudgement, still_well, same_judgement, told_planned}
 use Rattle.sk_cli.proofs.PlacedSpots.{laid_exactly}
@@ -185,13 +186,13 @@ module _ (law : OneJudgement) (s : Sketch) (j : Judgement) (judged : IsTheJudgem
   pub planned_both : (order : Order) (status : Status) (text : List ℕ) → IsPlanOrReport order s status text → (status ≡ Done) ↔ IsOneSoundPart j
   planned_both order status text answer =
       elim (told_planned order s status text answer) [
-        | inl (done, (p, well, by, is)) ↦ ((λ same. one_part well), (λ one. done))
+        | inl (done, (p, by, is)) ↦ ((λ same. one_part by.well), (λ one. done))
         | inr (short, report) ↦ ((λ same. (let clash : NotWell ≡ Done = sym short ∙ same in cc)), (λ one. absurd (still_well law s text (is_well one) report)))
       ]
 
 -- the text of a plan
 pub planned_text : (order : Order) (s : Sketch) (status : Status) (text : List ℕ) → IsPlanOrReport order s status text → status ≡ Done
-    → (p : ThePlan) × IsWell (graph_of s) × IsPlanBy order s p × (text ≡ plan_report s p)
+    → (p : ThePlan) × IsPlanBy order s p × (text ≡ plan_report s p)
 planned_text order s status text answer same =
     elim (told_planned order s status text answer) [
       | inl (done, report) ↦ report
@@ -219,7 +220,7 @@ module _ (report : Report) (request : Request) (s : Sketch) (status : Status) (t
       let fit : HoldsAt request s p here t = record {
         plan = its;
         lie = lie;
-        exactly = subst (λ (z : Placed). PlacesExactly (graph_of s) z) (sym lie.2) (laid_exactly G request.layout F s p sound its.1.legal lie.0 lie.1);
+        exactly = subst (λ (z : Placed). PlacesExactly (graph_of s) z) (sym lie.2) (laid_exactly G request.layout F s p sound its.legal lie.0 lie.1);
         holds = all_hold_within here (graph_of s) t.t t.w (has_blocks (graph_of s) sound) least.lengths.holds least.angles.holds;
         least = least;
         within = none;
@@ -249,11 +250,11 @@ module _ (report : Report) (request : Request) (s : Sketch) (status : Status) (t
   pub solved_text : IsSoundGraph (graph_of s) → IsSolved report request s status text → status ≡ Done
       → (p : ThePlan) × (at : Placed) × (t : Tolerance) × HoldsAt request s p at t × (text ≡ report_words report (digits_of request.bits) s p at t)
   solved_text sound (inl (p, q, placed, status_is, text_is)) same =
-      let found = held_text sound p (placed.well, placed.plan) q placed.placed (sym status_is ∙ same) text_is in (p, found.0, found.1, found.2, found.3)
+      let found = held_text sound p placed.plan q placed.placed (sym status_is ∙ same) text_is in (p, found.0, found.1, found.2, found.3)
   solved_text sound (inr (short, told)) same = absurd (let clash : NotWell ≡ Done = sym short ∙ same in cc)
 
   -- else what fails first is named
   pub failed_text : IsSolved report request s status text → status ≢ Done → status ≢ NotWell → NamesTheFirst request s text
   failed_text (inl (p, q, placed, status_is, text_is)) other short =
-      named_text p (placed.well, placed.plan) q placed.placed (λ done. other (status_is ∙ done)) text_is
+      named_text p placed.plan q placed.placed (λ done. other (status_is ∙ done)) text_is
   failed_text (inr (is, told)) other short = absurd (short is)

@@ -163,7 +163,7 @@ module _ (s : Sketch) (sound : IsSoundSketch s) (numbered : renumbered s ≡ s) 
   graph = graph_is_sound s sound
 
   legal : IsLegalPlan (graph_of s) p
-  legal = holds.plan.1.legal
+  legal = holds.plan.legal
 
   are_spots : AreSpotsOf (graph_of s).nodes here.spots
   are_spots =
@@ -242,4 +242,4 @@ module _ (s : Sketch) (sound : IsSoundSketch s) (numbered : renumbered s ≡ s) 
 
   pub printed_accepted : IsAccepted s (graph_of s) (printed_claim s p here t)
   printed_accepted =
-      accepted_so s (graph_of s) (printed_claim s p here t) (record { leaves = refl; steps = legal.steps }) holds.plan.1.drawn all_told holds.holds holds.drawn
+      accepted_so s (graph_of s) (printed_claim s p here t) (record { leaves = refl; steps = legal.steps }) holds.plan.drawn all_told holds.holds holds.drawn

@@ -8,14 +8,16 @@ use Rattle.sk_report.specs.PlanReport.{plan_report}
 use Rattle.sk_report.specs.SolveReport.{solve_report}
 use Rattle.sk_residual.specs.declared.Tolerance.{Tolerance}
 use Rattle.sk_tree.specs.declared.Plan.{Plan as ThePlan}
+use Rattle.sk_plan.specs.PlanBy.{IsPlanBy}
+use Rattle.sk_plan.proofs.OnePlan.{one_plan_by}
 use Rattle.sk_request.specs.declared.Request.{Request}
 use Rattle.sk_cli.specs.declared.solving.Report.TheVariants.{Places}
 use Rattle.sk_cli.specs.declared.status.Status.{Status}
 use Rattle.sk_cli.specs.declared.status.Status.TheVariants.{Done, Refused}
 use Rattle.sk_request.specs.Grids.{digits_of}
 use Rattle.sk_cli.specs.Headline.{HoldsAt}
-use Rattle.sk_cli.specs.Outcome.{IsPlanAnswer, IsPlanBy, IsPlanOrReport, IsSolveAnswer}
-use Rattle.sk_cli.proofs.OneOutcome.{OneSketch, NotBoth, OneJudgement, LowerLaws, same_plan, told_plan, told_planned, told_solve}
+use Rattle.sk_cli.specs.Outcome.{IsPlanAnswer, IsPlanOrReport, IsSolveAnswer}
+use Rattle.sk_cli.proofs.OneOutcome.{OneSketch, NotBoth, OneJudgement, LowerLaws, told_plan, told_planned, told_solve}
 use Rattle.sk_cli.proofs.Printed.{solved_text}
 use Rattle.sk_cli.proofs.WhyEnds.{planned_not_well}
 
@@ -44,8 +46,8 @@ printed_of_one one_sketch not_both law laws planned_by solved_by bytes planned s
             | inr (u, reads', told') ↦ (
                 let here : IsPlanOrReport planned_by.order s status planned = subst (λ z. IsPlanOrReport planned_by.order z status planned) (one_sketch bytes u s reads' reads) told' in
                 elim (told_planned planned_by.order s status planned here) [
-                  | inr (short, report) ↦ absurd ((planned_not_well law planned_by.order s status planned here).0 short found.3.plan.0)
-                  | inl (done, (q, well, by, is)) ↦ record {
+                  | inr (short, report) ↦ absurd ((planned_not_well law planned_by.order s status planned here).0 short found.3.plan.well)
+                  | inl (done, (q, by, is)) ↦ record {
                     sketch = s;
                     plan = found.0;
                     at = found.1;
@@ -53,7 +55,7 @@ printed_of_one one_sketch not_both law laws planned_by solved_by bytes planned s
                     reads = reads;
                     holds = found.3;
                     done = done;
-                    planned_is = is ∙ ap (λ z. plan_report s z) (same_plan laws solved_by.order s sound q found.0 (subst (λ order. IsPlanBy order s q) same by) found.3.plan.1);
+                    planned_is = is ∙ ap (λ z. plan_report s z) (one_plan_by solved_by.order s q found.0 sound (subst (λ order. IsPlanBy order s q) same by) found.3.plan);
                     solved_is = found.4;
                   }
                 ])

@@ -5,10 +5,8 @@ use Rattle.sk_base.specs.SoundSketch.{IsSoundSketch}
 use Rattle.sk_graph.proofs.Soundness.{graph_is_sound}
 use Rattle.sk_session.specs.declared.Reply.{Reply}
 use Rattle.sk_session.specs.declared.Reply.TheVariants as reply
-use Rattle.sk_session.specs.Replies.{IsThePlan}
 use Rattle.sk_session.specs.State.{State, sketch_in}
 use Rattle.sk_session.proofs.Asked.{OtherBegins, TellsOf, answers_told}
-use Rattle.sk_tree.specs.declared.Plan.{Plan as ThePlan}
 use Rattle.sk_worklist.specs.declared.Order.{Order}
 use Rattle.sk_request.specs.declared.Command.TheVariants.{Check, Plan, Solve, Session}
 use Rattle.sk_request.specs.declared.Request.{Request}
@@ -17,7 +15,7 @@ use Rattle.sk_cli.specs.declared.status.Status.{Status}
 use Rattle.sk_cli.specs.declared.status.Status.TheVariants.{Done, NotWell}
 use Rattle.sk_request.specs.Asking.{Asks}
 use Rattle.sk_cli.specs.Headline.{TellsAsAsked, RepliesNext}
-use Rattle.sk_cli.specs.Outcome.{IsOutcome, IsPlanBy, IsSolved}
+use Rattle.sk_cli.specs.Outcome.{IsOutcome, IsSolved}
 use Rattle.sk_cli.specs.SessionAnswer.{IsReplyText, AreReplied, solve_with, at_start}
 use Rattle.sk_cli.proofs.OneOutcome.{OneJudgement, LowerLaws, front_of_outcome}
 use Rattle.sk_cli.proofs.Printed.{OneNormal}
@@ -30,19 +28,16 @@ order_kept begins request [] old new text (same, none) = ap (λ (z : State). z.o
 order_kept begins request (line ∷ lines) old new text (r, next, first, rest, here, on, further, is) =
     order_kept begins request lines next new rest further ∙ (answers_told begins old next line r here.answers).0
 
-plan_by : (order : Order) (s : Sketch) (p : ThePlan) → IsThePlan order s p → IsPlanBy order s p
-plan_by order s p plan = record { legal = plan.legal; end = plan.run.0; last = plan.run.1.0; run = plan.run.1.1; drawn = plan.drawn }
-
 -- what is solved depends on no more than the order, the grid, the limit and what places are
 solved_as : (request : Request) (s : Sketch) (status : Status) (text : List ℕ) → IsSolved Places (solve_with request.order request.bits request.within request.layout) s status text → IsSolved Places request s status text
-solved_as request s status text (inl (p, q, placed, status_is, text_is)) = inl (p, q, record { well = placed.well; plan = placed.plan; placed = placed.placed }, status_is, text_is)
+solved_as request s status text (inl (p, q, placed, status_is, text_is)) = inl (p, q, record { plan = placed.plan; placed = placed.placed }, status_is, text_is)
 solved_as request s status text (inr short) = inr short
 
 module _ (normal : OneNormal) (plans : LegalPlans) (law : OneJudgement) (laws : LowerLaws) (begins : OtherBegins) (request : Request) where
   tells_asked : (s : Sketch) → IsSoundSketch s → (r : Reply) (text : List ℕ) → TellsOf request.order s r → IsReplyText request.order request.bits request.within request.layout s r text → TellsAsAsked request s r text
   tells_asked s sound (reply.Checked j) text (some, judged) says = (some, tells normal plans law laws request s Done text (graph_is_sound s sound) Check (j, judged, says))
   tells_asked s sound (reply.Planned p) text (some, plan) says =
-      (some, tells normal plans law laws request s Done text (graph_is_sound s sound) Plan (some, (p, plan.well, plan_by request.order s p plan, says)))
+      (some, tells normal plans law laws request s Done text (graph_is_sound s sound) Plan (some, (p, plan, says)))
   tells_asked s sound (reply.NotWell j) text (some, judged, not_well) says =
       (some, tells normal plans law laws request s NotWell text (graph_is_sound s sound) Plan (some, (j, judged, not_well, says)))
   tells_asked s sound reply.Solve text some (status, solved) =

@@ -18,7 +18,8 @@ use Rattle.sk_worklist.specs.declared.Order.TheVariants.{First}
 use Rattle.sk_worklist.specs.Orders.{place_of, next_call, place_below}
 use Rattle.sk_verdict.specs.declared.Judgement.{Judgement}
 use Rattle.sk_tree.specs.declared.Plan.{Plan as ThePlan}
-use Rattle.sk_plan.specs.Judged.{IsTheJudgement, IsWell}
+use Rattle.sk_plan.specs.Judged.{IsTheJudgement}
+use Rattle.sk_plan.specs.PlanBy.{fresh, IsPlanBy}
 use Rattle.sk_offers.specs.Offering.{starting_table}
 use Rattle.sk_report.specs.CheckReport.{parts_head, check_report}
 use Rattle.sk_report.specs.PlanReport.{plan_report}
@@ -44,7 +45,7 @@ use Rattle.sk_cli.specs.declared.status.Status.TheVariants.{Done, Refused, Usage
 use Rattle.sk_cli.specs.Accounts.{IsAccount}
 use Rattle.sk_cli.specs.FlipsReport.{alternatives_from, IsFlipped}
 use Rattle.sk_request.specs.Grids.{grid_of, digits_of}
-use Rattle.sk_cli.specs.Outcome.{usage_line, IsPlanBy, IsReportNotWell, IsSolved, IsSolveAnswer, IsAnswerOf, IsAccountAnswer, IsOutcome}
+use Rattle.sk_cli.specs.Outcome.{usage_line, IsReportNotWell, IsSolved, IsSolveAnswer, IsAnswerOf, IsAccountAnswer, IsOutcome}
 use Rattle.sk_cli.specs.Solving.{status_of, placement_words}
 use Rattle.sk_offers.proofs.FittingOffers.{read_fit}
 use Rattle.sk_cli.proofs.FlipsAnswered.{answers_flips}
@@ -53,7 +54,7 @@ use Rattle.sk_offers.proofs.OfferAnswers.{some_answer as read_or_refused}
 use Rattle.sk_request.proofs.Sizes.{grow_size}
 use Rattle.sk_cli.proofs.SomeAnswers.{some_answers}
 use Rattle.sk_cli.proofs.SomePlacements.{enough_digits, some_placement, some_alternatives}
-use Rattle.sk_plan.proofs.SomePlans.{judgement_there, some_plan}
+use Rattle.sk_plan.proofs.SomePlans.{judgement_there, some_plan_by}
 use Rattle.sk_request.proofs.SomeRequests.{form_decided}
 use Rattle.sk_cli.proofs.SomeSpares.{some_spares}
 use Rattle.sk_derive.proofs.SomeWide.{some_wide}
@@ -77,18 +78,16 @@ pub record LawsBelow : Type 0 where
   pub made : (n : ℕ) → 3 ≤ n → n ≤ 1000 → IsSoundSketch (datum_sketch n)
 
 the_judgement_of : (s : Sketch) → IsSoundSketch s → (j : Judgement) × IsTheJudgement (graph_of s) j
-the_judgement_of s sketch = judgement_there place_of next_call place_below (record { order = First; call = 0 }) (graph_of s) (graph_is_sound s sketch)
+the_judgement_of s sketch = judgement_there place_of next_call place_below (fresh First) (graph_of s) (graph_is_sound s sketch)
 
 -- the plan by the order, or a verdict that isn't well
 planned : (order : Order) (s : Sketch) → IsSoundSketch s → 0 < length s.elements
-    → (IsWell (graph_of s) × ((p : ThePlan) × IsPlanBy order s p)) ⊎ ((text : List ℕ) × IsReportNotWell s text)
+    → ((p : ThePlan) × IsPlanBy order s p) ⊎ ((text : List ℕ) × IsReportNotWell s text)
 planned order s sketch some =
     let j = the_judgement_of s sketch in
     elim (well_or_not j.0.verdict) [
       | inr never ↦ inr (check_report s j.0, (j.0, j.1, never, refl))
-      | inl well ↦ (
-          let has = some_plan place_of next_call place_below (record { order = order; call = 0 }) s sketch some j.0 j.1 well in
-          inl ((j.0, j.1, well), (has.plan, record { legal = has.legal; end = has.end; last = has.last; run = has.run; drawn = has.drawn })))
+      | inl well ↦ inl (some_plan_by order s sketch some (j.0, j.1, well))
     ]
 
 abbrev Answered : Command → Request → List ℕ → Type 0
@@ -99,9 +98,9 @@ solved : (report : Report) (request : Request) (s : Sketch) → IsSoundSketch s 
 solved report request s sketch some =
     elim (planned request.order s sketch some) [
       | inr (text, never) ↦ (NotWell, text, (λ e. cc), inr (refl, never))
-      | inl (well, (p, by)) ↦ (
+      | inl (p, by) ↦ (
           let q = some_placement Drawn (grid_of request.bits) request.layout (digits_of request.bits) request.within s p (enough_digits request.bits) sketch (graph_is_sound s sketch) by.legal in
-          (status_of q.0, placement_words report (digits_of request.bits) s p q.0, no_refusal q.0, inl (p, q.0, record { well = well; plan = by; placed = q.1 }, refl, refl)))
+          (status_of q.0, placement_words report (digits_of request.bits) s p q.0, no_refusal q.0, inl (p, q.0, record { plan = by; placed = q.1 }, refl, refl)))
     ]
   where
     no_refusal : (q : Placement) → status_of q ≢ Refused
@@ -144,7 +143,7 @@ planned_answer laws request bytes =
     elim (laws.answer bytes) [
       | inr (n, (code, refuses)) ↦ (let r : Refusal = record { line = n; code = code } in (Refused, refusal_line r, (r, refuses, refl)))
       | inl (s, reads) ↦ elim (planned request.order s (laws.sound bytes s reads) (laws.some bytes s reads)) [
-        | inl (well, (p, by)) ↦ (Done, plan_report s p, (s, reads, (p, well, by, refl)))
+        | inl (p, by) ↦ (Done, plan_report s p, (s, reads, (p, by, refl)))
         | inr (text, never) ↦ (NotWell, text, (s, reads, never))
       ]
     ]
@@ -226,13 +225,12 @@ flips_answer laws request bytes =
     some_flipped request s sketch some lists =
         elim (planned request.order s sketch some) [
           | inr (text, never) ↦ (NotWell, text, never)
-          | inl (well, (p, by)) ↦ (
+          | inl (p, by) ↦ (
               let F = digits_of request.bits in
               let found = some_alternatives (grid_of request.bits) request.layout F request.within s p (enough_digits request.bits) sketch (graph_is_sound s sketch) by.legal lists in (
                 Done,
                 alternatives_from s F 1 found.0,
                 record {
-                  well = well;
                   plan = p;
                   by = by;
                   found = found.0;

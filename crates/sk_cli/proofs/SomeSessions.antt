@@ -14,7 +14,7 @@ use Rattle.sk_session.specs.declared.Reply.{Reply}
 use Rattle.sk_session.specs.declared.Reply.TheVariants as reply
 use Rattle.sk_entry.specs.Growth.{empty_sketch}
 use Rattle.sk_session.specs.Replies.{Answers}
-use Rattle.sk_session.specs.State.{State, sketch_in, fresh}
+use Rattle.sk_session.specs.State.{State, sketch_in}
 use Rattle.sk_session.proofs.Consistency.{consistent_new}
 use Rattle.sk_session.proofs.SomeReplies.{IsKept, GivenByLanguage, GivenBelow, some_reply}
 use Rattle.sk_request.specs.declared.Request.{Request}
@@ -25,7 +25,8 @@ use Rattle.sk_cli.specs.SessionAnswer.{solve_with, IsReplyText, at_start, IsSess
 use Rattle.sk_cli.specs.Solved.{IsSolved}
 use Rattle.sk_cli.specs.Told.{told}
 use Rattle.sk_cli.proofs.Sessions.{told_is_text, ends_or_not, Stands, stands_first, stands_next}
-use Rattle.sk_plan.proofs.SomePlans.{judgement_there, some_plan}
+use Rattle.sk_plan.specs.PlanBy.{fresh}
+use Rattle.sk_plan.proofs.SomePlans.{judgement_there, some_plan_by}
 use Rattle.sk_worklist.proofs.SomeRuns.{some_run}
 
 -- `solve` is answered only where there is something to solve
@@ -41,9 +42,7 @@ given_below language = record {
   language = language;
   run = λ by g f sound. (let found = some_run place_of next_call g place_below f (fresh by) sound in (found.merges, found.end, found.last, found.run));
   judgement = λ g sound. judgement_there place_of next_call place_below (fresh order.First) g sound;
-  plan = λ by s sound some j judged well. (
-      let has = some_plan place_of next_call place_below (fresh by) s sound some j judged well in
-      (has.plan, record { legal = has.legal; run = (has.end, (has.last, has.run)); drawn = has.drawn; well = (j, judged, well) }));
+  plan = some_plan_by;
 }
 
 solve_or_not : (r : Reply) → (r ≡ reply.Solve) ⊎ (r ≢ reply.Solve)

@@ -221,7 +221,7 @@ module _ (normal : OneNormal) (plans : LegalPlans) (law : OneJudgement) (laws : 
 
   judged_there : IsPlanOrReport request.order s status text → (j : Judgement) × IsTheJudgement (graph_of s) j
   judged_there answer =
-      elim (told_planned request.order s status text answer) [ inl (done, (p, (j, judged, well), by, is)) ↦ (j, judged) | inr (short, (j, judged, not_well, is)) ↦ (j, judged) ]
+      elim (told_planned request.order s status text answer) [ inl (done, (p, by, is)) ↦ (by.well.0, by.well.1) | inr (short, (j, judged, not_well, is)) ↦ (j, judged) ]
 
   placed_tells : (command : Command) → IsTrue (solves command) → command ≢ Plan → command ≢ Parts → IsSolvedFor command request s status text → Tells command request s status text
   placed_tells command placed other no_parts (report, of, solved) = record {
@@ -242,7 +242,7 @@ module _ (normal : OneNormal) (plans : LegalPlans) (law : OneJudgement) (laws : 
     not_well = λ planned. planned_not_well law request.order s status text answer;
     planned = λ is. (let there = judged_there answer in
         (there.0, there.1, planned_both law s there.0 there.1 (part_of_sketch s sound some there.0 there.1) request.order status text answer));
-    plan = λ is done. (let told = planned_text request.order s status text answer done in (told.0, (told.1, told.2), uses_each_once plans (graph_of s) told.0 sound told.2.legal, told.3));
+    plan = λ is done. (let told = planned_text request.order s status text answer done in (told.0, told.1, uses_each_once plans (graph_of s) told.0 sound told.1.legal, told.2));
     placed = λ is done. cc;
     failure = λ is other short. cc;
     parts = λ is. cc;

@@ -10,8 +10,10 @@ use Rattle.sk_graph.proofs.Soundness.{graph_is_sound}
 use Rattle.sk_gen.specs.DatumSketch.{datum_sketch}
 use Rattle.sk_tree.specs.declared.Plan.{Plan as ThePlan}
 use Rattle.sk_plan.specs.Judged.{IsWell}
+use Rattle.sk_plan.specs.PlanBy.{IsPlanBy}
+use Rattle.sk_plan.proofs.OnePlan.{one_plan_by}
 use Rattle.sk_plan.proofs.PlanTrees.{some_plan_tree}
-use Rattle.sk_place.proofs.OnePlacing.{one_list, not_both}
+use Rattle.sk_place.proofs.OnePlacing.{not_both}
 use Rattle.sk_residual.specs.Tolerances.{AllHold, IsAbove, everything}
 use Rattle.sk_residual.specs.Turns.{signs, AllAsDrawn, IsTurned}
 use Rattle.sk_residual.proofs.Firsts.{first_inside}
@@ -34,11 +36,11 @@ use Rattle.sk_cli.specs.declared.status.Status.TheVariants.{Done, Refused, Usage
 use Rattle.sk_request.specs.Asking.{Asks, AreOfForm}
 use Rattle.sk_request.specs.Grids.{grid_of, digits_of}
 use Rattle.sk_cli.specs.Solving.{midpoints, status_of, IsMeasured, IsPlacement}
-use Rattle.sk_cli.specs.Outcome.{IsPlanBy, IsPlanOrReport, IsSolved, IsAnswer, IsAnswerOf, IsAccountAnswer, IsOutcome}
+use Rattle.sk_cli.specs.Outcome.{IsPlanOrReport, IsSolved, IsAnswer, IsAnswerOf, IsAccountAnswer, IsOutcome}
 use Rattle.sk_cli.specs.Causes.{plans, solves, IsReportOf, IsSketchOf, IsRefusedInput, IsItsPlan, HasFault, LieAt, NonePasses, SomePasses, SomeTurned}
 use Rattle.sk_flips.proofs.OnePlacement.{laid_measured, same_placement}
 use Rattle.sk_request.proofs.OneRequest.{same_request}
-use Rattle.sk_cli.proofs.OneOutcome.{OneSketch, NotBoth, OneJudgement, LowerLaws, still_well, same_plan, told_account, told_plan, told_planned, told_solve, told_offers, told_session, told_claim, told_flips, told_flipped, not_read_and_refused, not_accepted_and_failing, not_claimed_and_refused, not_flips_and_refused}
+use Rattle.sk_cli.proofs.OneOutcome.{OneSketch, NotBoth, OneJudgement, LowerLaws, still_well, told_account, told_plan, told_planned, told_solve, told_offers, told_session, told_claim, told_flips, told_flipped, not_read_and_refused, not_accepted_and_failing, not_claimed_and_refused, not_flips_and_refused}
 use Rattle.sk_cli.proofs.Runs.{solved_told}
 use Rattle.sk_cli.specs.VerifyAnswer.{HasClaim}
 use Rattle.sk_lines.specs.declared.Refusal.{Refusal}
@@ -194,18 +196,18 @@ module _ (law : OneJudgement) (laws : LowerLaws) (report : Report) (request : Re
       → status ≡ want → (p : ThePlan) × IsItsPlan request s p × Why p
   told_why want Why other why is =
       elim solved [
-        | inl (p, q, placed, status_is, text_is) ↦ (p, (placed.well, placed.plan), why p q placed.placed (sym status_is ∙ is))
+        | inl (p, q, placed, status_is, text_is) ↦ (p, placed.plan, why p q placed.placed (sym status_is ∙ is))
         | inr (short, why_short) ↦ absurd (other (sym is ∙ short))
       ]
 
   why_told : (want : Status) (Why : ThePlan → Type 0) → IsSoundGraph (graph_of s) → ((p : ThePlan) → IsPlanBy request.order s p → (q : Placement) → IsPlacedSo request s p q → Why p → status_of q ≡ want)
       → (p : ThePlan) × IsItsPlan request s p × Why p → status ≡ want
-  why_told want Why sound told (p, (well, by), why) =
+  why_told want Why sound told (p, by, why) =
       elim solved [
         | inl (p', q, placed, status_is, text_is) ↦
-            let same : p' ≡ p = same_plan laws request.order s sound p' p placed.plan by in
+            let same : p' ≡ p = one_plan_by request.order s p' p sound placed.plan by in
             status_is ∙ told p by q (subst (λ (z : ThePlan). IsPlacedSo request s z q) same placed.placed) why
-        | inr (short, why_short) ↦ absurd (still_well law s text well why_short)
+        | inr (short, why_short) ↦ absurd (still_well law s text by.well why_short)
       ]
 
   pub not_well_both : (status ≡ NotWell) ↔ ¬ IsWell (graph_of s)
@@ -214,7 +216,7 @@ module _ (law : OneJudgement) (laws : LowerLaws) (report : Report) (request : Re
       | inl (p, q, placed, status_is, text_is) ↦ never_short q (sym status_is ∙ is)
       | inr (short, why_short) ↦ still_well law s text well why_short
     ]),
-    (λ not_well. elim solved [ inl (p, q, placed, status_is, text_is) ↦ absurd (not_well placed.well) | inr (short, why_short) ↦ short ]),
+    (λ not_well. elim solved [ inl (p, q, placed, status_is, text_is) ↦ absurd (not_well placed.plan.well) | inr (short, why_short) ↦ short ]),
   )
 
   pub fault_both : IsSoundGraph (graph_of s) → (status ≡ StepFault) ↔ ((p : ThePlan) × IsItsPlan request s p × IsFault request s p)
@@ -239,7 +241,7 @@ module _ (law : OneJudgement) (laws : LowerLaws) (report : Report) (request : Re
 pub planned_not_well : OneJudgement → (order : Order) (s : Sketch) (status : Status) (text : List ℕ) → IsPlanOrReport order s status text → (status ≡ NotWell) ↔ ¬ IsWell (graph_of s)
 planned_not_well law order s status text answer =
     elim (told_planned order s status text answer) [
-      | inl (done, (p, well, by, is)) ↦ ((λ same. (let clash : Done ≡ NotWell = sym done ∙ same in cc)), (λ not_well. absurd (not_well well)))
+      | inl (done, (p, by, is)) ↦ ((λ same. (let clash : Done ≡ NotWell = sym done ∙ same in cc)), (λ not_well. absurd (not_well by.well)))
       | inr (short, why_short) ↦ ((λ same well. still_well law s text well why_short), (λ not_well. short))
     ]
 
@@ -258,7 +260,7 @@ flips_about laws request bytes text status s answer (g, others, reads, s_is) =
 pub flipped_not_well : OneJudgement → (request : Request) (s : Sketch) (lists : List (List Name)) (status : Status) (text : List ℕ) → IsFlipped request s lists status text → (status ≡ NotWell) ↔ ¬ IsWell (graph_of s)
 flipped_not_well law request s lists status text answer =
     elim (told_flipped request s lists status text answer) [
-      | inl (done, report) ↦ ((λ same. (let clash : Done ≡ NotWell = sym done ∙ same in cc)), (λ not_well. absurd (not_well report.well)))
+      | inl (done, report) ↦ ((λ same. (let clash : Done ≡ NotWell = sym done ∙ same in cc)), (λ not_well. absurd (not_well report.by.well)))
       | inr (short, why_short) ↦ ((λ same well. still_well law s text well why_short), (λ not_well. short))
     ]
 
@@ -478,7 +480,7 @@ done_unless_refused one_sketch not_both laws command request bytes text status a
 planned_well : OneJudgement → (order : Order) (s : Sketch) (status : Status) (text : List ℕ) → IsPlanOrReport order s status text → (status ≡ Done) ↔ IsWell (graph_of s)
 planned_well law order s status text answer =
     elim (told_planned order s status text answer) [
-      | inl told ↦ ((λ same. told.1.1), (λ well. told.0))
+      | inl told ↦ ((λ same. told.1.1.well), (λ well. told.0))
       | inr told ↦ ((λ same. absurd (let clash : NotWell ≡ Done = sym told.0 ∙ same in cc)), (λ well. absurd (still_well law s text well told.1)))
     ]
 
@@ -486,7 +488,7 @@ planned_well law order s status text answer =
 flipped_well : OneJudgement → (request : Request) (s : Sketch) (lists : List (List Name)) (status : Status) (text : List ℕ) → IsFlipped request s lists status text → (status ≡ Done) ↔ IsWell (graph_of s)
 flipped_well law request s lists status text answer =
     elim (told_flipped request s lists status text answer) [
-      | inl told ↦ ((λ same. told.1.well), (λ well. told.0))
+      | inl told ↦ ((λ same. told.1.by.well), (λ well. told.0))
       | inr told ↦ ((λ same. absurd (let clash : NotWell ≡ Done = sym told.0 ∙ same in cc)), (λ well. absurd (still_well law s text well told.1)))
     ]
 

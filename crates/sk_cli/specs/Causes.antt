@@ -10,7 +10,7 @@ use Rattle.sk_lang.specs.Reading.{Reads, Refuses}
 use Rattle.sk_graph.specs.SketchGraph.{graph_of}
 use Rattle.sk_gen.specs.DatumSketch.{datum_sketch}
 use Rattle.sk_tree.specs.declared.Plan.{Plan as ThePlan}
-use Rattle.sk_plan.specs.Judged.{IsWell}
+use Rattle.sk_plan.specs.PlanBy.{IsPlanBy}
 use Rattle.sk_place.specs.declared.BoxAt.{BoxAt}
 use Rattle.sk_place.specs.declared.BoxFault.{BoxFault}
 use Rattle.sk_place.specs.declared.StepFault.{StepFault}
@@ -30,7 +30,6 @@ use Rattle.sk_request.specs.Grids.{grid_of, digits_of}
 use Rattle.sk_cli.specs.FlipsReport.{ReadsSketchAndFlips, RefusesFlipsBehind}
 use Rattle.sk_cli.specs.Fronts.{IsRefusedAt}
 use Rattle.sk_cli.specs.OffersReport.{RefusesOffersBehind}
-use Rattle.sk_cli.specs.Outcome.{IsPlanBy}
 use Rattle.sk_cli.specs.Solving.{midpoints}
 use Rattle.sk_cli.specs.VerifyAnswer.{RefusesClaimBehind}
 
@@ -93,9 +92,9 @@ IsRefusedInput Grow bytes = ⊥
 IsRefusedInput command bytes = (r : Refusal) × Refuses bytes r.line r.code
 
 module _ (request : Request) (s : Sketch) where
-  -- the verdict is well, and this is the plan of the run by the order
+  -- this is the plan by the order that is asked for
   abbrev pub IsItsPlan : ThePlan → Type 0
-  IsItsPlan p = IsWell (graph_of s) × IsPlanBy request.order s p
+  IsItsPlan p = IsPlanBy request.order s p
 
   -- this step of the plan has no boxes on the grid
   abbrev pub IsFaultAt : ThePlan → StepFault → Type 0

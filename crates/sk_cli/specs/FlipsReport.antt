@@ -3,13 +3,12 @@ use Rattle.std.specs.Prelude.{◌≡◌, ℕ, ◌+◌, List, [], ◌∷◌, ◌+
 use Rattle.std.specs.Fmt.{decimal}
 use Rattle.sk_base.specs.declared.Name.{Name}
 use Rattle.sk_base.specs.declared.Sketch.{Sketch}
-use Rattle.sk_graph.specs.SketchGraph.{graph_of}
 use Rattle.sk_lines.specs.declared.Code.{Code}
 use Rattle.sk_lang.specs.declared.Front.{Front}
 use Rattle.sk_lines.specs.declared.Refusal.{Refusal}
 use Rattle.sk_lang.specs.Front.{ReadsFront}
 use Rattle.sk_tree.specs.declared.Plan.{Plan as ThePlan}
-use Rattle.sk_plan.specs.Judged.{IsWell}
+use Rattle.sk_plan.specs.PlanBy.{IsPlanBy}
 use Rattle.sk_text.specs.ClusterName.{cluster_name}
 use Rattle.sk_report.specs.FaultLines.{fault_line, frame_fault_line, passed_line, turned_line}
 use Rattle.sk_report.specs.RefusalLine.{refusal_line}
@@ -23,7 +22,7 @@ use Rattle.sk_cli.specs.declared.status.Status.{Status}
 use Rattle.sk_cli.specs.declared.status.Status.TheVariants.{Done, Refused, NotWell}
 use Rattle.sk_cli.specs.Fronts.{IsRefusedAt}
 use Rattle.sk_request.specs.Grids.{grid_of, digits_of}
-use Rattle.sk_cli.specs.Solved.{IsPlanBy, IsReportNotWell}
+use Rattle.sk_cli.specs.Solved.{IsReportNotWell}
 
 -- elements are found, a step has no choice, or something fails
 abbrev pub found_words : Alternative → List ℕ
@@ -56,9 +55,8 @@ abbrev pub alternatives_from : Sketch → ℕ → ℕ → List Alternative → L
 alternatives_from s bits number [] = []
 alternatives_from s bits number (a ∷ more) = alternative_report s number bits a ++ alternatives_from s bits (number + 1) more
 
--- the verdict is well, and this is told of what comes of each list of steps, by the plan of the run by the order
+-- this is told of what comes of each list of steps, by the plan by the order
 pub record IsReportOnFlips (request : Request) (s : Sketch) (lists : List (List Name)) (text : List ℕ) : Type 0 where
-  pub well : IsWell (graph_of s)
   pub plan : ThePlan
   pub by : IsPlanBy request.order s plan
   pub found : List Alternative

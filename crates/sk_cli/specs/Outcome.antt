@@ -3,10 +3,9 @@ use Rattle.std.specs.Prelude.{◌≡◌, ◌⊎◌, ℕ, List, Some, codes}
 use Rattle.sk_base.specs.declared.Sketch.{Sketch}
 use Rattle.sk_lines.specs.declared.Refusal.{Refusal as OneRefusal}
 use Rattle.sk_lang.specs.Reading.{Reads, Refuses}
-use Rattle.sk_graph.specs.SketchGraph.{graph_of}
 use Rattle.sk_worklist.specs.declared.Order.{Order}
 use Rattle.sk_tree.specs.declared.Plan.{Plan as ThePlan}
-use Rattle.sk_plan.specs.Judged.{IsWell}
+use Rattle.sk_plan.specs.PlanBy.{IsPlanBy}
 use Rattle.sk_gen.specs.DatumSketch.{datum_sketch}
 use Rattle.sk_report.specs.PlanReport.{plan_report}
 use Rattle.sk_report.specs.RefusalLine.{refusal_line}
@@ -25,7 +24,7 @@ use Rattle.sk_cli.specs.FlipsReport.{IsFlipsAnswer}
 use Rattle.sk_cli.specs.OffersReport.{IsOffersAnswer}
 use Rattle.sk_cli.specs.SessionAnswer.{IsSessionAnswer, RepliesToFront}
 use Rattle.sk_cli.specs.VerifyAnswer.{IsVerifyAnswer}
-pub use Rattle.sk_cli.specs.Solved.{IsPlanBy, IsReportNotWell, IsPlacedPlan, IsSolved}
+pub use Rattle.sk_cli.specs.Solved.{IsReportNotWell, IsPlacedPlan, IsSolved}
 
 abbrev pub usage_line : List ℕ
 usage_line = codes "usage: sketch check|plan|solve|dxf|offers|session|grow|migrate|verify|spare|flips|derive|parts [order=first|last|0..65535] [bits=16|27|38] [within=1..1000000] [place=boxes|points] [frame=base|drawn] [n=3..1000]\n"
@@ -38,9 +37,9 @@ IsAccountOf account bytes text = (s : Sketch) × Reads bytes s × IsAccount acco
 abbrev pub IsRefusalText : List ℕ → List ℕ → Type 0
 IsRefusalText bytes text = (r : OneRefusal) × Refuses bytes r.line r.code × (text ≡ refusal_line r)
 
--- the verdict is well, and this is the plan report
+-- this is the plan report of the plan by the order
 abbrev pub IsPlanReport : Order → Sketch → List ℕ → Type 0
-IsPlanReport order s text = (p : ThePlan) × IsWell (graph_of s) × IsPlanBy order s p × (text ≡ plan_report s p)
+IsPlanReport order s text = (p : ThePlan) × IsPlanBy order s p × (text ≡ plan_report s p)
 
 -- the plan report of the sketch where the verdict is well, else its check report
 abbrev pub IsPlanOrReport : Order → Sketch → Status → List ℕ → Type 0

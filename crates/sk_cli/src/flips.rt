@@ -9,7 +9,7 @@ ghost use Rattle.sk_request.specs.Grids.{grid_of, digits_of};
 
 use crate::alternative::alternative_text;
 use crate::answer::{Answer, refused};
-use crate::planning::{Planning, planned_by};
+use crate::planning::{Planning, plan_or_report};
 use crate::status::Status;
 use sk_base::{Graph, List, Name, NoMemory, Sketch, Text};
 use sk_flips::{Alternative, alternatives, read_flips};
@@ -49,7 +49,7 @@ fn flipped(
     requires few { length lists.now ≤ 64 }
     ensures { IfOk result (λ answer. IsFlipped request s.now lists.now answer.status answer.text) }
 {
-    match planned_by(alloc, request.order, s)? {
+    match plan_or_report(alloc, request.order, s)? {
         Planning::Planned { graph, plan } => {
             let found = alternatives_on(
                 alloc,

@@ -47,13 +47,12 @@ use sk_entry::{entries_keep_soundness, one_entry, what_a_line_says};
 use sk_gen::datum_sketch_is_sound;
 use sk_lang::{one_answer, one_front, readable_is_sound, written_reads_back};
 use sk_lines::quantities_are_sound;
-use sk_plan::{legal_plan, one_plan};
+use sk_plan::legal_plan;
 use sk_rules::one_normal_form;
 use sk_session::{one_reply, some_to_solve};
 use sk_spare::one_list_of_spares;
 use sk_verdict::one_judgement;
 use sk_verify::accepted;
-use sk_worklist::{Chosen, one_run};
 
 /// Words and an input have one outcome at most.
 pub fn one_outcome()
@@ -65,8 +64,6 @@ pub fn one_outcome()
     one_judgement();
     readable_is_sound();
     one_front();
-    one_plan();
-    one_run::<Chosen>();
     one_reply();
     one_list_of_spares();
     one_derived_text();
@@ -83,8 +80,6 @@ pub fn first_replies_are_a_front()
     one_judgement();
     readable_is_sound();
     one_front();
-    one_plan();
-    one_run::<Chosen>();
     one_reply();
     one_list_of_spares();
     one_derived_text();
@@ -161,8 +156,6 @@ pub fn causes()
     one_judgement();
     readable_is_sound();
     one_front();
-    one_plan();
-    one_run::<Chosen>();
     one_reply();
     one_list_of_spares();
     one_derived_text();
@@ -171,7 +164,7 @@ pub fn causes()
 
 /// Where `solve` is done with a sketch, the plan of the run by the order, with nothing turned, finds the very
 /// places and the tolerance that were told, so that `flips` with the same keys tells these where a line of
-/// flips names no step. By `one_run` and `one_plan` the order gives one plan at most, and by `one_alternative`
+/// flips names no step. By `one_plan` the order gives one plan at most, and by `one_alternative`
 /// of `sk_flips` such a plan has one alternative at most for a list of steps; so every line of flips that
 /// names no step tells these, wherever it stands.
 pub fn solved_places_are_found()
@@ -216,8 +209,6 @@ pub fn headline()
     one_normal_form();
     readable_is_sound();
     one_front();
-    one_plan();
-    one_run::<Chosen>();
     what_a_line_says();
     one_reply();
     one_list_of_spares();
@@ -251,8 +242,6 @@ pub fn printed_claims_are_accepted()
     one_judgement();
     readable_is_sound();
     one_front();
-    one_plan();
-    one_run::<Chosen>();
     one_reply();
     one_list_of_spares();
     one_derived_text();

@@ -79,7 +79,7 @@ fn below_part(alloc: Global, request: Request, s: &Sketch, part: &Part) -> Resul
     requires judged { (j : Judgement) × IsTheJudgement (graph_of s.now) j × Contains j.parts part.now }
     ensures { IfOk result (IsBelowPart request s.now part.now) }
 {
-    if part.held > part.due {
+    if part.is_over() {
         return Ok(Text::new(alloc));
     }
     let own = sketch_of_part(alloc, s, part.elements.as_slice())?;

@@ -4,7 +4,7 @@ ghost use Rattle.sk_base.specs.SoundSketch.{IsSoundSketch};
 ghost use Rattle.sk_cli.specs.Outcome.{IsPlanAnswer, IsPlanOrReport};
 
 use crate::answer::{Answer, refused};
-use crate::planning::{Planning, planned_by};
+use crate::planning::{Planning, plan_or_report};
 use crate::status::Status;
 use sk_base::{NoMemory, Sketch};
 use sk_lang::read_sketch;
@@ -30,7 +30,7 @@ fn planned(alloc: Global, order: Order, sketch: &Sketch) -> Result<Answer, NoMem
     requires some { 0 < length sketch.now.elements }
     ensures { IfOk result (λ answer. IsPlanOrReport order sketch.now answer.status answer.text) }
 {
-    match planned_by(alloc, order, sketch)? {
+    match plan_or_report(alloc, order, sketch)? {
         Planning::Planned { plan, .. } => Ok(Answer {
             status: Status::Done,
             text: plan_text(alloc, sketch, &plan)?,

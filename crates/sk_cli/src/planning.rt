@@ -4,11 +4,10 @@ ghost use Rattle.sk_base.specs.SoundSketch.{IsSoundSketch};
 ghost use Rattle.sk_cli.specs.Planning.{IsPlanning};
 
 use sk_base::{Graph, NoMemory, Sketch, Text};
-use sk_graph::reduce;
-use sk_plan::{PlanError, plan_of};
+use sk_plan::{PlanError, Planned, planned_by};
 use sk_report::check_text;
 use sk_tree::Plan;
-use sk_worklist::{Chosen, Order};
+use sk_worklist::Order;
 use std::alloc::Global;
 
 /// What comes of planning a sketch.
@@ -21,14 +20,17 @@ pub enum Planning {
 }
 
 /// The plan of the sketch by the order, or the check report where the verdict isn't well.
-pub(crate) fn planned_by(alloc: Global, order: Order, sketch: &Sketch) -> Result<Planning, NoMemory>
+pub(crate) fn plan_or_report(
+    alloc: Global,
+    order: Order,
+    sketch: &Sketch,
+) -> Result<Planning, NoMemory>
     requires sound { IsSoundSketch sketch.now }
     requires some { 0 < length sketch.now.elements }
     ensures { IfOk result (IsPlanning order sketch.now) }
 {
-    let graph = reduce(alloc, sketch)?;
-    match plan_of(alloc, sketch, &graph, &mut Chosen::new(order)) {
-        Ok(plan) => Ok(Planning::Planned { graph, plan }),
+    match planned_by(alloc, order, sketch) {
+        Ok(Planned { graph, plan }) => Ok(Planning::Planned { graph, plan }),
         Err(PlanError::NotWell(judgement)) => {
             Ok(Planning::NotWell(check_text(alloc, sketch, &judgement)?))
         }

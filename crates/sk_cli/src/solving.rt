@@ -7,7 +7,7 @@ ghost use Rattle.sk_cli.specs.Outcome.{IsSolved};
 
 use crate::answer::Answer;
 use crate::placing::placed;
-use crate::planning::{Planning, planned_by};
+use crate::planning::{Planning, plan_or_report};
 use crate::status::Status;
 use sk_base::{NoMemory, Placed, Sketch, Text};
 use sk_dxf::dxf_text;
@@ -44,7 +44,7 @@ pub(crate) fn solved(
     requires some { 0 < length s.now.elements }
     ensures { IfOk result (λ answer. IsSolved report request s.now answer.status answer.text) }
 {
-    match planned_by(alloc, request.order, s)? {
+    match plan_or_report(alloc, request.order, s)? {
         Planning::Planned { graph, plan } => {
             let placement = placed(
                 alloc,

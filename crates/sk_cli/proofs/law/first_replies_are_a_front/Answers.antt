@@ -5,8 +5,6 @@ pub returns : goal.returns
 returns c =
     front_of_outcome c.one_judgement.ensures (record {
       sound = c.readable_is_sound.ensures.sound;
-      plan = c.one_plan.ensures;
-      run = c.one_run.ensures;
       made = c.datum_sketch_is_sound.ensures;
       reply = c.one_reply.ensures;
       spares = c.one_list_of_spares.ensures;

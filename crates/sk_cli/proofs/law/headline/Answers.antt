@@ -12,8 +12,6 @@ pub returns : goal.returns
 returns c =
     let laws : LowerLaws = record {
       sound = c.readable_is_sound.ensures.sound;
-      plan = c.one_plan.ensures;
-      run = c.one_run.ensures;
       front = record { one_front = c.one_front.ensures.one_front; one_refusal = c.one_front.ensures.one_refusal; not_both = c.one_front.ensures.not_both };
       made = c.datum_sketch_is_sound.ensures;
       reply = c.one_reply.ensures;

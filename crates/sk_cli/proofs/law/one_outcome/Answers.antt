@@ -6,8 +6,6 @@ returns c =
     same_outcome c.one_answer.ensures.one_sketch c.one_answer.ensures.one_refusal c.one_answer.ensures.not_both c.one_judgement.ensures
     (record {
       sound = c.readable_is_sound.ensures.sound;
-      plan = c.one_plan.ensures;
-      run = c.one_run.ensures;
       made = c.datum_sketch_is_sound.ensures;
       reply = c.one_reply.ensures;
       spares = c.one_list_of_spares.ensures;

@@ -22,8 +22,6 @@ returns c =
     let few = c.legal_plan.ensures.steps in
     let laws : LowerLaws = record {
       sound = sound;
-      plan = c.one_plan.ensures;
-      run = c.one_run.ensures;
       front = record { one_front = c.one_front.ensures.one_front; one_refusal = c.one_front.ensures.one_refusal; not_both = c.one_front.ensures.not_both };
       made = c.datum_sketch_is_sound.ensures;
       reply = c.one_reply.ensures;
@@ -46,16 +44,16 @@ returns c =
             of.planned_is,
             of.solved_is,
             of.holds,
-            printed_reads s (sound bytes s of.reads) (numbered bytes s of.reads) solving solved_by asks' of.plan of.at of.tolerance of.holds (few (graph_of s) of.plan graph of.holds.plan.1.legal),
+            printed_reads s (sound bytes s of.reads) (numbered bytes s of.reads) solving solved_by asks' of.plan of.at of.tolerance of.holds (few (graph_of s) of.plan graph of.holds.plan.legal),
             printed_accepted s (sound bytes s of.reads) (numbered bytes s of.reads) solving solved_by asks' of.plan of.at of.tolerance of.holds,
           ));
       reads = λ words bytes request s p at t asks reads holds.
-          printed_reads s (sound bytes s reads) (numbered bytes s reads) words request asks p at t holds (few (graph_of s) p (graph_is_sound s (sound bytes s reads)) holds.plan.1.legal);
+          printed_reads s (sound bytes s reads) (numbered bytes s reads) words request asks p at t holds (few (graph_of s) p (graph_is_sound s (sound bytes s reads)) holds.plan.legal);
       accepted = λ words bytes request s p at t asks reads holds.
           printed_accepted s (sound bytes s reads) (numbered bytes s reads) words request asks p at t holds;
       verified = λ words asked bytes input request checks s p at t f asks reads holds asks' is front same rest.
           (let claim = printed_claim s p at t in
-          let read = printed_reads s (sound bytes s reads) (numbered bytes s reads) words request asks p at t holds (few (graph_of s) p (graph_is_sound s (sound bytes s reads)) holds.plan.1.legal) in
+          let read = printed_reads s (sound bytes s reads) (numbered bytes s reads) words request asks p at t holds (few (graph_of s) p (graph_is_sound s (sound bytes s reads)) holds.plan.legal) in
           let accepted = printed_accepted s (sound bytes s reads) (numbered bytes s reads) words request asks p at t holds in
           inl (
             checks,
