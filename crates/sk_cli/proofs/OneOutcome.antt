@@ -51,7 +51,7 @@ use Rattle.sk_cli.specs.Fronts.{IsRefusedAt}
 use Rattle.sk_cli.specs.OffersReport.{IsReportOnOffers, IsOffersReport, RefusesOffersBehind, IsOffersRefusal, IsOffersAnswer}
 use Rattle.sk_offers.proofs.OfferAnswers.{one_list, one_refusal as one_refusal_behind, not_both as not_both_behind}
 use Rattle.sk_cli.proofs.OneOffering.{same_lines}
-use Rattle.sk_session.proofs.Consistency.{empty_sound}
+use Rattle.sk_entry.proofs.Growing.{empty_sound}
 use Rattle.sk_claims.specs.declared.claim.Claim.{Claim}
 use Rattle.sk_verify.specs.declared.failure.Failure.{Failure}
 use Rattle.sk_claims.specs.ClaimReading.{ReadsClaim}

@@ -12,7 +12,7 @@ use Rattle.sk_worklist.specs.declared.Order.TheVariants as order
 use Rattle.sk_worklist.specs.Orders.{place_of, next_call, place_below}
 use Rattle.sk_session.specs.declared.Reply.{Reply}
 use Rattle.sk_session.specs.declared.Reply.TheVariants as reply
-use Rattle.sk_edits.specs.Edits.{empty}
+use Rattle.sk_entry.specs.Growth.{empty_sketch}
 use Rattle.sk_session.specs.Replies.{Answers}
 use Rattle.sk_session.specs.State.{State, sketch_in, fresh}
 use Rattle.sk_session.proofs.Consistency.{consistent_new}
@@ -90,7 +90,7 @@ module _ (language : GivenByLanguage) (some_to_solve : SomeToSolve) (solved : So
       elim (cases_lt 1048576 (length bytes)) [
         | inl long ↦ (Refused, refusal_line (record { line = 0; code = E20 }), (long, refl))
         | inr fits ↦ (
-            let kept : IsKept (at_start request.order) = ([], refl, consistent_new (initial_clusters (graph_of empty)) refl) in
+            let kept : IsKept (at_start request.order) = ([], refl, consistent_new (initial_clusters (graph_of empty_sketch)) refl) in
             let found = answered_from fits (lines_in bytes) (at_start request.order) [] (stands_first request bytes) kept in
             (Done, found.0, found.1))
       ]

@@ -11,7 +11,7 @@ use Rattle.sk_report.specs.RefusalLine.{refusal_line}
 use Rattle.sk_session.specs.declared.Closing.TheVariants.{InAnyOrder}
 use Rattle.sk_session.specs.declared.Reply.{Reply}
 use Rattle.sk_session.specs.declared.Reply.TheVariants as reply
-use Rattle.sk_edits.specs.Edits.{empty}
+use Rattle.sk_entry.specs.Growth.{empty_sketch}
 use Rattle.sk_session.specs.State.{State, sketch_in}
 use Rattle.sk_session.specs.Replies.{Answers}
 use Rattle.sk_worklist.specs.declared.Order.{Order}
@@ -48,7 +48,7 @@ AreReplied request old (line ∷ lines) new text =
 
 -- a session before its first line, whose checks close in any order
 abbrev pub at_start : Order → State
-at_start order = record { order = order; closing = InAnyOrder; edits = []; count = 0; family = initial_clusters (graph_of empty) }
+at_start order = record { order = order; closing = InAnyOrder; edits = []; count = 0; family = initial_clusters (graph_of empty_sketch) }
 
 -- some lines at the front of the input are answered, and this is the text of their replies
 pub record RepliesToFront (request : Request) (bytes text : List ℕ) : Type 0 where

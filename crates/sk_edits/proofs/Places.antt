@@ -1,5 +1,5 @@
 -- Items of a list in order of number, and what stands at the place of a number.
-use Rattle.std.proofs.Common.{◌≡◌, ◌≢◌, inl, inr, ℕ, zero, suc, ◌<◌, ◌≤◌, ◌==◌, true, false, cond, List, [], ◌∷◌, ◌++◌, length, get_or, refl, ap, sym, subst, ◌∙◌, arith}
+use Rattle.std.proofs.Common.{◌≡◌, ◌≢◌, inl, inr, ℕ, zero, suc, ◌<◌, ◌==◌, true, false, cond, List, [], ◌∷◌, ◌++◌, length, get_or, refl, ap, sym, subst, ◌∙◌, arith}
 use Rattle.std.specs.Prelude.{Contains, map, not, insert, remove, slice_set}
 use Rattle.std.proofs.lemmas.Bool.Decides.{nat_tests}
 use Rattle.std.proofs.lemmas.List.{get_or_default}
@@ -11,7 +11,7 @@ use Rattle.sk_base.proofs.Unions.{which, rising_apart, rising_same}
 use Rattle.sk_base.proofs.Filters.{filter_keeps}
 use Rattle.sk_base.proofs.Numbers.{other_passes, same_fails, passes_differ}
 use Rattle.sk_base.proofs.Splits.{taken_from, dropped_from, in_inserted, pairs_inserted}
-use Rattle.sk_edits.specs.Changes.{HasItem, without, with_item}
+use Rattle.sk_edits.specs.Changes.{IsPlaceOf, HasItem, without, with_item}
 
 pub same_all : {X : Type 0} (f : X → X) (xs : List X) → ((x : X) → Contains xs x → f x ≡ x) → map f xs ≡ xs
 same_all f [] same = refl
@@ -44,25 +44,24 @@ module _ {X : Type 0} (number : X → ℕ) where
       rw other
       (ap (λ ys. x ∷ ys) (replaced xs i item d (pairs_tail (λ a b. number a < number b) x xs rises) (omega arith) is))
 
-  module _ (xs : List X) (rises : IsRising number xs) (n place : ℕ) (bound : place ≤ length xs)
-      (before : (k : ℕ) (d : X) → k < place → number (get_or xs k d) < n) (behind : (d : X) → place < length xs → n ≤ number (get_or xs place d)) where
+  module _ (xs : List X) (rises : IsRising number xs) (n place : ℕ) (is_place : IsPlaceOf number xs n place) where
     pub stands : (x : X) → Contains xs x → number x ≡ n → (place < length xs) × (get_or xs place x ≡ x)
     stands x (i, i_in, is) same =
         let level : number (get_or xs i x) ≡ n = ap number is ∙ same in
         elim (which i place) [
-          | inl less ↦ absurd (let below = before i x less in omega arith)
+          | inl less ↦ absurd (let below = is_place.before i x less in omega arith)
           | inr (inl equal) ↦ (omega arith, subst (λ k. get_or xs k x ≡ x) equal is)
-          | inr (inr more) ↦ absurd (let above = behind x (omega arith) in let rising = rises place i x more i_in in omega arith)
+          | inr (inr more) ↦ absurd (let above = is_place.behind x (omega arith) in let rising = rises place i x more i_in in omega arith)
         ]
 
     module _ (item : X) (is : number item ≡ n) (other : (x : X) → Contains xs x → number x ≢ number item) where
       pub put_rises : IsRising number (insert xs place item)
       put_rises =
           pairs_inserted (λ x y. number x < number y) xs place item rises
-          (λ x h. (let found = taken_from xs place x bound h in let less = before found.0 x found.1 in let same = ap number found.2 in omega arith))
+          (λ x h. (let found = taken_from xs place x is_place.bound h in let less = is_place.before found.0 x found.1 in let same = ap number found.2 in omega arith))
           (λ x h. (
           let found = dropped_from xs place x h in
-          let at_place = behind x (omega (arith, found.1, found.2)) in
+          let at_place = is_place.behind x (omega (arith, found.1, found.2)) in
           let same = ap number found.3 in
           let x_in : Contains xs x = (found.0, found.2, found.3) in
           let differs = other x x_in in

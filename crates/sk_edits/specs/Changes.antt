@@ -1,5 +1,11 @@
 -- Changes of one item of a list.
-use Rattle.std.specs.Prelude.{◌≡◌, ◌↔◌, ◌⊎◌, ◌==◌, ℕ, not, if◌then◌else◌, List, filter, map, Contains}
+use Rattle.std.specs.Prelude.{◌≡◌, ◌↔◌, ◌⊎◌, ◌==◌, ◌<◌, ◌≤◌, ℕ, not, if◌then◌else◌, List, length, filter, map, slice_index_or, Contains}
+
+-- the place of a number: all items before it have lesser numbers, and the one that stands there does not
+pub record IsPlaceOf {X : Type 0} (number : X → ℕ) (items : List X) (n place : ℕ) : Type 0 where
+  pub bound : place ≤ length items
+  pub before : (k : ℕ) (d : X) → k < place → number (slice_index_or items k d) < n
+  pub behind : (d : X) → place < length items → n ≤ number (slice_index_or items place d)
 
 -- the items of old, and one more
 abbrev pub HasItem : {X : Type 0} → X → List X → List X → Type 0

@@ -1,7 +1,7 @@
 // Lists in order of number, and changes of one item.
-ghost use Rattle.std.specs.Prelude.{◌≡◌, ◌≢◌, ◌<◌, ◌≤◌, ℕ, Contains, length, slice_index_or, OnOk, OnErr};
+ghost use Rattle.std.specs.Prelude.{◌≡◌, ◌≢◌, ℕ, Contains, OnOk, OnErr};
 ghost use Rattle.sk_base.specs.Rising.{IsRising};
-ghost use Rattle.sk_edits.specs.Changes.{HasItem, without, with_item};
+ghost use Rattle.sk_edits.specs.Changes.{IsPlaceOf, HasItem, without, with_item};
 
 use sk_base::{Constraint, Element, List, NoMemory};
 
@@ -31,10 +31,8 @@ impl HasNumber for Constraint {
 
 /// How many items have lesser numbers: they stand in front.
 fn place_of<T: HasNumber>(items: &[T], number: u32) -> usize
-    requires rise { IsRising T.number items.now }
-    ensures bound { result ≤ length items.now }
-    ensures before { (k : ℕ) (d : T) → k < result → T.number (slice_index_or items.now k d) < number }
-    ensures behind { (d : T) → result < length items.now → number ≤ T.number (slice_index_or items.now result d) }
+    requires { IsRising T.number items.now }
+    ensures { IsPlaceOf T.number items.now number result }
 {
     items.partition_point(|item| item.number() < number)
 }

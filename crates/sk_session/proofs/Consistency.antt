@@ -1,5 +1,5 @@
 -- What a session keeps stays in step with its standing edits.
-use Rattle.std.proofs.Common.{◌≡◌, ◌≢◌, ℕ, zero, suc, ◌+◌, ◌-◌, ◌<◌, ◌≤◌, List, [], ◌∷◌, ◌++◌, length, get_or, take, refl, ap, sym, subst, ◌∙◌, arith, append_assoc}
+use Rattle.std.proofs.Common.{◌≡◌, ℕ, zero, suc, ◌+◌, ◌-◌, ◌<◌, ◌≤◌, List, [], ◌∷◌, ◌++◌, length, get_or, take, refl, ap, sym, subst, ◌∙◌, arith, append_assoc}
 use Rattle.std.specs.Prelude.{fold, max, remove}
 use Rattle.std.proofs.Math.Seq.{get_or-append_seam}
 use Rattle.std.proofs.lemmas.List.Edits.{remove-append_right}
@@ -10,7 +10,6 @@ use Rattle.sk_base.specs.declared.Constraint.{Constraint}
 use Rattle.sk_base.specs.declared.Sketch.{Sketch}
 use Rattle.sk_base.specs.Rising.{union}
 use Rattle.sk_base.specs.SoundSketch.{IsSoundSketch}
-use Rattle.sk_base.proofs.Pairs.{pairs_none}
 use Rattle.sk_family.specs.Clusters.{Clusters, IsSound, initial_clusters, bodies}
 use Rattle.sk_family.specs.Body.{initial_bodies}
 use Rattle.sk_family.proofs.Soundness.{sound_initial}
@@ -21,29 +20,19 @@ use Rattle.sk_graph.proofs.Soundness.{graph_is_sound}
 use Rattle.sk_edits.specs.declared.Edit.{Edit}
 use Rattle.sk_edits.specs.declared.Edit.TheVariants as edit
 use Rattle.sk_session.specs.declared.done.Done.{Done}
-use Rattle.sk_edits.specs.Edits.{empty, applied, sketch_of, element_given, constraint_given, next_element, next_constraint}
+use Rattle.sk_entry.specs.Growth.{empty_sketch}
+use Rattle.sk_entry.proofs.Growing.{empty_sound}
+use Rattle.sk_edits.specs.Edits.{applied, sketch_of, element_given, constraint_given, next_element, next_constraint}
 use Rattle.sk_session.specs.Past.{edit_of, edits_of, Stood, LeadsTo}
 use Rattle.sk_edits.specs.Making.{CanMake}
 use Rattle.sk_session.specs.Following.{Follows, FollowsBack, IsReachedIn}
 use Rattle.sk_session.specs.Standing.{Gives, element_after, constraint_after, element_before, constraint_before, IsMade, AllMade, IsConsistent}
 use Rattle.sk_session.proofs.Following.{follows_edit, follows_undo}
 
-pub empty_sound : IsSoundSketch empty
-empty_sound = record {
-  elements_rise = pairs_none (λ (x y : Element). x.number.0 < y.number.0);
-  constraints_rise = pairs_none (λ (x y : Constraint). x.number.0 < y.number.0);
-  labels_are_names = λ k d k_in. absurd (omega arith);
-  labels_differ = pairs_none (λ (x y : Element). x.label ≢ y.label);
-  few_elements = omega arith;
-  few_constraints = omega arith;
-  shapes_sound = λ k d k_in. absurd (omega arith);
-  rules_sound = λ k d k_in. absurd (omega arith);
-}
-
-pub consistent_new : (f : Clusters) → f ≡ initial_clusters (graph_of empty) → IsConsistent [] empty 1 1 0 f
+pub consistent_new : (f : Clusters) → f ≡ initial_clusters (graph_of empty_sketch) → IsConsistent [] empty_sketch 1 1 0 f
 unfolding union
 consistent_new f is =
-    subst (λ g. IsConsistent [] empty 1 1 0 g) (sym is)
+    subst (λ g. IsConsistent [] empty_sketch 1 1 0 g) (sym is)
     (record {
       made = tt;
       sketch_is = refl;
@@ -53,13 +42,13 @@ consistent_new f is =
       few_con = omega arith;
       few = omega arith;
       sound = empty_sound;
-      family_sound = sound_initial (graph_of empty) (graph_is_sound empty empty_sound);
+      family_sound = sound_initial (graph_of empty_sketch) (graph_is_sound empty_sketch empty_sound);
       reached = stays;
       room = omega arith;
     })
 
 sketch_push : (es : List Edit) (e : Edit) → sketch_of (es ++ e ∷ []) ≡ applied e (sketch_of es)
-sketch_push es e = fold-append (λ s d. applied d s) empty es (e ∷ [])
+sketch_push es e = fold-append (λ s d. applied d s) empty_sketch es (e ∷ [])
 
 pub edits_push : (done : List Done) (d : Done) → edits_of (done ++ d ∷ []) ≡ edits_of done ++ edit_of d ∷ []
 edits_push done d = map-append edit_of done (d ∷ [])

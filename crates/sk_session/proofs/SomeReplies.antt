@@ -58,7 +58,8 @@ use Rattle.sk_session.specs.declared.reply.Reply.TheVariants as reply
 use Rattle.sk_base.specs.declared.Rule.{Rule}
 use Rattle.sk_base.specs.declared.Rule.TheVariants as rule
 use Rattle.sk_edits.specs.Commands.{id_of, rule_with, setting, command_of, edit_made, change_rows}
-use Rattle.sk_edits.specs.Edits.{empty, applied, sketch_of, next_element, next_constraint}
+use Rattle.sk_entry.specs.Growth.{empty_sketch}
+use Rattle.sk_edits.specs.Edits.{applied, sketch_of, next_element, next_constraint}
 use Rattle.sk_edits.specs.Making.{CanMake}
 use Rattle.sk_edits.specs.declared.Change.TheVariants.{Drop, Set, Erase}
 use Rattle.sk_entry.specs.Named.{number_named}
@@ -111,7 +112,7 @@ accepted_done old (done, same, k) room d can given stood =
     let few = k.room in
     let next = followed e (sketch_in old) can old.family k.family_sound k.reached (omega arith) in
     let new : State = record { order = old.order; closing = old.closing; edits = old.edits ++ e ∷ []; count = old.count + 1; family = next.new } in
-    let pushed : sketch_in new ≡ applied e (sketch_in old) = fold-append (λ s x. applied x s) empty old.edits (e ∷ []) in
+    let pushed : sketch_in new ≡ applied e (sketch_in old) = fold-append (λ s x. applied x s) empty_sketch old.edits (e ∷ []) in
     let edits : edits_of (done ++ d ∷ []) ≡ new.edits = edits_push done d ∙ ap (λ es. es ++ e ∷ []) same in
     let made = consistent_made done (sketch_in old) (sketch_in new) (next_element old.edits) (next_constraint old.edits) old.count old.family next.new k room next.sound next.few d
     (subst (λ es. CanMake e (sketch_of es)) (sym same) can) (subst (λ es. Gives e es) (sym same) given) stood pushed next.follows in

@@ -19,7 +19,7 @@ ghost use Rattle.sk_edits.specs.declared.Edit.TheVariants as an_edit;
 use crate::done::Done;
 use crate::origin::{adopt, origin_of};
 use sk_base::{ConId, Constraint, Name, NoMemory, Ratio, Rule, Sketch, Um, copy_constraint};
-use sk_edits::{exchange, put, take};
+use sk_edits::{put, remove, replace};
 use sk_family::{Cluster, Family};
 use sk_graph::reduce;
 use std::alloc::Global;
@@ -52,7 +52,7 @@ pub(crate) fn add_constraint(
     match adopt(family, &origin) {
         Ok(()) => Ok(()),
         Err(NoMemory) => {
-            take(&mut sketch.constraints, constraint.number.0);
+            remove(&mut sketch.constraints, constraint.number.0);
             Err(NoMemory)
         }
     }
@@ -81,7 +81,7 @@ pub(crate) fn remove_constraint(
     let graph = reduce(alloc, sketch)?;
     let name = owner(family, number);
     family.dissolve(name, number, &graph)?;
-    take(&mut sketch.constraints, number.0);
+    remove(&mut sketch.constraints, number.0);
     Ok(())
 }
 
@@ -125,7 +125,7 @@ fn set_length(alloc: Global, sketch: &mut Sketch, old: &Constraint, len: Um) -> 
 {
     let number = old.number;
     let rule = with_length(copy_constraint(alloc, old)?.rule, len);
-    exchange(&mut sketch.constraints, Constraint { number, rule });
+    replace(&mut sketch.constraints, Constraint { number, rule });
     Ok(())
 }
 
@@ -143,7 +143,7 @@ fn set_ratio(
 {
     let number = old.number;
     let rule = with_ratio(copy_constraint(alloc, old)?.rule, ratio);
-    exchange(&mut sketch.constraints, Constraint { number, rule });
+    replace(&mut sketch.constraints, Constraint { number, rule });
     Ok(())
 }
 
@@ -191,7 +191,7 @@ pub(crate) fn change(
         Done::Length(len, constraint) => set_length(alloc, sketch, constraint, *len),
         Done::Turned(ratio, constraint) => set_ratio(alloc, sketch, constraint, *ratio),
         Done::Erased(element) => {
-            take(&mut sketch.elements, element.number.0);
+            remove(&mut sketch.elements, element.number.0);
             Ok(())
         }
     }
@@ -216,7 +216,7 @@ pub(crate) fn change_back(
 {
     match done {
         Done::Element(element) => {
-            take(&mut sketch.elements, element.number.0);
+            remove(&mut sketch.elements, element.number.0);
         }
         Done::Constraint(constraint) => {
             remove_constraint(alloc, sketch, family, constraint.number)?;
@@ -224,7 +224,7 @@ pub(crate) fn change_back(
         Done::Dropped(constraint) => add_constraint(alloc, sketch, family, constraint)?,
         Done::Length(_, constraint) | Done::Turned(_, constraint) => {
             let constraint = copy_constraint(alloc, constraint)?;
-            exchange(&mut sketch.constraints, constraint);
+            replace(&mut sketch.constraints, constraint);
         }
         Done::Erased(element) => put(&mut sketch.elements, *element)?,
     }

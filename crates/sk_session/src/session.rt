@@ -3,7 +3,8 @@
 ghost use Rattle.std.specs.Prelude.{◌≡◌, ◌+◌, ◌<◌, ◌≤◌, ◌++◌, [], ◌∷◌, IfOk, OnOk, OnErr, length};
 ghost use Rattle.sk_family.specs.Clusters.{initial_clusters};
 ghost use Rattle.sk_graph.specs.SketchGraph.{graph_of};
-ghost use Rattle.sk_edits.specs.Edits.{empty, next_element, next_constraint};
+ghost use Rattle.sk_entry.specs.Growth.{empty_sketch};
+ghost use Rattle.sk_edits.specs.Edits.{next_element, next_constraint};
 ghost use Rattle.sk_base.specs.SoundSketch.{IsSoundSketch};
 ghost use Rattle.sk_edits.specs.Making.{CanMake};
 ghost use Rattle.sk_lines.specs.EndLine.{is_none_left};
@@ -18,6 +19,7 @@ use crate::done::Done;
 use crate::reply::Reply;
 use sk_base::{List, NoMemory, Sketch};
 use sk_edits::Edit;
+use sk_entry::empty_sketch;
 use sk_family::{Family, initial};
 use sk_graph::reduce;
 use sk_plan::{PlanError, plan_of};
@@ -57,12 +59,9 @@ impl Session {
     /// A session with the sketch without elements. Its plans merge in this order, and so do its checks
     /// unless they close in any order.
     pub fn new(alloc: Global, order: Order, closing: Closing) -> Result<Session, NoMemory>
-        ensures { IfOk result (λ s. s ≡ record { order = order; closing = closing; edits = []; count = 0; family = initial_clusters (graph_of empty) }) }
+        ensures { IfOk result (λ s. s ≡ record { order = order; closing = closing; edits = []; count = 0; family = initial_clusters (graph_of empty_sketch) }) }
     {
-        let sketch = Sketch {
-            elements: List::new(alloc),
-            constraints: List::new(alloc),
-        };
+        let sketch = empty_sketch(alloc);
         let family = initial(alloc, &reduce(alloc, &sketch)?)?;
         Ok(Session {
             alloc,

@@ -1,7 +1,7 @@
-use Rattle.std.proofs.Common.{◌<◌, ◌≤◌, ℕ, length, get_or, sym, subst, List, refl}
+use Rattle.std.proofs.Common.{sym, subst, List, refl}
 use Rattle.sk_base.specs.Rising.{IsRising}
 use Rattle.sk_base.proofs.Searches.{on_ok}
-use Rattle.sk_edits.specs.Changes.{HasItem}
+use Rattle.sk_edits.specs.Changes.{IsPlaceOf, HasItem}
 use Rattle.sk_edits.proofs.Places.{put_rises, put_has}
 use Rattle.sk_edits.proofs.numbered.put.Goals as goal
 
@@ -9,13 +9,11 @@ pub returns-clause-rise : goal.returns-clause-rise
 returns-clause-rise g c =
     let number = g.T.HasNumber.number in
     let xs = c.args.items.now in
-    let place = c.place_of-place.result in
     let n = number c.args.item in
-    let bound : place ≤ length xs = rw c.as_slice.ensures at c.place_of-place.ensures.bound in
-    let before : (k : ℕ) (d : _) → k < place → number (get_or xs k d) < n = rw (c.as_slice.ensures, c.number.ensures) at c.place_of-place.ensures.before in
-    let behind : (d : _) → place < length xs → n ≤ number (get_or xs place d) = rw (c.as_slice.ensures, c.number.ensures) at c.place_of-place.ensures.behind in
+    let place = c.place_of-place.result in
+    let is_place : IsPlaceOf number xs n place = rw (c.as_slice.ensures, c.number.ensures) at c.place_of-place.ensures in
     on_ok c.insert.result c.insert.ensures.ok (λ is. subst (λ (ys : List _). IsRising number ys) (sym is)
-    (put_rises number xs c.requires.rise n place bound before behind c.args.item refl c.requires.other))
+    (put_rises number xs c.requires.rise n place is_place c.args.item refl c.requires.other))
 
 pub returns-clause-put : goal.returns-clause-put
 returns-clause-put g c =

@@ -19,8 +19,8 @@ pub add_constraint-requires-clause-other : goal.add_constraint-requires-clause-o
 add_constraint-requires-clause-other c =
     none_dropped _ _ _ (retold _ _ _ _ c.in-Dropped.is c.requires.led.1)
 
-pub exchange-requires-clause-rise : goal.exchange-requires-clause-rise
-exchange-requires-clause-rise c =
+pub replace-requires-clause-rise : goal.replace-requires-clause-rise
+replace-requires-clause-rise c =
     let led = c.requires.led.1 in
     let sound : IsSoundSketch c.args.sketch.now = subst (λ (s : Sketch). IsSoundSketch s) (sym led.is) led.can.stays_sound in sound.constraints_rise
 
@@ -30,7 +30,7 @@ put-requires-clause-other c =
 
 pub returns-in-Element-clause-ok : goal.returns-in-Element-clause-ok
 returns-in-Element-clause-ok c before led = (
-  element_back _ _ _ (retold _ _ _ _ c.in-Element.is led) _ c.take.ensures.rest,
+  element_back _ _ _ (retold _ _ _ _ c.in-Element.is led) _ c.remove.ensures,
   subst (λ (d : Done). FollowsBack (edit_of d) before c.args.family.now c.args.family.now) (sym c.in-Element.is) refl,
 )
 
@@ -57,8 +57,8 @@ returns-in_ok-put-in-Erased-clause-ok c before led =
       subst (λ (d : Done). FollowsBack (edit_of d) before c.args.family.now c.args.family.now) (sym c.in-Erased.is) refl,
     )
 
-pub exchange-requires-clause-some : goal.exchange-requires-clause-some
-exchange-requires-clause-some c =
+pub replace-requires-clause-some : goal.replace-requires-clause-some
+replace-requires-clause-some c =
     let found : (x : Constraint) × Contains c.args.sketch.now.constraints x × (x.number.0 ≡ c.in-Length.constraint.number.0) = elim c.in-Length.is [
       | inl (len, is) ↦ length_in _ _ len _ (retold _ _ _ _ is c.requires.led.1)
       | inr (ratio, is) ↦ ratio_in _ _ ratio _ (retold _ _ _ _ is c.requires.led.1)
@@ -67,7 +67,7 @@ exchange-requires-clause-some c =
 
 pub returns-in_ok-constraint-in-Length-clause-ok : goal.returns-in_ok-constraint-in-Length-clause-ok
 returns-in_ok-constraint-in-Length-clause-ok c before led =
-    let new = c.exchange.ensures.new ∙ ap (λ (x : Constraint). with_item constraint_number x c.args.sketch.now.constraints) c.in_ok-constraint-in-Length.ensures in
+    let new = c.replace.ensures ∙ ap (λ (x : Constraint). with_item constraint_number x c.args.sketch.now.constraints) c.in_ok-constraint-in-Length.ensures in
     elim c.in-Length.is [
       | inl (len, is) ↦ (
         length_back _ _ len _ (retold _ _ _ _ is led) _ new,

@@ -7,16 +7,16 @@ use Rattle.sk_edits.specs.Edits.{changed, constraint_number, with_ratio}
 use Rattle.sk_edits.proofs.Setting.{set_one}
 use Rattle.sk_session.proofs.change.set_ratio.Goals as goal
 
-pub exchange-requires-clause-some : goal.exchange-requires-clause-some
-exchange-requires-clause-some c = (c.args.old.now, c.requires.there, refl)
+pub replace-requires-clause-some : goal.replace-requires-clause-some
+replace-requires-clause-some c = (c.args.old.now, c.requires.there, refl)
 
 pub returns-clause-ok : goal.returns-clause-ok
 returns-clause-ok c =
     let cs = c.args.sketch.now.constraints in
     let old = c.args.old.now in
     let rule_is = c.with_ratio-rule.ensures ∙ ap (λ (x : Constraint). with_ratio c.args.ratio x.rule) c.in_ok-copy_constraint.ensures in
-    let made : c.exchange.new.items ≡ map (changed old.number (with_ratio c.args.ratio)) cs =
-    c.exchange.ensures.new
+    let made : c.replace.new.items ≡ map (changed old.number (with_ratio c.args.ratio)) cs =
+    c.replace.ensures
     ∙ ap (λ (r : Rule). with_item constraint_number (record { number = old.number; rule = r }) cs) rule_is
     ∙ set_one old.number (with_ratio c.args.ratio) old cs c.requires.sound.constraints_rise c.requires.there refl in
     ap (λ (xs : List Constraint). record { elements = c.args.sketch.now.elements; constraints = xs }) made
