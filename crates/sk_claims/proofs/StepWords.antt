@@ -8,7 +8,7 @@ use Rattle.sk_base.specs.declared.Placed.{Placed}
 use Rattle.sk_base.specs.declared.Sketch.{Sketch}
 use Rattle.sk_claims.specs.ClaimLines.{choice_of, are_fixed, is_choice_long, corner_rows, step_rows, limits_of, is_bad_whole, is_placed, name_rows, element_rows}
 use Rattle.sk_claims.specs.declared.first_word.Figure.{Figure}
-use Rattle.sk_entry.proofs.Ends.{err_is}
+use Rattle.sk_base.proofs.Results.{err_is}
 use Rattle.sk_lines.proofs.FirstCodes.{code_front, code_behind}
 use Rattle.sk_lines.specs.ClusterWords.{is_bad_name}
 use Rattle.sk_lines.specs.FirstCode.{first_code, unless}

@@ -6,8 +6,8 @@ use Rattle.std.proofs.lemmas.List.{get_or_default}
 use Rattle.sk_base.specs.Rising.{IsRising}
 use Rattle.std.proofs.lemmas.List.Elements.{Contains-push, Contains-push_cases, Contains-append_left}
 use Rattle.sk_base.proofs.Members.{contains_head, contains_later, contains_filtered, filtered_from}
-use Rattle.sk_base.proofs.Pairs.{pairs_tail, pairs_head, pairs_push, pairs_filter, pairs_same}
-use Rattle.sk_base.proofs.Unions.{which, rising_apart}
+use Rattle.sk_base.proofs.Pairs.{pairs_tail, pairs_head, pairs_push, pairs_filter}
+use Rattle.sk_base.proofs.Unions.{which, rising_apart, rising_same}
 use Rattle.sk_base.proofs.Filters.{filter_keeps}
 use Rattle.sk_base.proofs.Numbers.{other_passes, same_fails, passes_differ}
 use Rattle.sk_base.proofs.Splits.{taken_from, dropped_from, in_inserted, pairs_inserted}
@@ -74,18 +74,15 @@ module _ {X : Type 0} (number : X → ℕ) where
   pub put_has : (xs : List X) (place : ℕ) (item : X) → HasItem item xs (insert xs place item)
   put_has xs place item x = in_inserted xs place item x
 
--- lists in order with the same items are the same
+-- items put, taken out and put back
 module _ {X : Type 0} (number : X → ℕ) where
   abbrev pub ByNumber : X → X → Type 0
   ByNumber x y = number x < number y
 
-  same_items : (xs ys : List X) → IsRising number xs → IsRising number ys → ((z : X) → Contains xs z → Contains ys z) → ((z : X) → Contains ys z → Contains xs z) → xs ≡ ys
-  same_items xs ys r s to from = pairs_same ByNumber (λ x h. absurd (omega arith)) (λ x y h g. absurd (omega arith)) xs ys r s to from
-
   -- what is put and taken out again
   pub taken_back : (item : X) (xs ys : List X) → IsRising number xs → IsRising number ys → HasItem item xs ys → ((x : X) → Contains xs x → number x ≢ number item) → without number (number item) ys ≡ xs
   taken_back item xs ys r s put other =
-      same_items (without number (number item) ys) xs (pairs_filter ByNumber (λ x. not (number x == number item)) ys s) r
+      rising_same number (without number (number item) ys) xs (pairs_filter ByNumber (λ x. not (number x == number item)) ys s) r
       (λ z h. (
       let was = filtered_from (λ x. not (number x == number item)) ys z h in
       elim ((put z).0 was.0) [
@@ -97,7 +94,7 @@ module _ {X : Type 0} (number : X → ℕ) where
   -- an item above all others is put at the end
   pub put_last : (item : X) (xs ys : List X) → IsRising number xs → IsRising number ys → HasItem item xs ys → ((x : X) → Contains xs x → number x < number item) → ys ≡ xs ++ item ∷ []
   put_last item xs ys r s put above =
-      same_items ys (xs ++ item ∷ []) s (pairs_push ByNumber xs item r above)
+      rising_same number ys (xs ++ item ∷ []) s (pairs_push ByNumber xs item r above)
       (λ z h. elim ((put z).0 h) [
         | inl is ↦ subst (λ w. Contains (xs ++ item ∷ []) w) is (Contains-push xs item)
         | inr old ↦ Contains-append_left xs (item ∷ []) z old
@@ -110,7 +107,7 @@ module _ {X : Type 0} (number : X → ℕ) where
   -- what is taken out and put again
   pub put_back : (item : X) (xs ys : List X) → IsRising number xs → IsRising number ys → Contains xs item → HasItem item (without number (number item) xs) ys → ys ≡ xs
   put_back item xs ys r s item_in put =
-      same_items ys xs s r
+      rising_same number ys xs s r
       (λ z h. elim ((put z).0 h) [
         | inl is ↦ subst (λ w. Contains xs w) is item_in
         | inr old ↦ (filtered_from (λ x. not (number x == number item)) xs z old).0

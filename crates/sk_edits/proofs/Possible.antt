@@ -1,10 +1,9 @@
 -- Lines without a code say edits that can be made.
-use Rattle.std.proofs.Common.{◌≡◌, inl, inr, ℕ, ◌==◌, false, cond, List, [], ◌∷◌, Option, Some, None, Ok, Err, is_none, refl, ap, sym, subst, ◌∙◌, arith}
+use Rattle.std.proofs.Common.{◌≡◌, ℕ, ◌==◌, false, cond, List, [], ◌∷◌, Option, Some, None, Ok, Err, is_none, refl, ap, sym, subst, ◌∙◌, arith}
 use Rattle.std.specs.Prelude.{Contains, not, unwrap_or, bytes_eq}
 use Rattle.std.specs.List.{list_any}
 use Rattle.std.specs.Option.{option_map}
 use Rattle.std.proofs.lemmas.List.Elements.{All-contains, Contains-push}
-use Rattle.std.proofs.lemmas.Bool.{or_parts}
 use Rattle.std.proofs.lemmas.Bool.Decides.{nat_tests}
 use Rattle.sk_base.specs.declared.Elem.{Elem}
 use Rattle.sk_base.specs.declared.ConId.{ConId}
@@ -16,8 +15,8 @@ use Rattle.sk_base.specs.declared.Sketch.{Sketch}
 use Rattle.sk_base.specs.Labels.{is_name}
 use Rattle.sk_base.specs.Numbering.{con_exact, is_elem}
 use Rattle.sk_base.specs.SoundSketch.{IsSoundSketch, IsSoundRule, IsLength, IsSoundRatio}
+use Rattle.sk_base.proofs.Filters.{none_passes}
 use Rattle.sk_base.proofs.Finding.{found_in}
-use Rattle.sk_base.proofs.Members.{contains_none, contains_cases}
 use Rattle.sk_lines.specs.declared.Code.{Code}
 use Rattle.sk_lines.specs.declared.Code.TheVariants.{E4, E6, E8, E9, S1, S2}
 use Rattle.sk_lines.specs.Quantities.{is_zero, length_of, ratio_of, um, ratio}
@@ -71,16 +70,9 @@ has_numbered s k c is =
 
 -- where no constraint passes the test, none names the element
 unused : (x : Elem) (cs : List Constraint) → list_any (λ (c : Constraint). is_elem (named_by c.rule) x) cs ≡ false → (c : Constraint) → Contains cs c → ¬ Contains (named_by c.rule) x
-unused x [] none c c_in = absurd (contains_none c c_in)
-unused x (d ∷ cs) none c c_in =
-    let split = or_parts (is_elem (named_by d.rule) x) (list_any (λ (y : Constraint). is_elem (named_by y.rule) x) cs) none in
-    elim (contains_cases d cs c c_in) [
-      | inl here ↦ subst (λ (y : Constraint). ¬ Contains (named_by y.rule) x) here (apart d split.0)
-      | inr later ↦ unused x cs split.1 c later
-    ]
-  where
-    apart : (y : Constraint) → is_elem (named_by y.rule) x ≡ false → ¬ Contains (named_by y.rule) x
-    apart y is named = (let found = found_elem (named_by y.rule) x named in absurd (cc))
+unused x cs none c c_in named =
+    let fails = none_passes (λ (y : Constraint). is_elem (named_by y.rule) x) cs none c c_in in
+    let found = found_elem (named_by c.rule) x named in absurd (cc)
 
 has_named : (s : Sketch) (name : List ℕ) (e : Element) → element_named s name ≡ Some e → HasElement s (number_named s name)
 has_named s name e is =

@@ -1,7 +1,8 @@
 -- The first code of a constraint's names is its own, whatever tests stand behind them.
-use Rattle.std.proofs.Common.{◌≡◌, ℕ, Bool, true, false, not, cond, List, Option, Some, None, Result, Ok, Err, IsErr, IsErrAnd, ap, sym, ◌∙◌}
+use Rattle.std.proofs.Common.{◌≡◌, ℕ, Bool, true, false, not, cond, List, Option, Some, None, Result, IsErr, IsErrAnd, ap, sym, ◌∙◌}
 use Rattle.std.specs.List.{list_any}
 use Rattle.sk_base.specs.declared.Sketch.{Sketch}
+use Rattle.sk_base.proofs.Results.{err_is}
 use Rattle.sk_lines.specs.declared.Keyword.{Keyword}
 use Rattle.sk_lines.specs.declared.Code.{Code}
 use Rattle.sk_lines.specs.declared.Code.TheVariants.{E4, E6, E7}
@@ -9,10 +10,6 @@ use Rattle.sk_lines.specs.FirstCode.{first_code, unless}
 use Rattle.sk_entry.specs.Conditions.{has_bad_name, is_unknown, kinds_fit}
 use Rattle.sk_entry.specs.Named.{element_named}
 use Rattle.sk_entry.specs.Ends.{both_names, names_and_kinds_rows}
-
-pub err_is : {X E : Type 0} (r : Result X E) (e : E) → IsErr r × IsErrAnd r (λ x. x ≡ e) → r ≡ Err e
-err_is (Ok x) e h = (let never : false ≡ true = h.0 in absurd (cc))
-err_is (Err d) e h = ap Err h.1
 
 by_tests : (a b c : Bool) (x y z : Code) (rest : Option Code) (code : Code) → cond a (Some x) (cond b (Some y) (cond c (Some z) None)) ≡ Some code → cond a (Some x) (cond b (Some y) (cond c (Some z) rest)) ≡ Some code
 by_tests true b c x y z rest code is = is

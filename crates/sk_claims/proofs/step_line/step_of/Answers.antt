@@ -6,7 +6,7 @@ use Rattle.sk_claims.proofs.step_line.step_of.Goals as goal
 use Rattle.sk_claims.proofs.StepWords.{behind_step, long_choice, bad_names, bad_corners, no_code, made, stopped}
 use Rattle.sk_claims.proofs.step_line.step_of.Goals.{else-words-ne13-via-then-words-ne13+else-words-ne14, else-words-ne13-via-else-words-ne13}
 use Rattle.sk_claims.specs.ClaimLines.{are_fixed, choice_of}
-use Rattle.sk_entry.proofs.Ends.{err_is}
+use Rattle.sk_base.proofs.Results.{err_is}
 
 pub returns-in_err-joining : goal.returns-in_err-joining
 returns-in_err-joining c =
