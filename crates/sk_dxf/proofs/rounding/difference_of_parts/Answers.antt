@@ -1,7 +1,8 @@
 use Rattle.std.proofs.Common.{rules, ◌*◌, ◌-ℤ◌, ◌*ℤ◌, FitsSigned, arith, to_z-of_z}
 use Rattle.std.proofs.lemmas.Int.{ints}
 use Rattle.std.specs.Int.{w128}
-use Rattle.sk_dxf.proofs.Products.{abs_of_within, product_within, difference_within, fits}
+use Rattle.sk_base.proofs.Magnitudes.{abs_of_within, product_within, fits}
+use Rattle.sk_dxf.proofs.Products.{difference_within}
 use Rattle.sk_dxf.proofs.rounding.difference_of_parts.Goals as goal
 
 pub overflow_sub-a : goal.overflow_sub-a

@@ -1,7 +1,8 @@
 use Rattle.std.proofs.Common.{rules, ◌+ℤ◌, ◌*ℤ◌, FitsSigned, arith, to_z-of_z}
 use Rattle.std.proofs.lemmas.Int.{ints}
 use Rattle.std.specs.Int.{w128}
-use Rattle.sk_dxf.proofs.Products.{product_within, sum_within, fits}
+use Rattle.sk_base.proofs.Magnitudes.{product_within, fits}
+use Rattle.sk_dxf.proofs.Products.{sum_within}
 use Rattle.sk_dxf.proofs.rounding.sum_of_parts.Goals as goal
 
 pub overflow_add-a : goal.overflow_add-a
