@@ -66,19 +66,19 @@ module _ (g : Graph) (sound : IsSoundGraph g) where
   all_left aside rise there one = record {
     exactly = λ k. (
       (λ k_in. (
-          k_in,
-          one_spare (kept_graph (above k aside) g) (sound_kept (above k aside))
-              (one_with_fewer aside (above k aside) (λ j h. ((in_above k aside j).0 h).0) one)
-              k
-              (has_part g sound (is_kept (above k aside)) k (there k k_in)
-              (none_kept (above k aside) k (λ h. (let less = ((in_above k aside k).0 h).1 in omega (arith, less)))))
-              (subst (λ (h : Graph). IsOneCluster h) (sym (without_kept (above k aside) k))
-              (one_with_more g sound (is_kept aside) (λ j. is_kept (above k aside) j && differs_from k j)
-              (λ j has passes. and_from (is_kept (above k aside) j) (differs_from k j)
-              (none_kept (above k aside) j (λ h. kept_not aside j passes ((in_above k aside j).0 h).0))
-              (to_differ k j (λ same. kept_not aside j passes (subst (λ (i : ConId). Contains aside i) same k_in))))
-              one)),
-        )),
+        k_in,
+        one_spare (kept_graph (above k aside) g) (sound_kept (above k aside))
+            (one_with_fewer aside (above k aside) (λ j h. ((in_above k aside j).0 h).0) one)
+            k
+            (has_part g sound (is_kept (above k aside)) k (there k k_in)
+            (none_kept (above k aside) k (λ h. (let less = ((in_above k aside k).0 h).1 in omega (arith, less)))))
+            (subst (λ (h : Graph). IsOneCluster h) (sym (without_kept (above k aside) k))
+            (one_with_more g sound (is_kept aside) (λ j. is_kept (above k aside) j && differs_from k j)
+            (λ j has passes. and_from (is_kept (above k aside) j) (differs_from k j)
+            (none_kept (above k aside) j (λ h. kept_not aside j passes ((in_above k aside j).0 h).0))
+            (to_differ k j (λ same. kept_not aside j passes (subst (λ (i : ConId). Contains aside i) same k_in))))
+            one)),
+      )),
       (λ h. h.0),
     );
     rise = rise;
@@ -140,10 +140,13 @@ module _ (g : Graph) (sound : IsSoundGraph g) where
           kept_same g sound (above k (x ∷ xs)) (above k xs) (λ j. (
             (λ h. (
                 let was = (in_above k (x ∷ xs) j).0 h in
-                (in_above k xs j).1 (elim (contains_cases x xs j was.0) [
-                  | inl here ↦ absurd (let below : x.0 < k.0 = rising_below con_number x xs rise k k_in in let level = ap con_number here in omega (arith, below, level, was.1))
-                  | inr later ↦ later
-                ], was.1))),
+                (in_above k xs j).1 (
+                  elim (contains_cases x xs j was.0) [
+                    | inl here ↦ absurd (let below : x.0 < k.0 = rising_below con_number x xs rise k k_in in let level = ap con_number here in omega (arith, below, level, was.1))
+                    | inr later ↦ later
+                  ],
+                  was.1,
+                ))),
             (λ h. (let was = (in_above k xs j).0 h in (in_above k (x ∷ xs) j).1 (contains_later x xs j was.0, was.1))),
           ))
 
@@ -194,10 +197,13 @@ module _ (g : Graph) (sound : IsSoundGraph g) where
           (λ h. (let was = (in_above k late j).0 h in (in_above k (early ++ late) j).1 (Contains-append_right early late j was.0, was.1))),
           (λ h. (
               let was = (in_above k (early ++ late) j).0 h in
-              (in_above k late j).1 (elim (Contains-append_cases early late j was.0) [
-                | inl first ↦ absurd (let below = apart j k ((of_less.exactly j).0 first).0 k_in in omega (arith, below, was.1))
-                | inr second ↦ second
-              ], was.1))),
+              (in_above k late j).1 (
+                elim (Contains-append_cases early late j was.0) [
+                  | inl first ↦ absurd (let below = apart j k ((of_less.exactly j).0 first).0 k_in in omega (arith, below, was.1))
+                  | inr second ↦ second
+                ],
+                was.1,
+              ))),
         ))
 
     pub both_left : AreLeftOutOf g (less ++ greater) (early ++ late)

@@ -88,11 +88,13 @@ some_left_out g sound one =
 bound : (ks : List ConId) → (most : ℕ) × ((k : ConId) → Contains ks k → k.0 < most)
 bound [] = (0, λ k h. absurd (contains_none k h))
 bound (x ∷ xs) =
-    let (most, below) = bound xs in
-    (x.0 + 1 + most, λ k h. elim (contains_cases x xs k h) [
-      | inl here ↦ (let level = ap con_number here in omega (arith, level))
-      | inr later ↦ (let less = below k later in omega (arith, less))
-    ])
+    let (most, below) = bound xs in (
+      x.0 + 1 + most,
+      λ k h. elim (contains_cases x xs k h) [
+        | inl here ↦ (let level = ap con_number here in omega (arith, level))
+        | inr later ↦ (let less = below k later in omega (arith, less))
+      ],
+    )
 
 -- from the greatest number down, the same are left out
 module _ (g : Graph) (sound : IsSoundGraph g) (one other : List ConId) (p : AreLeftOut g one) (q : AreLeftOut g other) where

@@ -53,10 +53,10 @@ has_all xs ys apart within few e e_in =
     elim (contains_settles elem_settles xs e) [
       | inl there ↦ there
       | inr not_there ↦ absurd (
-        let more = no_longer (e ∷ xs) ys
-        (pairs_cons (λ (a b : Elem). a ≢ b) e xs apart (λ d d_in same. not_there (subst (λ (c : Elem). Contains xs c) (sym same) d_in)))
-        (λ d h. elim (contains_cases e xs d h) [ inl here ↦ subst (λ (c : Elem). Contains ys c) here e_in | inr later ↦ within d later ]) in
-        omega (arith, more, few))
+          let more = no_longer (e ∷ xs) ys
+          (pairs_cons (λ (a b : Elem). a ≢ b) e xs apart (λ d d_in same. not_there (subst (λ (c : Elem). Contains xs c) (sym same) d_in)))
+          (λ d h. elim (contains_cases e xs d h) [ inl here ↦ subst (λ (c : Elem). Contains ys c) here e_in | inr later ↦ within d later ]) in
+          omega (arith, more, few))
     ]
 
 same_count : (a b : ℕ) → (a == b) ≡ true → a ≡ b
@@ -244,8 +244,8 @@ module _ (g : Graph) (sound : IsSoundGraph g) (p : ConId → Bool) (aside : List
       without_less m made closed = record {
         one = subst (λ (h : Graph). IsOneCluster h) and_kept_is (still_one all all_sound w.one late of_greater.rise (λ k h. ((of_greater.exactly k).0 h).1));
         there = λ k k_in. (
-          let is = w.there k (in_take i aside k k_in) in
-          (is.0, and_from (p k) (is_kept late k) is.1 (none_kept late k (λ h. not_both k k_in (late_in k h)))));
+            let is = w.there k (in_take i aside k k_in) in
+            (is.0, and_from (p k) (is_kept late k) is.1 (none_kept late k (λ h. not_both k k_in (late_in k h)))));
         made = subst (λ (h : Graph). Reach h (initial_bodies h) m) (just_agree g sound (too (but p aside) back) (but and_kept less) (λ k has. same_tests (too (but p aside) back k) (but and_kept less k)
             (λ passes. elim ((passes_too (but p aside) back k).0 passes) [
               | inl was ↦ (

@@ -70,7 +70,9 @@ fn left_of(
 fn some_has(count: usize, clusters: &[Cluster]) -> bool
     ensures { result ≡ some_has count clusters.now }
 {
-    clusters.iter().any(|cluster| cluster.elements.len() == count)
+    clusters
+        .iter()
+        .any(|cluster| cluster.elements.len() == count)
 }
 
 fn copy_of(alloc: Global, numbers: &[ConId]) -> Result<List<ConId>, NoMemory>

@@ -31,7 +31,7 @@ use Rattle.sk_parts.proofs.Drawing.{part_is_sound}
 use Rattle.sk_parts.proofs.OwnGraph.{own_node, to_own_node, own_held, own_start}
 
 -- one part that isn't over is well
-pub well_of_one : (g : Graph) (f : List Body) (xs : List Elem) → IsSoundGraph g → IsNormal g f → held g xs ≤ 2 * length xs - 3 → AreOfOnePart g f xs → ((ys : List Elem) → AreOfOnePart g f ys → ys ≡ xs) → IsWell g
+well_of_one : (g : Graph) (f : List Body) (xs : List Elem) → IsSoundGraph g → IsNormal g f → held g xs ≤ 2 * length xs - 3 → AreOfOnePart g f xs → ((ys : List Elem) → AreOfOnePart g f ys → ys ≡ xs) → IsWell g
 well_of_one g f xs sound normal most of_one only = (
   judged_as_one g xs,
   record {
@@ -42,7 +42,7 @@ well_of_one g f xs sound normal most of_one only = (
   refl,
 )
 
-pub at_most_due : (g : Graph) (xs : List Elem) → ¬ IsOver (part_with g xs) → held g xs ≤ 2 * length xs - 3
+at_most_due : (g : Graph) (xs : List Elem) → ¬ IsOver (part_with g xs) → held g xs ≤ 2 * length xs - 3
 at_most_due g xs not_over = under (held g xs) (2 * length xs - 3) not_over
   where
     under : (h d : ℕ) → ¬ (d < h) → h ≤ d

@@ -84,9 +84,11 @@ left_of-requires t c =
           (
             subst (λ (js : List ConId). IsRising con_number js) (sym (rest_is ks i)) (pairs_drop (λ (j k : ConId). j.0 < k.0) i ks c.requires.rise),
             (
-              subst (λ (js : List ConId). (q : ConId → Bool) × IsWithout g q js (bodies c.in_ok-with_less-in_default-3.with_less)) (sym (rest_is ks i))
-                  (p, greater_without g c.requires.sound p ks c.requires.rise (bodies c.args.family.now) w i (bodies c.in_ok-with_less-in_default-3.with_less)
-                  c.in_ok-with_less-in_default-3.ensures.made c.in_ok-with_less-in_default-3.ensures.closed),
+              subst (λ (js : List ConId). (q : ConId → Bool) × IsWithout g q js (bodies c.in_ok-with_less-in_default-3.with_less)) (sym (rest_is ks i)) (
+                p,
+                greater_without g c.requires.sound p ks c.requires.rise (bodies c.args.family.now) w i (bodies c.in_ok-with_less-in_default-3.with_less)
+                    c.in_ok-with_less-in_default-3.ensures.made c.in_ok-with_less-in_default-3.ensures.closed,
+              ),
               omega (arith, room, early, late, i_in, c.requires.room),
             ),
           ),
