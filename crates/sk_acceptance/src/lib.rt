@@ -5,6 +5,8 @@
 #[cfg(test)]
 mod blocks;
 #[cfg(test)]
+mod by_order;
+#[cfg(test)]
 mod calls;
 #[cfg(test)]
 mod checks;

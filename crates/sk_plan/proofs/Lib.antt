@@ -6,13 +6,14 @@ pub mod Sparsity
 pub mod Weighed
 pub mod Legal
 pub mod Finished
-pub mod Planned
+pub mod PlanTells
 pub mod PlanTrees
 pub mod Keeping
 pub mod Stepping
 pub mod Starts
 pub mod Wells
 pub mod WellRuns
+pub mod TheJudgement
 pub mod WellPlans
-mod OnePlan
+pub mod OnePlan
 pub mod SomePlans

@@ -1,5 +1,5 @@
--- The merges of a legal plan and the drawing tell the whole plan.
-use Rattle.std.proofs.Common.{◌≡◌, inl, inr, refl, List, [], ◌∷◌, ap, sym, subst, ◌∙◌, arith}
+-- The merges of a legal plan and the drawing tell the whole plan, so a picker and an order have one.
+use Rattle.std.proofs.Common.{◌≡◌, inl, inr, refl, ℕ, List, [], ◌∷◌, ap, sym, subst, ◌∙◌, arith}
 use Rattle.std.specs.Prelude.{map, All, Contains}
 use Rattle.std.proofs.lemmas.List.Elements.{All-head, All-tail}
 use Rattle.sk_base.specs.declared.Elem.{Elem}
@@ -14,9 +14,13 @@ use Rattle.sk_family.specs.declared.Cluster.{Cluster}
 use Rattle.sk_family.specs.Clusters.{Clusters, IsNamed, IsSound, initial_clusters}
 use Rattle.sk_family.proofs.Naming.{ByName, one_of_name}
 use Rattle.sk_family.proofs.Soundness.{sound_initial}
+use Rattle.sk_graph.specs.SketchGraph.{graph_of}
 use Rattle.sk_rules.specs.declared.Merge.{Merge}
 use Rattle.sk_rules.specs.Merges.{merged}
 use Rattle.sk_rules.specs.Rules.{IsShared}
+use Rattle.sk_worklist.specs.declared.Order.{Order}
+use Rattle.sk_worklist.specs.Orders.{place_of, next_call}
+use Rattle.sk_worklist.proofs.OneRun.{runs_are_one}
 use Rattle.sk_tree.specs.declared.Choice.{Choice}
 use Rattle.sk_tree.specs.declared.PlanStep.{PlanStep}
 use Rattle.sk_tree.specs.declared.Plan.{Plan}
@@ -24,6 +28,7 @@ use Rattle.sk_tree.specs.Meeting.{JoinsOnce}
 use Rattle.sk_tree.specs.LegalPlan.{merge_told, taken_told, IsKept, IsPreferred, IsLegalStep, AreLegalSteps, IsLegalPlan, next_after}
 use Rattle.sk_tree.specs.ByNumber.{by_number}
 use Rattle.sk_tree.specs.DrawnChoice.{HasDrawnChoice, shapes_of, drawn_choice}
+use Rattle.sk_plan.specs.PlanBy.{fresh, IsPlanOf, IsPlanBy}
 use Rattle.sk_plan.proofs.Legal.{step_taken}
 use Rattle.sk_plan.proofs.Joined.{sound_taken}
 
@@ -113,3 +118,15 @@ pub same_plan : (g : Graph) (s : Sketch) (p q : Plan) → IsSoundGraph g → IsL
 same_plan g s p q sound p_legal q_legal same p_drawn q_drawn =
     same_parts (p_legal.leaves ∙ sym q_legal.leaves)
     (same_steps g (initial_clusters g) s p.steps q.steps (sound_initial g sound) p_legal.steps q_legal.steps same p_drawn q_drawn)
+
+-- a picker has one plan of a sketch
+pub one_plan_of : {P : Type 0} (answer : P → ℕ → ℕ) (after : P → ℕ → P) (picker : P) (s : Sketch) (p q : Plan) → IsSoundGraph (graph_of s) → IsPlanOf answer after picker s p → IsPlanOf answer after picker s q → p ≡ q
+one_plan_of answer after picker s p q sound first second =
+    let g = graph_of s in
+    let merges = runs_are_one answer after g (initial_clusters g) picker (map merge_told p.steps) (map merge_told q.steps) first.end second.end first.last second.last
+    first.run.leads first.run.ends second.run.leads second.run.ends in
+    same_plan g s p q sound first.legal second.legal merges.0 first.drawn second.drawn
+
+-- and so has an order
+pub one_plan_by : (order : Order) (s : Sketch) (p q : Plan) → IsSoundGraph (graph_of s) → IsPlanBy order s p → IsPlanBy order s q → p ≡ q
+one_plan_by order = one_plan_of place_of next_call (fresh order)

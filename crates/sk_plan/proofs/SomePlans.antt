@@ -23,29 +23,28 @@ use Rattle.sk_rules.specs.declared.Taken.{Taken}
 use Rattle.sk_rules.specs.Merges.{merged}
 use Rattle.sk_rules.specs.Reach.{Reach, IsNormal, IsClosed, stays}
 use Rattle.sk_rules.specs.Taking.{Leads}
+use Rattle.sk_worklist.specs.declared.Order.{Order}
+use Rattle.sk_worklist.specs.Orders.{place_of, next_call, place_below}
 use Rattle.sk_worklist.specs.Run.{IsRun, merge_of}
 use Rattle.sk_worklist.proofs.OneRun.{below_tells}
 use Rattle.sk_worklist.proofs.Runs.{none_closes}
 use Rattle.sk_tree.specs.declared.Plan.{Plan}
 use Rattle.sk_tree.specs.declared.PlanStep.{PlanStep}
 use Rattle.sk_tree.specs.ByNumber.{by_number}
-use Rattle.sk_tree.specs.LegalPlan.{merge_told, taken_told, numbers_of, IsPreferred, IsKept, IsWhole, AreLegalSteps, IsLegalPlan}
+use Rattle.sk_tree.specs.LegalPlan.{merge_told, taken_told, numbers_of, IsPreferred, IsKept, IsWhole, AreLegalSteps}
 use Rattle.sk_tree.proofs.Joins.{first_three, second_three, third_three}
 use Rattle.sk_tree.specs.DrawnChoice.{drawn_choice, shapes_of, HasDrawnChoice}
 use Rattle.sk_tree.proofs.DrawnKinds.{Draws, graph_draws}
 use Rattle.sk_verdict.specs.declared.Judgement.{Judgement}
-use Rattle.sk_verdict.specs.declared.Verdict.TheVariants.{Well}
 use Rattle.sk_plan.specs.Runs.{TakesOnce, EachTakesOnce}
-use Rattle.sk_plan.specs.Judged.{IsTheJudgement}
+use Rattle.sk_plan.specs.Judged.{IsTheJudgement, IsWell}
+use Rattle.sk_plan.specs.PlanBy.{fresh, IsPlanOf, IsPlanBy}
+use Rattle.sk_plan.proofs.TheJudgement.{the_judgement}
 use Rattle.sk_plan.proofs.Joined.{sound_taken, sound_end, reach_more, run_normal}
 use Rattle.sk_plan.proofs.Stepping.{legal_step}
 use Rattle.sk_plan.proofs.WellRuns.{ends_well, run_told}
 use Rattle.sk_worklist.proofs.SomeRuns.{SomeRun, some_run, taken_of}
 use Rattle.sk_verdict.proofs.SomeJudgements.{some_judgement}
-use Rattle.sk_verdict.proofs.Judgements.{judgement_moves}
-use Rattle.sk_verdict.specs.Judging.{IsJudgement}
-use Rattle.sk_rules.proofs.NormalForm.{normal_same}
-use Rattle.sk_family.specs.Body.{Body}
 
 prefer_tells : (a b : Cluster) → IsPreferred a b ⊎ IsPreferred b a
 prefer_tells a b =
@@ -166,14 +165,6 @@ module _ (s : Sketch) (g : Graph) (sound : IsSoundGraph g) (draws : Draws s g) w
         drawn = All-cons (λ st. HasDrawnChoice s st) step later.steps choice later.drawn;
       }
 
--- that on one normal family is that on each
-the_judgement : (g : Graph) (f : List Body) (j : Judgement) → IsSoundGraph g → IsNormal g f → IsJudgement g f j → IsTheJudgement g j
-the_judgement g f j sound normal judged = record {
-  normal = f;
-  is_normal = normal;
-  every = λ other other_is. judgement_moves g f other j (normal_same g f other sound.edges_rise normal other_is) judged;
-}
-
 -- a run from the start, and the judgement at its end
 module _ {P : Type 0} (answer : P → ℕ → ℕ) (after : P → ℕ → P) (below : (p : P) (n : ℕ) → 0 < n → answer p n < n) (p : P) where
   module _ (g : Graph) (sound : IsSoundGraph g) where
@@ -192,17 +183,9 @@ module _ {P : Type 0} (answer : P → ℕ → ℕ) (after : P → ℕ → P) (be
     pub judgement_there : (j : Judgement) × IsTheJudgement g j
     judgement_there = (let found = some_judgement g (bodies the_run.end) in (found.0, the_judgement g (bodies the_run.end) found.0 sound end_normal found.1))
 
-  -- a legal plan of the run
-  pub record HasPlan (s : Sketch) : Type 0 where
-    pub plan : Plan
-    pub legal : IsLegalPlan (graph_of s) plan
-    pub end : Clusters
-    pub last : P
-    pub run : IsRun answer after (graph_of s) (initial_clusters (graph_of s)) p (map merge_told plan.steps) end last
-    pub drawn : All (λ step. HasDrawnChoice s step) plan.steps
-
-  pub some_plan : (s : Sketch) → IsSoundSketch s → 0 < length s.elements → (j : Judgement) → IsTheJudgement (graph_of s) j → j.verdict ≡ Well → HasPlan s
-  some_plan s sketch some j judged well =
+  -- where the verdict is well, the run has a plan
+  pub some_plan : (s : Sketch) → IsSoundSketch s → 0 < length s.elements → IsWell (graph_of s) → (plan : Plan) × IsPlanOf answer after p s plan
+  some_plan s sketch some (j, judged, well) =
       let g = graph_of s in
       let sound = graph_is_sound s sketch in
       let r = the_run g sound in
@@ -210,13 +193,19 @@ module _ {P : Type 0} (answer : P → ℕ → ℕ) (after : P → ℕ → P) (be
       let normal = end_normal g sound in
       let ends = ends_well s g refl some sound (initial_clusters g) r.end taken.0 refl taken.1 (end_closed g sound) j (judged.every (bodies r.end) normal) well in
       let start : Reach g (initial_bodies g) (bodies (initial_clusters g)) = subst (λ f. Reach g (initial_bodies g) f) (sym (starting_bodies (starts g))) stays in
-      let steps = steps_from s g sound (graph_draws s sketch) (initial_clusters g) r.end taken.0 (sound_initial g sound) start ends.leads ends.once ends.whole in
-      record {
-        plan = record { leaves = numbers_of g; steps = steps.steps };
-        legal = record { leaves = refl; steps = steps.legal };
-        end = r.end;
-        last = r.last;
-        run = run_told answer after g p r.last (initial_clusters g) r.end taken.0 steps.steps refl
-            (subst (λ ms. IsRun answer after g (initial_clusters g) p ms r.end r.last) (sym taken.2) r.run) steps.told;
-        drawn = steps.drawn;
-      }
+      let steps = steps_from s g sound (graph_draws s sketch) (initial_clusters g) r.end taken.0 (sound_initial g sound) start ends.leads ends.once ends.whole in (
+        record { leaves = numbers_of g; steps = steps.steps },
+        record {
+          well = (j, judged, well);
+          legal = record { leaves = refl; steps = steps.legal };
+          end = r.end;
+          last = r.last;
+          run = run_told answer after g p r.last (initial_clusters g) r.end taken.0 steps.steps refl
+              (subst (λ ms. IsRun answer after g (initial_clusters g) p ms r.end r.last) (sym taken.2) r.run) steps.told;
+          drawn = steps.drawn;
+        },
+      )
+
+-- and so has each order
+pub some_plan_by : (order : Order) (s : Sketch) → IsSoundSketch s → 0 < length s.elements → IsWell (graph_of s) → (plan : Plan) × IsPlanBy order s plan
+some_plan_by order = some_plan place_of next_call place_below (fresh order)

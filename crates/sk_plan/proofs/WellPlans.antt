@@ -18,7 +18,6 @@ use Rattle.sk_rules.specs.Excess.{weight_where, is_inside, held}
 use Rattle.sk_rules.specs.Reach.{Reach, IsClosed, IsNormal}
 use Rattle.sk_rules.proofs.KeptFamily.{holds_ends}
 use Rattle.sk_rules.proofs.KeptClusters.{reached_as_it_is}
-use Rattle.sk_rules.proofs.NormalForm.{normal_same}
 use Rattle.sk_tree.specs.declared.Plan.{Plan}
 use Rattle.sk_tree.specs.LegalPlan.{HasNodes, IsLegalPlan}
 use Rattle.sk_verdict.specs.declared.Judgement.{Judgement}
@@ -28,8 +27,8 @@ use Rattle.sk_verdict.specs.Ordering.{PartBefore}
 use Rattle.sk_verdict.specs.Parts.{IsNamedByNone, IsPart, AreOfOnePart, elem_of, part_with}
 use Rattle.sk_verdict.specs.Judging.{IsJudgement, verdict_on}
 use Rattle.sk_verdict.proofs.Gathering.{named_apart}
-use Rattle.sk_verdict.proofs.Judgements.{judgement_moves}
-use Rattle.sk_plan.specs.Judged.{IsTheJudgement, IsWell}
+use Rattle.sk_plan.specs.Judged.{IsWell}
+use Rattle.sk_plan.proofs.TheJudgement.{the_judgement}
 use Rattle.sk_tree.specs.PlanTree.{merges_told}
 use Rattle.sk_plan.proofs.Joined.{run_reaches}
 use Rattle.sk_plan.proofs.Legal.{Arrives, arrives}
@@ -54,6 +53,11 @@ is_judged g f xs most of_one only = record {
   verdict = well_with g xs most;
 }
 
+-- a graph with one part is well where that isn't over
+pub well_of_one : (g : Graph) (f : List Body) (xs : List Elem) → IsSoundGraph g → IsNormal g f → held g xs ≤ 2 * length xs - 3 → AreOfOnePart g f xs → ((ys : List Elem) → AreOfOnePart g f ys → ys ≡ xs) → IsWell g
+well_of_one g f xs sound normal most of_one only =
+    (judged_as_one g xs, the_judgement g f (judged_as_one g xs) sound normal (is_judged g f xs most of_one only), refl)
+
 -- what lies in a cluster is named by a constraint
 pub named_in : (g : Graph) (f : List Body) → Reach g (initial_bodies g) f → (x : Body) → Contains f x → (e : Elem) → Contains x.elements e → ¬ IsNamedByNone g e
 named_in g f reached x x_in e e_in by_none =
@@ -64,23 +68,11 @@ module _ (g : Graph) (p : Plan) (sound : IsSoundGraph g) (legal : IsLegalPlan g 
   way : Arrives g (initial_clusters g) p.steps
   way = arrives g (initial_clusters g) p.steps legal.steps
 
-  -- the judgement on one normal family is that on all
-  judged_by : (f : List Body) (j : Judgement) → IsNormal g f → IsJudgement g f j → IsTheJudgement g j
-  judged_by f j normal is = record {
-    normal = f;
-    is_normal = normal;
-    every = λ other other_normal. judgement_moves g f other j (normal_same g f other sound.edges_rise normal other_normal) is;
-  }
-
   one_cluster : (c : Cluster) → way.end.live ≡ c ∷ [] → HasNodes g c → IsWell g
   one_cluster c alone nodes =
       let normal = one_normal g sound (merges_told p) way.end way.leads way.once c alone in
-      let few = one_not_over g sound (merges_told p) way.end way.leads way.once c alone in (
-        judged_as_one g c.elements,
-        judged_by (bodies way.end) (judged_as_one g c.elements) normal
-            (is_judged g (bodies way.end) c.elements (omega arith) (inl (body_of c, here, refl)) only),
-        refl,
-      )
+      let few = one_not_over g sound (merges_told p) way.end way.leads way.once c alone in
+      well_of_one g (bodies way.end) c.elements sound normal (omega arith) (inl (body_of c, here, refl)) only
     where
       here : Contains (bodies way.end) (body_of c)
       here = contains_mapped body_of way.end.live c (subst (λ cs. Contains cs c) (sym alone) (contains_head c []))
@@ -127,13 +119,9 @@ module _ (g : Graph) (p : Plan) (sound : IsSoundGraph g) (legal : IsLegalPlan g 
           let no_block = ap (λ (bs : List Block). length bs) no_blocks in
           let in_nodes : Contains (map elem_of g.nodes) n.elem = contains_mapped elem_of g.nodes n (subst (λ ns. Contains ns n) (sym is) (contains_head n [])) in
           let by_none : IsNamedByNone g n.elem = ((λ k d k_in. absurd (omega arith)), (λ k d k_in. absurd (omega arith))) in
-          let nothing_held : held g (n.elem ∷ []) ≡ 0 = ap (λ (ss : List Start). weight_where (is_inside (n.elem ∷ [])) ss) (no_starts g none no_blocks) in (
-            judged_as_one g (n.elem ∷ []),
-            judged_by (bodies way.end) (judged_as_one g (n.elem ∷ []))
-                (record { reached = run_reaches g (merges_told p) way.end sound way.leads; closed = closed })
-                (is_judged g (bodies way.end) (n.elem ∷ []) (omega arith) (inr (n.elem, record { is_node = in_nodes; named_by_none = by_none }, refl)) (only n is)),
-            refl,
-          )
+          let nothing_held : held g (n.elem ∷ []) ≡ 0 = ap (λ (ss : List Start). weight_where (is_inside (n.elem ∷ [])) ss) (no_starts g none no_blocks) in
+          well_of_one g (bodies way.end) (n.elem ∷ []) sound (record { reached = run_reaches g (merges_told p) way.end sound way.leads; closed = closed })
+          (omega arith) (inr (n.elem, record { is_node = in_nodes; named_by_none = by_none }, refl)) (only n is)
       by_nodes (m ∷ n ∷ ns) is = (let many = ap (λ (ns : List Node). length ns) is in absurd (omega arith))
 
   pub plan_well : IsWell g

@@ -28,7 +28,7 @@ use Rattle.sk_verdict.specs.declared.Verdict.TheVariants.{Well}
 use Rattle.sk_verdict.specs.Judging.{IsJudgement}
 use Rattle.sk_plan.specs.Runs.{EachTakesOnce}
 use Rattle.sk_plan.proofs.Joined.{run_normal, run_joins_once, sound_end}
-use Rattle.sk_plan.proofs.Planned.{plan_steps, plan_nodes}
+use Rattle.sk_plan.proofs.PlanTells.{plan_steps, plan_nodes}
 use Rattle.sk_plan.proofs.Wells.{none_too_many, whole}
 
 -- it leads to the whole, by merges of clusters that meet once

@@ -3,3 +3,4 @@ pub mod Runs
 pub mod Leaves
 pub mod Judged
 pub mod ConstraintStarts
+pub mod PlanBy

@@ -4,12 +4,14 @@ ghost use Rattle.sk_base.specs.declared.Elem.{Elem};
 ghost use Rattle.sk_base.specs.declared.Graph.{Graph};
 ghost use Rattle.sk_base.specs.declared.Sketch.{Sketch};
 ghost use Rattle.sk_base.specs.SoundGraph.{IsSoundGraph, HasRisingEdges};
+ghost use Rattle.sk_base.specs.SoundSketch.{IsSoundSketch};
 ghost use Rattle.sk_family.specs.Body.{Body, initial_bodies};
 ghost use Rattle.sk_family.specs.Clusters.{Clusters, bodies, initial_clusters};
 ghost use Rattle.sk_rules.specs.declared.Taken.{Taken};
 ghost use Rattle.sk_rules.specs.Reach.{Reach, IsClosed, IsNormal};
 ghost use Rattle.sk_rules.specs.Excess.{has_ends_in, HasTwoEach};
 ghost use Rattle.sk_rules.specs.Taking.{Leads};
+ghost use Rattle.sk_worklist.specs.declared.Order.{Order};
 ghost use Rattle.sk_tree.specs.declared.Plan.{Plan};
 ghost use Rattle.sk_tree.specs.declared.PlanStep.{PlanStep};
 ghost use Rattle.sk_tree.specs.declared.Tree.{Tree};
@@ -20,6 +22,7 @@ ghost use Rattle.sk_tree.specs.DrawnChoice.{HasDrawnChoice};
 ghost use Rattle.sk_plan.specs.Judged.{IsWell};
 ghost use Rattle.sk_plan.specs.Leaves.{HasLeaves};
 ghost use Rattle.sk_tree.specs.PlanTree.{IsPlanTree};
+ghost use Rattle.sk_plan.specs.PlanBy.{IsPlanBy};
 ghost use Rattle.sk_plan.specs.Runs.{EachTakesOnce};
 ghost use Rattle.sk_plan.specs.Sparse.{weight_among, angles_among, pins_weight, AreLines, AllOwnJustEnough, EachMeetsOnce, HoldsNoneTooMany, IsSparse, HasFewAngles, IsSparseAmong, HasFewAnglesAmong};
 
@@ -68,8 +71,10 @@ pub fn weights_among()
     ensures lines { (g : Graph) (lines : List Elem) → IsSoundGraph g → AreLines g lines → weight_among g lines ≡ angles_among g lines }
 {}
 
-/// The merges of a legal plan and the drawing tell the whole plan.
+/// The merges of a legal plan and the drawing tell the whole plan; and by an order a sketch has at most
+/// one plan.
 pub fn one_plan()
-    ensures { (g : Graph) (s : Sketch) (p q : Plan) → IsSoundGraph g → IsLegalPlan g p → IsLegalPlan g q → map merge_told p.steps ≡ map merge_told q.steps
+    ensures merges { (g : Graph) (s : Sketch) (p q : Plan) → IsSoundGraph g → IsLegalPlan g p → IsLegalPlan g q → map merge_told p.steps ≡ map merge_told q.steps
         → All (HasDrawnChoice s) p.steps → All (HasDrawnChoice s) q.steps → p ≡ q }
+    ensures by_order { (order : Order) (s : Sketch) (p q : Plan) → IsSoundSketch s → IsPlanBy order s p → IsPlanBy order s q → p ≡ q }
 {}

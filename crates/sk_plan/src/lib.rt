@@ -1,12 +1,14 @@
 //! Construction plans, and what they tell of the drawing.
 #![tactic(auto)]
 
+mod by_order;
 mod error;
 mod law;
 mod making;
 mod planned_tree;
 mod step;
 
+pub use by_order::{Planned, planned_by};
 pub use error::PlanError;
 pub use law::{exact, joined_once, legal_plan, one_plan, sparse_parts, weights_among};
 pub use making::plan_of;

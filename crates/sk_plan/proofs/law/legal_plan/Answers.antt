@@ -2,7 +2,7 @@ use Rattle.sk_family.specs.Clusters.{initial_clusters}
 use Rattle.sk_plan.proofs.Legal.{corners_of}
 use Rattle.sk_plan.proofs.PlanTrees.{tree_leaves, some_plan_tree}
 use Rattle.sk_plan.proofs.WellPlans.{plan_well}
-use Rattle.sk_plan.proofs.Planned.{plan_steps, plan_nodes, plan_sparse, plan_few_angles}
+use Rattle.sk_plan.proofs.PlanTells.{plan_steps, plan_nodes, plan_sparse, plan_few_angles}
 use Rattle.sk_plan.proofs.law.legal_plan.Goals as goal
 
 pub returns-clause-well : goal.returns-clause-well

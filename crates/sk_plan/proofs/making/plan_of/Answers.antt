@@ -6,7 +6,7 @@ use Rattle.sk_plan.specs.Runs.{EachTakesOnce}
 use Rattle.sk_tree.specs.declared.Plan.{Plan}
 use Rattle.sk_tree.specs.LegalPlan.{IsLegalPlan}
 use Rattle.sk_plan.specs.Leaves.{HasLeaves}
-use Rattle.sk_plan.proofs.Planned.{plan_sparse, plan_few_angles}
+use Rattle.sk_plan.proofs.PlanTells.{plan_sparse, plan_few_angles}
 use Rattle.sk_plan.proofs.PlanTrees.{tree_leaves}
 use Rattle.sk_plan.proofs.WellRuns.{sound_of, ends_well, run_told, steps_count, nodes_count}
 use Rattle.sk_plan.proofs.making.plan_of.Goals as goal

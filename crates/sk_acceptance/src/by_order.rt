@@ -1,0 +1,74 @@
+// Plans by an order of merges, where the order decides.
+use crate::calls::sketch_of;
+use sk_base::Text;
+use sk_plan::planned_by;
+use sk_report::plan_text;
+use sk_worklist::Order;
+use std::alloc::Global;
+use std::test::Fail;
+
+/// Two triangles with the side from A to C in common.
+const TWO_TRIANGLES: &str = "\
+sketch 1
+point A 0 0
+point B 4 0
+point C 4 3
+point D 0 3
+distance A B 4
+distance A C 5
+distance B C 3
+distance A D 3
+distance C D 4
+end
+";
+
+const BY_THE_FIRST: &str = "\
+verdict well
+elements 4
+constraints 5
+steps 2
+leaf c1 : distance A B 4
+leaf c2 : distance A C 5
+leaf c3 : distance B C 3
+leaf c4 : distance A D 3
+leaf c5 : distance C D 4
+step s1 joins c3 c2 c1 at C A B keeps c1 turn +
+step s2 joins s1 c5 c4 at C D A keeps s1 turn +
+";
+
+const BY_THE_LAST: &str = "\
+verdict well
+elements 4
+constraints 5
+steps 2
+leaf c1 : distance A B 4
+leaf c2 : distance A C 5
+leaf c3 : distance B C 3
+leaf c4 : distance A D 3
+leaf c5 : distance C D 4
+step s1 joins c5 c4 c2 at D A C keeps c2 turn +
+step s2 joins s1 c3 c1 at C B A keeps s1 turn +
+";
+
+/// The report of the drawing's plan by the order.
+fn reported_by(alloc: Global, order: Order, text: &str) -> Result<Text, Fail> {
+    let sketch = sketch_of(alloc, text)?;
+    match planned_by(alloc, order, &sketch) {
+        Ok(planned) => Ok(plan_text(alloc, &sketch, &planned.plan)?),
+        Err(_) => Err(Fail::from("the drawing is well")),
+    }
+}
+
+#[test]
+fn plans_are_by_the_order(rt: HostRuntime) -> Result<(), Fail> {
+    let alloc = rt.alloc();
+    assert_eq!(rt;
+        reported_by(alloc, Order::First, TWO_TRIANGLES)?.as_bytes(),
+        BY_THE_FIRST.as_bytes()
+    );
+    assert_eq!(rt;
+        reported_by(alloc, Order::Last, TWO_TRIANGLES)?.as_bytes(),
+        BY_THE_LAST.as_bytes()
+    );
+    Ok(())
+}
