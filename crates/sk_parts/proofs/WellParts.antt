@@ -17,30 +17,16 @@ use Rattle.sk_rules.proofs.Beside.{alone_graph, in_alone, makes_itself}
 use Rattle.sk_rules.proofs.Closing.{no_merge_of_one}
 use Rattle.sk_rules.proofs.Counting.{reached_tight, inside_owned}
 use Rattle.sk_rules.proofs.KeptFamily.{unchanged_is_reached}
-use Rattle.sk_rules.proofs.NormalForm.{normal_same}
 use Rattle.sk_rules.proofs.SomeClosed.{some_closed}
 use Rattle.sk_rules.proofs.WeighedGraphs.{sound_two_each}
 use Rattle.sk_verdict.specs.Parts.{IsLone, AreOfOnePart, elem_of, part_with}
 use Rattle.sk_verdict.specs.Judging.{IsOver}
-use Rattle.sk_verdict.proofs.Judgements.{judgement_moves}
 use Rattle.sk_plan.specs.Judged.{IsWell}
-use Rattle.sk_plan.proofs.WellPlans.{judged_as_one, is_judged, named_in}
+use Rattle.sk_plan.proofs.WellPlans.{well_of_one, named_in}
 use Rattle.sk_plan.proofs.Wells.{by_none_named, no_items}
 use Rattle.sk_parts.specs.OwnSketch.{part_sketch}
 use Rattle.sk_parts.proofs.Drawing.{part_is_sound}
 use Rattle.sk_parts.proofs.OwnGraph.{own_node, to_own_node, own_held, own_start}
-
--- one part that isn't over is well
-well_of_one : (g : Graph) (f : List Body) (xs : List Elem) → IsSoundGraph g → IsNormal g f → held g xs ≤ 2 * length xs - 3 → AreOfOnePart g f xs → ((ys : List Elem) → AreOfOnePart g f ys → ys ≡ xs) → IsWell g
-well_of_one g f xs sound normal most of_one only = (
-  judged_as_one g xs,
-  record {
-    normal = f;
-    is_normal = normal;
-    every = λ other other_normal. judgement_moves g f other (judged_as_one g xs) (normal_same g f other sound.edges_rise normal other_normal) (is_judged g f xs most of_one only);
-  },
-  refl,
-)
 
 at_most_due : (g : Graph) (xs : List Elem) → ¬ IsOver (part_with g xs) → held g xs ≤ 2 * length xs - 3
 at_most_due g xs not_over = under (held g xs) (2 * length xs - 3) not_over
