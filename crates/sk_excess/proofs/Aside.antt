@@ -1,6 +1,6 @@
 -- What is left out of a segment of constraints: all of it, none of it, or what is left out of its two halves.
-use Rattle.std.proofs.Common.{◌≡◌, ◌⊎◌, inl, inr, ℕ, ◌+◌, ◌*◌, ◌-◌, ◌<◌, ◌≤◌, Bool, true, false, List, [], ◌∷◌, ◌++◌, length, refl, ap, sym, subst, ◌∙◌, arith}
-use Rattle.std.specs.Prelude.{Contains, map, sum_by, ◌↔◌, ◌&&◌}
+use Rattle.std.proofs.Common.{◌≡◌, inl, inr, ◌+◌, ◌*◌, ◌-◌, ◌<◌, ◌≤◌, Bool, true, List, [], ◌∷◌, ◌++◌, length, ap, sym, subst, ◌∙◌, arith}
+use Rattle.std.specs.Prelude.{Contains, map, sum_by, ◌&&◌}
 use Rattle.std.proofs.lemmas.Bool.{and_parts, and_from}
 use Rattle.std.proofs.lemmas.List.{length-map}
 use Rattle.std.proofs.lemmas.List.Elements.{Contains-append_left, Contains-append_right, Contains-append_cases}
@@ -26,13 +26,13 @@ use Rattle.sk_rules.proofs.JustSome.{sound_part}
 use Rattle.sk_rules.proofs.SummedWeights.{same_tests}
 use Rattle.sk_verdict.specs.Parts.{elem_of}
 use Rattle.sk_spare.specs.Sparing.{IsSpare, differs_from, without}
-use Rattle.sk_spare.specs.Halving.{IsIn, IsBeside}
 use Rattle.sk_spare.proofs.LeavingOut.{distinct}
 use Rattle.sk_spare.proofs.Segments.{body_weight, too_few}
-use Rattle.sk_excess.specs.LeftOut.{is_number, is_kept, kept_graph, above, IsOneCluster, HasConstraint}
+use Rattle.sk_verdict.specs.OneCluster.{IsOneCluster}
+use Rattle.sk_excess.specs.LeftOut.{is_number, is_kept, kept_graph, above, HasConstraint}
 use Rattle.sk_excess.specs.Thinning.{AreLeftOutOf}
-use Rattle.sk_excess.proofs.SomeLess.{number_in, in_number, kept_not, none_kept, in_above, just_twice, just_agree, just_all, kept_none, has_part, kept_same, kept_twice}
-use Rattle.sk_excess.proofs.OneClusters.{whole_in, whole_owns, whole_has, spare_has, spare_one, one_spare, one_with_more}
+use Rattle.sk_excess.proofs.SomeLess.{number_in, in_number, kept_not, none_kept, in_above, just_twice, just_agree, kept_none, has_part, kept_same, kept_twice}
+use Rattle.sk_excess.proofs.OneClusters.{whole_in, whole_owns, spare_one, one_spare, one_with_more}
 
 -- no fewer elements than there are nodes
 pub as_many_nodes : (g : Graph) → IsSoundGraph g → (xs : List Elem) → ((n : Node) → Contains g.nodes n → Contains xs n.elem) → length g.nodes ≤ length xs

@@ -1,10 +1,9 @@
 -- What is left out of a graph: there is one such list and no other, and what is kept.
-use Rattle.std.proofs.Common.{◌≡◌, ◌⊎◌, inl, inr, ℕ, zero, suc, ◌+◌, ◌*◌, ◌-◌, ◌<◌, ◌≤◌, Bool, true, false, List, [], ◌∷◌, ◌++◌, length, refl, ap, sym, subst, ◌∙◌, arith}
+use Rattle.std.proofs.Common.{◌≡◌, inl, inr, ℕ, zero, suc, ◌+◌, ◌*◌, ◌-◌, ◌<◌, ◌≤◌, Bool, true, false, List, [], ◌∷◌, ◌++◌, length, refl, ap, sym, subst, ◌∙◌, arith}
 use Rattle.std.specs.Prelude.{Contains, map, filter, sum_by, not, ◌↔◌, ◌&&◌, ◌||◌}
 use Rattle.std.proofs.lemmas.Bool.{and_parts, and_from}
 use Rattle.sk_base.specs.declared.Elem.{Elem}
 use Rattle.sk_base.specs.declared.ConId.{ConId}
-use Rattle.sk_base.specs.declared.Node.{Node}
 use Rattle.sk_base.specs.declared.Graph.{Graph}
 use Rattle.sk_base.specs.SoundGraph.{IsSoundGraph}
 use Rattle.sk_base.specs.Numbering.{con_number, con_exact, elem_number, elem_exact}
@@ -24,17 +23,17 @@ use Rattle.sk_verdict.specs.declared.Judgement.{Judgement}
 use Rattle.sk_verdict.specs.declared.Part.{Part}
 use Rattle.sk_verdict.specs.Judging.{IsJudgement, IsOver}
 use Rattle.sk_verdict.specs.Ordering.{PartBefore, AreInOrder}
-use Rattle.sk_verdict.specs.Parts.{IsPart, AreOfOnePart, elem_of, part_with}
+use Rattle.sk_verdict.specs.Parts.{AreOfOnePart, elem_of, part_with}
 use Rattle.sk_base.proofs.ListOrder.{before_irreflexive}
 use Rattle.sk_plan.specs.Judged.{IsTheJudgement, IsWell}
 use Rattle.sk_plan.proofs.Finished.{reached_within}
-use Rattle.sk_plan.proofs.WellPlans.{named_in}
-use Rattle.sk_parts.proofs.WellParts.{well_of_one, at_most_due}
-use Rattle.sk_spare.specs.Sparing.{IsSpare, differs_from, without}
-use Rattle.sk_excess.specs.LeftOut.{is_number, is_kept, kept_graph, above, AreLeftOut, IsOneCluster, HasConstraint}
+use Rattle.sk_plan.proofs.WellPlans.{well_of_one, named_in}
+use Rattle.sk_spare.specs.Sparing.{IsSpare, differs_from}
+use Rattle.sk_verdict.specs.OneCluster.{IsOneCluster}
+use Rattle.sk_excess.specs.LeftOut.{is_number, is_kept, kept_graph, above, AreLeftOut, HasConstraint}
 use Rattle.sk_excess.specs.Thinning.{AreLeftOutOf}
-use Rattle.sk_excess.proofs.SomeLess.{number_in, kept_not, none_kept, not_kept, in_above, part_has, has_part, kept_same}
-use Rattle.sk_excess.proofs.OneClusters.{at_node, whole_in, only_whole, whole_at, whole_owns, whole_has, spare_has, spare_one, one_spare, one_with_more, one_decided}
+use Rattle.sk_excess.proofs.SomeLess.{kept_not, none_kept, in_above, part_has, has_part, kept_same}
+use Rattle.sk_excess.proofs.OneClusters.{whole_in, only_whole, whole_at, whole_owns, whole_has, spare_has, spare_one, one_spare, one_with_more, one_decided}
 use Rattle.sk_excess.proofs.Aside.{without_kept, one_with_fewer, all_left, none_left, lone_left, still_one, both_left}
 
 -- what is left out of all constraints
@@ -195,7 +194,10 @@ module _ (g : Graph) (sound : IsSoundGraph g) where
         (subst (λ (d : Elem). Contains one.whole.elements d) is (one.has_nodes n n_in)) lone.named_by_none)
 
     pub well_of_whole : ¬ IsOver (part_with g nodes) → IsWell g
-    well_of_whole not_over = well_of_one g one.family nodes sound one.normal (at_most_due g nodes not_over) one_part only_part
+    well_of_whole not_over = well_of_one g one.family nodes sound one.normal (under (held g nodes) (2 * length nodes - 3) not_over) one_part only_part
+      where
+        under : (holds due : ℕ) → ¬ (due < holds) → holds ≤ due
+        under holds due not = omega (arith, not)
 
     pub parts_of_whole : (j : Judgement) → IsTheJudgement g j → j.parts ≡ part_with g nodes ∷ []
     parts_of_whole j is = alone j.parts refl

@@ -1,13 +1,10 @@
--- Sketches without the constraints that are left out, and own sketches of parts that are over.
-use Rattle.std.proofs.Common.{◌≡◌, inl, inr, ℕ, ◌+◌, ◌*◌, ◌-◌, ◌<◌, ◌≤◌, Bool, true, false, cond, List, [], ◌∷◌, length, refl, ap, sym, subst, ◌∙◌, arith}
-use Rattle.std.specs.Prelude.{Contains, map, filter, not, Option, None, Some}
+-- Sketches without the constraints that are left out: they are sound, and so are their graphs.
+use Rattle.std.proofs.Common.{◌≡◌, ◌<◌, Bool, true, false, cond, List, [], ◌∷◌, get_or, refl, ap, sym, ◌∙◌, arith}
+use Rattle.std.specs.Prelude.{map, filter, not, Option, None, Some}
 use Rattle.std.specs.List.{filter_map, cons_option}
 use Rattle.std.proofs.lemmas.List.Filters.{length-filter_both}
 use Rattle.std.proofs.lemmas.List.Elements.{All-filter}
-use Rattle.std.proofs.Common.{get_or}
-use Rattle.sk_base.specs.declared.Elem.{Elem}
 use Rattle.sk_base.specs.declared.ConId.{ConId}
-use Rattle.sk_base.specs.declared.Node.{Node}
 use Rattle.sk_base.specs.declared.Edge.{Edge}
 use Rattle.sk_base.specs.declared.Block.{Block}
 use Rattle.sk_base.specs.declared.Graph.{Graph}
@@ -17,25 +14,10 @@ use Rattle.sk_base.specs.declared.Constraint.{Constraint}
 use Rattle.sk_base.specs.declared.Sketch.{Sketch}
 use Rattle.sk_base.specs.SoundSketch.{IsSoundSketch, IsSoundRule}
 use Rattle.sk_base.proofs.Pairs.{pairs_filter}
-use Rattle.sk_family.specs.Body.{Body, Start, starts}
-use Rattle.sk_rules.specs.Excess.{weight_where, is_inside, held}
 use Rattle.sk_graph.specs.SketchGraph.{node_of, rule_edge, edge_of, block_of, graph_of}
 use Rattle.sk_graph.proofs.Drawing.{rule_alike}
 use Rattle.sk_graph.proofs.Soundness.{given_edge_id, given_block_id}
-use Rattle.sk_verdict.specs.declared.Judgement.{Judgement}
-use Rattle.sk_verdict.specs.declared.Part.{Part}
-use Rattle.sk_verdict.specs.Judging.{IsOver}
-use Rattle.sk_verdict.specs.Parts.{AreOfOnePart, part_with}
-use Rattle.sk_plan.specs.ConstraintStarts.{constraint_start}
-use Rattle.sk_plan.specs.Judged.{IsTheJudgement}
-use Rattle.sk_plan.proofs.Starts.{starts_are}
-use Rattle.sk_parts.specs.OwnSketch.{part_sketch}
-use Rattle.sk_parts.proofs.Drawing.{part_is_sound}
-use Rattle.sk_parts.proofs.OwnGraph.{own_node, own_held}
-use Rattle.sk_parts.proofs.Sharing.{lone_without}
-use Rattle.sk_parts.proofs.WellParts.{alone_in_own}
-use Rattle.sk_rules.specs.Reach.{IsNormal}
-use Rattle.sk_excess.specs.LeftOut.{is_kept, kept_graph, IsOneCluster}
+use Rattle.sk_excess.specs.LeftOut.{is_kept, kept_graph}
 use Rattle.sk_excess.specs.KeptSketch.{kept_sketch}
 
 -- what is given for the items that pass is what passes of what is given
@@ -96,30 +78,3 @@ module _ (left : List ConId) (s : Sketch) where
         rule_alike s kept (get_or (filter passes s.constraints) k d).rule (λ u named. refl)
         (All-filter passes (λ (c : Constraint). IsSoundRule s c.rule) s.constraints sound.rules_sound k d below);
   }
-
--- a lone element holds nothing
-lone_holds_nothing : (s : Sketch) (e : Elem) → IsSoundSketch s → held (graph_of s) (e ∷ []) ≡ 0
-lone_holds_nothing s e sound =
-    sym (own_held s (e ∷ []) sound)
-    ∙ ap (λ (ss : List Start). weight_where (is_inside (e ∷ [])) ss)
-    (starts_are (part_sketch s (e ∷ [])) (part_is_sound s (e ∷ []) sound) ∙ ap (λ (cs : List Constraint). map constraint_start cs) (lone_without s e sound))
-
--- a part that is over is one cluster in its own sketch
-pub over_is_one : (s : Sketch) (j : Judgement) (p : Part) → IsSoundSketch s → IsTheJudgement (graph_of s) j → Contains j.parts p → IsOver p → IsOneCluster (graph_of (part_sketch s p.elements))
-over_is_one s j p sound is p_in over =
-    let part = ((is.every is.normal is.is_normal).parts p).0 p_in in
-    of_cluster p.elements part.0 (subst (λ (q : Part). IsOver q) part.1 over)
-  where
-    of_cluster : (xs : List Elem) → AreOfOnePart (graph_of s) is.normal xs → IsOver (part_with (graph_of s) xs) → IsOneCluster (graph_of (part_sketch s xs))
-    of_cluster xs (inl (x, x_in, same)) over =
-        subst (λ (ys : List Elem). IsOneCluster (graph_of (part_sketch s ys))) same
-        (let (n, normal, just_it) = alone_in_own s is.normal sound is.is_normal x x_in in record {
-          family = n;
-          normal = normal;
-          whole = x;
-          alone = just_it;
-          has_nodes = λ m m_in. (own_node s x.elements m m_in).1;
-        })
-    of_cluster xs (inr (e, lone, same)) over =
-        absurd (let none = lone_holds_nothing s e sound in
-        let over_alone : IsOver (part_with (graph_of s) (e ∷ [])) = subst (λ (ys : List Elem). IsOver (part_with (graph_of s) ys)) (sym same) over in omega (arith, none, over_alone))

@@ -1,7 +1,7 @@
 -- Graphs that make one cluster with all nodes: with more constraints they still do, and a constraint is spare just
 -- where they do without it.
-use Rattle.std.proofs.Common.{◌≡◌, inl, inr, ◌≤◌, Bool, true, List, [], ◌∷◌, length, refl, ap, sym, subst, ◌∙◌, arith}
-use Rattle.std.specs.Prelude.{Contains, map, ◌↔◌}
+use Rattle.std.proofs.Common.{◌≡◌, inl, inr, Bool, true, List, [], ◌∷◌, refl, sym, subst, arith}
+use Rattle.std.specs.Prelude.{Contains}
 use Rattle.sk_base.specs.declared.Elem.{Elem}
 use Rattle.sk_base.specs.declared.ConId.{ConId}
 use Rattle.sk_base.specs.declared.Node.{Node}
@@ -11,7 +11,7 @@ use Rattle.sk_base.proofs.Deciding.{Decided, some_in, each_decided, is_in, elem_
 use Rattle.sk_base.proofs.Members.{contains_head, contains_one, contains_mapped, mapped_from}
 use Rattle.sk_family.specs.Body.{Body, starts, starting, initial_bodies, SameBodies}
 use Rattle.sk_rules.specs.JustSome.{with_just}
-use Rattle.sk_rules.specs.Reach.{Reach, IsNormal, IsClosedBy, either_rule}
+use Rattle.sk_rules.specs.Reach.{Reach, IsNormal, either_rule}
 use Rattle.sk_rules.proofs.Counting.{reached_tight}
 use Rattle.sk_rules.proofs.Families.{kept_along}
 use Rattle.sk_rules.proofs.JustSome.{in_part, sound_part}
@@ -22,10 +22,11 @@ use Rattle.sk_rules.proofs.NormalForm.{IsCovered, step_inside, either_gathers, r
 use Rattle.sk_rules.proofs.SomeClosed.{some_closed}
 use Rattle.sk_verdict.specs.Parts.{elem_of}
 use Rattle.sk_verdict.proofs.Normals.{has_two}
-use Rattle.sk_plan.proofs.Finished.{everything, reached_within}
+use Rattle.sk_plan.proofs.Finished.{reached_within}
 use Rattle.sk_spare.specs.Sparing.{IsSpare, without}
 use Rattle.sk_spare.proofs.Graphs.{sound_without}
-use Rattle.sk_excess.specs.LeftOut.{IsOneCluster, HasConstraint}
+use Rattle.sk_verdict.specs.OneCluster.{IsOneCluster}
+use Rattle.sk_excess.specs.LeftOut.{HasConstraint}
 
 module _ (g : Graph) (sound : IsSoundGraph g) where
   -- the element is a node

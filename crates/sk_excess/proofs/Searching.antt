@@ -1,6 +1,6 @@
 -- How the search by halves follows what is set aside.
 use Rattle.std.proofs.Common.{◌≡◌, ◌≢◌, ◌⊎◌, inl, inr, refl, ℕ, ◌+◌, ◌*◌, ◌-◌, ◌<◌, ◌≤◌, ◌==◌, Bool, true, false, cond, List, [], ◌∷◌, ◌++◌, length, take, drop, ap, sym, subst, ◌∙◌, arith}
-use Rattle.std.specs.Prelude.{Contains, map, filter, not, sum_by, AllPairs, ◌↔◌, ◌&&◌}
+use Rattle.std.specs.Prelude.{Contains, map, filter, not, sum_by, AllPairs, ◌&&◌}
 use Rattle.std.proofs.lemmas.Bool.{and_parts, and_from, false_from_ne_true}
 use Rattle.std.proofs.lemmas.Bool.Decides.{nat_tests}
 use Rattle.std.proofs.lemmas.List.{length-map, take-append-drop}
@@ -10,7 +10,6 @@ use Rattle.sk_base.specs.declared.Elem.{Elem}
 use Rattle.sk_base.specs.declared.ConId.{ConId}
 use Rattle.sk_base.specs.declared.Edge.{Edge}
 use Rattle.sk_base.specs.declared.Block.{Block}
-use Rattle.sk_base.specs.declared.Node.{Node}
 use Rattle.sk_base.specs.declared.Graph.{Graph}
 use Rattle.sk_base.specs.SoundGraph.{IsSoundGraph}
 use Rattle.sk_base.specs.Numbering.{elem_number, con_number}
@@ -24,7 +23,7 @@ use Rattle.sk_family.specs.declared.Cluster.{Cluster}
 use Rattle.sk_family.specs.Body.{Body, Start, starts, starting, initial_bodies, nothing, edge_start, block_start}
 use Rattle.sk_family.specs.Clusters.{Clusters, bodies, body_of}
 use Rattle.sk_family.proofs.GraphStarts.{starts_few, no_starts, edge_starts, block_starts}
-use Rattle.sk_rules.specs.Excess.{weight, weight_where, weight_of, is_owned, AreConstraints}
+use Rattle.sk_rules.specs.Excess.{weight_where, weight_of, is_owned, AreConstraints}
 use Rattle.sk_rules.specs.JustSome.{with_just}
 use Rattle.sk_rules.specs.Reach.{Reach, IsClosed, IsNormal, stays}
 use Rattle.sk_rules.proofs.Closing.{no_merge_of_one}
@@ -39,8 +38,9 @@ use Rattle.sk_spare.proofs.Deciding.{owned_constraints}
 use Rattle.sk_spare.proofs.LeavingOut.{distinct}
 use Rattle.sk_spare.proofs.Lighter.{weighs_the_same}
 use Rattle.sk_spare.proofs.PutBack.{passes_too, CanJoin}
-use Rattle.sk_spare.proofs.Segments.{body_weight, clusters_weigh}
-use Rattle.sk_excess.specs.LeftOut.{is_number, is_kept, kept_graph, AreLeftOut, IsOneCluster, HasConstraint}
+use Rattle.sk_spare.proofs.Segments.{clusters_weigh}
+use Rattle.sk_verdict.specs.OneCluster.{IsOneCluster}
+use Rattle.sk_excess.specs.LeftOut.{is_kept, kept_graph, AreLeftOut, HasConstraint}
 use Rattle.sk_excess.specs.Thinning.{AreLeftOutOf, but, IsWithout, some_has}
 use Rattle.sk_excess.proofs.SomeLess.{kept_not, none_kept, not_kept, just_twice, just_agree, has_part}
 use Rattle.sk_excess.proofs.OneClusters.{one_of_holding, whole_in, all_of, whole_owns, whole_has}

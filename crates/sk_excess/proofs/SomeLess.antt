@@ -1,6 +1,6 @@
 -- Graphs with some of their constraints, and with some of these.
-use Rattle.std.proofs.Common.{◌≡◌, ◌≢◌, ◌⊎◌, inl, inr, ℕ, ◌<◌, ◌≤◌, Bool, true, false, cond, List, [], ◌∷◌, refl, ap, sym, subst, ◌∙◌, arith}
-use Rattle.std.specs.Prelude.{Contains, filter, not, nat_lt, ◌↔◌, ◌==◌, ◌&&◌}
+use Rattle.std.proofs.Common.{◌≡◌, ◌⊎◌, inl, inr, ℕ, ◌<◌, Bool, true, false, cond, List, [], ◌∷◌, refl, ap, sym, subst, ◌∙◌, arith}
+use Rattle.std.specs.Prelude.{Contains, filter, not, nat_lt, ◌↔◌, ◌&&◌}
 use Rattle.std.proofs.lemmas.Bool.{and_parts, and_from, not_from_false, false_from_ne_true}
 use Rattle.std.proofs.lemmas.Bool.Decides.{nat_tests}
 use Rattle.sk_base.specs.declared.ConId.{ConId}
@@ -10,9 +10,9 @@ use Rattle.sk_base.specs.declared.Graph.{Graph}
 use Rattle.sk_base.specs.SoundGraph.{IsSoundGraph}
 use Rattle.sk_base.specs.Numbering.{con_number, con_exact}
 use Rattle.sk_base.proofs.Filters.{filter_both}
-use Rattle.sk_base.proofs.Members.{contains_none, contains_head, contains_later, contains_filtered, filtered_from}
+use Rattle.sk_base.proofs.Members.{contains_head, contains_later, contains_filtered, filtered_from}
 use Rattle.sk_base.proofs.Numbers.{among_found, found_among}
-use Rattle.sk_family.specs.Body.{Start, starts, edge_start, block_start}
+use Rattle.sk_family.specs.Body.{edge_start, block_start}
 use Rattle.sk_family.proofs.GraphStarts.{edge_starts, block_starts}
 use Rattle.sk_rules.specs.JustSome.{with_just}
 use Rattle.sk_rules.proofs.JustSome.{all_pass, in_part}

@@ -1,15 +1,13 @@
 -- What a minimal choice of a cluster's constraints leaves out. They are looked at once each, from the greatest number
 -- to the least.
-use Rattle.std.specs.Prelude.{◌≡◌, ◌↔◌, ◌==◌, not, nat_lt, Bool, List, [], ◌∷◌, Contains, filter}
+use Rattle.std.specs.Prelude.{◌≡◌, ◌↔◌, ◌==◌, not, nat_lt, Bool, List, Contains, filter}
 use Rattle.std.specs.List.{list_any}
 use Rattle.sk_base.specs.declared.ConId.{ConId}
-use Rattle.sk_base.specs.declared.Node.{Node}
 use Rattle.sk_base.specs.declared.Graph.{Graph}
 use Rattle.sk_base.specs.Numbering.{con_number}
 use Rattle.sk_base.specs.Rising.{IsRising}
-use Rattle.sk_family.specs.Body.{Body, Start, starts, SameBodies}
+use Rattle.sk_family.specs.Body.{Start, starts}
 use Rattle.sk_rules.specs.JustSome.{with_just}
-use Rattle.sk_rules.specs.Reach.{IsNormal}
 use Rattle.sk_spare.specs.Sparing.{IsSpare}
 
 -- whether it is one of these
@@ -27,14 +25,6 @@ kept_graph left g = with_just (is_kept left) g
 -- those of the numbers that are greater than k
 abbrev pub above : ConId → List ConId → List ConId
 above k numbers = filter (λ (j : ConId). nat_lt k.0 j.0) numbers
-
--- merging ends with one cluster, which has all nodes; so there are two nodes at least
-pub record IsOneCluster (g : Graph) : Type 0 where
-  pub family : List Body
-  pub normal : IsNormal g family
-  pub whole : Body
-  pub alone : SameBodies family (whole ∷ [])
-  pub has_nodes : (n : Node) → Contains g.nodes n → Contains whole.elements n.elem
 
 -- the graph has the constraint of that number
 abbrev pub HasConstraint : Graph → ConId → Type 0

@@ -11,7 +11,8 @@ use Rattle.sk_rules.specs.JustSome.{with_just}
 use Rattle.sk_rules.specs.Reach.{IsClosed}
 use Rattle.sk_spare.specs.Sparing.{IsSpare}
 use Rattle.sk_spare.specs.Halving.{IsMadeOf}
-use Rattle.sk_excess.specs.LeftOut.{is_kept, kept_graph, above, IsOneCluster, HasConstraint}
+use Rattle.sk_verdict.specs.OneCluster.{IsOneCluster}
+use Rattle.sk_excess.specs.LeftOut.{is_kept, kept_graph, above, HasConstraint}
 
 -- what is left out of these constraints, where all others are kept
 pub record AreLeftOutOf (g : Graph) (some left : List ConId) : Type 0 where

@@ -9,12 +9,11 @@ ghost use Rattle.sk_graph.specs.SketchGraph.{graph_of};
 ghost use Rattle.sk_plan.specs.Judged.{IsTheJudgement, IsWell};
 ghost use Rattle.sk_rules.specs.Excess.{held, weight_of};
 ghost use Rattle.sk_verdict.specs.declared.Judgement.{Judgement};
-ghost use Rattle.sk_verdict.specs.declared.Part.{Part};
 ghost use Rattle.sk_verdict.specs.Judging.{IsOver};
 ghost use Rattle.sk_verdict.specs.Parts.{elem_of, part_with};
-ghost use Rattle.sk_parts.specs.OwnSketch.{part_sketch};
 ghost use Rattle.sk_spare.specs.Sparing.{IsSpare};
-ghost use Rattle.sk_excess.specs.LeftOut.{kept_graph, AreLeftOut, HasConstraint, IsOneCluster};
+ghost use Rattle.sk_verdict.specs.OneCluster.{IsOneCluster};
+ghost use Rattle.sk_excess.specs.LeftOut.{kept_graph, AreLeftOut, HasConstraint};
 ghost use Rattle.sk_excess.specs.KeptSketch.{kept_sketch};
 
 /// What is kept makes one cluster with all nodes, and none of it is spare, so no fewer of it would do. What is left
@@ -41,11 +40,9 @@ pub fn one_cluster()
     ensures { (g : Graph) (j : Judgement) → IsSoundGraph g → IsOneCluster g → IsTheJudgement g j → j.parts ≡ part_with g (map elem_of g.nodes) ∷ [] }
 {}
 
-/// The own sketch of a part that is over makes one cluster with all its elements. Without the constraints that are left
-/// out a sound sketch is sound, and its graph is that of the whole sketch without them.
+/// Without the constraints that are left out a sound sketch is sound, and its graph is that of the whole sketch without
+/// them.
 pub fn kept_sketches()
-    ensures over { (s : Sketch) (j : Judgement) (p : Part) → IsSoundSketch s → IsTheJudgement (graph_of s) j → Contains j.parts p → IsOver p
-        → IsOneCluster (graph_of (part_sketch s p.elements)) }
     ensures sound { (s : Sketch) (left : List ConId) → IsSoundSketch s → IsSoundSketch (kept_sketch left s) }
     ensures graph { (s : Sketch) (left : List ConId) → graph_of (kept_sketch left s) ≡ kept_graph left (graph_of s) }
 {}

@@ -10,7 +10,8 @@ ghost use Rattle.sk_base.specs.Rising.{IsRising};
 ghost use Rattle.sk_base.specs.SoundGraph.{IsSoundGraph};
 ghost use Rattle.sk_family.specs.Clusters.{bodies};
 ghost use Rattle.sk_rules.specs.JustSome.{with_just};
-ghost use Rattle.sk_excess.specs.LeftOut.{is_kept, AreLeftOut, IsOneCluster};
+ghost use Rattle.sk_verdict.specs.OneCluster.{IsOneCluster};
+ghost use Rattle.sk_excess.specs.LeftOut.{is_kept, AreLeftOut};
 ghost use Rattle.sk_excess.specs.Thinning.{some_has, AreLeftOutOf, IsWithout};
 
 use crate::kept::is_kept;

@@ -7,12 +7,11 @@ use Rattle.sk_base.specs.Numbering.{con_number}
 use Rattle.sk_base.specs.Rising.{IsRising}
 use Rattle.sk_base.proofs.Splits.{pairs_take, pairs_drop}
 use Rattle.sk_family.specs.declared.Cluster.{Cluster}
-use Rattle.sk_family.specs.Body.{Body}
 use Rattle.sk_family.specs.Clusters.{bodies}
 use Rattle.sk_rules.specs.Excess.{weight_of}
 use Rattle.sk_rules.specs.JustSome.{with_just}
 use Rattle.sk_spare.specs.Halving.{AreFurther, IsMadeOf, cluster_weight}
-use Rattle.sk_spare.proofs.PutBack.{CanJoin, rest_is}
+use Rattle.sk_spare.proofs.PutBack.{rest_is}
 use Rattle.sk_excess.specs.LeftOut.{is_kept}
 use Rattle.sk_excess.specs.Thinning.{AreLeftOutOf, but, IsWithout, some_has}
 use Rattle.sk_excess.proofs.Searching.{constraints_aside, all_go, lone_stays, none_go, less_further, kept_further, few_kept, greater_without, greater_left, less_without, both_go}
