@@ -13,6 +13,7 @@ ghost use Rattle.sk_verdict.specs.declared.Judgement.{Judgement};
 ghost use Rattle.sk_verdict.specs.declared.Part.{Part};
 ghost use Rattle.sk_verdict.specs.declared.Verdict.TheVariants.{Well};
 ghost use Rattle.sk_verdict.specs.Judging.{IsOver};
+ghost use Rattle.sk_verdict.specs.OneCluster.{IsOneCluster};
 ghost use Rattle.sk_parts.specs.OwnSketch.{part_sketch, numbers_in, HasInOwn, IsInJustOne};
 
 /// The own sketch of a part of a sound sketch is sound, has just the part's elements, which are some, and just the
@@ -34,5 +35,8 @@ pub fn own_sketches()
     // Merging a cluster's own sketch leads to that cluster, and to no other.
     ensures alone { (s : Sketch) (f : List Body) (x : Body) → IsSoundSketch s → IsNormal (graph_of s) f → Contains f x
         → (n : List Body) × IsNormal (graph_of (part_sketch s x.elements)) n × SameBodies n (x ∷ []) }
+    // Such a cluster, with all elements of the part, is what a part that is over makes.
+    ensures over { (s : Sketch) (j : Judgement) (p : Part) → IsSoundSketch s → IsTheJudgement (graph_of s) j → Contains j.parts p → IsOver p
+        → IsOneCluster (graph_of (part_sketch s p.elements)) }
     ensures lone { (s : Sketch) (e : Elem) → IsSoundSketch s → (part_sketch s (e ∷ [])).constraints ≡ [] }
 {}

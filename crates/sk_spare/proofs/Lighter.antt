@@ -17,7 +17,7 @@ use Rattle.sk_spare.specs.Sparing.{differs_from, without}
 use Rattle.sk_rules.proofs.JustSome.{starts_of_part}
 
 -- where only constraints go that do not pass, those that pass weigh the same
-weighs_the_same : (p keep : Start → Bool) (ss : List Start) → ((s : Start) → Contains ss s → p s ≡ true → keep s ≡ true) → weight_where p (filter keep ss) ≡ weight_where p ss
+pub weighs_the_same : (p keep : Start → Bool) (ss : List Start) → ((s : Start) → Contains ss s → p s ≡ true → keep s ≡ true) → weight_where p (filter keep ss) ≡ weight_where p ss
 weighs_the_same p keep [] each = refl
 weighs_the_same p keep (s ∷ ss) each = told (keep s) refl (weighs_the_same p keep ss (λ t h. each t (contains_later s ss t h)))
   where

@@ -39,7 +39,7 @@ pub(crate) fn try_owned(
 }
 
 /// The graph of nothing.
-fn no_graph(alloc: Global) -> Graph
+pub fn no_graph(alloc: Global) -> Graph
     ensures { result ≡ record { nodes = []; edges = []; blocks = [] } }
 {
     Graph {
@@ -83,7 +83,7 @@ fn try_aside(
 
 /// Whether the clusters and the constraints that are set aside weigh too little for all elements of the
 /// owner.
-fn are_too_few(graph: &Graph, owner: &Cluster, aside: &[ConId], clusters: &[Cluster]) -> bool
+pub fn are_too_few(graph: &Graph, owner: &Cluster, aside: &[ConId], clusters: &[Cluster]) -> bool
     requires sound { IsSoundGraph graph.now }
     requires constraints { AreConstraints graph.now aside.now }
     requires few { length clusters.now ≤ 4001 }

@@ -7,6 +7,8 @@ mod spares;
 mod text;
 mod trial;
 
+pub use halves::{are_too_few, no_graph};
 pub use law::{one_list_of_spares, trials};
 pub use spares::spare;
 pub use text::spare_text;
+pub use trial::{normal_family, with_these};

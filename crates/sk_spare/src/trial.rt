@@ -16,7 +16,7 @@ use sk_worklist::close_in_any_order;
 use std::alloc::Global;
 
 /// A normal family of the graph.
-pub(crate) fn normal_family(alloc: Global, graph: &Graph) -> Result<Family, NoMemory>
+pub fn normal_family(alloc: Global, graph: &Graph) -> Result<Family, NoMemory>
     requires { IsSoundGraph graph.now }
     ensures { IfOk result (λ family. IsNormal graph.now (bodies family)) }
 {
@@ -26,7 +26,7 @@ pub(crate) fn normal_family(alloc: Global, graph: &Graph) -> Result<Family, NoMe
 }
 
 /// The closed family of what the family is made of and these constraints too.
-pub(crate) fn with_these(
+pub fn with_these(
     alloc: Global,
     graph: &Graph,
     family: &Family,

@@ -2,3 +2,4 @@ pub mod Building
 pub mod Judging
 pub mod Ordering
 pub mod Parts
+pub mod OneCluster

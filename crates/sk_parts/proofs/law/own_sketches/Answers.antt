@@ -1,5 +1,6 @@
 use Rattle.sk_parts.proofs.Drawing.{part_is_sound}
 use Rattle.sk_parts.proofs.WellParts.{alone_in_own}
+use Rattle.sk_parts.proofs.OverParts.{over_is_one}
 use Rattle.sk_parts.proofs.Sharing.{covered_judged, numbers_judged, some_judged, has_owned, well_judged, once_judged, whole_judged, lone_without}
 use Rattle.sk_parts.proofs.law.own_sketches.Goals as goal
 
@@ -32,3 +33,6 @@ returns-clause-some c s j p sound is p_in = some_judged s j sound is p p_in
 
 pub returns-clause-covered : goal.returns-clause-covered
 returns-clause-covered c s j x sound is x_in = covered_judged s j sound is x x_in
+
+pub returns-clause-over : goal.returns-clause-over
+returns-clause-over c s j p sound is p_in over = over_is_one s j p sound is p_in over
