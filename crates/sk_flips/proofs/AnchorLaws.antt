@@ -4,6 +4,7 @@ use Rattle.std.specs.Prelude.{map, ◌==◌}
 use Rattle.std.proofs.lemmas.Bool.{cases_Bool}
 use Rattle.std.proofs.lemmas.Bool.Decides.{nat_tests}
 use Rattle.std.proofs.lemmas.Int.{ints}
+use Rattle.std.proofs.lemmas.Option.{same_Some}
 use Rattle.sk_base.specs.declared.Block.{Block}
 use Rattle.sk_base.specs.declared.ConId.{ConId}
 use Rattle.sk_base.specs.declared.Edge.{Edge}
@@ -50,19 +51,20 @@ use Rattle.sk_place.specs.Placing.{IsPlaced, lone_box}
 use Rattle.sk_place.specs.Rounding.{rounded_box}
 use Rattle.sk_place.specs.Settling.{settled_box}
 use Rattle.sk_place.specs.Trees.{edge, block, framed_of, frame_of, two_boxes, pin_boxes}
-use Rattle.sk_place.proofs.Edges.{edge_found, framed_edge, edge_measured}
+use Rattle.sk_steps.proofs.SoundMeasures.{edge_measured}
+use Rattle.sk_place.proofs.Edges.{edge_found, framed_edge}
 use Rattle.sk_place.proofs.Ending.{tree_named, leaf_there}
 use Rattle.sk_place.proofs.Results.{then_ok, box_ok, ok_inside}
 use Rattle.sk_place.specs.declared.FrameBy.TheVariants.{Drawn}
 use Rattle.sk_frame.specs.Bases.{constraint_named, base_in}
 use Rattle.sk_frame.specs.Crossings.{nanometres}
-use Rattle.sk_frame.specs.Frames.{measured_frame, block_frame, lone_frame, constraint_frame, based_frame, frame_of as frame_in, given_place}
+use Rattle.sk_frame.specs.Frames.{measured_frame, block_frame, lone_frame, found_frame, based_frame, frame_of as frame_in, given_place}
 use Rattle.sk_frame.proofs.SoundFrames.{frame_is_sound}
 use Rattle.sk_flips.specs.Anchors.{measured_anchor, first_pinned, lone_anchor, first_anchor, constraint_anchor, based_anchor, anchor_of, at_place, LiesAsDrawn}
 use Rattle.sk_flips.specs.Placements.{midpoints, IsLaid}
 use Rattle.sk_flips.proofs.AnchorBoxes.{nothing_is, signed_is, small_of, point_at, LiesAt, put_there, points_leaf, mixed_leaf, first_pin}
 use Rattle.sk_flips.proofs.AnchorPlaces.{place_printed}
-use Rattle.sk_flips.proofs.BasePlaces.{based, some_same}
+use Rattle.sk_flips.proofs.BasePlaces.{based}
 
 same_number : (e : Elem) → (e.0 == e.0) ≡ true
 same_number e = grind (arith, nat_tests)
@@ -106,7 +108,7 @@ module _ {G : Type 0} (by : PlaceBy) (F : ℕ) where
         → (own : List (BoxAt G)) → two_boxes x r ≡ Some own → LiesAt F own x.u v
     first_lies x apart v at other at_is r r_is own own_is =
         let there : with_box (record { elem = x.u; at = at }) (record { elem = x.v; at = other } ∷ []) ≡ own =
-        some_same (with_box (record { elem = x.u; at = at }) (record { elem = x.v; at = other } ∷ [])) own (sym (ap (two_boxes x) r_is) ∙ own_is) in
+        same_Some (with_box (record { elem = x.u; at = at }) (record { elem = x.v; at = other } ∷ [])) own (sym (ap (two_boxes x) r_is) ∙ own_is) in
         subst (λ (l : List (BoxAt G)). LiesAt F l x.u v) there
         (put_there F x.u v at (record { elem = x.v; at = other } ∷ []) (λ i j d below inside. absurd (omega arith)) (λ h. apart (sym (contains_one x.v x.u h))) at_is)
 
@@ -116,7 +118,7 @@ module _ {G : Type 0} (by : PlaceBy) (F : ℕ) where
     edge_anchored x apart (PointPoint far) sound own own_is e e_is =
         let v : Vector = record { x = pos 0; y = pos 0 } in
         let at_is : Point (whole F (pos 0)) (whole F (pos 0)) ≡ point_at F v = ap (λ z. let made : BoxOf G = Point z z in made) (nothing_is F) in
-        subst (λ (d : Elem). IsAnchored v (nanometres (drawn_place (drawn_as s x.u))) own d) (some_same x.u e e_is)
+        subst (λ (d : Elem). IsAnchored v (nanometres (drawn_place (drawn_as s x.u))) own d) (same_Some x.u e e_is)
         (record {
           lies = first_lies x apart v (Point (whole F (pos 0)) (whole F (pos 0))) (Point (of_micrometres F far.0) (whole F (pos 0))) at_is
               (leaf F (PointPoint far)) (points_leaf G F far (small_of far.0 (omega (arith, ints, sound.0)) sound.1)) own own_is;
@@ -127,7 +129,7 @@ module _ {G : Type 0} (by : PlaceBy) (F : ℕ) where
         let height = with_sign side (of_micrometres F far.0) in
         let at_is : Point (whole F (pos 0)) height ≡ point_at F v =
         ap (λ z. let made : BoxOf G = Point z height in made) (nothing_is F) ∙ ap (λ z. let made : BoxOf G = Point (of_micrometres F (pos 0)) z in made) (signed_is F side far.0) in
-        subst (λ (d : Elem). IsAnchored v (nanometres (drawn_place (drawn_as s x.u))) own d) (some_same x.u e e_is)
+        subst (λ (d : Elem). IsAnchored v (nanometres (drawn_place (drawn_as s x.u))) own d) (same_Some x.u e e_is)
         (record {
           lies = first_lies x apart v (Point (whole F (pos 0)) height) (Line (whole F (pos 0)) (whole F (pos 1)) (whole F (pos 0))) at_is
               (leaf F (PointLine far side)) (mixed_leaf G F far side (small_of far.0 sound.0 (omega (arith, ints, sound.1)))) own own_is;
@@ -139,7 +141,7 @@ module _ {G : Type 0} (by : PlaceBy) (F : ℕ) where
     block_anchored [] sound e e_is = (let never : None ≡ Some e = e_is in absurd (cc))
     block_anchored (p ∷ []) sound e e_is = (let two = sound.at_least in absurd (omega (arith, two)))
     block_anchored (p ∷ q ∷ pins) sound e e_is =
-        subst (λ (d : Elem). IsAnchored (given_place p) (nanometres (drawn_place (drawn_as s p.elem))) (pin_boxes F (p ∷ q ∷ pins)) d) (some_same p.elem e e_is)
+        subst (λ (d : Elem). IsAnchored (given_place p) (nanometres (drawn_place (drawn_as s p.elem))) (pin_boxes F (p ∷ q ∷ pins)) d) (same_Some p.elem e e_is)
         (record { lies = first_pin F p (q ∷ pins) sound; to = refl })
 
     lone_anchored : (nodes : List Node) (e : Elem) → first_anchor nodes ≡ Some e
@@ -155,7 +157,7 @@ module _ {G : Type 0} (by : PlaceBy) (F : ℕ) where
         of_kind kinds.Point k_is is =
             let v : Vector = record { x = pos 0; y = pos 0 } in
             let at_is : Point (whole F (pos 0)) (whole F (pos 0)) ≡ point_at F v = ap (λ z. let made : BoxOf G = Point z z in made) (nothing_is F) in
-            subst (λ (d : Elem). IsAnchored v (nanometres (drawn_place (drawn_as s n.elem))) list d) (some_same n.elem e is)
+            subst (λ (d : Elem). IsAnchored v (nanometres (drawn_place (drawn_as s n.elem))) list d) (same_Some n.elem e is)
             (record {
               lies = record { holds = contains_head n.elem (elements_of (map (λ (x : Node). let b : BoxAt G = record { elem = x.elem; at = lone_box F x.kind } in b) others)); is = rw (same_number n.elem) (ap (λ (k : Kind). lone_box {G = G} F k) k_is ∙ at_is) };
               to = refl;
@@ -163,11 +165,11 @@ module _ {G : Type 0} (by : PlaceBy) (F : ℕ) where
 
     module _ (g : Graph) (sound : IsSoundGraph g) where
       constraint_anchored : (k : ℕ) (own : List (BoxAt G)) → frame_of F (framed_of g k) ≡ Some own → (x : Option Edge) → edge_numbered g k ≡ x → (y : Option Block) → block_numbered g k ≡ y
-          → (e : Elem) → constraint_anchor x y ≡ Some e → (let f = constraint_frame s x y in IsAnchored f.from f.to own e)
+          → (e : Elem) → constraint_anchor x y ≡ Some e → (let f = found_frame s x y in IsAnchored f.from f.to own e)
       constraint_anchored k own own_is None x_is None y_is e e_is = (let never : None ≡ Some e = e_is in absurd (cc))
       constraint_anchored k own own_is None x_is (Some b) y_is e e_is =
           let framed : framed_of g k ≡ Some (block b) = rw y_is refl in
-          let own_same : pin_boxes F b.pins ≡ own = some_same (pin_boxes F b.pins) own (sym (ap (frame_of F) framed) ∙ own_is) in
+          let own_same : pin_boxes F b.pins ≡ own = same_Some (pin_boxes F b.pins) own (sym (ap (frame_of F) framed) ∙ own_is) in
           subst (λ (l : List (BoxAt G)). (let f = block_frame s b.pins in IsAnchored f.from f.to l e)) own_same
           (block_anchored b.pins (sound.blocks_sound b (found_in (λ (z : Block). z.id.0 == k) g.blocks b y_is).0).pins e e_is)
       constraint_anchored k own own_is (Some x) x_is y y_is e e_is =

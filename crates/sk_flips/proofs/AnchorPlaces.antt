@@ -18,6 +18,7 @@ use Rattle.sk_interval.proofs.ProductLemmas.{bounded-ok, product-quotients}
 use Rattle.sk_interval.proofs.QuotientLemmas.{scaled, floor-at_most, at_most-floor, ceil-at_least, at_least-ceil}
 use Rattle.sk_interval.proofs.ScaleLemmas.{scale-scale, scale-sum, product-neg}
 use Rattle.sk_base.specs.Bounds.{IsWithin}
+use Rattle.sk_base.proofs.Magnitudes.{≤ℤ_antisymm}
 use Rattle.sk_steps.specs.declared.BoxOf.{BoxOf}
 use Rattle.sk_steps.specs.declared.BoxOf.TheVariants.{Point}
 use Rattle.sk_motion.specs.declared.Motion.{Motion}
@@ -32,9 +33,6 @@ use Rattle.sk_frame.specs.Frames.{IsSoundFrame}
 use Rattle.sk_frame.specs.FrameMotions.{ratio, parts_motion, frame_motion}
 use Rattle.sk_frame.proofs.UnitTurns.{unit_of}
 use Rattle.sk_frame.proofs.FrameTurns.{with_turn, turn_of_frame, motion_is}
-
-same_z : (a b : ℤ) → a ≤ℤ b → b ≤ℤ a → a ≡ b
-same_z a b h k = omega (arith, ints)
 
 -- the ceiling of a fraction is its floor or one more
 ceil_near : (n : ℤ) (d : ℕ) → 0 < d → ceil_of n (pos d) ≤ℤ (floor_of n (pos d) +ℤ pos 1)
@@ -91,7 +89,7 @@ least_turned a b c d a_is c_is =
     let high = greatest_above G a b c d (≤ℤ_refl G) in
     let up : G ≤ℤ neg_ℤ L = above_greatest (neg_ℤ L) a b c d (omega (arith, ints, a_is, low.1)) (omega (arith, ints, a_is, low.0)) (omega (arith, ints, c_is, low.3)) (omega (arith, ints, c_is, low.2)) in
     let down : neg_ℤ G ≤ℤ L = below_least (neg_ℤ G) a b c d (omega (arith, ints, a_is, high.1)) (omega (arith, ints, a_is, high.0)) (omega (arith, ints, c_is, high.3)) (omega (arith, ints, c_is, high.2)) in
-    same_z L (neg_ℤ G) (omega (arith, ints, up)) down
+    ≤ℤ_antisymm L (neg_ℤ G) (omega (arith, ints, up)) down
 
 pub even_product : (F : ℕ) (c d : Interval) → unsigned_abs c.lo ≤ 2 * 2 ^ F → unsigned_abs c.hi ≤ 2 * 2 ^ F → IsAbout 1 d → HasEvenProduct F c d
 even_product F c d lo_few hi_few about =
@@ -194,7 +192,7 @@ same_nearest r X n d near close =
     (λ le. by_lt_z X r
     (λ lt. absurd (let step : ((X +ℤ pos 1) *ℤ pos d) ≤ℤ (r *ℤ pos d) = scaled (X +ℤ pos 1) r d (omega (arith, ints, lt)) in
     let sum_is = scale-sum X (pos 1) d in omega (arith, ints, near, close, step, sum_is)))
-    (λ ge. same_z r X ge le))
+    (λ ge. ≤ℤ_antisymm r X ge le))
 
 -- a sum of ends that is that of a number of nanometres, or one less
 pub printed : (F : ℕ) → 21 ≤ F → (X : ℤ) (b : Interval) → (b.lo +ℤ b.hi) ≤ℤ ((ratio F 1000000 X).lo +ℤ (ratio F 1000000 X).hi) → ((ratio F 1000000 X).lo +ℤ (ratio F 1000000 X).hi) ≤ℤ ((b.lo +ℤ b.hi) +ℤ pos 1)

@@ -6,6 +6,7 @@ use Rattle.sk_base.specs.declared.Name.{Name}
 use Rattle.sk_base.specs.declared.Name.TheVariants.{Con}
 use Rattle.sk_base.specs.ClusterNames.{name_eq}
 use Rattle.sk_base.proofs.Members.{contains_none, contains_cases}
+use Rattle.std.proofs.lemmas.Option.{same_Some}
 use Rattle.sk_family.proofs.Naming.{name_eq_true, name_eq_same}
 use Rattle.sk_steps.specs.declared.BoxOf.{BoxOf}
 use Rattle.sk_steps.specs.Leaves.{leaf}
@@ -28,12 +29,9 @@ use Rattle.sk_frame.specs.Bases.{kept_from}
 use Rattle.sk_flips.proofs.BaseBoxes.{Keeps, keeps_all, keeps_more, joined_keeps}
 use Rattle.sk_flips.proofs.KeptPaths.{kept_on, kept_ends, keeps_one}
 
-pub some_same : {X : Type 0} (x y : X) → Some x ≡ Some y → x ≡ y
-some_same x y e = cc
-
 module _ {G : Type 0} (placing : PlaceBy) (F : ℕ) where
   boxes_ok : (r : Result (List (BoxAt G)) StepFault) (bs : List (BoxAt G)) → boxes_in (Some r) ≡ Some bs → r ≡ Ok bs
-  boxes_ok (Ok xs) bs is = ap Ok (some_same xs bs is)
+  boxes_ok (Ok xs) bs is = ap Ok (same_Some xs bs is)
   boxes_ok (Err f) bs is = (let never : None ≡ Some bs = is in absurd (cc))
 
   -- the boxes of a step's three children, where it has boxes
@@ -56,9 +54,9 @@ module _ {G : Type 0} (placing : PlaceBy) (F : ℕ) where
   leaf_rises (Some (edge e)) bs is = told (leaf F e.measure) is
     where
       told : {N : Type 0} (r : Result (BoxOf G × BoxOf G) N) → two_boxes e r ≡ Some bs → Rise bs
-      told (Ok found) here = subst Rise (some_same _ bs here) (rises_with (record { elem = e.u; at = found.0 }) (record { elem = e.v; at = found.1 } ∷ []) (λ i j d below inside. absurd (omega arith)))
+      told (Ok found) here = subst Rise (same_Some _ bs here) (rises_with (record { elem = e.u; at = found.0 }) (record { elem = e.v; at = found.1 } ∷ []) (λ i j d below inside. absurd (omega arith)))
       told (Err fault) here = (let never : None ≡ Some bs = here in absurd (cc))
-  leaf_rises (Some (block b)) bs is = subst Rise (some_same _ bs is) (rises_with_all (map (pin_at F) b.pins) [] (λ i j d below inside. absurd (omega arith)))
+  leaf_rises (Some (block b)) bs is = subst Rise (same_Some _ bs is) (rises_with_all (map (pin_at F) b.pins) [] (λ i j d below inside. absurd (omega arith)))
   leaf_rises None bs is = (let never : None ≡ Some bs = is in absurd (cc))
 
   module _ (g : Graph) (p : Plan) (legal : IsLegalPlan g p) where

@@ -5,6 +5,7 @@ use Rattle.sk_base.specs.declared.Graph.{Graph}
 use Rattle.sk_base.specs.declared.Sketch.{Sketch}
 use Rattle.sk_base.specs.SoundGraph.{IsSoundGraph}
 use Rattle.sk_base.specs.SoundSketch.{IsSoundSketch}
+use Rattle.std.proofs.lemmas.Option.{same_Some}
 use Rattle.sk_graph.specs.SketchGraph.{graph_of}
 use Rattle.sk_interval.specs.declared.Cause.TheVariants.{Range}
 use Rattle.sk_tree.specs.declared.Plan.{Plan}
@@ -29,7 +30,6 @@ use Rattle.sk_frame.specs.Frames.{frame_of}
 use Rattle.sk_frame.proofs.MotionLaws.{finer_motion}
 use Rattle.sk_frame.proofs.SoundFrames.{frame_is_sound}
 use Rattle.sk_flips.specs.Placements.{IsCarried, IsLaid}
-use Rattle.sk_flips.proofs.BasePlaces.{some_same}
 use Rattle.sk_flips.proofs.OnePlacement.{same_laid}
 
 module _ {G : Type 0} (F k : ℕ) (p : Plan) where
@@ -52,7 +52,7 @@ module _ {G : Type 0} (F k : ℕ) (p : Plan) where
         by_leaves (c ∷ cs) are fine found =
             let t = tree (λ none. (let never : [] ≡ c ∷ cs = sym none ∙ are in cc)) in
             let finer = nest F k g p.steps t.0 bs (placed.0 t.0 t.1) in
-            subst (λ (l : List (BoxAt G)). AreInside k l bs) (some_same finer.fine fine (sym finer.has.are ∙ (found.0 t.0 t.1).are)) finer.inside
+            subst (λ (l : List (BoxAt G)). AreInside k l bs) (same_Some finer.fine fine (sym finer.has.are ∙ (found.0 t.0 t.1).are)) finer.inside
 
   module _ (s : Sketch) (enough : 8 ≤ F) (sketch : IsSoundSketch s) (sound : IsSoundGraph (graph_of s)) where
     record HasFinerCarried (frame : FrameBy) (fine coarse : List (BoxAt G)) : Type 0 where
