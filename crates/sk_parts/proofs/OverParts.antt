@@ -1,5 +1,5 @@
 -- The own sketch of a part that is over makes one cluster with all its elements.
-use Rattle.std.proofs.Common.{◌≡◌, inl, inr, ◌-◌, List, [], ◌∷◌, ap, sym, subst, ◌∙◌, arith}
+use Rattle.std.proofs.Common.{◌≡◌, inl, inr, List, [], ◌∷◌, ap, sym, subst, ◌∙◌, arith}
 use Rattle.std.specs.Prelude.{Contains, map}
 use Rattle.sk_base.specs.declared.Elem.{Elem}
 use Rattle.sk_base.specs.declared.Constraint.{Constraint}
