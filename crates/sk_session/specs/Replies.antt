@@ -29,7 +29,7 @@ use Rattle.sk_edits.specs.declared.Edit.{Edit}
 use Rattle.sk_edits.specs.declared.Edit.TheVariants as edit
 use Rattle.sk_edits.specs.Edits.{next_element, next_constraint}
 use Rattle.sk_edits.specs.Commands.{command_of, edit_made}
-use Rattle.sk_session.specs.LineCodes.{code_in}
+use Rattle.sk_session.specs.SessionCodes.{code_in}
 use Rattle.sk_session.specs.State.{State, sketch_in, graph_in, fresh, Accepts, TakesBack, Closes, IsHeldUp}
 
 -- the plan of the run, from the initial family, of a fresh picker of the order
