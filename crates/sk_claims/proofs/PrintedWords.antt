@@ -10,7 +10,7 @@ use Rattle.sk_base.specs.declared.Name.TheVariants.{Con, Step}
 use Rattle.sk_base.specs.Bounds.{IsWithin}
 use Rattle.sk_base.specs.Millimetres.{has_sign, without_sign}
 use Rattle.sk_base.specs.Spelling.{whole_text}
-use Rattle.sk_lines.specs.ClusterWords.{begins_with_zero, plain_number, name_of}
+use Rattle.sk_lines.specs.ClusterWords.{begins_with_zero, plain_number, cluster_named}
 use Rattle.sk_lines.specs.Quantities.{not_negative}
 use Rattle.sk_text.specs.ClusterName.{cluster_name}
 use Rattle.sk_text.proofs.ReadBack.{digits_of-decimal, unsigned}
@@ -24,7 +24,7 @@ no_zero (b ∷ bytes) first = grind (arith, nat_tests)
 number_back : (k : ℕ) → 0 < k → k ≤ 999999 → plain_number 6 (decimal k) ≡ Some k
 number_back k some small = rw (no_zero (decimal k) (first_decimal k some (omega arith)), digits_of-decimal 6 k (omega arith) (omega arith) (omega arith)) refl
 
-pub cluster_back : (n : Name) → HasPlainNumber n → name_of (cluster_name n) ≡ Some n
+pub cluster_back : (n : Name) → HasPlainNumber n → cluster_named (cluster_name n) ≡ Some n
 cluster_back (Con k) plain = rw (number_back k plain.0 plain.1) refl
 cluster_back (Step k) plain = rw (number_back k plain.0 plain.1) refl
 

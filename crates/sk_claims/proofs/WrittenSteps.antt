@@ -9,7 +9,7 @@ use Rattle.sk_base.specs.ElementNames.{name_of as element_name}
 use Rattle.sk_base.specs.SoundSketch.{IsSoundSketch}
 use Rattle.sk_base.specs.Spelling.{spaced}
 use Rattle.sk_lines.specs.declared.Code.TheVariants.{E4}
-use Rattle.sk_lines.specs.ClusterWords.{name_of, is_bad_name}
+use Rattle.sk_lines.specs.ClusterWords.{cluster_named, is_bad_name}
 use Rattle.sk_lines.specs.FirstCode.{first_code}
 use Rattle.sk_entry.specs.Named.{number_named}
 use Rattle.sk_lines.proofs.LineWords.{extent}
@@ -98,8 +98,8 @@ three_corners s a b c p q r u v w = rw (p, q, r, u, v, w) refl
 
 -- the words say the step
 said_by : (s : Sketch) (x : PlanStep) (name joins one two three at a b c keeps kept : List ℕ) (choice : List (List ℕ))
-    → name_of name ≡ Some x.step → name_of one ≡ Some x.one → name_of two ≡ Some x.two → name_of three ≡ Some x.three → number_named s a ≡ x.a → number_named s b ≡ x.b → number_named s c ≡ x.c
-    → name_of kept ≡ Some x.keeps → choice_of choice ≡ Some x.choice
+    → cluster_named name ≡ Some x.step → cluster_named one ≡ Some x.one → cluster_named two ≡ Some x.two → cluster_named three ≡ Some x.three → number_named s a ≡ x.a → number_named s b ≡ x.b → number_named s c ≡ x.c
+    → cluster_named kept ≡ Some x.keeps → choice_of choice ≡ Some x.choice
     → step_said s (name ∷ joins ∷ one ∷ two ∷ three ∷ at ∷ a ∷ b ∷ c ∷ keeps ∷ kept ∷ choice) ≡ x ∷ []
 said_by s x name joins one two three at a b c keeps kept choice n1 n2 n3 n4 e1 e2 e3 n5 says = rw (n1, n2, n3, n4, e1, e2, e3, n5, says) refl
 

@@ -6,7 +6,7 @@ ghost use Rattle.sk_base.specs.Spelling.{whole_text};
 ghost use Rattle.sk_base.specs.declared.ConId.{ConId};
 ghost use Rattle.sk_base.specs.declared.Name.{Name};
 ghost use Rattle.sk_base.specs.declared.Name.TheVariants.{Con};
-ghost use Rattle.sk_lines.specs.ClusterWords.{name_of};
+ghost use Rattle.sk_lines.specs.ClusterWords.{cluster_named};
 ghost use Rattle.sk_text.specs.ClusterName.{cluster_name};
 ghost use Rattle.sk_claims.specs.ClaimLines.{whole_of, count_of, tolerance_limit};
 ghost use Rattle.sk_claims.specs.Printed.{HasPlainNumber};
@@ -26,7 +26,7 @@ ghost use Rattle.sk_claims.specs.ClaimText.{CanBeSaid, claim_text, radii_drawn};
 pub fn printed_words_read_back()
     ensures numbers { (most : ℕ) (z : ℤ) → most ≤ 2 ^ 62 → IsWithin most z → whole_of most (whole_text z) ≡ Some z }
     ensures tolerances { (n : ℕ) → n ≤ 2 ^ 62 → count_of tolerance_limit (decimal n) ≡ Some n }
-    ensures clusters { (n : Name) → HasPlainNumber n → name_of (cluster_name n) ≡ Some n }
+    ensures clusters { (n : Name) → HasPlainNumber n → cluster_named (cluster_name n) ≡ Some n }
 {}
 
 /// The text of a claim reads as that claim, where its steps can be said, its places fit the graph and its

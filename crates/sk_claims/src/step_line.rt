@@ -12,7 +12,7 @@ use crate::choosing::{closed_choice, open_choice};
 use sk_base::{Elem, Name, Sketch};
 use sk_entry::{element_named, label};
 use sk_lex::Word;
-use sk_lines::{Code, is_word, name_of, word};
+use sk_lines::{Code, cluster_named, is_word, word};
 use sk_tree::{Choice, PlanStep};
 
 /// The names in a step: its own, those of the clusters that it joins, and that of the one that it keeps.
@@ -92,11 +92,11 @@ fn joining_of(step: &[u8], x: &[u8], y: &[u8], z: &[u8], kept: &[u8]) -> Result<
     ensures { result ≡ unless (first_code ((list_any is_bad_name (step.now ∷ x.now ∷ y.now ∷ z.now ∷ kept.now ∷ []), E4) ∷ []))
         (record { step = named step.now; one = named x.now; two = named y.now; three = named z.now; keeps = named kept.now }) }
 {
-    let step = name_of(step)?;
-    let one = name_of(x)?;
-    let two = name_of(y)?;
-    let three = name_of(z)?;
-    let keeps = name_of(kept)?;
+    let step = cluster_named(step)?;
+    let one = cluster_named(x)?;
+    let two = cluster_named(y)?;
+    let three = cluster_named(z)?;
+    let keeps = cluster_named(kept)?;
     Ok(Joining {
         step,
         one,

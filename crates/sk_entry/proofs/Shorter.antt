@@ -2,23 +2,14 @@
 use Rattle.std.proofs.Common.{◌≡◌, ℕ, zero, suc, ◌+◌, ◌-◌, ◌*◌, ◌/◌, ◌%◌, ◌<◌, ◌≤◌, ◌^◌, Bool, true, false, cond, nat_le, nat_eq, List, [], ◌∷◌, ◌++◌, length, length-append, length-drop, take, drop, Option, Some, None, refl, sym, subst, arith, ℤ}
 use Rattle.std.specs.Prelude.{position}
 use Rattle.std.specs.Fmt.{decimal}
-use Rattle.std.specs.List.{list_all}
 use Rattle.std.specs.Option.{option_map}
-use Rattle.std.specs.Char.{is_ascii_digit}
 use Rattle.std.specs.Str.Parse.{digits_value}
-use Rattle.std.proofs.lemmas.Bool.Decides.{nat_tests}
 use Rattle.std.proofs.lemmas.Fmt.{length-decimal-le}
 use Rattle.std.proofs.lemmas.List.{length-take-le}
 use Rattle.std.proofs.lemmas.List.Quantifiers.{position-Some}
 use Rattle.sk_base.specs.Millimetres.{is_digits, has_sign, without_sign, with_sign, is_point, at_most, whole_um, fraction_um, sum_of, um_round, unsigned_um, mm_of}
 use Rattle.sk_base.specs.Spelling.{fraction_text, mm_text}
-use Rattle.sk_base.proofs.Decimals.{both, is_digits_all, below_power}
-
-some_digit : (most : ℕ) (bytes : List ℕ) → is_digits most bytes ≡ true → 0 < length bytes
-some_digit most bytes is =
-    let outer = both _ (list_all is_ascii_digit bytes) is in
-    let inner = both (nat_le 1 (length bytes)) (nat_le (length bytes) most) outer.0 in
-    let some = inner.0 in grind (arith, nat_tests)
+use Rattle.sk_base.proofs.Decimals.{is_digits_some, is_digits_all, below_power}
 
 record IsWhole (bytes : List ℕ) (n : ℕ) : Type 0 where
   k : ℕ
@@ -35,7 +26,7 @@ whole_shorter bytes n is = by (is_digits 7 bytes) refl is
         let below = below_power (length bytes) bytes all.0 (omega arith) in
         let small = below_power 7 bytes all.0 all.1 in
         let same : 1000 * digits_value 10 bytes ≡ n = cc in
-        record { k = digits_value 10 bytes; is = sym same; few = length-decimal-le (length bytes) (digits_value 10 bytes) (some_digit 7 bytes digits) below (omega (arith, small)) }
+        record { k = digits_value 10 bytes; is = sym same; few = length-decimal-le (length bytes) (digits_value 10 bytes) (is_digits_some 7 bytes digits) below (omega (arith, small)) }
 
 record IsFraction (bytes : List ℕ) (m : ℕ) : Type 0 where
   f : ℕ
@@ -52,7 +43,7 @@ fraction_value bytes m is = by (is_digits 3 bytes) refl is
     by true digits is =
         let all = is_digits_all 3 bytes digits in
         let same : digits_value 10 bytes * 10 ^ (3 - length bytes) ≡ m = cc in
-        record { f = digits_value 10 bytes; is = sym same; some = some_digit 3 bytes digits; few = all.1; small = below_power (length bytes) bytes all.0 (omega arith) }
+        record { f = digits_value 10 bytes; is = sym same; some = is_digits_some 3 bytes digits; few = all.1; small = below_power (length bytes) bytes all.0 (omega arith) }
 
 abbrev tail : Bool → Bool → Bool → ℕ → ℕ → ℕ → List ℕ
 tail t1 t2 t3 a b c = cond t1 [] (cond t2 (46 ∷ a ∷ []) (cond t3 (46 ∷ a ∷ b ∷ []) (46 ∷ a ∷ b ∷ c ∷ [])))

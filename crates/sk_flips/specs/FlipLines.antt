@@ -6,7 +6,7 @@ use Rattle.sk_base.specs.declared.Name.TheVariants.{Con, Step}
 use Rattle.sk_lex.specs.Words.{words_in}
 use Rattle.sk_lines.specs.declared.Code.{Code}
 use Rattle.sk_lines.specs.declared.Code.TheVariants.{E3, E4, E10, E17, E21}
-use Rattle.sk_lines.specs.ClusterWords.{name_of, has_twins}
+use Rattle.sk_lines.specs.ClusterWords.{cluster_named, has_twins}
 use Rattle.sk_lines.specs.ByteCodes.{byte_rows}
 use Rattle.sk_lines.specs.FirstCode.{first_code}
 use Rattle.sk_lines.specs.EndLine.{end_rows}
@@ -20,7 +20,7 @@ if_step (Step k) = Some (Step k)
 
 -- the step that a word names: `s` and a number from 1 to 999999
 abbrev pub step_of : List ℕ → Option Name
-step_of word = option_and_then if_step (name_of word)
+step_of word = option_and_then if_step (cluster_named word)
 
 -- the step, where the word names one
 abbrev pub step_named : List ℕ → Name

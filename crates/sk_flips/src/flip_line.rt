@@ -11,7 +11,7 @@ ghost use Rattle.sk_flips.specs.FlipReading.{among, AddsWords, Adds, IsNameRefus
 
 use sk_base::{List, Name};
 use sk_lex::Word;
-use sk_lines::{Code, EntryError, LineReader, check_end, is_word, name_of, split_words, word};
+use sk_lines::{Code, EntryError, LineReader, check_end, is_word, cluster_named, split_words, word};
 use std::alloc::Global;
 
 /// The most lines of flips.
@@ -134,7 +134,7 @@ fn step_of(word: &[u8]) -> Result<Name, Code>
         (λ name. step_of word.now ≡ Some name)
         (λ code. (step_of word.now ≡ None) × (code ≡ E4)) }
 {
-    match name_of(word)? {
+    match cluster_named(word)? {
         Name::Step(number) => Ok(Name::Step(number)),
         Name::Con(_) => Err(Code::E4),
     }

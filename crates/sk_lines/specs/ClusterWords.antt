@@ -15,19 +15,19 @@ abbrev pub plain_number : ℕ → List ℕ → Option ℕ
 plain_number most bytes = if begins_with_zero bytes then None else digits_of most bytes
 
 -- the name of a cluster that a word is: `c` or `s` and a number from 1 to 999999
-abbrev pub name_of : List ℕ → Option Name
-name_of [] = None
-name_of (letter ∷ number) =
+abbrev pub cluster_named : List ℕ → Option Name
+cluster_named [] = None
+cluster_named (letter ∷ number) =
     if letter == 99 then option_map Con (plain_number 6 number) else
     if letter == 115 then option_map Step (plain_number 6 number) else None
 
 -- the name, where the word is one
 abbrev pub named : List ℕ → Name
-named word = unwrap_or (name_of word) (Con 0)
+named word = unwrap_or (cluster_named word) (Con 0)
 
 -- E4: a word in a name's place isn't a name
 abbrev pub is_bad_name : List ℕ → Bool
-is_bad_name word = is_none (name_of word)
+is_bad_name word = is_none (cluster_named word)
 
 -- E10: two of the names are one
 abbrev pub has_twins : List Name → Bool

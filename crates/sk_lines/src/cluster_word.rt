@@ -1,16 +1,16 @@
 // The names of clusters as words of a text.
 ghost use Rattle.std.specs.Prelude.{◌≡◌, ◌≤◌, ◌<◌, ◌^◌, Some, None, IfSome, MatchResult};
 ghost use Rattle.sk_lines.specs.declared.code.Code.TheVariants.{E4};
-ghost use Rattle.sk_lines.specs.ClusterWords.{begins_with_zero, plain_number, name_of};
+ghost use Rattle.sk_lines.specs.ClusterWords.{begins_with_zero, plain_number, cluster_named};
 
 use crate::code::Code;
 use sk_base::{Name, digits_of};
 
 /// The name of a cluster that a word is.
-pub fn name_of(word: &[u8]) -> Result<Name, Code>
+pub fn cluster_named(word: &[u8]) -> Result<Name, Code>
     ensures { MatchResult result
-        (λ name. name_of word.now ≡ Some name)
-        (λ code. (name_of word.now ≡ None) × (code ≡ E4)) }
+        (λ name. cluster_named word.now ≡ Some name)
+        (λ code. (cluster_named word.now ≡ None) × (code ≡ E4)) }
 {
     match word {
         [b'c', number @ ..] => Ok(Name::Con(number_of(number)?)),

@@ -11,7 +11,7 @@ mod ratio;
 mod reading;
 mod version;
 
-pub use cluster_word::{name_of, plain_number};
+pub use cluster_word::{cluster_named, plain_number};
 pub use code::{Code, ReadError, Refusal};
 pub use error::EntryError;
 pub use keyword::{Keyword, keyword_of};

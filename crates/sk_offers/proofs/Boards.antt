@@ -3,6 +3,7 @@ use Rattle.std.proofs.Common.{◌≡◌, ◌<◌, List, [], ◌∷◌, ◌++◌,
 use Rattle.std.proofs.lemmas.List.{length-map}
 use Rattle.sk_base.specs.declared.Graph.{Graph}
 use Rattle.sk_base.specs.SoundGraph.{IsSoundGraph}
+use Rattle.sk_rules.proofs.Keeping.{reach_then}
 use Rattle.sk_family.specs.Body.{starts, initial_bodies}
 use Rattle.sk_family.specs.Clusters.{Clusters, bodies, initial_clusters, start_of}
 use Rattle.sk_family.proofs.GraphStarts.{starts_few}
@@ -11,7 +12,7 @@ use Rattle.sk_rules.specs.declared.Taken.{Taken}
 use Rattle.sk_rules.specs.Merges.{merged}
 use Rattle.sk_rules.specs.Reach.{Reach, Step, stays}
 use Rattle.sk_rules.specs.Taking.{IsTaken, Leads}
-use Rattle.sk_worklist.proofs.Runs.{reach_more, leads_more}
+use Rattle.sk_worklist.proofs.Runs.{leads_more}
 use Rattle.sk_offers.specs.Offering.{Table, IsSoundTable}
 
 -- the board at the start
@@ -34,7 +35,7 @@ sound_after t sound put is_taken f f_is step fewer ts ts_is = record {
   leads = subst (λ (us : List Taken). Leads t.graph (initial_clusters t.graph) us f) (sym ts_is)
       (subst (λ (e : Clusters). Leads t.graph (initial_clusters t.graph) (t.taken ++ put ∷ []) e) (sym f_is)
       (leads_more t.graph (initial_clusters t.graph) t.family t.taken put sound.leads is_taken));
-  reached = reach_more t.graph (initial_bodies t.graph) (bodies t.family) (bodies f) sound.reached step;
+  reached = reach_then t.graph (initial_bodies t.graph) (bodies t.family) (bodies f) sound.reached step;
   room = (let next = ap (λ (e : Clusters). e.next_step) f_is in omega (arith, next, fewer, sound.room));
 }
 

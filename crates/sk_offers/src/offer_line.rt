@@ -11,7 +11,7 @@ ghost use Rattle.sk_offers.specs.declared.offer_line.Place.TheVariants.{Among};
 use sk_base::List;
 use sk_lex::Word;
 use sk_lines::{
-    Code, EntryError, LineReader, check_end, is_word, name_of, plain_number, split_words, word,
+    Code, EntryError, LineReader, check_end, is_word, cluster_named, plain_number, split_words, word,
 };
 use sk_rules::Merge;
 use std::alloc::Global;
@@ -129,8 +129,8 @@ fn offer_of_two(worker: &[u8], x: &[u8], y: &[u8]) -> Result<OfferLine, Code>
         (λ code. first_code (offer_rows rest) ≡ Some code) }
 {
     let worker = worker_of(worker)?;
-    let x = name_of(x)?;
-    let y = name_of(y)?;
+    let x = cluster_named(x)?;
+    let y = cluster_named(y)?;
     let merge = Merge::two(x, y).ok_or(Code::E10)?;
     Ok(OfferLine { worker, merge })
 }
@@ -142,9 +142,9 @@ fn offer_of_three(worker: &[u8], x: &[u8], y: &[u8], z: &[u8]) -> Result<OfferLi
         (λ code. first_code (offer_rows rest) ≡ Some code) }
 {
     let worker = worker_of(worker)?;
-    let x = name_of(x)?;
-    let y = name_of(y)?;
-    let z = name_of(z)?;
+    let x = cluster_named(x)?;
+    let y = cluster_named(y)?;
+    let z = cluster_named(z)?;
     let merge = Merge::three(x, y, z).ok_or(Code::E10)?;
     Ok(OfferLine { worker, merge })
 }

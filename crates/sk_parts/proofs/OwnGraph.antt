@@ -6,7 +6,7 @@ use Rattle.sk_base.specs.declared.Node.{Node}
 use Rattle.sk_base.specs.declared.Constraint.{Constraint}
 use Rattle.sk_base.specs.declared.Sketch.{Sketch}
 use Rattle.sk_base.specs.SoundSketch.{IsSoundSketch}
-use Rattle.sk_base.proofs.Filters.{filter_keeps}
+use Rattle.sk_base.proofs.Filters.{filter_keeps, same_tests}
 use Rattle.sk_base.proofs.Members.{contains_mapped, mapped_from, contains_filtered, filtered_from}
 use Rattle.sk_base.proofs.Numbers.{elem_found, found_elem}
 use Rattle.sk_family.specs.Body.{Start, starts}
@@ -14,7 +14,7 @@ use Rattle.sk_family.proofs.GraphStarts.{among_start, from_start}
 use Rattle.sk_graph.specs.Naming.{named_by}
 use Rattle.sk_graph.specs.SketchGraph.{node_of, graph_of}
 use Rattle.sk_rules.specs.Excess.{weight, held, is_inside}
-use Rattle.sk_rules.proofs.SummedWeights.{same_tests, found_inside, inside_found}
+use Rattle.sk_rules.proofs.SummedWeights.{found_inside, inside_found}
 use Rattle.sk_verdict.specs.Parts.{part_with}
 use Rattle.sk_parts.specs.OwnSketch.{has_element, lies_among, part_sketch}
 use Rattle.sk_plan.specs.ConstraintStarts.{constraint_start}

@@ -8,7 +8,7 @@ use Rattle.sk_base.specs.declared.Element.{Element}
 use Rattle.sk_base.specs.declared.Constraint.{Constraint}
 use Rattle.sk_base.specs.declared.Sketch.{Sketch}
 use Rattle.sk_base.specs.declared.Graph.{Graph}
-use Rattle.sk_base.specs.Numbering.{elem_number, elem_exact}
+use Rattle.sk_base.specs.Numbering.{elem_number}
 use Rattle.sk_base.specs.Rising.{IsRising}
 use Rattle.sk_base.specs.SoundGraph.{IsSoundGraph}
 use Rattle.sk_base.specs.SoundSketch.{IsSoundSketch, IsSoundRule}
@@ -194,7 +194,7 @@ module _ (s : Sketch) (f : List Body) (sound : IsSoundSketch s) (normal : IsNorm
 
   pub own_numbers : (xs : List Elem) → AreOfOnePart whole f xs → numbers_in (part_sketch s xs) ≡ xs
   own_numbers xs of =
-      rising_same elem_number elem_exact (numbers_in (part_sketch s xs)) xs
+      rising_same elem_number (numbers_in (part_sketch s xs)) xs
       (pairs_map (λ (a b : Elem). a.0 < b.0) (λ (y : Element). y.number) (filter (has_element xs) s.elements) (pairs_filter (λ (a b : Element). a.number.0 < b.number.0) (has_element xs) s.elements sound.elements_rise))
       (part_rises xs of)
       (λ e h. (

@@ -7,7 +7,7 @@ use Rattle.sk_base.specs.declared.Edge.{Edge}
 use Rattle.sk_base.specs.declared.Block.{Block}
 use Rattle.sk_base.specs.declared.Constraint.{Constraint}
 use Rattle.sk_base.specs.declared.Sketch.{Sketch}
-use Rattle.sk_base.specs.Numbering.{elem_number, elem_exact}
+use Rattle.sk_base.specs.Numbering.{elem_number}
 use Rattle.sk_base.specs.Rising.{union}
 use Rattle.sk_base.specs.Pins.{elements_of}
 use Rattle.sk_base.specs.SoundGraph.{IsSoundGraph, HasRisingEdges}
@@ -44,7 +44,7 @@ ends_named names u v either =
 
     turned : (a b : Elem) → union elem_number (a ∷ b ∷ []) [] ≡ union elem_number (b ∷ a ∷ []) []
     turned a b =
-        rising_same elem_number elem_exact (union elem_number (a ∷ b ∷ []) []) (union elem_number (b ∷ a ∷ []) [])
+        rising_same elem_number (union elem_number (a ∷ b ∷ []) []) (union elem_number (b ∷ a ∷ []) [])
         (rising_union elem_number (a ∷ b ∷ []) [] (rising_none elem_number)) (rising_union elem_number (b ∷ a ∷ []) [] (rising_none elem_number))
         (λ z h. other_way a b z h) (λ z h. other_way b a z h)
 

@@ -1,26 +1,18 @@
 -- Numbers by their digits.
-use Rattle.std.proofs.Common.{◌≡◌, inl, inr, ℕ, zero, suc, ◌<◌, ◌≤◌, ◌^◌, Bool, true, false, ◌&&◌, cond, List, length, get_or, refl, sym, ap, ◌∙◌, subst, arith, nat_le}
+use Rattle.std.proofs.Common.{◌≡◌, inl, inr, ℕ, zero, suc, ◌<◌, ◌≤◌, ◌^◌, Bool, true, false, cond, List, length, get_or, refl, sym, ap, ◌∙◌, subst, arith}
 use Rattle.std.specs.Prelude.{Option, Some, None, IfSome, IfNone, ◌≢◌}
 use Rattle.std.specs.Fmt.{decimal}
 use Rattle.std.specs.Str.Parse.{digits_value, AllDigits}
-use Rattle.std.specs.List.{list_all}
-use Rattle.std.specs.Char.{is_ascii_digit}
-use Rattle.std.proofs.lemmas.Bool.Decides.{nat_tests, eqb_tells}
+use Rattle.std.proofs.lemmas.Bool.Decides.{eqb_tells}
 use Rattle.std.proofs.lemmas.Fmt.{decimal-digits_value, first_decimal, length-decimal-le}
 use Rattle.std.proofs.lemmas.Str.Parse.{IsNumeralModel}
 use Rattle.sk_base.specs.Millimetres.{is_digits, digits_of}
-use Rattle.sk_base.proofs.Decimals.{both, is_digits_all}
+use Rattle.sk_base.proofs.Decimals.{is_digits_some, is_digits_all}
 use Rattle.sk_text.proofs.ReadBack.{digits_of-decimal}
 use Rattle.sk_request.specs.Asking.{LeadsWithZero}
 
 own : IsNumeralModel (AllDigits 10) (digits_value 10)
 own = record { to = λ ds all. all; from = λ ds all. all; same = λ ds all. refl }
-
-some_digit : (most : ℕ) (value : List ℕ) → is_digits most value ≡ true → 0 < length value
-some_digit most value is =
-    let outer = both (nat_le 1 (length value) && nat_le (length value) most) (list_all is_ascii_digit value) is in
-    let inner = both (nat_le 1 (length value)) (nat_le (length value) most) outer.0 in
-    grind (arith, nat_tests, inner.0)
 
 -- digits without a leading zero are what is written of their number
 pub spelled : (most : ℕ) (value : List ℕ) (n : ℕ) → digits_of most value ≡ Some n → n < 2 ^ 64 → ¬ LeadsWithZero value → value ≡ decimal n
@@ -30,7 +22,7 @@ spelled most value n read few plain = by_digits (is_digits most value) refl read
     by_digits false not_digits is = cc
     by_digits true are_digits is =
         let number : digits_value 10 value ≡ n = cc in
-        let some = some_digit most value are_digits in
+        let some = is_digits_some most value are_digits in
         let alone : get_or value 0 0 ≡ 48 → length value ≡ 1 = λ leads. elim (eqb_tells (length value) 1) [ inl one ↦ one.1 | inr more ↦ absurd (plain (let other = more.1 in omega (arith, some, other), leads)) ] in
         sym (decimal-digits_value own value (is_digits_all most value are_digits).0 some alone (omega (arith, number, few))) ∙ ap decimal number
 

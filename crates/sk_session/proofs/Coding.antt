@@ -16,7 +16,7 @@ use Rattle.sk_session.specs.declared.reply.Reply.{Reply}
 use Rattle.sk_session.specs.declared.reply.Reply.TheVariants as reply
 use Rattle.sk_session.specs.State.{State, sketch_in}
 use Rattle.sk_edits.specs.Commands.{command_of}
-use Rattle.sk_session.specs.LineCodes.{is_spent, own_rows, word_rows, command_rows, code_in}
+use Rattle.sk_session.specs.SessionCodes.{is_spent, own_rows, word_rows, command_rows, code_in}
 use Rattle.sk_session.specs.Replies.{Takes, Stands, Enters, Obeys, ObeysWords, ByCode, Answers, next_elem, next_con}
 
 -- an edit is accepted by the last row of its table

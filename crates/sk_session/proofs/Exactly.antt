@@ -13,7 +13,7 @@ use Rattle.sk_lines.specs.declared.Version.TheVariants.{Two}
 use Rattle.sk_session.specs.declared.reply.Reply.{Reply}
 use Rattle.sk_session.specs.declared.reply.Reply.TheVariants as reply
 use Rattle.sk_edits.specs.Commands.{command_of, edit_made}
-use Rattle.sk_session.specs.LineCodes.{code_in}
+use Rattle.sk_session.specs.SessionCodes.{code_in}
 use Rattle.sk_session.specs.State.{State, sketch_in}
 use Rattle.sk_session.specs.Replies.{Stands, Obeys, Enters, ByCode, Answers, next_elem, next_con}
 

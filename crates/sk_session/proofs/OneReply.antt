@@ -29,7 +29,7 @@ use Rattle.sk_edits.specs.declared.Edit.TheVariants as edit
 use Rattle.sk_session.specs.declared.reply.Reply.{Reply}
 use Rattle.sk_session.specs.declared.reply.Reply.TheVariants as reply
 use Rattle.sk_edits.specs.Commands.{command_of, edit_made}
-use Rattle.sk_session.specs.LineCodes.{command_rows, own_rows, word_rows, code_in}
+use Rattle.sk_session.specs.SessionCodes.{command_rows, own_rows, word_rows, code_in}
 use Rattle.sk_session.specs.State.{State, sketch_in, IsSameElse}
 use Rattle.sk_session.specs.Replies.{Plans, Only, Stands, Obeys, ObeysWords, Enters, ByCode, Answers, next_elem, next_con}
 

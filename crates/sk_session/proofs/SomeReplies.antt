@@ -65,7 +65,7 @@ use Rattle.sk_edits.specs.Making.{CanMake}
 use Rattle.sk_edits.specs.declared.Change.TheVariants.{Drop, Set, Erase}
 use Rattle.sk_entry.specs.Named.{number_named}
 use Rattle.sk_lines.specs.Quantities.{um, ratio}
-use Rattle.sk_session.specs.LineCodes.{command_rows, word_rows, code_in, is_spent}
+use Rattle.sk_session.specs.SessionCodes.{command_rows, word_rows, code_in, is_spent}
 use Rattle.sk_session.specs.Past.{edit_of, edits_of, Stood}
 use Rattle.sk_session.specs.Standing.{Gives, IsConsistent, element_after, element_before}
 use Rattle.sk_session.specs.State.{State, sketch_in, graph_in, Accepts, TakesBack, EndsBy, Closes}

@@ -23,7 +23,7 @@ use Rattle.sk_lines.specs.declared.Version.TheVariants.{Two}
 use Rattle.sk_session.specs.declared.reply.Reply.{Reply}
 use Rattle.sk_session.specs.declared.reply.Reply.TheVariants as reply
 use Rattle.sk_edits.specs.Commands.{command_of, edit_made}
-use Rattle.sk_session.specs.LineCodes.{command_rows, word_rows, code_in}
+use Rattle.sk_session.specs.SessionCodes.{command_rows, word_rows, code_in}
 use Rattle.sk_session.specs.State.{State, sketch_in}
 use Rattle.sk_session.specs.Replies.{Takes, Stands, Obeys, ObeysWords, Enters, ByCode, Answers, next_elem, next_con}
 use Rattle.sk_session.proofs.Coding.{code_of_command}

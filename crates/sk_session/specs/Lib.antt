@@ -3,5 +3,5 @@ pub mod Following
 pub mod Past
 pub mod Standing
 pub mod State
-pub mod LineCodes
+pub mod SessionCodes
 pub mod Replies

@@ -22,7 +22,7 @@ use Rattle.sk_edits.specs.declared.Edit.{Edit}
 use Rattle.sk_edits.specs.declared.Edit.TheVariants as edit
 use Rattle.sk_edits.specs.Edits.{next_element, next_constraint}
 use Rattle.sk_edits.specs.Commands.{command_of, edit_made}
-use Rattle.sk_session.specs.LineCodes.{code_in}
+use Rattle.sk_session.specs.SessionCodes.{code_in}
 use Rattle.sk_session.specs.State.{State, sketch_in, graph_in, Accepts, TakesBack, Closes, IsHeldUp}
 
 -- the judgement on the sketch, with the kept family closed

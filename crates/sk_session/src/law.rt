@@ -3,7 +3,7 @@ ghost use Rattle.std.specs.Prelude.{◌≡◌, ◌<◌, ◌↔◌, ℕ, List, So
 ghost use Rattle.sk_lines.specs.declared.Code.{Code};
 ghost use Rattle.sk_session.specs.declared.reply.Reply.{Reply as AReply};
 ghost use Rattle.sk_session.specs.declared.reply.Reply.TheVariants as a_reply;
-ghost use Rattle.sk_session.specs.LineCodes.{code_in};
+ghost use Rattle.sk_session.specs.SessionCodes.{code_in};
 ghost use Rattle.sk_session.specs.State.{State, sketch_in, IsSameElse};
 ghost use Rattle.sk_session.specs.Replies.{Answers};
 ghost use Rattle.sk_base.specs.declared.Sketch.{Sketch};

@@ -13,7 +13,7 @@ ghost use Rattle.sk_lines.specs.declared.Code.{Code as ACode};
 ghost use Rattle.sk_lines.specs.declared.Version.TheVariants.{Two};
 ghost use Rattle.sk_session.specs.declared.reply.Reply.TheVariants as a_reply;
 ghost use Rattle.sk_edits.specs.Commands.{command_of};
-ghost use Rattle.sk_session.specs.LineCodes.{command_rows, is_spent};
+ghost use Rattle.sk_session.specs.SessionCodes.{command_rows, is_spent};
 ghost use Rattle.sk_edits.specs.Edits.{applied, next_element, next_constraint};
 ghost use Rattle.sk_edits.specs.Making.{CanMake};
 ghost use Rattle.sk_session.specs.Standing.{Gives};

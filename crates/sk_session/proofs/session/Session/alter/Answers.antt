@@ -8,7 +8,7 @@ use Rattle.sk_lines.specs.FirstCode.{first_code}
 use Rattle.sk_lines.specs.declared.Code.TheVariants.{S5}
 use Rattle.sk_session.specs.declared.reply.Reply.TheVariants as reply
 use Rattle.sk_edits.specs.Commands.{change_rows, edit_made, from_made}
-use Rattle.sk_session.specs.LineCodes.{is_spent}
+use Rattle.sk_session.specs.SessionCodes.{is_spent}
 use Rattle.sk_edits.specs.Making.{CanMake, HasSoundValue}
 use Rattle.sk_session.specs.State.{sketch_in}
 use Rattle.sk_session.specs.Replies.{Stands, ByCode}

@@ -13,7 +13,7 @@ use Rattle.sk_lines.specs.FirstCode.{first_code}
 use Rattle.sk_lines.specs.declared.Version.TheVariants.{Two}
 use Rattle.sk_session.specs.declared.reply.Reply.TheVariants as reply
 use Rattle.sk_edits.specs.Commands.{command_of}
-use Rattle.sk_session.specs.LineCodes.{command_rows}
+use Rattle.sk_session.specs.SessionCodes.{command_rows}
 use Rattle.sk_session.specs.State.{sketch_in}
 use Rattle.sk_session.specs.Replies.{Obeys, ByCode, IsHalted, next_elem, next_con}
 use Rattle.sk_session.proofs.Coding.{answers_entry, answers_command}

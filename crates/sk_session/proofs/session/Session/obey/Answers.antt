@@ -6,7 +6,7 @@ use Rattle.sk_lines.specs.declared.Code.TheVariants.{E3, E18}
 use Rattle.sk_lines.specs.EndLine.{is_none_left}
 use Rattle.sk_lines.specs.FirstCode.{first_code}
 use Rattle.sk_edits.specs.declared.Command.{Command}
-use Rattle.sk_session.specs.LineCodes.{command_rows}
+use Rattle.sk_session.specs.SessionCodes.{command_rows}
 use Rattle.sk_session.specs.State.{sketch_in}
 use Rattle.sk_session.specs.Replies.{Plans, Obeys, ByCode}
 use Rattle.sk_session.proofs.Coding.{by_code_as}
