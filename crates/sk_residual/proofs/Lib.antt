@@ -10,3 +10,4 @@ pub mod Threes
 pub mod SomeMeasures
 pub mod Numbered
 pub mod Nearness
+pub mod OneOff

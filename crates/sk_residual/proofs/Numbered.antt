@@ -40,10 +40,10 @@ module _ (g : Graph) (sound : IsSoundGraph g) (k : ConId) where
   pub block_there : (b : Block) → block_numbered g k.0 ≡ Some b → Contains g.blocks b × (b.id ≡ k)
   block_there b is = (let found = found_in (λ (d : Block). d.id.0 == k.0) g.blocks b is in (found.0, con_exact b.id k (grind (arith, nat_tests, found.1))))
 
-  edge_found : (e : Edge) → Contains g.edges e → e.id ≡ k → edge_numbered g k.0 ≡ Some e
+  pub edge_found : (e : Edge) → Contains g.edges e → e.id ≡ k → edge_numbered g k.0 ≡ Some e
   edge_found e e_in is = subst (λ (n : ℕ). edge_numbered g n ≡ Some e) (ap (λ (j : ConId). j.0) is) (found_rising (λ (d : Edge). d.id.0) g.edges sound.edges_rise e e_in)
 
-  block_found : (b : Block) → Contains g.blocks b → b.id ≡ k → block_numbered g k.0 ≡ Some b
+  pub block_found : (b : Block) → Contains g.blocks b → b.id ≡ k → block_numbered g k.0 ≡ Some b
   block_found b b_in is = subst (λ (n : ℕ). block_numbered g n ≡ Some b) (ap (λ (j : ConId). j.0) is) (found_rising (λ (d : Block). d.id.0) g.blocks sound.blocks_rise b b_in)
 
   -- there is one of a number
