@@ -25,7 +25,7 @@ use Rattle.sk_request.specs.Grids.{digits_of}
 use Rattle.sk_residual.specs.declared.Wanted.{Wanted}
 use Rattle.sk_residual.specs.declared.Wanted.TheVariants.{Chosen}
 use Rattle.sk_holding.specs.Placing.{PlacesExactly}
-use Rattle.sk_residual.specs.Telling.{constraint_of}
+use Rattle.sk_residual.specs.Telling.{spotted_constraint}
 use Rattle.sk_residual.specs.Tolerances.{lengthwise, anglewise, everything}
 use Rattle.sk_residual.specs.Turns.{signs_wanted}
 use Rattle.sk_residual.proofs.Worsts.{worst_lengthwise_named}
@@ -53,7 +53,7 @@ some_measured wanted limit s p at sound exactly =
         | inl drawn ↦ (
             let lengths = some_told at (lengthwise g) (own_lengthwise g at sound exactly) in
             let angles = some_told at (anglewise g) (own_anglewise g at sound exactly) in (
-              Holds at (record { t = lengths.0; w = angles.0; worst_t = constraint_of lengths.1; worst_w = angles.1 }),
+              Holds at (record { t = lengths.0; w = angles.0; worst_t = spotted_constraint lengths.1; worst_w = angles.1 }),
               (
                 refl,
                 all,

@@ -17,7 +17,7 @@ use Rattle.sk_base.proofs.Unions.{rising_none, rising_cons, rising_union, union_
 use Rattle.sk_residual.specs.declared.beyond.Beyond.{Beyond}
 use Rattle.sk_residual.specs.declared.spotted.Spotted.{Spotted}
 use Rattle.sk_holding.specs.Items.{Item, constraint, block, Holds, IsOwnLeast}
-use Rattle.sk_residual.specs.Tolerances.{AreMerged, name_of, number_in, number_of, AllHold, IsAbove, IsFirstBeyond, rigid, between, distances, distance_of_measure, constraints, lengthwise}
+use Rattle.sk_residual.specs.Tolerances.{AreMerged, spotted_as, number_in, number_of, AllHold, IsAbove, IsFirstBeyond, rigid, between, distances, distance_of_measure, constraints, lengthwise}
 use Rattle.sk_residual.specs.First.{IsFirst, earlier}
 use Rattle.sk_residual.specs.Telling.{IsTold, IsSearched, is_worse_at}
 use Rattle.sk_residual.proofs.Firsts.{first_inside}
@@ -46,7 +46,7 @@ first_in P xs ys all merged x first rest = first_rising number_of P all merged.r
 
 -- what is found in both lists, each by the name of its first item with P; else all items have Q
 module _ {A : Type 0} (at : A → Spotted) (P Q : Item → Type 0) (excludes : (item : Item) → Q item → ¬ P item) (Finds : List Item → A → Type 0)
-    (found : (items : List Item) (a : A) → Finds items a → (x : Item) × IsFirst P items x × (name_of x ≡ at a))
+    (found : (items : List Item) (a : A) → Finds items a → (x : Item) × IsFirst P items x × (spotted_as x ≡ at a))
     (finds : (items others : List Item) (a : A) (f : Finds items a) → IsFirst P others (found items a f).0 → Finds others a) where
   -- of two lists that are put together in order of number
   module _ (xs ys all : List Item) (merged : AreMerged xs ys all) where

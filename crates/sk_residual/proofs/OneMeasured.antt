@@ -10,7 +10,7 @@ use Rattle.sk_holding.specs.Least.{IsLeast}
 use Rattle.sk_residual.specs.First.{IsFirst}
 pub use Rattle.sk_residual.proofs.Firsts.{first_inside}
 use Rattle.sk_holding.specs.Items.{Item, Holds, IsOwnLeast}
-use Rattle.sk_residual.specs.Tolerances.{name_of, AllHold, IsWorstUnlessNone, IsAbove, IsFirstBeyond}
+use Rattle.sk_residual.specs.Tolerances.{spotted_as, AllHold, IsWorstUnlessNone, IsAbove, IsFirstBeyond}
 use Rattle.sk_residual.specs.Turns.{IsTurned, AllAsDrawn}
 
 pub one_least : (P : ℕ → Type 0) (n m : ℕ) → IsLeast P n → IsLeast P m → n ≡ m
@@ -38,7 +38,7 @@ module _ (p : Placed) (items : List Item) where
   pub one_beyond : (limit : ℕ) (b d : Beyond) → IsFirstBeyond p items limit b → IsFirstBeyond p items limit d → b ≡ d
   one_beyond limit b d first second =
       let item : first.item ≡ second.item = one_first (IsAbove p limit) items first.item second.item first.first second.first in
-      let at : b.at ≡ d.at = sym first.named ∙ ap name_of item ∙ second.named in
+      let at : b.at ≡ d.at = sym first.named ∙ ap spotted_as item ∙ second.named in
       let least : b.least ≡ d.least = one_least (Holds p second.item) b.least d.least (subst (λ i. IsOwnLeast p i b.least) item first.least) second.least in
       let limits : b.limit ≡ d.limit = first.limited ∙ sym second.limited in
       let make : Spotted → ℕ → ℕ → Beyond = λ a l m. record { at = a; least = l; limit = m } in
@@ -57,7 +57,7 @@ module _ (p : Placed) (items : List Item) where
   one_worst n (Some a) None worst none =
       absurd (contains_none worst.item (subst (λ xs. Contains xs worst.item) none (first_inside (λ i. IsOwnLeast p i n) items worst.item worst.first)))
   one_worst n (Some a) (Some b) first second =
-      ap Some (sym first.named ∙ ap name_of (one_first (λ i. IsOwnLeast p i n) items first.item second.item first.first second.first) ∙ second.named)
+      ap Some (sym first.named ∙ ap spotted_as (one_first (λ i. IsOwnLeast p i n) items first.item second.item first.first second.first) ∙ second.named)
 
 pub not_turned : (signs : List Turned) (t : Turned) → AllAsDrawn signs → IsFirst IsTurned signs t → ⊥
 not_turned signs t all turned = turned.has (all t (first_inside IsTurned signs t turned))

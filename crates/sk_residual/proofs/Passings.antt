@@ -9,7 +9,7 @@ use Rattle.sk_base.proofs.Members.{contains_none, contains_head, contains_one}
 use Rattle.sk_residual.specs.declared.spotted.Spotted.{Spotted}
 use Rattle.sk_residual.specs.declared.beyond.Beyond.{Beyond}
 use Rattle.sk_holding.specs.Items.{Item, Holds, IsOwnLeast}
-use Rattle.sk_residual.specs.Tolerances.{name_of, AllHold, IsAbove, IsFirstBeyond}
+use Rattle.sk_residual.specs.Tolerances.{spotted_as, AllHold, IsAbove, IsFirstBeyond}
 use Rattle.sk_residual.specs.Telling.{IsSearched}
 use Rattle.sk_residual.proofs.Firsts.{appended, behind, all_so_far, first_there}
 use Rattle.sk_holding.proofs.Widening.{holds_more}
@@ -22,7 +22,7 @@ module _ (p : Placed) (limit : ℕ) where
   pub all_one : (item : Item) (n : ℕ) → IsOwnLeast p item n → n ≤ limit → AllHold p (item ∷ []) limit
   all_one item n own le y h = subst (λ z. Holds p z limit) (contains_one item y h) (holds_more p item n limit le own.holds)
 
-  pub beyond_one : (item : Item) (at : Spotted) (n : ℕ) → IsOwnLeast p item n → name_of item ≡ at → limit < n → IsFirstBeyond p (item ∷ []) limit (record { at = at; least = n; limit = limit })
+  pub beyond_one : (item : Item) (at : Spotted) (n : ℕ) → IsOwnLeast p item n → spotted_as item ≡ at → limit < n → IsFirstBeyond p (item ∷ []) limit (record { at = at; least = n; limit = limit })
   beyond_one item at n own named lt = record {
     item = item;
     first = record { before = []; after = []; parts = refl; has = (n, own, lt); none_before = λ y h. absurd (contains_none y h) };

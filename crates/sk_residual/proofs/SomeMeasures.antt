@@ -24,7 +24,7 @@ use Rattle.sk_residual.specs.declared.turned.Turned.{Turned}
 use Rattle.sk_residual.specs.First.{IsFirst}
 use Rattle.sk_holding.specs.Placing.{PlacesExactly}
 use Rattle.sk_holding.specs.Items.{Item, normal, constraint, block, IsOwnLeast}
-use Rattle.sk_residual.specs.Tolerances.{name_of, number_of, AllHold, IsFirstBeyond, distances, distance_of_measure, angles, angle_of_measure, normals, normal_of_kind, rigid, between, constraints, lengthwise, anglewise, everything}
+use Rattle.sk_residual.specs.Tolerances.{spotted_as, number_of, AllHold, IsFirstBeyond, distances, distance_of_measure, angles, angle_of_measure, normals, normal_of_kind, rigid, between, constraints, lengthwise, anglewise, everything}
 use Rattle.sk_residual.specs.Turns.{value_of, IsAsDrawn, IsTurned, AllAsDrawn}
 use Rattle.sk_residual.proofs.Firsts.{all_or_first}
 use Rattle.sk_residual.specs.Telling.{IsTold}
@@ -112,7 +112,7 @@ module _ (p : Placed) where
       (told_more (done ++ item ∷ []) rest (λ i h. own i (contains_later item rest i h)) (either (is_none at || nat_lt least here.0) here refl))
     where
       either : (b : Bool) → (here : (n : ℕ) × IsOwnLeast p item n) → (is_none at || nat_lt least here.0) ≡ b → SomeTold (done ++ item ∷ [])
-      either true here is = (here.0, Some (name_of item), told_then p done item here.0 here.1 least at is told (name_of item) refl)
+      either true here is = (here.0, Some (spotted_as item), told_then p done item here.0 here.1 least at is told (spotted_as item) refl)
       either false here is = (least, at, told_else p done item here.0 here.1 least at is told)
 
   pub some_told : (items : List Item) → AllOwn p items → SomeTold items
@@ -127,7 +127,7 @@ module _ (p : Placed) where
     searched (item ∷ items) own =
         let here = own item (contains_head item items) in
         elim (which here.0 limit) [
-          | inr (inr above) ↦ inr (_, beyond_appended p limit (item ∷ []) items _ (beyond_one p limit item (name_of item) here.0 here.1 refl above))
+          | inr (inr above) ↦ inr (_, beyond_appended p limit (item ∷ []) items _ (beyond_one p limit item (spotted_as item) here.0 here.1 refl above))
           | inl less ↦ further (all_one p limit item here.0 here.1 (omega arith)) (searched items (λ i h. own i (contains_later item items i h)))
           | inr (inl level) ↦ further (all_one p limit item here.0 here.1 (omega arith)) (searched items (λ i h. own i (contains_later item items i h)))
         ]

@@ -22,8 +22,8 @@ use Rattle.sk_holding.proofs.Widening.{holds_more}
 use Rattle.sk_residual.proofs.Firsts.{appended, first_inside}
 use Rattle.sk_holding.specs.Holding.{tolerance_of}
 use Rattle.sk_holding.specs.Items.{Item, normal, constraint, block, Holds, IsOwnLeast}
-use Rattle.sk_residual.specs.Tolerances.{name_of, number_of, rigid, AllHold, IsMissed, IsWorst, IsWorstUnlessNone, distances, distance_of_measure, lengthwise, anglewise, normals, angles, normal_of_kind, angle_of_measure, AllHoldWithin}
-use Rattle.sk_residual.specs.Telling.{IsTold, constraint_of}
+use Rattle.sk_residual.specs.Tolerances.{spotted_as, number_of, rigid, AllHold, IsMissed, IsWorst, IsWorstUnlessNone, distances, distance_of_measure, lengthwise, anglewise, normals, angles, normal_of_kind, angle_of_measure, AllHoldWithin}
+use Rattle.sk_residual.specs.Telling.{IsTold, spotted_constraint}
 
 module _ (p : Placed) where
   pub told_none : IsTold p [] (record { least = 0; at = None })
@@ -37,7 +37,7 @@ module _ (p : Placed) where
     all_with all y h = elim (Contains-push_cases items item y h) [ inl early ↦ all y early | inr last ↦ subst (λ z. Holds p z n) last own.holds ]
 
     -- the item is worse than all so far
-    pub told_replaced : ((y : Item) → Contains items y → Holds p y n × ¬ IsOwnLeast p y n) → (at : Spotted) → name_of item ≡ at → IsTold p (items ++ item ∷ []) (record { least = n; at = Some at })
+    pub told_replaced : ((y : Item) → Contains items y → Holds p y n × ¬ IsOwnLeast p y n) → (at : Spotted) → spotted_as item ≡ at → IsTold p (items ++ item ∷ []) (record { least = n; at = Some at })
     told_replaced less at named = record {
       least = record {
         holds = all_with (λ y h. (less y h).0);
@@ -70,7 +70,7 @@ module _ (p : Placed) where
     below_all : (worst : ℕ) → AllHold p items worst → worst < n → (y : Item) → Contains items y → Holds p y n × ¬ IsOwnLeast p y n
     below_all worst all lt y h = (holds_more p y worst n (omega arith) (all y h), (λ is. (let never : n ≤ worst = is.least worst (all y h) in omega arith)))
 
-    pub told_then : (worst : ℕ) (so_far : Option Spotted) → (is_none so_far || nat_lt worst n) ≡ true → IsTold p items (record { least = worst; at = so_far }) → (at : Spotted) → name_of item ≡ at
+    pub told_then : (worst : ℕ) (so_far : Option Spotted) → (is_none so_far || nat_lt worst n) ≡ true → IsTold p items (record { least = worst; at = so_far }) → (at : Spotted) → spotted_as item ≡ at
         → IsTold p (items ++ item ∷ []) (record { least = n; at = Some at })
     told_then worst None below told at named = told_replaced (λ y h. absurd (contains_none y (subst (λ zs. Contains zs y) told.at h))) at named
     told_then worst (Some a) below told at named = told_replaced (below_all worst told.least.holds (grind (arith, nat_tests, below))) at named
@@ -109,15 +109,15 @@ on_angle = of_edges (λ (e : Edge). angle_of_measure e e.measure) (λ e. at_edge
     at_edge e (LineLine ratio sense) item here = contains_one _ _ here
 
 -- what is lengthwise is named by a constraint's number
-lengthwise_named : (g : Graph) (item : Item) → Contains (lengthwise g) item → (k : ConId) × (Con k ≡ name_of item)
+lengthwise_named : (g : Graph) (item : Item) → Contains (lengthwise g) item → (k : ConId) × (Con k ≡ spotted_as item)
 lengthwise_named g item h =
     elim (union_cases number_of (rigid g.blocks) (distances g.edges) item h) [
-      | inl rigid_in ↦ let found = mapped_from (λ (b : Block). block b) g.blocks item rigid_in in (found.0.id, ap name_of found.2)
-      | inr distance ↦ let found = on_distance g.edges item distance in (found.0.id, ap name_of found.2)
+      | inl rigid_in ↦ let found = mapped_from (λ (b : Block). block b) g.blocks item rigid_in in (found.0.id, ap spotted_as found.2)
+      | inr distance ↦ let found = on_distance g.edges item distance in (found.0.id, ap spotted_as found.2)
     ]
 
 -- so is the worst of it
-pub worst_lengthwise_named : (p : Placed) (g : Graph) (n : ℕ) (at : Option Spotted) → IsWorstUnlessNone p (lengthwise g) n at → IsWorstUnlessNone p (lengthwise g) n (option_map (λ k. Con k) (constraint_of at))
+pub worst_lengthwise_named : (p : Placed) (g : Graph) (n : ℕ) (at : Option Spotted) → IsWorstUnlessNone p (lengthwise g) n at → IsWorstUnlessNone p (lengthwise g) n (option_map (λ k. Con k) (spotted_constraint at))
 worst_lengthwise_named p g n None worst = worst
 worst_lengthwise_named p g n (Some (Con k)) worst = worst
 worst_lengthwise_named p g n (Some (Line e)) worst =

@@ -33,10 +33,10 @@ abbrev pub is_worse : Worst → Worst → Bool
 is_worse one other = is_worse_at one.least one.at other.least other.at
 
 -- the constraint of that name
-abbrev pub constraint_of : Option Spotted → Option ConId
-constraint_of None = None
-constraint_of (Some (Con k)) = Some k
-constraint_of (Some (Line e)) = None
+abbrev pub spotted_constraint : Option Spotted → Option ConId
+spotted_constraint None = None
+spotted_constraint (Some (Con k)) = Some k
+spotted_constraint (Some (Line e)) = None
 
 -- all hold within the limit, or the first that doesn't is told
 abbrev pub IsSearched : Placed → List Item → ℕ → Option Beyond → Type 0

@@ -21,10 +21,10 @@ use Rattle.sk_holding.specs.Holding.{tolerance_of}
 use Rattle.sk_holding.specs.Items.{Item, normal, constraint, block, Holds, IsOwnLeast}
 
 -- how the item is named
-abbrev pub name_of : Item → Spotted
-name_of (normal line) = Line line
-name_of (constraint e) = Con e.id
-name_of (block b) = Con b.id
+abbrev pub spotted_as : Item → Spotted
+spotted_as (normal line) = Line line
+spotted_as (constraint e) = Con e.id
+spotted_as (block b) = Con b.id
 
 -- the number in that name
 abbrev pub number_in : Spotted → ℕ
@@ -32,7 +32,7 @@ number_in (Con k) = k.0
 number_in (Line e) = e.0
 
 abbrev pub number_of : Item → ℕ
-number_of item = number_in (name_of item)
+number_of item = number_in (spotted_as item)
 
 -- each of the items holds within n
 abbrev pub AllHold : Placed → List Item → ℕ → Type 0
@@ -111,7 +111,7 @@ pub record AllHoldWithin (p : Placed) (g : Graph) (t w : ℕ) : Type 0 where
 pub record IsWorst (p : Placed) (items : List Item) (n : ℕ) (at : Spotted) : Type 0 where
   pub item : Item
   pub first : IsFirst (λ i. IsOwnLeast p i n) items item
-  pub named : name_of item ≡ at
+  pub named : spotted_as item ≡ at
 
 -- there is a worst item, unless there is no item
 abbrev pub IsWorstUnlessNone : Placed → List Item → ℕ → Option Spotted → Type 0
@@ -125,6 +125,6 @@ IsAbove p limit item = (n : ℕ) × IsOwnLeast p item n × (limit < n)
 pub record IsFirstBeyond (p : Placed) (items : List Item) (limit : ℕ) (b : Beyond) : Type 0 where
   pub item : Item
   pub first : IsFirst (IsAbove p limit) items item
-  pub named : name_of item ≡ b.at
+  pub named : spotted_as item ≡ b.at
   pub least : IsOwnLeast p item b.least
   pub limited : b.limit ≡ limit

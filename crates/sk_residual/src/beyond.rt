@@ -7,7 +7,7 @@ ghost use Rattle.sk_base.specs.declared.Placed.{Placed as OfPlaced};
 ghost use Rattle.sk_base.specs.SoundGraph.{IsSoundGraph};
 ghost use Rattle.sk_holding.specs.Placing.{IsPlacedAs, IsMeasurable, AreMeasurable, PlacesExactly};
 ghost use Rattle.sk_holding.specs.Items.{Item, IsOwnLeast};
-ghost use Rattle.sk_residual.specs.Tolerances.{name_of, AllHold, IsFirstBeyond, normal_of_kind, normals, between, rigid, constraints, everything};
+ghost use Rattle.sk_residual.specs.Tolerances.{spotted_as, AllHold, IsFirstBeyond, normal_of_kind, normals, between, rigid, constraints, everything};
 ghost use Rattle.sk_residual.specs.Telling.{IsSearched};
 
 use crate::spotted::{Named, Spotted, earlier};
@@ -112,7 +112,7 @@ fn normal_beyond(p: &Placed, node: &Node, limit: u64) -> Option<Beyond>
 
 /// The item of that name, if its own least number passes the limit.
 fn passing(at: Spotted, least: u64, limit: u64) -> Option<Beyond>
-    ensures { (p : OfPlaced) (item : Item) → IsOwnLeast p item least → name_of item ≡ at
+    ensures { (p : OfPlaced) (item : Item) → IsOwnLeast p item least → spotted_as item ≡ at
         → IsSearched p (item ∷ []) limit result }
 {
     if least > limit {

@@ -9,7 +9,7 @@ ghost use Rattle.sk_holding.specs.Least.{IsLeast};
 ghost use Rattle.sk_holding.specs.Placing.{IsPlacedAs, IsMeasurable, AreMeasurable, PlacesExactly};
 ghost use Rattle.sk_holding.specs.Items.{Item};
 ghost use Rattle.sk_residual.specs.Tolerances.{AllHold, AllHoldWithin, IsMissed, IsWorstUnlessNone, normals, distances, rigid, angles, lengthwise, anglewise};
-ghost use Rattle.sk_residual.specs.Telling.{IsTold, constraint_of};
+ghost use Rattle.sk_residual.specs.Telling.{IsTold, spotted_constraint};
 
 use crate::spotted::Spotted;
 use crate::worst::Worst;
@@ -43,7 +43,7 @@ pub fn least(p: &Placed, g: &Graph) -> Tolerance
     Tolerance {
         t: lengthwise.least,
         w: anglewise.least,
-        worst_t: constraint_of(lengthwise.at),
+        worst_t: spotted_constraint(lengthwise.at),
         worst_w: anglewise.at,
     }
 }
@@ -97,8 +97,8 @@ fn worst_angle(p: &Placed, edges: &[Edge], before: Worst) -> Worst
 }
 
 /// The constraint that is named, if it is one.
-fn constraint_of(named: Option<Spotted>) -> Option<ConId>
-    ensures { result ≡ constraint_of named }
+fn spotted_constraint(named: Option<Spotted>) -> Option<ConId>
+    ensures { result ≡ spotted_constraint named }
 {
     match named {
         Some(Spotted::Con(k)) => Some(k),

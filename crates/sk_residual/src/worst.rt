@@ -3,7 +3,7 @@ ghost use Rattle.std.specs.Prelude.{◌≡◌, ◌||◌, ◌++◌, [], ◌∷◌
 ghost use Rattle.sk_base.specs.declared.Placed.{Placed as OfPlaced};
 ghost use Rattle.sk_holding.specs.Placing.{IsPlacedAs, IsMeasurable, AreMeasurable};
 ghost use Rattle.sk_holding.specs.Items.{Item, block, IsOwnLeast};
-ghost use Rattle.sk_residual.specs.Tolerances.{name_of, AreMerged, normal_of_kind, distance_of_measure, angle_of_measure};
+ghost use Rattle.sk_residual.specs.Tolerances.{spotted_as, AreMerged, normal_of_kind, distance_of_measure, angle_of_measure};
 ghost use Rattle.sk_residual.specs.Telling.{IsTold, is_worse};
 
 use crate::spotted::Spotted;
@@ -28,7 +28,7 @@ impl Worst {
     /// With one more item, whose own least number is known.
     fn with(self, at: Spotted, least: u64) -> Worst
         ensures { (p : OfPlaced) (items : List Item) (item : Item) → IsTold p items self → IsOwnLeast p item least
-            → name_of item ≡ at → IsTold p (items ++ item ∷ []) result }
+            → spotted_as item ≡ at → IsTold p (items ++ item ∷ []) result }
     {
         if self.is_below(least) {
             Worst {

@@ -13,7 +13,7 @@ use Rattle.sk_residual.specs.declared.Spotted.{Spotted}
 use Rattle.sk_residual.specs.declared.Spotted.TheVariants as spotted
 use Rattle.sk_residual.specs.declared.Turned.{Turned}
 use Rattle.sk_residual.specs.First.{IsFirst}
-use Rattle.sk_residual.specs.Tolerances.{everything, name_of}
+use Rattle.sk_residual.specs.Tolerances.{everything, spotted_as}
 use Rattle.sk_residual.specs.Turns.{signs, IsTurned}
 use Rattle.sk_tree.specs.declared.PlanStep.{PlanStep}
 use Rattle.sk_claims.specs.declared.Claim.{Claim}
@@ -67,7 +67,7 @@ module _ (s : Sketch) (g : Graph) where
     one_untold e d (x, first, named) (y, other, named') = sym named ∙ ap (λ (z : Element). z.number) (one_first (λ z. ¬ IsTold c z) s.elements x y first other) ∙ named'
 
     one_off : (at there : Spotted) → IsFirstOff c (everything g) at → IsFirstOff c (everything g) there → at ≡ there
-    one_off at there (i, first, named) (j, other, named') = sym named ∙ ap name_of (one_first (λ k. ¬ HoldsAsClaimed c k) (everything g) i j first other) ∙ named'
+    one_off at there (i, first, named) (j, other, named') = sym named ∙ ap spotted_as (one_first (λ k. ¬ HoldsAsClaimed c k) (everything g) i j first other) ∙ named'
 
     one_turned : (m n : Name) → IsFirstTurned s g c m → IsFirstTurned s g c n → m ≡ n
     one_turned m n (t, first, named) (u, other, named') = sym named ∙ ap (λ (z : Turned). z.at) (one_first IsTurned (signs s c.at (plan_claimed g c)) t u first other) ∙ named'

@@ -7,7 +7,7 @@ use Rattle.std.proofs.lemmas.List.Concat.{flat_map_single}
 use Rattle.sk_base.proofs.Members.{contains_none, contains_one}
 use Rattle.sk_residual.specs.declared.Spotted.{Spotted}
 use Rattle.sk_holding.specs.Items.{Item}
-use Rattle.sk_residual.specs.Tolerances.{AreMerged, name_of, number_in}
+use Rattle.sk_residual.specs.Tolerances.{AreMerged, spotted_as, number_in}
 use Rattle.sk_residual.specs.First.{earlier}
 use Rattle.sk_residual.proofs.Firsts.{appended, behind, all_so_far, first_there}
 use Rattle.sk_residual.proofs.Merging.{found_in_both}
@@ -26,7 +26,7 @@ module _ (c : Claim) where
   pub hold_one : (item : Item) → HoldsAsClaimed c item → AllHoldAsClaimed c (item ∷ [])
   hold_one item holds y h = subst (HoldsAsClaimed c) (contains_one item y h) holds
 
-  pub off_one : (item : Item) (at : Spotted) → name_of item ≡ at → ¬ HoldsAsClaimed c item → IsFirstOff c (item ∷ []) at
+  pub off_one : (item : Item) (at : Spotted) → spotted_as item ≡ at → ¬ HoldsAsClaimed c item → IsFirstOff c (item ∷ []) at
   off_one item at named not = (item, record { before = []; after = []; parts = refl; has = not; none_before = λ y h. absurd (contains_none y h) }, named)
 
   pub off_appended : (xs ys : List Item) (at : Spotted) → IsFirstOff c xs at → IsFirstOff c (xs ++ ys) at
@@ -53,7 +53,7 @@ module _ (c : Claim) where
         subst (AllHoldAsClaimed c) (as_flat (take (i + 1) ys))
         (hold_more (λ y. f y ∷ []) ys i d inside (subst (AllHoldAsClaimed c) (sym (as_flat (take i ys))) early) (hold_one _ here))
 
-    pub mapped_there : AllHoldAsClaimed c (map f (take i ys)) → ¬ HoldsAsClaimed c (f (get_or ys i d)) → (at : Spotted) → name_of (f (get_or ys i d)) ≡ at → IsFirstOff c (map f ys) at
+    pub mapped_there : AllHoldAsClaimed c (map f (take i ys)) → ¬ HoldsAsClaimed c (f (get_or ys i d)) → (at : Spotted) → spotted_as (f (get_or ys i d)) ≡ at → IsFirstOff c (map f ys) at
     mapped_there early not at named =
         subst (λ xs. IsFirstOff c xs at) (as_flat ys)
         (off_there (λ y. f y ∷ []) ys i d inside at (subst (AllHoldAsClaimed c) (sym (as_flat (take i ys))) early) (off_one _ at named not))

@@ -29,7 +29,7 @@ use Rattle.sk_residual.specs.declared.Spotted.TheVariants as spotted
 use Rattle.sk_holding.specs.Holding.{tolerance_of}
 use Rattle.sk_residual.specs.First.{IsFirst}
 use Rattle.sk_holding.specs.Items.{Item, normal, constraint, block, Holds, IsOwnLeast}
-use Rattle.sk_residual.specs.Tolerances.{name_of, everything}
+use Rattle.sk_residual.specs.Tolerances.{spotted_as, everything}
 use Rattle.sk_residual.specs.Turns.{signs}
 use Rattle.sk_holding.proofs.Widening.{holds_more}
 use Rattle.sk_tree.specs.declared.Choice.{Choice}
@@ -217,7 +217,7 @@ accepted_or_failing s g is sound c fits =
               let complete : IsComplete s g c = record { joined = record { steps = right; whole = whole }; told = told } in
               let exactly = told_exactly s g is sound c fits told in
               elim (all_or_first (HoldsAsClaimed c) (everything g) (λ item h. claimed_decided c item (own_everything g c.at sound exactly item h))) [
-                | inr (item, first) ↦ inr (off_named s g c complete (name_of item) (item, first, refl))
+                | inr (item, first) ↦ inr (off_named s g c complete (spotted_as item) (item, first, refl))
                 | inl holds ↦ elim (compared (signs s c.at (plan_claimed g c))) [
                   | inr (t, first) ↦ inr (OfSign t.at, (record { complete = complete; holds = holds }, (t, first, refl)))
                   | inl drawn ↦ inl (record { met = record { complete = complete; holds = holds }; signs = drawn })

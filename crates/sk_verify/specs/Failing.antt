@@ -11,7 +11,7 @@ use Rattle.sk_residual.specs.declared.Spotted.TheVariants as spotted
 use Rattle.sk_residual.specs.declared.Turned.{Turned}
 use Rattle.sk_residual.specs.First.{IsFirst}
 use Rattle.sk_holding.specs.Items.{Item}
-use Rattle.sk_residual.specs.Tolerances.{name_of, everything}
+use Rattle.sk_residual.specs.Tolerances.{spotted_as, everything}
 use Rattle.sk_residual.specs.Turns.{signs, IsTurned, AllAsDrawn}
 use Rattle.sk_tree.specs.LegalPlan.{IsWhole}
 use Rattle.sk_claims.specs.declared.Claim.{Claim}
@@ -65,7 +65,7 @@ IsFirstUntold c elements e = (x : Element) × IsFirst (λ y. ¬ IsTold c y) elem
 
 -- the first line, and else the first constraint, that doesn't hold as claimed
 abbrev pub IsFirstOff : Claim → List Item → Spotted → Type 0
-IsFirstOff c items at = (item : Item) × IsFirst (λ i. ¬ HoldsAsClaimed c i) items item × (name_of item ≡ at)
+IsFirstOff c items at = (item : Item) × IsFirst (λ i. ¬ HoldsAsClaimed c i) items item × (spotted_as item ≡ at)
 
 -- the first sign that isn't as drawn
 abbrev pub IsFirstTurned : Sketch → Graph → Claim → Name → Type 0

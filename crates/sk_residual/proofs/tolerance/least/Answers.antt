@@ -34,7 +34,7 @@ returns-clause-t c = (lengths (goal.at.returns-clause-t c).After-or-lengthwise).
 
 pub returns-clause-worst_t : goal.returns-clause-worst_t
 returns-clause-worst_t c =
-    rw c.constraint_of.ensures (worst_lengthwise_named c.args.p.now c.args.g.now c.or-lengthwise.result.least c.or-lengthwise.result.at (lengths (goal.at.returns-clause-worst_t c).After-or-lengthwise).at)
+    rw c.spotted_constraint.ensures (worst_lengthwise_named c.args.p.now c.args.g.now c.or-lengthwise.result.least c.or-lengthwise.result.at (lengths (goal.at.returns-clause-worst_t c).After-or-lengthwise).at)
 
 pub returns-clause-holds : goal.returns-clause-holds
 returns-clause-holds c =
