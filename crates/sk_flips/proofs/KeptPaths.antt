@@ -11,10 +11,10 @@ use Rattle.sk_family.specs.declared.Cluster.{Cluster}
 use Rattle.sk_family.specs.Body.{starts}
 use Rattle.sk_family.specs.Clusters.{Clusters, initial_clusters, start_of, replaced, unnamed, whole_from}
 use Rattle.sk_family.proofs.Naming.{name_eq_true, name_eq_same}
-use Rattle.sk_rules.specs.Merges.{merged, names_of}
+use Rattle.sk_rules.specs.Merges.{names_of}
 use Rattle.sk_tree.specs.declared.Plan.{Plan}
 use Rattle.sk_tree.specs.declared.PlanStep.{PlanStep}
-use Rattle.sk_tree.specs.LegalPlan.{merge_told, AreLegalSteps, IsLegalPlan}
+use Rattle.sk_tree.specs.LegalPlan.{merge_told, AreLegalSteps, IsLegalPlan, next_after}
 use Rattle.sk_place.proofs.PlanSteps.{steps_named}
 use Rattle.sk_frame.specs.Bases.{kept_by, kept_from}
 
@@ -63,12 +63,12 @@ kept_steps g f [] legal below s (i, i_len, is) = absurd (omega arith)
 kept_steps g f (x ∷ ss) (legal, rest) below s s_in =
     elim (contains_cases x ss s s_in) [
       | inl here ↦ subst (λ (t : PlanStep). kept_from (x ∷ ss) t.step ≡ kept_from (x ∷ ss) t.keeps) here at_head
-      | inr later ↦ ap (kept_by x) (kept_steps g (merged f (merge_told x)) ss rest (below_replaced f (names_of (merge_told x)) below) s later)
+      | inr later ↦ ap (kept_by x) (kept_steps g (next_after f x) ss rest (below_replaced f (names_of (merge_told x)) below) s later)
     ]
   where
     above : (t : PlanStep) → Contains ss t → ¬ (t.step ≡ x.step)
     above t (k, k_len, t_is) same =
-        let t_name : t.step ≡ Step (f.next_step + 1 + k) = ap (λ (y : PlanStep). y.step) (sym t_is) ∙ steps_named g (merged f (merge_told x)) ss rest k t k_len in
+        let t_name : t.step ≡ Step (f.next_step + 1 + k) = ap (λ (y : PlanStep). y.step) (sym t_is) ∙ steps_named g (next_after f x) ss rest k t k_len in
         let level : f.next_step + 1 + k ≡ f.next_step = step_same (f.next_step + 1 + k) f.next_step (sym t_name ∙ same ∙ legal.next) in
         omega arith
 
@@ -89,7 +89,7 @@ among g f [] legal s (i, i_len, is) = absurd (omega arith)
 among g f (x ∷ ss) (legal, rest) s s_in =
     elim (contains_cases x ss s s_in) [
       | inl here ↦ subst (λ (t : PlanStep). Contains (t.one ∷ t.two ∷ t.three ∷ []) t.keeps) here legal.keeps.0
-      | inr later ↦ among g (merged f (merge_told x)) ss rest s later
+      | inr later ↦ among g (next_after f x) ss rest s later
     ]
 
 module _ (g : Graph) (p : Plan) (legal : IsLegalPlan g p) where
