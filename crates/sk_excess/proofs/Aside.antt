@@ -23,7 +23,7 @@ use Rattle.sk_rules.specs.JustSome.{with_just}
 use Rattle.sk_rules.specs.Reach.{IsNormal}
 use Rattle.sk_rules.proofs.Keeping.{can_carry}
 use Rattle.sk_rules.proofs.JustSome.{sound_part}
-use Rattle.sk_rules.proofs.SummedWeights.{same_tests}
+use Rattle.sk_base.proofs.Filters.{same_tests}
 use Rattle.sk_verdict.specs.Parts.{elem_of}
 use Rattle.sk_spare.specs.Sparing.{IsSpare, differs_from, without}
 use Rattle.sk_spare.proofs.LeavingOut.{distinct}

@@ -30,7 +30,8 @@ use Rattle.sk_rules.proofs.Closing.{no_merge_of_one}
 use Rattle.sk_rules.proofs.Counting.{reached_tight}
 use Rattle.sk_rules.proofs.JustSome.{sound_part, starts_of_part, all_pass}
 use Rattle.sk_rules.proofs.Keeping.{can_carry, contains_settles}
-use Rattle.sk_rules.proofs.SummedWeights.{same_tests, owned_found}
+use Rattle.sk_base.proofs.Filters.{same_tests}
+use Rattle.sk_rules.proofs.SummedWeights.{owned_found}
 use Rattle.sk_verdict.specs.Parts.{elem_of}
 use Rattle.sk_plan.proofs.Finished.{reached_within}
 use Rattle.sk_spare.specs.Halving.{IsMadeOf, AreFurther, too, cluster_weight}

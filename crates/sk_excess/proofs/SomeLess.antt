@@ -16,7 +16,7 @@ use Rattle.sk_family.specs.Body.{edge_start, block_start}
 use Rattle.sk_family.proofs.GraphStarts.{edge_starts, block_starts}
 use Rattle.sk_rules.specs.JustSome.{with_just}
 use Rattle.sk_rules.proofs.JustSome.{all_pass, in_part}
-use Rattle.sk_rules.proofs.SummedWeights.{same_tests}
+use Rattle.sk_base.proofs.Filters.{same_tests}
 use Rattle.sk_excess.specs.LeftOut.{is_number, is_kept, kept_graph, above, HasConstraint}
 
 -- what is one of some numbers, what is kept, and what is above
