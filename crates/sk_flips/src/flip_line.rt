@@ -11,7 +11,9 @@ ghost use Rattle.sk_flips.specs.FlipReading.{among, AddsWords, Adds, IsNameRefus
 
 use sk_base::{List, Name};
 use sk_lex::Word;
-use sk_lines::{Code, EntryError, LineReader, check_end, is_word, cluster_named, split_words, word};
+use sk_lines::{
+    Code, EntryError, LineReader, check_end, cluster_named, is_word, split_words, word,
+};
 use std::alloc::Global;
 
 /// The most lines of flips.

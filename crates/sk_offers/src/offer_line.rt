@@ -11,7 +11,8 @@ ghost use Rattle.sk_offers.specs.declared.offer_line.Place.TheVariants.{Among};
 use sk_base::List;
 use sk_lex::Word;
 use sk_lines::{
-    Code, EntryError, LineReader, check_end, is_word, cluster_named, plain_number, split_words, word,
+    Code, EntryError, LineReader, check_end, cluster_named, is_word, plain_number, split_words,
+    word,
 };
 use sk_rules::Merge;
 use std::alloc::Global;

@@ -19,8 +19,9 @@ use Rattle.sk_rules.specs.declared.Merge.{Merge}
 use Rattle.sk_rules.specs.Merges.{merged}
 use Rattle.sk_rules.specs.Rules.{IsShared}
 use Rattle.sk_worklist.specs.declared.Order.{Order}
+use Rattle.sk_worklist.specs.Choices.{AreChoices}
 use Rattle.sk_worklist.specs.Orders.{place_of, next_call}
-use Rattle.sk_worklist.proofs.OneRun.{runs_are_one}
+use Rattle.sk_worklist.proofs.OneRun.{choices_are_one, runs_are_one}
 use Rattle.sk_tree.specs.declared.Choice.{Choice}
 use Rattle.sk_tree.specs.declared.PlanStep.{PlanStep}
 use Rattle.sk_tree.specs.declared.Plan.{Plan}
@@ -123,7 +124,7 @@ same_plan g s p q sound p_legal q_legal same p_drawn q_drawn =
 pub one_plan_of : {P : Type 0} (answer : P → ℕ → ℕ) (after : P → ℕ → P) (picker : P) (s : Sketch) (p q : Plan) → IsSoundGraph (graph_of s) → IsPlanOf answer after picker s p → IsPlanOf answer after picker s q → p ≡ q
 one_plan_of answer after picker s p q sound first second =
     let g = graph_of s in
-    let merges = runs_are_one answer after g (initial_clusters g) picker (map merge_told p.steps) (map merge_told q.steps) first.end second.end first.last second.last
+    let merges = runs_are_one (AreChoices g) (choices_are_one g) answer after (initial_clusters g) picker (map merge_told p.steps) (map merge_told q.steps) first.end second.end first.last second.last
     first.run.leads first.run.ends second.run.leads second.run.ends in
     same_plan g s p q sound first.legal second.legal merges.0 first.drawn second.drawn
 
