@@ -51,7 +51,6 @@ export class Board {
     const { width, height } = this.size();
     const { drawing, judgement } = this.overlay ? { drawing: NOTHING, judgement: null } : this.answer;
     const views = this.overlay ? [] : viewsOf(this.answer);
-    this.node.setAttribute('viewBox', `0 0 ${width} ${height}`);
     this.groups.grid.replaceChildren(...this.grid(width, height));
     this.groups.drawn.replaceChildren(...(views.length ? stillNodes(drawing.shapes, drawnView(drawing), this.plane) : []));
     this.edges.show(this.edgeItems(drawing, views));
