@@ -86,10 +86,10 @@ def run_um(drawing: Drawing, distance: XDistance | YDistance) -> Fraction:
         return distance.value_um
     first, second = (drawing.meetings.drawn(each) for each in (distance.first, distance.second))
     if isinstance(distance, XDistance):
-        drawn = second.x_um - first.x_um
+        is_ahead = second.x_um >= first.x_um
     else:
-        drawn = second.y_um - first.y_um
-    return distance.value_um if drawn >= 0 else -distance.value_um
+        is_ahead = second.y_um >= first.y_um
+    return distance.value_um if is_ahead else -distance.value_um
 
 
 def touch(drawing: Drawing, tangent: Tangent) -> Touch:
