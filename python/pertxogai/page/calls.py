@@ -28,6 +28,7 @@ from .fields import FieldRefused, Fields
 from .judging import Judged, NotPlaced
 from .offers import offers
 from .opening import opened
+from .panel import lines_shown
 from .parts_laid import shown_between
 from .shown import drawing_shown, judgement_shown, marks_shown, places_shown
 
@@ -143,8 +144,9 @@ def _offers(desk: Desk, given: Fields) -> Json:
 
 def _weigh(desk: Desk, given: Fields) -> Json:
     """What may go of a drawing that is over, each with how far it is off without it."""
-    judgement = desk.judged(given.text("text")).weighed
-    return {"spare": [spare_json(each) for each in judgement.surplus]}
+    judged = desk.judged(given.text("text"))
+    return {"spare": [spare_json(each) for each in judged.weighed.surplus],
+            "lines": lines_shown(judged.drawing, judged.weighed)}
 
 
 def _plan(desk: Desk, given: Fields) -> Json:

@@ -12,6 +12,7 @@ from ..picture.designed import Whereabouts
 from ..shape_parts import parts_of_shapes
 from ..told import JudgedDrawing, spare_json, spelled_json, within_json
 from .motion import Spot
+from .panel import lines_shown
 from .parts_laid import LaidPart
 from .signs import Mark, marks
 from .spots import leader_of
@@ -61,6 +62,7 @@ def judgement_shown(drawing: Drawing, judgement: Judgement, parts: Iterable[Laid
     solution = judgement.solution
     return {
         "verdict": judgement.verdict.value,
+        "lines": lines_shown(drawing, judgement),
         **spelled_json(judged),
         **within_json(judged),
         "spare": [spare_json(each) for each in judgement.surplus],

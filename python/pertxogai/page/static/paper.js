@@ -127,7 +127,7 @@ export class Paper extends EventTarget {
   async weigh(text, answer) {
     const found = await this.server.call('weigh', { text }).catch((error) => { if (!(error instanceof Stopped)) throw error; });
     if (!found?.spare || this.answer !== answer || this.refused) return;
-    answer.judgement.spare = found.spare;
+    Object.assign(answer.judgement, found);
     this.tell('answer', answer);
   }
 
