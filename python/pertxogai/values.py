@@ -108,6 +108,10 @@ class LinearSystem:
             rest = _sum(rest, value.terms, factor)
         return Form(rest, small(number))
 
+    def value(self, unknown: Hashable) -> Form:
+        """An unknown in what is free."""
+        return self._values.get(unknown) or Form.of(unknown)
+
     def sources(self, form: Form) -> frozenset[int]:
         """The equations by which the form is reduced as it is."""
         rest = self._with_marks().reduced(form)

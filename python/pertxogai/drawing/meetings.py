@@ -6,7 +6,7 @@ from collections.abc import Iterator
 from typing import TYPE_CHECKING
 
 from pertxogai.drawing.constraints import (
-    Coincident, Concentric, Perpendicular, PointOn, Tangent)
+    Coincident, Concentric, Perpendicular, PointOn, Tangent, XDistance, YDistance)
 from pertxogai.drawing.places import Place
 from pertxogai.drawing.references import ORIGIN, Pair, PointRef, ShapeRef, Which
 
@@ -24,6 +24,7 @@ class Meetings:
         order = [ORIGIN, *drawing.points()]
         self._rank = {point: place for place, point in enumerate(order)}
         self._leader: dict[PointRef, PointRef] = {}
+        self._ahead: dict[int, bool] = {}
         for pair in joined(drawing):
             self._join(pair)
         self._on = {(self.leader(each.point), each.curve) for each in drawing.constraints
@@ -44,6 +45,15 @@ class Meetings:
     def drawn(self, point: PointRef) -> Place:
         """Where a point counts as drawn: where the first of those that are one with it is."""
         return self._drawing.drawn(self.leader(point))
+
+    def is_ahead(self, distance: XDistance | YDistance) -> bool:
+        """Whether the second point isn't drawn behind the first, along the axis."""
+        key = id(distance)
+        if key not in self._ahead:
+            first, second = self.drawn(distance.first), self.drawn(distance.second)
+            self._ahead[key] = (second.x_um >= first.x_um if isinstance(distance, XDistance)
+                                else second.y_um >= first.y_um)
+        return self._ahead[key]
 
     def same(self, first: PointRef, second: PointRef) -> bool:
         """Whether the two points are one."""

@@ -81,6 +81,7 @@ def _points(name: str, which: tuple[Which, ...]) -> tuple[PointRef, ...]:
     return tuple(PointRef(name, each) for each in which)
 
 
+_AT_ORIGIN = Place(Fraction(0), Fraction(0))
 _WHICH: dict[type[Shape], tuple[Which, ...]] = {
     Point: (Which.AT,),
     Segment: (Which.START, Which.END),
@@ -93,7 +94,7 @@ def spot_of(shape: Shape | Datum, which: Which) -> Spot:
     """The spot of one point of a shape; KeyError where the shape has no such point."""
     match shape:
         case Origin() if which is Which.AT:
-            return Place(Fraction(0), Fraction(0))
+            return _AT_ORIGIN
         case Point() if which is Which.AT:
             return shape.at
         case Segment() | Arc() if which is Which.START:

@@ -84,12 +84,7 @@ def run_um(drawing: Drawing, distance: XDistance | YDistance) -> Fraction:
     """The signed x or y distance, second less first, in micrometres."""
     if distance.sense is Sense.SIGNED:
         return distance.value_um
-    first, second = (drawing.meetings.drawn(each) for each in (distance.first, distance.second))
-    if isinstance(distance, XDistance):
-        drawn = second.x_um - first.x_um
-    else:
-        drawn = second.y_um - first.y_um
-    return distance.value_um if drawn >= 0 else -distance.value_um
+    return distance.value_um if drawing.meetings.is_ahead(distance) else -distance.value_um
 
 
 def touch(drawing: Drawing, tangent: Tangent) -> Touch:

@@ -19,16 +19,17 @@ from pertxogai.drawing.scene import Scene, points_of, spot_of
 from pertxogai.drawing.sketching import Drawing
 
 
-def faults(drawing: Drawing) -> tuple[DrawingUnsound, ...]:
+def faults(drawing: Drawing, sound: Drawing = Drawing()) -> tuple[DrawingUnsound, ...]:
     """What is unsound about a drawing, one fault for each shape or constraint at most.
 
-    Constraints are looked at only where all shapes are sound."""
-    return tuple(_shape_faults(drawing)) or tuple(_constraint_faults(drawing))
+    Constraints are looked at only where all shapes are sound. Of a `sound` drawing that it was
+    made from, what it has kept isn't looked at again."""
+    return tuple(_shape_faults(drawing)) or tuple(_constraint_faults(drawing, sound))
 
 
-def checked(drawing: Drawing) -> Drawing:
-    """The drawing itself; raises its first DrawingUnsound."""
-    for fault in faults(drawing):
+def checked(drawing: Drawing, sound: Drawing = Drawing()) -> Drawing:
+    """The drawing itself; raises its first DrawingUnsound. `sound` as for `faults`."""
+    for fault in faults(drawing, sound):
         raise fault
     return drawing
 
@@ -43,15 +44,22 @@ def _shape_faults(drawing: Drawing) -> Iterator[DrawingUnsound]:
             yield DrawingUnsound(shape.name, fault.word, fault.what)
 
 
-def _constraint_faults(drawing: Drawing) -> Iterator[DrawingUnsound]:
+def _constraint_faults(drawing: Drawing, sound: Drawing) -> Iterator[DrawingUnsound]:
     names: set[str] = set()
+    known = {id(each) for each in sound.constraints} if _kinds(drawing) == _kinds(sound) else set()
     for number, constraint in enumerate(drawing.constraints, start=1):
         try:
             if constraint.name is not None:
                 check_name(constraint.name, names)
-            check_constraint(drawing.scene, constraint)
+            if id(constraint) not in known:
+                check_constraint(drawing.scene, constraint)
         except WordFault as fault:
             yield DrawingUnsound(drawing.called(number), fault.word, fault.what)
+
+
+def _kinds(drawing: Drawing) -> list[tuple[str, type[Shape]]]:
+    """What of the shapes decides on what can be said of them: their names and kinds."""
+    return [(shape.name, type(shape)) for shape in drawing.geometry]
 
 
 def ends_made_one(drawing: Drawing) -> tuple[int, str] | None:

@@ -11,11 +11,13 @@ from pertxogai.drawing.constraints import (
 from pertxogai.drawing.geometry import Arc, Circle, Point, Segment, Shape, Spot
 from pertxogai.drawing.numbers import angle_text, mm_text
 from pertxogai.drawing.references import ORIGIN, X_AXIS, PointRef
+from pertxogai.kept import kept
 
 Valued = Length | Distance | PointLineDistance | ParallelDistance | Radius | Diameter
 """The constraints whose value stands last and has no sign."""
 
 
+@kept
 def line_of(item: Shape | Constraint) -> str:
     """The line of a shape or a constraint, as a designer writes it."""
     if isinstance(item, Point | Segment | Circle | Arc):
@@ -48,6 +50,7 @@ def _spot(spot: Spot) -> str:
     return f"{mm_text(spot.x_um)} {mm_text(spot.y_um)}"
 
 
+@kept
 def words_of(constraint: Constraint) -> str:
     """The line of a constraint without its name."""
     match constraint:

@@ -4,6 +4,7 @@ from __future__ import annotations
 from collections.abc import Iterable, Sequence
 from dataclasses import dataclass
 
+from ..kept import kept
 from .constraints import Constraint
 from .declared import Declared
 from .elements import Element
@@ -38,6 +39,7 @@ class Sketch:
         if not self.elements:
             raise Refusal(Refused(2, Code.E18))
 
+    @kept
     def text(self) -> str:
         """The text in canonical spelling: header, elements, constraints, `end`. Comments aren't
         kept."""

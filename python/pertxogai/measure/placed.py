@@ -12,12 +12,14 @@ from pertxogai.measure.directions import Line
 from pertxogai.measure.exact import (
     Number, Root, Way, apart, between, cross, dot, least, length, off, quotient, square)
 from pertxogai.measure.solution import Solution
+from pertxogai.values import small
 
 
 def nm(value_um: Fraction) -> Number:
     """Nanometres of micrometres."""
-    value = value_um * NM_PER_UM
-    return value.numerator if value.denominator == 1 else value
+    if value_um.denominator == 1:
+        return value_um.numerator * NM_PER_UM
+    return small(value_um * NM_PER_UM)
 
 
 @dataclass(frozen=True)

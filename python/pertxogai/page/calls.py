@@ -20,6 +20,7 @@ from ..picture.designed import Whereabouts
 from ..program import Asks, ProgramError, Status
 from ..reports import Flipped, NoChoice
 from ..told import JudgedDrawing, spare_json
+from .attending import Attending
 from .document import read_document, write_document
 from .edit_fields import read_edit
 from .edits import Move
@@ -27,8 +28,9 @@ from .fields import FieldRefused, Fields
 from .judging import Judged, NotPlaced
 from .offers import offers
 from .opening import opened
+from .panel import lines_shown
 from .parts_laid import shown_between
-from .shown import drawing_shown, judgement_shown, places_shown
+from .shown import drawing_shown, judgement_shown, marks_shown, places_shown
 
 Json: TypeAlias = dict[str, object]
 KEPT = 4
@@ -41,12 +43,17 @@ class Desk:
 
     program: Asks
     kept: dict[str, Judged] = field(default_factory=dict)
+    attending: Attending = field(init=False)
+
+    def __post_init__(self) -> None:
+        self.attending = Attending(self.program)
 
     def answer(self, name: str, given: object) -> Json:
         """What a call gives: `refused` and `trouble` are told in it."""
         call = CALLS.get(name)
         if call is None:
             return trouble("call", f"{name!r} is no call of the board")
+        self.attending.begin()
         try:
             return call(self, Fields.of(given))
         except DrawingRefusal as refusal:
@@ -67,7 +74,7 @@ class Desk:
 
     def judged(self, text: str) -> Judged:
         """The drawing of a text, with a program to ask. Raises DrawingRefusal."""
-        return self.keep(text, self.kept.get(text) or Judged(read_document(text), self.program))
+        return self.keep(text, self.kept.get(text) or Judged(read_document(text), self.attending))
 
     def keep(self, text: str, judged: Judged) -> Judged:
         """Keeps a drawing by its text, as the latest; the one that was asked for longest ago
@@ -78,12 +85,14 @@ class Desk:
             del self.kept[next(iter(self.kept))]
         return judged
 
-    def edited(self, drawing: Drawing) -> str:
-        """The text of a drawing that was edited, which is kept as what it reads as. Raises
-        DrawingUnsound."""
-        text = write_document(checked(drawing))
-        self.keep(text, Judged(drawing, self.program))
-        return text
+    def edited(self, drawing: Drawing, known: Drawing, is_known: bool = False) -> Json:
+        """What is told of a drawing that an edit has made of a known one, kept by its text as
+        what that reads as. Raises DrawingUnsound."""
+        judged = Judged(checked(drawing, known), self.attending)
+        text = self.attending.meanwhile(lambda: write_document(drawing))
+        found = _whole(self, judged, known if is_known else None)
+        self.keep(text.value, judged)
+        return {"text": text.value, **found}
 
 
 def trouble(kind: str, message: str) -> Json:
@@ -93,12 +102,14 @@ def trouble(kind: str, message: str) -> Json:
 
 def _judge(desk: Desk, given: Fields) -> Json:
     """The drawing of a text, and the judgement on it."""
-    return _whole(desk, given.text("text"))
+    text = given.text("text")
+    return {"text": text, **_whole(desk, desk.judged(text))}
 
 
-def _whole(desk: Desk, text: str) -> Json:
-    judged = desk.judged(text)
-    answer: Json = {"text": text, "judgement": None}
+def _whole(desk: Desk, judged: Judged, known: Drawing | None = None) -> Json:
+    """The judgement, and what is drawn: what of it isn't `known` on the page."""
+    drawn = desk.attending.meanwhile(lambda: drawing_shown(judged.drawing, known))
+    answer: Json = {"judgement": None}
     solution = None
     try:
         if judged.drawing.geometry:
@@ -113,14 +124,16 @@ def _whole(desk: Desk, text: str) -> Json:
         answer |= trouble("program", str(error))
     except (Refusal, NotHeld) as error:
         answer |= trouble("language", f"the program takes no such sketch: {error}")
-    return {**answer, "drawing": drawing_shown(judged.drawing, solution)}
+    marks = marks_shown(judged.drawing, solution)
+    return {**answer, "drawing": {**drawn.value, "marks": marks}}
 
 
 def _edit(desk: Desk, given: Fields) -> Json:
-    """The text that an edit makes of a text, and all that `judge` tells of it."""
+    """The text that an edit makes of a text, and all that `judge` tells of it; where the page
+    `knows` the constraints of the first and none has changed, they aren't told again."""
     drawing = desk.judged(given.text("text")).drawing
     edit = read_edit(drawing, Fields.of(given.values.get("edit")))
-    return _whole(desk, desk.edited(edit.on(drawing)))
+    return desk.edited(edit.on(drawing), drawing, given.values.get("knows") is True)
 
 
 def _offers(desk: Desk, given: Fields) -> Json:
@@ -131,8 +144,9 @@ def _offers(desk: Desk, given: Fields) -> Json:
 
 def _weigh(desk: Desk, given: Fields) -> Json:
     """What may go of a drawing that is over, each with how far it is off without it."""
-    judgement = desk.judged(given.text("text")).weighed
-    return {"spare": [spare_json(each) for each in judgement.surplus]}
+    judged = desk.judged(given.text("text"))
+    return {"spare": [spare_json(each) for each in judged.weighed.surplus],
+            "lines": lines_shown(judged.drawing, judged.weighed)}
 
 
 def _plan(desk: Desk, given: Fields) -> Json:
@@ -163,7 +177,7 @@ def _redraw(desk: Desk, given: Fields) -> Json:
     solution = found.solution
     moves = tuple((ref, _place(solution.spot(ref))) for ref in judged.drawing.points())
     radii = tuple((name, Fraction(solution.radius(name)) / 1000) for name in solution.radii)
-    return _whole(desk, desk.edited(Move(moves, radii).on(judged.drawing)))
+    return desk.edited(Move(moves, radii).on(judged.drawing), judged.drawing)
 
 
 def _steps(given: Fields) -> tuple[int, ...]:

@@ -28,14 +28,16 @@ class Guard:
         return f"http://127.0.0.1:{self.port}/{self.token}/"
 
     def ground(self, host: str | None, origin: str | None, site: str | None,
-               token: str) -> Ground | None:
-        """Why a request with these headers and this token is turned away; None where it isn't."""
+               token: str, opens: bool = False) -> Ground | None:
+        """Why a request with these headers and this token is turned away; None where it isn't.
+        `opens`: the browser opens the page itself, as from the file that leads to it; whoever
+        has the token may ask for that from anywhere."""
         hosts = (f"127.0.0.1:{self.port}", f"localhost:{self.port}")
         if host not in hosts:
             return Ground.HOST
         if origin is not None and origin != f"http://{host}":
             return Ground.ORIGIN
-        if site not in (None, "same-origin", "none"):
+        if not opens and site not in (None, "same-origin", "none"):
             return Ground.ORIGIN
         if not hmac.compare_digest(token.encode(), self.token.encode()):
             return Ground.TOKEN

@@ -8,6 +8,7 @@ from collections.abc import Iterator
 from pathlib import Path
 
 from ..inputs import DesignerDrawing, Input, InputRefused, SketchText, read_inputs
+from ..judged import TextRefused
 from ..language import Refusal, Sketch
 from .document import write_document
 from .fields import FieldRefused
@@ -52,7 +53,8 @@ def _sketch(found: SketchText, plain: str) -> Sketch:
     try:
         return Sketch.parse(found.text)
     except Refusal as refusal:
-        raise InputRefused(f"{plain}: {refusal}") from None
+        told = TextRefused(plain, refusal.refused, found.text)
+        raise InputRefused(str(told)) from None
 
 
 def gallery(folder: Path) -> Iterator[Json]:

@@ -57,8 +57,9 @@ def _turned_away(guard: Guard) -> Response | None:
     """The answer to a request that isn't the page's own, before anything of it is read."""
     headers = request.headers
     token = (request.view_args or {}).get("token") or request.path.split("/")[1]
+    opens = request.endpoint == "page" and headers.get("Sec-Fetch-Dest") == "document"
     ground = guard.ground(headers.get("Host"), headers.get("Origin"),
-                          headers.get("Sec-Fetch-Site"), str(token))
+                          headers.get("Sec-Fetch-Site"), str(token), opens)
     if ground is not None:
         return _json(trouble("guard", ground.value), 403)
     if request.method == "POST" and request.content_length is None:

@@ -12,23 +12,28 @@ from ..picture.designed import Whereabouts
 from ..shape_parts import parts_of_shapes
 from ..told import JudgedDrawing, spare_json, spelled_json, within_json
 from .motion import Spot
+from .panel import lines_shown
 from .parts_laid import LaidPart
-from .signs import marks
+from .signs import Mark, marks
 from .spots import leader_of
 
 Json = dict[str, object]
 
 
-def drawing_shown(drawing: Drawing, solution: Solution | None = None) -> Json:
-    """The shapes where they are drawn, the constraints, and their marks where all is placed, or
-    drawn."""
+def drawing_shown(drawing: Drawing, known: Drawing | None = None) -> Json:
+    """The shapes where they are drawn, and the constraints, but for those of a drawing that is
+    known already, where they are the same."""
     where = Whereabouts(drawing, None)
-    return {
-        "shapes": [_shape(where, shape) for shape in drawing.geometry],
-        "constraints": [_constraint(drawing, number, each)
-                        for number, each in enumerate(drawing.constraints, 1)],
-        "marks": list(marks(Whereabouts(drawing, solution))),
-    }
+    asked = None
+    if known is None or known.constraints != drawing.constraints:
+        asked = [_constraint(drawing, number, each)
+                 for number, each in enumerate(drawing.constraints, 1)]
+    return {"shapes": [_shape(where, shape) for shape in drawing.geometry], "constraints": asked}
+
+
+def marks_shown(drawing: Drawing, solution: Solution | None) -> list[Mark]:
+    """The marks of the constraints where all is placed, or drawn."""
+    return list(marks(Whereabouts(drawing, solution)))
 
 
 def _shape(where: Whereabouts, shape: Shape) -> Json:
@@ -57,6 +62,7 @@ def judgement_shown(drawing: Drawing, judgement: Judgement, parts: Iterable[Laid
     solution = judgement.solution
     return {
         "verdict": judgement.verdict.value,
+        "lines": lines_shown(drawing, judgement),
         **spelled_json(judged),
         **within_json(judged),
         "spare": [spare_json(each) for each in judgement.surplus],

@@ -109,7 +109,7 @@ class Workers:
     that follow each other come to the one that remembers."""
 
     def __init__(self, program: str, bounds: Bounds) -> None:
-        self._program, self._bounds = program, bounds
+        self._program, self.bounds = program, bounds
         self._free: list[Worker] = []
         self._busy = 0
         self._lock = Lock()
@@ -144,7 +144,7 @@ class Workers:
                     return worker
                 worker.stop()
         try:
-            return Worker.start(self._program, self._bounds)
+            return Worker.start(self._program, self.bounds)
         except OSError as error:
             self._back(None)
             raise WorkerLost(f"no process could be started for the call: {error.strerror}") from None

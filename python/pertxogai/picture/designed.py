@@ -33,6 +33,7 @@ from ..drawing import (
     YDistance,
 )
 from ..measure import Solution
+from ..values import Number
 from .marks import (
     Bow,
     Dimension,
@@ -116,10 +117,16 @@ class Whereabouts:
             place = self.drawing.drawn(ref)
             return float(place.x_um) / 1e3, float(place.y_um) / 1e3
         x, y = self.solution.spot(ref)
-        frame = self.solution.frame
-        way = unit(float(frame.right[0]), float(frame.right[1]))
-        dx, dy = float(x - frame.origin[0]) / 1e6, float(y - frame.origin[1]) / 1e6
+        (left, low), way = self._frame
+        dx, dy = float(x - left) / 1e6, float(y - low) / 1e6
         return way[0] * dx + way[1] * dy, way[0] * dy - way[1] * dx
+
+    @cached_property
+    def _frame(self) -> tuple[tuple[Number, Number], Spot]:
+        """The placed origin in nanometres, and the direction of the placed x axis."""
+        assert self.solution is not None
+        frame = self.solution.frame
+        return frame.origin, unit(float(frame.right[0]), float(frame.right[1]))
 
     def radius(self, name: str) -> float:
         """The radius of a circle or arc. Raises MissingPlace."""

@@ -199,6 +199,12 @@ class Axes:
         """A coordinate as a form."""
         return Form.of(Coordinate(frame, upwards, knot))
 
+    def between(self, frame: int, upwards: bool, first: Knot, second: Knot) -> Form:
+        """The way from a point's coordinate to another's as a form."""
+        if first == second:
+            return Form()
+        return Form({Coordinate(frame, upwards, second): 1, Coordinate(frame, upwards, first): -1})
+
     def _lines_say(self) -> None:
         for upwards in (False, True):
             self.tell(self.at(DATUM, upwards, ORIGIN_KNOT), frozenset())
@@ -223,16 +229,15 @@ class Axes:
             owners = frozenset({member.owner} if member.owner else set())
             if member is members[1] or not owners:
                 owners |= self.directions.owners(frame.line, line)
-            at = self.at(frame.number, upwards, member.knot)
-            self.tell(at - self.at(frame.number, upwards, first), owners)
+            self.tell(self.between(frame.number, upwards, first, member.knot), owners)
 
     def _say(self, fact: Fact) -> None:
         match fact:
             case Sized(form, owner):
                 self.tell(form, frozenset({owner}))
             case Shift(first, second, upwards, value, owner):
-                form = self.at(DATUM, upwards, second) - self.at(DATUM, upwards, first) - value
-                self.tell(form, frozenset({owner}))
+                run = self.between(DATUM, upwards, first, second)
+                self.tell(run - value, frozenset({owner}))
             case Stays(knot, place, owner):
                 self.tell(self.at(DATUM, False, knot) - Form(number=place.x_um),
                           frozenset({owner}))
@@ -282,7 +287,7 @@ class Axes:
         frame = self.frame(line)
         on_line = self.lines.members(line)[0].knot
         sign = self.sign(frame, upwards, on_line, fact.point)
-        step = self.at(frame.number, upwards, fact.point) - self.at(frame.number, upwards, on_line)
+        step = self.between(frame.number, upwards, on_line, fact.point)
         self.tell(step - fact.value.times(sign), frozenset({fact.owner}))
 
     def sign(self, frame: Frame, upwards: bool, first: Knot, second: Knot) -> int:

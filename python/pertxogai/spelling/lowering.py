@@ -101,7 +101,7 @@ class _Lowering:
         self._say(Apart(first, second, value, owner))
 
     def _size(self, form: Form, value_um: Fraction, owner: Owner) -> None:
-        self._say(Sized(form - Form(number=value_um), owner))
+        self._say(Sized(form - Form(number=small(value_um)), owner))
 
     def _length(self, segment: ShapeRef, owner: Owner) -> Form:
         """A segment's length as an unknown, which is said to be that of its ends."""
@@ -131,7 +131,7 @@ class _Lowering:
             case PointOn(point, curve):
                 self._on(self._knot(point), curve, owner)
             case PointLineDistance(point, line, value):
-                self._off(self._knot(point), line, Form(number=value), owner)
+                self._off(self._knot(point), line, Form(number=small(value)), owner)
             case ParallelDistance(first_line, second_line, value):
                 self._parallel_distance(first_line, second_line, value, owner)
             case Tangent():
@@ -147,7 +147,7 @@ class _Lowering:
             case Length(segment, value):
                 self._size(self._length(segment, owner), value, owner)
             case Distance(first, second, value):
-                self._apart(self._knot(first), self._knot(second), Form(number=value), owner)
+                self._apart(self._knot(first), self._knot(second), Form(number=small(value)), owner)
             case Radius(rim, value):
                 self._size(Form.of(RadiusOf(rim.name)), value, owner)
             case Diameter(rim, value):
@@ -161,7 +161,8 @@ class _Lowering:
 
     def _shift(self, first: PointRef, second: PointRef, upwards: bool, value: Fraction,
                owner: Owner) -> None:
-        self._say(Shift(self._knot(first), self._knot(second), upwards, Form(number=value), owner))
+        run = Form(number=small(value))
+        self._say(Shift(self._knot(first), self._knot(second), upwards, run, owner))
 
     def _aligned(self, of: ShapeRef | Pair, vertical: bool, owner: Owner) -> None:
         """Horizontal, or vertical: a segment's line leans so, two points have one y or x."""
@@ -215,9 +216,9 @@ class _Lowering:
                            owner: Owner) -> None:
         """One dimension: a point of a segment from the other line."""
         if isinstance(self.drawing.shape(second.name), Segment):
-            self._off(self._ends(second.name)[0], first, Form(number=value), owner)
+            self._off(self._ends(second.name)[0], first, Form(number=small(value)), owner)
         else:
-            self._off(self._ends(first.name)[0], second, Form(number=value), owner)
+            self._off(self._ends(first.name)[0], second, Form(number=small(value)), owner)
 
     def _tangent(self, constraint: Tangent, owner: Owner) -> None:
         first, second = constraint.first, constraint.second

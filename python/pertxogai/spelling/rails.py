@@ -10,7 +10,7 @@ from functools import cached_property
 from pertxogai.spelling.axes import Axes, Coordinate, Equation, rank
 from pertxogai.spelling.facts import DATUM, Knot, Line, Owner
 from pertxogai.spelling.style import Style
-from pertxogai.values import Form, LinearSystem, Number
+from pertxogai.values import Form, LinearSystem, Number, small
 
 
 @dataclass(frozen=True)
@@ -73,14 +73,14 @@ class Rails:
             self._take()
         self.members: dict[Rail, dict[Coordinate, Number]] = {}
         for coordinate in _coordinates(axes.equations):
-            rest = self._system.reduced(Form.of(coordinate))
-            rail = Rail(coordinate.frame, coordinate.upwards, rest.key())
+            rest = self._system.value(coordinate)
+            rail = _rail(coordinate, rest)
             self.members.setdefault(rail, {})[coordinate] = rest.number
         self._rail_of = {coordinate: rail for rail, members in self.members.items()
                          for coordinate in members}
         self._sizes: dict[Size, tuple[Hashable, Number]] = {}
         for size in self._all_sizes():
-            rest = self._system.reduced(Form.of(size))
+            rest = self._system.value(size)
             self._sizes.setdefault(Size(rest.key()), (size, rest.number))
 
     def _all_sizes(self) -> list[Hashable]:
@@ -139,17 +139,16 @@ class Rails:
     def symbols(self, form: Form) -> Form:
         """A form of coordinates and sizes in rails, each taken for itself, and what is unknown in
         sizes."""
-        total = Form(number=form.number)
+        terms: dict[Hashable, Number] = {}
+        number = form.number
         for key, factor in form.terms.items():
-            rest = self._system.reduced(Form.of(key))
-            if not rest.terms:
-                total = total + rest.times(factor)
-            elif isinstance(key, Coordinate):
-                symbol: Hashable = Rail(key.frame, key.upwards, rest.key())
-                total = total + Form({symbol: 1}, rest.number).times(factor)
-            else:
-                total = total + Form({Size(rest.key()): 1}, rest.number).times(factor)
-        return total
+            rest = self._system.value(key)
+            number += rest.number * factor
+            if rest.terms:
+                symbol: Hashable = (self._rail_of.get(key) or _rail(key, rest)
+                                    if isinstance(key, Coordinate) else Size(rest.key()))
+                terms[symbol] = terms.get(symbol, 0) + factor
+        return Form({key: small(each) for key, each in terms.items() if each}, small(number))
 
     def unfold(self, form: Form) -> Form:
         """A form of rails and sizes in the first coordinate of each rail, and the first of each
@@ -191,6 +190,11 @@ class Rails:
                 if not any(isinstance(key, Size) for key in rest.terms):
                     lost.add(fact.owner)
         return frozenset(lost)
+
+
+def _rail(coordinate: Coordinate, rest: Form) -> Rail:
+    """The rail of a coordinate of which so much is unknown."""
+    return Rail(coordinate.frame, coordinate.upwards, rest.key())
 
 
 def _coordinates(equations: Iterable[Equation]) -> list[Coordinate]:

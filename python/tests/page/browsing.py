@@ -55,7 +55,8 @@ class Page:
         return self.driver.find_element(By.ID, name).text
 
     def text(self) -> str:
-        """The drawing's text."""
+        """The drawing's text, once it is shown."""
+        self.wait("the text", "return document.getElementById('text').ariaBusy !== 'true'")
         return str(self.driver.execute_script("return document.getElementById('text').value"))
 
     def count(self, selector: str) -> int:

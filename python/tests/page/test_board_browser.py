@@ -11,6 +11,7 @@ pytest.importorskip("selenium", reason="the browser is driven by Debian's python
 
 from boards import CHROMIUM, DRAWINGS, DRIVER, Served, drawing, served  # noqa: E402
 from browsing import Page, browser  # noqa: E402
+from pertxogai.page.serving import leading_to  # noqa: E402
 from selenium.webdriver.common.by import By  # noqa: E402
 from selenium.webdriver.common.keys import Keys  # noqa: E402
 
@@ -267,6 +268,24 @@ def test_everything_by_the_keyboard(page: Page) -> None:
     page.wait("a drawing is taken", "return document.getElementById('text').value !== ''")
 
 
+def test_panning_by_the_keyboard(page: Page) -> None:
+    page.begin(TRIANGLE, "well")
+    width = page.driver.execute_script(
+        "return document.getElementById('board').getBoundingClientRect().width")
+    x, y = page.at("A.start")
+    page.keys(Keys.CONTROL + Keys.ARROW_RIGHT)
+    page.settled()
+    assert page.at("A.start") == pytest.approx((x - width / 8, y), abs=1)
+    page.keys(Keys.CONTROL + Keys.ARROW_LEFT)
+    page.settled()
+    assert page.at("A.start") == pytest.approx((x, y), abs=1)
+    page.keys(*[Keys.SHIFT + Keys.ARROW_UP] * 40)
+    page.settled()
+    cross = page.driver.find_element(By.CSS_SELECTOR, ".cross").rect
+    board = page.driver.find_element(By.ID, "board").rect
+    assert cross["y"] >= board["y"] and page.at("A.start")[1] > y + 100
+
+
 def test_brackets_of_keyboards_that_have_them_by_another_key(page: Page) -> None:
     page.begin("drawing 1\nsegment A 0 0 40 0\n", "open")
     for held in ({"altKey": True}, {"altKey": True, "ctrlKey": True}):
@@ -297,7 +316,7 @@ def test_a_second_tab_is_told_while_it_is_there(page: Page, board: Served) -> No
     first = page.driver.current_window_handle
     page.driver.switch_to.new_window("tab")
     page.driver.get(board.guard.address)
-    page.wait("told", "return !document.getElementById('banner').hidden")
+    page.wait("told", "return document.getElementById('told-tabs').textContent")
     assert "another tab" in page.told("banner")
     second = page.driver.current_window_handle
     page.driver.switch_to.window(first)
@@ -305,7 +324,33 @@ def test_a_second_tab_is_told_while_it_is_there(page: Page, board: Served) -> No
     page.driver.switch_to.window(second)
     page.driver.close()
     page.driver.switch_to.window(first)
-    page.wait("no longer told", "return document.getElementById('banner').hidden")
+    page.wait("no longer told", "return !document.getElementById('banner').innerText")
+
+
+def test_a_stopped_server_and_a_second_tab_are_both_told(page: Page, board: Served) -> None:
+    page.begin(TRIANGLE, "well")
+    first = page.driver.current_window_handle
+    page.driver.switch_to.new_window("tab")
+    page.driver.get(board.guard.address)
+    page.verdict("well")
+    board.stop()
+    try:
+        page.type(TRIANGLE + "horizontal A\n")
+        page.wait("told", "return document.body.dataset.server === 'stopped'")
+        assert "is stopped" in page.told("banner") and "another tab" in page.told("banner")
+    finally:
+        board.start_again()
+    page.wait("there again", "return document.body.dataset.server === 'there'")
+    assert "is stopped" not in page.told("banner") and "another tab" in page.told("banner")
+    page.driver.close()
+    page.driver.switch_to.window(first)
+
+
+def test_the_file_that_leads_to_the_board(page: Page, board: Served) -> None:
+    with leading_to(board.guard.address) as file:
+        page.driver.get(file)
+        page.wait("the board", "return document.getElementById('verdict')?.dataset.verdict")
+    assert page.driver.current_url == board.guard.address
 
 
 def test_of_two_tabs_neither_loses_its_drawing(page: Page, board: Served) -> None:

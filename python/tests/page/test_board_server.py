@@ -5,6 +5,7 @@ import base64
 import json
 import os
 import signal
+import socket
 import stat
 import subprocess
 import sys
@@ -22,6 +23,7 @@ from boards import DRAWINGS, SECONDS, drawing, served  # noqa: E402
 from flask.testing import FlaskClient  # noqa: E402
 
 from pertxogai.commands import main  # noqa: E402
+from pertxogai.page import serving  # noqa: E402
 from pertxogai.page.calls import Desk  # noqa: E402
 from pertxogai.page.guard import Ground, Guard  # noqa: E402
 from pertxogai.page.server import board  # noqa: E402
@@ -353,6 +355,24 @@ def test_files_are_opened(client) -> None:
     assert opened(client, DRAWINGS / "bracket.drawing")["sketches"][0]["name"] == "bracket"
 
 
+def test_a_refused_sketch_says_what_to_do(client) -> None:
+    data = base64.b64encode(b"sketch 1\npoint A 0 0\npiont B 1 1\nend\n").decode()
+    told = answer(client, "open", name="part.sketch", data=data)["trouble"]["message"]
+    assert told.startswith("part.sketch: refused line 3 E2 word: 'piont B 1 1': look for a slip")
+
+
+def test_constraints_that_are_known_arent_told_again(client) -> None:
+    text = drawing("bracket")
+    known = answer(client, "judge", text=text)["drawing"]["constraints"]
+    edit = {"do": "shift", "shapes": [], "points": [], "dx": 1, "dy": 1}
+    assert answer(client, "edit", text=text, edit=edit)["drawing"]["constraints"] == known
+    same = answer(client, "edit", text=text, edit=edit, knows=True)
+    assert same["drawing"]["constraints"] is None and same["judgement"]["verdict"] == "well"
+    other = answer(client, "edit", text=text, edit={"do": "erase", "shapes": [], "constraints": [1]},
+                   knows=True)
+    assert len(other["drawing"]["constraints"]) == len(known) - 1
+
+
 def test_a_sketch_of_the_language_becomes_a_drawing(client) -> None:
     path = DRAWINGS.parents[2] / "examples" / "rectangle.sketch"
     (found,) = opened(client, path)["sketches"]
@@ -401,6 +421,42 @@ def test_the_command_serves_until_it_is_interrupted(program) -> None:
         started.send_signal(signal.SIGINT)
         rest, _ = started.communicate(timeout=10)
     assert started.returncode == 0 and "the board is stopped" in rest
+
+
+def test_the_browser_is_led_by_a_file_that_its_owner_alone_can_read(program, monkeypatch) -> None:
+    seen = []
+
+    def opened(url: str) -> None:
+        path = Path(url.removeprefix("file://"))
+        text = path.read_text(encoding="utf-8")
+        seen.append((url, stat.S_IMODE(path.parent.stat().st_mode), text))
+
+    monkeypatch.setattr(serving.webbrowser, "open", opened)
+    monkeypatch.setattr(serving.BaseWSGIServer, "serve_forever", lambda server: None)
+    monkeypatch.setattr(serving, "Guard", lambda port: GUARD)
+    serving.serve(program, 0, True)
+    (url, rights, text), = seen
+    assert rights == 0o700 and GUARD.token not in url and GUARD.address in text
+    assert not Path(url.removeprefix("file://")).exists()
+
+
+def test_the_page_may_be_opened_from_elsewhere_and_nothing_else(client) -> None:
+    opens = {"Host": HOST, "Sec-Fetch-Site": "cross-site", "Sec-Fetch-Dest": "document"}
+    assert client.get("/a-token/", headers=opens).status_code == 200
+    assert client.get("/wrong/", headers=opens).status_code == 403
+    assert client.get("/a-token/gallery", headers=opens).status_code == 403
+    assert client.get("/a-token/", headers={**opens, "Sec-Fetch-Dest": "iframe"}).status_code == 403
+
+
+@pytest.mark.parametrize("silent, more", [(0.3, 20.0), (20.0, 0.5 - SECONDS)])
+def test_a_client_that_says_nothing_is_let_go(program, monkeypatch, silent, more) -> None:
+    monkeypatch.setattr(serving.Connection, "timeout", silent)
+    monkeypatch.setattr(serving, "MORE_SECONDS", more)
+    with served(program) as there:
+        for said in (b"", b"POST /x/call/judge HTTP/1.1\r\nHost: "):
+            with socket.create_connection(("127.0.0.1", there.guard.port), timeout=10) as client:
+                client.sendall(said)
+                assert client.recv(1) == b""
 
 
 def test_a_port_that_is_taken_is_told(program, monkeypatch, capsys) -> None:

@@ -1,7 +1,7 @@
 /** The board: the drawing as SVG, faint as drawn beneath what is placed, with its marks. */
 import { svg, colourOf } from './nodes.js';
 import { View } from './view.js';
-import { Marks } from './marks.js';
+import { Marks, markItem } from './marks.js';
 import { Layer } from './layer.js';
 import { shapeItem, pointItem, stillNodes, viewsOf, drawnView, isIn, shownPoints, middleOf, line, ring } from './shapes.js';
 
@@ -24,7 +24,7 @@ export class Board {
     this.overlay = null;
     this.other = null;
     this.blamed = new Set();
-    this.markPlaces = new Map();
+    this.placed = { shown: '', marks: [] };
     this.waits = false;
   }
 
@@ -51,7 +51,6 @@ export class Board {
     const { width, height } = this.size();
     const { drawing, judgement } = this.overlay ? { drawing: NOTHING, judgement: null } : this.answer;
     const views = this.overlay ? [] : viewsOf(this.answer);
-    this.node.setAttribute('viewBox', `0 0 ${width} ${height}`);
     this.groups.grid.replaceChildren(...this.grid(width, height));
     this.groups.drawn.replaceChildren(...(views.length ? stillNodes(drawing.shapes, drawnView(drawing), this.plane) : []));
     this.edges.show(this.edgeItems(drawing, views));
@@ -118,9 +117,16 @@ export class Board {
   markItems(marks, judgement) {
     const spare = new Set((judgement?.spare ?? []).map((each) => each.number));
     const blamed = new Set(this.answer.drawing.constraints.filter((each) => this.blamed.has(each.called)).map((each) => each.number));
-    const placing = new Marks(this.plane, (number) => `markgroup ${spare.has(number) ? 'spare' : ''} ${blamed.has(number) ? 'blamed' : ''} ${this.selection.numbers.has(number) ? 'selectedmark' : ''}`);
-    this.markPlaces = placing.places;
-    return [...marks].sort((one, other) => Boolean(other.bar) - Boolean(one.bar)).map((mark, place) => placing.item(mark, place));
+    const kind = (number) => `markgroup ${spare.has(number) ? 'spare' : ''} ${blamed.has(number) ? 'blamed' : ''} ${this.selection.numbers.has(number) ? 'selectedmark' : ''}`;
+    const { scale, x, y } = this.plane;
+    const shown = JSON.stringify([scale, x, y, marks]);
+    if (shown !== this.placed.shown) this.placed = { shown, marks: new Marks(this.plane).all(marks) };
+    return this.placed.marks.map((mark, place) => markItem(mark, place, kind(mark.number)));
+  }
+
+  /** Where the first mark of a constraint stands, in pixels. */
+  markPlace(number) {
+    return this.placed.marks.find((each) => each.number === number)?.at;
   }
 
   /** Rings at the joints at which parts hang together. */

@@ -162,13 +162,23 @@ export class Gestures {
     this.board.draw();
   }
 
-  /** The cross of the keyboard moves by steps of the grid; Enter clicks there. */
+  /** Pans by an eighth of the board, the way of an arrow. */
+  pan(dx, dy) {
+    const { width, height } = this.board.size();
+    this.board.plane.pan(-dx * width / 8, dy * height / 8);
+    this.board.draw();
+  }
+
+  /** The cross of the keyboard moves by steps of the grid, and the board goes with it; Enter clicks there. */
   step(dx, dy) {
     const { plane } = this.board;
     const { width, height } = this.board.size();
     const from = this.board.cross ?? plane.rounded(plane.toPlane([width / 2, height / 2]));
     const step = plane.step() / 2;
     this.board.cross = [from[0] + dx * step, from[1] + dy * step].map((each) => Math.round(each * 1000) / 1000);
+    const [x, y] = plane.toScreen(this.board.cross);
+    const within = (place, size) => Math.min(Math.max(place, 24), size - 24);
+    plane.pan(within(x, width) - x, within(y, height) - y);
     this.tell(`cross at ${this.board.cross.join(' ')} mm`);
     this.hover(plane.toScreen(this.board.cross), false);
     this.board.draw();

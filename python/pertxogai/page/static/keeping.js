@@ -52,7 +52,7 @@ export class Keeping {
     if (here) this.channel.postMessage({ also: this.name });
     if (gone) this.others.delete(gone);
     else this.others.add(here ?? also);
-    this.tell(this.others.size === 0 ? '' : 'The board is open in another tab too. Each tab has its own drawing; the one that was changed last is shown anew, the other stands in the gallery.');
+    this.tell('tabs', this.others.size === 0 ? '' : 'The board is open in another tab too. Each tab has its own drawing; the one that was changed last is shown anew, the other stands in the gallery.');
   }
 
   /** Writes a value, if the browser lets it. */
@@ -60,7 +60,7 @@ export class Keeping {
     try {
       localStorage.setItem(key, JSON.stringify(value));
     } catch {
-      this.tell('This browser keeps nothing: save the drawing before you close the page.');
+      this.tell('keeping', 'This browser keeps nothing: save the drawing before you close the page.');
     }
   }
 

@@ -9,6 +9,7 @@ export const KEYS = [
   ['[ ]', 'select the point or shape before or after; with Shift add it'],
   ['Alt+letter', 'ask for the constraint of the bar that shows the letter'],
   ['Alt+Arrows', 'move what is selected'],
+  ['Ctrl+Arrows', 'on the board: pan'],
   ['X', 'construction line, or edge again'],
   ['F2', 'name what is selected'],
   ['Delete', 'take away what is selected'],
@@ -40,7 +41,11 @@ export class Keys {
 
   /** A key with Ctrl. */
   chord(event, typing) {
-    const { paper, files } = this.parts;
+    const { paper, files, gestures } = this.parts;
+    if (ARROWS[event.key] && onBoard(event)) {
+      gestures.pan(...ARROWS[event.key]);
+      return true;
+    }
     switch (event.key.toLowerCase()) {
       case 's': files.save(); return true;
       case 'o': files.input.click(); return true;
@@ -53,18 +58,17 @@ export class Keys {
   /** A key alone, with Shift or Alt. */
   plain(event) {
     const { offers, gestures, selection } = this.parts;
-    const onBoard = event.target.closest('#board') || event.target === document.body;
     const arrow = ARROWS[event.key];
     if (event.altKey) {
       if (arrow) gestures.shift(...arrow);
       else offers.node.querySelector(`[data-letter="${CSS.escape(event.key.toLowerCase())}"]`)?.click();
       return true;
     }
-    if (arrow && onBoard) {
+    if (arrow && onBoard(event)) {
       gestures.step(...arrow.map((each) => each * (event.shiftKey ? 10 : 1)));
       return true;
     }
-    if (event.key === 'Enter' && onBoard) {
+    if (event.key === 'Enter' && onBoard(event)) {
       const [number] = selection.numbers;
       if (number) offers.change(number);
       else gestures.enter(false, event.shiftKey);
@@ -90,4 +94,9 @@ export class Keys {
     else return false;
     return true;
   }
+}
+
+/** Whether a key is pressed on the board, or nowhere else. */
+function onBoard(event) {
+  return event.target.closest('#board') || event.target === document.body;
 }

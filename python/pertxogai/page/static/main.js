@@ -39,10 +39,9 @@ function start() {
     byId('hint').textContent = text;
   }
 
-  /** Shows a line over the whole page, or none. */
-  function banner(text) {
-    byId('banner').textContent = text;
-    byId('banner').hidden = !text;
+  /** Shows a line of the server's, the tabs' or the keeping's over the whole page, or none. */
+  function banner(whose, text) {
+    byId(`told-${whose}`).textContent = text;
   }
 
   /** Hears whether the server is there; once it is again, the drawing is judged. */
@@ -52,12 +51,12 @@ function start() {
       if (stopped) {
         clearInterval(stopped);
         stopped = null;
-        banner('');
+        banner('server', '');
         paper.judge();
       }
       return;
     }
-    banner(text);
+    banner('server', text);
     stopped ??= setInterval(() => server.reached('gallery', {}).catch(() => {}), RETRY);
   }
 

@@ -19,23 +19,19 @@ export function signOf(word) {
 
 /** Finds places for the marks of an answer; those that are taken make the next one step aside. */
 export class Marks {
-  constructor(plane, classes) {
+  constructor(plane) {
     this.plane = plane;
-    this.classes = classes;
     this.rows = new Map();
     this.bars = [];
-    this.places = new Map();
   }
 
-  /** One mark as an item of a layer. */
-  item(mark, key) {
-    const kind = this.classes(mark.number);
-    const { path, text, at } = mark.bar ? this.bar(mark) : this.tag(mark);
-    this.take(at, text);
-    if (!this.places.has(mark.number)) this.places.set(mark.number, at);
-    const made = () => svg('g', { class: kind, 'data-constraint': mark.number },
-      path && svg('path', { class: 'mark', d: path }), svg('text', { x: at[0], y: at[1], class: mark.sign ? 'sign' : 'value' }, text));
-    return [key, `${mark.number} ${kind} ${path} ${at} ${text}`, made];
+  /** All marks with their places, bars first. */
+  all(marks) {
+    return [...marks].sort((one, other) => Boolean(other.bar) - Boolean(one.bar)).map((mark) => {
+      const placed = mark.bar ? this.bar(mark) : this.tag(mark);
+      this.take(placed.at, placed.text);
+      return { number: mark.number, sign: mark.sign, ...placed };
+    });
   }
 
   /** A bar between two places, beside what it measures, with its text. */
@@ -86,6 +82,13 @@ export class Marks {
     const row = Math.floor(y / ROW);
     return [row - 1, row, row + 1].every((near) => (this.rows.get(near) ?? []).every(([u, v, other]) => Math.abs(u - x) > half + other || Math.abs(v - y) > ROW));
   }
+}
+
+/** A placed mark as an item of a layer, in classes. */
+export function markItem({ number, sign, path, text, at }, key, kind) {
+  const made = () => svg('g', { class: kind, 'data-constraint': number },
+    path && svg('path', { class: 'mark', d: path }), svg('text', { x: at[0], y: at[1], class: sign ? 'sign' : 'value' }, text));
+  return [key, `${number} ${kind} ${path} ${at} ${text}`, made];
 }
 
 /** The box of two places, with so much around: left, right, low, high. */

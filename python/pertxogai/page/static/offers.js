@@ -21,7 +21,11 @@ export class Offers {
     const names = [...this.selection.names];
     const found = names.length && !this.paper.refused ? await this.paper.queue(() => this.paper.server.call('offers', { text: this.paper.text, names })) : null;
     if (turn !== this.turn) return;
-    const buttons = [...(found?.offers ?? []).map((offer, place) => this.button(offer, place)), ...this.others(names)];
+    const others = this.others(names);
+    const shown = JSON.stringify([names, [...this.selection.numbers], found?.offers, others.map((each) => each.textContent)]);
+    if (shown === this.shown) return;
+    this.shown = shown;
+    const buttons = [...(found?.offers ?? []).map((offer, place) => this.button(offer, place)), ...others];
     const had = this.node.contains(document.activeElement);
     this.node.replaceChildren(...(buttons.length ? buttons : [html('span', { class: 'quiet' }, 'Select points, shapes or dimensions: what fits them is offered here.')]));
     if (had) (buttons[0] ?? this.board.node).focus();
@@ -73,7 +77,7 @@ export class Offers {
   async change(number) {
     const constraint = this.constraint(number);
     if (!constraint?.value) return;
-    const value = await this.field.ask(constraint.called, constraint.value, this.board.markPlaces.get(number) ?? this.place());
+    const value = await this.field.ask(constraint.called, constraint.value, this.board.markPlace(number) ?? this.place());
     if (value !== null) await this.paper.edit({ do: 'value', number, value });
   }
 
@@ -82,7 +86,7 @@ export class Offers {
     const [number] = this.selection.numbers;
     const [name] = this.selection.names;
     if (number) {
-      const called = await this.field.ask('name of the constraint', this.constraint(number).name ?? '', this.board.markPlaces.get(number) ?? this.place());
+      const called = await this.field.ask('name of the constraint', this.constraint(number).name ?? '', this.board.markPlace(number) ?? this.place());
       if (called !== null) await this.paper.edit({ do: 'call', number, name: called });
     } else if (name) {
       const called = await this.field.ask('name', name, this.place());

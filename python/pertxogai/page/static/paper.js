@@ -60,15 +60,20 @@ export class Paper extends EventTarget {
 
   /** Edits the text that stands by one edit of the server's. Gives whether it was taken. */
   edit(edit) {
-    return this.change('edit', (text) => ({ text, edit }));
+    return this.queue(async () => this.takeChange(await this.edited(this.text, edit)));
+  }
+
+  /** What an edit makes of a text; the constraints aren't told again where they stay as they are. */
+  async edited(text, edit) {
+    const known = this.answer?.text === text ? this.answer.drawing.constraints : null;
+    const answer = await this.server.call('edit', { text, edit, knows: known !== null });
+    if (answer.drawing) answer.drawing.constraints ??= known;
+    return answer;
   }
 
   /** Changes the text by a call that answers another. Gives whether it was taken. */
   change(call, given) {
-    return this.queue(async () => {
-      const answer = await this.server.call(call, given(this.text));
-      return this.takeChange(answer, true);
-    });
+    return this.queue(async () => this.takeChange(await this.server.call(call, given(this.text))));
   }
 
   /** Shows what an edit would make, while a hand moves: only the last of several is asked for. With `lands` the hand lets go, and the edit counts. */
@@ -83,9 +88,9 @@ export class Paper extends EventTarget {
     let seen = this.seen;
     while (this.live) {
       const { edit, base } = this.live;
-      if (seen?.edit !== edit) seen = { edit, answer: await this.server.call('edit', { text: base, edit }) };
+      if (seen?.edit !== edit) seen = { edit, answer: await this.edited(base, edit) };
       const isLast = this.live.edit === edit;
-      if (this.text === base && isLast && this.live.lands) this.takeChange(seen.answer, true);
+      if (this.text === base && isLast && this.live.lands) this.takeChange(seen.answer);
       else if (this.text === base && seen.answer.drawing) this.tell('answer', seen.answer);
       if (isLast) break;
     }
@@ -94,7 +99,7 @@ export class Paper extends EventTarget {
   }
 
   /** Takes the answer of a call that changes the text. */
-  takeChange(answer, pushes) {
+  takeChange(answer) {
     if (answer.trouble || answer.refused) {
       this.tell('trouble', answer.trouble ? answer.trouble.message : answer.refused.what);
       if (!answer.text) {
@@ -102,7 +107,7 @@ export class Paper extends EventTarget {
         return false;
       }
     }
-    if (pushes) this.history.push(answer.text);
+    this.history.push(answer.text);
     this.asked += 1;
     this.tell('text');
     this.take(answer.text, answer);
@@ -122,7 +127,7 @@ export class Paper extends EventTarget {
   async weigh(text, answer) {
     const found = await this.server.call('weigh', { text }).catch((error) => { if (!(error instanceof Stopped)) throw error; });
     if (!found?.spare || this.answer !== answer || this.refused) return;
-    answer.judgement.spare = found.spare;
+    Object.assign(answer.judgement, found);
     this.tell('answer', answer);
   }
 

@@ -44,6 +44,7 @@ export class Texts {
 
   /** A text is being typed: it counts a moment after the last letter. */
   typed() {
+    this.written();
     this.number();
     clearTimeout(this.waits);
     this.waits = setTimeout(() => this.flush(), 250);
@@ -51,13 +52,24 @@ export class Texts {
 
   /** What was typed counts now. */
   flush() {
+    this.written();
     clearTimeout(this.waits);
     this.paper.type(this.area.value);
   }
 
-  /** Shows the text that stands. */
+  /** Shows the text that stands, behind the frame that shows the drawing: a long text takes its time. */
   write() {
-    if (this.area.value !== this.paper.text) this.area.value = this.paper.text;
+    this.number();
+    if (this.area.value === this.paper.text) return;
+    this.area.ariaBusy = 'true';
+    requestAnimationFrame(() => setTimeout(() => this.written()));
+  }
+
+  /** Shows the text now, where it still waits. */
+  written() {
+    if (this.area.ariaBusy !== 'true') return;
+    this.area.ariaBusy = 'false';
+    this.area.value = this.paper.text;
     this.number();
   }
 

@@ -1,0 +1,134 @@
+"""The verdict in words: the lines of the panel beside the board, and what each of them selects."""
+from __future__ import annotations
+
+from collections.abc import Iterator
+from dataclasses import dataclass
+from fractions import Fraction
+
+from ..answers import Judgement, Surplus
+from ..answers.faults import Amount, Failure
+from ..drawing import Drawing
+from ..drawing.numbers import mm_text
+from ..measure import Unit
+from ..reports import Solved, Verdict
+from ..told import JudgedDrawing
+
+MOST_PIECES, MOST_JOINTS = 40, 20
+"""So many of them at most are told."""
+
+
+@dataclass(frozen=True)
+class Line:
+    """A line: how it is set, the list of this name that it stands in, what it selects, the
+    constraint that it selects, or that it takes away, and the part whose colour it has."""
+
+    text: str
+    kind: str = ""
+    list: str = ""
+    selects: tuple[str, ...] = ()
+    constraint: int | None = None
+    takes: int | None = None
+    part: int | None = None
+
+
+def lines_shown(drawing: Drawing, judgement: Judgement) -> list[dict[str, object]]:
+    """All lines, each with what it has."""
+    return [{name: value for name, value in vars(line).items() if value not in ("", (), None)}
+            for line in (*_told(drawing, judgement), *_notes(judgement))]
+
+
+def _told(drawing: Drawing, judgement: Judgement) -> Iterator[Line]:
+    if judgement.failure is not None:
+        return _fault(drawing, judgement.failure)
+    if judgement.verdict is Verdict.WELL:
+        return _well(drawing, judgement)
+    return _open(judgement) if judgement.verdict is Verdict.OPEN else _over(judgement)
+
+
+def _well(drawing: Drawing, judgement: Judgement) -> Iterator[Line]:
+    """How exactly it is placed."""
+    solved = judgement.asked.solved
+    assert isinstance(solved, Solved)
+    yield Line(f"Just as many dimensions as fix it. Placed within {solved.length_tolerance_nm} nm "
+               f"and {solved.angle_tolerance_ppb} ppb.")
+    off = [each for each in JudgedDrawing("", drawing, judgement).worst() if each.amount]
+    for each in off:
+        yield Line(f"measured: at most {each.amount} {each.unit.value} off, "
+                   f"{each.called(drawing)}", "quiet")
+    if not off:
+        yield Line("measured: each constraint holds exactly", "quiet")
+
+
+def _open(judgement: Judgement) -> Iterator[Line]:
+    """What is missing, its pieces, and what ties them."""
+    found = judgement.missing
+    assert found is not None
+    plural = "s" if found.count > 1 else ""
+    yield Line(f"Lacks {found.count} dimension{plural} at least." if found.count
+               else "It doesn’t hold together by triangles.")
+    for piece in found.pieces[:MOST_PIECES]:
+        yield Line(f"piece {piece.number}: {' '.join(piece.elements)}", list="pieces",
+                   selects=piece.elements, part=piece.number)
+    for joint in found.joints[:MOST_JOINTS]:
+        shared = f" share {' '.join(joint.shared)}" if joint.shared else ""
+        yield Line(f"pieces {joint.first.number} and {joint.second.number}{shared}: "
+                   f"{joint.tie.value}", list="what to do", selects=joint.shared)
+
+
+def _over(judgement: Judgement) -> Iterator[Line]:
+    """What may go, and what it would be off."""
+    yield Line("Too many dimensions. One of these may go:" if judgement.surplus
+               else "Too many dimensions, and none can go by itself.")
+    for each in judgement.surplus:
+        yield Line(f"{each.name}: {_surplus(each)}", list="spare constraints", takes=each.number)
+
+
+def _surplus(each: Surplus) -> str:
+    """What of a dimension that may go is known: a repeat, or a contradiction by how much."""
+    if each.off is None:
+        return "may go"
+    if each.repeats():
+        return "a repeat"
+    by = (f"{mm_text(Fraction(each.off.amount, 1000))}\u00a0mm" if each.off.unit is Unit.NM
+          else f"{each.off.amount}\u00a0{each.off.unit.value}")
+    return f"a contradiction by {by}"
+
+
+def _fault(drawing: Drawing, failure: Failure) -> Iterator[Line]:
+    """Where it fails, by how much, and the dimensions beneath."""
+    yield Line("The count is right, and these dimensions can’t be met together.")
+    yield Line(failure.text.strip(), "quiet")
+    if failure.at:
+        yield Line(f"where {', '.join(failure.at)} meet")
+    if failure.amount:
+        yield Line(_gap(failure.amount))
+    if failure.dimensions:
+        yield Line("Look at:")
+    numbers = {drawing.called(number): number for number in range(1, len(drawing.constraints) + 1)}
+    for name in failure.dimensions:
+        yield Line(name, list="dimensions beneath the fault", constraint=numbers.get(name))
+
+
+def _gap(amount: Amount) -> str:
+    """By how much a number misses what it has to be, or between what it lies where it can't be
+    told from 0."""
+    def told(value: Fraction) -> str:
+        unit = amount.unit.value
+        return f"{float(value):.6g}" + (f"\u00a0{unit}" if unit else "")
+    if amount.low <= 0 <= amount.high:
+        return (f"It lies between {told(amount.low)} and {told(amount.high)}, and can’t be told "
+                "from 0.")
+    return f"It misses by {told(abs(amount.low + amount.high) / 2)}."
+
+
+def _notes(judgement: Judgement) -> Iterator[Line]:
+    """What is to be known beside the verdict."""
+    for warning in judgement.warnings:
+        yield Line(f"look: {warning.text()}", "warning", selects=warning.shapes)
+    for what, names in (
+            ("left out", judgement.left_out), ("taken as drawn", judgement.frozen),
+            ("told by a rounded value", judgement.rounded),
+            ("repeats others, and may go", judgement.repeats),
+            ("its size is told by nothing, so it is as drawn", judgement.undimensioned),
+            ("told by a value that was read off a placed part", judgement.grown)):
+        yield from (Line(f"{what}: {name}", "note") for name in names)
