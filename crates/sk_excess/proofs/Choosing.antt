@@ -6,7 +6,7 @@ use Rattle.sk_base.specs.declared.Elem.{Elem}
 use Rattle.sk_base.specs.declared.ConId.{ConId}
 use Rattle.sk_base.specs.declared.Graph.{Graph}
 use Rattle.sk_base.specs.SoundGraph.{IsSoundGraph}
-use Rattle.sk_base.specs.Numbering.{con_number, con_exact, elem_number, elem_exact}
+use Rattle.sk_base.specs.Numbering.{con_number, elem_number}
 use Rattle.sk_base.specs.Rising.{IsRising}
 use Rattle.sk_base.proofs.Filters.{filter_both}
 use Rattle.sk_base.proofs.Members.{contains_none, contains_head, contains_later, contains_cases, contains_one, contains_mapped, mapped_from}
@@ -118,7 +118,7 @@ module _ (g : Graph) (sound : IsSoundGraph g) (one other : List ConId) (p : AreL
   pub one_list : one ≡ other
   one_list =
       let most = (bound one).0 + (bound other).0 in
-      rising_same con_number con_exact one other p.rise q.rise
+      rising_same con_number one other p.rise q.rise
       (λ k h. (agree_from most k (omega arith)).0 h)
       (λ k h. (agree_from most k (omega arith)).1 h)
 
@@ -176,7 +176,7 @@ module _ (g : Graph) (sound : IsSoundGraph g) where
   module _ (one : IsOneCluster g) where
     whole_is : one.whole.elements ≡ nodes
     whole_is =
-        rising_same elem_number elem_exact one.whole.elements nodes
+        rising_same elem_number one.whole.elements nodes
         ((reached_tight g one.family sound.edges_rise one.normal.reached).family.rising one.whole (whole_in g sound one)).elements
         (pairs_map (λ (x y : Elem). x.0 < y.0) elem_of g.nodes sound.nodes_rise)
         (λ e h. (let (n, n_in, is) = whole_at g sound one e h in subst (λ (d : Elem). Contains nodes d) is (contains_mapped elem_of g.nodes n n_in)))
