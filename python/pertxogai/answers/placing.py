@@ -76,7 +76,8 @@ def along(axis: Spot, upwards: bool, spot: Spot) -> Number:
     """A place along an axis, or `upwards` along its left."""
     (a, b), (x, y) = axis, spot
     if b == 0:
-        return a * y if upwards else a * x
+        value = y if upwards else x
+        return value if a == 1 else a * value
     return a * y - b * x if upwards else a * x + b * y
 
 

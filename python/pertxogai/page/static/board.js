@@ -181,6 +181,13 @@ export class Board {
     this.draw();
   }
 
+  /** Zooms by a factor about the middle. */
+  zoomBy(factor) {
+    const { width, height } = this.size();
+    this.plane.zoom(factor, [width / 2, height / 2]);
+    this.draw();
+  }
+
   /** Some places on a circle or an arc as it is shown. */
   rim(shape) {
     if (shape.radius === undefined) return [];

@@ -79,9 +79,9 @@ export class Keys {
 
   /** A key that means the same wherever the focus is. */
   letter(event) {
-    const { offers, gestures, board, files, help, take } = this.parts;
+    const { offers, gestures, board, files } = this.parts;
     const tool = TOOLS.find((each) => each.key === event.key);
-    if (tool) take(tool.word);
+    if (tool) this.parts.take(tool.word);
     else if (event.key === 'Escape') this.parts.escape();
     else if (event.key === 'Delete' || event.key === 'Backspace') offers.erase();
     else if (event.key === 'F2') offers.rename();
@@ -90,7 +90,7 @@ export class Keys {
     else if (['+', '=', '-'].includes(event.key)) board.zoomBy(event.key === '-' ? 0.8 : 1.25);
     else if (event.key === '0') board.fit();
     else if (event.key === 'g') files.gallery();
-    else if (event.key === '?') help();
+    else if (event.key === '?') this.parts.help();
     else return false;
     return true;
   }

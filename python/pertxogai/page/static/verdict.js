@@ -24,7 +24,7 @@ export class VerdictPanel {
       return;
     }
     const last = this.node.lastElementChild;
-    const list = last.ariaLabel === line.list ? last : html('ul', { 'aria-label': line.list });
+    const list = last.getAttribute('aria-label') === line.list ? last : html('ul', { 'aria-label': line.list });
     if (list !== last) this.node.append(list);
     const erase = () => this.paper.edit({ do: 'erase', constraints: [line.takes] });
     const button = line.takes && html('button', { onclick: erase, 'aria-label': `take away ${line.text.split(': ')[0]}` }, 'Take away');
