@@ -14,7 +14,8 @@ SAYS = (
 VERDICTS = (
     ("well", "just as many dimensions as fix the drawing. It is a count, and looks at no length: what fails then is named"
      " by `solve`, as the step, the quantity, the element, and the interval in which it lies."),
-    ("over", "a dimension is too many. `spare` names those of which each may go."),
+    ("over", "a dimension is too many. `spare` names those of which each may go, and `excess` tells of the later ones whether"
+     " they repeat the others or contradict them, and by how much."),
     ("open", "dimensions are missing, and the rigid parts are listed; or the drawing is rigid in a way that merging"
      " triangles doesn't find. So it means neither flexible nor free of contradictions."),
 )

@@ -15,7 +15,7 @@ const LONE_POINT_REPORT: &[u8] =
 const TRIANGLE: &[u8] =
     b"sketch 1\npoint A 0 0\npoint B 4 0\npoint C 4 3\ndistance A B 4\ndistance A C 5\ndistance B C 3\nend\n";
 
-/// A call of each command that reads.
+/// Calls of the commands that read a whole input first.
 const READERS: &str = "
 $ check
 sketch 1
@@ -269,7 +269,7 @@ length tolerance 0 nm at c2
 angle tolerance 0 ppb at line X
 $ check check
 > 2
-usage: sketch check|plan|solve|dxf|offers|session|grow|migrate|verify|spare|flips|derive|parts [order=first|last|0..65535] [bits=16|27|38] [within=1..1000000] [place=boxes|points] [frame=base|drawn] [n=3..1000]
+usage: sketch check|plan|solve|dxf|offers|session|grow|migrate|verify|spare|flips|derive|parts|live|excess [order=first|last|0..65535] [bits=16|27|38] [within=1..1000000] [place=boxes|points] [frame=base|drawn] [n=3..1000]
 ";
 
 /// Calls with one byte a call of the source and of the sink, where one call of each fails, or none where its

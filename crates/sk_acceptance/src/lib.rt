@@ -19,6 +19,8 @@ mod derived;
 #[cfg(test)]
 mod drawn;
 #[cfg(test)]
+mod excess;
+#[cfg(test)]
 mod faults;
 #[cfg(test)]
 mod flips;
@@ -29,6 +31,8 @@ mod grown;
 mod limits;
 #[cfg(test)]
 mod lists;
+#[cfg(test)]
+mod lives;
 #[cfg(test)]
 mod merges;
 #[cfg(test)]

@@ -1,4 +1,5 @@
-// A source and a sink that move one byte a call, and a source without an end. They tell nothing of content.
+// A source and a sink that move one byte a call, a source that gives so many at a call, and a source without an end. They tell
+// nothing of content.
 ghost use Rattle.std.specs.Prelude.{None};
 
 use sk_io::{Failed, MemSink, MemSource, Sink, Source};
@@ -14,6 +15,8 @@ impl Source for OneByteSource {
     ghost faults = { λ s. s.inner.faults };
 
     ghost is_sure = { λ _. ⊥ };
+
+    ghost is_one_read = { λ _ _. Unit {0} };
 
     fn read(&mut self, buf: &mut [u8]) -> Result<usize, Failed> {
         if buf.is_empty() {
@@ -51,6 +54,28 @@ impl Sink for OneByteSink {
     }
 }
 
+/// A source that gives so many bytes at a call, and the last of them with fewer.
+#[derive(Drop)]
+pub struct PieceSource {
+    pub inner: MemSource,
+    pub most: usize,
+}
+
+impl Source for PieceSource {
+    ghost left = { λ _. None };
+
+    ghost faults = { λ s. s.inner.faults };
+
+    ghost is_sure = { λ _. ⊥ };
+
+    ghost is_one_read = { λ _ _. Unit {0} };
+
+    fn read(&mut self, buf: &mut [u8]) -> Result<usize, Failed> {
+        let most = self.most.min(buf.len());
+        self.inner.read(&mut buf[..most])
+    }
+}
+
 /// Blanks without end.
 #[derive(Drop)]
 pub struct EndlessSource;
@@ -61,6 +86,8 @@ impl Source for EndlessSource {
     ghost faults = { λ _. 0 };
 
     ghost is_sure = { λ _. ⊥ };
+
+    ghost is_one_read = { λ _ _. Unit {0} };
 
     fn read(&mut self, buf: &mut [u8]) -> Result<usize, Failed> {
         buf.fill(b' ');

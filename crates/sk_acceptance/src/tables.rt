@@ -1,8 +1,9 @@
 // The tables of calls, each of which stands in the module of its subject.
 use crate::row::rows_pass;
 use crate::{
-    blocks, checks, damaged, derived, drawn, flips, framed, grown, offers, parts, plans, refusals,
-    refused_claims, sessions, settled, solves, spares, verified, verified_signs, versions,
+    blocks, checks, damaged, derived, drawn, excess, flips, framed, grown, offers, parts, plans,
+    refusals, refused_claims, sessions, settled, solves, spares, verified, verified_signs,
+    versions,
 };
 use std::test::Fail;
 
@@ -43,6 +44,7 @@ fn drawings_are_placed(rt: HostRuntime) -> Result<(), Fail> {
         flips::FLIPS,
         grown::GROWN,
         parts::PARTS,
+        excess::EXCESS,
         blocks::BLOCKS,
         versions::VERSIONS,
         versions::COMMENTS,

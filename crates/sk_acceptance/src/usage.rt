@@ -5,7 +5,7 @@ use std::process::Abort;
 use std::test::Fail;
 
 const USAGE: &str =
-    "usage: sketch check|plan|solve|dxf|offers|session|grow|migrate|verify|spare|flips|derive|parts [order=first|last|0..65535] [bits=16|27|38] [within=1..1000000] [place=boxes|points] [frame=base|drawn] [n=3..1000]\n";
+    "usage: sketch check|plan|solve|dxf|offers|session|grow|migrate|verify|spare|flips|derive|parts|live|excess [order=first|last|0..65535] [bits=16|27|38] [within=1..1000000] [place=boxes|points] [frame=base|drawn] [n=3..1000]\n";
 
 /// The words of a call on each line, between single spaces; the first line has one empty word.
 const NO_FORMS: &str = "

@@ -6,9 +6,9 @@ use Rattle.sk_lang.specs.Canonical.{canonical_2}
 use Rattle.sk_lang.specs.Reading.{Reads}
 use Rattle.sk_lang.specs.Renumbered.{renumbered}
 use Rattle.sk_cli.specs.declared.accounts.Account.{Account}
-use Rattle.sk_cli.specs.declared.accounts.Account.TheVariants.{Judged, Spares, Derived, Migrated, Shapes}
+use Rattle.sk_cli.specs.declared.accounts.Account.TheVariants.{Judged, Spares, Derived, Migrated, Shapes, Excesses}
 use Rattle.sk_request.specs.declared.Command.{Command}
-use Rattle.sk_request.specs.declared.Command.TheVariants.{Check, Plan, Solve, Dxf, Offers, Session, Grow, Migrate, Verify, Spare, Flips, Derive, Parts}
+use Rattle.sk_request.specs.declared.Command.TheVariants.{Check, Plan, Solve, Dxf, Offers, Session, Grow, Migrate, Verify, Spare, Flips, Derive, Parts, Live, Excess}
 use Rattle.sk_request.specs.declared.Request.{Request}
 use Rattle.sk_cli.specs.declared.solving.Report.{Report}
 use Rattle.sk_cli.specs.declared.solving.Report.TheVariants.{Places, Drawing}
@@ -57,12 +57,14 @@ module _ (laws : LawsOfText) where
     answer_moved Spare request one status text answer = account_moved Spares status text answer
     answer_moved Derive request one status text answer = account_moved Derived status text answer
     answer_moved Parts request one status text answer = account_moved (Shapes request) status text answer
+    answer_moved Excess request one status text answer = account_moved (Excesses request) status text answer
     answer_moved Solve request one status text answer = solve_moved Places request status text answer
     answer_moved Dxf request one status text answer = solve_moved Drawing request status text answer
     answer_moved Plan request one Refused text (r, refuses, is) = absurd (laws.not_both a s r.line r.code reads_a refuses)
     answer_moved Plan request one status text (t, reads, told) = (s, reads_b, subst (λ (z : Sketch). IsPlanOrReport request.order z status text) (laws.one_sketch a t s reads reads_a) told)
     answer_moved Offers request one status text answer = absurd one
     answer_moved Session request one status text answer = absurd one
+    answer_moved Live request one status text answer = absurd one
     answer_moved Grow request one status text answer = absurd one
     answer_moved Verify request one status text answer = absurd one
     answer_moved Flips request one status text answer = absurd one

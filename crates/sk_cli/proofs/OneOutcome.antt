@@ -1,7 +1,28 @@
 -- Words and an input have one outcome at most.
-use Rattle.std.proofs.Common.{◌≡◌, ◌⊎◌, inl, inr, ℕ, ◌+◌, ◌<◌, ◌≤◌, List, [], ◌∷◌, ◌++◌, length, refl, sym, ap, ◌∙◌, subst, arith}
+use Rattle.std.proofs.Common.{◌≡◌, ◌⊎◌, inl, inr, ℕ, ◌+◌, ◌<◌, ◌≤◌, List, [], ◌∷◌, ◌++◌, length, refl, sym, ap, ◌∙◌, subst, arith, append_assoc}
 use Rattle.std.specs.Prelude.{take, drop}
 use Rattle.sk_base.specs.declared.ConId.{ConId}
+use Rattle.sk_base.specs.declared.Constraint.{Constraint}
+use Rattle.sk_base.specs.declared.Placed.{Placed}
+use Rattle.sk_flips.specs.declared.Placement.{Placement}
+use Rattle.sk_flips.specs.declared.Placement.TheVariants.{Holds}
+use Rattle.sk_cli.specs.Solved.{IsPlacedPlan}
+use Rattle.sk_base.specs.Numbering.{con_exact}
+use Rattle.sk_base.proofs.Finding.{found_in}
+use Rattle.std.proofs.lemmas.Bool.Decides.{nat_tests}
+use Rattle.std.specs.Prelude.{◌==◌, Bool, ℤ, Option}
+use Rattle.sk_residual.specs.declared.OffBy.{OffBy}
+use Rattle.sk_residual.specs.declared.Turned.{Turned}
+use Rattle.sk_residual.specs.Offs.{HasNumber}
+use Rattle.sk_residual.specs.Telling.{IsCompared}
+use Rattle.sk_residual.specs.Turns.{senses}
+use Rattle.sk_residual.proofs.Numbered.{number_there}
+use Rattle.sk_residual.proofs.OneOff.{one_off, one_compared}
+use Rattle.sk_excess.specs.KeptSketch.{kept_sketch}
+use Rattle.sk_excess.proofs.Choosing.{one_list as one_left}
+use Rattle.sk_excess.proofs.KeptSketches.{kept_is_sound}
+use Rattle.sk_report.specs.ExcessReport.{excess_head, left_lines, off_line}
+use Rattle.sk_cli.specs.ExcessReport.{IsOffThere, AreOffsTold, IsMeasuredLeft, IsFaultyLeft, IsOverLeft, IsExcess, IsPartExcess, AreExcessesTold, over_count}
 use Rattle.sk_base.specs.declared.Name.{Name}
 use Rattle.sk_base.specs.declared.Sketch.{Sketch}
 use Rattle.sk_base.specs.declared.Graph.{Graph}
@@ -54,9 +75,9 @@ use Rattle.sk_claims.proofs.ClaimSoFar.{one_claim, one_refusal as one_claim_refu
 use Rattle.sk_cli.specs.VerifyAnswer.{HasClaim, IsVerified, IsNotVerified, RefusesClaimBehind, IsVerifyRefusal, IsVerifyAnswer}
 use Rattle.sk_worklist.specs.declared.Order.{Order}
 use Rattle.sk_cli.specs.declared.accounts.Account.{Account}
-use Rattle.sk_cli.specs.declared.accounts.Account.TheVariants.{Judged, Spares, Derived, Migrated, Shapes}
+use Rattle.sk_cli.specs.declared.accounts.Account.TheVariants.{Judged, Spares, Derived, Migrated, Shapes, Excesses}
 use Rattle.sk_request.specs.declared.Command.{Command}
-use Rattle.sk_request.specs.declared.Command.TheVariants.{Check, Plan, Solve, Dxf, Offers, Session, Grow, Migrate, Verify, Spare, Flips, Derive, Parts}
+use Rattle.sk_request.specs.declared.Command.TheVariants.{Check, Plan, Solve, Dxf, Offers, Session, Grow, Migrate, Verify, Spare, Flips, Derive, Parts, Live, Excess}
 use Rattle.sk_request.specs.declared.Request.{Request}
 use Rattle.sk_cli.specs.declared.status.Status.{Status}
 use Rattle.sk_cli.specs.declared.status.Status.TheVariants.{Done, Refused, NotWell, NotVerified}
@@ -75,8 +96,10 @@ use Rattle.sk_request.proofs.OneRequest.{same_request}
 use Rattle.sk_flips.proofs.OnePlacement.{same_placement, same_alternatives}
 use Rattle.sk_flips.proofs.FlipsSoFar.{same_flips, same_refusal as one_flips_refusal, read_or_refused}
 use Rattle.sk_plan.proofs.PlanTrees.{some_plan_tree}
-use Rattle.sk_cli.specs.Outcome.{IsAccountOf, IsRefusalText, IsAccountAnswer, IsPlanReport, IsReportNotWell, IsPlanAnswer, IsPlanOrReport, IsSolved, IsSolveAnswer, IsGrowAnswer, IsAnswer, IsAnswerOf, IsOutcome, AreFirstReplies}
-use Rattle.sk_cli.proofs.OneSession.{OneReply, same_replies, front_replies}
+use Rattle.sk_cli.specs.Outcome.{IsAccountOf, IsRefusalText, IsAccountAnswer, IsPlanReport, IsReportNotWell, IsPlanAnswer, IsPlanOrReport, IsSolved, IsSolveAnswer, IsGrowAnswer, IsAnswer, IsAnswerOf, IsOutcome, AreFirstReplies, AreLiveReplies}
+use Rattle.sk_cli.specs.LiveAnswer.{IsLiveAnswer, late_line}
+use Rattle.sk_cli.proofs.OneLive.{told_live, same_live}
+use Rattle.sk_cli.proofs.OneSession.{OneReply, OneSolved, same_replies, front_replies}
 use Rattle.sk_cli.specs.SessionAnswer.{IsSessionAnswer, RepliesToFront, HasEnded, at_start}
 
 -- the laws of the layers below
@@ -180,15 +203,22 @@ same_plan_answer one_sketch one_refusal not_both law laws order bytes status oth
       ]
     ]
 
+-- one plan of a sketch, and one placement of it
+same_placed : (request : Request) (s : Sketch) → IsSoundGraph (graph_of s) → (p p' : ThePlan) (q q' : Placement) → IsPlacedPlan request s p q → IsPlacedPlan request s p' q' → (p ≡ p') × (q ≡ q')
+same_placed request s sound p p' q q' placed placed' =
+    let plan_is = one_plan_by request.order s p p' sound placed.plan placed'.plan in (
+      plan_is,
+      same_placement Drawn (grid_of request.bits) request.layout (digits_of request.bits) request.within s p' placed'.plan.legal (some_plan_tree (graph_of s) p' sound placed'.plan.legal) q q'
+          (subst (λ (z : ThePlan). IsPlacement (grid_of request.bits) request.layout (digits_of request.bits) request.within s z q) plan_is placed.placed) placed'.placed,
+    )
+
 same_solved : OneJudgement → LowerLaws → (report : Report) (request : Request) (s : Sketch) → IsSoundGraph (graph_of s) → (status other : Status) (text another : List ℕ)
     → IsSolved report request s status text → IsSolved report request s other another → (status ≡ other) × (text ≡ another)
 same_solved law laws report request s sound status other text another (inl (p, q, placed, is, text_is)) (inl (p', q', placed', is', text_is')) =
-    let plan_is = one_plan_by request.order s p p' sound placed.plan placed'.plan in
-    let placement_is : q ≡ q' = same_placement Drawn (grid_of request.bits) request.layout (digits_of request.bits) request.within s p' placed'.plan.legal (some_plan_tree (graph_of s) p' sound placed'.plan.legal) q q'
-    (subst (λ (z : ThePlan). IsPlacement (grid_of request.bits) request.layout (digits_of request.bits) request.within s z q) plan_is placed.placed) placed'.placed in (
-      is ∙ ap status_of placement_is ∙ sym is',
-      text_is ∙ ap (λ z. placement_words report (digits_of request.bits) s z q) plan_is
-          ∙ ap (λ z. placement_words report (digits_of request.bits) s p' z) placement_is ∙ sym text_is',
+    let same = same_placed request s sound p p' q q' placed placed' in (
+      is ∙ ap status_of same.1 ∙ sym is',
+      text_is ∙ ap (λ z. placement_words report (digits_of request.bits) s z q) same.0
+          ∙ ap (λ z. placement_words report (digits_of request.bits) s p' z) same.1 ∙ sym text_is',
     )
 same_solved law laws report request s sound status other text another (inl (p, q, placed, is, text_is)) (inr (short, told)) = absurd (still_well law s another placed.plan.well told)
 same_solved law laws report request s sound status other text another (inr (short, told)) (inl (p, q, placed, is, text_is)) = absurd (still_well law s text placed.plan.well told)
@@ -416,6 +446,10 @@ module _ (laws : LowerLaws) (bytes : List ℕ) where
         ]
       ]
 
+-- what `solve` writes of a sound sketch in a session
+pub one_solved : OneJudgement → LowerLaws → OneSolved
+one_solved law laws request s sound status other text another first second = (same_solved law laws Places request s (graph_is_sound s sound) status other text another first second).1
+
 -- a session's replies, or that the input is too long
 pub told_session : (request : Request) (bytes : List ℕ) (status : Status) (text : List ℕ) → IsSessionAnswer request bytes status text
     → ((status ≡ Done) × ((front : RepliesToFront request bytes text) × HasEnded front.state front.after)) ⊎ ((status ≡ Refused) × (1048576 < length bytes) × (text ≡ refusal_line (record { line = 0; code = E20 })))
@@ -430,7 +464,7 @@ same_session law laws request bytes status other text another first second =
       | inl (done, (front, over)) ↦ elim (told_session request bytes other another second) [
         | inl (done', (front', over')) ↦ (
           done ∙ sym done',
-          same_replies laws.reply (λ r s sound a b x y one two. (same_solved law laws Places r s (graph_is_sound s sound) a b x y one two).1) request
+          same_replies laws.reply (one_solved law laws) request
               front.before front.after front'.before front'.after (at_start request.order) (at_start request.order) empty_sound (record { order = refl; edits = refl; count = refl })
               (sym front.parts ∙ front'.parts) front.state front'.state text another front.replied front'.replied over over',
         )
@@ -452,10 +486,30 @@ front_of_outcome law laws words bytes text whole status (request, asks, is, fron
     subst (λ (c : Command). IsAnswerOf c request bytes status whole) is (subst (λ (r : Request). IsAnswer r bytes status whole) same answer) in
     elim (told_session request bytes status whole answer') [
       | inl (done, (all, over)) ↦
-          front_replies laws.reply (λ r s sound a b x y one two. (same_solved law laws Places r s (graph_is_sound s sound) a b x y one two).1) request
+          front_replies laws.reply (one_solved law laws) request
           front.before front.after all.before all.after (at_start request.order) (at_start request.order) empty_sound (record { order = refl; edits = refl; count = refl })
           (sym front.parts ∙ all.parts) front.state all.state text whole front.replied all.replied over
       | inr (refused, long, why) ↦ absurd (omega (arith, long, front.fits))
+    ]
+
+-- and so is what `live` has answered
+pub front_of_live : OneJudgement → LowerLaws → (words : List (List ℕ)) (bytes text whole : List ℕ) (status : Status) → AreLiveReplies words bytes text → IsOutcome words bytes status whole
+    → (behind : List ℕ) × (whole ≡ text ++ behind)
+front_of_live law laws words bytes text whole status (request, asks, is, front) (inr usage) = absurd (usage.0 (request, asks))
+front_of_live law laws words bytes text whole status (request, asks, is, front) (inl (other, asks', answer)) =
+    let same : other ≡ request = same_request words other request asks' asks in
+    let answer' : IsLiveAnswer request bytes status whole =
+    subst (λ (c : Command). IsAnswerOf c request bytes status whole) is (subst (λ (r : Request). IsAnswer r bytes status whole) same answer) in
+    elim (told_live request bytes status whole answer') [
+      | inl (done, (all, over, fits)) ↦
+          front_replies laws.reply (one_solved law laws) request
+          front.before front.after all.before all.after (at_start request.order) (at_start request.order) empty_sound (record { order = refl; edits = refl; count = refl })
+          (sym front.parts ∙ all.parts) front.state all.state text whole front.replied all.replied over
+      | inr (refused, (replies, (all, none, long, why))) ↦
+          let first = front_replies laws.reply (one_solved law laws) request
+          front.before front.after all.before all.after (at_start request.order) (at_start request.order) empty_sound (record { order = refl; edits = refl; count = refl })
+          (sym front.parts ∙ all.parts) front.state all.state text replies front.replied all.replied (subst (λ (zs : List (List ℕ)). HasEnded all.state zs) (sym none) tt) in
+          (first.0 ++ late_line, why ∙ ap (λ (z : List ℕ). z ++ late_line) first.1 ∙ append_assoc text first.0 late_line)
     ]
 
 -- the shape of a sketch
@@ -477,6 +531,80 @@ same_parts law laws request s sound (p ∷ parts) number text another (below, mo
     is ∙ ap (λ t. (part_line s number p ++ t) ++ more) (same_below law laws request s sound p below below' told told')
     ∙ ap (λ t. (part_line s number p ++ below') ++ t) (same_parts law laws request s sound parts (number + 1) more more' rest rest') ∙ sym is'
 
+-- how far off a constraint is
+same_off : (at : Placed) (own : Sketch) (k : ConId) (off other : OffBy) → IsOffThere at own k off → IsOffThere at own k other → off ≡ other
+same_off at own k off other there there' =
+    let found = found_in (λ (x : Constraint). x.number.0 == k.0) own.constraints there.constraint there.numbered in
+    let named : there.constraint.number ≡ k = con_exact there.constraint.number k (grind (arith, nat_tests, found.1)) in
+    let has : HasNumber (graph_of own) k = subst (λ (j : ConId). HasNumber (graph_of own) j) named (number_there own there.constraint found.0) in
+    let one : there.constraint ≡ there'.constraint = (let first = there.numbered in let second = there'.numbered in cc) in
+    let same = one_off at (graph_of own) k has off other there.by there'.by in
+    let turned = one_compared (senses own at k there.constraint.rule) off.turned other.turned there.turned
+    (subst (λ (c : Constraint). IsCompared (senses own at k c.rule) other.turned) (sym one) there'.turned) in
+    let make : Bool → ℤ → Option Turned → OffBy = λ l n t. record { length = l; off = n; turned = t } in
+    ap (λ l. make l off.off off.turned) same.0 ∙ ap (λ n. make other.length n off.turned) same.1 ∙ ap (λ t. make other.length other.off t) turned
+
+same_offs : (limit : ℕ) (at : Placed) (own : Sketch) (left : List ConId) (text another : List ℕ) → AreOffsTold limit own at left text → AreOffsTold limit own at left another → text ≡ another
+same_offs limit at own [] text another is is' = is ∙ sym is'
+same_offs limit at own (k ∷ left) text another (off, more, there, rest, is) (off', more', there', rest', is') =
+    is ∙ ap (λ o. off_line own limit k o ++ more) (same_off at own k off off' there there')
+    ∙ ap (λ t. off_line own limit k off' ++ t) (same_offs limit at own left more more' rest rest') ∙ sym is'
+
+-- what is told of what is left out of a part that is over
+same_left : (request : Request) (own : Sketch) → IsSoundSketch own → (left : List ConId) (text another : List ℕ)
+    → IsMeasuredLeft request own left text ⊎ (IsFaultyLeft request own left text ⊎ IsOverLeft own left text)
+    → IsMeasuredLeft request own left another ⊎ (IsFaultyLeft request own left another ⊎ IsOverLeft own left another) → text ≡ another
+same_left request own own_sound left text another = by
+  where
+    sound : IsSoundGraph (graph_of (kept_sketch left own))
+    sound = graph_is_sound (kept_sketch left own) (kept_is_sound left own own_sound)
+
+    not_both_ways : (m : IsMeasuredLeft request own left text) (f : IsFaultyLeft request own left another) → ⊥
+    not_both_ways m f = (
+        let same = same_placed request (kept_sketch left own) sound m.plan f.plan (Holds m.at m.tolerance) f.placement m.placed f.placed in
+        f.fails (ap status_of (sym same.1)))
+
+    nor_so : (f : IsFaultyLeft request own left text) (m : IsMeasuredLeft request own left another) → ⊥
+    nor_so f m = (
+        let same = same_placed request (kept_sketch left own) sound m.plan f.plan (Holds m.at m.tolerance) f.placement m.placed f.placed in
+        f.fails (ap status_of (sym same.1)))
+
+    by : IsMeasuredLeft request own left text ⊎ (IsFaultyLeft request own left text ⊎ IsOverLeft own left text) → IsMeasuredLeft request own left another ⊎ (IsFaultyLeft request own left another ⊎ IsOverLeft own left another) → text ≡ another
+    by (inl m) (inl n) = (
+        let same = same_placed request (kept_sketch left own) sound m.plan n.plan (Holds m.at m.tolerance) (Holds n.at n.tolerance) m.placed n.placed in
+        let places : m.at ≡ n.at = (let is = same.1 in cc) in
+        same_offs request.within n.at own left text another (subst (λ (z : Placed). AreOffsTold request.within own z left text) places m.told) n.told)
+    by (inl m) (inr (inl f)) = absurd (not_both_ways m f)
+    by (inl m) (inr (inr over)) = absurd (over.0 m.placed.plan.well)
+    by (inr (inl f)) (inl m) = absurd (nor_so f m)
+    by (inr (inl f)) (inr (inl h)) = (
+        let same = same_placed request (kept_sketch left own) sound f.plan h.plan f.placement h.placement f.placed h.placed in
+        f.told ∙ ap (λ z. left_lines own left ++ placement_words Shape (digits_of request.bits) (kept_sketch left own) z f.placement) same.0
+        ∙ ap (λ z. left_lines own left ++ placement_words Shape (digits_of request.bits) (kept_sketch left own) h.plan z) same.1 ∙ sym h.told)
+    by (inr (inl f)) (inr (inr over)) = absurd (over.0 f.placed.plan.well)
+    by (inr (inr over)) (inl m) = absurd (over.0 m.placed.plan.well)
+    by (inr (inr over)) (inr (inl f)) = absurd (over.0 f.placed.plan.well)
+    by (inr (inr over)) (inr (inr other)) = over.1 ∙ sym other.1
+
+same_excess : (request : Request) (own : Sketch) → IsSoundSketch own → (text another : List ℕ) → IsExcess request own text → IsExcess request own another → text ≡ another
+same_excess request own sound text another (left, are, told) (left', are', told') =
+    let same = one_left (graph_of own) (graph_is_sound own sound) left left' are are' in
+    same_left request own sound left' text another (subst (λ (z : List ConId). IsMeasuredLeft request own z text ⊎ (IsFaultyLeft request own z text ⊎ IsOverLeft own z text)) same told) told'
+
+same_part_excess : (request : Request) (s : Sketch) → IsSoundSketch s → (number : ℕ) (p : Part) (text another : List ℕ) → IsPartExcess request s number p text → IsPartExcess request s number p another → text ≡ another
+same_part_excess request s sound number p text another (inl (over, (below, told, is))) (inl (over', (below', told', is'))) =
+    is ∙ ap (λ t. part_line s number p ++ t) (same_excess request (part_sketch s p.elements) (part_is_sound s p.elements sound) below below' told told') ∙ sym is'
+same_part_excess request s sound number p text another (inl (over, told)) (inr (not, is)) = absurd (not over)
+same_part_excess request s sound number p text another (inr (not, is)) (inl (over, told)) = absurd (not over)
+same_part_excess request s sound number p text another (inr (not, is)) (inr (not', is')) = is ∙ sym is'
+
+same_excesses : (request : Request) (s : Sketch) → IsSoundSketch s → (parts : List Part) (number : ℕ) (text another : List ℕ)
+    → AreExcessesTold request s number parts text → AreExcessesTold request s number parts another → text ≡ another
+same_excesses request s sound [] number text another is is' = is ∙ sym is'
+same_excesses request s sound (p ∷ parts) number text another (here, more, told, rest, is) (here', more', told', rest', is') =
+    is ∙ ap (λ t. t ++ more) (same_part_excess request s sound number p here here' told told')
+    ∙ ap (λ t. here' ++ t) (same_excesses request s sound parts (number + 1) more more' rest rest') ∙ sym is'
+
 -- an account of a sketch
 same_account : OneJudgement → LowerLaws → (account : Account) (s : Sketch) → IsSoundSketch s → (text another : List ℕ) → IsAccount account s text → IsAccount account s another → text ≡ another
 same_account law laws Judged s sound text another (j, judged, is) (k, judged', is') = is ∙ ap (λ z. check_report s z) (same_judgement law (graph_of s) j k judged judged') ∙ sym is'
@@ -488,6 +616,10 @@ same_account law laws (Shapes request) s sound text another (j, lines, judged, t
     let same = same_judgement law (graph_of s) j k judged judged' in
     let moved : ArePartsTold request s 1 k.parts lines = subst (λ (z : Judgement). ArePartsTold request s 1 z.parts lines) same told in
     is ∙ ap (λ z. parts_head z ++ lines) same ∙ ap (λ t. parts_head k ++ t) (same_parts law laws request s sound k.parts 1 lines lines' moved told') ∙ sym is'
+same_account law laws (Excesses request) s sound text another (j, lines, judged, told, is) (k, lines', judged', told', is') =
+    let same = same_judgement law (graph_of s) j k judged judged' in
+    let moved : AreExcessesTold request s 1 k.parts lines = subst (λ (z : Judgement). AreExcessesTold request s 1 z.parts lines) same told in
+    is ∙ ap (λ z. excess_head (over_count z.parts) ++ lines) same ∙ ap (λ t. excess_head (over_count k.parts) ++ t) (same_excesses request s sound k.parts 1 lines lines' moved told') ∙ sym is'
 
 same_account_of : OneSketch → OneJudgement → LowerLaws → (account : Account) (bytes text another : List ℕ) → IsAccountOf account bytes text → IsAccountOf account bytes another → text ≡ another
 same_account_of one_sketch law laws account bytes text another (s, reads, told) (t, reads', told') =
@@ -526,9 +658,13 @@ same_answer one_sketch one_refusal not_both law laws Derive request fit bytes st
     same_accounted one_sketch one_refusal not_both law laws Derived bytes status other text another first second
 same_answer one_sketch one_refusal not_both law laws Parts request fit bytes status other text another first second =
     same_accounted one_sketch one_refusal not_both law laws (Shapes request) bytes status other text another first second
+same_answer one_sketch one_refusal not_both law laws Excess request fit bytes status other text another first second =
+    same_accounted one_sketch one_refusal not_both law laws (Excesses request) bytes status other text another first second
 same_answer one_sketch one_refusal not_both law laws Offers request fit bytes status other text another first second = same_offers laws law bytes status other text another first second
 same_answer one_sketch one_refusal not_both law laws Verify request fit bytes status other text another first second = same_verify laws bytes status other text another first second
 same_answer one_sketch one_refusal not_both law laws Flips request fit bytes status other text another first second = same_flips_answer law laws request bytes status other text another first second
+same_answer one_sketch one_refusal not_both law laws Live request fit bytes status other text another first second =
+    same_live laws.reply (one_solved law laws) request bytes status other text another first second
 same_answer one_sketch one_refusal not_both law laws Session request fit bytes status other text another first second = same_session law laws request bytes status other text another first second
 same_answer one_sketch one_refusal not_both law laws Solve request fit bytes status other text another first second =
     same_solve_answer one_sketch one_refusal not_both law laws Places request bytes status other text another first second

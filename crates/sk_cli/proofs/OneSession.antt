@@ -50,15 +50,15 @@ module _ (one_reply : OneReply) (one_solved : OneSolved) (request : Request) whe
   same_text s sound reply.End text another first second = first ∙ sym second
 
   -- the next line of one session is the end, and of the other it isn't
-  not_ended : (old other : State) → IsSoundSketch (sketch_in old) → IsSameElse old other → (line : List ℕ) (lines : List (List ℕ)) → HasEnded old (line ∷ lines)
+  pub not_ended : (old other : State) → IsSoundSketch (sketch_in old) → IsSameElse old other → (line : List ℕ) (lines : List (List ℕ)) → HasEnded old (line ∷ lines)
       → (r : Reply) (next : State) (text : List ℕ) → IsReplied request other line next r text → r ≢ reply.End → ⊥
   not_ended old other sound same line lines (new, ends) r next text replied goes_on =
       goes_on (sym (one_reply old other new next line reply.End r sound same ends replied.answers).0)
 
-  same_else_back : (old other : State) → IsSameElse old other → IsSameElse other old
+  pub same_else_back : (old other : State) → IsSameElse old other → IsSameElse other old
   same_else_back old other same = record { order = sym same.order; edits = sym same.edits; count = sym same.count }
 
-  sound_else : (old other : State) → IsSameElse old other → IsSoundSketch (sketch_in old) → IsSoundSketch (sketch_in other)
+  pub sound_else : (old other : State) → IsSameElse old other → IsSoundSketch (sketch_in old) → IsSoundSketch (sketch_in other)
   sound_else old other same sound = subst (λ (edits : List Edit). IsSoundSketch (sketch_of edits)) (sym same.edits) sound
 
   -- what a session has answered where it stops is a front of what it answers up to its end

@@ -228,6 +228,10 @@ module _ (report : Report) (request : Request) (s : Sketch) (status : Status) (t
       } in
       subst (λ (z : Placed). HoldsAt request s p z t) (sym is) fit
 
+  -- what is placed and holds
+  pub held_so : IsSoundGraph (graph_of s) → (p : ThePlan) → IsItsPlan request s p → (at : Placed) (t : Tolerance) → IsPlacedSo request s p (Holds at t) → HoldsAt request s p at t
+  held_so sound p its at t there = held_there sound p its (midpoints (digits_of request.bits) there.0) at t (there.0, there.1, refl) there.2.0 there.2.1 there.2.2 there.2.3
+
   held_text : IsSoundGraph (graph_of s) → (p : ThePlan) → IsItsPlan request s p → (q : Placement) → IsPlacedSo request s p q → status_of q ≡ Done → text ≡ placement_words report (digits_of request.bits) s p q
       → (at : Placed) × (t : Tolerance) × HoldsAt request s p at t × (text ≡ report_words report (digits_of request.bits) s p at t)
   held_text sound p its q placed same is =

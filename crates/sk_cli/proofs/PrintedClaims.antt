@@ -68,7 +68,7 @@ limit_said [] n is = omega arith
 limit_said (v ∷ []) n is = is.2
 limit_said (v ∷ w ∷ more) n is = absurd is
 
-limit_small : (words : List (List ℕ)) (request : Request) → Asks words request → request.within ≤ 1000000
+pub limit_small : (words : List (List ℕ)) (request : Request) → Asks words request → request.within ≤ 1000000
 limit_small [] request asks = absurd asks
 limit_small (command ∷ keys) request asks = limit_said (values_of WithinKey keys) request.within asks.1.within
 

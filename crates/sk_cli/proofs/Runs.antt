@@ -1,6 +1,6 @@
 -- How a call ends, from its parts. The answer to the bytes that were taken is the answer to all bytes,
 -- since 1,048,577 bytes are too many however they go on.
-use Rattle.std.proofs.Common.{◌≡◌, ℕ, ◌≤◌, List, [], length, take, refl, sym, subst, ap, ◌∙◌, inl, inr, arith, None, Some, Option}
+use Rattle.std.proofs.Common.{◌≡◌, ◌≢◌, ℕ, ◌≤◌, List, [], length, take, refl, sym, subst, ap, ◌∙◌, inl, inr, arith, None, Some, Option}
 use Rattle.std.proofs.lemmas.Bool.{cases_lt}
 use Rattle.std.proofs.lemmas.List.{append-nil, take_all, length-take}
 use Rattle.std.specs.Prelude.{IfSome, drop}
@@ -17,9 +17,9 @@ use Rattle.sk_cli.specs.FlipsReport.{RefusesFlipsBehind}
 use Rattle.sk_cli.specs.OffersReport.{RefusesOffersBehind}
 use Rattle.sk_cli.specs.VerifyAnswer.{RefusesClaimBehind}
 use Rattle.sk_cli.specs.declared.accounts.Account.{Account}
-use Rattle.sk_cli.specs.declared.accounts.Account.TheVariants.{Judged, Spares, Derived, Migrated, Shapes}
+use Rattle.sk_cli.specs.declared.accounts.Account.TheVariants.{Judged, Spares, Derived, Migrated, Shapes, Excesses}
 use Rattle.sk_request.specs.declared.Command.{Command}
-use Rattle.sk_request.specs.declared.Command.TheVariants.{Check, Plan, Solve, Dxf, Offers, Session, Grow, Migrate, Verify, Spare, Flips, Derive, Parts}
+use Rattle.sk_request.specs.declared.Command.TheVariants.{Check, Plan, Solve, Dxf, Offers, Session, Grow, Migrate, Verify, Spare, Flips, Derive, Parts, Live, Excess}
 use Rattle.sk_flips.specs.declared.Placement.{Placement}
 use Rattle.sk_request.specs.declared.Request.{Request}
 use Rattle.sk_cli.specs.declared.solving.Report.{Report}
@@ -32,6 +32,7 @@ use Rattle.sk_request.proofs.OneRequest.{same_request}
 use Rattle.sk_cli.specs.Solving.{status_of}
 use Rattle.sk_cli.specs.Outcome.{IsOutcome, IsAnswer, IsAnswerOf, IsAccountAnswer, IsSolved, IsWritten, usage_line}
 use Rattle.sk_cli.specs.SessionAnswer.{RepliesToFront}
+use Rattle.sk_cli.specs.LiveEnding.{LiveEnds, AllLiveFit}
 use Rattle.sk_cli.specs.SessionEnding.{SessionEnds}
 use Rattle.sk_cli.specs.Ending.{IsTold, Ends, Sends}
 
@@ -76,51 +77,53 @@ still_accounted text bytes long longer account Done out answer = absurd (omega (
 still_accounted text bytes long longer account Refused out answer = (answer.0, still_refused text bytes long longer answer.0.line answer.0.code answer.1, answer.2)
 still_accounted text bytes long longer account status out answer = absurd answer
 
-still_answered : (text bytes : List ℕ) → length text ≡ 1048577 → 1048577 ≤ length bytes → (command : Command) (request : Request) (status : Status) (out : List ℕ) → IsAnswerOf command request text status out → IsAnswerOf command request bytes status out
-still_answered text bytes long longer Check request status out answer = still_accounted text bytes long longer Judged status out answer
-still_answered text bytes long longer Migrate request status out answer = still_accounted text bytes long longer Migrated status out answer
-still_answered text bytes long longer Spare request status out answer = still_accounted text bytes long longer Spares status out answer
-still_answered text bytes long longer Derive request status out answer = still_accounted text bytes long longer Derived status out answer
-still_answered text bytes long longer Parts request status out answer = still_accounted text bytes long longer (Shapes request) status out answer
-still_answered text bytes long longer Plan request Refused out answer = (answer.0, still_refused text bytes long longer answer.0.line answer.0.code answer.1, answer.2)
-still_answered text bytes long longer Plan request status out answer = absurd (omega (arith, long, answer.1.fits))
-still_answered text bytes long longer Solve request Refused out answer = (answer.0, still_refused text bytes long longer answer.0.line answer.0.code answer.1, answer.2)
-still_answered text bytes long longer Solve request status out answer = absurd (omega (arith, long, answer.1.fits))
-still_answered text bytes long longer Dxf request Refused out answer = (answer.0, still_refused text bytes long longer answer.0.line answer.0.code answer.1, answer.2)
-still_answered text bytes long longer Dxf request status out answer = absurd (omega (arith, long, answer.1.fits))
-still_answered text bytes long longer Grow request status out answer = answer
-still_answered text bytes long longer Offers request Done out answer = absurd (omega (arith, long, answer.2.fits))
-still_answered text bytes long longer Offers request Refused out answer = (answer.0, still_refused_at RefusesOffersBehind text bytes long longer answer.0 answer.1, answer.2)
-still_answered text bytes long longer Offers request status out answer = absurd answer
-still_answered text bytes long longer Verify request Done out answer = absurd (omega (arith, long, answer.2.sketch.fits))
-still_answered text bytes long longer Verify request NotVerified out answer = absurd (omega (arith, long, answer.3.sketch.fits))
-still_answered text bytes long longer Verify request Refused out answer = (answer.0, still_refused_at RefusesClaimBehind text bytes long longer answer.0 answer.1, answer.2)
-still_answered text bytes long longer Verify request status out answer = absurd answer
-still_answered text bytes long longer Flips request Refused out answer = (answer.0, still_refused_at RefusesFlipsBehind text bytes long longer answer.0 answer.1, answer.2)
-still_answered text bytes long longer Flips request status out answer = absurd (omega (arith, long, answer.2.0.fits))
-still_answered text bytes long longer Session request Done out answer = absurd (omega (arith, long, answer.0.fits))
-still_answered text bytes long longer Session request Refused out answer = (omega (arith, longer), answer.1)
-still_answered text bytes long longer Session request status out answer = absurd answer
+still_answered : (text bytes : List ℕ) → length text ≡ 1048577 → 1048577 ≤ length bytes → (command : Command) → command ≢ Live → (request : Request) (status : Status) (out : List ℕ) → IsAnswerOf command request text status out → IsAnswerOf command request bytes status out
+still_answered text bytes long longer Check whole request status out answer = still_accounted text bytes long longer Judged status out answer
+still_answered text bytes long longer Migrate whole request status out answer = still_accounted text bytes long longer Migrated status out answer
+still_answered text bytes long longer Spare whole request status out answer = still_accounted text bytes long longer Spares status out answer
+still_answered text bytes long longer Derive whole request status out answer = still_accounted text bytes long longer Derived status out answer
+still_answered text bytes long longer Parts whole request status out answer = still_accounted text bytes long longer (Shapes request) status out answer
+still_answered text bytes long longer Excess whole request status out answer = still_accounted text bytes long longer (Excesses request) status out answer
+still_answered text bytes long longer Plan whole request Refused out answer = (answer.0, still_refused text bytes long longer answer.0.line answer.0.code answer.1, answer.2)
+still_answered text bytes long longer Plan whole request status out answer = absurd (omega (arith, long, answer.1.fits))
+still_answered text bytes long longer Solve whole request Refused out answer = (answer.0, still_refused text bytes long longer answer.0.line answer.0.code answer.1, answer.2)
+still_answered text bytes long longer Solve whole request status out answer = absurd (omega (arith, long, answer.1.fits))
+still_answered text bytes long longer Dxf whole request Refused out answer = (answer.0, still_refused text bytes long longer answer.0.line answer.0.code answer.1, answer.2)
+still_answered text bytes long longer Dxf whole request status out answer = absurd (omega (arith, long, answer.1.fits))
+still_answered text bytes long longer Grow whole request status out answer = answer
+still_answered text bytes long longer Offers whole request Done out answer = absurd (omega (arith, long, answer.2.fits))
+still_answered text bytes long longer Offers whole request Refused out answer = (answer.0, still_refused_at RefusesOffersBehind text bytes long longer answer.0 answer.1, answer.2)
+still_answered text bytes long longer Offers whole request status out answer = absurd answer
+still_answered text bytes long longer Verify whole request Done out answer = absurd (omega (arith, long, answer.2.sketch.fits))
+still_answered text bytes long longer Verify whole request NotVerified out answer = absurd (omega (arith, long, answer.3.sketch.fits))
+still_answered text bytes long longer Verify whole request Refused out answer = (answer.0, still_refused_at RefusesClaimBehind text bytes long longer answer.0 answer.1, answer.2)
+still_answered text bytes long longer Verify whole request status out answer = absurd answer
+still_answered text bytes long longer Flips whole request Refused out answer = (answer.0, still_refused_at RefusesFlipsBehind text bytes long longer answer.0 answer.1, answer.2)
+still_answered text bytes long longer Flips whole request status out answer = absurd (omega (arith, long, answer.2.0.fits))
+still_answered text bytes long longer Session whole request Done out answer = absurd (omega (arith, long, answer.0.fits))
+still_answered text bytes long longer Session whole request Refused out answer = (omega (arith, longer), answer.1)
+still_answered text bytes long longer Session whole request status out answer = absurd answer
+still_answered text bytes long longer Live whole request status out answer = absurd (whole refl)
 
 -- an answer to what was taken is one to all
-answer_of_front : (text bytes : List ℕ) → text ≡ take 1048577 bytes → (request : Request) (status : Status) (out : List ℕ) → IsAnswer request text status out → IsAnswer request bytes status out
-answer_of_front text bytes front request status out answer =
+answer_of_front : (text bytes : List ℕ) → text ≡ take 1048577 bytes → (request : Request) → request.command ≢ Live → (status : Status) (out : List ℕ) → IsAnswer request text status out → IsAnswer request bytes status out
+answer_of_front text bytes front request whole status out answer =
     elim (cases_lt 1048577 (length bytes)) [
       | inl more ↦
           let long : length text ≡ 1048577 = ap length front ∙ length-take 1048577 bytes ∙ omega arith in
-          still_answered text bytes long (omega (arith, more)) request.command request status out answer
+          still_answered text bytes long (omega (arith, more)) request.command whole request status out answer
       | inr few ↦ let whole : text ≡ bytes = front ∙ take_all 1048577 bytes few in rw whole at answer
     ]
 
 -- an answer to what was taken is one to what is told
-told_answer : (left behind : Option (List ℕ)) (taken : List ℕ) (command : Command) (request : Request) (status : Status) (out : List ℕ) → request.command ≡ command
+told_answer : (left behind : Option (List ℕ)) (taken : List ℕ) (command : Command) (request : Request) → request.command ≢ Live → (status : Status) (out : List ℕ) → request.command ≡ command
     → length taken ≤ 1048577 → (TakesInput command → TakesUpTo 1048577 left behind taken) → IsAnswer request taken status out
     → (bytes : List ℕ) × IsTold left bytes × IsAnswer request bytes status out
-told_answer left behind taken Grow request status out is few takes answer =
+told_answer left behind taken Grow request whole status out is few takes answer =
     let told = told_bytes left in
     (told.0, told.1, subst (λ c. IsAnswerOf c request told.0 status out) (sym is) (subst (λ c. IsAnswerOf c request taken status out) is answer))
-told_answer left behind taken command request status out is few takes answer =
-    let from = taken_from 1048577 left behind taken few (takes tt) in (from.0, from.1, answer_of_front taken from.0 from.2 request status out answer)
+told_answer left behind taken command request whole status out is few takes answer =
+    let from = taken_from 1048577 left behind taken few (takes tt) in (from.0, from.1, answer_of_front taken from.0 from.2 request whole status out answer)
 
 -- words whose command takes no input don't ask for it
 pub asked_input : (words : List (List ℕ)) (request : Request) → Asks words request → AskForInput words → TakesInput request.command
@@ -160,6 +163,8 @@ no_read_fault Verify request bytes text answer = answer
 no_read_fault Spare request bytes text answer = answer
 no_read_fault Derive request bytes text answer = answer
 no_read_fault Parts request bytes text answer = answer
+no_read_fault Live request bytes text answer = answer
+no_read_fault Excess request bytes text answer = answer
 
 no_want : (command : Command) (request : Request) (bytes text : List ℕ) → ¬ IsAnswerOf command request bytes NoMemory text
 no_want Check request bytes text answer = answer
@@ -175,6 +180,8 @@ no_want Verify request bytes text answer = answer
 no_want Spare request bytes text answer = answer
 no_want Derive request bytes text answer = answer
 no_want Parts request bytes text answer = answer
+no_want Live request bytes text answer = answer
+no_want Excess request bytes text answer = answer
 
 no_write_fault : (command : Command) (request : Request) (bytes text : List ℕ) → ¬ IsAnswerOf command request bytes WriteFault text
 no_write_fault Check request bytes text answer = answer
@@ -190,6 +197,8 @@ no_write_fault Verify request bytes text answer = answer
 no_write_fault Spare request bytes text answer = answer
 no_write_fault Derive request bytes text answer = answer
 no_write_fault Parts request bytes text answer = answer
+no_write_fault Live request bytes text answer = answer
+no_write_fault Excess request bytes text answer = answer
 
 outcome_no_read_fault : (words : List (List ℕ)) (bytes text : List ℕ) → ¬ IsOutcome words bytes ReadFault text
 outcome_no_read_fault words bytes text outcome = elim outcome [ inl asked ↦ no_read_fault asked.0.command asked.0 bytes text asked.2 | inr usage ↦ (let same = usage.1 in cc) ]
@@ -219,10 +228,10 @@ usage_ends words left old new text result no_form is_usage sent =
     (told.0, ends.0, told.1, ends.1, ends.2)
 
 pub answer_ends : (words : List (List ℕ)) (left behind old new : Option (List ℕ)) (taken : List ℕ) (request : Request) (given : Status) (text : List ℕ) (result : Status)
-    → Asks words request → length taken ≤ 1048577 → (TakesInput request.command → TakesUpTo 1048577 left behind taken) → IsAnswer request taken given text → Sends old new given text result
+    → Asks words request → request.command ≢ Live → length taken ≤ 1048577 → (TakesInput request.command → TakesUpTo 1048577 left behind taken) → IsAnswer request taken given text → Sends old new given text result
     → (bytes : List ℕ) × (gained : List ℕ) × IsTold left bytes × Appends old new gained × Ends words bytes result gained
-answer_ends words left behind old new taken request given text result asks few takes answer sent =
-    let told = told_answer left behind taken request.command request given text refl few takes answer in
+answer_ends words left behind old new taken request given text result asks whole few takes answer sent =
+    let told = told_answer left behind taken request.command request whole given text refl few takes answer in
     let ends = sent_ends words told.0 old new given text result (inl (request, asks, told.2)) sent in
     (told.0, ends.0, told.1, ends.1, ends.2)
 
@@ -237,9 +246,9 @@ no_form words none (request, asks) = none request asks
 -- the room that every outcome has is that of the answer to what was taken
 pub answer_room : (words : List (List ℕ)) (left behind : Option (List ℕ)) (taken : List ℕ) (request : Request) (given : Status) (text : List ℕ) (room : ℕ)
     → ((bytes out : List ℕ) → IsTold left bytes → IsWritten words bytes out → length out ≤ room)
-    → Asks words request → length taken ≤ 1048577 → (TakesInput request.command → TakesUpTo 1048577 left behind taken) → IsAnswer request taken given text → length text ≤ room
-answer_room words left behind taken request given text room each asks few takes answer =
-    let told = told_answer left behind taken request.command request given text refl few takes answer in each told.0 text told.1 (inl (given, inl (request, asks, told.2)))
+    → Asks words request → request.command ≢ Live → length taken ≤ 1048577 → (TakesInput request.command → TakesUpTo 1048577 left behind taken) → IsAnswer request taken given text → length text ≤ room
+answer_room words left behind taken request given text room each asks whole few takes answer =
+    let told = told_answer left behind taken request.command request whole given text refl few takes answer in each told.0 text told.1 (inl (given, inl (request, asks, told.2)))
 
 pub usage_room : (words : List (List ℕ)) (left : Option (List ℕ)) (text : List ℕ) (room : ℕ)
     → ((bytes out : List ℕ) → IsTold left bytes → IsWritten words bytes out → length out ≤ room)
@@ -266,8 +275,8 @@ whole_taken text bytes front fits =
 -- how a call ends that ends as the session
 as_session : (words : List (List ℕ)) (bytes : List ℕ) (request : Request) (result : Status) (gained : List ℕ) → Asks words request → request.command ≡ Session
     → SessionEnds request bytes result gained → Ends words bytes result gained
-as_session words bytes request WriteFault gained asks is (text, n, front, within, taken) = (text, n, inr (request, asks, is, front), within, taken)
-as_session words bytes request NoMemory gained asks is ends = inr (request, asks, is, ends)
+as_session words bytes request WriteFault gained asks is (text, n, front, within, taken) = (text, n, inr (inl (request, asks, is, front)), within, taken)
+as_session words bytes request NoMemory gained asks is ends = inr (inl (request, asks, is, ends))
 as_session words bytes request Done gained asks is ends = inl (request, asks, subst (λ (c : Command). IsAnswerOf c request bytes Done gained) (sym is) ends)
 as_session words bytes request Refused gained asks is ends = inl (request, asks, subst (λ (c : Command). IsAnswerOf c request bytes Refused gained) (sym is) ends)
 as_session words bytes request Usage gained asks is ends = absurd ends
@@ -292,4 +301,30 @@ pub session_room : (words : List (List ℕ)) (left behind : Option (List ℕ)) (
 session_room words left behind taken request room each asks is few takes fits text front =
     let from = taken_from 1048577 left behind taken few takes in
     let whole : taken ≡ from.0 = whole_taken taken from.0 from.2 fits in
-    each from.0 text from.1 (inr (request, asks, is, rw whole at front))
+    each from.0 text from.1 (inr (inl (request, asks, is, rw whole at front)))
+
+-- how a call ends that ends as `live`
+pub as_live : (words : List (List ℕ)) (bytes : List ℕ) (request : Request) (result : Status) (gained : List ℕ) → Asks words request → request.command ≡ Live
+    → LiveEnds request bytes result gained → Ends words bytes result gained
+as_live words bytes request WriteFault gained asks is (text, n, inl some, within, taken) = (text, n, inr (inr (request, asks, is, some)), within, taken)
+as_live words bytes request WriteFault gained asks is (text, n, inr refused, within, taken) =
+    (text, n, inl (Refused, inl (request, asks, subst (λ (c : Command). IsAnswerOf c request bytes Refused text) (sym is) refused)), within, taken)
+as_live words bytes request NoMemory gained asks is ends = inr (inr (request, asks, is, ends))
+as_live words bytes request ReadFault gained asks is ends = ((request, asks, subst (λ (c : Command). TakesInput c) (sym is) tt), inr (request, asks, is, ends))
+as_live words bytes request Done gained asks is ends = inl (request, asks, subst (λ (c : Command). IsAnswerOf c request bytes Done gained) (sym is) ends)
+as_live words bytes request Refused gained asks is ends = inl (request, asks, subst (λ (c : Command). IsAnswerOf c request bytes Refused gained) (sym is) ends)
+as_live words bytes request Usage gained asks is ends = absurd ends
+as_live words bytes request NotWell gained asks is ends = absurd ends
+as_live words bytes request StepFault gained asks is ends = absurd ends
+as_live words bytes request Tolerance gained asks is ends = absurd ends
+as_live words bytes request NotVerified gained asks is ends = absurd ends
+
+pub live_takes : (command : Command) → command ≡ Live → TakesInput command
+live_takes command is = subst (λ (c : Command). TakesInput c) (sym is) tt
+
+pub live_fits : (words : List (List ℕ)) (left : Option (List ℕ)) (request : Request) (room : ℕ)
+    → ((bytes out : List ℕ) → IsTold left bytes → IsWritten words bytes out → length out ≤ room)
+    → Asks words request → request.command ≡ Live → AllLiveFit request left room
+live_fits words left request room each asks is bytes text told (inl some) = each bytes text told (inr (inr (request, asks, is, some)))
+live_fits words left request room each asks is bytes text told (inr refused) =
+    each bytes text told (inl (Refused, inl (request, asks, subst (λ (c : Command). IsAnswerOf c request bytes Refused text) (sym is) refused)))

@@ -8,16 +8,18 @@ use Rattle.sk_session.specs.declared.Reply.TheVariants as reply
 use Rattle.sk_session.specs.State.{State, sketch_in}
 use Rattle.sk_session.proofs.Asked.{OtherBegins, TellsOf, answers_told}
 use Rattle.sk_worklist.specs.declared.Order.{Order}
-use Rattle.sk_request.specs.declared.Command.TheVariants.{Check, Plan, Solve, Session}
+use Rattle.sk_request.specs.declared.Command.TheVariants.{Check, Plan, Solve, Session, Live}
 use Rattle.sk_request.specs.declared.Request.{Request}
 use Rattle.sk_cli.specs.declared.solving.Report.TheVariants.{Places}
 use Rattle.sk_cli.specs.declared.status.Status.{Status}
 use Rattle.sk_cli.specs.declared.status.Status.TheVariants.{Done, NotWell}
 use Rattle.sk_request.specs.Asking.{Asks}
-use Rattle.sk_cli.specs.Headline.{TellsAsAsked, RepliesNext}
+use Rattle.sk_cli.specs.Headline.{TellsAsAsked, RepliesNext, RepliesNextLive}
 use Rattle.sk_cli.specs.Outcome.{IsOutcome, IsSolved}
-use Rattle.sk_cli.specs.SessionAnswer.{IsReplyText, AreReplied, solve_with, at_start}
-use Rattle.sk_cli.proofs.OneOutcome.{OneJudgement, LowerLaws, front_of_outcome}
+use Rattle.sk_turns.specs.InTime.{in_time}
+use Rattle.sk_cli.specs.LiveAnswer.{RepliesInTime}
+use Rattle.sk_cli.specs.SessionAnswer.{IsReplyText, IsReplied, AreReplied, solve_with, at_start}
+use Rattle.sk_cli.proofs.OneOutcome.{OneJudgement, LowerLaws, front_of_outcome, front_of_live}
 use Rattle.sk_cli.proofs.Printed.{OneNormal}
 use Rattle.sk_cli.proofs.Sessions.{Stands, stands_next, front_at, ends_or_not, end_has_none}
 use Rattle.sk_cli.proofs.Telling.{LegalPlans, tells}
@@ -50,16 +52,20 @@ module _ (normal : OneNormal) (plans : LegalPlans) (law : OneJudgement) (laws : 
   tells_asked s sound reply.Write text told says = tt
   tells_asked s sound reply.End text told says = tt
 
+  pub tells_replied : (lines : List (List ℕ)) (state new : State) (before : List ℕ) → AreReplied request (at_start request.order) lines state before → (line : List ℕ) (r : Reply) (text : List ℕ) → IsReplied request state line new r text
+      → TellsAsAsked request (sketch_in new) r text
+  tells_replied lines state new before replied line r text here =
+      let told = (answers_told begins state new line r here.answers).1 in
+      let order = order_kept begins request lines (at_start request.order) state before replied in
+      tells_asked (sketch_in new) here.sound r text (subst (λ (z : Order). TellsOf z (sketch_in new) r) order told) here.says
+
   module _ (bytes before : List ℕ) (new : State) (r : Reply) (text : List ℕ) (next : RepliesNext request bytes before new r text) where
     stands_before : Stands request bytes (next.line ∷ next.lines) next.front.state before
     stands_before = subst (λ (lines : List (List ℕ)). Stands request bytes lines next.front.state before) next.next
         (record { before = next.front.before; parts = next.front.parts; replied = next.front.replied })
 
     pub tells_next : TellsAsAsked request (sketch_in new) r text
-    tells_next =
-        let told = (answers_told begins next.front.state new next.line r next.replied.answers).1 in
-        let order = order_kept begins request next.front.before (at_start request.order) next.front.state before next.front.replied in
-        tells_asked (sketch_in new) next.replied.sound r text (subst (λ (z : Order). TellsOf z (sketch_in new) r) order told) next.replied.says
+    tells_next = tells_replied next.front.before next.front.state new before next.front.replied next.line r text next.replied
 
     -- the reply stands in the text of the outcome
     pub stands_in : (words : List (List ℕ)) (whole : List ℕ) (status : Status) → Asks words request → request.command ≡ Session → IsOutcome words bytes status whole → (behind : List ℕ) × (whole ≡ before ++ (text ++ behind))
@@ -71,5 +77,26 @@ module _ (normal : OneNormal) (plans : LegalPlans) (law : OneJudgement) (laws : 
           | inr goes_on ↦
               let more = front_at request bytes next.lines new (before ++ text) next.front.fits (stands_next request bytes next.line next.lines next.front.state new before text r stands_before next.replied goes_on) in
               let front = front_of_outcome law laws words bytes (before ++ text) whole status (request, asks, session, more) outcome in
+              (front.0, front.1 ∙ append_assoc before text front.0)
+        ]
+
+  module _ (bytes before : List ℕ) (new : State) (r : Reply) (text : List ℕ) (next : RepliesNextLive request bytes before new r text) where
+    pub tells_live : TellsAsAsked request (sketch_in new) r text
+    tells_live = tells_replied next.front.before next.front.state new before next.front.replied next.line r text next.replied
+
+    stands_live : Stands request (in_time bytes) (next.line ∷ next.lines) next.front.state before
+    stands_live = subst (λ (lines : List (List ℕ)). Stands request (in_time bytes) lines next.front.state before) next.next
+        (record { before = next.front.before; parts = next.front.parts; replied = next.front.replied })
+
+    pub stands_in_live : (words : List (List ℕ)) (whole : List ℕ) (status : Status) → Asks words request → request.command ≡ Live → IsOutcome words bytes status whole → (behind : List ℕ) × (whole ≡ before ++ (text ++ behind))
+    stands_in_live words whole status asks live outcome =
+        elim (ends_or_not r) [
+          | inl is ↦
+              let front = front_of_live law laws words bytes before whole status (request, asks, live, next.front) outcome in
+              (front.0, subst (λ (z : List ℕ). whole ≡ before ++ (z ++ front.0)) (sym (end_has_none request next.front.state next.line new r text next.replied is)) front.1)
+          | inr goes_on ↦
+              let on = stands_next request (in_time bytes) next.line next.lines next.front.state new before text r stands_live next.replied goes_on in
+              let more : RepliesInTime request bytes (before ++ text) = record { before = on.before; after = next.lines; parts = on.parts; state = new; replied = on.replied } in
+              let front = front_of_live law laws words bytes (before ++ text) whole status (request, asks, live, more) outcome in
               (front.0, front.1 ∙ append_assoc before text front.0)
         ]

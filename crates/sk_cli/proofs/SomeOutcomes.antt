@@ -2,6 +2,7 @@
 use Rattle.std.proofs.Common.{◌≡◌, ◌≢◌, ◌⊎◌, inl, inr, refl, ℕ, ◌≤◌, ◌<◌, List, [], ◌++◌, Some, length, take, arith}
 use Rattle.std.specs.Prelude.{drop, Contains}
 use Rattle.sk_base.specs.declared.Name.{Name}
+use Rattle.sk_base.specs.declared.ConId.{ConId}
 use Rattle.sk_base.specs.declared.Sketch.{Sketch}
 use Rattle.sk_base.specs.SoundSketch.{IsSoundSketch}
 use Rattle.sk_lines.specs.declared.Code.{Code}
@@ -21,7 +22,7 @@ use Rattle.sk_tree.specs.declared.Plan.{Plan as ThePlan}
 use Rattle.sk_plan.specs.Judged.{IsTheJudgement}
 use Rattle.sk_plan.specs.PlanBy.{fresh, IsPlanBy}
 use Rattle.sk_offers.specs.Offering.{starting_table}
-use Rattle.sk_report.specs.CheckReport.{parts_head, check_report}
+use Rattle.sk_report.specs.CheckReport.{part_line, parts_head, check_report}
 use Rattle.sk_report.specs.PlanReport.{plan_report}
 use Rattle.sk_report.specs.RefusalLine.{refusal_line}
 use Rattle.sk_spare.specs.SpareReport.{spare_report}
@@ -31,11 +32,12 @@ use Rattle.sk_claims.proofs.ClaimSoFar.{some_answer as claim_or_refused}
 use Rattle.sk_claims.proofs.FittingClaims.{read_claim_fits}
 use Rattle.sk_verify.proofs.SomeFailures.{accepted_or_failing}
 use Rattle.sk_cli.specs.declared.accounts.Account.{Account}
-use Rattle.sk_cli.specs.declared.accounts.Account.TheVariants.{Judged, Spares, Derived, Migrated, Shapes}
+use Rattle.sk_cli.specs.declared.accounts.Account.TheVariants.{Judged, Spares, Derived, Migrated, Shapes, Excesses}
 use Rattle.sk_request.specs.declared.Command.{Command}
-use Rattle.sk_request.specs.declared.Command.TheVariants.{Check, Plan, Solve, Dxf, Offers, Session, Grow, Migrate, Verify, Spare, Flips, Derive, Parts}
+use Rattle.sk_request.specs.declared.Command.TheVariants.{Check, Plan, Solve, Dxf, Offers, Session, Grow, Migrate, Verify, Spare, Flips, Derive, Parts, Live, Excess}
 use Rattle.sk_residual.specs.declared.Wanted.TheVariants.{Drawn}
 use Rattle.sk_flips.specs.declared.Placement.{Placement}
+use Rattle.sk_cli.specs.Solved.{IsPlacedPlan}
 use Rattle.sk_flips.specs.declared.Placement.TheVariants.{Fault, Uncarried, Beyond, Turned, Holds}
 use Rattle.sk_request.specs.declared.Request.{Request}
 use Rattle.sk_cli.specs.declared.solving.Report.{Report}
@@ -60,12 +62,20 @@ use Rattle.sk_cli.proofs.SomeSpares.{some_spares}
 use Rattle.sk_derive.proofs.SomeWide.{some_wide}
 use Rattle.sk_session.proofs.SomeReplies.{GivenByLanguage, well_or_not}
 use Rattle.sk_cli.specs.PartsReport.{IsBelowPart}
-use Rattle.sk_cli.proofs.PartsTold.{below_sound, over_or_not, some_told}
+use Rattle.sk_cli.proofs.PartsTold.{never_reported, below_sound, over_or_not, some_told}
+use Rattle.sk_cli.proofs.ExcessTold.{left_numbered, kept_places, some_offs, some_excesses}
+use Rattle.sk_cli.specs.ExcessReport.{IsMeasuredLeft, IsFaultyLeft, IsOverLeft, IsPartExcess, over_count}
+use Rattle.sk_excess.specs.LeftOut.{AreLeftOut}
+use Rattle.sk_excess.specs.KeptSketch.{kept_sketch}
+use Rattle.sk_excess.proofs.Choosing.{some_left_out}
+use Rattle.sk_excess.proofs.KeptSketches.{kept_is_sound}
+use Rattle.sk_parts.proofs.OverParts.{over_is_one}
+use Rattle.sk_report.specs.ExcessReport.{excess_head, left_lines, stays_over}
 use Rattle.sk_parts.specs.OwnSketch.{part_sketch}
 use Rattle.sk_parts.proofs.Drawing.{part_is_sound}
 use Rattle.sk_parts.proofs.Sharing.{some_judged}
 use Rattle.sk_verdict.specs.declared.Part.{Part}
-use Rattle.sk_cli.proofs.SomeSessions.{SomeToSolve, some_session}
+use Rattle.sk_cli.proofs.SomeSessions.{SomeToSolve, some_session, some_live}
 
 -- the laws of the layers below
 pub record LawsBelow : Type 0 where
@@ -120,6 +130,44 @@ some_below request s sketch j judged p p_in =
           (found.1, below_sound request s sketch j judged p p_in not_over found.0 found.1 found.3))
     ]
 
+-- what is told of the own sketch of a part that is over, as the kept sketch is placed, or is over still
+some_left : (request : Request) (own : Sketch) → IsSoundSketch own → 0 < length own.elements → (left : List ConId) → AreLeftOut (graph_of own) left
+    → (text : List ℕ) × (IsMeasuredLeft request own left text ⊎ (IsFaultyLeft request own left text ⊎ IsOverLeft own left text))
+some_left request own sound some left are =
+    let found = solved Shape request (kept_sketch left own) (kept_is_sound left own sound) some in
+    elim found.3 [
+      | inr (short, never) ↦ (left_lines own left ++ stays_over, inr (inr ((λ well. never_reported (kept_sketch left own) found.1 well never), refl)))
+      | inl (p, q, placed, status_is, is) ↦ placed_so p q placed
+    ]
+  where
+    fails : (p : ThePlan) (q : Placement) → IsPlacedPlan request (kept_sketch left own) p q → status_of q ≢ Done → (text : List ℕ) × (IsMeasuredLeft request own left text ⊎ (IsFaultyLeft request own left text ⊎ IsOverLeft own left text))
+    fails p q placed not_done = (
+      left_lines own left ++ placement_words Shape (digits_of request.bits) (kept_sketch left own) p q,
+      inr (inl (record { plan = p; placement = q; placed = placed; fails = not_done; told = refl })),
+    )
+
+    placed_so : (p : ThePlan) (q : Placement) → IsPlacedPlan request (kept_sketch left own) p q → (text : List ℕ) × (IsMeasuredLeft request own left text ⊎ (IsFaultyLeft request own left text ⊎ IsOverLeft own left text))
+    placed_so p (Fault f) placed = fails p (Fault f) placed (λ e. cc)
+    placed_so p (Uncarried f) placed = fails p (Uncarried f) placed (λ e. cc)
+    placed_so p (Beyond b) placed = fails p (Beyond b) placed (λ e. cc)
+    placed_so p (Turned t) placed = fails p (Turned t) placed (λ e. cc)
+    placed_so p (Holds at t) placed = (
+        let told = some_offs request.within own sound at (kept_places own sound request left p at t placed) left (left_numbered own sound left are) in
+        (told.0, inl (record { plan = p; at = at; tolerance = t; placed = placed; told = told.1 })))
+
+-- what is told of a part
+some_part : (request : Request) (s : Sketch) → IsSoundSketch s → (j : Judgement) → IsTheJudgement (graph_of s) j → (p : Part) → Contains j.parts p → (number : ℕ) → (here : List ℕ) × IsPartExcess request s number p here
+some_part request s sketch j judged p p_in number =
+    elim (over_or_not p) [
+      | inr not_over ↦ ([], inr (not_over, refl))
+      | inl over ↦ (
+          let own = part_sketch s p.elements in
+          let own_sound = part_is_sound s p.elements sketch in
+          let left = some_left_out (graph_of own) (graph_is_sound own own_sound) (over_is_one s j p sketch judged p_in over) in
+          let told = some_left request own own_sound (some_judged s j sketch judged p p_in) left.0 left.1 in
+          (part_line s number p ++ told.0, inl (over, (told.0, (left.0, left.1, told.1), refl))))
+    ]
+
 -- what is told of a sketch
 some_account : (account : Account) (s : Sketch) → IsSoundSketch s → (text : List ℕ) × IsAccount account s text
 some_account Judged s sketch = let j = the_judgement_of s sketch in (check_report s j.0, (j.0, j.1, refl))
@@ -130,6 +178,10 @@ some_account (Shapes request) s sketch =
     let j = the_judgement_of s sketch in
     let told = some_told request s j.0.parts (λ p p_in. some_below request s sketch j.0 j.1 p p_in) 1 in
     (parts_head j.0 ++ told.0, (j.0, told.0, j.1, told.1, refl))
+some_account (Excesses request) s sketch =
+    let j = the_judgement_of s sketch in
+    let told = some_excesses request s j.0.parts (λ p number p_in. some_part request s sketch j.0 j.1 p p_in number) 1 in
+    (excess_head (over_count j.0.parts) ++ told.0, (j.0, told.0, j.1, told.1, refl))
 
 accounted : LawsBelow → (account : Account) (bytes : List ℕ) → (status : Status) × (text : List ℕ) × IsAccountAnswer account bytes status text
 accounted laws account bytes =
@@ -247,6 +299,7 @@ answered laws Verify request size bytes = verify_answer laws request bytes
 answered laws Spare request size bytes = accounted laws Spares bytes
 answered laws Derive request size bytes = accounted laws Derived bytes
 answered laws Parts request size bytes = accounted laws (Shapes request) bytes
+answered laws Excess request size bytes = accounted laws (Excesses request) bytes
 answered laws Plan request size bytes = planned_answer laws request bytes
 answered laws Solve request size bytes = solve_answer laws Places request bytes
 answered laws Dxf request size bytes = solve_answer laws Drawing request bytes
@@ -254,6 +307,8 @@ answered laws Offers request size bytes = offers_answer laws request bytes
 answered laws Flips request size bytes = flips_answer laws request bytes
 answered laws Session request size bytes =
     some_session laws.language laws.to_solve (λ asked s sound some. (let found = solved Places asked s sound some in (found.0, found.1, found.3))) request bytes
+answered laws Live request size bytes =
+    some_live laws.language laws.to_solve (λ asked s sound some. (let found = solved Places asked s sound some in (found.0, found.1, found.3))) request bytes
 answered laws Grow request size bytes =
     let n = size refl in
     let found = solved Sums request (datum_sketch n.0) (laws.made n.0 n.2 n.3) (omega arith) in

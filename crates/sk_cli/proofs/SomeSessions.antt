@@ -1,5 +1,5 @@
--- A session has an answer to each input.
-use Rattle.std.proofs.Common.{◌≡◌, ◌≢◌, ◌⊎◌, inl, inr, refl, ℕ, ◌≤◌, ◌<◌, List, [], ◌∷◌, ◌++◌, length, sym, subst}
+-- A session has an answer to each input, and so has `live`.
+use Rattle.std.proofs.Common.{◌≡◌, ◌≢◌, ◌⊎◌, inl, inr, refl, ℕ, ◌<◌, List, [], ◌∷◌, ◌++◌, length, sym, subst}
 use Rattle.std.proofs.lemmas.Bool.{cases_lt}
 use Rattle.sk_base.specs.declared.Sketch.{Sketch}
 use Rattle.sk_base.specs.SoundSketch.{IsSoundSketch}
@@ -21,7 +21,9 @@ use Rattle.sk_request.specs.declared.Request.{Request}
 use Rattle.sk_cli.specs.declared.solving.Report.TheVariants.{Places}
 use Rattle.sk_cli.specs.declared.status.Status.{Status}
 use Rattle.sk_cli.specs.declared.status.Status.TheVariants.{Done, Refused}
-use Rattle.sk_cli.specs.SessionAnswer.{solve_with, IsReplyText, at_start, IsSessionAnswer}
+use Rattle.sk_turns.specs.InTime.{in_time}
+use Rattle.sk_cli.specs.LiveAnswer.{RepliesInTime, IsLiveAnswer, late_line}
+use Rattle.sk_cli.specs.SessionAnswer.{solve_with, IsReplyText, at_start, HasEnded, IsSessionAnswer}
 use Rattle.sk_cli.specs.Solved.{IsSolved}
 use Rattle.sk_cli.specs.Told.{told}
 use Rattle.sk_cli.proofs.Sessions.{told_is_text, ends_or_not, Stands, stands_first, stands_next}
@@ -70,26 +72,48 @@ module _ (language : GivenByLanguage) (some_to_solve : SomeToSolve) (solved : So
       ]
 
   -- from a state on the lines are answered up to the end
-  answered_from : length bytes ≤ 1048576 → (rest : List (List ℕ)) (state : State) (text : List ℕ) → Stands request bytes rest state text → IsKept state → (all : List ℕ) × IsSessionAnswer request bytes Done all
-  answered_from fits [] state text at kept = (text, (record { fits = fits; before = at.before; after = []; parts = at.parts; state = state; replied = at.replied }, tt))
-  answered_from fits (line ∷ rest) state text at kept =
+  pub answered_lines : (rest : List (List ℕ)) (state : State) (text : List ℕ) → Stands request bytes rest state text → IsKept state
+      → (all : List ℕ) × (left : List (List ℕ)) × (end : State) × Stands request bytes left end all × HasEnded end left
+  answered_lines [] state text at kept = (text, [], state, at, tt)
+  answered_lines (line ∷ rest) state text at kept =
       let found = some_reply (given_below language) state kept line in
       elim (ends_or_not found.answer) [
-        | inl is ↦ (text, (record { fits = fits; before = at.before; after = line ∷ rest; parts = at.parts; state = state; replied = at.replied }, (found.new, subst (λ r. Answers state line r found.new) is found.answers)))
+        | inl is ↦ (text, line ∷ rest, state, at, (found.new, subst (λ r. Answers state line r found.new) is found.answers))
         | inr goes_on ↦ (
             let sound = found.kept.2.sound in
             let says = said (sketch_in found.new) found.answer sound (λ is. some_to_solve state found.new line (subst (λ r. Answers state line r found.new) is found.answers)) in
-            answered_from fits rest found.new (text ++ says.0)
+            answered_lines rest found.new (text ++ says.0)
             (stands_next request bytes line rest state found.new text says.0 found.answer at (record { answers = found.answers; sound = sound; says = says.1 }) goes_on)
             found.kept)
       ]
+
+  pub answered_all : (all : List ℕ) × (left : List (List ℕ)) × (end : State) × Stands request bytes left end all × HasEnded end left
+  answered_all =
+      let kept : IsKept (at_start request.order) = ([], refl, consistent_new (initial_clusters (graph_of empty_sketch)) refl) in
+      answered_lines (lines_in bytes) (at_start request.order) [] (stands_first request bytes) kept
 
   pub some_session : (status : Status) × (text : List ℕ) × IsSessionAnswer request bytes status text
   some_session =
       elim (cases_lt 1048576 (length bytes)) [
         | inl long ↦ (Refused, refusal_line (record { line = 0; code = E20 }), (long, refl))
         | inr fits ↦ (
-            let kept : IsKept (at_start request.order) = ([], refl, consistent_new (initial_clusters (graph_of empty_sketch)) refl) in
-            let found = answered_from fits (lines_in bytes) (at_start request.order) [] (stands_first request bytes) kept in
-            (Done, found.0, found.1))
+            let (all, left, end, at, over) = answered_all in
+            (Done, all, (record { fits = fits; before = at.before; after = left; parts = at.parts; state = end; replied = at.replied }, over)))
       ]
+
+abbrev in_time_at : (request : Request) (bytes all : List ℕ) (left : List (List ℕ)) (end : State) → Stands request (in_time bytes) left end all → RepliesInTime request bytes all
+in_time_at request bytes all left end at = record { before = at.before; after = left; parts = at.parts; state = end; replied = at.replied }
+
+-- where the lines in time are answered up to the end, or to the last
+live_at : (request : Request) (bytes all : List ℕ) (left : List (List ℕ)) (end : State) → Stands request (in_time bytes) left end all → HasEnded end left → (status : Status) × (text : List ℕ) × IsLiveAnswer request bytes status text
+live_at request bytes all (line ∷ left) end at over = (Done, all, (in_time_at request bytes all (line ∷ left) end at, over, λ none. cc))
+live_at request bytes all [] end at over =
+    elim (cases_lt 4294967295 (length bytes)) [
+      | inl long ↦ (Refused, all ++ late_line, (all, (in_time_at request bytes all [] end at, refl, long, refl)))
+      | inr fits ↦ (Done, all, (in_time_at request bytes all [] end at, tt, λ none. fits))
+    ]
+
+-- and `live` has one
+pub some_live : GivenByLanguage → SomeToSolve → SomeSolved → (request : Request) (bytes : List ℕ) → (status : Status) × (text : List ℕ) × IsLiveAnswer request bytes status text
+some_live language some_to_solve solved request bytes =
+    let (all, left, end, at, over) = answered_all language some_to_solve solved request (in_time bytes) in live_at request bytes all left end at over

@@ -25,9 +25,9 @@ use Rattle.sk_plan.specs.Judged.{IsTheJudgement}
 use Rattle.sk_plan.specs.Leaves.{HasLeaves}
 use Rattle.sk_report.specs.CheckReport.{check_report}
 use Rattle.sk_worklist.specs.declared.Order.{Order}
-use Rattle.sk_cli.specs.declared.accounts.Account.TheVariants.{Judged, Shapes}
+use Rattle.sk_cli.specs.declared.accounts.Account.TheVariants.{Judged, Shapes, Excesses}
 use Rattle.sk_request.specs.declared.Command.{Command}
-use Rattle.sk_request.specs.declared.Command.TheVariants.{Check, Plan, Solve, Dxf, Offers, Session, Grow, Migrate, Verify, Spare, Flips, Derive, Parts}
+use Rattle.sk_request.specs.declared.Command.TheVariants.{Check, Plan, Solve, Dxf, Offers, Session, Grow, Migrate, Verify, Spare, Flips, Derive, Parts, Live, Excess}
 use Rattle.sk_request.specs.declared.Request.{Request}
 use Rattle.sk_cli.specs.declared.solving.Report.{Report}
 use Rattle.sk_cli.specs.declared.solving.Report.TheVariants.{Shape}
@@ -37,15 +37,19 @@ use Rattle.sk_cli.specs.Accounts.{IsAccount}
 use Rattle.sk_cli.specs.Causes.{plans, solves, IsReportOf, IsSketchOf}
 use Rattle.sk_cli.specs.FlipsReport.{IsFlipped}
 use Rattle.sk_request.specs.Grids.{digits_of}
-use Rattle.sk_cli.specs.Headline.{WritesCheckReport, MayStandBefore, UsesEachOnce, TellsPlaces, TellsParts, Tells}
+use Rattle.sk_cli.specs.Headline.{WritesCheckReport, MayStandBefore, UsesEachOnce, TellsPlaces, TellsParts, TellsKept, TellsExcess, Tells}
 use Rattle.sk_cli.specs.OffersReport.{IsOffersReport, IsOffersAnswer}
 use Rattle.sk_cli.specs.Outcome.{IsAccountOf, IsRefusalText, IsPlanOrReport, IsReportNotWell, IsSolved, IsAnswerOf}
+use Rattle.sk_excess.specs.KeptSketch.{kept_sketch}
+use Rattle.sk_excess.proofs.KeptSketches.{kept_is_sound}
+use Rattle.sk_cli.specs.ExcessReport.{IsExcess, IsExcessReport}
 use Rattle.sk_cli.specs.PartsReport.{IsShape, StandsBelow, EachStands, IsBelowPart, ArePartsTold, IsPartsReport}
 use Rattle.sk_cli.specs.Solved.{IsPlacedPlan}
 use Rattle.sk_cli.specs.Solving.{status_of, placement_words}
 use Rattle.sk_cli.proofs.OneOutcome.{OneSketch, NotBoth, OneJudgement, LowerLaws, told_account, told_plan, told_planned, told_flipped}
-use Rattle.sk_cli.proofs.Printed.{OneNormal, tells_clusters, part_of_sketch, planned_both, planned_text, unplaced, solved_text, failed_text}
-use Rattle.sk_cli.proofs.WhyEnds.{solved_about, not_well_both, planned_not_well, flips_about, flipped_not_well}
+use Rattle.sk_cli.proofs.Printed.{OneNormal, tells_clusters, part_of_sketch, planned_both, planned_text, unplaced, held_so, solved_text, failed_text}
+use Rattle.sk_cli.proofs.ExcessTold.{over_each}
+use Rattle.sk_cli.proofs.WhyEnds.{never_short, solved_about, not_well_both, planned_not_well, flips_about, flipped_not_well}
 
 -- what is solved of a sketch for a command
 abbrev pub IsSolvedFor : Command → Request → Sketch → Status → List ℕ → Type 0
@@ -58,11 +62,13 @@ IsSaid Plan request s status text = (0 < length s.elements) × IsPlanOrReport re
 IsSaid Offers request s status text = status ≡ Done → (j : Judgement) × (lines : List ℕ) × IsTheJudgement (graph_of s) j × (text ≡ lines ++ check_report s j)
 IsSaid Flips request s status text = (lists : List (List Name)) × IsFlipped request s lists status text
 IsSaid Session request s status text = ⊥
+IsSaid Live request s status text = ⊥
 IsSaid Migrate request s status text = Unit {0}
 IsSaid Verify request s status text = Unit {0}
 IsSaid Spare request s status text = Unit {0}
 IsSaid Derive request s status text = Unit {0}
 IsSaid Parts request s status text = IsSoundSketch s × IsPartsReport request s text
+IsSaid Excess request s status text = IsSoundSketch s × IsExcessReport request s text
 IsSaid Solve request s status text = IsSolvedFor Solve request s status text
 IsSaid Dxf request s status text = IsSolvedFor Dxf request s status text
 IsSaid Grow request s status text = IsSolvedFor Grow request s status text
@@ -79,6 +85,9 @@ module _ (one_sketch : OneSketch) (not_both : NotBoth) (laws : LowerLaws) (bytes
 
   parts_said : (request : Request) → Reads bytes s → IsAccountOf (Shapes request) bytes text → IsPartsReport request s text
   parts_said request reads (t, reads', told) = subst (λ z. IsPartsReport request z text) (one_sketch bytes t s reads' reads) told
+
+  excess_said : (request : Request) → Reads bytes s → IsAccountOf (Excesses request) bytes text → IsExcessReport request s text
+  excess_said request reads (t, reads', told) = subst (λ z. IsExcessReport request z text) (one_sketch bytes t s reads' reads) told
 
   plan_said : (order : Order) (status : Status) → Reads bytes s → (t : Sketch) → Reads bytes t → IsPlanOrReport order t status text → IsPlanOrReport order s status text
   plan_said order status reads t reads' told = subst (λ z. IsPlanOrReport order z status text) (one_sketch bytes t s reads' reads) told
@@ -108,6 +117,7 @@ said_about one_sketch not_both some_read laws Offers request bytes text status s
     λ done. offers_said one_sketch not_both laws bytes text s g reads s_is (done_report bytes text status answer done)
 said_about one_sketch not_both some_read laws Flips request bytes text status s answer about = flips_about laws request bytes text status s answer about
 said_about one_sketch not_both some_read laws Session request bytes text status s answer about = absurd about
+said_about one_sketch not_both some_read laws Live request bytes text status s answer about = absurd about
 said_about one_sketch not_both some_read laws Migrate request bytes text status s answer about = tt
 said_about one_sketch not_both some_read laws Verify request bytes text status s answer about = tt
 said_about one_sketch not_both some_read laws Spare request bytes text status s answer about = tt
@@ -115,6 +125,11 @@ said_about one_sketch not_both some_read laws Derive request bytes text status s
 said_about one_sketch not_both some_read laws Parts request bytes text status s answer reads =
     elim (told_account (Shapes request) bytes status text answer) [
       | inl report ↦ (laws.sound bytes s reads, parts_said one_sketch not_both laws bytes text s request reads report.1)
+      | inr line ↦ absurd (not_refused one_sketch not_both laws bytes text s reads line.1)
+    ]
+said_about one_sketch not_both some_read laws Excess request bytes text status s answer reads =
+    elim (told_account (Excesses request) bytes status text answer) [
+      | inl report ↦ (laws.sound bytes s reads, excess_said one_sketch not_both laws bytes text s request reads report.1)
       | inr line ↦ absurd (not_refused one_sketch not_both laws bytes text s reads line.1)
     ]
 said_about one_sketch not_both some_read laws Solve request bytes text status s answer about = solved_about one_sketch not_both Solve request bytes text status s answer refl about
@@ -160,10 +175,10 @@ done_offers : (status : Status) → WritesCheckReport Offers status → status �
 done_offers Done writes = refl
 done_offers status writes = absurd writes
 
--- a command that writes no check report, plans nothing and solves nothing tells of parts at most
+-- a command that writes no check report, plans nothing and solves nothing tells of parts and of excess at most
 parts_at_most : (command : Command) (request : Request) (s : Sketch) (status : Status) (text : List ℕ) → plans command ≡ false → solves command ≡ false → ((any : Status) → ¬ WritesCheckReport command any) → command ≢ Plan
-    → (command ≡ Parts → TellsParts request s text) → Tells command request s status text
-parts_at_most command request s status text no_plan no_solving no_report other told = record {
+    → (command ≡ Parts → TellsParts request s text) → (command ≡ Excess → TellsExcess request s text) → Tells command request s status text
+parts_at_most command request s status text no_plan no_solving no_report other told excess_told = record {
   clusters = λ writes. absurd (no_report status writes);
   not_well = λ planned. absurd (let clash : false ≡ true = sym no_plan ∙ planned in cc);
   planned = λ same. absurd (other same);
@@ -171,12 +186,13 @@ parts_at_most command request s status text no_plan no_solving no_report other t
   placed = λ placed done. absurd (let clash : false ≡ true = sym no_solving ∙ placed in cc);
   failure = λ placed other short. absurd (let clash : false ≡ true = sym no_solving ∙ placed in cc);
   parts = told;
+  excess = excess_told;
 }
 
-nothing_told : (command : Command) (request : Request) (s : Sketch) (status : Status) (text : List ℕ) → plans command ≡ false → solves command ≡ false → ((any : Status) → ¬ WritesCheckReport command any) → command ≢ Plan → command ≢ Parts
+nothing_told : (command : Command) (request : Request) (s : Sketch) (status : Status) (text : List ℕ) → plans command ≡ false → solves command ≡ false → ((any : Status) → ¬ WritesCheckReport command any) → command ≢ Plan → command ≢ Parts → command ≢ Excess
     → Tells command request s status text
-nothing_told command request s status text no_plan no_solving no_report other no_parts =
-    parts_at_most command request s status text no_plan no_solving no_report other (λ same. absurd (no_parts same))
+nothing_told command request s status text no_plan no_solving no_report other no_parts no_excess =
+    parts_at_most command request s status text no_plan no_solving no_report other (λ same. absurd (no_parts same)) (λ same. absurd (no_excess same))
 
 -- the shape of a sketch tells where it lies, and holds, or what fails first in it
 shape_tells : (request : Request) (s : Sketch) (text : List ℕ) → IsSoundGraph (graph_of s) → IsShape request s text → TellsPlaces request s text
@@ -211,6 +227,29 @@ parts_told normal request s text sound report = (
   report.4,
 )
 
+-- where the constraints that stay place the elements of a part that is over, it is told that they hold, or what fails first
+kept_tells : (request : Request) (own : Sketch) (text : List ℕ) → IsSoundSketch own → IsExcess request own text → TellsKept request own text
+kept_tells request own text sound (left, are, inl measured) =
+    let kept = kept_sketch left own in
+    let kept_sound = graph_is_sound kept (kept_is_sound left own sound) in
+    let placed = measured.placed in
+    (left, are, inl (measured.plan, measured.at, measured.tolerance, held_so Shape request kept Done text kept_sound measured.plan placed.plan measured.at measured.tolerance placed.placed, measured.told))
+kept_tells request own text sound (left, are, inr (inl faulty)) =
+    let kept = kept_sketch left own in
+    let fault = placement_words Shape (digits_of request.bits) kept faulty.plan faulty.placement in
+    (left, are, inr (inl (fault, failed_text Shape request kept (status_of faulty.placement) fault (inl (faulty.plan, faulty.placement, faulty.placed, refl, refl)) faulty.fails (never_short faulty.placement), faulty.told)))
+kept_tells request own text sound (left, are, inr (inr over)) = (left, are, inr (inr over))
+
+excess_told : OneNormal → (request : Request) (s : Sketch) (text : List ℕ) → IsSoundSketch s → IsExcessReport request s text → TellsExcess request s text
+excess_told normal request s text sound report = (
+  report.0,
+  report.1,
+  report.2,
+  tells_clusters normal (graph_of s) (graph_is_sound s sound) report.0 report.2,
+  over_each (IsExcess request) (TellsKept request) s (λ xs below excess. kept_tells request (part_sketch s xs) below (part_is_sound s xs sound) excess) report.0.parts 1 report.1 report.3,
+  report.4,
+)
+
 module _ (normal : OneNormal) (plans : LegalPlans) (law : OneJudgement) (laws : LowerLaws) (request : Request) (s : Sketch) (status : Status) (text : List ℕ) (sound : IsSoundGraph (graph_of s)) where
   reported : IsReportNotWell s text → (j : Judgement) × (text ≡ check_report s j) × IsTheJudgement (graph_of s) j
   reported (j, judged, not_well, is) = (j, is, judged)
@@ -223,8 +262,8 @@ module _ (normal : OneNormal) (plans : LegalPlans) (law : OneJudgement) (laws : 
   judged_there answer =
       elim (told_planned request.order s status text answer) [ inl (done, (p, by, is)) ↦ (by.well.0, by.well.1) | inr (short, (j, judged, not_well, is)) ↦ (j, judged) ]
 
-  placed_tells : (command : Command) → IsTrue (solves command) → command ≢ Plan → command ≢ Parts → IsSolvedFor command request s status text → Tells command request s status text
-  placed_tells command placed other no_parts (report, of, solved) = record {
+  placed_tells : (command : Command) → IsTrue (solves command) → command ≢ Plan → command ≢ Parts → command ≢ Excess → IsSolvedFor command request s status text → Tells command request s status text
+  placed_tells command placed other no_parts no_excess (report, of, solved) = record {
     clusters = λ writes. (let told = reported (unplaced report request s status text solved (short_placed command status placed writes)) in
         (told.0, [], nothing_before command, told.1, tells_clusters normal (graph_of s) sound told.0 told.2));
     not_well = λ planned. not_well_both law laws report request s status text solved;
@@ -233,6 +272,7 @@ module _ (normal : OneNormal) (plans : LegalPlans) (law : OneJudgement) (laws : 
     placed = λ is done. (let found = solved_text report request s status text sound solved done in (report, found.0, found.1, found.2, of, found.3, found.4));
     failure = λ is other short. failed_text report request s status text solved other short;
     parts = λ is. absurd (no_parts is);
+    excess = λ is. absurd (no_excess is);
   }
 
   planned_tells : 0 < length s.elements → IsPlanOrReport request.order s status text → Tells Plan request s status text
@@ -246,6 +286,7 @@ module _ (normal : OneNormal) (plans : LegalPlans) (law : OneJudgement) (laws : 
     placed = λ is done. cc;
     failure = λ is other short. cc;
     parts = λ is. cc;
+    excess = λ is. cc;
   }
 
   checked_tells : (j : Judgement) → IsTheJudgement (graph_of s) j → text ≡ check_report s j → Tells Check request s status text
@@ -257,6 +298,7 @@ module _ (normal : OneNormal) (plans : LegalPlans) (law : OneJudgement) (laws : 
     placed = λ placed done. cc;
     failure = λ placed other short. cc;
     parts = λ same. cc;
+    excess = λ same. cc;
   }
 
   offers_tells : (status ≡ Done → (j : Judgement) × (lines : List ℕ) × IsTheJudgement (graph_of s) j × (text ≡ lines ++ check_report s j)) → Tells Offers request s status text
@@ -268,6 +310,7 @@ module _ (normal : OneNormal) (plans : LegalPlans) (law : OneJudgement) (laws : 
     placed = λ placed done. cc;
     failure = λ placed other short. cc;
     parts = λ same. cc;
+    excess = λ same. cc;
   }
 
   flips_not_planned : (lists : List (List Name)) → IsFlipped request s lists status text → status ≡ NotWell → IsReportNotWell s text
@@ -284,7 +327,28 @@ module _ (normal : OneNormal) (plans : LegalPlans) (law : OneJudgement) (laws : 
     placed = λ placed done. cc;
     failure = λ placed other short. cc;
     parts = λ same. cc;
+    excess = λ same. cc;
   }
+
+  parts_tell : IsSoundSketch s → IsPartsReport request s text → Tells Parts request s status text
+  parts_tell sketch report =
+      parts_at_most Parts request s status text refl refl (λ status writes. writes) other_command (λ same. parts_told normal request s text sketch report) (λ same. absurd (no_excess same))
+    where
+      other_command : Parts ≢ Plan
+      other_command same = cc
+
+      no_excess : Parts ≢ Excess
+      no_excess same = cc
+
+  excess_tells : IsSoundSketch s → IsExcessReport request s text → Tells Excess request s status text
+  excess_tells sketch report =
+      parts_at_most Excess request s status text refl refl (λ status writes. writes) other_command (λ same. absurd (no_parts same)) (λ same. excess_told normal request s text sketch report)
+    where
+      other_command : Excess ≢ Plan
+      other_command same = cc
+
+      no_parts : Excess ≢ Parts
+      no_parts same = cc
 
   pub tells : (command : Command) → IsSaid command request s status text → Tells command request s status text
   tells Check (j, judged, is) = checked_tells j judged is
@@ -292,11 +356,13 @@ module _ (normal : OneNormal) (plans : LegalPlans) (law : OneJudgement) (laws : 
   tells Offers said = offers_tells said
   tells Flips (lists, answer) = flips_tells lists answer
   tells Session said = absurd said
-  tells Migrate said = nothing_told Migrate request s status text refl refl (λ status writes. writes) (λ same. cc) (λ same. cc)
-  tells Verify said = nothing_told Verify request s status text refl refl (λ status writes. writes) (λ same. cc) (λ same. cc)
-  tells Spare said = nothing_told Spare request s status text refl refl (λ status writes. writes) (λ same. cc) (λ same. cc)
-  tells Derive said = nothing_told Derive request s status text refl refl (λ status writes. writes) (λ same. cc) (λ same. cc)
-  tells Parts said = parts_at_most Parts request s status text refl refl (λ status writes. writes) (λ same. cc) (λ same. parts_told normal request s text said.0 said.1)
-  tells Solve solved = placed_tells Solve refl (λ same. cc) (λ same. cc) solved
-  tells Dxf solved = placed_tells Dxf refl (λ same. cc) (λ same. cc) solved
-  tells Grow solved = placed_tells Grow refl (λ same. cc) (λ same. cc) solved
+  tells Live said = absurd said
+  tells Migrate said = nothing_told Migrate request s status text refl refl (λ status writes. writes) (λ same. cc) (λ same. cc) (λ same. cc)
+  tells Verify said = nothing_told Verify request s status text refl refl (λ status writes. writes) (λ same. cc) (λ same. cc) (λ same. cc)
+  tells Spare said = nothing_told Spare request s status text refl refl (λ status writes. writes) (λ same. cc) (λ same. cc) (λ same. cc)
+  tells Derive said = nothing_told Derive request s status text refl refl (λ status writes. writes) (λ same. cc) (λ same. cc) (λ same. cc)
+  tells Parts (sketch, report) = parts_tell sketch report
+  tells Excess (sketch, report) = excess_tells sketch report
+  tells Solve solved = placed_tells Solve refl (λ same. cc) (λ same. cc) (λ same. cc) solved
+  tells Dxf solved = placed_tells Dxf refl (λ same. cc) (λ same. cc) (λ same. cc) solved
+  tells Grow solved = placed_tells Grow refl (λ same. cc) (λ same. cc) (λ same. cc) solved

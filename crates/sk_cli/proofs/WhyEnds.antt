@@ -19,16 +19,18 @@ use Rattle.sk_residual.specs.Turns.{signs, AllAsDrawn, IsTurned}
 use Rattle.sk_residual.proofs.Firsts.{first_inside}
 use Rattle.sk_residual.proofs.OneMeasured.{not_beyond}
 use Rattle.sk_cli.specs.declared.accounts.Account.{Account}
-use Rattle.sk_cli.specs.declared.accounts.Account.TheVariants.{Judged, Spares, Derived, Migrated, Shapes}
+use Rattle.sk_cli.specs.declared.accounts.Account.TheVariants.{Judged, Spares, Derived, Migrated, Shapes, Excesses}
 use Rattle.sk_request.specs.declared.Command.{Command}
-use Rattle.sk_request.specs.declared.Command.TheVariants.{Check, Plan, Solve, Dxf, Offers, Session, Grow, Migrate, Verify, Spare, Flips, Derive, Parts}
+use Rattle.sk_request.specs.declared.Command.TheVariants.{Check, Plan, Solve, Dxf, Offers, Session, Grow, Migrate, Verify, Spare, Flips, Derive, Parts, Live, Excess}
 use Rattle.sk_lang.specs.declared.Front.{Front}
 use Rattle.sk_residual.specs.declared.Wanted.TheVariants.{Drawn}
 use Rattle.sk_flips.specs.declared.Placement.{Placement}
 use Rattle.sk_flips.specs.declared.Placement.TheVariants.{Fault, Uncarried, Beyond, Turned, Holds}
 use Rattle.sk_request.specs.declared.Request.{Request}
 use Rattle.sk_cli.specs.FlipsReport.{IsFlipped, IsFlipsAnswer}
+use Rattle.sk_cli.specs.LiveAnswer.{IsLiveAnswer}
 use Rattle.sk_cli.specs.SessionAnswer.{IsSessionAnswer}
+use Rattle.sk_cli.proofs.OneLive.{told_live, all_answered}
 use Rattle.sk_cli.specs.declared.solving.Report.{Report}
 use Rattle.sk_cli.specs.declared.solving.Report.TheVariants.{Places, Drawing, Sums}
 use Rattle.sk_cli.specs.declared.status.Status.{Status}
@@ -37,10 +39,10 @@ use Rattle.sk_request.specs.Asking.{Asks, AreOfForm}
 use Rattle.sk_request.specs.Grids.{grid_of, digits_of}
 use Rattle.sk_cli.specs.Solving.{midpoints, status_of, IsMeasured, IsPlacement}
 use Rattle.sk_cli.specs.Outcome.{IsPlanOrReport, IsSolved, IsAnswer, IsAnswerOf, IsAccountAnswer, IsOutcome}
-use Rattle.sk_cli.specs.Causes.{plans, solves, IsReportOf, IsSketchOf, IsRefusedInput, IsItsPlan, HasFault, LieAt, NonePasses, SomePasses, SomeTurned}
+use Rattle.sk_cli.specs.Causes.{plans, solves, IsReportOf, IsSketchOf, EndsInTime, IsRefusedInput, IsItsPlan, HasFault, LieAt, NonePasses, SomePasses, SomeTurned}
 use Rattle.sk_flips.proofs.OnePlacement.{laid_measured, same_placement}
 use Rattle.sk_request.proofs.OneRequest.{same_request}
-use Rattle.sk_cli.proofs.OneOutcome.{OneSketch, NotBoth, OneJudgement, LowerLaws, still_well, told_account, told_plan, told_planned, told_solve, told_offers, told_session, told_claim, told_flips, told_flipped, not_read_and_refused, not_accepted_and_failing, not_claimed_and_refused, not_flips_and_refused}
+use Rattle.sk_cli.proofs.OneOutcome.{OneSketch, NotBoth, OneJudgement, LowerLaws, still_well, one_solved, told_account, told_plan, told_planned, told_solve, told_offers, told_session, told_claim, told_flips, told_flipped, not_read_and_refused, not_accepted_and_failing, not_claimed_and_refused, not_flips_and_refused}
 use Rattle.sk_cli.proofs.Runs.{solved_told}
 use Rattle.sk_cli.specs.VerifyAnswer.{HasClaim}
 use Rattle.sk_lines.specs.declared.Refusal.{Refusal}
@@ -161,6 +163,7 @@ sound_about laws Verify request bytes s fit (front, reads, is) = subst (λ z. Is
 sound_about laws Flips request bytes s fit (front, lists, reads, is) =
     subst (λ z. IsSoundGraph (graph_of z)) (sym is) (graph_is_sound front.sketch (laws.sound (take front.used bytes) front.sketch reads.0.reads))
 sound_about laws Session request bytes s fit about = absurd about
+sound_about laws Live request bytes s fit about = absurd about
 sound_about laws command request bytes s fit reads = graph_is_sound s (laws.sound bytes s reads)
 
 -- a command that solves a sketch tells of the one that it is about
@@ -174,8 +177,10 @@ solved_about one_sketch not_both Verify request bytes text status s answer place
 solved_about one_sketch not_both Spare request bytes text status s answer placed reads = cc
 solved_about one_sketch not_both Derive request bytes text status s answer placed reads = cc
 solved_about one_sketch not_both Parts request bytes text status s answer placed reads = cc
+solved_about one_sketch not_both Excess request bytes text status s answer placed reads = cc
 solved_about one_sketch not_both Flips request bytes text status s answer placed about = cc
 solved_about one_sketch not_both Session request bytes text status s answer placed about = absurd about
+solved_about one_sketch not_both Live request bytes text status s answer placed about = absurd about
 solved_about one_sketch not_both Solve request bytes text status s answer placed reads =
     elim (told_solve Places request bytes status text answer) [
       | inl (refused, line) ↦ absurd (not_both bytes s line.0.line line.0.code reads line.1)
@@ -273,9 +278,11 @@ not_well_about one_sketch not_both law laws Verify request bytes text status s a
 not_well_about one_sketch not_both law laws Spare request bytes text status s answer planned about = cc
 not_well_about one_sketch not_both law laws Derive request bytes text status s answer planned about = cc
 not_well_about one_sketch not_both law laws Parts request bytes text status s answer planned about = cc
+not_well_about one_sketch not_both law laws Excess request bytes text status s answer planned about = cc
 not_well_about one_sketch not_both law laws Flips request bytes text status s answer planned about =
     let told = flips_about laws request bytes text status s answer about in flipped_not_well law request s told.0 status text told.1
 not_well_about one_sketch not_both law laws Session request bytes text status s answer planned about = absurd about
+not_well_about one_sketch not_both law laws Live request bytes text status s answer planned about = absurd about
 not_well_about one_sketch not_both law laws Plan request bytes text status s answer planned reads =
     elim (told_plan request.order bytes status text answer) [
       | inl (refused, line) ↦ absurd (not_both bytes s line.0.line line.0.code reads line.1)
@@ -301,6 +308,7 @@ planned_sketch Migrate request bytes text status answer done refused unless = ab
 planned_sketch Spare request bytes text status answer done refused unless = absurd (no_other_account Spares bytes text status answer done refused)
 planned_sketch Derive request bytes text status answer done refused unless = absurd (no_other_account Derived bytes text status answer done refused)
 planned_sketch Parts request bytes text status answer done refused unless = absurd (no_other_account (Shapes request) bytes text status answer done refused)
+planned_sketch Excess request bytes text status answer done refused unless = absurd (no_other_account (Excesses request) bytes text status answer done refused)
 planned_sketch Verify request bytes text status answer done refused unless =
     elim (told_claim bytes status text answer) [
       | inl verified ↦ absurd (done verified.0)
@@ -313,6 +321,8 @@ planned_sketch Flips request bytes text status answer done refused unless =
     elim (told_flips request bytes status text answer) [ inl (is, line) ↦ absurd (refused is) | inr (front, lists, reads, told) ↦ (refl, (front.sketch, (front, lists, reads, refl))) ]
 planned_sketch Session request bytes text status answer done refused unless =
     elim (told_session request bytes status text answer) [ inl ended ↦ absurd (done ended.0) | inr long ↦ absurd (refused long.0) ]
+planned_sketch Live request bytes text status answer done refused unless =
+    elim (told_live request bytes status text answer) [ inl ended ↦ absurd (done ended.0) | inr long ↦ absurd (refused long.0) ]
 planned_sketch Plan request bytes text status answer done refused unless =
     elim (told_plan request.order bytes status text answer) [ inl (is, line) ↦ absurd (refused is) | inr (s, reads, told) ↦ (refl, (s, reads)) ]
 planned_sketch Solve request bytes text status answer done refused unless =
@@ -335,7 +345,9 @@ placed_sketch command request bytes text status answer done refused fails short 
     placed Spare answer planned = cc
     placed Derive answer planned = cc
     placed Parts answer planned = cc
+    placed Excess answer planned = cc
     placed Session answer planned = cc
+    placed Live answer planned = cc
     placed Plan answer planned =
         elim (told_plan request.order bytes status text answer) [
           | inl (is, line) ↦ absurd (refused is)
@@ -399,6 +411,8 @@ no_usage Verify request bytes text answer = answer
 no_usage Spare request bytes text answer = answer
 no_usage Derive request bytes text answer = answer
 no_usage Parts request bytes text answer = answer
+no_usage Live request bytes text answer = answer
+no_usage Excess request bytes text answer = answer
 no_usage Grow request bytes text answer = solved_told Sums request (datum_sketch answer.0) Usage text answer.2
 
 pub usage_both : (words : List (List ℕ)) (bytes text : List ℕ) (status : Status) → IsOutcome words bytes status text → (status ≡ Usage) ↔ ¬ AreOfForm words
@@ -406,20 +420,25 @@ usage_both words bytes text status (inl (request, asks, answer)) =
     ((λ same. absurd (no_usage request.command request bytes text (subst (λ z. IsAnswer request bytes z text) same answer))), (λ not_form. absurd (not_form (request, asks))))
 usage_both words bytes text status (inr (not_form, is, text_is)) = ((λ same. not_form), (λ other. is))
 
-refused_so : (command : Command) (request : Request) (bytes text : List ℕ) → IsAnswerOf command request bytes Refused text → IsRefusedInput command bytes
-refused_so Check request bytes text (r, refuses, is) = (r, refuses)
-refused_so Migrate request bytes text (r, refuses, is) = (r, refuses)
-refused_so Verify request bytes text (r, at, is) = (r, at)
-refused_so Spare request bytes text (r, refuses, is) = (r, refuses)
-refused_so Derive request bytes text (r, refuses, is) = (r, refuses)
-refused_so Parts request bytes text (r, refuses, is) = (r, refuses)
-refused_so Plan request bytes text (r, refuses, is) = (r, refuses)
-refused_so Solve request bytes text (r, refuses, is) = (r, refuses)
-refused_so Dxf request bytes text (r, refuses, is) = (r, refuses)
-refused_so Offers request bytes text (r, at, is) = (r, at)
-refused_so Flips request bytes text (r, at, is) = (r, at)
-refused_so Session request bytes text (long, is) = long
-refused_so Grow request bytes text answer = absurd (solved_told Sums request (datum_sketch answer.0) Refused text answer.2)
+refused_so : OneJudgement → LowerLaws → (command : Command) (request : Request) (bytes text : List ℕ) → IsAnswerOf command request bytes Refused text → IsRefusedInput command request bytes
+refused_so law laws Check request bytes text (r, refuses, is) = (r, refuses)
+refused_so law laws Migrate request bytes text (r, refuses, is) = (r, refuses)
+refused_so law laws Verify request bytes text (r, at, is) = (r, at)
+refused_so law laws Spare request bytes text (r, refuses, is) = (r, refuses)
+refused_so law laws Derive request bytes text (r, refuses, is) = (r, refuses)
+refused_so law laws Parts request bytes text (r, refuses, is) = (r, refuses)
+refused_so law laws Excess request bytes text (r, refuses, is) = (r, refuses)
+refused_so law laws Plan request bytes text (r, refuses, is) = (r, refuses)
+refused_so law laws Solve request bytes text (r, refuses, is) = (r, refuses)
+refused_so law laws Dxf request bytes text (r, refuses, is) = (r, refuses)
+refused_so law laws Offers request bytes text (r, at, is) = (r, at)
+refused_so law laws Flips request bytes text (r, at, is) = (r, at)
+refused_so law laws Session request bytes text (long, is) = long
+refused_so law laws Grow request bytes text answer = absurd (solved_told Sums request (datum_sketch answer.0) Refused text answer.2)
+refused_so law laws Live request bytes text (replies, (all, none, long, is)) = (
+  long,
+  λ (other, (front, some, over)). some (all_answered laws.reply (one_solved law laws) request bytes other replies front all over none),
+)
 
 -- a session whose input is too long is refused
 too_long : (request : Request) (bytes text : List ℕ) (status : Status) → IsSessionAnswer request bytes status text → 1048576 < length bytes → status ≡ Refused
@@ -427,16 +446,23 @@ too_long request bytes text Done (front, over) long = absurd (omega (arith, long
 too_long request bytes text Refused answer long = refl
 too_long request bytes text status answer long = absurd answer
 
+-- and so is `live`, where no line in time ends it
+late_live : (request : Request) (bytes text : List ℕ) (status : Status) → IsLiveAnswer request bytes status text → 4294967295 < length bytes → ¬ EndsInTime request bytes → status ≡ Refused
+late_live request bytes text Done (front, over, fits) long never = absurd (never (text, (front, (λ none. (let few = fits none in omega (arith, few, long))), over)))
+late_live request bytes text Refused answer long never = refl
+late_live request bytes text status answer long never = absurd answer
+
 so_refused_account : NotBoth → (account : Account) (bytes text : List ℕ) (status : Status) → IsAccountAnswer account bytes status text → (r : Refusal) → Refuses bytes r.line r.code → status ≡ Refused
 so_refused_account not_both account bytes text status answer r refuses =
     elim (told_account account bytes status text answer) [ inl (done, (s, reads, told)) ↦ absurd (not_both bytes s r.line r.code reads refuses) | inr refused ↦ refused.0 ]
 
-so_refused : OneSketch → NotBoth → LowerLaws → (command : Command) (request : Request) (bytes text : List ℕ) (status : Status) → IsAnswerOf command request bytes status text → IsRefusedInput command bytes → status ≡ Refused
+so_refused : OneSketch → NotBoth → LowerLaws → (command : Command) (request : Request) (bytes text : List ℕ) (status : Status) → IsAnswerOf command request bytes status text → IsRefusedInput command request bytes → status ≡ Refused
 so_refused one_sketch not_both laws Check request bytes text status answer (r, refuses) = so_refused_account not_both Judged bytes text status answer r refuses
 so_refused one_sketch not_both laws Migrate request bytes text status answer (r, refuses) = so_refused_account not_both Migrated bytes text status answer r refuses
 so_refused one_sketch not_both laws Spare request bytes text status answer (r, refuses) = so_refused_account not_both Spares bytes text status answer r refuses
 so_refused one_sketch not_both laws Derive request bytes text status answer (r, refuses) = so_refused_account not_both Derived bytes text status answer r refuses
 so_refused one_sketch not_both laws Parts request bytes text status answer (r, refuses) = so_refused_account not_both (Shapes request) bytes text status answer r refuses
+so_refused one_sketch not_both laws Excess request bytes text status answer (r, refuses) = so_refused_account not_both (Excesses request) bytes text status answer r refuses
 so_refused one_sketch not_both laws Plan request bytes text status answer (r, refuses) =
     elim (told_plan request.order bytes status text answer) [ inl refused ↦ refused.0 | inr (s, reads, told) ↦ absurd (not_both bytes s r.line r.code reads refuses) ]
 so_refused one_sketch not_both laws Solve request bytes text status answer (r, refuses) =
@@ -455,22 +481,23 @@ so_refused one_sketch not_both laws Flips request bytes text status answer (r, a
     elim (told_flips request bytes status text answer) [ inl refused ↦ refused.0 | inr (front, lists, reads, told) ↦ absurd (not_flips_and_refused laws bytes (refusal_line r) front lists reads (r, at, refl)) ]
 so_refused one_sketch not_both laws Session request bytes text status answer long = too_long request bytes text status answer long
 so_refused one_sketch not_both laws Grow request bytes text status answer refused = absurd refused
+so_refused one_sketch not_both laws Live request bytes text status answer (long, never) = late_live request bytes text status answer long never
 
-pub refused_both : OneSketch → NotBoth → LowerLaws → (command : Command) (request : Request) (bytes text : List ℕ) (status : Status) → IsAnswerOf command request bytes status text
-    → (status ≡ Refused) ↔ IsRefusedInput command bytes
-refused_both one_sketch not_both laws command request bytes text status answer =
-    ((λ same. refused_so command request bytes text (subst (λ z. IsAnswerOf command request bytes z text) same answer)), so_refused one_sketch not_both laws command request bytes text status answer)
+pub refused_both : OneSketch → NotBoth → OneJudgement → LowerLaws → (command : Command) (request : Request) (bytes text : List ℕ) (status : Status) → IsAnswerOf command request bytes status text
+    → (status ≡ Refused) ↔ IsRefusedInput command request bytes
+refused_both one_sketch not_both law laws command request bytes text status answer =
+    ((λ same. refused_so law laws command request bytes text (subst (λ z. IsAnswerOf command request bytes z text) same answer)), so_refused one_sketch not_both laws command request bytes text status answer)
 
 -- a command that plans no sketch and checks no claim does its work exactly where its input isn't refused
-pub done_unless_refused : OneSketch → NotBoth → LowerLaws → (command : Command) (request : Request) (bytes text : List ℕ) (status : Status) → IsAnswerOf command request bytes status text
-    → ¬ IsTrue (plans command) → command ≢ Verify → (status ≡ Done) ↔ ¬ IsRefusedInput command bytes
-done_unless_refused one_sketch not_both laws command request bytes text status answer no_plan other_command = (
+pub done_unless_refused : OneSketch → NotBoth → OneJudgement → LowerLaws → (command : Command) (request : Request) (bytes text : List ℕ) (status : Status) → IsAnswerOf command request bytes status text
+    → ¬ IsTrue (plans command) → command ≢ Verify → (status ≡ Done) ↔ ¬ IsRefusedInput command request bytes
+done_unless_refused one_sketch not_both law laws command request bytes text status answer no_plan other_command = (
   (λ done refused. (let clash : Done ≡ Refused = sym done ∙ both.1 refused in cc)),
   (λ not_refused. done_at_last status (λ other. no_plan (planned_sketch command request bytes text status answer other (λ refused. not_refused (both.0 refused)) (λ same. absurd (other_command same))).0)),
 )
   where
-    both : (status ≡ Refused) ↔ IsRefusedInput command bytes
-    both = refused_both one_sketch not_both laws command request bytes text status answer
+    both : (status ≡ Refused) ↔ IsRefusedInput command request bytes
+    both = refused_both one_sketch not_both law laws command request bytes text status answer
 
     done_at_last : (any : Status) → ¬ (any ≢ Done) → any ≡ Done
     done_at_last Done never = refl
@@ -553,6 +580,8 @@ only_verify Spare request bytes text answer = absurd answer
 only_verify Flips request bytes text answer = absurd answer.3
 only_verify Derive request bytes text answer = absurd answer
 only_verify Parts request bytes text answer = absurd answer
+only_verify Live request bytes text answer = absurd answer
+only_verify Excess request bytes text answer = absurd answer
 only_verify Grow request bytes text answer = absurd (solved_told Sums request (datum_sketch answer.0) NotVerified text answer.2)
 
 pub failing_exactly : LowerLaws → (command : Command) (request : Request) (bytes text : List ℕ) (status : Status) → IsAnswerOf command request bytes status text
@@ -596,6 +625,8 @@ plans_alone Verify planned other = cc
 plans_alone Spare planned other = cc
 plans_alone Derive planned other = cc
 plans_alone Parts planned other = cc
+plans_alone Live planned other = cc
+plans_alone Excess planned other = cc
 
 -- it does its work exactly where its input is read, and the sketch that it is about is well
 pub done_where_well : OneSketch → NotBoth → OneJudgement → LowerLaws → (command : Command) (request : Request) (bytes text : List ℕ) (status : Status) → IsAnswerOf command request bytes status text

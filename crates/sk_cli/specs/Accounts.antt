@@ -13,14 +13,16 @@ use Rattle.sk_spare.specs.SpareReport.{spare_report}
 use Rattle.sk_derive.specs.WideReach.{IsWideNormal}
 use Rattle.sk_derive.specs.DerivedText.{derived_text}
 use Rattle.sk_cli.specs.PartsReport.{IsPartsReport}
+use Rattle.sk_cli.specs.ExcessReport.{IsExcessReport}
 use Rattle.sk_cli.specs.declared.accounts.Account.{Account}
-use Rattle.sk_cli.specs.declared.accounts.Account.TheVariants.{Judged, Spares, Derived, Migrated, Shapes}
+use Rattle.sk_cli.specs.declared.accounts.Account.TheVariants.{Judged, Spares, Derived, Migrated, Shapes, Excesses}
 
 -- the check report; or which constraints are spare; or the clusters of a wide normal family; or the sketch itself, in version 2;
--- or its parts and their shapes
+-- or its parts and their shapes; or the parts that are over and what is too much in each
 abbrev pub IsAccount : Account → Sketch → List ℕ → Type 0
 IsAccount Judged s text = (j : Judgement) × IsTheJudgement (graph_of s) j × (text ≡ check_report s j)
 IsAccount Spares s text = (spares : List ConId) × AreSpares (graph_of s) spares × (text ≡ spare_report s spares)
 IsAccount Derived s text = (f : Clusters) × IsSound f × IsWideNormal (graph_of s) (bodies f) × (text ≡ derived_text s f)
 IsAccount Migrated s text = text ≡ canonical_2 s
 IsAccount (Shapes request) s text = IsPartsReport request s text
+IsAccount (Excesses request) s text = IsExcessReport request s text

@@ -1,5 +1,5 @@
 -- Why a call ends as it does: the sketch that it is about, its plan, and where the plan places the elements.
-use Rattle.std.specs.Prelude.{◌≡◌, ◌⊎◌, ◌<◌, ℕ, List, length, Contains, Bool, true, false, Some, Ok, Err}
+use Rattle.std.specs.Prelude.{◌≡◌, ◌≢◌, ◌⊎◌, ◌<◌, ℕ, List, [], length, Contains, Bool, true, false, Some, Ok, Err}
 use Rattle.sk_base.specs.declared.Name.{Name}
 use Rattle.sk_base.specs.declared.Placed.{Placed}
 use Rattle.sk_base.specs.declared.Sketch.{Sketch}
@@ -22,13 +22,15 @@ use Rattle.sk_holding.specs.Items.{Item}
 use Rattle.sk_residual.specs.Tolerances.{AllHold, IsAbove, everything}
 use Rattle.sk_residual.specs.Turns.{signs, IsTurned}
 use Rattle.sk_request.specs.declared.Command.{Command}
-use Rattle.sk_request.specs.declared.Command.TheVariants.{Check, Plan, Solve, Dxf, Offers, Session, Grow, Migrate, Verify, Spare, Flips, Derive, Parts}
+use Rattle.sk_request.specs.declared.Command.TheVariants.{Check, Plan, Solve, Dxf, Offers, Session, Grow, Migrate, Verify, Spare, Flips, Derive, Parts, Live, Excess}
 use Rattle.sk_request.specs.declared.Request.{Request}
 use Rattle.sk_cli.specs.declared.solving.Report.{Report}
 use Rattle.sk_cli.specs.declared.solving.Report.TheVariants.{Places, Drawing, Sums}
 use Rattle.sk_request.specs.Grids.{grid_of, digits_of}
 use Rattle.sk_cli.specs.FlipsReport.{ReadsSketchAndFlips, RefusesFlipsBehind}
 use Rattle.sk_cli.specs.Fronts.{IsRefusedAt}
+use Rattle.sk_cli.specs.LiveAnswer.{RepliesInTime}
+use Rattle.sk_cli.specs.SessionAnswer.{HasEnded}
 use Rattle.sk_cli.specs.OffersReport.{RefusesOffersBehind}
 use Rattle.sk_cli.specs.Solving.{midpoints}
 use Rattle.sk_cli.specs.VerifyAnswer.{RefusesClaimBehind}
@@ -48,6 +50,8 @@ plans Spare = false
 plans Flips = true
 plans Derive = false
 plans Parts = false
+plans Live = false
+plans Excess = false
 
 -- it ends as the plan of a sketch is placed
 abbrev pub solves : Command → Bool
@@ -64,6 +68,8 @@ solves Spare = false
 solves Flips = false
 solves Derive = false
 solves Parts = false
+solves Live = false
+solves Excess = false
 
 -- the report that a command writes where it places all elements
 abbrev pub IsReportOf : Command → Report → Type 0
@@ -73,23 +79,29 @@ IsReportOf Grow Sums = Unit {0}
 IsReportOf command report = ⊥
 
 -- the sketch that a command is about: the one that it makes, or what its input, or the front of it, is read as; of `flips`
--- only where the flips behind it are read too. A session is about no one sketch.
+-- only where the flips behind it are read too. A session is about no one sketch, nor is `live`.
 abbrev pub IsSketchOf : Command → Request → List ℕ → Sketch → Type 0
 IsSketchOf Grow request bytes s = (n : ℕ) × (request.size ≡ Some n) × (s ≡ datum_sketch n)
 IsSketchOf Offers request bytes s = (front : Front) × ReadsFront bytes front × (s ≡ front.sketch)
 IsSketchOf Verify request bytes s = (front : Front) × ReadsFront bytes front × (s ≡ front.sketch)
 IsSketchOf Flips request bytes s = (front : Front) × (lists : List (List Name)) × ReadsSketchAndFlips bytes front lists × (s ≡ front.sketch)
 IsSketchOf Session request bytes s = ⊥
+IsSketchOf Live request bytes s = ⊥
 IsSketchOf command request bytes s = Reads bytes s
 
--- the input of a command is refused; that of a session only where it is too long
-abbrev pub IsRefusedInput : Command → List ℕ → Type 0
-IsRefusedInput Offers bytes = (r : Refusal) × IsRefusedAt RefusesOffersBehind bytes r
-IsRefusedInput Flips bytes = (r : Refusal) × IsRefusedAt RefusesFlipsBehind bytes r
-IsRefusedInput Verify bytes = (r : Refusal) × IsRefusedAt RefusesClaimBehind bytes r
-IsRefusedInput Session bytes = 1048576 < length bytes
-IsRefusedInput Grow bytes = ⊥
-IsRefusedInput command bytes = (r : Refusal) × Refuses bytes r.line r.code
+-- a line in time ends the session
+abbrev pub EndsInTime : Request → List ℕ → Type 0
+EndsInTime request bytes = (text : List ℕ) × ((front : RepliesInTime request bytes text) × (front.after ≢ []) × HasEnded front.state front.after)
+
+-- the input of a command is refused; that of a session only where it is too long, that of `live` only where besides no line in time ends it
+abbrev pub IsRefusedInput : Command → Request → List ℕ → Type 0
+IsRefusedInput Offers request bytes = (r : Refusal) × IsRefusedAt RefusesOffersBehind bytes r
+IsRefusedInput Flips request bytes = (r : Refusal) × IsRefusedAt RefusesFlipsBehind bytes r
+IsRefusedInput Verify request bytes = (r : Refusal) × IsRefusedAt RefusesClaimBehind bytes r
+IsRefusedInput Session request bytes = 1048576 < length bytes
+IsRefusedInput Live request bytes = (4294967295 < length bytes) × ¬ EndsInTime request bytes
+IsRefusedInput Grow request bytes = ⊥
+IsRefusedInput command request bytes = (r : Refusal) × Refuses bytes r.line r.code
 
 module _ (request : Request) (s : Sketch) where
   -- this is the plan by the order that is asked for

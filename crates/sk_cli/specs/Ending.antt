@@ -4,19 +4,21 @@ use Rattle.std.specs.Io.KnownBytes.{Appends}
 use Rattle.sk_io.specs.Transfer.{AppendsFront}
 use Rattle.sk_cli.specs.declared.status.Status.{Status}
 use Rattle.sk_cli.specs.declared.status.Status.TheVariants.{ReadFault, WriteFault, NoMemory}
-use Rattle.sk_request.specs.Asking.{AskForInput}
-use Rattle.sk_cli.specs.Outcome.{IsOutcome, AreFirstReplies, IsWritten}
+use Rattle.sk_request.specs.declared.Command.TheVariants.{Live}
+use Rattle.sk_request.specs.declared.Request.{Request}
+use Rattle.sk_request.specs.Asking.{Asks, AskForInput}
+use Rattle.sk_cli.specs.Outcome.{IsOutcome, AreFirstReplies, AreLiveReplies, IsWritten}
+pub use Rattle.sk_turns.specs.Answering.{IsTold}
 
--- where it is told what a source has left, it is these bytes
-abbrev pub IsTold : Option (List ℕ) → List ℕ → Type 0
-IsTold None bytes = ⊤
-IsTold (Some left) bytes = bytes ≡ left
+-- the words are of the form, and ask for `live`
+abbrev pub AskForLive : List (List ℕ) → Type 0
+AskForLive words = (request : Request) × Asks words request × (request.command ≡ Live)
 
 -- each status says what the sink gained: nothing, a front of a text that is written, or all of the outcome's text; where
--- memory runs out in a session, the whole replies so far
+-- memory runs out in a session or in `live`, and where a read fails in `live`, the whole replies so far
 abbrev pub Ends : List (List ℕ) → List ℕ → Status → List ℕ → Type 0
-Ends words bytes ReadFault gained = AskForInput words × (gained ≡ [])
-Ends words bytes NoMemory gained = (gained ≡ []) ⊎ AreFirstReplies words bytes gained
+Ends words bytes ReadFault gained = AskForInput words × ((gained ≡ []) ⊎ AreLiveReplies words bytes gained)
+Ends words bytes NoMemory gained = (gained ≡ []) ⊎ (AreFirstReplies words bytes gained ⊎ AreLiveReplies words bytes gained)
 Ends words bytes WriteFault gained =
     (text : List ℕ) × (n : ℕ) × IsWritten words bytes text × (n ≤ length text) × (gained ≡ take n text)
 Ends words bytes status gained = IsOutcome words bytes status gained

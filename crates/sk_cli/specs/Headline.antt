@@ -1,5 +1,6 @@
 -- What a designer reads, in words over what is written: clusters, plans, places, and what fails first.
 use Rattle.std.specs.Prelude.{◌≡◌, ◌≢◌, ◌↔◌, ◌⊎◌, ℕ, ◌≤◌, ◌<◌, ◌*◌, ◌-◌, List, [], ◌∷◌, ◌++◌, Contains, length, IsTrue}
+use Rattle.sk_base.specs.declared.ConId.{ConId}
 use Rattle.sk_base.specs.declared.Elem.{Elem}
 use Rattle.sk_base.specs.declared.Graph.{Graph}
 use Rattle.sk_base.specs.declared.Placed.{Placed}
@@ -35,14 +36,19 @@ use Rattle.sk_session.specs.declared.Reply.{Reply}
 use Rattle.sk_session.specs.declared.Reply.TheVariants as reply
 use Rattle.sk_session.specs.State.{State}
 use Rattle.sk_request.specs.declared.Command.{Command}
-use Rattle.sk_request.specs.declared.Command.TheVariants.{Check, Plan, Solve, Dxf, Offers, Grow, Flips, Parts}
+use Rattle.sk_request.specs.declared.Command.TheVariants.{Check, Plan, Solve, Dxf, Offers, Grow, Flips, Parts, Excess}
 use Rattle.sk_request.specs.declared.Request.{Request}
 use Rattle.sk_cli.specs.declared.solving.Report.{Report}
 use Rattle.sk_cli.specs.declared.status.Status.{Status}
 use Rattle.sk_cli.specs.declared.status.Status.TheVariants.{Done, NotWell}
 use Rattle.sk_cli.specs.Causes.{plans, solves, IsReportOf, IsItsPlan, IsFaultAt, IsOff, LieAt, NonePasses}
 use Rattle.sk_request.specs.Grids.{digits_of}
+use Rattle.sk_excess.specs.LeftOut.{AreLeftOut}
+use Rattle.sk_excess.specs.KeptSketch.{kept_sketch}
+use Rattle.sk_report.specs.ExcessReport.{excess_head, left_lines}
 use Rattle.sk_cli.specs.PartsReport.{EachStands}
+use Rattle.sk_cli.specs.LiveAnswer.{RepliesInTime}
+use Rattle.sk_cli.specs.ExcessReport.{AreOffsTold, IsOverLeft, EachOverStands, over_count}
 use Rattle.sk_cli.specs.SessionAnswer.{RepliesToFront, IsReplied}
 use Rattle.sk_cli.specs.Solving.{IsTolerance, report_words}
 
@@ -122,10 +128,26 @@ TellsParts request s text =
     (j : Judgement) × (lines : List ℕ) × IsTheJudgement (graph_of s) j × TellsClusters (graph_of s) j
     × EachStands (TellsPlaces request) s 1 j.parts lines × (text ≡ parts_head j ++ lines)
 
+-- Of the own sketch of a part that is over: where the constraints that stay place its elements, and they hold, there is told how
+-- far off each is that is left out; where they don't, what fails first is named; else they are over still.
+abbrev pub TellsKept : Request → Sketch → List ℕ → Type 0
+TellsKept request own text =
+    (left : List ConId) × AreLeftOut (graph_of own) left
+    × (((p : ThePlan) × (at : Placed) × (t : Tolerance) × HoldsAt request (kept_sketch left own) p at t × AreOffsTold request.within own at left text)
+    ⊎ (((fault : List ℕ) × NamesTheFirst request (kept_sketch left own) fault × (text ≡ left_lines own left ++ fault))
+    ⊎ IsOverLeft own left text))
+
+-- how many parts are over, and of each its line and what is told of its own sketch
+abbrev pub TellsExcess : Request → Sketch → List ℕ → Type 0
+TellsExcess request s text =
+    (j : Judgement) × (lines : List ℕ) × IsTheJudgement (graph_of s) j × TellsClusters (graph_of s) j
+    × EachOverStands (TellsKept request) s 1 j.parts lines × (text ≡ excess_head (over_count j.parts) ++ lines)
+
 -- What a command tells of a sketch by its status and its text. Where it writes the check report, its clusters. A command that
 -- plans has the status NotWell exactly where the verdict isn't well; `plan` writes a plan exactly where just one part remains and
 -- isn't over, and the plan uses each constraint once. A command that solves the sketch writes where the elements lie, and hold, or
--- else what fails first; `parts` tells the same of the own sketch of each part that isn't over.
+-- else what fails first; `parts` tells the same of the own sketch of each part that isn't over, and `excess` of what stays of
+-- each part that is.
 pub record Tells (command : Command) (request : Request) (s : Sketch) (status : Status) (text : List ℕ) : Type 0 where
   pub clusters : WritesCheckReport command status → EndsWithClusters command s text
   pub not_well : IsTrue (plans command) → (status ≡ NotWell) ↔ ¬ IsWell (graph_of s)
@@ -136,6 +158,7 @@ pub record Tells (command : Command) (request : Request) (s : Sketch) (status : 
       × (text ≡ report_words report (digits_of request.bits) s p at t)
   pub failure : IsTrue (solves command) → status ≢ Done → status ≢ NotWell → NamesTheFirst request s text
   pub parts : command ≡ Parts → TellsParts request s text
+  pub excess : command ≡ Excess → TellsExcess request s text
 
 -- the sketch has an element, and the command tells this of it
 abbrev pub TellsOfSome : Command → Request → Sketch → Status → List ℕ → Type 0
@@ -152,6 +175,14 @@ TellsAsAsked request s r text = Unit {0}
 -- some lines at the front of the input are answered, and the next one is answered so
 pub record RepliesNext (request : Request) (bytes before : List ℕ) (new : State) (r : Reply) (text : List ℕ) : Type 0 where
   pub front : RepliesToFront request bytes before
+  pub line : List ℕ
+  pub lines : List (List ℕ)
+  pub next : front.after ≡ line ∷ lines
+  pub replied : IsReplied request front.state line new r text
+
+-- some lines at the front of those in time are answered by `live`, and the next one is answered so
+pub record RepliesNextLive (request : Request) (bytes before : List ℕ) (new : State) (r : Reply) (text : List ℕ) : Type 0 where
+  pub front : RepliesInTime request bytes before
   pub line : List ℕ
   pub lines : List (List ℕ)
   pub next : front.after ≡ line ∷ lines

@@ -1,7 +1,7 @@
 -- Commands that answer the same to a sketch in either version of the language.
 use Rattle.std.specs.Prelude.{◌≡◌, ℕ, List}
 use Rattle.sk_request.specs.declared.Command.{Command}
-use Rattle.sk_request.specs.declared.Command.TheVariants.{Offers, Session, Grow, Migrate, Verify, Flips}
+use Rattle.sk_request.specs.declared.Command.TheVariants.{Offers, Session, Grow, Migrate, Verify, Flips, Live}
 use Rattle.sk_request.specs.declared.Request.{Request}
 use Rattle.sk_cli.specs.declared.status.Status.TheVariants.{Done}
 use Rattle.sk_request.specs.Asking.{Asks}
@@ -14,6 +14,7 @@ ReadsOneSketch Session = ⊥
 ReadsOneSketch Grow = ⊥
 ReadsOneSketch Verify = ⊥
 ReadsOneSketch Flips = ⊥
+ReadsOneSketch Live = ⊥
 ReadsOneSketch command = Unit {0}
 
 -- the words ask for such a command

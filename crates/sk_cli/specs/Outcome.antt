@@ -10,9 +10,9 @@ use Rattle.sk_gen.specs.DatumSketch.{datum_sketch}
 use Rattle.sk_report.specs.PlanReport.{plan_report}
 use Rattle.sk_report.specs.RefusalLine.{refusal_line}
 use Rattle.sk_cli.specs.declared.accounts.Account.{Account}
-use Rattle.sk_cli.specs.declared.accounts.Account.TheVariants.{Judged, Spares, Derived, Migrated, Shapes}
+use Rattle.sk_cli.specs.declared.accounts.Account.TheVariants.{Judged, Spares, Derived, Migrated, Shapes, Excesses}
 use Rattle.sk_request.specs.declared.Command.{Command}
-use Rattle.sk_request.specs.declared.Command.TheVariants.{Check, Plan, Solve, Dxf, Offers, Session, Grow, Migrate, Verify, Spare, Flips, Derive, Parts}
+use Rattle.sk_request.specs.declared.Command.TheVariants.{Check, Plan, Solve, Dxf, Offers, Session, Grow, Migrate, Verify, Spare, Flips, Derive, Parts, Live, Excess}
 use Rattle.sk_request.specs.declared.Request.{Request}
 use Rattle.sk_cli.specs.declared.solving.Report.{Report}
 use Rattle.sk_cli.specs.declared.solving.Report.TheVariants.{Places, Drawing, Sums}
@@ -21,13 +21,14 @@ use Rattle.sk_cli.specs.declared.status.Status.TheVariants.{Done, Refused, Usage
 use Rattle.sk_cli.specs.Accounts.{IsAccount}
 use Rattle.sk_request.specs.Asking.{Asks, AreOfForm}
 use Rattle.sk_cli.specs.FlipsReport.{IsFlipsAnswer}
+use Rattle.sk_cli.specs.LiveAnswer.{RepliesInTime, IsLiveAnswer}
 use Rattle.sk_cli.specs.OffersReport.{IsOffersAnswer}
 use Rattle.sk_cli.specs.SessionAnswer.{IsSessionAnswer, RepliesToFront}
 use Rattle.sk_cli.specs.VerifyAnswer.{IsVerifyAnswer}
 pub use Rattle.sk_cli.specs.Solved.{IsReportNotWell, IsPlacedPlan, IsSolved}
 
 abbrev pub usage_line : List ℕ
-usage_line = codes "usage: sketch check|plan|solve|dxf|offers|session|grow|migrate|verify|spare|flips|derive|parts [order=first|last|0..65535] [bits=16|27|38] [within=1..1000000] [place=boxes|points] [frame=base|drawn] [n=3..1000]\n"
+usage_line = codes "usage: sketch check|plan|solve|dxf|offers|session|grow|migrate|verify|spare|flips|derive|parts|live|excess [order=first|last|0..65535] [bits=16|27|38] [within=1..1000000] [place=boxes|points] [frame=base|drawn] [n=3..1000]\n"
 
 -- what is told of the sketch that the text is read as
 abbrev pub IsAccountOf : Account → List ℕ → List ℕ → Type 0
@@ -47,7 +48,7 @@ IsPlanOrReport order s Done text = IsPlanReport order s text
 IsPlanOrReport order s NotWell text = IsReportNotWell s text
 IsPlanOrReport order s status text = ⊥
 
--- what `check`, `migrate`, `spare`, `derive` and `parts` answer to an input, each with its account
+-- what `check`, `migrate`, `spare`, `derive`, `parts` and `excess` answer to an input, each with its account
 abbrev pub IsAccountAnswer : Account → List ℕ → Status → List ℕ → Type 0
 IsAccountAnswer account bytes Done text = IsAccountOf account bytes text
 IsAccountAnswer account bytes Refused text = IsRefusalText bytes text
@@ -83,6 +84,8 @@ IsAnswerOf Spare request bytes status text = IsAccountAnswer Spares bytes status
 IsAnswerOf Flips request bytes status text = IsFlipsAnswer request bytes status text
 IsAnswerOf Derive request bytes status text = IsAccountAnswer Derived bytes status text
 IsAnswerOf Parts request bytes status text = IsAccountAnswer (Shapes request) bytes status text
+IsAnswerOf Live request bytes status text = IsLiveAnswer request bytes status text
+IsAnswerOf Excess request bytes status text = IsAccountAnswer (Excesses request) bytes status text
 
 abbrev pub IsAnswer : Request → List ℕ → Status → List ℕ → Type 0
 IsAnswer request bytes status text = IsAnswerOf request.command request bytes status text
@@ -97,6 +100,10 @@ IsOutcome words bytes status text =
 abbrev pub AreFirstReplies : List (List ℕ) → List ℕ → List ℕ → Type 0
 AreFirstReplies words bytes text = (request : Request) × Asks words request × (request.command ≡ Session) × RepliesToFront request bytes text
 
--- a text that is written, whole or as far as the sink takes it: that of an outcome, or that of a session's first replies
+-- the words ask for `live`, and this is the text of its replies to some lines at the front of those in time
+abbrev pub AreLiveReplies : List (List ℕ) → List ℕ → List ℕ → Type 0
+AreLiveReplies words bytes text = (request : Request) × Asks words request × (request.command ≡ Live) × RepliesInTime request bytes text
+
+-- a text that is written, whole or as far as the sink takes it: that of an outcome, or that of the first replies of a session or of `live`
 abbrev pub IsWritten : List (List ℕ) → List ℕ → List ℕ → Type 0
-IsWritten words bytes text = ((status : Status) × IsOutcome words bytes status text) ⊎ AreFirstReplies words bytes text
+IsWritten words bytes text = ((status : Status) × IsOutcome words bytes status text) ⊎ (AreFirstReplies words bytes text ⊎ AreLiveReplies words bytes text)

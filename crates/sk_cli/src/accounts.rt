@@ -1,5 +1,5 @@
-// What is told of a sketch that is read, whatever its verdict: by `check`, `migrate`, `spare`, `derive`
-// and `parts`.
+// What is told of a sketch that is read, whatever its verdict: by `check`, `migrate`, `spare`, `derive`,
+// `parts` and `excess`.
 ghost use Rattle.std.specs.Prelude.{◌<◌, length, IfOk};
 ghost use Rattle.sk_base.specs.SoundSketch.{IsSoundSketch};
 ghost use Rattle.sk_base.specs.SoundGraph.{IsSoundGraph};
@@ -9,6 +9,7 @@ ghost use Rattle.sk_cli.specs.Accounts.{IsAccount};
 ghost use Rattle.sk_cli.specs.Outcome.{IsAccountAnswer};
 
 use crate::answer::{Answer, refused};
+use crate::excess::excesses;
 use crate::parts::shapes;
 use crate::status::Status;
 use sk_base::{Graph, NoMemory, Sketch, Text};
@@ -37,10 +38,12 @@ pub enum Account {
     Migrated,
     /// The verdict, and the parts with their shapes, as the request says.
     Shapes(Request),
+    /// The parts that are over, and what a minimal choice of each leaves out, measured as the request says.
+    Excesses(Request),
 }
 
 /// The answer to an input whose sketch is given this account of. The order of merges changes nothing
-/// in it but for shapes, whose request gives it.
+/// in it but for shapes and excesses, whose request gives it.
 pub fn account_of(
     alloc: Global,
     account: Account,
@@ -75,6 +78,7 @@ fn account_text(
         Account::Derived => derived(alloc, order, sketch),
         Account::Migrated => write_sketch_2(alloc, sketch),
         Account::Shapes(request) => shapes(alloc, request, sketch),
+        Account::Excesses(request) => excesses(alloc, request, sketch),
     }
 }
 

@@ -1,5 +1,6 @@
 // Laws on what words ask for and what is answered.
-ghost use Rattle.std.specs.Prelude.{◌≡◌, ◌↔◌, ◌⊎◌, ◌<◌, length, [], ◌∷◌, ◌++◌, ℕ, List, All, IsTrue, codes, drop};
+ghost use Rattle.std.specs.Prelude.{◌≡◌, ◌↔◌, ◌⊎◌, ◌+◌, ◌<◌, ◌≤◌, length, [], ◌∷◌, ◌++◌, ℕ, List, All, Contains, IsTrue, codes, drop};
+ghost use Rattle.sk_base.specs.declared.ConId.{ConId};
 ghost use Rattle.sk_base.specs.declared.Placed.{Placed};
 ghost use Rattle.sk_base.specs.declared.Sketch.{Sketch};
 ghost use Rattle.sk_base.specs.SoundSketch.{IsSoundSketch};
@@ -7,7 +8,13 @@ ghost use Rattle.sk_flips.specs.declared.Alternative.TheVariants.{Found};
 ghost use Rattle.sk_flips.specs.Alternatives.{IsAlternative};
 ghost use Rattle.sk_graph.specs.SketchGraph.{graph_of};
 ghost use Rattle.sk_tree.specs.declared.Plan.{Plan};
-ghost use Rattle.sk_plan.specs.Judged.{IsWell};
+ghost use Rattle.sk_verdict.specs.declared.Judgement.{Judgement};
+ghost use Rattle.sk_verdict.specs.declared.Part.{Part};
+ghost use Rattle.sk_plan.specs.Judged.{IsTheJudgement, IsWell};
+ghost use Rattle.sk_parts.specs.OwnSketch.{part_sketch};
+ghost use Rattle.sk_excess.specs.LeftOut.{AreLeftOut};
+ghost use Rattle.sk_excess.specs.KeptSketch.{kept_sketch};
+ghost use Rattle.sk_rules.specs.Excess.{held, weight_of};
 ghost use Rattle.sk_session.specs.State.{State, sketch_in};
 ghost use Rattle.sk_session.specs.declared.Reply.{Reply};
 ghost use Rattle.sk_report.specs.PlanReport.{plan_report};
@@ -23,7 +30,7 @@ ghost use Rattle.sk_request.specs.declared.Request.{Request};
 ghost use Rattle.sk_cli.specs.declared.status.Status.{Status};
 ghost use Rattle.sk_request.specs.Asking.{Asks, AreOfForm};
 ghost use Rattle.sk_request.specs.declared.Command.{Command};
-ghost use Rattle.sk_cli.specs.Headline.{Tells, TellsAsAsked, RepliesNext, HoldsAt};
+ghost use Rattle.sk_cli.specs.Headline.{Tells, TellsAsAsked, RepliesNext, RepliesNextLive, HoldsAt};
 ghost use Rattle.sk_cli.specs.PrintedClaim.{printed_text, printed_claim};
 ghost use Rattle.sk_lang.specs.Front.{ReadsFront};
 ghost use Rattle.sk_claims.specs.ClaimReading.{ReadsClaim};
@@ -32,8 +39,12 @@ ghost use Rattle.sk_cli.specs.Causes.{plans, solves, IsSketchOf, IsRefusedInput,
 ghost use Rattle.sk_cli.specs.declared.solving.Report.TheVariants.{Places};
 ghost use Rattle.sk_cli.specs.FlipsReport.{IsReportOnFlips};
 ghost use Rattle.sk_cli.specs.PartsReport.{IsShape, IsPartsReport, IsSolvedAs, IsOneShape};
+ghost use Rattle.sk_cli.specs.ExcessReport.{IsExcess};
+ghost use Rattle.sk_cli.specs.Repeats.{IsByKept, FitWhereRepeated};
 ghost use Rattle.sk_request.specs.Grids.{grid_of, digits_of};
-ghost use Rattle.sk_cli.specs.Outcome.{IsSolved, IsOutcome, AreFirstReplies};
+ghost use Rattle.sk_cli.specs.Outcome.{IsSolved, IsOutcome, AreFirstReplies, AreLiveReplies};
+ghost use Rattle.sk_cli.specs.LiveAnswer.{IsLiveAnswer, for_session};
+ghost use Rattle.sk_cli.specs.SessionAnswer.{IsSessionAnswer};
 ghost use Rattle.sk_cli.specs.Migration.{AskOfOneSketch, IsMigrated};
 ghost use Rattle.sk_lang.specs.Reading.{Reads};
 ghost use Rattle.sk_lang.specs.declared.Front.{Front};
@@ -70,11 +81,13 @@ pub fn one_outcome()
     datum_sketch_is_sound();
 }
 
-/// What a session has answered where it stops, as where a write fails or memory runs out, is a front of
+/// What a session, or `live`, has answered where it stops, as where a write fails or memory runs out, is a front of
 /// the text of its outcome.
 pub fn first_replies_are_a_front()
-    ensures { (words : List (List ℕ)) (bytes text whole : List ℕ) (status : Status)
+    ensures session { (words : List (List ℕ)) (bytes text whole : List ℕ) (status : Status)
         → AreFirstReplies words bytes text → IsOutcome words bytes status whole → (behind : List ℕ) × (whole ≡ text ++ behind) }
+    ensures live { (words : List (List ℕ)) (bytes text whole : List ℕ) (status : Status)
+        → AreLiveReplies words bytes text → IsOutcome words bytes status whole → (behind : List ℕ) × (whole ≡ text ++ behind) }
 {
     one_answer();
     one_judgement();
@@ -85,6 +98,15 @@ pub fn first_replies_are_a_front()
     one_derived_text();
     datum_sketch_is_sound();
 }
+
+/// What `live` answers to an input that a session may have is what `session` answers with the same settings, so words that ask for the
+/// one and words that ask for the other have one outcome.
+pub fn live_answers_as_session()
+    ensures outcome { (words other : List (List ℕ)) (request : Request) (bytes text : List ℕ) (status : Status) → Asks words request → request.command ≡ Command.Live
+        → Asks other (for_session request) → length bytes ≤ 1048576 → IsOutcome words bytes status text ↔ IsOutcome other bytes status text }
+    ensures answer { (request : Request) (bytes text : List ℕ) (status : Status) → length bytes ≤ 1048576
+        → IsLiveAnswer request bytes status text ↔ IsSessionAnswer request bytes status text }
+{}
 
 /// Words and an input have an outcome, so that with memory there is one.
 pub fn some_outcome()
@@ -102,8 +124,8 @@ pub fn some_outcome()
 }
 
 /// Where `migrate` is done, what it writes reads as the very sketch that was read, so that the commands
-/// whose whole input is one sketch (`check`, `plan`, `solve`, `dxf`, `migrate`, `spare`, `derive` and `parts`) answer
-/// both texts alike, whatever their keys.
+/// whose whole input is one sketch (`check`, `plan`, `solve`, `dxf`, `migrate`, `spare`, `derive`, `parts` and `excess`)
+/// answer both texts alike, whatever their keys.
 pub fn migrated_reads_the_same()
     ensures reads { (bytes text : List ℕ) → IsMigrated bytes text → (s : Sketch) × Reads bytes s × Reads text s }
     ensures same { (bytes migrated : List ℕ) → IsMigrated bytes migrated → (words : List (List ℕ)) → AskOfOneSketch words
@@ -116,8 +138,8 @@ pub fn migrated_reads_the_same()
 
 /// Why each status comes. It is `Usage` exactly where the words aren't of the form, and `Refused` exactly
 /// where the input is. It is `NotWell` exactly where the command plans a sketch whose verdict isn't well,
-/// so never where it is `check`, `offers`, `session`, `migrate`, `verify`, `spare`, `derive` or `parts`,
-/// which don't plan the whole sketch. Where the command is `solve`, `dxf` or `grow`, and nowhere else, it is
+/// so never where it is `check`, `offers`, `session`, `live`, `migrate`, `verify`, `spare`, `derive`, `parts` or
+/// `excess`, which don't plan the whole sketch. Where the command is `solve`, `dxf` or `grow`, and nowhere else, it is
 /// `StepFault` exactly where a step has a fault; or none has, and a box can't be carried into the drawn frame
 /// that was asked for; or neither is so, no least number is above the limit and a sign is turned. There it is
 /// `Tolerance` exactly where no step has a fault, each box is carried where it is to be, and some least
@@ -130,7 +152,7 @@ pub fn causes()
     ensures usage { (words : List (List ℕ)) (bytes text : List ℕ) (status : Status) → IsOutcome words bytes status text
         → (status ≡ Status.Usage) ↔ (AreOfForm words → ⊥) }
     ensures refused { (words : List (List ℕ)) (bytes text : List ℕ) (status : Status) (request : Request) → IsOutcome words bytes status text → Asks words request
-        → (status ≡ Status.Refused) ↔ IsRefusedInput request.command bytes }
+        → (status ≡ Status.Refused) ↔ IsRefusedInput request.command request bytes }
     ensures not_well { (words : List (List ℕ)) (bytes text : List ℕ) (status : Status) (request : Request) → IsOutcome words bytes status text → Asks words request
         → (status ≡ Status.NotWell) ↔ (IsTrue (plans request.command) × ((s : Sketch) × IsSketchOf request.command request bytes s × (IsWell (graph_of s) → ⊥))) }
     ensures step_fault { (words : List (List ℕ)) (bytes text : List ℕ) (status : Status) (request : Request) → IsOutcome words bytes status text → Asks words request
@@ -143,7 +165,7 @@ pub fn causes()
         → IsTrue (solves request.command) → IsSketchOf request.command request bytes s
         → (status ≡ Status.Done) ↔ ((p : Plan) × IsItsPlan request s p × ((at : Placed) × LieAt request s p at × NonePasses request s at × AllAsDrawn (signs s at p))) }
     ensures done_unless_refused { (words : List (List ℕ)) (bytes text : List ℕ) (status : Status) (request : Request) → IsOutcome words bytes status text → Asks words request
-        → (IsTrue (plans request.command) → ⊥) → (request.command ≡ Command.Verify → ⊥) → (status ≡ Status.Done) ↔ (IsRefusedInput request.command bytes → ⊥) }
+        → (IsTrue (plans request.command) → ⊥) → (request.command ≡ Command.Verify → ⊥) → (status ≡ Status.Done) ↔ (IsRefusedInput request.command request bytes → ⊥) }
     ensures done_where_well { (words : List (List ℕ)) (bytes text : List ℕ) (status : Status) (request : Request) → IsOutcome words bytes status text → Asks words request
         → IsTrue (plans request.command) → (IsTrue (solves request.command) → ⊥) → (status ≡ Status.Done) ↔ ((s : Sketch) × IsSketchOf request.command request bytes s × IsWell (graph_of s)) }
     ensures done_where_accepted { (words : List (List ℕ)) (bytes text : List ℕ) (status : Status) (request : Request) → IsOutcome words bytes status text → Asks words request
@@ -177,11 +199,30 @@ pub fn solved_places_are_found()
 /// Below the line of a part that isn't over, `parts` writes what `solve` with the same keys writes of the part's
 /// own sketch: the lines behind the verdict where it is done, and else its one line (`shape`). Where the verdict on
 /// a sketch is well, there is one part, and its own sketch is the sketch itself (`well`).
+///
+/// Below the line of a part that is over, `excess` tells by what `solve` with the same keys writes of the part's own
+/// sketch without the constraints that are left out: how far off each of these is at its places where it is done, and
+/// else a line for each of these and its one line, or that the part stays over where the verdict isn't well (`kept`).
+/// Where each of these lines is on a repeat, the places of that `solve` meet each constraint of the whole own sketch
+/// within the limit, and neither an angle nor a block of it is turned (`fit`). No constraint is left out of two parts
+/// (`once`); which ones are hangs on the sketch alone, by `one_list_left_out` of `sk_excess`. What a part holds is what
+/// the constraints that stay hold, and what those that are left out weigh (`weighs`).
 pub fn shapes_are_as_solved()
     ensures shape { (request : Request) (s : Sketch) (shape : List ℕ) → IsShape request s shape → IsSolvedAs request s shape }
     ensures well { (request : Request) (s : Sketch) (text : List ℕ) → IsSoundSketch s → 0 < length s.elements → IsWell (graph_of s)
         → IsPartsReport request s text → IsOneShape request s text }
-{}
+    ensures kept { (request : Request) (own : Sketch) (text : List ℕ) → IsSoundSketch own → IsExcess request own text
+        → (left : List ConId) × AreLeftOut (graph_of own) left × IsByKept request own left text }
+    ensures fit { (words : List (List ℕ)) (bytes text : List ℕ) (status : Status) (request : Request) (s : Sketch) → IsOutcome words bytes status text → Asks words request
+        → request.command ≡ Command.Excess → Reads bytes s → FitWhereRepeated request s text }
+    ensures once { (s : Sketch) (j : Judgement) (p q : Part) (of_p of_q : List ConId) (k : ConId) → IsSoundSketch s → IsTheJudgement (graph_of s) j → Contains j.parts p → Contains j.parts q
+        → AreLeftOut (graph_of (part_sketch s p.elements)) of_p → AreLeftOut (graph_of (part_sketch s q.elements)) of_q → Contains of_p k → Contains of_q k → p ≡ q }
+    ensures weighs { (s : Sketch) (j : Judgement) (p : Part) (left : List ConId) → IsSoundSketch s → IsTheJudgement (graph_of s) j → Contains j.parts p
+        → p.held ≡ held (graph_of (kept_sketch left (part_sketch s p.elements))) p.elements + weight_of (graph_of (part_sketch s p.elements)) left }
+{
+    one_answer();
+    readable_is_sound();
+}
 
 /// The headline. Whatever sketch is readable and whatever order is asked for: the clusters that are
 /// printed are the only ones that merging reaches and no rule can merge, and just those are called over
@@ -192,16 +233,21 @@ pub fn shapes_are_as_solved()
 /// can't be carried into the drawn frame, the first line or constraint that is beyond the limit, or the first
 /// turned sign. A block of k points counts as 2k - 3 of the constraints that a cluster holds,
 /// and as one of those that a plan uses; it is drawn as its places are given. Of the own sketch of each part
-/// that isn't over, `parts` tells what `solve` tells of a sketch.
+/// that isn't over, `parts` tells what `solve` tells of a sketch. Of the own sketch of each part that is over,
+/// `excess` tells this of the constraints that stay in a minimal choice, and where they hold, how far off each of
+/// the others is at their places.
 ///
 /// It is told of the sketch that a command is about (`sketch`), and of the sketch in a session now, by the
 /// replies to `check`, `plan` and `solve`, each of which stands in what is written behind the replies to
-/// the lines before it (`session`).
+/// the lines before it (`session`, and `live`).
 pub fn headline()
     ensures sketch { (words : List (List ℕ)) (bytes text : List ℕ) (status : Status) (request : Request) (s : Sketch) → IsOutcome words bytes status text → Asks words request
         → IsSketchOf request.command request bytes s → Tells request.command request s status text }
     ensures session { (words : List (List ℕ)) (bytes before text whole : List ℕ) (status : Status) (request : Request) (new : State) (r : Reply) → IsOutcome words bytes status whole → Asks words request
         → request.command ≡ Command.Session → RepliesNext request bytes before new r text
+        → TellsAsAsked request (sketch_in new) r text × ((behind : List ℕ) × (whole ≡ before ++ (text ++ behind))) }
+    ensures live { (words : List (List ℕ)) (bytes before text whole : List ℕ) (status : Status) (request : Request) (new : State) (r : Reply) → IsOutcome words bytes status whole → Asks words request
+        → request.command ≡ Command.Live → RepliesNextLive request bytes before new r text
         → TellsAsAsked request (sketch_in new) r text × ((behind : List ℕ) × (whole ≡ before ++ (text ++ behind))) }
 {
     one_answer();

@@ -85,7 +85,7 @@ fn reply_to<K: Sink>(
 }
 
 /// Whether a session goes on after the reply.
-fn goes_on(reply: &Reply) -> bool
+pub(crate) fn goes_on(reply: &Reply) -> bool
     ensures { IsTrue result ↔ (reply.now ≢ a_reply.End) }
 {
     match reply {

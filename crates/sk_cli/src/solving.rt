@@ -78,7 +78,7 @@ fn status_of(placement: &Placement) -> Status
 }
 
 /// What is written of a placement.
-fn placement_text(
+pub(crate) fn placement_text(
     alloc: Global,
     report: Report,
     bits: u32,

@@ -5,13 +5,14 @@ ghost use Rattle.sk_io.specs.Causes.{AnswersFault};
 ghost use Rattle.sk_io.specs.Transfer.{TakesUpTo};
 ghost use Rattle.sk_request.specs.Asking.{TakesInput, AskForInput};
 ghost use Rattle.sk_cli.specs.Outcome.{IsAnswer, IsWritten};
-ghost use Rattle.sk_cli.specs.Ending.{IsTold, Ends, HasInput, Sends};
+ghost use Rattle.sk_cli.specs.Ending.{IsTold, AskForLive, Ends, HasInput, Sends};
 
 use crate::accounts::{Account, account_of};
 use crate::answer::{Answer, refused};
 use crate::claims::claimed;
 use crate::flips::flips;
 use crate::grow::grow;
+use crate::live::live;
 use crate::offers::offers;
 use crate::plan::plan;
 use crate::session::session;
@@ -25,7 +26,7 @@ use sk_request::{Command, Request, request_of};
 use std::alloc::Global;
 
 const USAGE: &str =
-    "usage: sketch check|plan|solve|dxf|offers|session|grow|migrate|verify|spare|flips|derive|parts [order=first|last|0..65535] [bits=16|27|38] [within=1..1000000] [place=boxes|points] [frame=base|drawn] [n=3..1000]\n";
+    "usage: sketch check|plan|solve|dxf|offers|session|grow|migrate|verify|spare|flips|derive|parts|live|excess [order=first|last|0..65535] [bits=16|27|38] [within=1..1000000] [place=boxes|points] [frame=base|drawn] [n=3..1000]\n";
 
 /// The most bytes of an input.
 const MOST_BYTES: usize = 1_048_576;
@@ -55,9 +56,10 @@ pub fn run<S: Source, K: Sink>(
         × Appends (K.written sink.old) (K.written sink.new) gained
         × Ends (map string_bytes words.now) bytes result gained }
 
-    // The input is read to its end, or to the byte that is one too many. Where the words aren't of the
-    // form, or their command makes its sketch, the source is as it was.
-    ensures read { AskForInput (map string_bytes words.now) → HasInput result
+    // The input is read to its end, or to the byte that is one too many. How much of it `live` takes is said of each
+    // of its turns, by `turn`. Where the words aren't of the form, or their command makes its sketch, the source is as
+    // it was.
+    ensures read { AskForInput (map string_bytes words.now) → (AskForLive (map string_bytes words.now) → ⊥) → HasInput result
         → IfSome (S.left source.old) (λ bytes. S.left source.new ≡ Some (drop 1048577 bytes)) }
     ensures untouched { (AskForInput (map string_bytes words.now) → ⊥) → source.new ≡ source.old }
 
@@ -66,16 +68,19 @@ pub fn run<S: Source, K: Sink>(
     ensures write_fault { AnswersFault (result ≡ Status.WriteFault) (K.faults sink.old) (K.faults sink.new) }
 
     // Where no read fails, and the sink has room for every text that is written and no write of it fails, no fault is
-    // counted and none is answered.
+    // counted and none is answered. `live` flushes the sink, so there no flush may fail either.
     ensures sure_source { S.is_sure source.old
         → (S.faults source.new ≡ S.faults source.old) × (result ≡ Status.ReadFault → ⊥) }
-    ensures sure_sink { ((bytes text : List ℕ) → IsTold (S.left source.old) bytes
+    ensures sure_sink { (AskForLive (map string_bytes words.now) → K.is_steady sink.old) → ((bytes text : List ℕ) → IsTold (S.left source.old) bytes
         → IsWritten (map string_bytes words.now) bytes text → length text ≤ K.sure_room sink.old)
         → (K.faults sink.new ≡ K.faults sink.old) × (result ≡ Status.WriteFault → ⊥) }
 {
     let Some(request) = request_of(words) else {
         return send(sink, Status::Usage, USAGE.as_bytes());
     };
+    if asks_for_live(request) {
+        return live(alloc, request, source, sink);
+    }
     let bytes = match input(alloc, request.command, source) {
         Ok(bytes) => bytes,
         Err(ReadEnd::ReadFault) => return Status::ReadFault,
@@ -108,6 +113,13 @@ fn input<S: Source>(alloc: Global, command: Command, source: &mut S) -> Result<T
     read_all(alloc, source, MOST_TAKEN)
 }
 
+/// Whether a session is asked for that answers as it is asked.
+fn asks_for_live(request: Request) -> bool
+    ensures { IsTrue result ↔ (request.command ≡ Command.Live) }
+{
+    request.command == Command::Live
+}
+
 /// Whether a session is asked for, and the input isn't too long.
 fn asks_for_session(request: Request, bytes: &[u8]) -> bool
     ensures { IsTrue result ↔ ((request.command ≡ Command.Session) × (length bytes.now ≤ 1048576)) }
@@ -115,8 +127,9 @@ fn asks_for_session(request: Request, bytes: &[u8]) -> bool
     request.command == Command::Session && bytes.len() <= MOST_BYTES
 }
 
-/// The answer to an input, but to that of a session.
+/// The answer to an input that is taken whole, but to that of a session.
 fn answer(alloc: Global, request: Request, bytes: &[u8]) -> Result<Answer, NoMemory>
+    requires whole { request.command ≡ Command.Live → ⊥ }
     requires size { request.command ≡ Command.Grow → (n : ℕ) × (request.size ≡ Some n) × (3 ≤ n) × (n ≤ 1000) }
     requires long { request.command ≡ Command.Session → 1048576 < length bytes.now }
     ensures { IfOk result (λ answer. IsAnswer request bytes.now answer.status answer.text) }
@@ -127,7 +140,7 @@ fn answer(alloc: Global, request: Request, bytes: &[u8]) -> Result<Answer, NoMem
         Command::Solve => solve(alloc, request, Report::Places, bytes),
         Command::Dxf => solve(alloc, request, Report::Drawing, bytes),
         Command::Offers => offers(alloc, request.order, bytes),
-        Command::Session => refused(alloc, &TOO_LONG),
+        Command::Session | Command::Live => refused(alloc, &TOO_LONG),
         Command::Grow => grow(alloc, request),
         Command::Migrate => account_of(alloc, Account::Migrated, request.order, bytes),
         Command::Verify => claimed(alloc, bytes),
@@ -135,6 +148,7 @@ fn answer(alloc: Global, request: Request, bytes: &[u8]) -> Result<Answer, NoMem
         Command::Flips => flips(alloc, request, bytes),
         Command::Derive => account_of(alloc, Account::Derived, request.order, bytes),
         Command::Parts => account_of(alloc, Account::Shapes(request), request.order, bytes),
+        Command::Excess => account_of(alloc, Account::Excesses(request), request.order, bytes),
     }
 }
 

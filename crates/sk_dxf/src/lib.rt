@@ -9,8 +9,6 @@ mod neighbours;
 mod pairs;
 mod rounding;
 mod segment;
-#[cfg(test)]
-mod tests;
 
 pub use drawing::dxf_text;
 pub use law::segments_span_the_neighbours;

@@ -6,8 +6,6 @@ mod datum;
 mod elements;
 mod law;
 mod lengths;
-#[cfg(test)]
-mod tests;
 
 pub use datum::datum_sketch;
 pub use law::datum_sketch_is_sound;

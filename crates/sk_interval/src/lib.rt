@@ -9,6 +9,3 @@ mod quotient;
 pub use grid::{G16, G27, G38, Grid};
 pub use interval::{Cause, Iv};
 pub use laws::operations_are_least_on_every_grid;
-
-#[cfg(test)]
-mod tests;

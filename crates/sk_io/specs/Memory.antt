@@ -1,5 +1,5 @@
 -- A source and a sink in memory, as their contracts see them.
-use Rattle.std.specs.Prelude.{◌≡◌, ℕ, ◌+◌, ◌-◌, min, List, [], ◌∷◌, length, filter, nat_le}
+use Rattle.std.specs.Prelude.{◌≡◌, ◌⊎◌, ℕ, ◌+◌, ◌-◌, min, List, [], ◌∷◌, length, filter, nat_le}
 use Rattle.sk_io.specs.declared.fault.TheConstants.{LAST_COUNT}
 
 -- a number of calls or faults, one later; at its last value it stays
@@ -33,6 +33,10 @@ to_come calls fails = filter (λ number. nat_le (one_later calls) number) fails
 -- no read from here on fails
 abbrev pub IsSure : Stream → Type 0
 IsSure s = to_come s.calls s.fails ≡ []
+
+-- the second is the first after one read: one call more is counted, or the buffer was empty
+abbrev pub IsOneRead : Stream → Stream → Type 0
+IsOneRead old new = (new.calls ≡ old.calls) ⊎ (new.calls ≡ one_later old.calls)
 
 -- the room that is left where no failing call is still to come, else none
 abbrev pub room_if_none : List ℕ → ℕ → ℕ

@@ -40,6 +40,8 @@ impl<R: Read> Source for StdSource<R> {
 
     ghost is_sure = { λ _. ⊥ };
 
+    ghost is_one_read = { λ _ _. Unit {0} };
+
     fn read(&mut self, buf: &mut [u8]) -> Result<usize, Failed>
         ensures bound { ReadsAtMost result buf.new }
         ensures fault { AnswersFault (IsErr result) self.old self.new }

@@ -9,8 +9,6 @@ mod mem_sink;
 mod mem_source;
 mod sink;
 mod source;
-#[cfg(test)]
-mod tests;
 
 pub use adapters::{StdSink, StdSource};
 pub use fault::{Failed, LAST_COUNT, ReadEnd};

@@ -2,7 +2,7 @@ ghost use Rattle.std.specs.Prelude.{◌≡◌, ◌<◌, ◌↔◌, length, min, 
 ghost use Rattle.std.specs.Io.{ReadsAtMost};
 ghost use Rattle.std.specs.Io.KnownBytes.{ReadConsumes};
 ghost use Rattle.sk_io.specs.Causes.{AnswersFault};
-ghost use Rattle.sk_io.specs.Memory.{one_later, calls_after, IsSure};
+ghost use Rattle.sk_io.specs.Memory.{one_later, calls_after, IsSure, IsOneRead};
 
 use crate::calls::is_listed;
 use crate::fault::Failed;
@@ -65,12 +65,15 @@ impl Source for MemSource {
 
     ghost is_sure = { IsSure };
 
+    ghost is_one_read = { IsOneRead };
+
     fn read(&mut self, buf: &mut [u8]) -> Result<usize, Failed>
         ensures bound { ReadsAtMost result buf.new }
         ensures bytes { ReadConsumes (Some self.old.left) (Some self.new.left) result buf.new }
         ensures fault { AnswersFault (IsErr result) self.old.faults self.new.faults }
         ensures sure { IsSure self.old
             → IsSure self.new × IsOk result × (self.new.faults ≡ self.old.faults) }
+        ensures once { IsOneRead self.old self.new }
 
         // It fails exactly where the call's number is one of those, and else gives all that there is room for.
         ensures failed { IsErr result ↔ ((0 < length buf.old) × Contains self.old.fails (one_later self.old.calls)) }

@@ -11,7 +11,7 @@ pub trait Sink {
     /// The bytes that were written, where the sink tells them.
     ghost written: { Self → Option (List ℕ) };
 
-    /// How often a write has failed.
+    /// How often a write or a flush has failed.
     ghost faults: { Self → ℕ };
 
     /// So many further bytes are taken, and no write of them fails. This tells nothing of content.

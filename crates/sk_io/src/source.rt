@@ -20,13 +20,17 @@ pub trait Source {
     /// No read from here on fails. This tells nothing of content.
     ghost is_sure: { Self → Type 0 };
 
+    /// The second is the first after one read. A source that can't tell says nothing by this.
+    ghost is_one_read: { Self → Self → Type 0 };
+
     /// Takes bytes off the front of what is left. `Ok(0)` on a buffer that isn't empty is the end.
     fn read(&mut self, buf: &mut [u8]) -> Result<usize, Failed>
         ensures bound { ReadsAtMost result buf.new }
         ensures bytes { ReadConsumes (left self.old) (left self.new) result buf.new }
         ensures fault { AnswersFault (IsErr result) (faults self.old) (faults self.new) }
         ensures sure { is_sure self.old
-            → is_sure self.new × IsOk result × (faults self.new ≡ faults self.old) };
+            → is_sure self.new × IsOk result × (faults self.new ≡ faults self.old) }
+        ensures once { is_one_read self.old self.new };
 }
 
 /// The most bytes of one read.

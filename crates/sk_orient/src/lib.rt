@@ -4,8 +4,6 @@
 
 mod drawn;
 mod placed;
-#[cfg(test)]
-mod tests;
 mod vector;
 
 pub use drawn::{advance_drawn, direction, place, sense_drawn, side_drawn, turn_drawn};

@@ -17,3 +17,8 @@ pub four_put : {T E : Type 0} (r : Result T E) (old a b c d one two three four :
     → OnOk r (four ≡ three ++ d) → OnOk r (four ≡ old ++ (((a ++ b) ++ c) ++ d))
 four_put r old a b c d one two three four first second third fourth =
     three_put r old (a ++ b) c d two three four (two_put old a b one two first second) third fourth
+
+pub six_put : {T E : Type 0} (r : Result T E) (old a b c d e f one two three four five six : List ℕ) → one ≡ old ++ a → two ≡ one ++ b → three ≡ two ++ c → four ≡ three ++ d → five ≡ four ++ e
+    → OnOk r (six ≡ five ++ f) → OnOk r (six ≡ old ++ (((((a ++ b) ++ c) ++ d) ++ e) ++ f))
+six_put r old a b c d e f one two three four five six first second third fourth fifth sixth =
+    four_put r old ((a ++ b) ++ c) d e f three four five six (two_put old (a ++ b) c two three (two_put old a b one two first second) third) fourth fifth sixth

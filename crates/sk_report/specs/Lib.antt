@@ -1,5 +1,6 @@
 pub mod AnswerLine
 pub mod CheckReport
+pub mod ExcessReport
 pub mod FaultLines
 pub mod GrowReport
 pub mod PlanReport

@@ -137,7 +137,7 @@ pub fn turned_text(alloc: Global, t: &Turned) -> Result<Text, NoMemory>
     Ok(text)
 }
 
-fn sign_text(sign: Sign) -> &'static str
+pub(crate) fn sign_text(sign: Sign) -> &'static str
     ensures { result.now ≡ sign_text sign }
 {
     match sign {

@@ -3,6 +3,7 @@
 
 mod answer;
 mod check;
+mod excess;
 mod fault;
 mod grow;
 mod plan;
@@ -12,6 +13,7 @@ mod solve;
 
 pub use answer::answer_text;
 pub use check::{check_text, part_text, parts_head_text};
+pub use excess::{put_left, put_off};
 pub use fault::{fault_text, frame_fault_text, passed_text, turned_text};
 pub use grow::grow_text;
 pub use plan::plan_text;

@@ -2,7 +2,7 @@
 use Rattle.std.proofs.Common.{◌≡◌, ◌==◌, ◌<◌, ◌+◌, ℕ, List, ◌∷◌, refl, sym, ap, ◌∙◌, arith}
 use Rattle.std.specs.Prelude.{if◌then◌else◌, fold}
 use Rattle.sk_request.specs.declared.command.Command.{Command}
-use Rattle.sk_request.specs.declared.command.Command.TheVariants.{Check, Plan, Solve, Dxf, Offers, Session, Grow, Migrate, Verify, Spare, Flips, Derive, Parts}
+use Rattle.sk_request.specs.declared.command.Command.TheVariants.{Check, Plan, Solve, Dxf, Offers, Session, Grow, Migrate, Verify, Spare, Flips, Derive, Parts, Live, Excess}
 use Rattle.sk_request.specs.Commands.{command_word}
 
 -- words with different first letters differ
@@ -14,7 +14,7 @@ abbrev by_letters : ℕ → Command
 by_letters n =
     if n == 510 then Check else (if n == 427 then Plan else (if n == 553 then Solve else (if n == 322 then Dxf else (if n == 645 then Offers else (if n == 772 then Session else (
     if n == 447 then Grow else (if n == 745 then Migrate else (if n == 661 then Verify else (if n == 539 then Spare else (
-    if n == 542 then Flips else (if n == 554 then Parts else Derive)))))))))))
+    if n == 542 then Flips else (if n == 554 then Parts else (if n == 432 then Live else (if n == 651 then Excess else Derive)))))))))))))
 
 abbrev letters : List ℕ → ℕ
 letters word = fold (λ n c. n + c) 0 word
@@ -33,6 +33,8 @@ by_word Spare = refl
 by_word Flips = refl
 by_word Derive = refl
 by_word Parts = refl
+by_word Live = refl
+by_word Excess = refl
 
 pub one_command : (c d : Command) → command_word c ≡ command_word d → c ≡ d
 one_command c d same = sym (by_word c) ∙ ap (λ word. by_letters (letters word)) same ∙ by_word d

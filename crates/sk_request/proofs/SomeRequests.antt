@@ -13,7 +13,7 @@ use Rattle.sk_place.specs.declared.PlaceBy.TheVariants.{Boxes, Points}
 use Rattle.sk_request.specs.declared.bits.Bits.{Bits}
 use Rattle.sk_request.specs.declared.bits.Bits.TheVariants.{Sixteen, TwentySeven, ThirtyEight}
 use Rattle.sk_request.specs.declared.command.Command.{Command}
-use Rattle.sk_request.specs.declared.command.Command.TheVariants.{Check, Plan, Solve, Dxf, Offers, Session, Grow, Migrate, Verify, Spare, Flips, Derive, Parts}
+use Rattle.sk_request.specs.declared.command.Command.TheVariants.{Check, Plan, Solve, Dxf, Offers, Session, Grow, Migrate, Verify, Spare, Flips, Derive, Parts, Live, Excess}
 use Rattle.sk_request.specs.declared.request.Request.{Request}
 use Rattle.sk_request.specs.Commands.{command_word}
 use Rattle.sk_request.specs.Asking.{Key, OrderKey, BitsKey, WithinKey, PlaceKey, FrameKey, SizeKey, key_name, takes, behind, values_of, IsKeyOf, IsNumber, IsOrder, IsBits, IsLimit, IsPlace, IsFrame, IsSize, Says, IsSet, HasSize, HasKeys, AreOfForm}
@@ -138,7 +138,7 @@ key_decided command word =
     (some_in (λ key. IsTrue (takes command key) × IsSome (behind (key_name key) word)) (λ key. both (bool_decided (takes command key)) (bool_decided (is_some (behind (key_name key) word)))) all_keys)
 
 all_commands : List Command
-all_commands = Check ∷ Plan ∷ Solve ∷ Dxf ∷ Offers ∷ Session ∷ Grow ∷ Migrate ∷ Verify ∷ Spare ∷ Flips ∷ Derive ∷ Parts ∷ []
+all_commands = Check ∷ Plan ∷ Solve ∷ Dxf ∷ Offers ∷ Session ∷ Grow ∷ Migrate ∷ Verify ∷ Spare ∷ Flips ∷ Derive ∷ Parts ∷ Live ∷ Excess ∷ []
 
 command_listed : (command : Command) → Contains all_commands command
 unfolding all_commands
@@ -155,6 +155,8 @@ command_listed Spare = (9, omega arith, refl)
 command_listed Flips = (10, omega arith, refl)
 command_listed Derive = (11, omega arith, refl)
 command_listed Parts = (12, omega arith, refl)
+command_listed Live = (13, omega arith, refl)
+command_listed Excess = (14, omega arith, refl)
 
 unsized_decided : (command : Command) → Decided (HasSize command None)
 unsized_decided Check = inl tt
@@ -170,6 +172,8 @@ unsized_decided Spare = inl tt
 unsized_decided Flips = inl tt
 unsized_decided Derive = inl tt
 unsized_decided Parts = inl tt
+unsized_decided Live = inl tt
+unsized_decided Excess = inl tt
 
 sized_by : (command : Command) (n : ℕ) → HasSize command (Some n)
 sized_by Check n = tt
@@ -185,6 +189,8 @@ sized_by Spare n = tt
 sized_by Flips n = tt
 sized_by Derive n = tt
 sized_by Parts n = tt
+sized_by Live n = tt
+sized_by Excess n = tt
 
 -- the keys ask for something of the command
 abbrev AskOf : Command → List (List ℕ) → Type 0

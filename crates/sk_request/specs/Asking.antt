@@ -11,7 +11,7 @@ use Rattle.sk_place.specs.declared.PlaceBy.TheVariants.{Boxes, Points}
 use Rattle.sk_request.specs.declared.bits.Bits.{Bits}
 use Rattle.sk_request.specs.declared.bits.Bits.TheVariants.{Sixteen, TwentySeven, ThirtyEight}
 use Rattle.sk_request.specs.declared.command.Command.{Command}
-use Rattle.sk_request.specs.declared.command.Command.TheVariants.{Check, Plan, Solve, Dxf, Offers, Session, Grow, Migrate, Verify, Spare, Flips, Derive, Parts}
+use Rattle.sk_request.specs.declared.command.Command.TheVariants.{Check, Plan, Solve, Dxf, Offers, Session, Grow, Migrate, Verify, Spare, Flips, Derive, Parts, Live, Excess}
 use Rattle.sk_request.specs.declared.request.Request.{Request}
 use Rattle.sk_request.specs.Commands.{command_word}
 
@@ -80,6 +80,8 @@ orders Spare = false
 orders Flips = true
 orders Derive = true
 orders Parts = true
+orders Live = true
+orders Excess = true
 
 -- it places the elements of a sketch
 abbrev pub places : Command → Bool
@@ -96,6 +98,8 @@ places Spare = false
 places Flips = true
 places Derive = false
 places Parts = true
+places Live = true
+places Excess = true
 
 -- it makes its sketch
 abbrev pub makes : Command → Bool
@@ -112,6 +116,8 @@ makes Spare = false
 makes Flips = false
 makes Derive = false
 makes Parts = false
+makes Live = false
+makes Excess = false
 
 -- the keys of a command: all but `migrate`, `verify` and `spare` take an order, those that place elements a grid, a limit, what places are and their frame, one that makes a sketch its size
 abbrev pub takes : Command → Key → Bool

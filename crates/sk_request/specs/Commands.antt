@@ -1,7 +1,7 @@
 -- The words of commands.
 use Rattle.std.specs.Prelude.{ℕ, List, codes}
 use Rattle.sk_request.specs.declared.command.Command.{Command}
-use Rattle.sk_request.specs.declared.command.Command.TheVariants.{Check, Plan, Solve, Dxf, Offers, Session, Grow, Migrate, Verify, Spare, Flips, Derive, Parts}
+use Rattle.sk_request.specs.declared.command.Command.TheVariants.{Check, Plan, Solve, Dxf, Offers, Session, Grow, Migrate, Verify, Spare, Flips, Derive, Parts, Live, Excess}
 
 abbrev pub command_word : Command → List ℕ
 command_word Check = codes "check"
@@ -17,3 +17,5 @@ command_word Spare = codes "spare"
 command_word Flips = codes "flips"
 command_word Derive = codes "derive"
 command_word Parts = codes "parts"
+command_word Live = codes "live"
+command_word Excess = codes "excess"

@@ -33,6 +33,10 @@ pub enum Command {
     Derive,
     /// Places the elements of each part of a sketch by itself.
     Parts,
+    /// Answers commands that edit a sketch, each before the next is asked for.
+    Live,
+    /// Tells by how much a sketch says too much in each part that is over.
+    Excess,
 }
 
 impl Command {
@@ -50,7 +54,9 @@ impl Command {
             | Command::Grow
             | Command::Flips
             | Command::Derive
-            | Command::Parts => true,
+            | Command::Parts
+            | Command::Live => true,
+            | Command::Excess => true,
             Command::Migrate | Command::Verify | Command::Spare => false,
         }
     }
@@ -65,7 +71,9 @@ impl Command {
             | Command::Session
             | Command::Grow
             | Command::Flips
-            | Command::Parts => true,
+            | Command::Parts
+            | Command::Live => true,
+            | Command::Excess => true,
             Command::Check
             | Command::Plan
             | Command::Offers
@@ -93,7 +101,9 @@ impl Command {
             | Command::Spare
             | Command::Flips
             | Command::Derive
-            | Command::Parts => false,
+            | Command::Parts
+            | Command::Live => false,
+            | Command::Excess => false,
         }
     }
 }
@@ -129,6 +139,10 @@ pub fn command_of(word: &str) -> Option<Command>
         Some(Command::Derive)
     } else if word == "parts" {
         Some(Command::Parts)
+    } else if word == "live" {
+        Some(Command::Live)
+    } else if word == "excess" {
+        Some(Command::Excess)
     } else {
         None
     }

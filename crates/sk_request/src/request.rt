@@ -66,6 +66,8 @@ fn has_size(command: Command, size: Option<u32>) -> bool
         | Command::Spare
         | Command::Flips
         | Command::Derive
-        | Command::Parts => true,
+        | Command::Parts
+        | Command::Live => true,
+        | Command::Excess => true,
     }
 }

@@ -15,6 +15,3 @@ pub use parts::{cross, dist2, dot, named, normal_cross, normal_dot, size_of};
 pub use settling::settle;
 pub use third::third_element;
 pub use what::What;
-
-#[cfg(test)]
-mod tests;

@@ -1,3 +1,4 @@
 pub mod Hearings
 pub mod InTimes
+pub mod Rooms
 pub mod TurnEnds

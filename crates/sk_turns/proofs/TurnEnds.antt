@@ -1,6 +1,6 @@
 -- How a turn ends.
 use Rattle.std.proofs.Common.{◌≡◌, ℕ, ◌<◌, ◌≤◌, ◌-◌, false, min, List, [], ◌∷◌, ◌++◌, length, take, map, refl, sym, ap, subst, ◌∙◌, arith, inl, inr, None, Some, Option, append-nil, length-append}
-use Rattle.std.specs.Prelude.{All, Result, Ok, Err, IsErr, IsErrAnd, IfErr, OnOk}
+use Rattle.std.specs.Prelude.{All, Result, Ok, Err, IsOk, IsErr, IsErrAnd, IsErrOf, IfErr, OnOk}
 use Rattle.std.specs.Str.Lines.{strip_carriage_return}
 use Rattle.std.specs.Io.KnownBytes.{Appends, Consumes, Keeps, IsAtEnd}
 use Rattle.std.proofs.lemmas.Bool.{cases_lt}
@@ -20,7 +20,7 @@ use Rattle.sk_turns.proofs.InTimes.{all_in_time, front_taken, late}
 use Rattle.sk_turns.proofs.Hearings.{LongAlike, LongGoesOn, answered_more, kept_answered, some_so_far, stopped_at}
 
 -- the bytes that are told, or any
-told_bytes : (left : Option (List ℕ)) → (bytes : List ℕ) × IsTold left bytes
+pub told_bytes : (left : Option (List ℕ)) → (bytes : List ℕ) × IsTold left bytes
 told_bytes None = ([], tt)
 told_bytes (Some bytes) = (bytes, refl)
 
@@ -38,7 +38,7 @@ pub nothing_gained : (a : Option (List ℕ)) → Appends a a []
 nothing_gained None = tt
 nothing_gained (Some xs) = sym (append-nil xs)
 
-nothing_left : (a : Option (List ℕ)) → IsAtEnd a → IsTold a []
+pub nothing_left : (a : Option (List ℕ)) → IsAtEnd a → IsTold a []
 nothing_left None over = tt
 nothing_left (Some xs) over = sym over
 
@@ -152,6 +152,15 @@ module _ {X : Type 0} (replies : X → List ℕ → X → List ℕ → Type 0) (
           ),
         )
 
+    -- the same of the text so far
+    pub late_so : length taken ≡ 4294967295 → (left behind : Option (List ℕ)) (piece : List ℕ) → 0 < length piece → Consumes left behind piece
+        → (taken_off : List ℕ) × (rest : List ℕ) × Consumes left behind taken_off × IsTold behind rest × Ends replies ends first (taken ++ (taken_off ++ rest)) TooLong text
+    late_so full left behind piece some takes =
+        let told = told_bytes behind in
+        let sum = length-append piece told.0 in
+        let is = late (taken ++ (piece ++ told.0)) at.lines at.line (piece ++ told.0) (ap (λ (z : List ℕ). z ++ (piece ++ told.0)) at.cut) at.whole at.solid (ap length (sym at.cut) ∙ full) (omega (arith, some, sum)) in
+        (piece, told.0, takes, told.1, (record { before = lines_in at.lines; after = []; parts = ap lines_in is.0 ∙ sym (append-nil (lines_in at.lines)); now = now; answered = at.answered }, refl, is.1))
+
     pub finished_turn : (left behind before gained : Option (List ℕ)) (end : TurnEnd) → Consumes left behind [] → IsAtEnd behind → (more : List ℕ) → Appends before gained more → Ends replies ends first taken end (text ++ more)
         → EndsTurn replies ends first taken text left behind before gained end
     finished_turn left behind before gained end takes over more appended ended =
@@ -169,14 +178,37 @@ pub ends_as : {T : Type 0} (r : Result T TurnEnd) (P : TurnEnd → Type 0) (end 
 ends_as (Ok x) P end is holds = tt
 ends_as (Err e) P end (error, same) holds = subst P (sym same) holds
 
+-- an error that is handed on is the one that came
+pub err_is : {T U : Type 0} (r : Result T TurnEnd) (end other : TurnEnd) → IsErr r × IsErrAnd r (λ e. e ≡ end) → IsErrOf r other → IsErrOf {T = U} (Err end) other
+err_is (Ok x) end other is failed = absurd is.1
+err_is (Err e) end other (error, same) failed = cc
+
+-- and the other way
+pub err_back : {T U : Type 0} (r : Result T TurnEnd) (end other : TurnEnd) → IsErr r × IsErrAnd r (λ e. e ≡ end) → IsErrOf {T = U} (Err end) other → IsErrOf r other
+err_back (Ok x) end other is failed = absurd is.1
+err_back (Err e) end other (error, same) failed = cc
+
+-- where no error but one comes, what follows where all went well follows but for that error
+pub unless_failed : {T : Type 0} (r : Result T TurnEnd) (end : TurnEnd) (P : TurnEnd → Type 0) (Q : Type 0) → IfErr r (λ e. (e ≡ end) × P e) → (IsOk r → Q) → ¬ IsErrOf r end → Q
+unless_failed (Ok x) end P Q err ok other = ok refl
+unless_failed (Err e) end P Q (is, more) ok other = absurd (other (cc))
+
 -- a front of so many bytes was taken off
-pub few_taken : (left behind : Option (List ℕ)) (count : ℕ) (bytes : List ℕ) → count ≤ length bytes → length bytes ≤ 4096 → Consumes left behind (take count bytes) → TakesAtMost 4096 left behind
-few_taken left behind count bytes within few takes = let size = length-take count bytes in (take count bytes, omega (arith, size, within, few), takes)
+pub few_taken : (most : ℕ) (left behind : Option (List ℕ)) (count : ℕ) (bytes : List ℕ) → count ≤ length bytes → length bytes ≤ most → Consumes left behind (take count bytes) → TakesAtMost most left behind
+few_taken most left behind count bytes within few takes = let size = length-take count bytes in (take count bytes, omega (arith, size, within, few), takes)
 
 -- what follows where all went well, and where it didn't
 pub on_ok_so : {T E : Type 0} (r : Result T E) (P Q : Type 0) → (P → Q) → OnOk r P → OnOk r Q
 on_ok_so (Ok x) P Q so holds = so holds
 on_ok_so (Err e) P Q so holds = tt
+
+pub both_on_ok : {T E : Type 0} (r : Result T E) (P Q : Type 0) → OnOk r P → OnOk r Q → OnOk r (P × Q)
+both_on_ok (Ok x) P Q one other = (one, other)
+both_on_ok (Err e) P Q one other = tt
+
+pub on_ok_all : {T E : Type 0} (r : Result T E) (P : Type 0) → P → OnOk r P
+on_ok_all (Ok x) P holds = holds
+on_ok_all (Err e) P holds = tt
 
 pub if_err_so : {T E : Type 0} (r : Result T E) (P Q : E → Type 0) → ((e : E) → P e → Q e) → IfErr r P → IfErr r Q
 if_err_so (Ok x) P Q so holds = tt

@@ -1,11 +1,12 @@
 -- What is heard of an input that comes piece by piece.
-use Rattle.std.specs.Prelude.{◌≡◌, ◌≤◌, ◌<◌, ℕ, false, List, [], ◌∷◌, ◌++◌, length, take, All, Option}
+use Rattle.std.specs.Prelude.{◌≡◌, ◌≤◌, ◌<◌, ◌+◌, ℕ, false, List, [], ◌∷◌, ◌++◌, length, take, All, Option}
 use Rattle.std.specs.Io.KnownBytes.{Appends, Consumes}
 use Rattle.sk_io.specs.Transfer.{AppendsFront}
 use Rattle.sk_lines.specs.Lines.{is_line_feed, lines_in, EndsLine}
 use Rattle.sk_turns.specs.declared.ending.TurnEnd.{TurnEnd}
 use Rattle.sk_turns.specs.declared.ending.TurnEnd.TheVariants.{Done, WriteFault, NoMemory}
-use Rattle.sk_turns.specs.Answering.{AreAnswered, Ends, IsTold}
+use Rattle.sk_turns.specs.Answering.{AreAnswered, AnswersSome, Ends, IsTold}
+use Rattle.sk_turns.specs.InTime.{in_time}
 
 -- what is kept of the line that is being heard, and how many bytes were taken
 pub record Heard : Type 0 where
@@ -34,6 +35,26 @@ abbrev pub EndsHeard : {X : Type 0} → (X → List ℕ → X → List ℕ → T
 EndsHeard {X = X} replies ends kept old before now bytes end =
     (first : X) (taken text rest : List ℕ) → HasHeard replies first taken kept old text → length (taken ++ bytes) ≤ 4294967295
     → (more : List ℕ) × Appends before now more × Ends replies ends first (taken ++ (bytes ++ rest)) end (text ++ more)
+
+-- whatever lines of the input are answered, the text of their replies has no more bytes
+abbrev pub AreWithin : {X : Type 0} → (X → List ℕ → X → List ℕ → Type 0) → X → List ℕ → ℕ → Type 0
+AreWithin replies first bytes most = (text : List ℕ) → AnswersSome replies first (lines_in (in_time bytes)) text → length text ≤ most
+
+-- these bytes were taken, and beside the replies so far there is room for what is still to come of so many bytes
+abbrev pub HasRoom : {X : Type 0} → (X → List ℕ → X → List ℕ → Type 0) → X → List ℕ → List ℕ → X → ℕ → ℕ → Type 0
+HasRoom replies first taken kept now most room = (text : List ℕ) × HasHeard replies first taken kept now text × (most ≤ room + length text)
+
+-- where there was room for all replies to an input that begins with what was taken before and these bytes, there is still
+abbrev pub KeepsRoom : {X : Type 0} → (X → List ℕ → X → List ℕ → Type 0) → List ℕ → X → ℕ → List ℕ → X → ℕ → List ℕ → Type 0
+KeepsRoom {X = X} replies kept old room kept_now new room_now bytes =
+    (first : X) (taken rest : List ℕ) (most : ℕ) → length (taken ++ bytes) ≤ 4294967295 → AreWithin replies first (taken ++ (bytes ++ rest)) most
+    → HasRoom replies first taken kept old most room → HasRoom replies first (taken ++ bytes) kept_now new most room_now
+
+-- there is room for all replies to an input that begins with what was taken before and these bytes
+abbrev pub IsRoomy : {X : Type 0} → (X → List ℕ → X → List ℕ → Type 0) → List ℕ → X → ℕ → List ℕ → Type 0
+IsRoomy {X = X} replies kept old room bytes =
+    (first : X) × (taken : List ℕ) × (rest : List ℕ) × (most : ℕ) × (length (taken ++ bytes) ≤ 4294967295)
+    × AreWithin replies first (taken ++ (bytes ++ rest)) most × HasRoom replies first taken kept old most room
 
 -- a front that isn't empty was taken off
 pub record IsLeft (bytes front after : List ℕ) : Type 0 where

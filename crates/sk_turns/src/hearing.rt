@@ -5,7 +5,7 @@ ghost use Rattle.sk_io.specs.Causes.{AnswersFault};
 ghost use Rattle.sk_io.specs.Transfer.{AppendsFront};
 ghost use Rattle.sk_lines.specs.Lines.{is_line_feed, lines_in};
 ghost use Rattle.sk_turns.specs.Answering.{Ends};
-ghost use Rattle.sk_turns.specs.Heard.{HasHeard, GoesOn, IsLeft, IsCut, Stops, EndsHeard};
+ghost use Rattle.sk_turns.specs.Heard.{HasHeard, HasRoom, AreWithin, IsRoomy, KeepsRoom, GoesOn, IsLeft, IsCut, Stops, EndsHeard};
 
 use crate::ending::TurnEnd;
 use crate::replier::Replier;
@@ -85,8 +85,8 @@ impl Hearing {
         mem::replace(&mut self.kept, Text::new(self.alloc))
     }
 
-    /// Goes on to the first line feed, and answers the line that it ends; what stands behind it. Where
-    /// there is none, the bytes are a part of the line that is being heard.
+    /// Goes on to the first line feed, and answers the line that it ends. Tells what stands behind it, or None
+    /// where there is no line feed: then the bytes are a part of the line that is being heard.
     fn hear_line<'a, R: Replier, K: Sink>(
         &mut self,
         replier: &mut R,
@@ -95,13 +95,19 @@ impl Hearing {
     ) -> Result<Option<&'a [u8]>, TurnEnd>
         ensures taken { self.new.taken ≡ self.old.taken }
         ensures some { IfOk result (λ answered. IfSome answered (λ after. (front : List ℕ) × IsLeft bytes.now front after.now
-            × GoesOn R.replies self.old.kept replier.old (K.written sink.old) self.new.kept replier.new (K.written sink.new) front)) }
+            × GoesOn R.replies self.old.kept replier.old (K.written sink.old) self.new.kept replier.new (K.written sink.new) front
+            × KeepsRoom R.replies self.old.kept replier.old (K.sure_room sink.old) self.new.kept replier.new (K.sure_room sink.new) front)) }
         ensures none { IfOk result (λ answered. IfNone answered
             (GoesOn R.replies self.old.kept replier.old (K.written sink.old) self.new.kept replier.new (K.written sink.new) bytes.now)) }
+        ensures room { IfOk result (λ answered. IfNone answered
+            (KeepsRoom R.replies self.old.kept replier.old (K.sure_room sink.old) self.new.kept replier.new (K.sure_room sink.new) bytes.now)) }
         ensures ended { IfErr result (EndsHeard R.replies R.ends self.old.kept replier.old (K.written sink.old) (K.written sink.new) bytes.now) }
-        ensures flushed { IsOk result → K.is_flushed sink.old → K.is_flushed sink.new }
+        ensures steady { K.is_steady sink.old → K.is_steady sink.new }
+        ensures sure { K.is_steady sink.old → IsRoomy R.replies self.old.kept replier.old (K.sure_room sink.old) bytes.now → IsErrOf result TurnEnd.WriteFault → ⊥ }
+        ensures flushed { (IsErrOf result TurnEnd.WriteFault → ⊥) → K.is_flushed sink.old → K.is_flushed sink.new }
         ensures fault { AnswersFault (IsErrOf result TurnEnd.WriteFault) (K.faults sink.old) (K.faults sink.new) }
         ensures heard { IsErrOf result TurnEnd.ReadFault → ⊥ }
+        ensures late { IsErrOf result TurnEnd.TooLong → ⊥ }
     {
         let Some((front, after)) = at_line_feed(bytes) else {
             self.keep(bytes)?;
@@ -124,10 +130,14 @@ impl Hearing {
     ) -> Result<(), TurnEnd>
         ensures taken { self.new.taken ≡ self.old.taken }
         ensures goes_on { OnOk result (GoesOn R.replies self.old.kept replier.old (K.written sink.old) self.new.kept replier.new (K.written sink.new) piece.now) }
+        ensures room { OnOk result (KeepsRoom R.replies self.old.kept replier.old (K.sure_room sink.old) self.new.kept replier.new (K.sure_room sink.new) piece.now) }
         ensures ended { IfErr result (EndsHeard R.replies R.ends self.old.kept replier.old (K.written sink.old) (K.written sink.new) piece.now) }
-        ensures flushed { IsOk result → K.is_flushed sink.old → K.is_flushed sink.new }
+        ensures steady { K.is_steady sink.old → K.is_steady sink.new }
+        ensures sure { K.is_steady sink.old → IsRoomy R.replies self.old.kept replier.old (K.sure_room sink.old) piece.now → IsErrOf result TurnEnd.WriteFault → ⊥ }
+        ensures flushed { (IsErrOf result TurnEnd.WriteFault → ⊥) → K.is_flushed sink.old → K.is_flushed sink.new }
         ensures fault { AnswersFault (IsErrOf result TurnEnd.WriteFault) (K.faults sink.old) (K.faults sink.new) }
         ensures heard { IsErrOf result TurnEnd.ReadFault → ⊥ }
+        ensures late { IsErrOf result TurnEnd.TooLong → ⊥ }
     {
         let mut rest = piece;
         while let Some(after) = self.hear_line(replier, rest, sink)? {
@@ -140,8 +150,12 @@ impl Hearing {
     pub(crate) fn finish<R: Replier, K: Sink>(&mut self, replier: &mut R, sink: &mut K) -> TurnEnd
         ensures ended { (first : R) (taken text : List ℕ) → HasHeard R.replies first taken self.old.kept replier.old text → length taken ≤ 4294967295
             → (more : List ℕ) × Appends (K.written sink.old) (K.written sink.new) more × Ends R.replies R.ends first taken result (text ++ more) }
+        ensures sure { K.is_steady sink.old → (first : R) (taken : List ℕ) (most : ℕ) → length taken ≤ 4294967295 → AreWithin R.replies first taken most
+            → HasRoom R.replies first taken self.old.kept replier.old most (K.sure_room sink.old) → result ≡ TurnEnd.WriteFault → ⊥ }
+        ensures flushed { (result ≡ TurnEnd.WriteFault → ⊥) → K.is_flushed sink.old → K.is_flushed sink.new }
         ensures fault { AnswersFault (result ≡ TurnEnd.WriteFault) (K.faults sink.old) (K.faults sink.new) }
         ensures heard { result ≡ TurnEnd.ReadFault → ⊥ }
+        ensures late { result ≡ TurnEnd.TooLong → ⊥ }
     {
         let line = self.take_out();
         if line.len() == 0 {
@@ -158,12 +172,19 @@ impl Hearing {
 fn answer<R: Replier, K: Sink>(replier: &mut R, bytes: &[u8], sink: &mut K) -> Result<(), TurnEnd>
     requires { 0 < length bytes.now }
     ensures ok { OnOk result ((line text : List ℕ) × (rest : List (List ℕ)) × (lines_in bytes.now ≡ line ∷ rest)
-        × R.replies replier.old line replier.new text × Appends (K.written sink.old) (K.written sink.new) text) }
+        × R.replies replier.old line replier.new text × Appends (K.written sink.old) (K.written sink.new) text
+        × (length text ≤ K.sure_room sink.old → K.sure_room sink.old ≤ K.sure_room sink.new + length text)) }
     ensures flushed { IsOk result → K.is_flushed sink.new }
+    ensures unheld { (IsErrOf result TurnEnd.WriteFault → ⊥) → K.is_flushed sink.old → K.is_flushed sink.new }
     ensures err { IfErr result (λ end. (line : List ℕ) × (rest : List (List ℕ)) × (lines_in bytes.now ≡ line ∷ rest)
         × Stops R.replies R.ends replier.old line (K.written sink.old) (K.written sink.new) end) }
+    ensures steady { K.is_steady sink.old → K.is_steady sink.new }
+    ensures sure { K.is_steady sink.old
+        → ((line text : List ℕ) (rest : List (List ℕ)) (new : R) → lines_in bytes.now ≡ line ∷ rest → R.replies replier.old line new text → length text ≤ K.sure_room sink.old)
+        → IsErrOf result TurnEnd.WriteFault → ⊥ }
     ensures fault { AnswersFault (IsErrOf result TurnEnd.WriteFault) (K.faults sink.old) (K.faults sink.new) }
     ensures heard { IsErrOf result TurnEnd.ReadFault → ⊥ }
+    ensures late { IsErrOf result TurnEnd.TooLong → ⊥ }
 {
     let (line, _) = split_line(bytes);
     let Some(text) = replier.reply(line)? else {
@@ -172,12 +193,16 @@ fn answer<R: Replier, K: Sink>(replier: &mut R, bytes: &[u8], sink: &mut K) -> R
     hand_over(text.as_bytes(), sink)
 }
 
-/// Writes a text and flushes it.
-fn hand_over<K: Sink>(text: &[u8], sink: &mut K) -> Result<(), TurnEnd>
+/// Writes a text and flushes it: all of it is in the sink and nothing is held back, or a write or the flush failed, and a front of it is
+/// there.
+pub fn hand_over<K: Sink>(text: &[u8], sink: &mut K) -> Result<(), TurnEnd>
     ensures ok { OnOk result (Appends (K.written sink.old) (K.written sink.new) text.now) }
     ensures err { IfErr result (λ end. (end ≡ TurnEnd.WriteFault) × AppendsFront (K.written sink.old) (K.written sink.new) text.now) }
     ensures flushed { IsOk result → K.is_flushed sink.new }
     ensures fault { AnswersFault (IsErr result) (K.faults sink.old) (K.faults sink.new) }
+    ensures room { length text.now ≤ K.sure_room sink.old → K.sure_room sink.old ≤ K.sure_room sink.new + length text.now }
+    ensures steady { K.is_steady sink.old → K.is_steady sink.new }
+    ensures sure { K.is_steady sink.old → length text.now ≤ K.sure_room sink.old → IsErr result → ⊥ }
 {
     match write_all(sink, text) {
         Ok(()) => flushed(sink),
@@ -191,6 +216,9 @@ fn flushed<K: Sink>(sink: &mut K) -> Result<(), TurnEnd>
     ensures err { IfErr result (λ end. end ≡ TurnEnd.WriteFault) }
     ensures flushed { IsOk result → K.is_flushed sink.new }
     ensures fault { AnswersFault (IsErr result) (K.faults sink.old) (K.faults sink.new) }
+    ensures room { K.sure_room sink.old ≤ K.sure_room sink.new }
+    ensures steady { K.is_steady sink.old → K.is_steady sink.new }
+    ensures sure { K.is_steady sink.old → IsErr result → ⊥ }
 {
     match sink.flush() {
         Ok(()) => Ok(()),

@@ -8,6 +8,6 @@ mod replier;
 mod turns;
 
 pub use ending::TurnEnd;
-pub use hearing::Hearing;
+pub use hearing::{Hearing, hand_over};
 pub use replier::Replier;
 pub use turns::turn;

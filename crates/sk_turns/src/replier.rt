@@ -13,7 +13,7 @@ pub trait Replier {
     /// Lines of more than 200 bytes are all answered alike.
     ghost long_alike: { (old new : Self) (line other text : List ℕ) → 200 < length line → 200 < length other → replies old line new text → replies old other new text };
 
-    /// None of them ends it.
+    /// A line that ends it all has 200 bytes at most.
     ghost long_goes_on: { (state : Self) (line : List ℕ) → ends state line → length line ≤ 200 };
 
     /// The reply to a line, which comes without its line end, or None where the line ends it all.

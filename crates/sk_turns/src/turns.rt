@@ -1,9 +1,10 @@
 // A turn.
-ghost use Rattle.std.specs.Prelude.{◌≡◌, ◌<◌, ◌≤◌, ◌+◌, ℕ, List, length, OnOk, IfErr, IsOk, IsErrOf};
+ghost use Rattle.std.specs.Prelude.{◌≡◌, ◌<◌, ◌≤◌, ◌+◌, ◌-◌, ◌++◌, ℕ, List, length, OnOk, IfErr, IsErrOf};
 ghost use Rattle.std.specs.Io.KnownBytes.{Consumes};
 ghost use Rattle.sk_io.specs.Causes.{AnswersFault};
 ghost use Rattle.sk_io.specs.Transfer.{TakesAtMost};
-ghost use Rattle.sk_turns.specs.Heard.{HasHeard, GoesOn, EndsTurn};
+ghost use Rattle.sk_turns.specs.Answering.{Ends, IsTold};
+ghost use Rattle.sk_turns.specs.Heard.{HasHeard, HasRoom, AreWithin, KeepsRoom, GoesOn, EndsTurn};
 
 use crate::ending::TurnEnd;
 use crate::hearing::Hearing;
@@ -13,9 +14,10 @@ use sk_io::{Sink, Source};
 /// The most bytes of one read.
 const PIECE: usize = 4096;
 
-/// Takes a piece of the source, and answers each line that ends in it: when it returns, the replies to all lines that have come to
-/// their end so far are in the sink, and flushed. Where it goes on it took a byte at least; else it says how it ended, and what the
-/// sink gained from the first turn on is what its end says of the whole input. The input has at most 4,294,967,295 bytes.
+/// Takes a piece of the source, which it asks once, and answers each line that ends in it: when it returns, the replies to all lines
+/// that have come to their end so far are in the sink, which is flushed where it was before. Where it goes on it took a byte at least;
+/// else it says how it ended, and what the sink gained from the first turn on is what its end says of the whole input. The input has
+/// at most 4,294,967,295 bytes, and one byte more is taken at most.
 pub fn turn<R: Replier, S: Source, K: Sink>(
     hearing: &mut Hearing,
     replier: &mut R,
@@ -24,15 +26,28 @@ pub fn turn<R: Replier, S: Source, K: Sink>(
 ) -> Result<(), TurnEnd>
     ensures goes_on { OnOk result ((piece : List ℕ) × (0 < length piece) × Consumes (S.left source.old) (S.left source.new) piece
         × (hearing.new.taken ≡ hearing.old.taken + length piece)
-        × GoesOn R.replies hearing.old.kept replier.old (K.written sink.old) hearing.new.kept replier.new (K.written sink.new) piece) }
+        × GoesOn R.replies hearing.old.kept replier.old (K.written sink.old) hearing.new.kept replier.new (K.written sink.new) piece
+        × KeepsRoom R.replies hearing.old.kept replier.old (K.sure_room sink.old) hearing.new.kept replier.new (K.sure_room sink.new) piece) }
+    ensures bound { OnOk result (hearing.new.taken ≤ 4294967295) }
     ensures ended { IfErr result (λ end. (first : R) (taken text : List ℕ) → HasHeard R.replies first taken hearing.old.kept replier.old text → hearing.old.taken ≡ length taken
         → EndsTurn R.replies R.ends first taken text (S.left source.old) (S.left source.new) (K.written sink.old) (K.written sink.new) end) }
+    ensures too_long { IsErrOf result TurnEnd.TooLong → (sink.new ≡ sink.old)
+        × ((first : R) (taken text : List ℕ) → HasHeard R.replies first taken hearing.old.kept replier.old text → hearing.old.taken ≡ length taken
+        → (piece : List ℕ) × (rest : List ℕ) × Consumes (S.left source.old) (S.left source.new) piece × IsTold (S.left source.new) rest
+        × Ends R.replies R.ends first (taken ++ (piece ++ rest)) TurnEnd.TooLong text) }
+    ensures once { S.is_one_read source.old source.new }
     ensures few { TakesAtMost 4096 (S.left source.old) (S.left source.new) }
-    ensures flushed { IsOk result → K.is_flushed sink.old → K.is_flushed sink.new }
+    ensures within { TakesAtMost (4294967296 - hearing.old.taken) (S.left source.old) (S.left source.new) }
+    ensures flushed { (IsErrOf result TurnEnd.WriteFault → ⊥) → K.is_flushed sink.old → K.is_flushed sink.new }
     ensures read_fault { AnswersFault (IsErrOf result TurnEnd.ReadFault) (S.faults source.old) (S.faults source.new) }
     ensures write_fault { AnswersFault (IsErrOf result TurnEnd.WriteFault) (K.faults sink.old) (K.faults sink.new) }
     ensures sure_source { S.is_sure source.old
         → S.is_sure source.new × (S.faults source.new ≡ S.faults source.old) × (IsErrOf result TurnEnd.ReadFault → ⊥) }
+    ensures steady { K.is_steady sink.old → OnOk result (K.is_steady sink.new) }
+    ensures sure_sink { K.is_steady sink.old → (first : R) (taken : List ℕ) (most : ℕ) → hearing.old.taken ≡ length taken
+        → HasRoom R.replies first taken hearing.old.kept replier.old most (K.sure_room sink.old)
+        → ((piece rest : List ℕ) → Consumes (S.left source.old) (S.left source.new) piece → IsTold (S.left source.new) rest → AreWithin R.replies first (taken ++ (piece ++ rest)) most)
+        → IsErrOf result TurnEnd.WriteFault → ⊥ }
 {
     let mut piece = [0u8; PIECE];
     let left = u32::MAX - hearing.taken();
@@ -56,6 +71,7 @@ fn room(left: u32) -> usize
     ensures some { 0 < result }
     ensures most { result ≤ 4096 }
     ensures within { 0 < left → result ≤ left }
+    ensures few { result ≤ left + 1 }
 {
     PIECE.min(left as usize).max(1)
 }

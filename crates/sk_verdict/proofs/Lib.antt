@@ -2,5 +2,4 @@ pub mod Gathering
 pub mod Placing
 pub mod Normals
 pub mod Judgements
-pub mod Lone
 pub mod SomeJudgements

@@ -5,8 +5,6 @@ mod judgement;
 mod law;
 mod part;
 mod store;
-#[cfg(test)]
-mod tests;
 
 pub use judgement::{Judgement, Verdict, judge};
 pub use law::one_judgement;

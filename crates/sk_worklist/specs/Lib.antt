@@ -1,7 +1,6 @@
 pub mod Choices
 pub mod Orders
 pub mod Run
-pub mod TrialGraphs
 pub mod Known
 pub mod Gather
 pub mod Turns

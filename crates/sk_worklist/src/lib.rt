@@ -11,8 +11,6 @@ mod law;
 mod meets;
 mod partner;
 mod picker;
-#[cfg(test)]
-mod tests;
 mod triples;
 mod worklist;
 

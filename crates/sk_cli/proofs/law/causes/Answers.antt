@@ -22,7 +22,7 @@ returns c =
     record {
       usage = usage_both;
       refused = λ words bytes text status request outcome asks.
-          refused_both one_sketch not_both laws request.command request bytes text status (answer_about words bytes text status request outcome asks);
+          refused_both one_sketch not_both law laws request.command request bytes text status (answer_about words bytes text status request outcome asks);
       not_well = λ words bytes text status request outcome asks.
           not_well_exactly one_sketch not_both law laws request.command request bytes text status (answer_about words bytes text status request outcome asks);
       step_fault = λ words bytes text status request outcome asks.
@@ -33,7 +33,7 @@ returns c =
           (let solved = solved_about one_sketch not_both request.command request bytes text status s (answer_about words bytes text status request outcome asks) placed about in
           held_both law laws solved.0 request s status text solved.2 (sound_about laws request.command request bytes s (size_fits words request asks) about));
       done_unless_refused = λ words bytes text status request outcome asks.
-          done_unless_refused one_sketch not_both laws request.command request bytes text status (answer_about words bytes text status request outcome asks);
+          done_unless_refused one_sketch not_both law laws request.command request bytes text status (answer_about words bytes text status request outcome asks);
       done_where_well = λ words bytes text status request outcome asks.
           done_where_well one_sketch not_both law laws request.command request bytes text status (answer_about words bytes text status request outcome asks);
       done_where_accepted = λ words bytes text status request outcome asks is.

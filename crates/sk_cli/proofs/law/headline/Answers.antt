@@ -5,7 +5,7 @@ use Rattle.sk_cli.proofs.OneOutcome.{LowerLaws}
 use Rattle.sk_request.proofs.Sizes.{size_fits}
 use Rattle.sk_cli.proofs.WhyEnds.{answer_about, sound_about}
 use Rattle.sk_cli.proofs.Telling.{LegalPlans, said_about, tells}
-use Rattle.sk_cli.proofs.SessionTelling.{tells_next, stands_in}
+use Rattle.sk_cli.proofs.SessionTelling.{tells_next, stands_in, tells_live, stands_in_live}
 use Rattle.sk_cli.proofs.law.headline.Goals as goal
 
 pub returns : goal.returns
@@ -31,5 +31,9 @@ returns c =
       session = λ words bytes before text whole status request new r outcome asks session next. (
         tells_next normal plans law laws begins request bytes before new r text next,
         stands_in normal plans law laws begins request bytes before new r text next words whole status asks session outcome,
+      );
+      live = λ words bytes before text whole status request new r outcome asks live next. (
+        tells_live normal plans law laws begins request bytes before new r text next,
+        stands_in_live normal plans law laws begins request bytes before new r text next words whole status asks live outcome,
       );
     }

@@ -3,7 +3,8 @@ use Rattle.std.proofs.lemmas.Bool.{cases_lt}
 use Rattle.std.specs.Prelude.{string_bytes}
 use Rattle.sk_cli.specs.declared.status.Status.TheVariants.{ReadFault, NoMemory}
 use Rattle.sk_request.specs.Asking.{AskForInput}
-use Rattle.sk_cli.proofs.Runs.{usage_ends, answer_ends, nothing_ends, no_form, answer_room, usage_room, no_fault, asked_input, read_told, session_takes, session_ends, session_room}
+use Rattle.sk_cli.proofs.Runs.{usage_ends, answer_ends, nothing_ends, no_form, answer_room, usage_room, no_fault, asked_input, read_told, session_takes, session_ends, session_room, as_live, live_takes, live_fits}
+use Rattle.sk_cli.proofs.Sessions.{not_counted}
 use Rattle.sk_request.proofs.Sizes.{grow_size}
 use Rattle.sk_cli.proofs.top.run.Goals as goal
 
@@ -13,11 +14,11 @@ returns-in_default-clause-outcome g c =
     (no_form (map string_bytes c.args.words.now) c.in_default.ensures.none) c.as_bytes.ensures.value c.send.ensures.sent
 
 pub returns-in_default-clause-read : goal.returns-in_default-clause-read
-returns-in_default-clause-read g c is =
+returns-in_default-clause-read g c is other has =
     absurd (no_form (map string_bytes c.args.words.now) c.in_default.ensures.none (is.0, is.1))
 
 pub returns-in_default-clause-sure_sink : goal.returns-in_default-clause-sure_sink
-returns-in_default-clause-sure_sink g c each =
+returns-in_default-clause-sure_sink g c live each =
     let sure = c.send.ensures.sure (usage_room (map string_bytes c.args.words.now) (g.S.Source.left c.args.source.now) c.as_bytes.result.now _ each
     (no_form (map string_bytes c.args.words.now) c.in_default.ensures.none) c.as_bytes.ensures.value) in
     (sure.0, λ failed. cc (sure.1, failed))
@@ -25,7 +26,7 @@ returns-in_default-clause-sure_sink g c each =
 pub returns-in-Err-ReadFault-clause-outcome : goal.returns-in-Err-ReadFault-clause-outcome
 returns-in-Err-ReadFault-clause-outcome g c =
     let asks : AskForInput (map string_bytes c.args.words.now) = (c.in-Some.request, c.in-Some.ensures.some, c.in-Err-ReadFault.ensures.tried (rw c.in-Err-ReadFault.field-0-is refl)) in
-    nothing_ends (map string_bytes c.args.words.now) (g.S.Source.left c.args.source.now) _ ReadFault (λ bytes. (asks, refl))
+    nothing_ends (map string_bytes c.args.words.now) (g.S.Source.left c.args.source.now) _ ReadFault (λ bytes. (asks, inl refl))
 
 pub returns-in-Err-NoMemory-clause-outcome : goal.returns-in-Err-NoMemory-clause-outcome
 returns-in-Err-NoMemory-clause-outcome g c =
@@ -36,14 +37,14 @@ returns-in-Ok-answer-clause-outcome g c =
     let answer = rw c.as_bytes-input.ensures at c.in-Ok-answer.ensures in
     let sent = rw c.as_bytes-in-Ok-answer.ensures at c.send-in-Ok-answer.ensures.sent in
     answer_ends (map string_bytes c.args.words.now) (g.S.Source.left c.args.source.now) _ _ _ c.in-Ok.bytes c.in-Some.request c.in-Ok-answer.answer.status c.in-Ok-answer.answer.text c.send-in-Ok-answer.result
-    c.in-Some.ensures.some c.in-Ok.ensures.bound c.in-Ok.ensures.taken answer sent
+    c.in-Some.ensures.some (λ is. (let asked = c.asks_for_live.ensures.1 is in cc)) c.in-Ok.ensures.bound c.in-Ok.ensures.taken answer sent
 
 pub returns-in-Ok-answer-clause-sure_sink : goal.returns-in-Ok-answer-clause-sure_sink
-returns-in-Ok-answer-clause-sure_sink g c each =
+returns-in-Ok-answer-clause-sure_sink g c live each =
     let answer = rw c.as_bytes-input.ensures at c.in-Ok-answer.ensures in
     let sure = c.send-in-Ok-answer.ensures.sure (rw c.as_bytes-in-Ok-answer.ensures
     (answer_room (map string_bytes c.args.words.now) (g.S.Source.left c.args.source.now) _ c.in-Ok.bytes c.in-Some.request c.in-Ok-answer.answer.status c.in-Ok-answer.answer.text _
-    each c.in-Some.ensures.some c.in-Ok.ensures.bound c.in-Ok.ensures.taken answer)) in
+    each c.in-Some.ensures.some (λ is. (let asked = c.asks_for_live.ensures.1 is in cc)) c.in-Ok.ensures.bound c.in-Ok.ensures.taken answer)) in
     (sure.0, λ failed. no_fault c.in-Some.request c.in-Ok.bytes c.in-Ok-answer.answer.status c.in-Ok-answer.answer.text answer (sym sure.1 ∙ failed))
 
 pub returns-clause-outcome : goal.returns-clause-outcome
@@ -51,7 +52,7 @@ returns-clause-outcome g c =
     nothing_ends (map string_bytes c.args.words.now) (g.S.Source.left c.args.source.now) _ NoMemory (λ bytes. inl refl)
 
 pub returns-in-Ok-answer-clause-read : goal.returns-in-Ok-answer-clause-read
-returns-in-Ok-answer-clause-read g c asks has =
+returns-in-Ok-answer-clause-read g c asks other has =
     read_told (g.S.Source.left c.args.source.now) _ c.in-Ok.bytes
     (c.in-Ok.ensures.taken (asked_input (map string_bytes c.args.words.now) c.in-Some.request c.in-Some.ensures.some asks))
 
@@ -83,7 +84,7 @@ answer-requires-clause-long g c is =
     ]
 
 pub returns-then-asks_for_session-clause-read : goal.returns-then-asks_for_session-clause-read
-returns-then-asks_for_session-clause-read g c asks has =
+returns-then-asks_for_session-clause-read g c asks other has =
     read_told (g.S.Source.left c.args.source.now) _ c.in-Ok.bytes
     (c.in-Ok.ensures.taken (asked_input (map string_bytes c.args.words.now) c.in-Some.request c.in-Some.ensures.some asks))
 
@@ -98,8 +99,30 @@ returns-then-asks_for_session-clause-outcome g c =
     c.in-Some.ensures.some asked.0 c.in-Ok.ensures.bound (c.in-Ok.ensures.taken (session_takes c.in-Some.request.command asked.0)) asked.1 written.1 written.2
 
 pub returns-then-asks_for_session-clause-sure_sink : goal.returns-then-asks_for_session-clause-sure_sink
-returns-then-asks_for_session-clause-sure_sink g c each =
+returns-then-asks_for_session-clause-sure_sink g c live each =
     let asked = rw c.as_bytes-input.ensures at (c.asks_for_session.ensures.0 c.if-asks_for_session.true) in
     let sure = rw c.as_bytes-input.ensures at c.session.ensures.sure in
     sure (session_room (map string_bytes c.args.words.now) (g.S.Source.left c.args.source.now) _ c.in-Ok.bytes c.in-Some.request _ each
     c.in-Some.ensures.some asked.0 c.in-Ok.ensures.bound (c.in-Ok.ensures.taken (session_takes c.in-Some.request.command asked.0)) asked.1)
+
+pub answer-requires-clause-whole : goal.answer-requires-clause-whole
+answer-requires-clause-whole g c is = let asked = c.asks_for_live.ensures.1 is in cc
+
+pub returns-then-asks_for_live-clause-outcome : goal.returns-then-asks_for_live-clause-outcome
+returns-then-asks_for_live-clause-outcome g c =
+    let (bytes, gained, told, appended, ends) = c.live.ensures.outcome in
+    (bytes, gained, told, appended, as_live (map string_bytes c.args.words.now) bytes c.in-Some.request c.live.result gained c.in-Some.ensures.some (c.asks_for_live.ensures.0 c.if-asks_for_live.true) ends)
+
+pub returns-then-asks_for_live-clause-read : goal.returns-then-asks_for_live-clause-read
+returns-then-asks_for_live-clause-read g c asks other has = absurd (other (c.in-Some.request, c.in-Some.ensures.some, c.asks_for_live.ensures.0 c.if-asks_for_live.true))
+
+pub returns-then-asks_for_live-clause-untouched : goal.returns-then-asks_for_live-clause-untouched
+returns-then-asks_for_live-clause-untouched g c other =
+    absurd (other (c.in-Some.request, c.in-Some.ensures.some, live_takes c.in-Some.request.command (c.asks_for_live.ensures.0 c.if-asks_for_live.true)))
+
+pub returns-then-asks_for_live-clause-sure_sink : goal.returns-then-asks_for_live-clause-sure_sink
+returns-then-asks_for_live-clause-sure_sink g c steady each =
+    let asked = c.asks_for_live.ensures.0 c.if-asks_for_live.true in
+    let none = c.live.ensures.sure_sink (steady (c.in-Some.request, c.in-Some.ensures.some, asked))
+    (live_fits (map string_bytes c.args.words.now) (g.S.Source.left c.args.source.now) c.in-Some.request (g.K.Sink.sure_room c.args.sink.now) each c.in-Some.ensures.some asked) in
+    (not_counted _ (g.K.Sink.faults c.args.sink.now) (g.K.Sink.faults c.live.new.sink) c.live.ensures.write_fault none, none)

@@ -1,7 +1,9 @@
 use Rattle.std.proofs.Common.{◌++◌, [], ℕ, List, refl, sym, ap, subst, ◌∙◌, append_assoc}
-use Rattle.sk_turns.specs.Heard.{GoesOn, EndsHeard}
+use Rattle.sk_turns.specs.Heard.{IsRoomy, KeepsRoom, GoesOn, EndsHeard}
 use Rattle.sk_turns.proofs.Hearings.{same_heard, goes_on_more, ends_behind}
-use Rattle.sk_turns.proofs.TurnEnds.{ends_as, nothing_gained, not_counted}
+use Rattle.sk_turns.proofs.Rooms.{room_same, room_more, roomy_behind}
+use Rattle.sk_turns.specs.declared.ending.TurnEnd.TheVariants.{WriteFault}
+use Rattle.sk_turns.proofs.TurnEnds.{err_is, err_back, ends_as, nothing_gained, not_counted}
 use Rattle.sk_turns.proofs.hearing.Hearing.hear.Goals as goal
 
 pub loop-after-init : goal.loop-after-init
@@ -10,6 +12,8 @@ loop-after-init g c = record {
   front = [];
   cut = refl;
   goes_on = λ first taken text at. ([], nothing_gained (g.K.Sink.written c.args.sink.now), same_heard g.R.Replier.replies first taken c.args.self.now.kept c.args.replier.now text at);
+  room = room_same g.R.Replier.replies g.R.Replier.ends c.args.self.now.kept c.args.replier.now (g.K.Sink.sure_room c.args.sink.now);
+  steady = λ is. is;
   flushed = λ is. is;
   kept = refl;
 }
@@ -34,7 +38,11 @@ loop-after-preserved g c =
       goes_on =
           goes_on_more g.R.Replier.replies g.R.Replier.ends c.args.self.now.kept c.loop-after.self.kept c.hear_line.new.self.kept c.args.replier.now c.loop-after.replier c.hear_line.new.replier
           (g.K.Sink.written c.args.sink.now) (g.K.Sink.written c.loop-after.sink) (g.K.Sink.written c.hear_line.new.sink) here.front said.0 here.goes_on said.2;
-      flushed = λ is. c.in_ok-after.ensures.flushed refl (here.flushed is);
+      room =
+          room_more g.R.Replier.replies g.R.Replier.ends c.args.self.now.kept c.loop-after.self.kept c.hear_line.new.self.kept c.args.replier.now c.loop-after.replier c.hear_line.new.replier
+          (g.K.Sink.sure_room c.args.sink.now) (g.K.Sink.sure_room c.loop-after.sink) (g.K.Sink.sure_room c.hear_line.new.sink) here.front said.0 here.room said.3;
+      steady = λ is. c.in_ok-after.ensures.steady (here.steady is);
+      flushed = λ is. c.in_ok-after.ensures.flushed (λ failed. cc) (here.flushed is);
       kept = not_counted _ (g.K.Sink.faults c.loop-after.sink) (g.K.Sink.faults c.hear_line.new.sink) c.in_ok-after.ensures.fault (λ failed. cc) ∙ here.kept;
     }
 
@@ -45,3 +53,26 @@ returns-clause-goes_on g c =
     subst (λ (bytes : List ℕ). GoesOn g.R.Replier.replies c.args.self.now.kept c.args.replier.now (g.K.Sink.written c.args.sink.now) c.hear_line.new.self.kept c.hear_line.new.replier (g.K.Sink.written c.hear_line.new.sink) bytes) (sym here.cut)
     (goes_on_more g.R.Replier.replies g.R.Replier.ends c.args.self.now.kept c.loop-after.self.kept c.hear_line.new.self.kept c.args.replier.now c.loop-after.replier c.hear_line.new.replier
     (g.K.Sink.written c.args.sink.now) (g.K.Sink.written c.loop-after.sink) (g.K.Sink.written c.hear_line.new.sink) here.front c.loop-after.rest.now here.goes_on said)
+
+pub returns-clause-room : goal.returns-clause-room
+returns-clause-room g c =
+    let here = c.loop-after.invariant in
+    let said = rw c.in_default.is at c.in_ok-after.ensures.room in
+    subst (λ (bytes : List ℕ). KeepsRoom g.R.Replier.replies c.args.self.now.kept c.args.replier.now (g.K.Sink.sure_room c.args.sink.now) c.hear_line.new.self.kept c.hear_line.new.replier (g.K.Sink.sure_room c.hear_line.new.sink) bytes) (sym here.cut)
+    (room_more g.R.Replier.replies g.R.Replier.ends c.args.self.now.kept c.loop-after.self.kept c.hear_line.new.self.kept c.args.replier.now c.loop-after.replier c.hear_line.new.replier
+    (g.K.Sink.sure_room c.args.sink.now) (g.K.Sink.sure_room c.loop-after.sink) (g.K.Sink.sure_room c.hear_line.new.sink) here.front c.loop-after.rest.now here.room said)
+
+pub returns-in_err-after-clause-sure : goal.returns-in_err-after-clause-sure
+returns-in_err-after-clause-sure g c steady roomy failed =
+    let here = c.loop-after.invariant in
+    c.in_err-after.ensures.sure (here.steady steady)
+    (roomy_behind g.R.Replier.replies g.R.Replier.ends c.args.self.now.kept c.loop-after.self.kept c.args.replier.now c.loop-after.replier (g.K.Sink.sure_room c.args.sink.now) (g.K.Sink.sure_room c.loop-after.sink) here.front c.loop-after.rest.now here.room
+    (subst (λ (bytes : List ℕ). IsRoomy g.R.Replier.replies c.args.self.now.kept c.args.replier.now (g.K.Sink.sure_room c.args.sink.now) bytes) here.cut roomy))
+    (err_is c.from_residual.result c.in_err-after.field-0.0 WriteFault c.from_residual.ensures failed)
+
+pub returns-in_err-after-clause-flushed : goal.returns-in_err-after-clause-flushed
+returns-in_err-after-clause-flushed g c other flushed =
+    c.in_err-after.ensures.flushed (λ failed. other (err_back c.from_residual.result c.in_err-after.field-0.0 WriteFault c.from_residual.ensures failed)) (c.loop-after.invariant.flushed flushed)
+
+pub returns-clause-flushed : goal.returns-clause-flushed
+returns-clause-flushed g c other flushed = c.in_ok-after.ensures.flushed (λ failed. cc) (c.loop-after.invariant.flushed flushed)

@@ -1,5 +1,5 @@
 use Rattle.std.proofs.Common.{◌≡◌, ◌++◌, ℕ, List, length}
-use Rattle.sk_turns.specs.Heard.{GoesOn}
+use Rattle.sk_turns.specs.Heard.{KeepsRoom, GoesOn}
 use Rattle.sk_turns.proofs.hearing.Hearing.hear.Given as goal
 
 abbrev pub invariant-loop-after : goal.invariant-loop-after
@@ -8,6 +8,8 @@ invariant-loop-after g l = record {
   front : List ℕ;
   cut : l.fn.piece ≡ front ++ l.rest;
   goes_on : GoesOn g.R.Replier.replies l.fn.self.kept l.fn.replier (g.K.Sink.written l.fn.sink) l.self.kept l.replier (g.K.Sink.written l.sink) front;
+  room : KeepsRoom g.R.Replier.replies l.fn.self.kept l.fn.replier (g.K.Sink.sure_room l.fn.sink) l.self.kept l.replier (g.K.Sink.sure_room l.sink) front;
+  steady : g.K.Sink.is_steady l.fn.sink → g.K.Sink.is_steady l.sink;
   flushed : g.K.Sink.is_flushed l.fn.sink → g.K.Sink.is_flushed l.sink;
   kept : g.K.Sink.faults l.sink ≡ g.K.Sink.faults l.fn.sink;
 }

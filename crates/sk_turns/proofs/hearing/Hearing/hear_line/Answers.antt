@@ -1,8 +1,9 @@
 use Rattle.std.proofs.Common.{◌≡◌, ◌++◌, ◌∷◌, [], ℕ, List, take, sym, ap, subst, ◌∙◌, arith, length-append}
-use Rattle.sk_turns.specs.Heard.{Heard, GoesOn, EndsHeard}
-use Rattle.sk_turns.specs.declared.ending.TurnEnd.TheVariants.{NoMemory}
+use Rattle.sk_turns.specs.Heard.{Heard, KeepsRoom, GoesOn, EndsHeard}
+use Rattle.sk_turns.specs.declared.ending.TurnEnd.TheVariants.{NoMemory, WriteFault}
 use Rattle.sk_turns.proofs.Hearings.{part_heard, answered_at, ended_at, out_of_memory}
-use Rattle.sk_turns.proofs.TurnEnds.{ends_as, nothing_gained}
+use Rattle.sk_turns.proofs.Rooms.{room_part, room_answered, reply_fits}
+use Rattle.sk_turns.proofs.TurnEnds.{err_is, err_back, ends_as, nothing_gained}
 use Rattle.sk_turns.proofs.hearing.Hearing.hear_line.Goals as goal
 
 pub returns-in_err-keep-clause-ended : goal.returns-in_err-keep-clause-ended
@@ -57,4 +58,29 @@ returns-clause-some g c =
           (sym (ap (λ (h : Heard). h.kept) c.take_out-line.ensures.anew))
           (answered_at g.R.Replier.replies g.R.Replier.long_alike c.args.self.now.kept c.args.replier.now c.answer.new.replier W V c.in-Some.front.now c.as_bytes.result.now said.0 said.1 said.2
           c.in-Some.ensures.some.solid text_is said.3 said.4 said.5),
+      subst (λ (k : List ℕ). KeepsRoom g.R.Replier.replies c.args.self.now.kept c.args.replier.now (g.K.Sink.sure_room c.args.sink.now) k c.answer.new.replier (g.K.Sink.sure_room c.answer.new.sink) (c.in-Some.front.now ++ 10 ∷ []))
+          (sym (ap (λ (h : Heard). h.kept) c.take_out-line.ensures.anew))
+          (room_answered g.R.Replier.replies g.R.Replier.ends g.R.Replier.long_alike c.args.self.now.kept c.args.replier.now c.answer.new.replier (g.K.Sink.sure_room c.args.sink.now) (g.K.Sink.sure_room c.answer.new.sink)
+          c.in-Some.front.now c.as_bytes.result.now said.0 said.1 said.2 c.in-Some.ensures.some.solid text_is said.3 said.4 said.6),
     )
+
+pub returns-in_default-clause-room : goal.returns-in_default-clause-room
+returns-in_default-clause-room g c =
+    subst (λ (k : List ℕ). KeepsRoom g.R.Replier.replies c.args.self.now.kept c.args.replier.now (g.K.Sink.sure_room c.args.sink.now) k c.args.replier.now (g.K.Sink.sure_room c.args.sink.now) c.args.bytes.now)
+    (sym (ap (λ (h : Heard). h.kept) c.in_ok-keep.ensures.ok))
+    (room_part g.R.Replier.replies g.R.Replier.ends c.args.self.now.kept c.args.replier.now (g.K.Sink.sure_room c.args.sink.now) c.args.bytes.now c.in_default.ensures.none)
+
+pub returns-in_err-answer-clause-sure : goal.returns-in_err-answer-clause-sure
+returns-in_err-answer-clause-sure g c steady roomy failed =
+    let kept_is = ap (λ (h : Heard). h.kept) c.in_ok-keep-2.ensures.ok in
+    let text_is : c.as_bytes.result.now ≡ take 202 (c.args.self.now.kept ++ c.in-Some.front.now) ++ 10 ∷ [] =
+    c.as_bytes.ensures ∙ c.in_ok-put.ensures.ok ∙ ap (λ (z : List ℕ). z ++ 10 ∷ []) (c.take_out-line.ensures.text ∙ kept_is) in
+    c.in_err-answer.ensures.sure steady
+    (λ said more others new lines_are replied.
+    reply_fits g.R.Replier.replies g.R.Replier.ends g.R.Replier.long_alike c.args.self.now.kept c.args.replier.now new (g.K.Sink.sure_room c.args.sink.now) c.args.bytes.now c.in-Some.front.now c.in-Some.after.now c.as_bytes.result.now said more others
+    c.in-Some.ensures.some.cut c.in-Some.ensures.some.solid text_is lines_are replied roomy)
+    (err_is c.from_residual-in_err-answer.result c.in_err-answer.field-0.0 WriteFault c.from_residual-in_err-answer.ensures failed)
+
+pub returns-in_err-answer-clause-flushed : goal.returns-in_err-answer-clause-flushed
+returns-in_err-answer-clause-flushed g c other flushed =
+    c.in_err-answer.ensures.unheld (λ failed. other (err_back c.from_residual-in_err-answer.result c.in_err-answer.field-0.0 WriteFault c.from_residual-in_err-answer.ensures failed)) flushed

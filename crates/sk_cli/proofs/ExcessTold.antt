@@ -1,0 +1,179 @@
+-- What is told of the parts that are over, one behind another, and how far off each constraint is that is left out.
+use Rattle.std.proofs.Common.{◌≡◌, inl, inr, refl, ℕ, suc, ◌+◌, ◌<◌, List, [], ◌∷◌, ◌++◌, length, get_or, take, ap, sym, subst, ◌∙◌, arith, append_assoc}
+use Rattle.std.specs.Prelude.{Contains, Some}
+use Rattle.std.proofs.lemmas.List.{append-nil, length-take-le}
+use Rattle.std.proofs.Math.Seq.{take-suc}
+use Rattle.sk_base.specs.declared.ConId.{ConId}
+use Rattle.sk_base.specs.declared.Constraint.{Constraint}
+use Rattle.sk_base.specs.declared.Elem.{Elem}
+use Rattle.sk_base.specs.declared.Placed.{Placed}
+use Rattle.sk_base.specs.declared.Sketch.{Sketch}
+use Rattle.sk_base.specs.SoundSketch.{IsSoundSketch}
+use Rattle.sk_base.proofs.Finding.{found_rising}
+use Rattle.sk_base.proofs.Members.{contains_head, contains_later, filtered_from}
+use Rattle.sk_family.specs.Body.{Start}
+use Rattle.sk_family.proofs.GraphStarts.{start_comes}
+use Rattle.sk_graph.specs.SketchGraph.{edge_of, block_of, graph_of}
+use Rattle.sk_graph.proofs.Given.{given_from}
+use Rattle.sk_graph.proofs.Soundness.{graph_is_sound, given_edge_id, given_block_id}
+use Rattle.sk_holding.specs.Placing.{PlacesExactly}
+use Rattle.sk_verdict.specs.declared.Judgement.{Judgement}
+use Rattle.sk_verdict.specs.declared.Part.{Part}
+use Rattle.sk_plan.specs.Judged.{IsTheJudgement}
+use Rattle.sk_parts.specs.OwnSketch.{lies_among, part_sketch, HasInOwn}
+use Rattle.sk_parts.proofs.Drawing.{part_is_sound}
+use Rattle.sk_parts.proofs.Sharing.{once_judged}
+use Rattle.sk_tree.specs.declared.Plan.{Plan as ThePlan}
+use Rattle.sk_entry.specs.NumberedConstraint.{constraint_of}
+use Rattle.sk_residual.specs.declared.OffBy.{OffBy}
+use Rattle.sk_residual.specs.declared.Tolerance.{Tolerance}
+use Rattle.sk_residual.specs.Offs.{HasNumber}
+use Rattle.sk_residual.specs.Telling.{IsCompared}
+use Rattle.sk_residual.specs.Turns.{senses}
+use Rattle.sk_residual.proofs.Numbered.{number_there}
+use Rattle.sk_residual.proofs.OneOff.{some_off, some_compared}
+use Rattle.sk_flips.specs.declared.Placement.TheVariants.{Holds}
+use Rattle.sk_excess.specs.LeftOut.{AreLeftOut}
+use Rattle.sk_excess.specs.KeptSketch.{kept_sketch}
+use Rattle.sk_excess.proofs.Choosing.{left_has}
+use Rattle.sk_excess.proofs.KeptSketches.{kept_is_sound}
+use Rattle.sk_report.specs.ExcessReport.{off_line}
+use Rattle.sk_request.specs.declared.Request.{Request}
+use Rattle.sk_cli.specs.declared.solving.Report.TheVariants.{Shape}
+use Rattle.sk_cli.specs.declared.status.Status.TheVariants.{Done}
+use Rattle.sk_cli.specs.ExcessReport.{IsOffThere, AreOffsTold, StandsForOver, EachOverStands, IsPartExcess, AreExcessesTold}
+use Rattle.sk_cli.specs.Solved.{IsPlacedPlan}
+use Rattle.sk_cli.proofs.Printed.{held_so}
+
+module _ (own : Sketch) (sound : IsSoundSketch own) where
+  -- a constraint of the sketch by its number
+  pub numbered : (c : Constraint) → Contains own.constraints c → (k : ConId) → c.number ≡ k → constraint_of own k ≡ Some c
+  numbered c c_in k is = subst (λ (j : ConId). constraint_of own j ≡ Some c) is (found_rising (λ (x : Constraint). x.number.0) own.constraints sound.constraints_rise c c_in)
+
+  -- each that is left out is one of the sketch
+  pub left_numbered : (left : List ConId) → AreLeftOut (graph_of own) left → (k : ConId) → Contains left k → (c : Constraint) × Contains own.constraints c × (c.number ≡ k)
+  left_numbered left are k k_in =
+      let (s, s_in, s_is) = left_has (graph_of own) (graph_is_sound own sound) left are k k_in in
+      elim (start_comes (graph_of own) s s_in) [
+        | inl (b, b_in, starts) ↦ (
+            let (c, c_in, gives) = given_from block_of own.constraints b b_in in
+            let named : c.number ≡ k = sym (given_block_id c b gives) ∙ ap (λ (t : Start). t.number) starts ∙ s_is in
+            (c, c_in, named))
+        | inr (e, e_in, starts) ↦ (
+            let (c, c_in, gives) = given_from (edge_of own) own.constraints e e_in in
+            let named : c.number ≡ k = sym (given_edge_id own c e gives) ∙ ap (λ (t : Start). t.number) starts ∙ s_is in
+            (c, c_in, named))
+      ]
+
+  -- the places of the kept sketch are those of all its elements
+  pub kept_places : (request : Request) (left : List ConId) (p : ThePlan) (at : Placed) (t : Tolerance) → IsPlacedPlan request (kept_sketch left own) p (Holds at t) → PlacesExactly (graph_of own) at
+  kept_places request left p at t placed =
+      let kept = kept_sketch left own in
+      let holds = held_so Shape request kept Done [] (graph_is_sound kept (kept_is_sound left own sound)) p placed.plan at t placed.placed in
+      record { nodes = holds.exactly.nodes; no_others = holds.exactly.no_others }
+
+  module _ (at : Placed) (exactly : PlacesExactly (graph_of own) at) where
+    -- there is one way in which a constraint is off
+    pub some_there : (c : Constraint) → Contains own.constraints c → (k : ConId) → c.number ≡ k → (off : OffBy) × IsOffThere at own k off
+    some_there c c_in k named =
+        let turned = some_compared (senses own at k c.rule) in
+        let has : HasNumber (graph_of own) k = subst (λ (j : ConId). HasNumber (graph_of own) j) named (number_there own c c_in) in
+        let off = some_off (graph_of own) (graph_is_sound own sound) at exactly k has turned.0 in
+        (off.0, record { constraint = c; numbered = numbered c c_in k named; by = off.1; turned = subst (λ o. IsCompared (senses own at k c.rule) o) (sym off.2) turned.1 })
+
+-- one line more
+offs_more : (limit : ℕ) (s : Sketch) (at : Placed) (left : List ConId) (k : ConId) (off : OffBy) (lines : List ℕ) → AreOffsTold limit s at left lines → IsOffThere at s k off
+    → AreOffsTold limit s at (left ++ k ∷ []) (lines ++ off_line s limit k off)
+offs_more limit s at [] k off lines none there = (off, [], there, refl, ap (λ l. l ++ off_line s limit k off) none ∙ sym (append-nil (off_line s limit k off)))
+offs_more limit s at (j ∷ left) k off lines (first, more, first_there, rest, is) there = (
+  first,
+  more ++ off_line s limit k off,
+  first_there,
+  offs_more limit s at left k off more rest there,
+  ap (λ l. l ++ off_line s limit k off) is ∙ append_assoc (off_line s limit j first) more (off_line s limit k off),
+)
+
+-- the text so far, with a line more
+pub put_line : (limit : ℕ) (s : Sketch) (at : Placed) (left : List ConId) (i : ℕ) (d : ConId) → i < length left → (start old new : List ℕ)
+    → (lines : List ℕ) × AreOffsTold limit s at (take i left) lines × (old ≡ start ++ lines)
+    → (off : OffBy) × IsOffThere at s (get_or left i d) off × (new ≡ old ++ off_line s limit (get_or left i d) off)
+    → (lines : List ℕ) × AreOffsTold limit s at (take (i + 1) left) lines × (new ≡ start ++ lines)
+put_line limit s at left i d i_in start old new (lines, told, old_is) (off, there, new_is) =
+    let k = get_or left i d in
+    let front_is : take (i + 1) left ≡ take i left ++ k ∷ [] = (let next_is : i + 1 ≡ suc i = omega arith in ap (λ n. take n left) next_is ∙ take-suc left i d i_in) in (
+      lines ++ off_line s limit k off,
+      subst (λ ks. AreOffsTold limit s at ks (lines ++ off_line s limit k off)) (sym front_is) (offs_more limit s at (take i left) k off lines told there),
+      new_is ∙ ap (λ t. t ++ off_line s limit k off) old_is ∙ append_assoc start lines (off_line s limit k off),
+    )
+
+-- one part more
+told_more : (request : Request) (s : Sketch) (parts : List Part) (number : ℕ) (p : Part) (lines here : List ℕ) → AreExcessesTold request s number parts lines → IsPartExcess request s (number + length parts) p here
+    → AreExcessesTold request s number (parts ++ p ∷ []) (lines ++ here)
+told_more request s [] number p lines here none told =
+    let number_is : number + 0 ≡ number = omega arith in
+    (here, [], subst (λ n. IsPartExcess request s n p here) number_is told, refl, ap (λ l. l ++ here) none ∙ sym (append-nil here))
+told_more request s (q ∷ parts) number p lines here (first, more, first_told, rest, is) told =
+    let number_is : number + length (q ∷ parts) ≡ (number + 1) + length parts = omega arith in (
+      first,
+      more ++ here,
+      first_told,
+      told_more request s parts (number + 1) p more here rest (subst (λ n. IsPartExcess request s n p here) number_is told),
+      ap (λ l. l ++ here) is ∙ append_assoc first more here,
+    )
+
+-- the text so far, with a part more
+pub put_excess : (request : Request) (s : Sketch) (parts : List Part) (i : ℕ) (z : Part) → i < length parts → (start old new here : List ℕ)
+    → (lines : List ℕ) × AreExcessesTold request s 1 (take i parts) lines × (old ≡ start ++ lines)
+    → IsPartExcess request s (i + 1) (get_or parts i z) here → new ≡ old ++ here
+    → (lines : List ℕ) × AreExcessesTold request s 1 (take (i + 1) parts) lines × (new ≡ start ++ lines)
+put_excess request s parts i z i_in start old new here (lines, told, old_is) here_told new_is =
+    let p = get_or parts i z in
+    let size : length (take i parts) ≡ i = length-take-le i parts (omega arith) in
+    let number_is : i + 1 ≡ 1 + length (take i parts) = omega (arith, size) in
+    let front_is : take (i + 1) parts ≡ take i parts ++ p ∷ [] = (let next_is : i + 1 ≡ suc i = omega arith in ap (λ n. take n parts) next_is ∙ take-suc parts i z i_in) in (
+      lines ++ here,
+      subst (λ ps. AreExcessesTold request s 1 ps (lines ++ here)) (sym front_is) (told_more request s (take i parts) 1 p lines here told (subst (λ n. IsPartExcess request s n p here) number_is here_told)),
+      new_is ∙ ap (λ t. t ++ here) old_is ∙ append_assoc start lines here,
+    )
+
+-- each list of parts is told of
+pub some_excesses : (request : Request) (s : Sketch) → (parts : List Part) → ((p : Part) (number : ℕ) → Contains parts p → (here : List ℕ) × IsPartExcess request s number p here) → (number : ℕ) → (lines : List ℕ) × AreExcessesTold request s number parts lines
+some_excesses request s [] each number = ([], refl)
+some_excesses request s (p ∷ parts) each number =
+    let here = each p number (contains_head p parts) in
+    let rest = some_excesses request s parts (λ q n q_in. each q n (contains_later p parts q q_in)) (number + 1) in
+    (here.0 ++ rest.0, (here.0, rest.0, here.1, rest.1, refl))
+
+-- how far off each is that is left out
+pub some_offs : (limit : ℕ) (own : Sketch) → IsSoundSketch own → (at : Placed) → PlacesExactly (graph_of own) at → (left : List ConId)
+    → ((k : ConId) → Contains left k → (c : Constraint) × Contains own.constraints c × (c.number ≡ k)) → (text : List ℕ) × AreOffsTold limit own at left text
+some_offs limit own sound at exactly [] each = ([], refl)
+some_offs limit own sound at exactly (k ∷ left) each =
+    let (c, c_in, named) = each k (contains_head k left) in
+    let off = some_there own sound at exactly c c_in k named in
+    let rest = some_offs limit own sound at exactly left (λ j j_in. each j (contains_later k left j j_in)) in
+    (off_line own limit k off.0 ++ rest.0, (off.0, rest.0, off.1, rest.1, refl))
+
+-- what is told of each part that is over, in other words
+pub over_each : (Told Other : Sketch → List ℕ → Type 0) (s : Sketch) → ((xs : List Elem) (text : List ℕ) → Told (part_sketch s xs) text → Other (part_sketch s xs) text)
+    → (parts : List Part) (number : ℕ) (text : List ℕ) → EachOverStands Told s number parts text → EachOverStands Other s number parts text
+over_each Told Other s each [] number text none = none
+over_each Told Other s each (p ∷ parts) number text (here, more, told, rest, is) = (here, more, one told, over_each Told Other s each parts (number + 1) more rest, is)
+  where
+    one : StandsForOver Told s number p here → StandsForOver Other s number p here
+    one (inl (over, (below, written, below_is))) = inl (over, (below, each p.elements below written, below_is))
+    one (inr not_over) = inr not_over
+
+-- of two parts none has what is left out of the other
+pub once_left : (s : Sketch) → IsSoundSketch s → (j : Judgement) → IsTheJudgement (graph_of s) j → (p q : Part) → Contains j.parts p → Contains j.parts q → (ps qs : List ConId)
+    → AreLeftOut (graph_of (part_sketch s p.elements)) ps → AreLeftOut (graph_of (part_sketch s q.elements)) qs → (k : ConId) → Contains ps k → Contains qs k → p ≡ q
+once_left s sound j judged p q p_in q_in ps qs of_p of_q k k_of_p k_of_q =
+    let (c, c_in, c_is) = left_numbered (part_sketch s p.elements) (part_is_sound s p.elements sound) ps of_p k k_of_p in
+    let (d, d_in, d_is) = left_numbered (part_sketch s q.elements) (part_is_sound s q.elements sound) qs of_q k k_of_q in
+    let c_there = (filtered_from (lies_among p.elements) s.constraints c c_in).0 in
+    let d_there = (filtered_from (lies_among q.elements) s.constraints d d_in).0 in
+    let first = numbered s sound c c_there k c_is in
+    let second = numbered s sound d d_there k d_is in
+    let same : d ≡ c = cc in
+    let (r, r_in, has, only) = once_judged s j sound judged c c_there in
+    only p p_in c_in ∙ sym (only q q_in (subst (λ (x : Constraint). HasInOwn s q.elements x) same d_in))

@@ -1,0 +1,134 @@
+// The command `live`.
+ghost use Rattle.std.specs.Prelude.{◌≡◌, ◌≤◌, ℕ, List, length};
+ghost use Rattle.std.specs.Io.KnownBytes.{Appends};
+ghost use Rattle.sk_io.specs.Causes.{AnswersFault};
+ghost use Rattle.sk_turns.specs.Answering.{IsTold};
+ghost use Rattle.sk_cli.specs.LiveAnswer.{late_line};
+ghost use Rattle.sk_cli.specs.LiveEnding.{LiveEnds, AllLiveFit, TellsLate, EndsWith};
+
+use crate::answer::refused;
+use crate::reply::reply_text;
+use crate::session::goes_on;
+use crate::status::Status;
+use sk_base::{NoMemory, Text};
+use sk_io::{Sink, Source};
+use sk_lines::{Code, Refusal};
+use sk_request::Request;
+use sk_session::{Closing, Session};
+use sk_turns::{Hearing, Replier, TurnEnd, hand_over, turn};
+use std::alloc::Global;
+use std::marker::Model;
+
+/// What an input that is too long is refused with.
+const TOO_LONG: Refusal = Refusal {
+    line: 0,
+    code: Code::E20,
+};
+
+/// A session with the settings of its words, which contracts see as both.
+#[derive(Drop)]
+pub struct Sitting {
+    alloc: Global,
+    request: Request,
+    session: Session,
+}
+
+impl Model for Sitting {
+    ghost use Rattle.sk_cli.specs.LiveAnswer.{Sat};
+
+    ghost Value = { Sat };
+
+    ghost view = { λ s. record { request = s.request; state = s.session } };
+}
+
+impl Replier for Sitting {
+    ghost use Rattle.sk_cli.specs.LiveAnswer.{IsSaid, IsEnd, long_alike, long_goes_on};
+
+    ghost replies = { IsSaid };
+
+    ghost ends = { IsEnd };
+
+    ghost long_alike = { long_alike };
+
+    ghost long_goes_on = { long_goes_on };
+
+    fn reply(&mut self, line: &[u8]) -> Result<Option<Text>, NoMemory> {
+        let reply = self.session.command(line)?;
+        if !goes_on(&reply) {
+            return Ok(None);
+        }
+        let text = reply_text(
+            self.alloc,
+            self.session.sketch(),
+            &reply,
+            self.request.order,
+            self.request.bits,
+            self.request.within,
+            self.request.layout,
+        )?;
+        Ok(Some(text))
+    }
+}
+
+/// Answers the lines of what the source has left, turn by turn, up to the end of the session.
+pub(crate) fn live<S: Source, K: Sink>(
+    alloc: Global,
+    request: Request,
+    source: &mut S,
+    sink: &mut K,
+) -> Status
+    ensures outcome { (bytes gained : List ℕ) × IsTold (S.left source.old) bytes
+        × Appends (K.written sink.old) (K.written sink.new) gained × LiveEnds request bytes result gained }
+    ensures read_fault { AnswersFault (result ≡ Status.ReadFault) (S.faults source.old) (S.faults source.new) }
+    ensures write_fault { AnswersFault (result ≡ Status.WriteFault) (K.faults sink.old) (K.faults sink.new) }
+    ensures sure_source { S.is_sure source.old
+        → (S.faults source.new ≡ S.faults source.old) × (result ≡ Status.ReadFault → ⊥) }
+    ensures sure_sink { K.is_steady sink.old → AllLiveFit request (S.left source.old) (K.sure_room sink.old) → result ≡ Status.WriteFault → ⊥ }
+{
+    let Ok(session) = Session::new(alloc, request.order, Closing::InAnyOrder) else {
+        return Status::NoMemory;
+    };
+    let mut sitting = Sitting {
+        alloc,
+        request,
+        session,
+    };
+    let mut hearing = Hearing::new(alloc);
+    loop {
+        match turn(&mut hearing, &mut sitting, source, sink) {
+            Ok(()) => {}
+            Err(end) => return ended(alloc, end, sink),
+        }
+    }
+}
+
+/// The status of an end. Where the input was too long, that is written.
+fn ended<K: Sink>(alloc: Global, end: TurnEnd, sink: &mut K) -> Status
+    ensures told { EndsWith end (K.written sink.old) (K.written sink.new) result }
+    ensures same { (end ≡ TurnEnd.TooLong → ⊥) → sink.new ≡ sink.old }
+    ensures fault { end ≡ TurnEnd.TooLong → AnswersFault (result ≡ Status.WriteFault) (K.faults sink.old) (K.faults sink.new) }
+    ensures sure { end ≡ TurnEnd.TooLong → K.is_steady sink.old → length late_line ≤ K.sure_room sink.old → result ≡ Status.WriteFault → ⊥ }
+{
+    match end {
+        TurnEnd::Done => Status::Done,
+        TurnEnd::TooLong => refuse(alloc, sink),
+        TurnEnd::ReadFault => Status::ReadFault,
+        TurnEnd::WriteFault => Status::WriteFault,
+        TurnEnd::NoMemory => Status::NoMemory,
+    }
+}
+
+/// Writes that the input is too long, and flushes it.
+fn refuse<K: Sink>(alloc: Global, sink: &mut K) -> Status
+    ensures told { TellsLate (K.written sink.old) (K.written sink.new) result }
+    ensures fault { AnswersFault (result ≡ Status.WriteFault) (K.faults sink.old) (K.faults sink.new) }
+    ensures sure { K.is_steady sink.old → length late_line ≤ K.sure_room sink.old → result ≡ Status.WriteFault → ⊥ }
+{
+    let Ok(answer) = refused(alloc, &TOO_LONG) else {
+        return Status::NoMemory;
+    };
+    match hand_over(answer.text.as_bytes(), sink) {
+        Ok(()) => Status::Refused,
+        Err(_) => Status::WriteFault,
+    }
+}

@@ -1,0 +1,2 @@
+mod TrialGraphs
+mod Lone

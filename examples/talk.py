@@ -1,0 +1,15 @@
+"""Talks with a running program: a line goes in, and its reply comes out before the next line is written.
+
+python3 examples/talk.py PROGRAM"""
+import subprocess
+import sys
+
+LINES = ["point A 0 0", "point B 40 0", "distance A B 40", "check", "set 1 50", "solve"]
+FENCE = "refused E2 word\n"  # what the line . is answered, since no line begins so; it ends every reply
+
+with subprocess.Popen([sys.argv[1], "live"], stdin=-1, stdout=-1, text=True, bufsize=1) as solver:
+    for line in LINES:
+        print(">", line)
+        solver.stdin.write(line + "\n.\n")
+        for row in iter(solver.stdout.readline, FENCE):
+            print(row, end="")
