@@ -13,8 +13,8 @@ use Rattle.sk_lines.specs.Lines.{is_line_feed, without_empty_end, lines_in, Ends
 use Rattle.sk_lines.proofs.WholeLines.{lines_in-append}
 use Rattle.sk_turns.specs.declared.ending.TurnEnd.{TurnEnd}
 use Rattle.sk_turns.specs.declared.ending.TurnEnd.TheVariants.{Done, WriteFault, NoMemory}
-use Rattle.sk_turns.specs.Answering.{AreAnswered, AnswersSome, Ends}
-use Rattle.sk_turns.specs.Heard.{HasHeard, GoesOn, EndsHeard, Stops}
+use Rattle.sk_turns.specs.Answering.{AreAnswered, AnswersSome, EndsAtLine, Ends}
+use Rattle.sk_turns.specs.Heard.{HasHeard, GoesOn, EndsHeard, EndsAmong, Stops}
 use Rattle.sk_turns.specs.InTime.{in_time}
 use Rattle.sk_turns.proofs.InTimes.{first_in_time}
 
@@ -264,4 +264,54 @@ module _ {X : Type 0} (replies : X → List ℕ → X → List ℕ → Type 0) (
         Appends-more before mid now more further appended appended',
         subst (λ (z : List ℕ). Ends replies ends first z end (text ++ (more ++ further))) whole
             (subst (λ (z : List ℕ). Ends replies ends first ((taken ++ xs) ++ (ys ++ rest)) end z) (append_assoc text more further) ended),
+      )
+
+  -- a line that has come to its end ends it
+  pub done_at : LongGoesOn → (kept : List ℕ) (now : X) (before gained : Option (List ℕ)) (bytes front after : List ℕ) → bytes ≡ (front ++ 10 ∷ []) ++ after → All (λ b. is_line_feed b ≡ false) front
+      → (heard said : List ℕ) (others : List (List ℕ)) → heard ≡ take 202 (kept ++ front) ++ 10 ∷ [] → lines_in heard ≡ said ∷ others
+      → Stops replies ends now said before gained Done → EndsAmong replies ends kept now before gained bytes
+  done_at short kept now before gained bytes front after cut solid heard said others heard_is lines_are (is, none) first taken text at =
+      let line = at.line ++ front in
+      let all_solid = All-append (λ b. is_line_feed b ≡ false) at.line front at.solid solid in
+      let kept_is : take 202 (kept ++ front) ≡ take 202 line = ap (λ (z : List ℕ). take 202 (z ++ front)) at.kept_is ∙ take_twice 202 at.line front in
+      let said_as : said ≡ strip_carriage_return (take 202 line) = said_is replies first taken kept now text front heard said others at solid heard_is lines_are ∙ ap strip_carriage_return kept_is in
+      let whole : taken ++ bytes ≡ (at.lines ++ (line ++ 10 ∷ [])) ++ after =
+      ap (λ (z : List ℕ). taken ++ z) cut
+      ∙ ap (λ (z : List ℕ). z ++ ((front ++ 10 ∷ []) ++ after)) at.cut
+      ∙ append_assoc at.lines at.line ((front ++ 10 ∷ []) ++ after)
+      ∙ ap (λ (z : List ℕ). at.lines ++ z) (sym (append_assoc at.line (front ++ 10 ∷ []) after) ∙ ap (λ (z : List ℕ). z ++ after) (sym (append_assoc at.line front (10 ∷ []))))
+      ∙ sym (append_assoc at.lines (line ++ 10 ∷ []) after) in
+      let size = ap length cut in
+      let sum = length-append (front ++ 10 ∷ []) after in
+      let front_sum = length-append front (10 ∷ []) in (
+        [],
+        after,
+        none,
+        record {
+          front = at.lines ++ (line ++ 10 ∷ []);
+          cut = whole;
+          whole = inr (at.lines ++ line, sym (append_assoc at.lines line (10 ∷ [])));
+          before = lines_in at.lines;
+          last = strip_carriage_return line;
+          lines = line_behind replies at.lines line at.whole all_solid;
+          now = now;
+          answered = subst (λ (z : List ℕ). AreAnswered replies first (lines_in at.lines) now z) (sym (append-nil text)) at.answered;
+          ended = kept_ends short now line (subst (λ (z : List ℕ). ends now z) said_as is);
+        },
+        omega (arith, size, sum, front_sum),
+      )
+
+  -- bytes behind which a line ends it
+  pub among_behind : (kept here_kept : List ℕ) (old here : X) (before mid now : Option (List ℕ)) (xs ys : List ℕ)
+      → GoesOn replies kept old before here_kept here mid xs → EndsAmong replies ends here_kept here mid now ys → EndsAmong replies ends kept old before now (xs ++ ys)
+  among_behind kept here_kept old here before mid now xs ys one two first taken text at =
+      let (more, appended, heard) = one first taken text at in
+      let (further, behind, appended', ended, few) = two first (taken ++ xs) (text ++ more) heard in
+      let sum = length-append xs ys in (
+        more ++ further,
+        behind,
+        Appends-more before mid now more further appended appended',
+        subst (λ (z : List ℕ). EndsAtLine replies ends first z (text ++ (more ++ further)) behind) (append_assoc taken xs ys)
+            (subst (λ (z : List ℕ). EndsAtLine replies ends first ((taken ++ xs) ++ ys) z behind) (append_assoc text more further) ended),
+        omega (arith, sum, few),
       )

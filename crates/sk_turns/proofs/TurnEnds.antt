@@ -183,6 +183,10 @@ pub err_is : {T U : Type 0} (r : Result T TurnEnd) (end other : TurnEnd) → IsE
 err_is (Ok x) end other is failed = absurd is.1
 err_is (Err e) end other (error, same) failed = cc
 
+pub error_is : {T : Type 0} (r : Result T TurnEnd) (end other : TurnEnd) → IsErr r × IsErrAnd r (λ e. e ≡ end) → IsErrOf r other → end ≡ other
+error_is (Ok x) end other is failed = absurd is.1
+error_is (Err e) end other (error, same) failed = cc
+
 -- and the other way
 pub err_back : {T U : Type 0} (r : Result T TurnEnd) (end other : TurnEnd) → IsErr r × IsErrAnd r (λ e. e ≡ end) → IsErrOf {T = U} (Err end) other → IsErrOf r other
 err_back (Ok x) end other is failed = absurd is.1

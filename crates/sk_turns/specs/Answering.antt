@@ -1,6 +1,6 @@
 -- Lines that are answered in turn, and how that ends.
 use Rattle.std.specs.Prelude.{◌≡◌, ◌≤◌, ◌<◌, ⊤, ℕ, List, [], ◌∷◌, ◌++◌, length, take, Option, None, Some}
-use Rattle.sk_lines.specs.Lines.{lines_in}
+use Rattle.sk_lines.specs.Lines.{lines_in, EndsLine}
 use Rattle.sk_turns.specs.declared.ending.TurnEnd.{TurnEnd}
 use Rattle.sk_turns.specs.declared.ending.TurnEnd.TheVariants.{Done, TooLong, WriteFault}
 use Rattle.sk_turns.specs.InTime.{in_time}
@@ -28,6 +28,18 @@ pub record AnswersSome {X : Type 0} (replies : X → List ℕ → X → List ℕ
 abbrev pub HasEnded : {X : Type 0} → (X → List ℕ → Type 0) → X → List (List ℕ) → Type 0
 HasEnded ends now [] = ⊤
 HasEnded ends now (line ∷ lines) = ends now line
+
+-- A line with its line feed ends it: the lines before it are answered, this being the text of the replies, and this stands behind it.
+pub record EndsAtLine {X : Type 0} (replies : X → List ℕ → X → List ℕ → Type 0) (ends : X → List ℕ → Type 0) (first : X) (bytes text behind : List ℕ) : Type 0 where
+  pub front : List ℕ
+  pub cut : bytes ≡ front ++ behind
+  pub whole : EndsLine front
+  pub before : List (List ℕ)
+  pub last : List ℕ
+  pub lines : lines_in front ≡ before ++ last ∷ []
+  pub now : X
+  pub answered : AreAnswered replies first before now text
+  pub ended : ends now last
 
 -- Each end says what was gained of an input: the replies to its lines up to the end, where it has one in time; those to all lines
 -- in time, where it is too long; a front of the replies to some of them; or the whole replies to some of them.

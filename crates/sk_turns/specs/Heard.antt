@@ -1,11 +1,11 @@
 -- What is heard of an input that comes piece by piece.
-use Rattle.std.specs.Prelude.{◌≡◌, ◌≤◌, ◌<◌, ◌+◌, ℕ, false, List, [], ◌∷◌, ◌++◌, length, take, All, Option}
-use Rattle.std.specs.Io.KnownBytes.{Appends, Consumes}
+use Rattle.std.specs.Prelude.{◌≡◌, ◌⊎◌, ◌≤◌, ◌<◌, ◌+◌, ℕ, false, List, [], ◌∷◌, ◌++◌, length, take, All, Option}
+use Rattle.std.specs.Io.KnownBytes.{Appends, Consumes, IsAtEnd}
 use Rattle.sk_io.specs.Transfer.{AppendsFront}
 use Rattle.sk_lines.specs.Lines.{is_line_feed, lines_in, EndsLine}
 use Rattle.sk_turns.specs.declared.ending.TurnEnd.{TurnEnd}
 use Rattle.sk_turns.specs.declared.ending.TurnEnd.TheVariants.{Done, WriteFault, NoMemory}
-use Rattle.sk_turns.specs.Answering.{AreAnswered, AnswersSome, Ends, IsTold}
+use Rattle.sk_turns.specs.Answering.{AreAnswered, AnswersSome, EndsAtLine, Ends, IsTold}
 use Rattle.sk_turns.specs.InTime.{in_time}
 
 -- what is kept of the line that is being heard, and how many bytes were taken
@@ -35,6 +35,12 @@ abbrev pub EndsHeard : {X : Type 0} → (X → List ℕ → X → List ℕ → T
 EndsHeard {X = X} replies ends kept old before now bytes end =
     (first : X) (taken text rest : List ℕ) → HasHeard replies first taken kept old text → length (taken ++ bytes) ≤ 4294967295
     → (more : List ℕ) × Appends before now more × Ends replies ends first (taken ++ (bytes ++ rest)) end (text ++ more)
+
+-- whatever was taken before, a line ends it whose line feed is among these bytes
+abbrev pub EndsAmong : {X : Type 0} → (X → List ℕ → X → List ℕ → Type 0) → (X → List ℕ → Type 0) → List ℕ → X → Option (List ℕ) → Option (List ℕ) → List ℕ → Type 0
+EndsAmong {X = X} replies ends kept old before now bytes =
+    (first : X) (taken text : List ℕ) → HasHeard replies first taken kept old text
+    → (more : List ℕ) × (behind : List ℕ) × Appends before now more × EndsAtLine replies ends first (taken ++ bytes) (text ++ more) behind × (length behind < length bytes)
 
 -- whatever lines of the input are answered, the text of their replies has no more bytes
 abbrev pub AreWithin : {X : Type 0} → (X → List ℕ → X → List ℕ → Type 0) → X → List ℕ → ℕ → Type 0
@@ -78,3 +84,9 @@ abbrev pub EndsTurn : {X : Type 0} → (X → List ℕ → X → List ℕ → Ty
 EndsTurn replies ends first taken text left behind before now end =
     (piece : List ℕ) × (rest : List ℕ) × (more : List ℕ) × Consumes left behind piece × IsTold behind rest × Appends before now more
     × Ends replies ends first (taken ++ (piece ++ rest)) end (text ++ more)
+
+-- a piece was taken off that has the line feed of the line that ends it; or the input is at its end, and nothing was taken
+abbrev pub IsDone : {X : Type 0} → (X → List ℕ → X → List ℕ → Type 0) → (X → List ℕ → Type 0) → X → List ℕ → List ℕ → Option (List ℕ) → Option (List ℕ) → Option (List ℕ) → Option (List ℕ) → Type 0
+IsDone replies ends first taken text left after before now =
+    (piece : List ℕ) × (length piece ≤ 4096) × Consumes left after piece × (((piece ≡ []) × IsAtEnd after)
+    ⊎ ((more : List ℕ) × (behind : List ℕ) × Appends before now more × EndsAtLine replies ends first (taken ++ piece) (text ++ more) behind × (length behind < length piece)))

@@ -1,11 +1,11 @@
 // The line that is being heard.
-ghost use Rattle.std.specs.Prelude.{◌≡◌, ◌<◌, ◌≤◌, ◌+◌, [], ◌∷◌, ◌++◌, ℕ, List, length, take, All, false, IfOk, IfErr, IfSome, IfNone, IsOk, IsErr, IsErrOf, OnOk, OnErr};
+ghost use Rattle.std.specs.Prelude.{◌≡◌, ◌⊎◌, ◌<◌, ◌≤◌, ◌+◌, [], ◌∷◌, ◌++◌, ℕ, List, length, take, All, false, IfOk, IfErr, IfSome, IfNone, IsOk, IsErr, IsErrOf, OnOk, OnErr};
 ghost use Rattle.std.specs.Io.KnownBytes.{Appends, Keeps};
 ghost use Rattle.sk_io.specs.Causes.{AnswersFault};
 ghost use Rattle.sk_io.specs.Transfer.{AppendsFront};
 ghost use Rattle.sk_lines.specs.Lines.{is_line_feed, lines_in};
 ghost use Rattle.sk_turns.specs.Answering.{Ends};
-ghost use Rattle.sk_turns.specs.Heard.{HasHeard, HasRoom, AreWithin, IsRoomy, KeepsRoom, GoesOn, IsLeft, IsCut, Stops, EndsHeard};
+ghost use Rattle.sk_turns.specs.Heard.{HasHeard, HasRoom, AreWithin, IsRoomy, KeepsRoom, GoesOn, IsLeft, IsCut, Stops, EndsHeard, EndsAmong};
 
 use crate::ending::TurnEnd;
 use crate::replier::Replier;
@@ -96,12 +96,15 @@ impl Hearing {
         ensures taken { self.new.taken ≡ self.old.taken }
         ensures some { IfOk result (λ answered. IfSome answered (λ after. (front : List ℕ) × IsLeft bytes.now front after.now
             × GoesOn R.replies self.old.kept replier.old (K.written sink.old) self.new.kept replier.new (K.written sink.new) front
-            × KeepsRoom R.replies self.old.kept replier.old (K.sure_room sink.old) self.new.kept replier.new (K.sure_room sink.new) front)) }
+            × KeepsRoom R.replies self.old.kept replier.old (K.sure_room sink.old) self.new.kept replier.new (K.sure_room sink.new) front
+            × K.is_flushed sink.new)) }
         ensures none { IfOk result (λ answered. IfNone answered
             (GoesOn R.replies self.old.kept replier.old (K.written sink.old) self.new.kept replier.new (K.written sink.new) bytes.now)) }
         ensures room { IfOk result (λ answered. IfNone answered
             (KeepsRoom R.replies self.old.kept replier.old (K.sure_room sink.old) self.new.kept replier.new (K.sure_room sink.new) bytes.now)) }
+        ensures solid { IfOk result (λ answered. IfNone answered (All (λ b. is_line_feed b ≡ false) bytes.now)) }
         ensures ended { IfErr result (EndsHeard R.replies R.ends self.old.kept replier.old (K.written sink.old) (K.written sink.new) bytes.now) }
+        ensures at_line { IsErrOf result TurnEnd.Done → EndsAmong R.replies R.ends self.old.kept replier.old (K.written sink.old) (K.written sink.new) bytes.now }
         ensures steady { K.is_steady sink.old → K.is_steady sink.new }
         ensures sure { K.is_steady sink.old → IsRoomy R.replies self.old.kept replier.old (K.sure_room sink.old) bytes.now → IsErrOf result TurnEnd.WriteFault → ⊥ }
         ensures flushed { (IsErrOf result TurnEnd.WriteFault → ⊥) → K.is_flushed sink.old → K.is_flushed sink.new }
@@ -131,7 +134,9 @@ impl Hearing {
         ensures taken { self.new.taken ≡ self.old.taken }
         ensures goes_on { OnOk result (GoesOn R.replies self.old.kept replier.old (K.written sink.old) self.new.kept replier.new (K.written sink.new) piece.now) }
         ensures room { OnOk result (KeepsRoom R.replies self.old.kept replier.old (K.sure_room sink.old) self.new.kept replier.new (K.sure_room sink.new) piece.now) }
+        ensures handed_on { OnOk result (All (λ b. is_line_feed b ≡ false) piece.now ⊎ K.is_flushed sink.new) }
         ensures ended { IfErr result (EndsHeard R.replies R.ends self.old.kept replier.old (K.written sink.old) (K.written sink.new) piece.now) }
+        ensures at_line { IsErrOf result TurnEnd.Done → EndsAmong R.replies R.ends self.old.kept replier.old (K.written sink.old) (K.written sink.new) piece.now }
         ensures steady { K.is_steady sink.old → K.is_steady sink.new }
         ensures sure { K.is_steady sink.old → IsRoomy R.replies self.old.kept replier.old (K.sure_room sink.old) piece.now → IsErrOf result TurnEnd.WriteFault → ⊥ }
         ensures flushed { (IsErrOf result TurnEnd.WriteFault → ⊥) → K.is_flushed sink.old → K.is_flushed sink.new }

@@ -1,10 +1,11 @@
 // A turn.
-ghost use Rattle.std.specs.Prelude.{◌≡◌, ◌<◌, ◌≤◌, ◌+◌, ◌-◌, ◌++◌, ℕ, List, length, OnOk, IfErr, IsErrOf};
-ghost use Rattle.std.specs.Io.KnownBytes.{Consumes};
+ghost use Rattle.std.specs.Prelude.{◌≡◌, ◌⊎◌, ◌<◌, ◌≤◌, ◌+◌, ◌-◌, ◌++◌, ℕ, false, List, length, All, OnOk, IfErr, IsErrOf};
+ghost use Rattle.std.specs.Io.KnownBytes.{Consumes, Keeps};
 ghost use Rattle.sk_io.specs.Causes.{AnswersFault};
 ghost use Rattle.sk_io.specs.Transfer.{TakesAtMost};
+ghost use Rattle.sk_lines.specs.Lines.{is_line_feed};
 ghost use Rattle.sk_turns.specs.Answering.{Ends, IsTold};
-ghost use Rattle.sk_turns.specs.Heard.{HasHeard, HasRoom, AreWithin, KeepsRoom, GoesOn, EndsTurn};
+ghost use Rattle.sk_turns.specs.Heard.{HasHeard, HasRoom, AreWithin, KeepsRoom, GoesOn, EndsTurn, IsDone};
 
 use crate::ending::TurnEnd;
 use crate::hearing::Hearing;
@@ -27,10 +28,14 @@ pub fn turn<R: Replier, S: Source, K: Sink>(
     ensures goes_on { OnOk result ((piece : List ℕ) × (0 < length piece) × Consumes (S.left source.old) (S.left source.new) piece
         × (hearing.new.taken ≡ hearing.old.taken + length piece)
         × GoesOn R.replies hearing.old.kept replier.old (K.written sink.old) hearing.new.kept replier.new (K.written sink.new) piece
-        × KeepsRoom R.replies hearing.old.kept replier.old (K.sure_room sink.old) hearing.new.kept replier.new (K.sure_room sink.new) piece) }
+        × KeepsRoom R.replies hearing.old.kept replier.old (K.sure_room sink.old) hearing.new.kept replier.new (K.sure_room sink.new) piece
+        × (All (λ b. is_line_feed b ≡ false) piece ⊎ K.is_flushed sink.new)) }
     ensures bound { OnOk result (hearing.new.taken ≤ 4294967295) }
     ensures ended { IfErr result (λ end. (first : R) (taken text : List ℕ) → HasHeard R.replies first taken hearing.old.kept replier.old text → hearing.old.taken ≡ length taken
         → EndsTurn R.replies R.ends first taken text (S.left source.old) (S.left source.new) (K.written sink.old) (K.written sink.new) end) }
+    ensures at_line { IsErrOf result TurnEnd.Done → (first : R) (taken text : List ℕ) → HasHeard R.replies first taken hearing.old.kept replier.old text
+        → IsDone R.replies R.ends first taken text (S.left source.old) (S.left source.new) (K.written sink.old) (K.written sink.new) }
+    ensures read_failed { IsErrOf result TurnEnd.ReadFault → (hearing.new ≡ hearing.old) × (replier.new ≡ replier.old) × (sink.new ≡ sink.old) × Keeps (S.left source.old) (S.left source.new) }
     ensures too_long { IsErrOf result TurnEnd.TooLong → (sink.new ≡ sink.old)
         × ((first : R) (taken text : List ℕ) → HasHeard R.replies first taken hearing.old.kept replier.old text → hearing.old.taken ≡ length taken
         → (piece : List ℕ) × (rest : List ℕ) × Consumes (S.left source.old) (S.left source.new) piece × IsTold (S.left source.new) rest

@@ -1,8 +1,8 @@
-use Rattle.std.proofs.Common.{◌≡◌, ◌≤◌, ◌<◌, ◌+◌, ◌-◌, ◌++◌, [], ℕ, List, length, take, refl, sym, ap, subst, arith, append-nil, length-append}
+use Rattle.std.proofs.Common.{◌≡◌, ◌≤◌, ◌<◌, ◌+◌, ◌-◌, ◌++◌, [], ℕ, List, length, take, inl, inr, refl, sym, ap, subst, arith, append-nil, length-append}
 use Rattle.std.proofs.lemmas.Bool.Decides.{nat_tests}
 use Rattle.std.proofs.lemmas.List.{length-take, length-take-le}
 use Rattle.std.specs.Io.KnownBytes.{Consumes}
-use Rattle.sk_turns.specs.Heard.{Heard, AreWithin, IsRoomy, KeepsRoom, GoesOn, EndsHeard}
+use Rattle.sk_turns.specs.Heard.{Heard, AreWithin, IsRoomy, KeepsRoom, GoesOn, EndsHeard, EndsAmong}
 use Rattle.sk_turns.proofs.Rooms.{roomy_turn}
 use Rattle.sk_turns.proofs.TurnEnds.{told_bytes, nothing_left, none_taken, few_taken, failed_turn, late_turn, late_so, on_ok_all, both_on_ok, finished_turn, heard_turn, on_ok_so, if_err_so}
 use Rattle.sk_turns.proofs.turns.turn.Goals as goal
@@ -45,9 +45,10 @@ returns-clause-goes_on g c =
       c.in-Ok.ensures.bytes.0,
       sum,
       subst (λ (k : List ℕ). GoesOn g.R.Replier.replies k c.args.replier.now (g.K.Sink.written c.args.sink.now) c.hear.new.self.kept c.hear.new.replier (g.K.Sink.written c.hear.new.sink) (take c.in-Ok.count c.read.new.buf)) kept_is on.0,
-      subst (λ (k : List ℕ). KeepsRoom g.R.Replier.replies k c.args.replier.now (g.K.Sink.sure_room c.args.sink.now) c.hear.new.self.kept c.hear.new.replier (g.K.Sink.sure_room c.hear.new.sink) (take c.in-Ok.count c.read.new.buf)) kept_is on.1,
+      subst (λ (k : List ℕ). KeepsRoom g.R.Replier.replies k c.args.replier.now (g.K.Sink.sure_room c.args.sink.now) c.hear.new.self.kept c.hear.new.replier (g.K.Sink.sure_room c.hear.new.sink) (take c.in-Ok.count c.read.new.buf)) kept_is on.1.0,
+      on.1.1,
     ))
-    (both_on_ok c.hear.result _ _ c.hear.ensures.goes_on c.hear.ensures.room)
+    (both_on_ok c.hear.result _ _ c.hear.ensures.goes_on (both_on_ok c.hear.result _ _ c.hear.ensures.room c.hear.ensures.handed_on))
 
 pub returns-clause-ended : goal.returns-clause-ended
 returns-clause-ended g c =
@@ -166,3 +167,42 @@ returns-clause-within g c =
 
 pub returns-in-Err-clause-within : goal.returns-in-Err-clause-within
 returns-in-Err-clause-within g c = ([], omega arith, none_taken (g.S.Source.left c.args.source.now) (g.S.Source.left c.read.new.self) c.in-Err.ensures.bytes)
+
+pub returns-in-Err-clause-at_line : goal.returns-in-Err-clause-at_line
+returns-in-Err-clause-at_line g c done = absurd (cc)
+
+pub returns-then-count-eq0-clause-at_line : goal.returns-then-count-eq0-clause-at_line
+returns-then-count-eq0-clause-at_line g c done first taken text at =
+    let long : 0 < length c.read.new.buf = grind (arith, nat_tests, c.read.auto.buf, c.room.ensures.some, c.room.ensures.most) in (
+      [],
+      omega arith,
+      subst (λ (n : ℕ). Consumes (g.S.Source.left c.args.source.now) (g.S.Source.left c.read.new.self) (take n c.read.new.buf)) c.if-count-eq0.true c.in-Ok.ensures.bytes.0,
+      inl (refl, c.in-Ok.ensures.bytes.1 c.if-count-eq0.true long),
+    )
+
+pub returns-then-left-eq0-clause-at_line : goal.returns-then-left-eq0-clause-at_line
+returns-then-left-eq0-clause-at_line g c done = absurd (cc)
+
+pub returns-clause-at_line : goal.returns-clause-at_line
+returns-clause-at_line g c done first taken text at =
+    let kept_is = ap (λ (h : Heard). h.kept) c.count.ensures in
+    let size = length-take-le c.in-Ok.count c.read.new.buf c.in-Ok.ensures.bound.0 in
+    let room = rw length-take at c.read.auto.buf in
+    let ended = subst (λ (k : List ℕ). EndsAmong g.R.Replier.replies g.R.Replier.ends k c.args.replier.now (g.K.Sink.written c.args.sink.now) (g.K.Sink.written c.hear.new.sink) (take c.in-Ok.count c.read.new.buf)) kept_is (c.hear.ensures.at_line done) in (
+      take c.in-Ok.count c.read.new.buf,
+      omega (arith, size, room, c.in-Ok.ensures.bound.0, c.room.ensures.most),
+      c.in-Ok.ensures.bytes.0,
+      inr (ended first taken text at),
+    )
+
+pub returns-then-count-eq0-clause-read_failed : goal.returns-then-count-eq0-clause-read_failed
+returns-then-count-eq0-clause-read_failed g c failed = absurd (c.finish.ensures.heard (cc))
+
+pub returns-then-left-eq0-clause-read_failed : goal.returns-then-left-eq0-clause-read_failed
+returns-then-left-eq0-clause-read_failed g c failed = absurd (cc)
+
+pub returns-clause-read_failed : goal.returns-clause-read_failed
+returns-clause-read_failed g c failed = absurd (c.hear.ensures.heard failed)
+
+pub returns-in-Err-clause-read_failed : goal.returns-in-Err-clause-read_failed
+returns-in-Err-clause-read_failed g c failed = (refl, refl, refl, c.in-Err.ensures.bytes)

@@ -1,4 +1,6 @@
-use Rattle.std.proofs.Common.{◌≡◌, ◌++◌, ℕ, List, length}
+use Rattle.std.proofs.Common.{◌≡◌, ◌⊎◌, ◌++◌, ℕ, false, List, length}
+use Rattle.std.specs.Prelude.{All}
+use Rattle.sk_lines.specs.Lines.{is_line_feed}
 use Rattle.sk_turns.specs.Heard.{KeepsRoom, GoesOn}
 use Rattle.sk_turns.proofs.hearing.Hearing.hear.Given as goal
 
@@ -10,6 +12,7 @@ invariant-loop-after g l = record {
   goes_on : GoesOn g.R.Replier.replies l.fn.self.kept l.fn.replier (g.K.Sink.written l.fn.sink) l.self.kept l.replier (g.K.Sink.written l.sink) front;
   room : KeepsRoom g.R.Replier.replies l.fn.self.kept l.fn.replier (g.K.Sink.sure_room l.fn.sink) l.self.kept l.replier (g.K.Sink.sure_room l.sink) front;
   steady : g.K.Sink.is_steady l.fn.sink → g.K.Sink.is_steady l.sink;
+  handed_on : All (λ b. is_line_feed b ≡ false) front ⊎ g.K.Sink.is_flushed l.sink;
   flushed : g.K.Sink.is_flushed l.fn.sink → g.K.Sink.is_flushed l.sink;
   kept : g.K.Sink.faults l.sink ≡ g.K.Sink.faults l.fn.sink;
 }

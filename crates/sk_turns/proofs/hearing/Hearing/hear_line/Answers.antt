@@ -1,9 +1,10 @@
-use Rattle.std.proofs.Common.{◌≡◌, ◌++◌, ◌∷◌, [], ℕ, List, take, sym, ap, subst, ◌∙◌, arith, length-append}
-use Rattle.sk_turns.specs.Heard.{Heard, KeepsRoom, GoesOn, EndsHeard}
-use Rattle.sk_turns.specs.declared.ending.TurnEnd.TheVariants.{NoMemory, WriteFault}
-use Rattle.sk_turns.proofs.Hearings.{part_heard, answered_at, ended_at, out_of_memory}
+use Rattle.std.proofs.Common.{◌≡◌, ◌++◌, ◌∷◌, [], ℕ, List, take, refl, sym, ap, subst, ◌∙◌, arith, length-append}
+use Rattle.sk_turns.specs.Heard.{Heard, KeepsRoom, GoesOn, EndsHeard, Stops}
+use Rattle.sk_turns.specs.declared.ending.TurnEnd.{TurnEnd}
+use Rattle.sk_turns.specs.declared.ending.TurnEnd.TheVariants.{Done, NoMemory, WriteFault}
+use Rattle.sk_turns.proofs.Hearings.{part_heard, answered_at, ended_at, done_at, out_of_memory}
 use Rattle.sk_turns.proofs.Rooms.{room_part, room_answered, reply_fits}
-use Rattle.sk_turns.proofs.TurnEnds.{err_is, err_back, ends_as, nothing_gained}
+use Rattle.sk_turns.proofs.TurnEnds.{err_is, err_back, error_is, ends_as, nothing_gained}
 use Rattle.sk_turns.proofs.hearing.Hearing.hear_line.Goals as goal
 
 pub returns-in_err-keep-clause-ended : goal.returns-in_err-keep-clause-ended
@@ -62,6 +63,7 @@ returns-clause-some g c =
           (sym (ap (λ (h : Heard). h.kept) c.take_out-line.ensures.anew))
           (room_answered g.R.Replier.replies g.R.Replier.ends g.R.Replier.long_alike c.args.self.now.kept c.args.replier.now c.answer.new.replier (g.K.Sink.sure_room c.args.sink.now) (g.K.Sink.sure_room c.answer.new.sink)
           c.in-Some.front.now c.as_bytes.result.now said.0 said.1 said.2 c.in-Some.ensures.some.solid text_is said.3 said.4 said.6),
+      c.in_ok-answer.ensures.flushed refl,
     )
 
 pub returns-in_default-clause-room : goal.returns-in_default-clause-room
@@ -84,3 +86,16 @@ returns-in_err-answer-clause-sure g c steady roomy failed =
 pub returns-in_err-answer-clause-flushed : goal.returns-in_err-answer-clause-flushed
 returns-in_err-answer-clause-flushed g c other flushed =
     c.in_err-answer.ensures.unheld (λ failed. other (err_back c.from_residual-in_err-answer.result c.in_err-answer.field-0.0 WriteFault c.from_residual-in_err-answer.ensures failed)) flushed
+
+pub returns-in_err-answer-clause-at_line : goal.returns-in_err-answer-clause-at_line
+returns-in_err-answer-clause-at_line g c done =
+    let W = g.K.Sink.written c.args.sink.now in
+    let V = g.K.Sink.written c.answer.new.sink in
+    let kept_is = ap (λ (h : Heard). h.kept) c.in_ok-keep-2.ensures.ok in
+    let text_is : c.as_bytes.result.now ≡ take 202 (c.args.self.now.kept ++ c.in-Some.front.now) ++ 10 ∷ [] =
+    c.as_bytes.ensures ∙ c.in_ok-put.ensures.ok ∙ ap (λ (z : List ℕ). z ++ 10 ∷ []) (c.take_out-line.ensures.text ∙ kept_is) in
+    let stopped = c.in_err-answer.ensures.err in
+    let end_is = error_is c.from_residual-in_err-answer.result c.in_err-answer.field-0.0 Done c.from_residual-in_err-answer.ensures done in
+    done_at g.R.Replier.replies g.R.Replier.ends g.R.Replier.long_goes_on c.args.self.now.kept c.args.replier.now W V c.args.bytes.now c.in-Some.front.now c.in-Some.after.now
+    c.in-Some.ensures.some.cut c.in-Some.ensures.some.solid c.as_bytes.result.now stopped.0 stopped.1 text_is stopped.2
+    (subst (λ (e : TurnEnd). Stops g.R.Replier.replies g.R.Replier.ends c.args.replier.now stopped.0 W V e) end_is stopped.3)
