@@ -1,24 +1,27 @@
 -- What turns answer is what a session replies.
-use Rattle.std.proofs.Common.{◌≡◌, ◌≢◌, ◌⊎◌, ℕ, ◌+◌, ◌≤◌, ◌<◌, false, Option, Some, None, arith, append_assoc, append-nil, length-append, List, [], ◌∷◌, ◌++◌, length, take, refl, sym, ap, subst, ◌∙◌, inl, inr}
+use Rattle.std.proofs.Common.{◌≡◌, ◌≢◌, ◌⊎◌, ℕ, ◌+◌, ◌-◌, ◌≤◌, ◌<◌, false, Option, Some, None, arith, append_assoc, append-nil, length-append, List, [], ◌∷◌, ◌++◌, length, take, refl, sym, ap, subst, ◌∙◌, inl, inr}
 use Rattle.std.proofs.lemmas.Bool.{cases_lt}
 use Rattle.std.proofs.lemmas.List.Elements.{All-nil}
 use Rattle.std.proofs.Math.Seq.{take-append-add}
-use Rattle.std.specs.Prelude.{Err, IsErrOf}
-use Rattle.std.specs.Io.KnownBytes.{Appends, Consumes}
+use Rattle.std.specs.Prelude.{All, Err, IsErrOf}
+use Rattle.std.specs.Io.KnownBytes.{Appends, Consumes, Keeps}
 use Rattle.sk_io.specs.Causes.{AnswersFault}
-use Rattle.sk_io.proofs.Moved.{Appends-more}
-use Rattle.sk_lines.specs.Lines.{is_line_feed, lines_in}
+use Rattle.sk_io.specs.Transfer.{TakesAtMost}
+use Rattle.sk_io.proofs.Moved.{Appends-more, Consumes-more}
+use Rattle.sk_lines.specs.Lines.{is_line_feed, lines_in, EndsLine}
 use Rattle.sk_session.specs.declared.Reply.TheVariants as reply
 use Rattle.sk_session.specs.State.{State}
 use Rattle.sk_request.specs.declared.Request.{Request}
-use Rattle.sk_turns.specs.Answering.{AreAnswered, AnswersSome, HasEnded as HasEndedAt, Ends, IsTold}
-use Rattle.sk_turns.specs.Heard.{HasHeard, HasRoom, AreWithin, KeepsRoom, GoesOn, EndsTurn}
+use Rattle.sk_turns.specs.Answering.{AreAnswered, AnswersSome, EndsAtLine, HasEnded as HasEndedAt, Ends, IsTold}
+use Rattle.sk_turns.specs.Heard.{HasHeard, HasRoom, AreWithin, KeepsRoom, GoesOn, EndsTurn, IsDone}
 use Rattle.sk_turns.specs.declared.TurnEnd.{TurnEnd}
-use Rattle.sk_turns.specs.InTime.{in_time}
+use Rattle.sk_turns.specs.InTime.{in_time, whole_lines}
+use Rattle.sk_turns.proofs.InTimes.{whole_front, none_whole}
+use Rattle.sk_turns.proofs.TurnEnds.{none_taken}
 use Rattle.sk_turns.specs.declared.TurnEnd.TheVariants as turn_end
 use Rattle.sk_cli.specs.declared.status.Status.TheVariants.{Done, Refused, ReadFault, WriteFault, NoMemory}
 use Rattle.sk_cli.specs.LiveAnswer.{Sat, begun, late_line, IsSaid, IsEnd, RepliesInTime, IsLiveAnswer}
-use Rattle.sk_cli.specs.LiveEnding.{LiveEnds, IsLiveWritten, AllLiveFit, TellsLate, EndsWith}
+use Rattle.sk_cli.specs.LiveEnding.{LiveEnds, LiveTakes, IsLiveWritten, AllLiveFit, TellsLate, EndsWith}
 use Rattle.sk_cli.specs.declared.status.Status.{Status}
 use Rattle.sk_cli.specs.SessionAnswer.{IsReplied, AreReplied, HasEnded, at_start}
 
@@ -110,6 +113,9 @@ write_same turn_end.WriteFault before now status (is, none) other = (λ same. re
 write_same turn_end.NoMemory before now status (is, none) other = (λ same. cc, λ same. cc)
 write_same turn_end.TooLong before now status tells other = absurd (other refl)
 
+pub failed_status : (end : TurnEnd) (before now : Option (List ℕ)) (status : Status) → EndsWith end before now status → end ≡ turn_end.WriteFault → status ≡ WriteFault
+failed_status end before now status with same = (subst (λ (e : TurnEnd). EndsWith e before now status) same with).0
+
 pub late_or_not : (end : TurnEnd) → (end ≡ turn_end.TooLong) ⊎ (end ≢ turn_end.TooLong)
 late_or_not turn_end.Done = inr (λ same. cc)
 late_or_not turn_end.ReadFault = inr (λ same. cc)
@@ -155,6 +161,68 @@ live_ends request left here behind old before mid now kept count sitting taken e
       Appends-more old mid now (more ++ further) last (Appends-more old before mid more further appended appended') appended'',
       lives,
     )
+
+-- the whole lines of what was taken
+lines_taken : (taken lines line : List ℕ) → taken ≡ lines ++ line → EndsLine lines → All (λ b. is_line_feed b ≡ false) line → whole_lines taken ≡ lines
+lines_taken taken lines line cut whole solid =
+    ap whole_lines cut
+    ∙ whole_front lines line whole
+    ∙ ap (λ (z : List ℕ). lines ++ z) (none_whole line solid)
+    ∙ append-nil lines
+
+same_gained : (old now later : Option (List ℕ)) (text : List ℕ) → Appends old now text → Appends now later [] → Appends old later text
+same_gained old now later text appended none = subst (λ (z : List ℕ). Appends old later z) (append-nil text) (Appends-more old now later text [] appended none)
+
+-- what `live` takes behind some turns
+pub live_taken : (request : Request) (left here after old before mid now : Option (List ℕ)) (kept : List ℕ) (sitting : Sat) (taken all : List ℕ) (end : TurnEnd) (status : Status)
+    → Consumes left here taken → GoesOn IsSaid [] (begun request) old kept sitting before taken
+    → (end ≡ turn_end.Done → (first : Sat) (taken text : List ℕ) → HasHeard IsSaid first taken kept sitting text → IsDone IsSaid IsEnd first taken text here after before mid)
+    → (end ≡ turn_end.ReadFault → Appends before mid [] × Keeps here after)
+    → EndsWith end mid now status → Appends old now all → (gained : List ℕ) × Appends old now gained × LiveTakes request status left after gained
+live_taken request left here after old before mid now kept sitting taken all turn_end.Done status takes goes_on done failed (is, none) appended_all =
+    let (more, appended, heard) = goes_on (begun request) [] [] (nothing_heard request) in
+    let (piece, few, takes', how) = done refl (begun request) taken more heard in
+    let takes_both = Consumes-more left here after taken piece takes takes' in
+    elim how [
+      | inl over ↦ (all, appended_all, subst (λ (z : Status). LiveTakes request z left after all) (sym is) (taken ++ piece, takes_both, inl over.1))
+      | inr (further, behind, appended', ended, fewer) ↦ (
+        more ++ further,
+        same_gained old mid now (more ++ further) (Appends-more old before mid more further appended appended') none,
+        subst (λ (z : Status). LiveTakes request z left after (more ++ further)) (sym is) (taken ++ piece, takes_both, inr (behind, omega (arith, few, fewer), ended)),
+      )
+    ]
+live_taken request left here after old before mid now kept sitting taken all turn_end.ReadFault status takes goes_on done failed (is, none) appended_all =
+    let (more, appended, heard) = goes_on (begun request) [] [] (nothing_heard request) in
+    let (same, keeps) = failed refl in
+    let whole = lines_taken taken heard.lines heard.line heard.cut heard.whole heard.solid in (
+      more,
+      same_gained old mid now more (same_gained old before mid more appended same) none,
+      subst (λ (z : Status). LiveTakes request z left after more) (sym is) (
+        taken,
+        sitting.state,
+        subst (λ (z : List ℕ). Consumes left after z) (append-nil taken) (Consumes-more left here after taken [] takes (none_taken here after keeps)),
+        subst (λ (z : List ℕ). AreReplied request (at_start request.order) (lines_in z) sitting.state more) (sym whole)
+            (replied_in_turn request (lines_in heard.lines) (begun request) sitting more refl heard.answered),
+      ),
+    )
+live_taken request left here after old before mid now kept sitting taken all turn_end.WriteFault status takes goes_on done failed (is, none) appended_all =
+    (all, appended_all, subst (λ (z : Status). LiveTakes request z left after all) (sym is) tt)
+live_taken request left here after old before mid now kept sitting taken all turn_end.NoMemory status takes goes_on done failed (is, none) appended_all =
+    (all, appended_all, subst (λ (z : Status). LiveTakes request z left after all) (sym is) tt)
+live_taken request left here after old before mid now kept sitting taken all turn_end.TooLong status takes goes_on done failed tells appended_all = (all, appended_all, by status tells)
+  where
+    by : (status : Status) → TellsLate mid now status → LiveTakes request status left after all
+    by Refused tells = tt
+    by WriteFault tells = tt
+    by NoMemory tells = tt
+    by status tells = absurd tells
+
+-- so much at most is taken behind some turns
+pub live_few : (left here after : Option (List ℕ)) (taken : List ℕ) (count : ℕ) → Consumes left here taken → count ≡ length taken → count ≤ 4294967295 → TakesAtMost (4294967296 - count) here after
+    → TakesAtMost 4294967296 left after
+live_few left here after taken count takes is bound (bytes, few, takes') =
+    let sum = length-append taken bytes in
+    (taken ++ bytes, omega (arith, sum, is, bound, few), Consumes-more left here after taken bytes takes takes')
 
 -- the replies to what is told fit
 pub live_within : (request : Request) (left : Option (List ℕ)) (room : ℕ) (bytes : List ℕ) → AllLiveFit request left room → IsTold left bytes → AreWithin IsSaid (begun request) bytes room

@@ -34,7 +34,7 @@ use Rattle.sk_cli.specs.Outcome.{IsOutcome, IsAnswer, IsAnswerOf, IsAccountAnswe
 use Rattle.sk_cli.specs.SessionAnswer.{RepliesToFront}
 use Rattle.sk_cli.specs.LiveEnding.{LiveEnds, AllLiveFit}
 use Rattle.sk_cli.specs.SessionEnding.{SessionEnds}
-use Rattle.sk_cli.specs.Ending.{IsTold, Ends, Sends}
+use Rattle.sk_cli.specs.Ending.{IsTold, AskForLive, Ends, Sends}
 
 -- the bytes that are told, or any
 told_bytes : (left : Option (List ℕ)) → (bytes : List ℕ) × IsTold left bytes
@@ -318,6 +318,9 @@ as_live words bytes request NotWell gained asks is ends = absurd ends
 as_live words bytes request StepFault gained asks is ends = absurd ends
 as_live words bytes request Tolerance gained asks is ends = absurd ends
 as_live words bytes request NotVerified gained asks is ends = absurd ends
+
+pub asked_live : (words : List (List ℕ)) (request : Request) → Asks words request → AskForLive words → request.command ≡ Live
+asked_live words request asks (other, other_asks, is) = subst (λ (r : Request). r.command ≡ Live) (same_request words other request other_asks asks) is
 
 pub live_takes : (command : Command) → command ≡ Live → TakesInput command
 live_takes command is = subst (λ (c : Command). TakesInput c) (sym is) tt

@@ -1,14 +1,18 @@
 -- How `live` ends.
-use Rattle.std.specs.Prelude.{◌≡◌, ◌⊎◌, ◌≤◌, ℕ, List, [], length, take, Option}
-use Rattle.std.specs.Io.KnownBytes.{Appends}
+use Rattle.std.specs.Prelude.{◌≡◌, ◌⊎◌, ◌≤◌, ⊤, ℕ, List, [], length, take, Option}
+use Rattle.std.specs.Io.KnownBytes.{Appends, Consumes, IsAtEnd}
 use Rattle.sk_io.specs.Transfer.{AppendsFront}
+use Rattle.sk_lines.specs.Lines.{lines_in}
+use Rattle.sk_session.specs.State.{State}
 use Rattle.sk_request.specs.declared.Request.{Request}
-use Rattle.sk_turns.specs.Answering.{IsTold}
+use Rattle.sk_turns.specs.Answering.{IsTold, EndsAtLine}
+use Rattle.sk_turns.specs.InTime.{whole_lines}
 use Rattle.sk_turns.specs.declared.TurnEnd.{TurnEnd}
 use Rattle.sk_turns.specs.declared.TurnEnd.TheVariants as turn_end
 use Rattle.sk_cli.specs.declared.status.Status.{Status}
 use Rattle.sk_cli.specs.declared.status.Status.TheVariants.{Done, Refused, ReadFault, WriteFault, NoMemory}
-use Rattle.sk_cli.specs.LiveAnswer.{RepliesInTime, IsLiveAnswer, late_line}
+use Rattle.sk_cli.specs.LiveAnswer.{begun, IsSaid, IsEnd, RepliesInTime, IsLiveAnswer, late_line}
+use Rattle.sk_cli.specs.SessionAnswer.{AreReplied, at_start}
 
 -- a text that `live` writes, whole or as far as the sink takes it: replies, or all that is written where the input is too long
 abbrev pub IsLiveWritten : Request → List ℕ → List ℕ → Type 0
@@ -25,6 +29,17 @@ LiveEnds request bytes WriteFault gained =
 LiveEnds request bytes NoMemory gained = RepliesInTime request bytes gained
 LiveEnds request bytes ReadFault gained = RepliesInTime request bytes gained
 LiveEnds request bytes status gained = IsLiveAnswer request bytes status gained
+
+-- Two statuses say more of what was taken. Where the session is done, that is all that was left, or there is in it the line that ends
+-- the session, with its line feed, and at most 4,095 bytes behind that. Where a read failed, all lines that have come to their end in
+-- it are answered.
+abbrev pub LiveTakes : Request → Status → Option (List ℕ) → Option (List ℕ) → List ℕ → Type 0
+LiveTakes request Done left after gained =
+    (taken : List ℕ) × Consumes left after taken
+    × (IsAtEnd after ⊎ ((behind : List ℕ) × (length behind ≤ 4095) × EndsAtLine IsSaid IsEnd (begun request) taken gained behind))
+LiveTakes request ReadFault left after gained =
+    (taken : List ℕ) × (state : State) × Consumes left after taken × AreReplied request (at_start request.order) (lines_in (whole_lines taken)) state gained
+LiveTakes request status left after gained = ⊤
 
 -- that the input is too long was written, or a front of that, or memory ran out before
 abbrev pub TellsLate : Option (List ℕ) → Option (List ℕ) → Status → Type 0

@@ -4,9 +4,15 @@ ghost use Rattle.sk_report.specs.RefusalLine.{refusal_line};
 
 use crate::status::Status;
 use sk_base::{NoMemory, Text};
-use sk_lines::Refusal;
+use sk_lines::{Code, Refusal};
 use sk_report::refused_text;
 use std::alloc::Global;
+
+/// What an input that is too long is refused with.
+pub(crate) const TOO_LONG: Refusal = Refusal {
+    line: 0,
+    code: Code::E20,
+};
 
 /// A status, and the text that is written with it.
 #[derive(Drop)]

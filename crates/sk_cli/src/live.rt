@@ -2,28 +2,22 @@
 ghost use Rattle.std.specs.Prelude.{◌≡◌, ◌≤◌, ℕ, List, length};
 ghost use Rattle.std.specs.Io.KnownBytes.{Appends};
 ghost use Rattle.sk_io.specs.Causes.{AnswersFault};
+ghost use Rattle.sk_io.specs.Transfer.{TakesAtMost};
 ghost use Rattle.sk_turns.specs.Answering.{IsTold};
 ghost use Rattle.sk_cli.specs.LiveAnswer.{late_line};
-ghost use Rattle.sk_cli.specs.LiveEnding.{LiveEnds, AllLiveFit, TellsLate, EndsWith};
+ghost use Rattle.sk_cli.specs.LiveEnding.{LiveEnds, LiveTakes, AllLiveFit, TellsLate, EndsWith};
 
-use crate::answer::refused;
+use crate::answer::{TOO_LONG, refused};
 use crate::reply::reply_text;
 use crate::session::goes_on;
 use crate::status::Status;
 use sk_base::{NoMemory, Text};
 use sk_io::{Sink, Source};
-use sk_lines::{Code, Refusal};
 use sk_request::Request;
 use sk_session::{Closing, Session};
 use sk_turns::{Hearing, Replier, TurnEnd, hand_over, turn};
 use std::alloc::Global;
 use std::marker::Model;
-
-/// What an input that is too long is refused with.
-const TOO_LONG: Refusal = Refusal {
-    line: 0,
-    code: Code::E20,
-};
 
 /// A session with the settings of its words, which contracts see as both.
 #[derive(Drop)]
@@ -79,6 +73,10 @@ pub(crate) fn live<S: Source, K: Sink>(
 ) -> Status
     ensures outcome { (bytes gained : List ℕ) × IsTold (S.left source.old) bytes
         × Appends (K.written sink.old) (K.written sink.new) gained × LiveEnds request bytes result gained }
+    ensures taken { (gained : List ℕ) × Appends (K.written sink.old) (K.written sink.new) gained
+        × LiveTakes request result (S.left source.old) (S.left source.new) gained }
+    ensures few { TakesAtMost 4294967296 (S.left source.old) (S.left source.new) }
+    ensures flushed { (result ≡ Status.WriteFault → ⊥) → K.is_flushed sink.old → K.is_flushed sink.new }
     ensures read_fault { AnswersFault (result ≡ Status.ReadFault) (S.faults source.old) (S.faults source.new) }
     ensures write_fault { AnswersFault (result ≡ Status.WriteFault) (K.faults sink.old) (K.faults sink.new) }
     ensures sure_source { S.is_sure source.old
@@ -106,6 +104,7 @@ pub(crate) fn live<S: Source, K: Sink>(
 fn ended<K: Sink>(alloc: Global, end: TurnEnd, sink: &mut K) -> Status
     ensures told { EndsWith end (K.written sink.old) (K.written sink.new) result }
     ensures same { (end ≡ TurnEnd.TooLong → ⊥) → sink.new ≡ sink.old }
+    ensures flushed { (result ≡ Status.WriteFault → ⊥) → K.is_flushed sink.old → K.is_flushed sink.new }
     ensures fault { end ≡ TurnEnd.TooLong → AnswersFault (result ≡ Status.WriteFault) (K.faults sink.old) (K.faults sink.new) }
     ensures sure { end ≡ TurnEnd.TooLong → K.is_steady sink.old → length late_line ≤ K.sure_room sink.old → result ≡ Status.WriteFault → ⊥ }
 {
@@ -121,6 +120,7 @@ fn ended<K: Sink>(alloc: Global, end: TurnEnd, sink: &mut K) -> Status
 /// Writes that the input is too long, and flushes it.
 fn refuse<K: Sink>(alloc: Global, sink: &mut K) -> Status
     ensures told { TellsLate (K.written sink.old) (K.written sink.new) result }
+    ensures flushed { (result ≡ Status.WriteFault → ⊥) → K.is_flushed sink.old → K.is_flushed sink.new }
     ensures fault { AnswersFault (result ≡ Status.WriteFault) (K.faults sink.old) (K.faults sink.new) }
     ensures sure { K.is_steady sink.old → length late_line ≤ K.sure_room sink.old → result ≡ Status.WriteFault → ⊥ }
 {

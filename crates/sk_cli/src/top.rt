@@ -2,13 +2,14 @@
 ghost use Rattle.std.specs.Prelude.{◌≡◌, ◌↔◌, ◌<◌, ◌≤◌, ℕ, List, length, drop, map, Some, string_bytes, IfOk, IfSome, IsErrOf, IsTrue};
 ghost use Rattle.std.specs.Io.KnownBytes.{Appends};
 ghost use Rattle.sk_io.specs.Causes.{AnswersFault};
-ghost use Rattle.sk_io.specs.Transfer.{TakesUpTo};
-ghost use Rattle.sk_request.specs.Asking.{TakesInput, AskForInput};
+ghost use Rattle.sk_io.specs.Transfer.{TakesUpTo, TakesAtMost};
+ghost use Rattle.sk_request.specs.Asking.{Asks, TakesInput, AskForInput};
 ghost use Rattle.sk_cli.specs.Outcome.{IsAnswer, IsWritten};
 ghost use Rattle.sk_cli.specs.Ending.{IsTold, AskForLive, Ends, HasInput, Sends};
+ghost use Rattle.sk_cli.specs.LiveEnding.{LiveTakes};
 
 use crate::accounts::{Account, account_of};
-use crate::answer::{Answer, refused};
+use crate::answer::{Answer, TOO_LONG, refused};
 use crate::claims::claimed;
 use crate::flips::flips;
 use crate::grow::grow;
@@ -21,7 +22,6 @@ use crate::solving::Report;
 use crate::status::Status;
 use sk_base::{NoMemory, Text};
 use sk_io::{ReadEnd, Sink, Source, read_all, write_all};
-use sk_lines::{Code, Refusal};
 use sk_request::{Command, Request, request_of};
 use std::alloc::Global;
 
@@ -33,12 +33,6 @@ const MOST_BYTES: usize = 1_048_576;
 
 /// One byte more than an input may have.
 const MOST_TAKEN: u64 = 1_048_577;
-
-/// What an input that is too long is refused with.
-const TOO_LONG: Refusal = Refusal {
-    line: 0,
-    code: Code::E20,
-};
 
 /// Does what the words after the program's name ask for, on what the source has left, and writes the
 /// answer to the sink.
@@ -56,12 +50,18 @@ pub fn run<S: Source, K: Sink>(
         × Appends (K.written sink.old) (K.written sink.new) gained
         × Ends (map string_bytes words.now) bytes result gained }
 
-    // The input is read to its end, or to the byte that is one too many. How much of it `live` takes is said of each
-    // of its turns, by `turn`. Where the words aren't of the form, or their command makes its sketch, the source is as
-    // it was.
+    // The input is read to its end, or to the byte that is one too many. Where the words aren't of the form, or their
+    // command makes its sketch, the source is as it was.
     ensures read { AskForInput (map string_bytes words.now) → (AskForLive (map string_bytes words.now) → ⊥) → HasInput result
         → IfSome (S.left source.old) (λ bytes. S.left source.new ≡ Some (drop 1048577 bytes)) }
     ensures untouched { (AskForInput (map string_bytes words.now) → ⊥) → source.new ≡ source.old }
+
+    // `live` takes no byte beyond the one that is too many, and no piece beyond the one that has the end of the session,
+    // and leaves nothing held back in the sink.
+    ensures live_taken { AskForLive (map string_bytes words.now) → (request : Request) × (gained : List ℕ) × Asks (map string_bytes words.now) request
+        × Appends (K.written sink.old) (K.written sink.new) gained × LiveTakes request result (S.left source.old) (S.left source.new) gained }
+    ensures live_few { AskForLive (map string_bytes words.now) → TakesAtMost 4294967296 (S.left source.old) (S.left source.new) }
+    ensures live_flushed { AskForLive (map string_bytes words.now) → (result ≡ Status.WriteFault → ⊥) → K.is_flushed sink.old → K.is_flushed sink.new }
 
     // A fault is answered exactly where the source or the sink counted one in this call.
     ensures read_fault { AnswersFault (result ≡ Status.ReadFault) (S.faults source.old) (S.faults source.new) }

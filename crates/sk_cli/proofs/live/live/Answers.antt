@@ -1,4 +1,5 @@
 use Rattle.std.proofs.Common.{◌≡◌, ◌≤◌, ◌++◌, [], ℕ, List, length, inl, inr, refl, sym, ap, subst, ◌∙◌, arith, length-append}
+use Rattle.std.specs.Io.KnownBytes.{Appends}
 use Rattle.sk_io.specs.Causes.{AnswersFault}
 use Rattle.sk_io.proofs.Moved.{Consumes-more}
 use Rattle.sk_turns.proofs.Hearings.{goes_on_more}
@@ -7,7 +8,7 @@ use Rattle.sk_turns.specs.declared.TurnEnd.TheVariants as turn_end
 use Rattle.sk_turns.specs.Heard.{Heard}
 use Rattle.sk_cli.specs.LiveAnswer.{begun, late_line, IsSaid, IsEnd}
 use Rattle.sk_cli.specs.declared.status.Status.TheVariants.{ReadFault, WriteFault}
-use Rattle.sk_cli.proofs.LiveEnds.{begun_is, no_byte_taken, live_unbegun, nothing_taken, live_ends, live_room, live_within, late_fits, told_before, read_same, write_same, late_or_not, as_error, as_end, fault_of_end}
+use Rattle.sk_cli.proofs.LiveEnds.{nothing_gained, live_taken, live_few, failed_status, begun_is, no_byte_taken, live_unbegun, nothing_taken, live_ends, live_room, live_within, late_fits, told_before, read_same, write_same, late_or_not, as_error, as_end, fault_of_end}
 use Rattle.sk_cli.proofs.Sessions.{not_counted}
 use Rattle.sk_cli.proofs.live.live.Goals as goal
 
@@ -23,6 +24,7 @@ loop-end-init g c = record {
   goes_on = rw (c.new-hearing.ensures, c.in-Ok.ensures) (no_byte_taken IsSaid (begun c.args.request) (g.K.Sink.written c.args.sink.now));
   room = rw (c.new-hearing.ensures, c.in-Ok.ensures) (begun_is c.args.request (g.K.Sink.sure_room c.args.sink.now));
   steady = λ is. is;
+  flushed = λ is. is;
   sure = λ is. is;
   read_kept = refl;
   write_kept = refl;
@@ -44,6 +46,7 @@ loop-end-preserved g c =
           room_more IsSaid IsEnd [] c.loop-end.hearing.kept c.turn.new.hearing.kept (begun c.args.request) c.loop-end.sitting c.turn.new.replier
           (g.K.Sink.sure_room c.args.sink.now) (g.K.Sink.sure_room c.loop-end.sink) (g.K.Sink.sure_room c.turn.new.sink) here.taken on.0 here.room on.5;
       steady = λ is. c.in-Ok-turn.ensures.steady (here.steady is);
+      flushed = λ is. c.in-Ok-turn.ensures.flushed (λ failed. cc) (here.flushed is);
       sure = λ is. (c.in-Ok-turn.ensures.sure_source (here.sure is)).0;
       read_kept = not_counted _ (g.S.Source.faults c.loop-end.source) (g.S.Source.faults c.turn.new.source) c.in-Ok-turn.ensures.read_fault (λ failed. cc) ∙ here.read_kept;
       write_kept = not_counted _ (g.K.Sink.faults c.loop-end.sink) (g.K.Sink.faults c.turn.new.sink) c.in-Ok-turn.ensures.write_fault (λ failed. cc) ∙ here.write_kept;
@@ -105,3 +108,32 @@ returns-in-Err-clause-sure_sink g c steady each failed =
           (told_before (g.S.Source.left c.args.source.now) (g.S.Source.left c.loop-end.source) here.taken (piece ++ rest) here.takes (told_before (g.S.Source.left c.loop-end.source) (g.S.Source.left c.turn.new.source) piece rest takes told)))
           (as_error c.in-Err.end turn_end.WriteFault (both.0 failed))
     ]
+
+pub returns-in_default-clause-taken : goal.returns-in_default-clause-taken
+returns-in_default-clause-taken g c = ([], nothing_gained (g.K.Sink.written c.args.sink.now), tt)
+
+pub returns-in_default-clause-few : goal.returns-in_default-clause-few
+returns-in_default-clause-few g c = ([], omega arith, nothing_taken (g.S.Source.left c.args.source.now))
+
+pub returns-in-Err-clause-taken : goal.returns-in-Err-clause-taken
+returns-in-Err-clause-taken g c =
+    let here = c.loop-end.invariant in
+    let (bytes, gained, told, appended, ends) = returns-in-Err-clause-outcome g c in
+    live_taken c.args.request (g.S.Source.left c.args.source.now) (g.S.Source.left c.loop-end.source) (g.S.Source.left c.turn.new.source)
+    (g.K.Sink.written c.args.sink.now) (g.K.Sink.written c.loop-end.sink) (g.K.Sink.written c.turn.new.sink) (g.K.Sink.written c.ended.new.sink)
+    c.loop-end.hearing.kept c.loop-end.sitting here.taken gained c.in-Err.end c.ended.result here.takes here.goes_on
+    (λ done. c.in-Err.ensures.at_line (as_error c.in-Err.end turn_end.Done done))
+    (λ failed.
+    (let unchanged = c.in-Err.ensures.read_failed (as_error c.in-Err.end turn_end.ReadFault failed) in
+    (subst (λ k. Appends (g.K.Sink.written c.loop-end.sink) (g.K.Sink.written k) []) (sym unchanged.2) (nothing_gained (g.K.Sink.written c.loop-end.sink)), unchanged.3)))
+    c.ended.ensures.told appended
+
+pub returns-in-Err-clause-few : goal.returns-in-Err-clause-few
+returns-in-Err-clause-few g c =
+    let here = c.loop-end.invariant in
+    live_few (g.S.Source.left c.args.source.now) (g.S.Source.left c.loop-end.source) (g.S.Source.left c.turn.new.source) here.taken c.loop-end.hearing.taken here.takes here.count here.bound c.in-Err.ensures.within
+
+pub returns-in-Err-clause-flushed : goal.returns-in-Err-clause-flushed
+returns-in-Err-clause-flushed g c other flushed =
+    c.ended.ensures.flushed other (c.in-Err.ensures.flushed (λ failed. other (failed_status c.in-Err.end (g.K.Sink.written c.turn.new.sink) (g.K.Sink.written c.ended.new.sink) c.ended.result c.ended.ensures.told (as_end c.in-Err.end turn_end.WriteFault failed)))
+    (c.loop-end.invariant.flushed flushed))

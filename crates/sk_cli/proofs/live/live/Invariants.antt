@@ -13,6 +13,7 @@ invariant-loop-end g l = record {
   goes_on : GoesOn IsSaid [] (begun l.fn.request) (g.K.Sink.written l.fn.sink) l.hearing.kept l.sitting (g.K.Sink.written l.sink) taken;
   room : KeepsRoom IsSaid [] (begun l.fn.request) (g.K.Sink.sure_room l.fn.sink) l.hearing.kept l.sitting (g.K.Sink.sure_room l.sink) taken;
   steady : g.K.Sink.is_steady l.fn.sink → g.K.Sink.is_steady l.sink;
+  flushed : g.K.Sink.is_flushed l.fn.sink → g.K.Sink.is_flushed l.sink;
   sure : g.S.Source.is_sure l.fn.source → g.S.Source.is_sure l.source;
   read_kept : g.S.Source.faults l.source ≡ g.S.Source.faults l.fn.source;
   write_kept : g.K.Sink.faults l.sink ≡ g.K.Sink.faults l.fn.sink;

@@ -13,3 +13,6 @@ returns-clause-told g c = rw (c.as_bytes.ensures, c.in-Ok.ensures.text) at c.in-
 
 pub returns-clause-sure : goal.returns-clause-sure
 returns-clause-sure g c steady few failed = c.in-Err.ensures.sure steady (rw (c.as_bytes.ensures, c.in-Ok.ensures.text) few) refl
+
+pub returns-in-Ok-hand_over-clause-flushed : goal.returns-in-Ok-hand_over-clause-flushed
+returns-in-Ok-hand_over-clause-flushed g c other flushed = c.in-Ok-hand_over.ensures.flushed refl
