@@ -12,7 +12,7 @@ use Rattle.sk_lines.specs.Lines.{is_line_feed, lines_in, EndsLine}
 use Rattle.sk_session.specs.declared.Reply.TheVariants as reply
 use Rattle.sk_session.specs.State.{State}
 use Rattle.sk_request.specs.declared.Request.{Request}
-use Rattle.sk_turns.specs.Answering.{AreAnswered, AnswersSome, EndsAtLine, HasEnded as HasEndedAt, Ends, IsTold}
+use Rattle.sk_turns.specs.Answering.{AreAnswered, AnswersSome, EndsAtLine, HasEnded, Ends, IsTold}
 use Rattle.sk_turns.specs.Heard.{HasHeard, HasRoom, AreWithin, KeepsRoom, GoesOn, EndsTurn, IsDone}
 use Rattle.sk_turns.specs.declared.TurnEnd.{TurnEnd}
 use Rattle.sk_turns.specs.InTime.{in_time, whole_lines}
@@ -23,7 +23,7 @@ use Rattle.sk_cli.specs.declared.status.Status.TheVariants.{Done, Refused, ReadF
 use Rattle.sk_cli.specs.LiveAnswer.{Sat, begun, late_line, IsSaid, IsEnd, RepliesInTime, IsLiveAnswer}
 use Rattle.sk_cli.specs.LiveEnding.{LiveEnds, LiveTakes, IsLiveWritten, AllLiveFit, TellsLate, EndsWith}
 use Rattle.sk_cli.specs.declared.status.Status.{Status}
-use Rattle.sk_cli.specs.SessionAnswer.{IsReplied, AreReplied, HasEnded, at_start}
+use Rattle.sk_cli.specs.SessionAnswer.{IsReplied, AreReplied, EndsSession, at_start}
 
 pub nothing_heard : (request : Request) → HasHeard IsSaid (begun request) [] [] (begun request) []
 nothing_heard request = record {
@@ -59,7 +59,7 @@ some_in_time request bytes text some = record {
   replied = replied_in_turn request some.before (begun request) some.now text refl some.answered;
 }
 
-ended_at : (now : Sat) (lines : List (List ℕ)) → HasEndedAt IsEnd now lines → HasEnded now.state lines
+ended_at : (now : Sat) (lines : List (List ℕ)) → HasEnded IsEnd now lines → HasEnded EndsSession now.state lines
 ended_at now [] over = tt
 ended_at now (line ∷ lines) over = over
 

@@ -9,12 +9,13 @@ use Rattle.sk_request.specs.declared.Request.{Request}
 use Rattle.sk_cli.specs.declared.status.Status.{Status}
 use Rattle.sk_cli.specs.declared.status.Status.TheVariants.{Done, Refused}
 use Rattle.sk_cli.specs.LiveAnswer.{RepliesInTime, IsLiveAnswer, late_line}
-use Rattle.sk_cli.specs.SessionAnswer.{AreReplied, HasEnded, at_start}
+use Rattle.sk_cli.specs.SessionAnswer.{AreReplied, EndsSession, at_start}
+use Rattle.sk_turns.specs.Answering.{HasEnded}
 use Rattle.sk_cli.proofs.OneSession.{OneReply, OneSolved, not_ended, same_else_back, sound_else, same_replies}
 
 -- the replies to its lines up to the end, or to all in time, and that the input is too long
 pub told_live : (request : Request) (bytes : List ℕ) (status : Status) (text : List ℕ) → IsLiveAnswer request bytes status text
-    → ((status ≡ Done) × ((front : RepliesInTime request bytes text) × HasEnded front.state front.after × (front.after ≡ [] → length bytes ≤ 4294967295)))
+    → ((status ≡ Done) × ((front : RepliesInTime request bytes text) × HasEnded EndsSession front.state front.after × (front.after ≡ [] → length bytes ≤ 4294967295)))
     ⊎ ((status ≡ Refused) × ((replies : List ℕ) × ((front : RepliesInTime request bytes replies) × (front.after ≡ []) × (4294967295 < length bytes) × (text ≡ replies ++ late_line))))
 told_live request bytes Done text answer = inl (refl, answer)
 told_live request bytes Refused text answer = inr (refl, answer)
@@ -23,11 +24,11 @@ told_live request bytes status text answer = absurd answer
 module _ (one_reply : OneReply) (one_solved : OneSolved) (request : Request) where
   -- a session that has come to its end has answered all lines that one answered which stops
   pub front_lines : (before after before' after' : List (List ℕ)) (old old' : State) → IsSoundSketch (sketch_in old) → IsSameElse old old' → before ++ after ≡ before' ++ after'
-      → (end end' : State) (text whole : List ℕ) → AreReplied request old before end text → AreReplied request old' before' end' whole → HasEnded end' after' → (between : List (List ℕ)) × (before' ≡ before ++ between)
+      → (end end' : State) (text whole : List ℕ) → AreReplied request old before end text → AreReplied request old' before' end' whole → HasEnded EndsSession end' after' → (between : List (List ℕ)) × (before' ≡ before ++ between)
   front_lines [] after before' after' old old' sound same lines end end' text whole replied replied' over' = (before', refl)
   front_lines (line ∷ before) after [] after' old old' sound same lines end end' text whole (r, next, first, rest, here, on, further, is) (end_is', none') over' =
       absurd (not_ended one_reply one_solved request old' old (sound_else one_reply one_solved request old old' same sound) (same_else_back one_reply one_solved request old old' same) line (before ++ after)
-      (subst (λ (z : State). HasEnded z (line ∷ (before ++ after))) end_is' (subst (λ (zs : List (List ℕ)). HasEnded end' zs) (sym lines) over')) r next first here on)
+      (subst (λ (z : State). HasEnded EndsSession z (line ∷ (before ++ after))) end_is' (subst (λ (zs : List (List ℕ)). HasEnded EndsSession end' zs) (sym lines) over')) r next first here on)
   front_lines (line ∷ before) after (line' ∷ before') after' old old' sound same lines end end' text whole (r, next, first, rest, here, on, further, is) (r', next', first', rest', here', on', further', is') over' =
       let line_is : line ≡ line' = cc in
       let rest_is : before ++ after ≡ before' ++ after' = cc in
@@ -37,7 +38,7 @@ module _ (one_reply : OneReply) (one_solved : OneSolved) (request : Request) whe
       (rests.0, ap (λ (z : List ℕ). z ∷ before') (sym line_is) ∙ ap (λ (zs : List (List ℕ)). line ∷ zs) rests.1)
 
   -- where all lines are answered, no line ends the session before
-  pub all_answered : (bytes text whole : List ℕ) (ended : RepliesInTime request bytes text) (all : RepliesInTime request bytes whole) → HasEnded ended.state ended.after → all.after ≡ [] → ended.after ≡ []
+  pub all_answered : (bytes text whole : List ℕ) (ended : RepliesInTime request bytes text) (all : RepliesInTime request bytes whole) → HasEnded EndsSession ended.state ended.after → all.after ≡ [] → ended.after ≡ []
   all_answered bytes text whole ended all over none =
       let between = front_lines all.before all.after ended.before ended.after (at_start request.order) (at_start request.order) empty_sound (record { order = refl; edits = refl; count = refl })
       (sym all.parts ∙ ended.parts) all.state ended.state whole text all.replied ended.replied over in
@@ -68,7 +69,7 @@ module _ (one_reply : OneReply) (one_solved : OneSolved) (request : Request) whe
                 ∙ ap (λ (z : List ℕ). z ++ late_line)
                 (same_replies one_reply one_solved request all.before all.after all'.before all'.after (at_start request.order) (at_start request.order) empty_sound (record { order = refl; edits = refl; count = refl })
                 (sym all.parts ∙ all'.parts) all.state all'.state replies replies' all.replied all'.replied
-                (subst (λ (zs : List (List ℕ)). HasEnded all.state zs) (sym none) tt) (subst (λ (zs : List (List ℕ)). HasEnded all'.state zs) (sym none') tt))
+                (subst (λ (zs : List (List ℕ)). HasEnded EndsSession all.state zs) (sym none) tt) (subst (λ (zs : List (List ℕ)). HasEnded EndsSession all'.state zs) (sym none') tt))
                 ∙ sym is',
           )
         ]

@@ -100,7 +100,8 @@ use Rattle.sk_cli.specs.Outcome.{IsAccountOf, IsRefusalText, IsAccountAnswer, Is
 use Rattle.sk_cli.specs.LiveAnswer.{IsLiveAnswer, late_line}
 use Rattle.sk_cli.proofs.OneLive.{told_live, same_live}
 use Rattle.sk_cli.proofs.OneSession.{OneReply, OneSolved, same_replies, front_replies}
-use Rattle.sk_cli.specs.SessionAnswer.{IsSessionAnswer, RepliesToFront, HasEnded, at_start}
+use Rattle.sk_cli.specs.SessionAnswer.{IsSessionAnswer, RepliesToFront, EndsSession, at_start}
+use Rattle.sk_turns.specs.Answering.{HasEnded}
 
 -- the laws of the layers below
 abbrev pub OneSketch : Type 0
@@ -452,7 +453,7 @@ one_solved law laws request s sound status other text another first second = (sa
 
 -- a session's replies, or that the input is too long
 pub told_session : (request : Request) (bytes : List ℕ) (status : Status) (text : List ℕ) → IsSessionAnswer request bytes status text
-    → ((status ≡ Done) × ((front : RepliesToFront request bytes text) × HasEnded front.state front.after)) ⊎ ((status ≡ Refused) × (1048576 < length bytes) × (text ≡ refusal_line (record { line = 0; code = E20 })))
+    → ((status ≡ Done) × ((front : RepliesToFront request bytes text) × HasEnded EndsSession front.state front.after)) ⊎ ((status ≡ Refused) × (1048576 < length bytes) × (text ≡ refusal_line (record { line = 0; code = E20 })))
 told_session request bytes Done text answer = inl (refl, answer)
 told_session request bytes Refused text answer = inr (refl, answer.0, answer.1)
 told_session request bytes status text answer = absurd answer
@@ -508,7 +509,7 @@ front_of_live law laws words bytes text whole status (request, asks, is, front) 
       | inr (refused, (replies, (all, none, long, why))) ↦
           let first = front_replies laws.reply (one_solved law laws) request
           front.before front.after all.before all.after (at_start request.order) (at_start request.order) empty_sound (record { order = refl; edits = refl; count = refl })
-          (sym front.parts ∙ all.parts) front.state all.state text replies front.replied all.replied (subst (λ (zs : List (List ℕ)). HasEnded all.state zs) (sym none) tt) in
+          (sym front.parts ∙ all.parts) front.state all.state text replies front.replied all.replied (subst (λ (zs : List (List ℕ)). HasEnded EndsSession all.state zs) (sym none) tt) in
           (first.0 ++ late_line, why ∙ ap (λ (z : List ℕ). z ++ late_line) first.1 ∙ append_assoc text first.0 late_line)
     ]
 

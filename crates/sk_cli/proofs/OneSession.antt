@@ -12,7 +12,8 @@ use Rattle.sk_session.specs.Replies.{Answers}
 use Rattle.sk_request.specs.declared.Request.{Request}
 use Rattle.sk_cli.specs.declared.solving.Report.TheVariants.{Places}
 use Rattle.sk_cli.specs.declared.status.Status.{Status}
-use Rattle.sk_cli.specs.SessionAnswer.{IsReplyText, IsReplied, AreReplied, HasEnded, solve_with}
+use Rattle.sk_cli.specs.SessionAnswer.{IsReplyText, IsReplied, AreReplied, EndsSession, solve_with}
+use Rattle.sk_turns.specs.Answering.{HasEnded}
 use Rattle.sk_cli.specs.Solved.{IsSolved}
 
 -- a line has one reply, whatever family is kept
@@ -50,7 +51,7 @@ module _ (one_reply : OneReply) (one_solved : OneSolved) (request : Request) whe
   same_text s sound reply.End text another first second = first ∙ sym second
 
   -- the next line of one session is the end, and of the other it isn't
-  pub not_ended : (old other : State) → IsSoundSketch (sketch_in old) → IsSameElse old other → (line : List ℕ) (lines : List (List ℕ)) → HasEnded old (line ∷ lines)
+  pub not_ended : (old other : State) → IsSoundSketch (sketch_in old) → IsSameElse old other → (line : List ℕ) (lines : List (List ℕ)) → HasEnded EndsSession old (line ∷ lines)
       → (r : Reply) (next : State) (text : List ℕ) → IsReplied request other line next r text → r ≢ reply.End → ⊥
   not_ended old other sound same line lines (new, ends) r next text replied goes_on =
       goes_on (sym (one_reply old other new next line reply.End r sound same ends replied.answers).0)
@@ -63,11 +64,11 @@ module _ (one_reply : OneReply) (one_solved : OneSolved) (request : Request) whe
 
   -- what a session has answered where it stops is a front of what it answers up to its end
   pub front_replies : (before after before' after' : List (List ℕ)) (old old' : State) → IsSoundSketch (sketch_in old) → IsSameElse old old' → before ++ after ≡ before' ++ after'
-      → (end end' : State) (text whole : List ℕ) → AreReplied request old before end text → AreReplied request old' before' end' whole → HasEnded end' after' → (behind : List ℕ) × (whole ≡ text ++ behind)
+      → (end end' : State) (text whole : List ℕ) → AreReplied request old before end text → AreReplied request old' before' end' whole → HasEnded EndsSession end' after' → (behind : List ℕ) × (whole ≡ text ++ behind)
   front_replies [] after before' after' old old' sound same lines end end' text whole (end_is, none) replied' over' = (whole, subst (λ (z : List ℕ). whole ≡ z ++ whole) (sym none) refl)
   front_replies (line ∷ before) after [] after' old old' sound same lines end end' text whole (r, next, first, rest, here, on, further, is) (end_is', none') over' =
       absurd (not_ended old' old (sound_else old old' same sound) (same_else_back old old' same) line (before ++ after)
-      (subst (λ (z : State). HasEnded z (line ∷ (before ++ after))) end_is' (subst (λ (zs : List (List ℕ)). HasEnded end' zs) (sym lines) over')) r next first here on)
+      (subst (λ (z : State). HasEnded EndsSession z (line ∷ (before ++ after))) end_is' (subst (λ (zs : List (List ℕ)). HasEnded EndsSession end' zs) (sym lines) over')) r next first here on)
   front_replies (line ∷ before) after (line' ∷ before') after' old old' sound same lines end end' text whole (r, next, first, rest, here, on, further, is) (r', next', first', rest', here', on', further', is') over' =
       let line_is : line ≡ line' = cc in
       let rest_is : before ++ after ≡ before' ++ after' = cc in
@@ -81,7 +82,7 @@ module _ (one_reply : OneReply) (one_solved : OneSolved) (request : Request) whe
       (rests.0, is' ∙ ap (λ z. first' ++ z) rests.1 ∙ sym (append_assoc first' rest rests.0) ∙ ap (λ z. z ++ rests.0) (sym (is ∙ ap (λ z. z ++ rest) text_is)))
 
   pub same_replies : (before after before' after' : List (List ℕ)) (old old' : State) → IsSoundSketch (sketch_in old) → IsSameElse old old' → before ++ after ≡ before' ++ after'
-      → (end end' : State) (text text' : List ℕ) → AreReplied request old before end text → AreReplied request old' before' end' text' → HasEnded end after → HasEnded end' after' → text ≡ text'
+      → (end end' : State) (text text' : List ℕ) → AreReplied request old before end text → AreReplied request old' before' end' text' → HasEnded EndsSession end after → HasEnded EndsSession end' after' → text ≡ text'
   same_replies before after before' after' old old' sound same lines end end' text text' replied replied' over over' =
       let one = front_replies before after before' after' old old' sound same lines end end' text text' replied replied' over' in
       let other = front_replies before' after' before after old' old (sound_else old old' same sound) (same_else_back old old' same) (sym lines) end' end text' text replied' replied over in

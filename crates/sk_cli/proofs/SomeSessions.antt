@@ -23,7 +23,8 @@ use Rattle.sk_cli.specs.declared.status.Status.{Status}
 use Rattle.sk_cli.specs.declared.status.Status.TheVariants.{Done, Refused}
 use Rattle.sk_turns.specs.InTime.{in_time}
 use Rattle.sk_cli.specs.LiveAnswer.{RepliesInTime, IsLiveAnswer, late_line}
-use Rattle.sk_cli.specs.SessionAnswer.{solve_with, IsReplyText, at_start, HasEnded, IsSessionAnswer}
+use Rattle.sk_cli.specs.SessionAnswer.{solve_with, IsReplyText, at_start, EndsSession, IsSessionAnswer}
+use Rattle.sk_turns.specs.Answering.{HasEnded}
 use Rattle.sk_cli.specs.Solved.{IsSolved}
 use Rattle.sk_cli.specs.Told.{told}
 use Rattle.sk_cli.proofs.Sessions.{told_is_text, ends_or_not, Stands, stands_first, stands_next}
@@ -73,7 +74,7 @@ module _ (language : GivenByLanguage) (some_to_solve : SomeToSolve) (solved : So
 
   -- from a state on the lines are answered up to the end
   pub answered_lines : (rest : List (List ℕ)) (state : State) (text : List ℕ) → Stands request bytes rest state text → IsKept state
-      → (all : List ℕ) × (left : List (List ℕ)) × (end : State) × Stands request bytes left end all × HasEnded end left
+      → (all : List ℕ) × (left : List (List ℕ)) × (end : State) × Stands request bytes left end all × HasEnded EndsSession end left
   answered_lines [] state text at kept = (text, [], state, at, tt)
   answered_lines (line ∷ rest) state text at kept =
       let found = some_reply (given_below language) state kept line in
@@ -87,7 +88,7 @@ module _ (language : GivenByLanguage) (some_to_solve : SomeToSolve) (solved : So
             found.kept)
       ]
 
-  pub answered_all : (all : List ℕ) × (left : List (List ℕ)) × (end : State) × Stands request bytes left end all × HasEnded end left
+  pub answered_all : (all : List ℕ) × (left : List (List ℕ)) × (end : State) × Stands request bytes left end all × HasEnded EndsSession end left
   answered_all =
       let kept : IsKept (at_start request.order) = ([], refl, consistent_new (initial_clusters (graph_of empty_sketch)) refl) in
       answered_lines (lines_in bytes) (at_start request.order) [] (stands_first request bytes) kept
@@ -105,7 +106,7 @@ abbrev in_time_at : (request : Request) (bytes all : List ℕ) (left : List (Lis
 in_time_at request bytes all left end at = record { before = at.before; after = left; parts = at.parts; state = end; replied = at.replied }
 
 -- where the lines in time are answered up to the end, or to the last
-live_at : (request : Request) (bytes all : List ℕ) (left : List (List ℕ)) (end : State) → Stands request (in_time bytes) left end all → HasEnded end left → (status : Status) × (text : List ℕ) × IsLiveAnswer request bytes status text
+live_at : (request : Request) (bytes all : List ℕ) (left : List (List ℕ)) (end : State) → Stands request (in_time bytes) left end all → HasEnded EndsSession end left → (status : Status) × (text : List ℕ) × IsLiveAnswer request bytes status text
 live_at request bytes all (line ∷ left) end at over = (Done, all, (in_time_at request bytes all (line ∷ left) end at, over, λ none. cc))
 live_at request bytes all [] end at over =
     elim (cases_lt 4294967295 (length bytes)) [

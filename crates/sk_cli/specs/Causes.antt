@@ -30,7 +30,8 @@ use Rattle.sk_request.specs.Grids.{grid_of, digits_of}
 use Rattle.sk_cli.specs.FlipsReport.{ReadsSketchAndFlips, RefusesFlipsBehind}
 use Rattle.sk_cli.specs.Fronts.{IsRefusedAt}
 use Rattle.sk_cli.specs.LiveAnswer.{RepliesInTime}
-use Rattle.sk_cli.specs.SessionAnswer.{HasEnded}
+use Rattle.sk_cli.specs.SessionAnswer.{EndsSession}
+use Rattle.sk_turns.specs.Answering.{HasEnded}
 use Rattle.sk_cli.specs.OffersReport.{RefusesOffersBehind}
 use Rattle.sk_cli.specs.Solving.{midpoints}
 use Rattle.sk_cli.specs.VerifyAnswer.{RefusesClaimBehind}
@@ -91,7 +92,7 @@ IsSketchOf command request bytes s = Reads bytes s
 
 -- a line in time ends the session
 abbrev pub EndsInTime : Request → List ℕ → Type 0
-EndsInTime request bytes = (text : List ℕ) × ((front : RepliesInTime request bytes text) × (front.after ≢ []) × HasEnded front.state front.after)
+EndsInTime request bytes = (text : List ℕ) × ((front : RepliesInTime request bytes text) × (front.after ≢ []) × HasEnded EndsSession front.state front.after)
 
 -- the input of a command is refused; that of a session only where it is too long, that of `live` only where besides no line in time ends it
 abbrev pub IsRefusedInput : Command → Request → List ℕ → Type 0

@@ -16,7 +16,8 @@ use Rattle.sk_request.specs.declared.Request.{Request}
 use Rattle.sk_turns.specs.InTime.{in_time}
 use Rattle.sk_cli.specs.declared.status.Status.{Status}
 use Rattle.sk_cli.specs.declared.status.Status.TheVariants.{Done, Refused}
-use Rattle.sk_cli.specs.SessionAnswer.{IsReplied, AreReplied, HasEnded, at_start}
+use Rattle.sk_cli.specs.SessionAnswer.{IsReplied, AreReplied, EndsSession, at_start}
+use Rattle.sk_turns.specs.Answering.{HasEnded}
 
 -- a session with the settings of its words
 pub record Sat : Type 0 where
@@ -37,7 +38,7 @@ IsSaid old line new text = (new.request ≡ old.request) × ((r : Reply) × IsRe
 
 -- the line ends the session
 abbrev pub IsEnd : Sat → List ℕ → Type 0
-IsEnd sat line = (new : State) × Answers sat.state line reply.End new
+IsEnd sat line = EndsSession sat.state line
 
 -- some of the lines that are answered in time, from the first on, are answered, and this is the text of their replies
 pub record RepliesInTime (request : Request) (bytes text : List ℕ) : Type 0 where
@@ -55,7 +56,7 @@ late_line = refusal_line (record { line = 0; code = E20 })
 -- time, and that the input is too long
 abbrev pub IsLiveAnswer : Request → List ℕ → Status → List ℕ → Type 0
 IsLiveAnswer request bytes Done text =
-    (front : RepliesInTime request bytes text) × HasEnded front.state front.after × (front.after ≡ [] → length bytes ≤ 4294967295)
+    (front : RepliesInTime request bytes text) × HasEnded EndsSession front.state front.after × (front.after ≡ [] → length bytes ≤ 4294967295)
 IsLiveAnswer request bytes Refused text =
     (replies : List ℕ) × ((front : RepliesInTime request bytes replies) × (front.after ≡ []) × (4294967295 < length bytes)
     × (text ≡ replies ++ late_line))

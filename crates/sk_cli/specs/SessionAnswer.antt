@@ -15,6 +15,7 @@ use Rattle.sk_entry.specs.Growth.{empty_sketch}
 use Rattle.sk_session.specs.State.{State, sketch_in}
 use Rattle.sk_session.specs.Replies.{Answers}
 use Rattle.sk_worklist.specs.declared.Order.{Order}
+use Rattle.sk_turns.specs.Answering.{HasEnded}
 use Rattle.sk_request.specs.declared.Bits.{Bits}
 use Rattle.sk_request.specs.declared.Command.TheVariants.{Solve}
 use Rattle.sk_request.specs.declared.Request.{Request}
@@ -59,13 +60,12 @@ pub record RepliesToFront (request : Request) (bytes text : List ℕ) : Type 0 w
   pub state : State
   pub replied : AreReplied request (at_start request.order) before state text
 
--- no line is left, or the next one ends the session
-abbrev pub HasEnded : State → List (List ℕ) → Type 0
-HasEnded state [] = ⊤
-HasEnded state (line ∷ lines) = (new : State) × Answers state line reply.End new
+-- the line ends the session
+abbrev pub EndsSession : State → List ℕ → Type 0
+EndsSession state line = (new : State) × Answers state line reply.End new
 
 -- what `session` answers to an input: the replies to its lines up to its end, or that it is too long
 abbrev pub IsSessionAnswer : Request → List ℕ → Status → List ℕ → Type 0
-IsSessionAnswer request bytes Done text = (front : RepliesToFront request bytes text) × HasEnded front.state front.after
+IsSessionAnswer request bytes Done text = (front : RepliesToFront request bytes text) × HasEnded EndsSession front.state front.after
 IsSessionAnswer request bytes Refused text = (1048576 < length bytes) × (text ≡ refusal_line (record { line = 0; code = E20 }))
 IsSessionAnswer request bytes status text = ⊥

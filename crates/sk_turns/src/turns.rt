@@ -16,9 +16,10 @@ use sk_io::{Sink, Source};
 const PIECE: usize = 4096;
 
 /// Takes a piece of the source, which it asks once, and answers each line that ends in it: when it returns, the replies to all lines
-/// that have come to their end so far are in the sink, which is flushed where it was before. Where it goes on it took a byte at least;
-/// else it says how it ended, and what the sink gained from the first turn on is what its end says of the whole input. The input has
-/// at most 4,294,967,295 bytes, and one byte more is taken at most.
+/// that have come to their end so far are in the sink, which is flushed where it was before, and also where it goes on and a line
+/// ended. Where it goes on it took a byte at least; else it says how it ended, and what the sink gained from the first turn on is what
+/// its end says of the whole input. A line that ends it has its line feed in the piece, but at the end of the input. After a failed
+/// read all is as it was. The input has at most 4,294,967,295 bytes, and one byte more is taken at most.
 pub fn turn<R: Replier, S: Source, K: Sink>(
     hearing: &mut Hearing,
     replier: &mut R,
