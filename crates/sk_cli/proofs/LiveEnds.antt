@@ -185,11 +185,12 @@ live_taken request left here after old before mid now kept sitting taken all tur
     let takes_both = Consumes-more left here after taken piece takes takes' in
     elim how [
       | inl over ↦ (all, appended_all, subst (λ (z : Status). LiveTakes request z left after all) (sym is) (taken ++ piece, takes_both, inl over.1))
-      | inr (further, behind, appended', ended, fewer) ↦ (
-        more ++ further,
-        same_gained old mid now (more ++ further) (Appends-more old before mid more further appended appended') none,
-        subst (λ (z : Status). LiveTakes request z left after (more ++ further)) (sym is) (taken ++ piece, takes_both, inr (behind, omega (arith, few, fewer), ended)),
-      )
+      | inr found ↦ (
+          let (further, behind, appended', ended, fewer) = found in (
+            more ++ further,
+            same_gained old mid now (more ++ further) (Appends-more old before mid more further appended appended') none,
+            subst (λ (z : Status). LiveTakes request z left after (more ++ further)) (sym is) (taken ++ piece, takes_both, inr (behind, omega (arith, few, fewer), ended)),
+          ))
     ]
 live_taken request left here after old before mid now kept sitting taken all turn_end.ReadFault status takes goes_on done failed (is, none) appended_all =
     let (more, appended, heard) = goes_on (begun request) [] [] (nothing_heard request) in

@@ -319,8 +319,9 @@ as_live words bytes request StepFault gained asks is ends = absurd ends
 as_live words bytes request Tolerance gained asks is ends = absurd ends
 as_live words bytes request NotVerified gained asks is ends = absurd ends
 
-pub asked_live : (words : List (List ℕ)) (request : Request) → Asks words request → AskForLive words → request.command ≡ Live
-asked_live words request asks (other, other_asks, is) = subst (λ (r : Request). r.command ≡ Live) (same_request words other request other_asks asks) is
+-- words whose command is another don't ask for `live`
+pub not_live : (words : List (List ℕ)) (request : Request) → Asks words request → request.command ≢ Live → ¬ AskForLive words
+not_live words request asks whole (other, other_asks, is) = whole (subst (λ (r : Request). r.command ≡ Live) (same_request words other request other_asks asks) is)
 
 pub live_takes : (command : Command) → command ≡ Live → TakesInput command
 live_takes command is = subst (λ (c : Command). TakesInput c) (sym is) tt

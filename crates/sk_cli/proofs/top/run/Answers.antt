@@ -3,7 +3,7 @@ use Rattle.std.proofs.lemmas.Bool.{cases_lt}
 use Rattle.std.specs.Prelude.{string_bytes}
 use Rattle.sk_cli.specs.declared.status.Status.TheVariants.{ReadFault, NoMemory}
 use Rattle.sk_request.specs.Asking.{AskForInput}
-use Rattle.sk_cli.proofs.Runs.{usage_ends, answer_ends, nothing_ends, no_form, answer_room, usage_room, no_fault, asked_input, read_told, session_takes, session_ends, session_room, as_live, asked_live, live_takes, live_fits}
+use Rattle.sk_cli.proofs.Runs.{usage_ends, answer_ends, nothing_ends, no_form, answer_room, usage_room, no_fault, asked_input, read_told, session_takes, session_ends, session_room, as_live, not_live, live_takes, live_fits}
 use Rattle.sk_cli.proofs.Sessions.{not_counted}
 use Rattle.sk_request.proofs.Sizes.{grow_size}
 use Rattle.sk_cli.proofs.top.run.Goals as goal
@@ -128,64 +128,64 @@ returns-then-asks_for_live-clause-sure_sink g c steady each =
     (not_counted _ (g.K.Sink.faults c.args.sink.now) (g.K.Sink.faults c.live.new.sink) c.live.ensures.write_fault none, none)
 
 pub returns-in_default-clause-live_taken : goal.returns-in_default-clause-live_taken
-returns-in_default-clause-live_taken g c (request, asks, is) = absurd (c.in_default.ensures.none request asks)
+returns-in_default-clause-live_taken g c live = absurd (c.in_default.ensures.none live.0 live.1)
 
 pub returns-in-Err-ReadFault-clause-live_taken : goal.returns-in-Err-ReadFault-clause-live_taken
-returns-in-Err-ReadFault-clause-live_taken g c live = absurd (let asked = asked_live (map string_bytes c.args.words.now) c.in-Some.request c.in-Some.ensures.some live in let told = c.asks_for_live.ensures.1 asked in cc)
+returns-in-Err-ReadFault-clause-live_taken g c live = absurd (not_live (map string_bytes c.args.words.now) c.in-Some.request c.in-Some.ensures.some (λ is. (let asked = c.asks_for_live.ensures.1 is in cc)) live)
 
 pub returns-in-Err-NoMemory-clause-live_taken : goal.returns-in-Err-NoMemory-clause-live_taken
-returns-in-Err-NoMemory-clause-live_taken g c live = absurd (let asked = asked_live (map string_bytes c.args.words.now) c.in-Some.request c.in-Some.ensures.some live in let told = c.asks_for_live.ensures.1 asked in cc)
+returns-in-Err-NoMemory-clause-live_taken g c live = absurd (not_live (map string_bytes c.args.words.now) c.in-Some.request c.in-Some.ensures.some (λ is. (let asked = c.asks_for_live.ensures.1 is in cc)) live)
 
 pub returns-in-Ok-answer-clause-live_taken : goal.returns-in-Ok-answer-clause-live_taken
-returns-in-Ok-answer-clause-live_taken g c live = absurd (let asked = asked_live (map string_bytes c.args.words.now) c.in-Some.request c.in-Some.ensures.some live in let told = c.asks_for_live.ensures.1 asked in cc)
+returns-in-Ok-answer-clause-live_taken g c live = absurd (not_live (map string_bytes c.args.words.now) c.in-Some.request c.in-Some.ensures.some (λ is. (let asked = c.asks_for_live.ensures.1 is in cc)) live)
 
 pub returns-clause-live_taken : goal.returns-clause-live_taken
-returns-clause-live_taken g c live = absurd (let asked = asked_live (map string_bytes c.args.words.now) c.in-Some.request c.in-Some.ensures.some live in let told = c.asks_for_live.ensures.1 asked in cc)
+returns-clause-live_taken g c live = absurd (not_live (map string_bytes c.args.words.now) c.in-Some.request c.in-Some.ensures.some (λ is. (let asked = c.asks_for_live.ensures.1 is in cc)) live)
 
 pub returns-then-asks_for_session-clause-live_taken : goal.returns-then-asks_for_session-clause-live_taken
-returns-then-asks_for_session-clause-live_taken g c live = absurd (let asked = asked_live (map string_bytes c.args.words.now) c.in-Some.request c.in-Some.ensures.some live in let told = c.asks_for_live.ensures.1 asked in cc)
+returns-then-asks_for_session-clause-live_taken g c live = absurd (not_live (map string_bytes c.args.words.now) c.in-Some.request c.in-Some.ensures.some (λ is. (let asked = c.asks_for_live.ensures.1 is in cc)) live)
 
 pub returns-then-asks_for_live-clause-live_taken : goal.returns-then-asks_for_live-clause-live_taken
 returns-then-asks_for_live-clause-live_taken g c live = (c.in-Some.request, c.live.ensures.taken.0, c.in-Some.ensures.some, c.live.ensures.taken.1, c.live.ensures.taken.2)
 
 pub returns-in_default-clause-live_few : goal.returns-in_default-clause-live_few
-returns-in_default-clause-live_few g c (request, asks, is) = absurd (c.in_default.ensures.none request asks)
+returns-in_default-clause-live_few g c live = absurd (c.in_default.ensures.none live.0 live.1)
 
 pub returns-in-Err-ReadFault-clause-live_few : goal.returns-in-Err-ReadFault-clause-live_few
-returns-in-Err-ReadFault-clause-live_few g c live = absurd (let asked = asked_live (map string_bytes c.args.words.now) c.in-Some.request c.in-Some.ensures.some live in let told = c.asks_for_live.ensures.1 asked in cc)
+returns-in-Err-ReadFault-clause-live_few g c live = absurd (not_live (map string_bytes c.args.words.now) c.in-Some.request c.in-Some.ensures.some (λ is. (let asked = c.asks_for_live.ensures.1 is in cc)) live)
 
 pub returns-in-Err-NoMemory-clause-live_few : goal.returns-in-Err-NoMemory-clause-live_few
-returns-in-Err-NoMemory-clause-live_few g c live = absurd (let asked = asked_live (map string_bytes c.args.words.now) c.in-Some.request c.in-Some.ensures.some live in let told = c.asks_for_live.ensures.1 asked in cc)
+returns-in-Err-NoMemory-clause-live_few g c live = absurd (not_live (map string_bytes c.args.words.now) c.in-Some.request c.in-Some.ensures.some (λ is. (let asked = c.asks_for_live.ensures.1 is in cc)) live)
 
 pub returns-in-Ok-answer-clause-live_few : goal.returns-in-Ok-answer-clause-live_few
-returns-in-Ok-answer-clause-live_few g c live = absurd (let asked = asked_live (map string_bytes c.args.words.now) c.in-Some.request c.in-Some.ensures.some live in let told = c.asks_for_live.ensures.1 asked in cc)
+returns-in-Ok-answer-clause-live_few g c live = absurd (not_live (map string_bytes c.args.words.now) c.in-Some.request c.in-Some.ensures.some (λ is. (let asked = c.asks_for_live.ensures.1 is in cc)) live)
 
 pub returns-clause-live_few : goal.returns-clause-live_few
-returns-clause-live_few g c live = absurd (let asked = asked_live (map string_bytes c.args.words.now) c.in-Some.request c.in-Some.ensures.some live in let told = c.asks_for_live.ensures.1 asked in cc)
+returns-clause-live_few g c live = absurd (not_live (map string_bytes c.args.words.now) c.in-Some.request c.in-Some.ensures.some (λ is. (let asked = c.asks_for_live.ensures.1 is in cc)) live)
 
 pub returns-then-asks_for_session-clause-live_few : goal.returns-then-asks_for_session-clause-live_few
-returns-then-asks_for_session-clause-live_few g c live = absurd (let asked = asked_live (map string_bytes c.args.words.now) c.in-Some.request c.in-Some.ensures.some live in let told = c.asks_for_live.ensures.1 asked in cc)
+returns-then-asks_for_session-clause-live_few g c live = absurd (not_live (map string_bytes c.args.words.now) c.in-Some.request c.in-Some.ensures.some (λ is. (let asked = c.asks_for_live.ensures.1 is in cc)) live)
 
 pub returns-then-asks_for_live-clause-live_few : goal.returns-then-asks_for_live-clause-live_few
 returns-then-asks_for_live-clause-live_few g c live = c.live.ensures.few
 
 pub returns-in_default-clause-live_flushed : goal.returns-in_default-clause-live_flushed
-returns-in_default-clause-live_flushed g c (request, asks, is) other = absurd (c.in_default.ensures.none request asks)
+returns-in_default-clause-live_flushed g c live other = absurd (c.in_default.ensures.none live.0 live.1)
 
 pub returns-in-Err-ReadFault-clause-live_flushed : goal.returns-in-Err-ReadFault-clause-live_flushed
-returns-in-Err-ReadFault-clause-live_flushed g c live other = absurd (let asked = asked_live (map string_bytes c.args.words.now) c.in-Some.request c.in-Some.ensures.some live in let told = c.asks_for_live.ensures.1 asked in cc)
+returns-in-Err-ReadFault-clause-live_flushed g c live other = absurd (not_live (map string_bytes c.args.words.now) c.in-Some.request c.in-Some.ensures.some (λ is. (let asked = c.asks_for_live.ensures.1 is in cc)) live)
 
 pub returns-in-Err-NoMemory-clause-live_flushed : goal.returns-in-Err-NoMemory-clause-live_flushed
-returns-in-Err-NoMemory-clause-live_flushed g c live other = absurd (let asked = asked_live (map string_bytes c.args.words.now) c.in-Some.request c.in-Some.ensures.some live in let told = c.asks_for_live.ensures.1 asked in cc)
+returns-in-Err-NoMemory-clause-live_flushed g c live other = absurd (not_live (map string_bytes c.args.words.now) c.in-Some.request c.in-Some.ensures.some (λ is. (let asked = c.asks_for_live.ensures.1 is in cc)) live)
 
 pub returns-in-Ok-answer-clause-live_flushed : goal.returns-in-Ok-answer-clause-live_flushed
-returns-in-Ok-answer-clause-live_flushed g c live other = absurd (let asked = asked_live (map string_bytes c.args.words.now) c.in-Some.request c.in-Some.ensures.some live in let told = c.asks_for_live.ensures.1 asked in cc)
+returns-in-Ok-answer-clause-live_flushed g c live other = absurd (not_live (map string_bytes c.args.words.now) c.in-Some.request c.in-Some.ensures.some (λ is. (let asked = c.asks_for_live.ensures.1 is in cc)) live)
 
 pub returns-clause-live_flushed : goal.returns-clause-live_flushed
-returns-clause-live_flushed g c live other = absurd (let asked = asked_live (map string_bytes c.args.words.now) c.in-Some.request c.in-Some.ensures.some live in let told = c.asks_for_live.ensures.1 asked in cc)
+returns-clause-live_flushed g c live other = absurd (not_live (map string_bytes c.args.words.now) c.in-Some.request c.in-Some.ensures.some (λ is. (let asked = c.asks_for_live.ensures.1 is in cc)) live)
 
 pub returns-then-asks_for_session-clause-live_flushed : goal.returns-then-asks_for_session-clause-live_flushed
-returns-then-asks_for_session-clause-live_flushed g c live other = absurd (let asked = asked_live (map string_bytes c.args.words.now) c.in-Some.request c.in-Some.ensures.some live in let told = c.asks_for_live.ensures.1 asked in cc)
+returns-then-asks_for_session-clause-live_flushed g c live other = absurd (not_live (map string_bytes c.args.words.now) c.in-Some.request c.in-Some.ensures.some (λ is. (let asked = c.asks_for_live.ensures.1 is in cc)) live)
 
 pub returns-then-asks_for_live-clause-live_flushed : goal.returns-then-asks_for_live-clause-live_flushed
 returns-then-asks_for_live-clause-live_flushed g c live other = c.live.ensures.flushed other
