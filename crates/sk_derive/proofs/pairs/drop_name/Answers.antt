@@ -1,4 +1,4 @@
-use Rattle.std.proofs.Common.{◌≡◌, ◌∙◌, ap, sym, subst, List, length, get_or, false}
+use Rattle.std.proofs.Common.{◌≡◌, ◌<◌, ◌∙◌, ap, sym, subst, List, length, get_or, false}
 use Rattle.std.specs.Prelude.{AllPairs, Some, slice_get, is_ok}
 use Rattle.std.proofs.lemmas.Option.{slice_get-get_or}
 use Rattle.sk_base.specs.declared.Name.{Name}
@@ -7,6 +7,9 @@ use Rattle.sk_base.proofs.NameOrder.{same_name}
 use Rattle.sk_worklist.proofs.Sorting.{found_among}
 use Rattle.sk_derive.proofs.Pairing.{name_taken, name_absent}
 use Rattle.sk_derive.proofs.pairs.drop_name.Goals as goal
+
+pub remove-requires : goal.remove-requires
+remove-requires c = subst (λ (l : List Name). c.in-Ok.place < length l) c.as_slice.ensures c.in-Ok.ensures.bound
 
 pub returns-in-Ok : goal.returns-in-Ok
 returns-in-Ok c =
