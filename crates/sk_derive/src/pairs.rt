@@ -1,5 +1,5 @@
 // Merges of two clusters, in order: a row for each cluster, of those below it that it merges with.
-ghost use Rattle.std.specs.Prelude.{◌≡◌, ◌++◌, ◌∷◌, ◌<◌, ◌^◌, [], All, AllPairs, OnOk, Some, length, map, slice_get};
+ghost use Rattle.std.specs.Prelude.{◌≡◌, ◌++◌, ◌∷◌, ◌<◌, ◌^◌, [], All, AllPairs, OnOk, Some, filter, length, map, not, slice_get};
 ghost use Rattle.std.specs.List.{flat_map};
 ghost use Rattle.sk_base.specs.ClusterNames.{IsBelow, is_named};
 ghost use Rattle.sk_worklist.specs.Choices.{ComesFirst};
@@ -79,7 +79,7 @@ impl Pairs {
         requires { AllPairs ComesFirst self.old }
         ensures { self.new ≡ avoiding (x ∷ y ∷ []) self.old }
     {
-        self.rows.retain(|row| !row.is_of_either(x, y));
+        drop_rows_of(&mut self.rows, x, y);
         drop_from_all(self.rows.as_mut_slice(), x, y);
     }
 }
@@ -110,6 +110,13 @@ fn merge_at(rows: &[Partners], place: usize) -> Merge
         left -= lessers.len();
     }
     unreachable!()
+}
+
+/// Drops the rows of the two.
+fn drop_rows_of(rows: &mut Vec<Partners>, x: Name, y: Name)
+    ensures { rows.new.items ≡ filter (λ row. not (is_named (x ∷ y ∷ []) row.greater)) rows.old.items }
+{
+    rows.retain(|row| !row.is_of_either(x, y));
 }
 
 /// Drops the two names from all rows.

@@ -16,15 +16,16 @@ drop_both-requires c =
     let row = c.row-item.result in
     let i_in : i < length rows = omega arith in
     let there = still_there (without (c.args.x ∷ c.args.y ∷ [])) rows c.loop-row.rows i row i_in c.loop-row.invariant in
-    subst (λ (p : Partners). AllPairs IsBelow p.lessers) (sym (c.row-item.is ∙ there)) (All-get_or (λ (p : Partners). AllPairs IsBelow p.lessers) rows i row i_in c.requires)
+    subst (λ (p : Partners). AllPairs IsBelow p.lessers) (sym there) (All-get_or (λ (p : Partners). AllPairs IsBelow p.lessers) rows i row i_in c.requires)
 
 pub loop-row-preserved : goal.loop-row-preserved
 loop-row-preserved c =
     let rows = c.args.rows.now in
     let i = c.loop-row.row-index in
     let i_in : i < length rows = omega arith in
-    ap (λ p. set c.loop-row.rows i p) c.drop_both.ensures
-    ∙ map_over_more (without (c.args.x ∷ c.args.y ∷ [])) rows c.loop-row.rows i c.row-item.result i_in c.loop-row.invariant c.row-item.is
+    let both = without (c.args.x ∷ c.args.y ∷ []) in
+    ap (λ p. set c.loop-row.rows i p) (c.drop_both.ensures ∙ ap both (sym c.row-item.is))
+    ∙ map_over_more both rows c.loop-row.rows i c.row-item.result i_in c.loop-row.invariant c.row-item.is
 
 pub returns : goal.returns
 returns c =

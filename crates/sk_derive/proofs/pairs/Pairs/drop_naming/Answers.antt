@@ -1,7 +1,6 @@
-use Rattle.std.proofs.Common.{rules, ◌≡◌, List, [], ◌∷◌, ap, sym, subst, ◌∙◌, arith, length}
-use Rattle.std.specs.Prelude.{All, AllPairs, filter, map, not}
+use Rattle.std.proofs.Common.{List, [], ◌∷◌, ap, sym, subst, ◌∙◌, arith}
+use Rattle.std.specs.Prelude.{All, AllPairs, map, not}
 use Rattle.std.specs.List.{flat_map}
-use Rattle.std.proofs.lemmas.Fn.{filter_same}
 use Rattle.std.proofs.lemmas.List.Elements.{All-filter}
 use Rattle.sk_base.specs.ClusterNames.{IsBelow, is_named}
 use Rattle.sk_rules.specs.declared.Merge.{Merge}
@@ -13,20 +12,18 @@ use Rattle.sk_derive.proofs.Classing.{all_written}
 use Rattle.sk_derive.proofs.Pairing.{rows_avoid, rows_rise}
 use Rattle.sk_derive.proofs.pairs.Pairs.drop_naming.Goals as goal
 
-kept : (c : goal.After-retain) → c.retain.new.self.items ≡ filter (λ (p : Partners). not (is_named (c.args.x ∷ c.args.y ∷ []) p.greater)) c.self.inside.rows.items
-kept c = filter_same _ _ _ (λ p b f' k. search rules) _ _ c.retain.ensures.filtered
-
 pub drop_from_all-requires : goal.drop_from_all-requires
 drop_from_all-requires c =
     let rows = c.self.inside.rows.items in
     let rise = rows_rise rows (subst (λ (ms : List Merge). AllPairs ComesFirst ms) (sym c.self.view_is) c.requires) in
-    subst (λ (ps : List Partners). All (λ (p : Partners). AllPairs IsBelow p.lessers) ps) (sym (c.as_mut_slice.ensures.value ∙ kept c))
+    subst (λ (ps : List Partners). All (λ (p : Partners). AllPairs IsBelow p.lessers) ps) (sym (c.as_mut_slice.ensures.value ∙ c.drop_rows_of.ensures))
     (All-filter (λ (p : Partners). not (is_named (c.args.x ∷ c.args.y ∷ []) p.greater)) (λ (p : Partners). AllPairs IsBelow p.lessers) rows rise)
 
 pub returns : goal.returns
 returns c =
     let both = c.args.x ∷ c.args.y ∷ [] in
+    let kept = c.drop_rows_of.new.rows in
     let new = c.drop_from_all.new.rows in
-    let written = all_written c.retain.new.self.len new c.retain.new.self.items (omega (arith, c.drop_from_all.auto.rows, c.as_mut_slice.ensures.len)) in
-    ap (λ (ps : List Partners). flat_map merges_of ps) (written ∙ c.drop_from_all.ensures ∙ ap (λ (ps : List Partners). map (without both) ps) (c.as_mut_slice.ensures.value ∙ kept c))
+    let written = all_written kept.len new kept.items (omega (arith, c.drop_from_all.auto.rows, c.as_mut_slice.ensures.len)) in
+    ap (λ (ps : List Partners). flat_map merges_of ps) (written ∙ c.drop_from_all.ensures ∙ ap (λ (ps : List Partners). map (without both) ps) (c.as_mut_slice.ensures.value ∙ c.drop_rows_of.ensures))
     ∙ rows_avoid both c.self.inside.rows.items ∙ ap (λ (ms : List Merge). avoiding both ms) c.self.view_is
