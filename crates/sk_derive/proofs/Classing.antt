@@ -22,7 +22,7 @@ together_kept old new xs p together l m l_in m_in l_line m_line =
     p.kept l m (together l m l_in m_in ((p.same_lines l).0 l_line) ((p.same_lines m).0 m_line))
 
 -- what was written through a slice of the whole list
-pub all_written : (len : ℕ) (new old : List ℕ) → length new ≡ len → take len (new ++ drop (length new) old) ≡ new
+pub all_written : {X : Type 0} (len : ℕ) (new old : List X) → length new ≡ len → take len (new ++ drop (length new) old) ≡ new
 all_written len new old is = subst (λ n. take n (new ++ drop (length new) old) ≡ new) is (take-append_seam new (drop (length new) old))
 
 -- the same line, or one that is tied to it

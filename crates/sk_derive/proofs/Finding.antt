@@ -5,7 +5,7 @@ use Rattle.std.specs.List.{HoldsAt}
 use Rattle.std.specs.List.Sorted.{IsNonDecreasingBy, IsPartitionPoint}
 use Rattle.std.specs.Ordering.{nat_cmp, ordering_index}
 use Rattle.std.specs.declared.cmp.Ordering.TheVariants.{Less, Equal, Greater}
-use Rattle.std.proofs.lemmas.List.Elements.{Contains-get_or}
+use Rattle.std.proofs.lemmas.List.Elements.{Contains-get_or, Contains-append_left, Contains-append_right, Contains-append_cases}
 use Rattle.sk_base.specs.declared.Elem.{Elem}
 use Rattle.sk_base.specs.declared.Name.{Name}
 use Rattle.sk_base.specs.declared.Kind.TheVariants.{Point}
@@ -15,14 +15,15 @@ use Rattle.sk_base.specs.Numbering.{elem_exact}
 use Rattle.sk_base.specs.Rising.{IsRising}
 use Rattle.sk_base.specs.SoundGraph.{HasNode, HasRisingNodes}
 use Rattle.sk_base.proofs.Halves.{number_found, none_missed}
-use Rattle.sk_base.proofs.Members.{contains_none}
+use Rattle.sk_base.proofs.Members.{contains_none, contains_mapped, mapped_from}
 use Rattle.sk_family.proofs.Naming.{one_of_name}
 use Rattle.sk_index.specs.Walks.{GrowsBy, FromSome}
 use Rattle.sk_worklist.specs.Gather.{HoldsSome}
 use Rattle.sk_index.proofs.Growing.{grows_none, grows_one, grows_same, grows_step}
 use Rattle.sk_base.specs.declared.Graph.{Graph}
 use Rattle.sk_base.specs.ClusterNames.{IsBelow}
-use Rattle.sk_base.proofs.Pairs.{pairs_push, pairs_tell}
+use Rattle.sk_base.proofs.Pairs.{pairs_push, pairs_map, pairs_tell, pairs_weaken}
+use Rattle.sk_base.proofs.Splits.{pairs_append}
 use Rattle.sk_family.specs.declared.Cluster.{Cluster}
 use Rattle.sk_family.specs.Body.{Body}
 use Rattle.sk_family.specs.Clusters.{Clusters, ByName, IsSound}
@@ -33,6 +34,7 @@ use Rattle.sk_index.proofs.Fronts.{front_more, front_all, front_before}
 use Rattle.sk_derive.specs.Ties.{AreTied, itself, further, HaveTiedLines}
 use Rattle.sk_derive.specs.Classes.{class_of, AreClasses, IsClassAmong}
 use Rattle.sk_derive.specs.WideChoices.{CanTakeByTie, AreTieMerges}
+use Rattle.sk_derive.specs.MergeRows.{merges_with}
 use Rattle.sk_derive.specs.TieMerges.{IsTieMergeOf, first_name, AreBelow, FindsOf, FindsAmong, AddsWhere, IsTiedTo, TieWith}
 use Rattle.sk_derive.proofs.Tying.{tied_start}
 
@@ -122,41 +124,54 @@ pub adds_grows : {X : Type 0} (P : Type 0) (old new : List X) (x : X) → AddsWh
 adds_grows P old new x (inl (holds, is)) = subst (λ l. GrowsBy (λ y. P × (y ≡ x)) old l) (sym is) (grows_one (λ y. P × (y ≡ x)) old x (holds, refl) (λ y h. h.1))
 adds_grows P old new x (inr (fails, is)) = subst (λ l. GrowsBy (λ y. P × (y ≡ x)) old l) (sym is) (grows_none (λ y. P × (y ≡ x)) old (λ y h. fails h.0))
 
--- what grew from nothing to the points among some elements
-pub points_told : (g : Graph) (es none points : List Elem) → none ≡ [] → GrowsBy (FromSome (λ (e d : Elem). HasNode g e Point × (d ≡ e)) es) none points
-    → (e : Elem) → Contains points e ↔ (Contains es e × HasNode g e Point)
-points_told g es none points empty grows e = (
-  (λ h. elim ((grows e).0 h) [
-    | inl was ↦ absurd (contains_none e (subst (λ l. Contains l e) empty was))
-    | inr (d, d_in, (point, is)) ↦ subst (λ x. Contains es x × HasNode g x Point) (sym is) (d_in, point)
+-- what grew from nothing to those of some items of which that holds
+pub told_among : {X : Type 0} (P : X → Type 0) (xs found : List X) → GrowsBy (FromSome (λ (x y : X). P x × (y ≡ x)) xs) [] found → (x : X) → Contains found x ↔ (Contains xs x × P x)
+told_among P xs found grows x = (
+  (λ h. elim ((grows x).0 h) [
+    | inl was ↦ absurd (contains_none x was)
+    | inr (y, y_in, (holds, is)) ↦ subst (λ z. Contains xs z × P z) (sym is) (y_in, holds)
   ]),
-  (λ h. (grows e).1 (inr (e, h.0, (h.1, refl)))),
+  (λ h. (grows x).1 (inr (x, h.0, (h.1, refl)))),
 )
 
-module _ (g : Graph) (f : Clusters) (a : Cluster) (ns : List Name) (i : ℕ) (d : Name) (i_in : i < length ns) where
-  abbrev next : Name
-  next = get_or ns i d
+-- those of some names in order stand in order, one more or not
+pub order_step : (P : Name → Type 0) (Q : Type 0) (ns : List Name) (i : ℕ) (d : Name) → i < length ns → AllPairs IsBelow ns → (some new : List Name)
+    → GrowsBy (FromSome (λ (n m : Name). P n × (m ≡ n)) (take i ns)) [] some → AddsWhere Q some new (get_or ns i d) → AllPairs IsBelow some → AllPairs IsBelow new
+order_step P Q ns i d i_in rise some new grows (inr (fails, is)) order = subst (λ l. AllPairs IsBelow l) (sym is) order
+order_step P Q ns i d i_in rise some new grows (inl (holds, is)) order =
+    subst (λ l. AllPairs IsBelow l) (sym is)
+    (pairs_push IsBelow some (get_or ns i d) order (λ n n_in. front_before ns i d i_in IsBelow rise n ((told_among P (take i ns) some grows n).0 n_in).0))
 
-  before_new : (m : Merge) → IsBelow (first_name m) a.name → ComesFirst m (Two a.name next)
-  before_new (Two p q) h = inl h
-  before_new (Three p q r) h = inl h
+-- the merges of a cluster with those of some names that are tied to it, behind others
+module _ (g : Graph) (f : Clusters) (a : Cluster) (ns tied : List Name) (old new : List Merge) (appended : new ≡ old ++ merges_with a.name tied) where
+  pub row_finds : ((n : Name) → Contains tied n ↔ (Contains ns n × IsTiedTo g f a n)) → FindsAmong g f a ns old new
+  row_finds tied_are m = (
+    (λ h. elim (Contains-append_cases old (merges_with a.name tied) m (subst (λ ms. Contains ms m) appended h)) [
+      | inl was ↦ inl was
+      | inr now ↦ (
+          let (n, n_in, is) = mapped_from (λ (k : Name). Two a.name k) tied m now in
+          let (among, holds) = (tied_are n).0 n_in in
+          inr (n, among, (holds, sym is)))
+    ]),
+    (λ h. subst (λ ms. Contains ms m) (sym appended) (elim h [
+      | inl was ↦ Contains-append_left old (merges_with a.name tied) m was
+      | inr (n, among, (holds, is)) ↦ Contains-append_right old (merges_with a.name tied) m
+          (subst (λ k. Contains (merges_with a.name tied) k) (sym is) (contains_mapped (λ (k : Name). Two a.name k) tied n ((tied_are n).1 (among, holds))))
+    ])),
+  )
 
-  -- the next merge stands behind all that were found
-  order_more : AllPairs IsBelow ns → (old mid : List Merge) → FindsAmong g f a (take i ns) old mid → AreBelow old a.name → AllPairs ComesFirst mid
-      → AllPairs ComesFirst (mid ++ Two a.name next ∷ [])
-  order_more rise old mid finds below ordered =
-      pairs_push ComesFirst mid (Two a.name next) ordered (λ m m_in. elim ((finds m).0 m_in) [
-        | inl was ↦ before_new m (below m was)
-        | inr (k, k_in, (tied, is)) ↦ subst (λ x. ComesFirst x (Two a.name next)) (sym is) (inr (refl, inl (front_before ns i d i_in IsBelow rise k k_in)))
-      ])
+  before_row : (m : Merge) (n : Name) → IsBelow (first_name m) a.name → ComesFirst m (Two a.name n)
+  before_row (Two p q) n h = inl h
+  before_row (Three p q r) n h = inl h
 
-  pub order_step : AllPairs IsBelow ns → (old mid new : List Merge) → FindsAmong g f a (take i ns) old mid → AddsWhere (IsTiedTo g f a next) mid new (Two a.name next)
-      → AreBelow old a.name → AllPairs ComesFirst mid → AllPairs ComesFirst new
-  order_step rise old mid new finds (inl (tied, is)) below ordered = subst (λ ms. AllPairs ComesFirst ms) (sym is) (order_more rise old mid finds below ordered)
-  order_step rise old mid new finds (inr (not_tied, is)) below ordered = subst (λ ms. AllPairs ComesFirst ms) (sym is) ordered
-
-  pub found_step : (old mid new : List Merge) → FindsAmong g f a (take i ns) old mid → AddsWhere (IsTiedTo g f a next) mid new (Two a.name next) → FindsAmong g f a (take (i + 1) ns) old new
-  found_step old mid new finds adds = grows_step (TieWith g f a) ns old mid new i d i_in finds (adds_grows (IsTiedTo g f a next) mid new (Two a.name next) adds)
+  pub row_in_order : AllPairs IsBelow tied → AllPairs ComesFirst old → AreBelow old a.name → AllPairs ComesFirst new
+  row_in_order rise order below =
+      subst (λ ms. AllPairs ComesFirst ms) (sym appended)
+      (pairs_append ComesFirst old (merges_with a.name tied) order
+      (pairs_map ComesFirst (λ (k : Name). Two a.name k) tied (pairs_weaken IsBelow (λ (j k : Name). ComesFirst (Two a.name j) (Two a.name k)) tied rise (λ j k j_in k_in j_k. inr (refl, inl j_k))))
+      (λ m k m_in k_in. (
+          let (n, n_in, is) = mapped_from (λ (l : Name). Two a.name l) tied k k_in in
+          subst (λ l. ComesFirst m l) is (before_row m n (below m m_in)))))
 
 -- the clusters below one that hold a point of it and are tied to it are those that it merges with
 module _ (g : Graph) (f : Clusters) (sound : IsSound f) (a : Cluster) (points : List Elem) (points_are : (e : Elem) → Contains points e ↔ (Contains a.elements e × HasNode g e Point))

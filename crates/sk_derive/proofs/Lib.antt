@@ -8,3 +8,4 @@ pub mod OneWideRun
 pub mod SomeWide
 pub mod Following
 pub mod Pairing
+pub mod Counting

@@ -4,6 +4,6 @@ pub mod WideReach
 pub mod WideChoices
 pub mod WideRun
 pub mod TieMerges
-pub mod PairMerges
+pub mod MergeRows
 pub mod FollowedTies
 pub mod DerivedText

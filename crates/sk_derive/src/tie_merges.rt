@@ -1,13 +1,13 @@
 // The merges by the tie rule.
 ghost use Rattle.std.specs.Prelude.{◌↔◌, ◌≡◌, ◌<◌, IfOk, OnOk, IsTrue, List as Items, Contains, AllPairs};
 ghost use Rattle.sk_base.specs.declared.Elem.{Elem as Element};
+ghost use Rattle.sk_base.specs.declared.Name.{Name as ClusterName};
 ghost use Rattle.sk_base.specs.declared.Graph.{Graph as AnyGraph};
 ghost use Rattle.sk_base.specs.declared.Kind.TheVariants.{Point};
 ghost use Rattle.sk_base.specs.ClusterNames.{IsBelow};
 ghost use Rattle.sk_base.specs.SoundGraph.{HasNode, HasRisingNodes};
 ghost use Rattle.sk_family.specs.Body.{Body};
 ghost use Rattle.sk_family.specs.Clusters.{bodies, IsSound};
-ghost use Rattle.sk_rules.specs.declared.Merge.TheVariants.{Two};
 ghost use Rattle.sk_worklist.specs.Choices.{ComesFirst};
 ghost use Rattle.sk_worklist.specs.Turns.{Follows};
 ghost use Rattle.sk_derive.specs.Ties.{HaveTiedLines};
@@ -64,7 +64,7 @@ fn add_merges_with(
 {
     let points = points_among(alloc, cluster.elements.as_slice(), graph)?;
     let others = work.holding(points.as_slice(), cluster.name)?;
-    add_merges_of(found, cluster, others.as_slice(), family, classes)
+    add_merges_of(alloc, found, cluster, others.as_slice(), family, classes)
 }
 
 /// Adds the merges by the tie rule of the last cluster.
@@ -133,6 +133,7 @@ fn is_point_node(node: &Node) -> bool
 
 /// Adds the merges of the cluster with those of the others that are tied to it.
 fn add_merges_of(
+    alloc: Global,
     found: &mut Pairs,
     cluster: &Cluster,
     others: &[Name],
@@ -144,15 +145,34 @@ fn add_merges_of(
     ensures found { OnOk result ((g : AnyGraph) → AreClasses g (bodies family.now) classes.now → FindsAmong g family.now cluster.now others.now found.old found.new) }
     ensures in_order { OnOk result (AllPairs IsBelow others.now → AllPairs ComesFirst found.old → AreBelow found.old cluster.now.name → AllPairs ComesFirst found.new) }
 {
-    for other in others {
-        add_if_tied(found, cluster, *other, family, classes)?;
-    }
-    Ok(())
+    let tied = tied_among(alloc, cluster, others, family, classes)?;
+    found.push_all(cluster.name, tied)
 }
 
-/// Adds the merge with the other cluster where that is tied to this one.
+/// Those of the others that are tied to the cluster.
+fn tied_among(
+    alloc: Global,
+    cluster: &Cluster,
+    others: &[Name],
+    family: &Family,
+    classes: &[usize],
+) -> Result<Vec<Name>, NoMemory>
+    requires classes { (g : AnyGraph) × AreClasses g (bodies family.now) classes.now }
+    requires lives { Contains family.now.live cluster.now }
+    ensures exactly { IfOk result (λ tied. (g : AnyGraph) → AreClasses g (bodies family.now) classes.now
+        → (n : ClusterName) → Contains tied.items n ↔ (Contains others.now n × IsTiedTo g family.now cluster.now n)) }
+    ensures in_order { IfOk result (λ tied. AllPairs IsBelow others.now → AllPairs IsBelow tied.items) }
+{
+    let mut tied = Vec::new(alloc);
+    for other in others {
+        add_if_tied(&mut tied, cluster, *other, family, classes)?;
+    }
+    Ok(tied)
+}
+
+/// Adds the other where it is tied to the cluster.
 fn add_if_tied(
-    found: &mut Pairs,
+    tied: &mut Vec<Name>,
     cluster: &Cluster,
     other: Name,
     family: &Family,
@@ -160,13 +180,12 @@ fn add_if_tied(
 ) -> Result<(), NoMemory>
     requires { Contains family.now.live cluster.now }
     ensures { OnOk result ((g : AnyGraph) → AreClasses g (bodies family.now) classes.now
-        → AddsWhere (IsTiedTo g family.now cluster.now other) found.old found.new (Two cluster.now.name other)) }
+        → AddsWhere (IsTiedTo g family.now cluster.now other) tied.old.items tied.new.items other) }
 {
     if is_tied_to(cluster, other, family, classes) {
-        found.push(cluster.name, other)
-    } else {
-        Ok(())
+        tied.push(other)?;
     }
+    Ok(())
 }
 
 /// Whether some line of the other cluster is tied to one of this.

@@ -1,7 +1,7 @@
 // What is known of the ties of a family that is being closed. A merge by the tie rule joins no classes,
 // since its lines are tied already; so where nothing else is merged, what is known is kept but for the
 // merges of the two clusters.
-ghost use Rattle.std.specs.Prelude.{◌≡◌, true, IfOk, OnOk};
+ghost use Rattle.std.specs.Prelude.{◌≡◌, ◌<◌, ◌^◌, true, IfOk, OnOk, length};
 ghost use Rattle.sk_base.specs.SoundGraph.{HasRisingNodes};
 ghost use Rattle.sk_family.specs.Clusters.{IsSound};
 ghost use Rattle.sk_rules.specs.declared.Merge.TheVariants.{Two};
@@ -44,6 +44,7 @@ impl Ties {
 
     /// The merge that the picker takes, if there is one.
     pub fn picked<P: Picker>(&self, picker: &mut P) -> Option<Merge>
+        requires { length self.now.merges < 2 ^ 64 }
         ensures { Takes P.answer P.after self.now.merges picker.old result picker.new }
     {
         let count = self.merges.len();

@@ -13,6 +13,7 @@ use Rattle.sk_derive.specs.WideRun.{WidePicksLead}
 use Rattle.sk_derive.specs.FollowedTies.{Takes}
 use Rattle.sk_derive.proofs.WideForm.{reach_widens, wide_same}
 use Rattle.sk_derive.proofs.WideRuns.{reach_by_on, picks_widen, picks_by_tie, tie_steps, tie_elements, tie_lessens, two_live, wide_closed, picked_can, empty_list}
+use Rattle.sk_derive.proofs.Counting.{few_ties}
 use Rattle.sk_derive.proofs.closing.derive.Goals as goal
 
 pub loop-merge-init : goal.loop-merge-init
@@ -36,6 +37,9 @@ loop-merge-init g c =
       sound = c.in_ok-ties.ensures.sound;
       ties = c.in_ok-ties.ensures.ties;
     }
+
+pub picked-requires : goal.picked-requires
+picked-requires g c = few_ties c.args.graph.now c.loop-merge.family c.loop-merge.invariant.sound c.loop-merge.ties.merges c.loop-merge.invariant.ties.all
 
 pub leave-requires-clause-follows : goal.leave-requires-clause-follows
 leave-requires-clause-follows g c = (c.args.graph.now, c.loop-merge.invariant.follows)

@@ -1,10 +1,10 @@
-use Rattle.std.proofs.Common.{◌≡◌, List, [], refl, sym, subst}
+use Rattle.std.proofs.Common.{◌≡◌, List, [], sym, subst}
 use Rattle.sk_base.specs.declared.Elem.{Elem}
 use Rattle.sk_base.specs.declared.Kind.TheVariants.{Point}
 use Rattle.sk_base.specs.SoundGraph.{HasNode}
 use Rattle.sk_index.specs.Walks.{GrowsBy, FromSome}
 use Rattle.sk_index.proofs.Growing.{grows_start, grows_step, grows_end}
-use Rattle.sk_derive.proofs.Finding.{adds_grows, points_told}
+use Rattle.sk_derive.proofs.Finding.{adds_grows, told_among}
 use Rattle.sk_derive.proofs.tie_merges.points_among.Goals as goal
 
 pub loop-elem-init : goal.loop-elem-init
@@ -21,5 +21,5 @@ loop-elem-preserved c =
 pub returns : goal.returns
 returns c =
     let kind : Elem → Elem → Type 0 = λ e d. HasNode c.args.graph.now e Point × (d ≡ e) in
-    points_told c.args.graph.now c.args.elements.now [] c.loop-elem.points refl
+    told_among (λ e. HasNode c.args.graph.now e Point) c.args.elements.now c.loop-elem.points
     (grows_end kind c.args.elements.now [] c.loop-elem.points c.loop-elem.elem-index c.loop-elem-test.false c.loop-elem.invariant)

@@ -4,6 +4,11 @@ use Rattle.sk_derive.specs.Classes.{AreClasses}
 use Rattle.sk_derive.proofs.Following.{classes_after, ties_after}
 use Rattle.sk_derive.proofs.ties.Ties.follow_one.Goals as goal
 
+pub drop_naming-requires : goal.drop_naming-requires
+drop_naming-requires c =
+    let (f, (sound, ties, can, is)) = c.requires.one in
+    ties.all.in_order
+
 pub add_merges_of_last-requires-clause-classes : goal.add_merges_of_last-requires-clause-classes
 add_merges_of_last-requires-clause-classes c =
     let ties = c.args.self.now in
