@@ -1,6 +1,5 @@
 -- What turns answer is what a session replies.
-use Rattle.std.proofs.Common.{◌≡◌, ◌≢◌, ◌⊎◌, ℕ, ◌+◌, ◌-◌, ◌≤◌, ◌<◌, false, Option, Some, None, arith, append_assoc, append-nil, length-append, List, [], ◌∷◌, ◌++◌, length, take, refl, sym, ap, subst, ◌∙◌, inl, inr}
-use Rattle.std.proofs.lemmas.Bool.{cases_lt}
+use Rattle.std.proofs.Common.{◌≡◌, ◌≢◌, ◌⊎◌, ℕ, ◌+◌, ◌-◌, ◌≤◌, false, Option, Some, None, arith, append-nil, length-append, List, [], ◌∷◌, ◌++◌, length, take, refl, sym, ap, subst, ◌∙◌, inl, inr}
 use Rattle.std.proofs.lemmas.List.Elements.{All-nil}
 use Rattle.std.proofs.Math.Seq.{take-append-add}
 use Rattle.std.specs.Prelude.{All, Err, IsErrOf}
@@ -9,10 +8,8 @@ use Rattle.sk_io.specs.Causes.{AnswersFault}
 use Rattle.sk_io.specs.Transfer.{TakesAtMost}
 use Rattle.sk_io.proofs.Moved.{Appends-more, Consumes-more}
 use Rattle.sk_lines.specs.Lines.{is_line_feed, lines_in, EndsLine}
-use Rattle.sk_session.specs.declared.Reply.TheVariants as reply
-use Rattle.sk_session.specs.State.{State}
 use Rattle.sk_request.specs.declared.Request.{Request}
-use Rattle.sk_turns.specs.Answering.{AreAnswered, AnswersSome, EndsAtLine, HasEnded, Ends, IsTold}
+use Rattle.sk_turns.specs.Answering.{AreAnswered, AnswersSome, HasEnded, Ends, IsTold}
 use Rattle.sk_turns.specs.Heard.{HasHeard, HasRoom, AreWithin, KeepsRoom, GoesOn, EndsTurn, IsDone}
 use Rattle.sk_turns.specs.declared.TurnEnd.{TurnEnd}
 use Rattle.sk_turns.specs.InTime.{in_time, whole_lines}
@@ -20,8 +17,8 @@ use Rattle.sk_turns.proofs.InTimes.{whole_front, none_whole}
 use Rattle.sk_turns.proofs.TurnEnds.{none_taken}
 use Rattle.sk_turns.specs.declared.TurnEnd.TheVariants as turn_end
 use Rattle.sk_cli.specs.declared.status.Status.TheVariants.{Done, Refused, ReadFault, WriteFault, NoMemory}
-use Rattle.sk_cli.specs.LiveAnswer.{Sat, begun, late_line, IsSaid, IsEnd, RepliesInTime, IsLiveAnswer}
-use Rattle.sk_cli.specs.LiveEnding.{LiveEnds, LiveTakes, IsLiveWritten, AllLiveFit, TellsLate, EndsWith}
+use Rattle.sk_cli.specs.LiveAnswer.{Sat, begun, late_line, IsSaid, IsEnd, RepliesInTime}
+use Rattle.sk_cli.specs.LiveEnding.{LiveEnds, LiveTakes, AllLiveFit, TellsLate, EndsWith}
 use Rattle.sk_cli.specs.declared.status.Status.{Status}
 use Rattle.sk_cli.specs.SessionAnswer.{IsReplied, AreReplied, EndsSession, at_start}
 

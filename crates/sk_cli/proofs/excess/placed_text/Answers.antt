@@ -1,10 +1,3 @@
-use Rattle.std.proofs.Common.{◌≡◌, sym, subst}
-use Rattle.sk_base.specs.declared.Graph.{Graph}
-use Rattle.sk_base.specs.declared.Sketch.{Sketch}
-use Rattle.sk_holding.specs.Placing.{PlacesExactly}
-use Rattle.sk_flips.specs.declared.Placement.TheVariants.{Holds}
-use Rattle.sk_excess.specs.KeptSketch.{kept_sketch}
-use Rattle.sk_cli.specs.Solved.{IsPlacedPlan}
 use Rattle.sk_cli.proofs.ExcessTold.{kept_places}
 use Rattle.sk_cli.proofs.excess.placed_text.Goals as goal
 
