@@ -1,11 +1,10 @@
 -- A sound family has few merges by the tie rule.
-use Rattle.std.proofs.Common.{◌≡◌, ◌≢◌, inl, inr, ℕ, ◌+◌, ◌*◌, ◌^◌, ◌<◌, ◌≤◌, List, [], ◌∷◌, ◌++◌, refl, ap, sym, subst, ◌∙◌, arith, length, length-append, zero-mul, suc-mul}
+use Rattle.std.proofs.Common.{◌≡◌, ◌≢◌, inl, inr, ◌*◌, ◌^◌, ◌<◌, List, [], ◌∷◌, sym, subst, arith, length, length-append, zero-mul, suc-mul}
 use Rattle.std.specs.Prelude.{AllPairs, Contains, map}
 use Rattle.std.specs.List.{flat_map}
 use Rattle.std.proofs.lemmas.Nat.{mul-lt}
 use Rattle.std.proofs.lemmas.List.{length-map}
 use Rattle.std.proofs.lemmas.List.Elements.{Contains-append_left, Contains-append_right}
-use Rattle.sk_base.specs.declared.Name.{Name}
 use Rattle.sk_base.specs.declared.Graph.{Graph}
 use Rattle.sk_base.proofs.Distinct.{no_longer}
 use Rattle.sk_base.proofs.Members.{contains_none, contains_cases, contains_mapped}

@@ -1,5 +1,5 @@
 -- What the walks to the merges by the tie rule find.
-use Rattle.std.proofs.Common.{◌≡◌, inl, inr, ℕ, Bool, ◌+◌, ◌<◌, ◌≤◌, List, [], ◌∷◌, ◌++◌, refl, ap, sym, subst, ◌∙◌, arith, take, length, get_or}
+use Rattle.std.proofs.Common.{◌≡◌, inl, inr, ℕ, Bool, ◌+◌, ◌<◌, ◌≤◌, List, [], ◌++◌, refl, ap, sym, subst, ◌∙◌, arith, take, length, get_or}
 use Rattle.std.specs.Prelude.{◌↔◌, Contains, AllPairs, IsTrue}
 use Rattle.std.specs.List.{HoldsAt}
 use Rattle.std.specs.List.Sorted.{IsNonDecreasingBy, IsPartitionPoint}
@@ -19,7 +19,7 @@ use Rattle.sk_base.proofs.Members.{contains_none, contains_mapped, mapped_from}
 use Rattle.sk_family.proofs.Naming.{one_of_name}
 use Rattle.sk_index.specs.Walks.{GrowsBy, FromSome}
 use Rattle.sk_worklist.specs.Gather.{HoldsSome}
-use Rattle.sk_index.proofs.Growing.{grows_none, grows_one, grows_same, grows_step}
+use Rattle.sk_index.proofs.Growing.{grows_none, grows_one, grows_same}
 use Rattle.sk_base.specs.declared.Graph.{Graph}
 use Rattle.sk_base.specs.ClusterNames.{IsBelow}
 use Rattle.sk_base.proofs.Pairs.{pairs_push, pairs_map, pairs_tell, pairs_weaken}
@@ -170,8 +170,8 @@ module _ (g : Graph) (f : Clusters) (a : Cluster) (ns tied : List Name) (old new
       (pairs_append ComesFirst old (merges_with a.name tied) order
       (pairs_map ComesFirst (λ (k : Name). Two a.name k) tied (pairs_weaken IsBelow (λ (j k : Name). ComesFirst (Two a.name j) (Two a.name k)) tied rise (λ j k j_in k_in j_k. inr (refl, inl j_k))))
       (λ m k m_in k_in. (
-          let (n, n_in, is) = mapped_from (λ (l : Name). Two a.name l) tied k k_in in
-          subst (λ l. ComesFirst m l) is (before_row m n (below m m_in)))))
+      let (n, n_in, is) = mapped_from (λ (l : Name). Two a.name l) tied k k_in in
+      subst (λ l. ComesFirst m l) is (before_row m n (below m m_in)))))
 
 -- the clusters below one that hold a point of it and are tied to it are those that it merges with
 module _ (g : Graph) (f : Clusters) (sound : IsSound f) (a : Cluster) (points : List Elem) (points_are : (e : Elem) → Contains points e ↔ (Contains a.elements e × HasNode g e Point))

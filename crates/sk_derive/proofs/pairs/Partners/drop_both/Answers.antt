@@ -1,4 +1,4 @@
-use Rattle.std.proofs.Common.{◌≡◌, List, [], ◌∷◌, ap, sym, subst}
+use Rattle.std.proofs.Common.{List, [], ◌∷◌, ap, sym, subst}
 use Rattle.std.specs.Prelude.{AllPairs, not}
 use Rattle.sk_base.specs.declared.Name.{Name}
 use Rattle.sk_base.specs.ClusterNames.{IsBelow, is_named}
