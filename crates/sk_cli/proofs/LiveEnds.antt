@@ -18,7 +18,7 @@ use Rattle.sk_turns.proofs.TurnEnds.{none_taken}
 use Rattle.sk_turns.specs.declared.TurnEnd.TheVariants as turn_end
 use Rattle.sk_cli.specs.declared.status.Status.TheVariants.{Done, Refused, ReadFault, WriteFault, NoMemory}
 use Rattle.sk_cli.specs.LiveAnswer.{Sat, begun, late_line, IsSaid, IsEnd, RepliesInTime}
-use Rattle.sk_cli.specs.LiveEnding.{LiveEnds, LiveTakes, AllLiveFit, TellsLate, EndsWith}
+use Rattle.sk_cli.specs.LiveEnding.{LiveEnds, LiveTakes, AnswersTaken, AllLiveFit, TellsLate, EndsWith}
 use Rattle.sk_cli.specs.declared.status.Status.{Status}
 use Rattle.sk_cli.specs.SessionAnswer.{IsReplied, AreReplied, EndsSession, at_start}
 
@@ -167,6 +167,14 @@ lines_taken taken lines line cut whole solid =
     ∙ ap (λ (z : List ℕ). lines ++ z) (none_whole line solid)
     ∙ append-nil lines
 
+answers_taken : (request : Request) (taken kept : List ℕ) (sitting : Sat) (text : List ℕ) → HasHeard IsSaid (begun request) taken kept sitting text → AnswersTaken request taken text
+answers_taken request taken kept sitting text heard =
+    let whole = lines_taken taken heard.lines heard.line heard.cut heard.whole heard.solid in (
+      sitting.state,
+      subst (λ (z : List ℕ). AreReplied request (at_start request.order) (lines_in z) sitting.state text) (sym whole)
+          (replied_in_turn request (lines_in heard.lines) (begun request) sitting text refl heard.answered),
+    )
+
 same_gained : (old now later : Option (List ℕ)) (text : List ℕ) → Appends old now text → Appends now later [] → Appends old later text
 same_gained old now later text appended none = subst (λ (z : List ℕ). Appends old later z) (append-nil text) (Appends-more old now later text [] appended none)
 
@@ -181,7 +189,15 @@ live_taken request left here after old before mid now kept sitting taken all tur
     let (piece, few, takes', how) = done refl (begun request) taken more heard in
     let takes_both = Consumes-more left here after taken piece takes takes' in
     elim how [
-      | inl over ↦ (all, appended_all, subst (λ (z : Status). LiveTakes request z left after all) (sym is) (taken ++ piece, takes_both, inl over.1))
+      | inl over ↦ (
+        all,
+        appended_all,
+        subst (λ (z : Status). LiveTakes request z left after all) (sym is) (
+          taken,
+          subst (λ (z : List ℕ). Consumes left after z) (ap (λ (z : List ℕ). taken ++ z) over.0 ∙ append-nil taken) takes_both,
+          inl (over.1, (more, answers_taken request taken kept sitting more heard)),
+        ),
+      )
       | inr found ↦ (
           let (further, behind, appended', ended, fewer) = found in (
             more ++ further,
@@ -191,16 +207,13 @@ live_taken request left here after old before mid now kept sitting taken all tur
     ]
 live_taken request left here after old before mid now kept sitting taken all turn_end.ReadFault status takes goes_on done failed (is, none) appended_all =
     let (more, appended, heard) = goes_on (begun request) [] [] (nothing_heard request) in
-    let (same, keeps) = failed refl in
-    let whole = lines_taken taken heard.lines heard.line heard.cut heard.whole heard.solid in (
+    let (same, keeps) = failed refl in (
       more,
       same_gained old mid now more (same_gained old before mid more appended same) none,
       subst (λ (z : Status). LiveTakes request z left after more) (sym is) (
         taken,
-        sitting.state,
         subst (λ (z : List ℕ). Consumes left after z) (append-nil taken) (Consumes-more left here after taken [] takes (none_taken here after keeps)),
-        subst (λ (z : List ℕ). AreReplied request (at_start request.order) (lines_in z) sitting.state more) (sym whole)
-            (replied_in_turn request (lines_in heard.lines) (begun request) sitting more refl heard.answered),
+        answers_taken request taken kept sitting more heard,
       ),
     )
 live_taken request left here after old before mid now kept sitting taken all turn_end.WriteFault status takes goes_on done failed (is, none) appended_all =

@@ -30,15 +30,19 @@ LiveEnds request bytes NoMemory gained = RepliesInTime request bytes gained
 LiveEnds request bytes ReadFault gained = RepliesInTime request bytes gained
 LiveEnds request bytes status gained = IsLiveAnswer request bytes status gained
 
--- Two statuses say more of what was taken. Where the session is done, that is all that was left, or there is in it the line that ends
--- the session, with its line feed, and at most 4,095 bytes behind that. Where a read failed, all lines that have come to their end in
--- it are answered.
+-- the lines that have come to their end in what was taken are answered, none of them ending the session, and this is the text of the replies
+abbrev pub AnswersTaken : Request → List ℕ → List ℕ → Type 0
+AnswersTaken request taken text = (state : State) × AreReplied request (at_start request.order) (lines_in (whole_lines taken)) state text
+
+-- Two statuses say more of what was taken. Where the session is done, that is all that was left, and no line that has come to its end
+-- in it ends the session; or there is in it the line that ends the session, with its line feed, and at most 4,095 bytes behind that.
+-- Where a read failed, all lines that have come to their end in it are answered.
 abbrev pub LiveTakes : Request → Status → Option (List ℕ) → Option (List ℕ) → List ℕ → Type 0
 LiveTakes request Done left after gained =
     (taken : List ℕ) × Consumes left after taken
-    × (IsAtEnd after ⊎ ((behind : List ℕ) × (length behind ≤ 4095) × EndsAtLine IsSaid IsEnd (begun request) taken gained behind))
-LiveTakes request ReadFault left after gained =
-    (taken : List ℕ) × (state : State) × Consumes left after taken × AreReplied request (at_start request.order) (lines_in (whole_lines taken)) state gained
+    × ((IsAtEnd after × ((text : List ℕ) × AnswersTaken request taken text))
+    ⊎ ((behind : List ℕ) × (length behind ≤ 4095) × EndsAtLine IsSaid IsEnd (begun request) taken gained behind))
+LiveTakes request ReadFault left after gained = (taken : List ℕ) × Consumes left after taken × AnswersTaken request taken gained
 LiveTakes request status left after gained = ⊤
 
 -- that the input is too long was written, or a front of that, or memory ran out before

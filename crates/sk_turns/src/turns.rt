@@ -15,11 +15,12 @@ use sk_io::{Sink, Source};
 /// The most bytes of one read.
 const PIECE: usize = 4096;
 
-/// Takes a piece of the source, which it asks once, and answers each line that ends in it: when it returns, the replies to all lines
-/// that have come to their end so far are in the sink, which is flushed where it was before, and also where it goes on and a line
-/// ended. Where it goes on it took a byte at least; else it says how it ended, and what the sink gained from the first turn on is what
-/// its end says of the whole input. A line that ends it has its line feed in the piece, but at the end of the input. After a failed
-/// read all is as it was. The input has at most 4,294,967,295 bytes, and one byte more is taken at most.
+/// Takes a piece of the source, which it asks once, and answers each line that ends in it. Where it goes on it took a byte at least,
+/// and the replies to all lines that have come to their end so far are in the sink, flushed where a line ended in the piece; else it
+/// says how it ended, and what the sink gained from the first turn on is what its end says of the whole input. A line that ends it has
+/// its line feed in the piece, but at the end of the input. A sink that was flushed before is so again, but after a failed write. After
+/// a failed read all is as it was but for the count of faults. The input has at most 4,294,967,295 bytes, and one byte more is taken
+/// at most.
 pub fn turn<R: Replier, S: Source, K: Sink>(
     hearing: &mut Hearing,
     replier: &mut R,
@@ -34,7 +35,7 @@ pub fn turn<R: Replier, S: Source, K: Sink>(
     ensures bound { OnOk result (hearing.new.taken ≤ 4294967295) }
     ensures ended { IfErr result (λ end. (first : R) (taken text : List ℕ) → HasHeard R.replies first taken hearing.old.kept replier.old text → hearing.old.taken ≡ length taken
         → EndsTurn R.replies R.ends first taken text (S.left source.old) (S.left source.new) (K.written sink.old) (K.written sink.new) end) }
-    ensures at_line { IsErrOf result TurnEnd.Done → (first : R) (taken text : List ℕ) → HasHeard R.replies first taken hearing.old.kept replier.old text
+    ensures done { IsErrOf result TurnEnd.Done → (first : R) (taken text : List ℕ) → HasHeard R.replies first taken hearing.old.kept replier.old text
         → IsDone R.replies R.ends first taken text (S.left source.old) (S.left source.new) (K.written sink.old) (K.written sink.new) }
     ensures read_failed { IsErrOf result TurnEnd.ReadFault → (hearing.new ≡ hearing.old) × (replier.new ≡ replier.old) × (sink.new ≡ sink.old) × Keeps (S.left source.old) (S.left source.new) }
     ensures too_long { IsErrOf result TurnEnd.TooLong → (sink.new ≡ sink.old)

@@ -122,7 +122,7 @@ returns-in-Err-clause-taken g c =
     live_taken c.args.request (g.S.Source.left c.args.source.now) (g.S.Source.left c.loop-end.source) (g.S.Source.left c.turn.new.source)
     (g.K.Sink.written c.args.sink.now) (g.K.Sink.written c.loop-end.sink) (g.K.Sink.written c.turn.new.sink) (g.K.Sink.written c.ended.new.sink)
     c.loop-end.hearing.kept c.loop-end.sitting here.taken gained c.in-Err.end c.ended.result here.takes here.goes_on
-    (λ done. c.in-Err.ensures.at_line (as_error c.in-Err.end turn_end.Done done))
+    (λ done. c.in-Err.ensures.done (as_error c.in-Err.end turn_end.Done done))
     (λ failed.
     (let unchanged = c.in-Err.ensures.read_failed (as_error c.in-Err.end turn_end.ReadFault failed) in
     (subst (λ k. Appends (g.K.Sink.written c.loop-end.sink) (g.K.Sink.written k) []) (sym unchanged.2) (nothing_gained (g.K.Sink.written c.loop-end.sink)), unchanged.3)))

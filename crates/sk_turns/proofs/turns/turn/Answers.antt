@@ -168,11 +168,11 @@ returns-clause-within g c =
 pub returns-in-Err-clause-within : goal.returns-in-Err-clause-within
 returns-in-Err-clause-within g c = ([], omega arith, none_taken (g.S.Source.left c.args.source.now) (g.S.Source.left c.read.new.self) c.in-Err.ensures.bytes)
 
-pub returns-in-Err-clause-at_line : goal.returns-in-Err-clause-at_line
-returns-in-Err-clause-at_line g c done = absurd (cc)
+pub returns-in-Err-clause-done : goal.returns-in-Err-clause-done
+returns-in-Err-clause-done g c done = absurd (cc)
 
-pub returns-then-count-eq0-clause-at_line : goal.returns-then-count-eq0-clause-at_line
-returns-then-count-eq0-clause-at_line g c done first taken text at =
+pub returns-then-count-eq0-clause-done : goal.returns-then-count-eq0-clause-done
+returns-then-count-eq0-clause-done g c done first taken text at =
     let long : 0 < length c.read.new.buf = grind (arith, nat_tests, c.read.auto.buf, c.room.ensures.some, c.room.ensures.most) in (
       [],
       omega arith,
@@ -180,11 +180,11 @@ returns-then-count-eq0-clause-at_line g c done first taken text at =
       inl (refl, c.in-Ok.ensures.bytes.1 c.if-count-eq0.true long),
     )
 
-pub returns-then-left-eq0-clause-at_line : goal.returns-then-left-eq0-clause-at_line
-returns-then-left-eq0-clause-at_line g c done = absurd (cc)
+pub returns-then-left-eq0-clause-done : goal.returns-then-left-eq0-clause-done
+returns-then-left-eq0-clause-done g c done = absurd (cc)
 
-pub returns-clause-at_line : goal.returns-clause-at_line
-returns-clause-at_line g c done first taken text at =
+pub returns-clause-done : goal.returns-clause-done
+returns-clause-done g c done first taken text at =
     let kept_is = ap (λ (h : Heard). h.kept) c.count.ensures in
     let size = length-take-le c.in-Ok.count c.read.new.buf c.in-Ok.ensures.bound.0 in
     let room = rw length-take at c.read.auto.buf in
