@@ -15,6 +15,10 @@ const LONE_POINT_REPORT: &[u8] =
 const TRIANGLE: &[u8] =
     b"sketch 1\npoint A 0 0\npoint B 4 0\npoint C 4 3\ndistance A B 4\ndistance A C 5\ndistance B C 3\nend\n";
 
+/// A session on a braced square.
+const BRACED: &[u8] =
+    b"point A 0 0\npoint B 4 0\npoint C 4 3\npoint D 0 3\ndistance A B 4\ndistance A C 5\ndistance A D 3\ndistance B C 3\ndistance B D 5\ndistance C D 4\ncheck\ndrop 6\ncheck\nundo\ncheck\nend\n";
+
 /// Calls of the commands that read a whole input first.
 const READERS: &str = "
 $ check
@@ -337,7 +341,7 @@ fn some_calls_read_nothing(rt: HostRuntime) -> Result<(), Fail> {
     Ok(())
 }
 
-/// Whole pieces a call: the first read, the first write, no room at all, a room of five bytes, calls that never come.
+/// Whole pieces a call: the first read, the first write, no room at all on two sketches, a room of five bytes, calls that never come.
 /// A session writes whole replies: a read that fails, even the one behind the last line, leaves nothing written, and a
 /// write that fails leaves the replies before it.
 #[test]
@@ -373,7 +377,17 @@ fn faults_have_their_statuses(rt: HostRuntime) -> Result<(), Fail> {
         b"ok A\n",
     )?;
     let replies = b"ok A\nok B\n".as_slice();
-    answers_over(&rt, alloc, &session, (lines, &[]), (1000, &[3]), 4, replies)
+    answers_over(&rt, alloc, &session, (lines, &[]), (1000, &[3]), 4, replies)?;
+    answers_over(
+        &rt,
+        alloc,
+        &session,
+        (BRACED, &[]),
+        (1000, &[3]),
+        4,
+        replies,
+    )?;
+    answers_over(&rt, alloc, &check, (LONE_POINT, &[]), (0, &[]), 4, b"")
 }
 
 /// The adapters over std's readers and writers hand on what they are given.

@@ -9,6 +9,8 @@ mod drawings;
 #[cfg(test)]
 mod grown;
 #[cfg(test)]
+mod halting;
+#[cfg(test)]
 mod intervals;
 #[cfg(test)]
 mod motions;
