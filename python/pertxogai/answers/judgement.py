@@ -141,14 +141,15 @@ def judge(drawing: Drawing, program: Asks, freeze: bool = False) -> Judgement:
     return weighed(judge_at_once(drawing, program, freeze), program)
 
 
-def judge_at_once(drawing: Drawing, program: Asks, freeze: bool = False) -> Judgement:
+def judge_at_once(drawing: Drawing, program: Asks, freeze: bool = False,
+                  before: Drawing = Drawing()) -> Judgement:
     """The same, but that what may go is named as the program names it, and not measured: that
-    takes many more questions. Raises ProgramError; DrawingRefused where the drawing has
-    more points or constraints than the program takes, or makes both ends of a shape one; Refusal
-    where the program refuses the spelled sketch; NotHeld where a place or length is larger than
-    the language holds."""
+    takes many more questions. `before`: the drawing that an edit has made this one from. Raises
+    ProgramError; DrawingRefused where the drawing has more points or constraints than the program
+    takes, or makes both ends of a shape one; Refusal where the program refuses the spelled sketch;
+    NotHeld where a place or length is larger than the language holds."""
     check_fits(drawing)
-    asked = ask_styles(drawing, program, freeze)
+    asked = ask_styles(drawing, program, freeze, before)
     names = Names(drawing, asked.spelled, asked.axes.facts.refs)
     judged = Judgement(asked.check.verdict, asked, names)
     match asked.check.verdict:

@@ -5,7 +5,7 @@ Each fact has an owner: the constraint, or the shape, that says it.
 """
 from __future__ import annotations
 
-from dataclasses import dataclass, field
+from dataclasses import dataclass, field, fields
 from typing import NamedTuple
 
 from pertxogai.drawing import Place, PointRef, ShapeRef
@@ -187,6 +187,11 @@ class Facts:
     repeats: list[Owner] = field(default_factory=list)
     implied: dict[Line, tuple[Knot, Knot]] = field(default_factory=dict)
     """Lines of which the direction follows from the places of two of their points."""
+
+    def says(self, other: Facts) -> bool:
+        """Whether others differ by where things are drawn alone."""
+        return all(getattr(self, each.name) == getattr(other, each.name)
+                   for each in fields(self) if each.name != "drawn")
 
     def direction(self, line: Line) -> tuple[Number, Number]:
         """The drawn direction of a line, from its first own point to its second."""
