@@ -74,7 +74,7 @@ export class Files {
 
 /** The one of several drawings that is chosen by its name; undefined where none is. */
 async function chosen(title, drawings) {
-  const buttons = drawings.map((each, place) => html('button', { value: place }, each.name.replaceAll('-', ' ')));
+  const buttons = drawings.map((each, place) => html('button', { value: place, autofocus: place ? null : '' }, each.name.replaceAll('-', ' ')));
   return drawings[await told(title, html('div', { class: 'gallery' }, ...buttons)) || -1];
 }
 
