@@ -1,11 +1,15 @@
 /** The texts beside the board: the drawing's, with its refused line, and the language. */
 import { html, byId } from './nodes.js';
 
+/** So many milliseconds pass between a change and the text. */
+const MOMENT = 120;
+
 /** The panel of texts. */
 export class Texts {
   area = byId('text');
   lines = byId('lines');
   waits = null;
+  behind = null;
 
   constructor(paper) {
     this.paper = paper;
@@ -30,18 +34,18 @@ export class Texts {
     this.paper.type(this.area.value);
   }
 
-  /** Shows the text that stands, behind the frame that shows the drawing: a long text takes its time. */
+  /** Shows the text that stands, once nothing has changed for a moment: a long text takes its time, and the drawing goes before. */
   write() {
-    if (this.area.value === this.paper.text) return;
     this.area.ariaBusy = 'true';
-    requestAnimationFrame(() => setTimeout(() => this.written()));
+    clearTimeout(this.behind);
+    this.behind = setTimeout(() => this.written(), MOMENT);
   }
 
   /** Shows the text now, where it still waits. */
   written() {
     if (this.area.ariaBusy !== 'true') return;
     this.area.ariaBusy = 'false';
-    this.area.value = this.paper.text;
+    if (this.area.value !== this.paper.text) this.area.value = this.paper.text;
     this.number();
   }
 
