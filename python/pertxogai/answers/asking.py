@@ -7,6 +7,7 @@ from __future__ import annotations
 from collections.abc import Iterator, Sequence
 from dataclasses import dataclass, replace
 from enum import Enum
+from typing import cast
 
 from pertxogai.answers.freezing import frozen_choices
 from pertxogai.answers.growing import grown
@@ -157,10 +158,12 @@ def _told(program: Asks, text: str, place: Place) -> CheckReport | Solved | Faul
     report = read_answer(words, program.ask(words, text))
     if isinstance(report, Refused):
         raise Refusal(report)
-    if not isinstance(report, CheckReport | Solved | Fault):
+    if isinstance(report, CheckReport):
+        return report
+    if not isinstance(report, Solved | Fault):
         raise NotAReport("the program ended solve with a status that doesn't fit what it was "
                          "asked")
-    return report
+    return cast(Solved | Fault, report)
 
 
 def _answered(rails: Rails, spelled: Spelled, program: Asks) -> Asked:
@@ -173,7 +176,7 @@ def _answered(rails: Rails, spelled: Spelled, program: Asks) -> Asked:
 
 def placed(asked: Asked, program: Asks) -> Asked:
     """The places of what is well: where there are none by boxes, by points."""
-    if not isinstance(asked.solved, Fault):
+    if asked.solved is None or isinstance(asked.solved, Solved):
         return asked
     told = _told(program, asked.spelled.sketch.text(), Place.POINTS)
     assert not isinstance(told, CheckReport)

@@ -20,7 +20,8 @@ def marks(where: Whereabouts, number: int, constraint: Constraint) -> Iterator[M
     """The marks of the constraint at a place, from 1; none where a place isn't known that it
     speaks of."""
     with suppress(MissingPlace):
-        yield from ({"number": number, **mark} for mark in _marks(where, constraint))
+        for mark in _marks(where, constraint):
+            yield {**mark, "number": number}
 
 
 def _marks(where: Whereabouts, constraint: Constraint) -> Iterator[Mark]:

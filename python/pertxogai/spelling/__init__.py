@@ -74,5 +74,5 @@ def _read(said: Facts, reading: Reading) -> Facts:
     return with_slots(facts) if reading.slots else facts
 
 
-__all__ = ["Axes", "Care", "READINGS", "Rails", "Reading", "Spelled", "Spellings", "Style", "axes_of",
-           "readings", "spell", "written"]
+__all__ = ["Axes", "Care", "READINGS", "Rails", "Reading", "Spelled", "Spellings", "Style",
+           "axes_of", "readings", "spell", "written"]

@@ -113,8 +113,8 @@ class Axes:
         other.frames = [replace(each, way=facts.direction(each.line)) for each in self.frames]
         other._of_root = {root: other.frames[each.number] for root, each in self._of_root.items()}
         other._signs = {}
-        is_so = all(other.sign(other.frames[frame], *rest) == sign
-                    for (frame, *rest), sign in self._signs.items())
+        is_so = all(other.sign(other.frames[frame], upwards, first, second) == sign
+                    for (frame, upwards, first, second), sign in self._signs.items())
         return other if is_so else None
 
     def surplus(self) -> list[tuple[Equation, Told]]:
