@@ -11,6 +11,7 @@ from .reports import (
     Cause,
     CheckReport,
     ConstraintFault,
+    ExcessReport,
     Fault,
     FrameFault,
     NotAReport,
@@ -25,6 +26,7 @@ from .reports import (
     Verdict,
     read_answer,
     read_check,
+    read_excess,
     read_fault,
     read_parts,
     read_plan,
@@ -58,8 +60,8 @@ class TextRefused(Exception):
 @dataclass(frozen=True)
 class JudgedSketch:
     """A sketch and what the program answers to it: parts and verdict; places or a fault where
-    it is well; the spare constraints where it is over; and the parts, each by itself, where it
-    isn't well."""
+    it is well; the spare constraints where it is over, and what is left out of each part that is,
+    with how far that is off; and the parts, each by itself, where it isn't well."""
 
     name: str
     sketch: Sketch
@@ -68,6 +70,7 @@ class JudgedSketch:
     fault: Fault | None = None
     plan: Plan | None = None
     spare: tuple[Spare, ...] = ()
+    excess: ExcessReport | None = None
     parts: PartsReport | None = None
 
     def is_placed(self) -> bool:
@@ -98,7 +101,7 @@ def judge_sketch(name: str, given: Sketch | str, asks: Asks) -> JudgedSketch:
     """Asks the program what there is to say of a sketch, or of a text. Raises TextRefused and
     ProgramError."""
     text = given if isinstance(given, str) else given.text()
-    check = read_check(_done(name, asks.ask(["check"], text), text).text)
+    check = read_check(_written(name, "check", text, asks))
     try:
         sketch = Sketch.parse(text)
     except Refusal as refusal:
@@ -107,19 +110,23 @@ def judge_sketch(name: str, given: Sketch | str, asks: Asks) -> JudgedSketch:
         ) from None
     if check.verdict is Verdict.WELL:
         return _placed(name, sketch, check, text, asks)
-    spare = (
-        read_spare(_done(name, asks.ask(["spare"], text), text).text)
-        if check.verdict is Verdict.OVER
-        else ()
-    )
-    parts = read_parts(_done(name, asks.ask(["parts"], text), text).text)
-    return JudgedSketch(name, sketch, check, spare=spare, parts=parts)
+    parts = read_parts(_written(name, "parts", text, asks))
+    if check.verdict is Verdict.OPEN:
+        return JudgedSketch(name, sketch, check, parts=parts)
+    spare = read_spare(_written(name, "spare", text, asks))
+    excess = read_excess(_written(name, "excess", text, asks))
+    return JudgedSketch(name, sketch, check, spare=spare, excess=excess, parts=parts)
+
+
+def _written(name: str, command: str, text: str, asks: Asks) -> str:
+    """What a command writes, where it does its work. Raises TextRefused and NotAReport."""
+    return _done(name, asks.ask([command], text), text).text
 
 
 def _placed(name: str, sketch: Sketch, check: CheckReport, text: str, asks: Asks) -> JudgedSketch:
     answer = asks.ask(["solve"], text)
     if answer.status in (Status.FAULT, Status.TOLERANCE):
-        plan = read_plan(_done(name, asks.ask(["plan"], text), text).text)
+        plan = read_plan(_written(name, "plan", text, asks))
         return JudgedSketch(name, sketch, check, fault=read_fault(answer.text), plan=plan)
     return JudgedSketch(name, sketch, check, solved=read_solve(_done(name, answer, text).text))
 

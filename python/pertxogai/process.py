@@ -57,20 +57,20 @@ def run_process(words: Sequence[str], given: bytes, limits: Limits) -> Ended:
         raise MissingProgram(f"{words[0]} can't be run: {error}") from None
     with process:
         try:
-            _limit_memory(process, limits)
+            limit_memory(process, limits)
             return _Talk(words, process, given, limits).to_the_end()
         except BaseException:
-            _stop(process)
+            stop(process)
             raise
 
 
-def _stop(process: subprocess.Popen[bytes]) -> None:
+def stop(process: subprocess.Popen[bytes]) -> None:
     """Ends a run and all that it started."""
     with suppress(ProcessLookupError):
         os.killpg(process.pid, signal.SIGKILL)
 
 
-def _limit_memory(process: subprocess.Popen[bytes], limits: Limits) -> None:
+def limit_memory(process: subprocess.Popen[bytes], limits: Limits) -> None:
     """Takes effect before the program has read its text, since that is handed on after this."""
     if limits.memory_mib is not None:
         most = limits.memory_mib * MEBIBYTE

@@ -41,9 +41,9 @@ class Status(IntEnum):
     DONE = 0  #: the command did its work: its report
     REFUSED = 1  #: the input is refused: the refusal line
     USAGE = 2  #: the words aren't of the form: the usage line
-    READ_FAILED = 3  #: standard input failed: nothing
+    READ_FAILED = 3  #: standard input failed: nothing, or the whole replies of a talk so far
     WRITE_FAILED = 4  #: standard output failed: what could be written
-    NO_MEMORY = 5  #: memory ran out: nothing, or the whole replies of a session so far
+    NO_MEMORY = 5  #: memory ran out: nothing, or the whole replies of a session or talk so far
     NOT_WELL = 6  #: the verdict isn't `well`: the check report
     FAULT = 7  #: a step has no places, or a sign isn't as drawn: the fault line
     TOLERANCE = 8  #: a tolerance is beyond the limit: the fault line

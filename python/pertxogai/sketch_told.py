@@ -5,7 +5,7 @@ from collections.abc import Iterator, Sequence
 
 from .judged import JudgedSketch, concerned, what_to_do
 from .language import Placed, PlacedCircle, PlacedLine
-from .reports import AtConstraint, FrameFault, LineFault, Part, Solved
+from .reports import AtConstraint, Excessive, FrameFault, LineFault, OverPart, Part, Solved
 
 
 def sketch_told(judged: JudgedSketch) -> Iterator[str]:
@@ -28,11 +28,20 @@ def sketch_told(judged: JudgedSketch) -> Iterator[str]:
         yield f"  what to do: {what_to_do(judged.fault)}"
     if judged.parts:
         yield from (f"  {part.text().strip()}" for part in check.parts)
+    if judged.excess:
+        for over in judged.excess.parts:
+            yield from _over(over)
     if judged.spare:
         yield "  what to do: take one of these away, and ask again"
         yield from (f"    {it.text()}" for it in judged.spare)
     elif judged.parts:
         yield "  what to do: tie the parts by a dimension between elements of two of them"
+
+
+def _over(over: OverPart) -> Iterator[str]:
+    """What is left out of a part, from the last constraint on, and how far off each is then."""
+    yield f"  left out of part {over.part.number}, so that the others can be placed:"
+    yield from (f"    {line}" for line in over.text().splitlines()[1:])
 
 
 def sketch_json(judged: JudgedSketch) -> dict[str, object]:
@@ -48,6 +57,7 @@ def sketch_json(judged: JudgedSketch) -> dict[str, object]:
         "left_out": [],
         "frozen": [],
         "spare": [{"number": it.number, "name": it.constraint.text()} for it in judged.spare],
+        "excess": [_excess(it) for it in judged.excess.parts] if judged.excess else [],
         "places": _places(solved.places) if solved else None,
         "length_tolerance_nm": solved.length_tolerance_nm if solved else None,
         "angle_tolerance_ppb": solved.angle_tolerance_ppb if solved else None,
@@ -73,6 +83,30 @@ def _part(part: Part) -> dict[str, object]:
         "elements": list(part.elements),
         "held": part.held,
         "due": part.due,
+    }
+
+
+def _excess(over: OverPart) -> dict[str, object]:
+    """What is left out of a part that is over."""
+    return {
+        "part": over.part.number,
+        "left_out": [_left_out(it) for it in over.left_out],
+        "fault": over.fault.text().strip() if over.fault else None,
+        "stays_over": over.stays_over(),
+    }
+
+
+def _left_out(left: Excessive) -> dict[str, object]:
+    """A constraint that is left out: whether it repeats those that are kept, and how far off it is,
+    in nm or ppb."""
+    off = left.off
+    return {
+        "number": left.number,
+        "name": left.constraint.text(),
+        "repeats": None if off is None else not off.conflicts,
+        "off": off.amount if off else None,
+        "unit": off.unit.value if off else None,
+        "turned": bool(off and off.turned),
     }
 
 

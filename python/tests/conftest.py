@@ -47,6 +47,8 @@ EXCERPTS = read_rows("*.excerpt")
 """Rows of which some lines of the answer are told, in their order."""
 LARGE_ROWS = read_rows("large/*.row")
 """Rows for which only the proved program is quick enough."""
+EXCESS_ROWS = read_rows("excess/*.row")
+"""Rows of a program that has the command `excess`."""
 FRAME_ROWS = read_rows("frame/*.row")
 """Rows of a program that has the key `frame`."""
 EXAMPLES = sorted((TOP / "examples").rglob("*.sketch"))

@@ -43,7 +43,15 @@ def test_judge_a_sketch_that_is_well(capsys) -> None:
 @pytest.mark.parametrize(
     "name, lines",
     [
-        ("braced-square", ["over", "c6 : distance C D 4", "take one of these away"]),
+        (
+            "braced-square",
+            [
+                "over",
+                "left out of part 1, so that the others can be placed:\n"
+                "    c6 : distance C D 4 repeat off 0 nm\n",
+                "take one of these away",
+            ],
+        ),
         (
             "hinge",
             ["open", "part 2 sound elements 4 held 5 due 5 : Pin Door D1 D2", "tie the parts"],
@@ -73,6 +81,7 @@ def test_json_of_a_sketch_that_is_well(capsys) -> None:
         "left_out",
         "frozen",
         "spare",
+        "excess",
         "places",
         "length_tolerance_nm",
         "angle_tolerance_ppb",
@@ -100,6 +109,11 @@ def test_json_of_what_is_not_well(capsys) -> None:
     )["sketches"]
     assert (sketch["verdict"], sketch["places"]) == ("over", None)
     assert sketch["spare"][5] == {"number": 6, "name": "distance A C 70"}
+    (over,) = sketch["excess"]
+    assert (over["part"], over["fault"], over["stays_over"]) == (1, None, False)
+    (left_out,) = over["left_out"]
+    assert (left_out["name"], left_out["repeats"]) == ("distance A C 70", True)
+    assert (left_out["off"], left_out["unit"], left_out["turned"]) == (0, "nm", False)
     (sketch,) = json.loads(judged(capsys, "judge", "--json", str(EXAMPLES / "hinge.sketch"))[1])[
         "sketches"
     ]

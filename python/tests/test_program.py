@@ -9,7 +9,7 @@ from collections.abc import Callable
 from pathlib import Path
 
 import pytest
-from conftest import EXCERPTS, FRAME_ROWS, LARGE_ROWS, ROWS, Row
+from conftest import EXCERPTS, EXCESS_ROWS, FRAME_ROWS, LARGE_ROWS, ROWS, Row
 
 from pertxogai.library import BUILD, Library, quickest
 from pertxogai.program import BUILD as PROGRAM
@@ -65,6 +65,21 @@ def test_a_row_of_the_drawn_frame_is_answered(row: Row, program) -> None:
     assert program.ask(row.words, row.text) == row.answer
 
 
+@pytest.mark.parametrize("row", EXCESS_ROWS, ids=lambda row: row.name)
+def test_a_row_of_what_is_too_much_is_answered(row: Row, program) -> None:
+    assert program.ask(row.words, row.text) == row.answer
+
+
+SESSIONS = [row for row in ROWS if row.words[0] == "session"]
+
+
+@pytest.mark.parametrize("row", SESSIONS, ids=lambda row: row.name)
+def test_a_session_is_answered_alike_line_by_line(row: Row, program) -> None:
+    assert program.ask(["live", *row.words[1:]], row.text) == row.answer
+    behind = row.text.rstrip("\n") + "\nend\nundo\n"
+    assert program.ask(["live", *row.words[1:]], behind) == row.answer
+
+
 @pytest.mark.parametrize("command", ["check", "session"])
 def test_a_text_that_is_too_long(command: str, program) -> None:
     answer = program.ask([command], " " * 1_048_577)
@@ -79,7 +94,7 @@ def built_library() -> Library:
     return Library.find()
 
 
-@pytest.mark.parametrize("row", ROWS + LARGE_ROWS, ids=lambda row: row.name)
+@pytest.mark.parametrize("row", ROWS + LARGE_ROWS + EXCESS_ROWS, ids=lambda row: row.name)
 def test_the_library_answers_a_row_alike(row: Row, built_library: Library) -> None:
     assert built_library.ask(row.words, row.text) == row.answer
 
@@ -174,12 +189,14 @@ def test_a_program_that_prints_rubbish(tmp_path) -> None:
         "solve",
         "dxf",
         "spare",
+        "excess",
         "parts",
         "derive",
         "grow",
         "verify",
         "migrate",
         "session",
+        "live",
     ):
         answer = Program(script(tmp_path, "echo verdict maybe")).ask([words], TRIANGLE)
         with pytest.raises(NotAReport):

@@ -2,7 +2,7 @@
 from __future__ import annotations
 
 import pytest
-from conftest import EXAMPLES, FRAME_ROWS, LARGE_ROWS, ROWS, Row
+from conftest import EXAMPLES, EXCESS_ROWS, FRAME_ROWS, LARGE_ROWS, ROWS, Row
 
 from pertxogai.language import (
     Choice,
@@ -28,6 +28,7 @@ from pertxogai.reports import (
     ClaimFails,
     Code,
     ConstraintFault,
+    Excessive,
     Failing,
     FrameFault,
     Idle,
@@ -37,6 +38,7 @@ from pertxogai.reports import (
     NoChoice,
     NotAReport,
     NumberFault,
+    Off,
     Part,
     Phase,
     PointEntity,
@@ -49,6 +51,7 @@ from pertxogai.reports import (
     Stale,
     StepAt,
     Taken,
+    Turned,
     TurnedFault,
     Unit,
     Usage,
@@ -58,6 +61,7 @@ from pertxogai.reports import (
     read_check,
     read_derive,
     read_dxf,
+    read_excess,
     read_fault,
     read_flips,
     read_offers,
@@ -91,12 +95,18 @@ def written(words: tuple[str, ...], report: object) -> str:
     return report.text()
 
 
-@pytest.mark.parametrize("row", ROWS + LARGE_ROWS + FRAME_ROWS, ids=lambda row: row.name)
+MEASURED_ROWS = [row for row in EXCESS_ROWS if "stays over" not in row.answer.text]
+"""Of those that stay over no line's lack shows."""
+
+
+@pytest.mark.parametrize(
+    "row", ROWS + LARGE_ROWS + EXCESS_ROWS + FRAME_ROWS, ids=lambda row: row.name
+)
 def test_a_row_is_read_and_written_back(row: Row) -> None:
     assert written(row.words, read_answer(row.words, row.answer)) == row.answer.text
 
 
-@pytest.mark.parametrize("row", ROWS, ids=lambda row: row.name)
+@pytest.mark.parametrize("row", ROWS + MEASURED_ROWS, ids=lambda row: row.name)
 def test_a_spoilt_row_is_refused(row: Row) -> None:
     text = row.answer.text
     spoilt = [text[:-1], text + "\n", " " + text, text + "rubbish\n", text.replace(" ", "  ", 1)]
@@ -317,6 +327,62 @@ def test_spare_and_derive() -> None:
         read_derive("clusters 1\ncluster 2 : X Y\n")
 
 
+OVER = "excess 1\npart 2 over elements 3 held 6 due 3 : A B C\n"
+LEFT = OVER + "c4 : block A 0 0 B 4 0 C 4 -3"
+
+
+def test_excess() -> None:
+    (over,) = read_excess(LEFT + " conflict off 0 nm turned drawn - placed 1\n").parts
+    assert (over.part.number, over.fault, over.stays_over()) == (2, None, False)
+    assert over.left_out[0].off == Off(True, 0, Unit.NM, Turned(-1, 1))
+    (over,) = read_excess(LEFT + "\nfault c1 tolerance 2 nm limit 1\n").parts
+    assert over.left_out[0].off is None and over.fault == ConstraintFault(1, 2, Unit.NM, 1)
+    (over,) = read_excess(OVER + "stays over\n").parts
+    assert over.left_out == () and over.stays_over()
+    lines = (
+        "c3 : distance repeat conflict 3 repeat off -1 nm\n"
+        "c4 : angle L M 1/1 conflict off 5 ppb\n"
+    )
+    (over,) = read_excess(OVER.replace("held 6", "held 5") + lines).parts
+    assert [it.off for it in over.left_out] == [
+        Off(False, -1, Unit.NM),
+        Off(True, 5, Unit.PPB),
+    ]
+    assert over.left_out[0] == Excessive(
+        3, Distance("repeat", "conflict", 3000), Off(False, -1, Unit.NM)
+    )
+    assert read_excess("excess 0\n").parts == ()
+
+
+@pytest.mark.parametrize(
+    "text",
+    [
+        OVER,
+        LEFT + "\n",
+        LEFT + "\nstays over\n",
+        LEFT + " repeat off 0 nm turned drawn - placed 1\n",
+        LEFT + " conflict off 0 nm turned drawn + placed 1\n",
+        LEFT + " conflict off 0 ppb\n",
+        LEFT + " conflict off -0 nm\n",
+        LEFT + " conflict off 0.5 nm\n",
+        LEFT + " contradiction off 0 nm\n",
+        LEFT.replace("held 6", "held 5") + " repeat off 0 nm\n",
+        LEFT.replace("excess 1", "excess 2") + " repeat off 0 nm\n",
+        LEFT.replace("part 2", "part 0") + " repeat off 0 nm\n",
+        OVER.replace("held 6", "held 4")
+        + "c4 : on A L repeat off 0 nm turned drawn + placed 0\n",
+        OVER.replace("held 6", "held 4") + "c4 : on A L repeat off 0 nm\nstays over\n",
+        OVER.replace("held 6", "held 5")
+        + "c4 : on A L\nc3 : on A M\nfault c1 tolerance 2 nm limit 1\n",
+        OVER.replace("over", "sound").replace("held 6", "held 3") + "stays over\n",
+        "excess 0\nstays over\n",
+    ],
+)
+def test_what_is_no_report_of_excess(text: str) -> None:
+    with pytest.raises(NotAReport):
+        read_excess(text)
+
+
 def test_verify() -> None:
     assert read_verify("verified steps 1 length 0 nm angle 2 ppb\n") == Verified(1, 0, 2)
     for line, fails in [
@@ -455,7 +521,9 @@ def test_statuses_without_a_report() -> None:
 @pytest.mark.parametrize("path", EXAMPLES, ids=lambda path: path.stem)
 def test_each_example_in_each_command(path, program) -> None:
     text = path.read_text()
-    for command in ("check", "plan", "solve", "dxf", "spare", "parts", "derive", "migrate"):
+    for command in (
+        "check", "plan", "solve", "dxf", "spare", "excess", "parts", "derive", "migrate"
+    ):
         answer = program.ask([command], text)
         assert written((command,), read_answer([command], answer)) == answer.text
 

@@ -130,6 +130,8 @@ COMPLETED = [
     ("sketch solve place =", "po", ["points"]),
     ("sketch check", "b", []),
     ("sketch spare", "", []),
+    ("sketch excess", "pl", ["place=boxes", "place=points"]),
+    ("sketch live", "f", ["frame=base", "frame=drawn"]),
     ("sketch grow", "n", ["n="]),
     ("pertxogai", "", ["judge", "draw", "page", "--help", "--version"]),
     ("pertxogai judge", "--w", ["--write"]),

@@ -5,6 +5,7 @@ from .answer import NoAnswer, Report, read_answer
 from .check import CheckReport, Part, Verdict, read_check
 from .derived import read_derive, write_derive
 from .dxf import CircleEntity, Entity, LineEntity, PointEntity, read_dxf, write_dxf
+from .excess import Excessive, ExcessReport, Off, OverPart, Turned, read_excess
 from .faults import (
     Cause,
     ConstraintFault,
@@ -26,7 +27,7 @@ from .parts import PartsReport, PlacedPart, read_parts
 from .plan import Branch, Leaf, Plan, read_plan
 from .refused import Usage, read_refusal, read_usage
 from .rows import NotAReport
-from .session import Accepted, RefusedEdit, Reply, read_session
+from .session import Accepted, RefusedEdit, Reply, read_reply, read_session
 from .solved import AtConstraint, AtLine, Shape, Solved, Tolerances, read_solve
 from .spare import Spare, read_spare, write_spare
 from .verified import ClaimFails, Failing, Verified, read_verify
@@ -43,6 +44,8 @@ __all__ = [
     "Code",
     "ConstraintFault",
     "Entity",
+    "ExcessReport",
+    "Excessive",
     "Failing",
     "Fault",
     "Flipped",
@@ -56,8 +59,10 @@ __all__ = [
     "NoChoice",
     "NotAReport",
     "NumberFault",
+    "Off",
     "Offered",
     "OffersReport",
+    "OverPart",
     "Part",
     "PartsReport",
     "Phase",
@@ -76,6 +81,7 @@ __all__ = [
     "StepAt",
     "Taken",
     "Tolerances",
+    "Turned",
     "TurnedFault",
     "Unit",
     "Usage",
@@ -85,6 +91,7 @@ __all__ = [
     "read_check",
     "read_derive",
     "read_dxf",
+    "read_excess",
     "read_fault",
     "read_flips",
     "read_grow",
@@ -92,6 +99,7 @@ __all__ = [
     "read_parts",
     "read_plan",
     "read_refusal",
+    "read_reply",
     "read_session",
     "read_solve",
     "read_spare",

@@ -9,6 +9,7 @@ from ..program import Answer, Status
 from .check import CheckReport, read_check
 from .derived import read_derive
 from .dxf import Entity, read_dxf
+from .excess import ExcessReport, read_excess
 from .faults import Fault, read_fault
 from .flips import Flipped, read_flips
 from .grown import Grown, read_grow
@@ -27,6 +28,7 @@ Report = (
     | Plan
     | Solved
     | PartsReport
+    | ExcessReport
     | OffersReport
     | Grown
     | Verified
@@ -67,10 +69,12 @@ _READERS: dict[str, Callable[[str], Report]] = {
     "solve": read_solve,
     "dxf": read_dxf,
     "spare": read_spare,
+    "excess": read_excess,
     "parts": read_parts,
     "flips": read_flips,
     "verify": read_verify,
     "session": read_session,
+    "live": read_session,
     "offers": read_offers,
     "derive": read_derive,
     "grow": read_grow,

@@ -102,14 +102,21 @@ def take_counts(rows: Rows) -> tuple[int, int]:
 
 def take_part(rows: Rows, number: int) -> Part:
     """The line of the part of that number, whose counts fit each other. Raises NotAReport."""
+    part = take_any_part(rows)
+    rows.claim(part.number == number)
+    return part
+
+
+def take_any_part(rows: Rows) -> Part:
+    """The line of a part, whose counts fit each other. Raises NotAReport."""
     found = rows.take(_PART)
     names = tuple(found[6].split())
     held, due = int(found[4]), int(found[5])
-    rows.claim((int(found[1]), int(found[3])) == (number, len(names)))
+    rows.claim(int(found[3]) == len(names))
     rows.claim(
         due == max(2 * len(names) - 3, 0) and held >= due and (found[2] == "over") == (held > due)
     )
-    return Part(number, found[2] == "over", names, held, due)
+    return Part(int(found[1]), found[2] == "over", names, held, due)
 
 
 def verdict_of(parts: tuple[Part, ...]) -> Verdict:

@@ -56,6 +56,12 @@ def read_session(text: str) -> tuple[Reply, ...]:
     return tuple(replies)
 
 
+def read_reply(text: str) -> Reply:
+    """The reply to one line. Raises NotAReport."""
+    with whole(text, "a line of a session") as rows:
+        return _reply(rows)
+
+
 def _reply(rows: Rows) -> Reply:
     if found := rows.take_if(_OK):
         return Accepted(found[1])
