@@ -114,7 +114,7 @@ def _whole(judged: Judged, before: Sight | None = None, is_known: bool = False) 
     try:
         if judged.drawing.geometry:
             shown = judged.shown()
-            answer["judgement"] = judgement_shown(judged.drawing, judged.judgement, judged.parts)
+            answer["judgement"] = judgement_shown(judged.judgement, judged.excess, judged.parts)
     except DrawingRefused as error:
         answer |= trouble("language", str(error))
     except ProgramError as error:
@@ -143,7 +143,7 @@ def _weigh(desk: Desk, given: Fields) -> Json:
     """What may go of a drawing that is over, each with how far it is off without it."""
     judged = desk.judged(given.text("text"))
     return {"spare": [spare_json(each) for each in judged.weighed.surplus],
-            "lines": lines_shown(judged.drawing, judged.weighed)}
+            "lines": lines_shown(judged.weighed, judged.excess)}
 
 
 def _plan(desk: Desk, given: Fields) -> Json:

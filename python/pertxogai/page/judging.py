@@ -4,7 +4,7 @@ from __future__ import annotations
 from dataclasses import dataclass, replace
 from functools import cached_property
 
-from ..answers import Judgement, judge_at_once, weighed
+from ..answers import Excess, Judgement, excess, judge_at_once, weighed
 from ..answers.solution import solution_of
 from ..drawing import Drawing
 from ..language import Refusal
@@ -40,6 +40,14 @@ class Judged:
         """The judgement, in which what may go isn't measured. Raises ProgramError, Refusal,
         NotHeld."""
         return judge_at_once(self.drawing, self.program, before=self.before)
+
+    @cached_property
+    def excess(self) -> tuple[Excess, ...]:
+        """Where the drawing is over, what is left out so that the rest can be placed. Raises
+        ProgramError."""
+        if self.judgement.verdict is not Verdict.OVER:
+            return ()
+        return excess(self.judgement.names, self.program)
 
     @cached_property
     def weighed(self) -> Judgement:

@@ -1,11 +1,11 @@
 """The verdict in words: the lines of the panel beside the board, and what each of them selects."""
 from __future__ import annotations
 
-from collections.abc import Iterator
+from collections.abc import Iterator, Sequence
 from dataclasses import dataclass
 from fractions import Fraction
 
-from ..answers import Judgement, Surplus
+from ..answers import Excess, Judgement, Measure, Surplus
 from ..answers.faults import Amount, Failure
 from ..drawing import Drawing
 from ..drawing.numbers import mm_text
@@ -31,18 +31,19 @@ class Line:
     part: int | None = None
 
 
-def lines_shown(drawing: Drawing, judgement: Judgement) -> list[dict[str, object]]:
-    """All lines, each with what it has."""
+def lines_shown(judgement: Judgement, excess: Sequence[Excess]) -> list[dict[str, object]]:
+    """All lines, each with what it has. excess: what is left out of what is over."""
     return [{name: value for name, value in vars(line).items() if value not in ("", (), None)}
-            for line in (*_told(drawing, judgement), *_notes(judgement))]
+            for line in (*_told(judgement, excess), *_notes(judgement))]
 
 
-def _told(drawing: Drawing, judgement: Judgement) -> Iterator[Line]:
+def _told(judgement: Judgement, excess: Sequence[Excess]) -> Iterator[Line]:
+    drawing = judgement.names.drawing
     if judgement.failure is not None:
         return _fault(drawing, judgement.failure)
     if judgement.verdict is Verdict.WELL:
         return _well(drawing, judgement)
-    return _open(judgement) if judgement.verdict is Verdict.OPEN else _over(judgement)
+    return _open(judgement) if judgement.verdict is Verdict.OPEN else _over(judgement, excess)
 
 
 def _well(drawing: Drawing, judgement: Judgement) -> Iterator[Line]:
@@ -75,12 +76,35 @@ def _open(judgement: Judgement) -> Iterator[Line]:
                    f"{joint.tie.value}", list="what to do", selects=joint.shared)
 
 
-def _over(judgement: Judgement) -> Iterator[Line]:
-    """What may go, and what it would be off."""
-    yield Line("Too many dimensions. One of these may go:" if judgement.surplus
+def _over(judgement: Judgement, excess: Sequence[Excess]) -> Iterator[Line]:
+    """What is left out so that the others can be placed, with what it would be off; and what may
+    go instead."""
+    left_out = {each.number for each in excess}
+    others = [each for each in judgement.surplus if each.number not in left_out]
+    yield Line("Too many dimensions. Without these, the others can be placed:" if excess
+               else "Too many dimensions. One of these may go:" if others
                else "Too many dimensions, and none can go by itself.")
-    for each in judgement.surplus:
-        yield Line(f"{each.name}: {_surplus(each)}", list="spare constraints", takes=each.number)
+    for each in excess:
+        yield Line(f"{each.name}: {excess_told(each)}", list="left out", takes=each.number)
+    if excess and others:
+        yield Line("Or one of these may go instead:")
+    for other in others:
+        yield Line(f"{other.name}: {_surplus(other)}", list="spare constraints",
+                   takes=other.number)
+
+
+def excess_told(each: Excess) -> str:
+    """What a dimension that is left out is: a repeat of the others, or a contradiction by how
+    much, and which way the others are off it."""
+    if each.conflicts is None:
+        return "may go, and the others have no places"
+    unit = "°" if each.measure is Measure.DEGREES else "\u00a0mm"
+    by = f"{abs(each.amount):.6g}{unit}"
+    if not each.conflicts:
+        return f"a repeat, within {by}" if each.amount else "a repeat"
+    if each.turned:
+        return "a contradiction: the others turn the other way"
+    return f"a contradiction by {by}, the others make it {'more' if each.amount > 0 else 'less'}"
 
 
 def _surplus(each: Surplus) -> str:

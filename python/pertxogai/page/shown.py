@@ -2,28 +2,31 @@
 at; what was measured stays in whole nanometres."""
 from __future__ import annotations
 
-from collections.abc import Iterable, Mapping
+from collections.abc import Iterable, Mapping, Sequence
 
-from ..answers import Judgement
-from ..drawing import Arc, Circle, Drawing, PointRef
+from ..answers import Excess, Judgement
+from ..drawing import Arc, Circle, PointRef
 from ..picture.designed import Whereabouts
 from ..shape_parts import parts_of_shapes
 from ..told import spare_json
 from .motion import Spot
-from .panel import lines_shown
+from .panel import excess_told, lines_shown
 from .parts_laid import LaidPart
 
 Json = dict[str, object]
 
 
-def judgement_shown(drawing: Drawing, judgement: Judgement, parts: Iterable[LaidPart]) -> Json:
-    """What is judged, and where it is shown."""
-    solution = judgement.solution
+def judgement_shown(judgement: Judgement, excess: Sequence[Excess],
+                    parts: Iterable[LaidPart]) -> Json:
+    """What is judged, what is left out of it, and where it is shown."""
+    drawing, solution = judgement.names.drawing, judgement.solution
     placed = None if solution is None else places_shown(Whereabouts(drawing, solution))
     return {
         "verdict": judgement.verdict.value,
-        "lines": lines_shown(drawing, judgement),
+        "lines": lines_shown(judgement, excess),
         "spare": [spare_json(each) for each in judgement.surplus],
+        "excess": [{"number": each.number, "conflicts": each.conflicts, "told": excess_told(each)}
+                   for each in excess],
         "placed": placed,
         "laid": [_laid(part) for part in parts],
         "colours": dict(parts_of_shapes(judgement)),

@@ -57,6 +57,7 @@ def keep_picture(page: Page, name: str) -> None:
         page.driver.save_screenshot(str(Path(PICTURES) / f"board-{name}.png"))
 
 
+@pytest.mark.usefixtures("has_excess")
 def test_the_trial_of_a_new_user(page: Page) -> None:
     """The trial of docs/BOARD.md: a plate with a hole, from nothing to the DXF."""
     page.keys("r")
@@ -118,6 +119,7 @@ def test_a_triangle_is_drawn_and_dimensioned_until_it_is_well(page: Page) -> Non
     assert page.count(".marks [data-constraint]") == 3
 
 
+@pytest.mark.usefixtures("has_excess")
 def test_one_too_many_is_taken_away_again(page: Page) -> None:
     page.begin(drawing("over-plate-contradiction"), "over")
     page.tells("contradiction by 1 mm")

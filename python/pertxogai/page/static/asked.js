@@ -30,9 +30,10 @@ export class Asked {
     if (!this.isOpen) return;
     const { drawing, judgement } = this.paper.answer ?? {};
     const spare = new Set(judgement?.spare?.map((each) => each.number));
+    const excess = new Map((judgement?.excess ?? []).map((each) => [each.number, `: ${each.told}`]));
     const rows = (drawing?.constraints ?? []).map(({ number, name, words, called }) => {
-      const kind = `what ${spare.has(number) ? 'spare' : ''} ${this.selection.numbers.has(number) ? 'selected' : ''}`;
-      return [number, 'li', {}, ['button', { class: kind, 'data-selects': number }, `${number}  ${name ? `${name}: ` : ''}${words}`],
+      const kind = `what ${spare.has(number) || excess.has(number) ? 'spare' : ''} ${this.selection.numbers.has(number) ? 'selected' : ''}`;
+      return [number, 'li', {}, ['button', { class: kind, 'data-selects': number }, `${number}  ${name ? `${name}: ` : ''}${words}${excess.get(number) ?? ''}`],
         ['button', { 'aria-label': `take away ${called}`, title: 'take it away', 'data-takes': number }, '×']];
     });
     this.layer.show(rows.length ? rows : [['none', 'li', { class: 'quiet' }, 'Nothing is asked for yet: select something on the board.']]);

@@ -111,13 +111,14 @@ export class Board {
     const { numbers } = this.selection;
     const spare = new Set((judgement?.spare ?? []).map((each) => each.number));
     const blamed = new Set(judgement?.failure?.dimensions ?? []);
+    const excess = new Map((judgement?.excess ?? []).map((each) => [each.number, each]));
     const { scale, x, y } = this.plane;
-    const from = [scale, x, y, marks, numbers, [...spare].join(), [...blamed].join()];
+    const from = [scale, x, y, marks, numbers, [...spare].join(), [...blamed].join(), [...excess.keys()].join()];
     const isSame = (count) => from.slice(0, count).every((each, place) => each === this.placed.from?.[place]);
     if (isSame(from.length)) return null;
     this.placed = { from, marks: isSame(4) ? this.placed.marks : new Marks(this.plane).all(marks) };
-    const kinds = this.answer.drawing.constraints.map(({ number, called }) => `markgroup ${spare.has(number) ? 'spare' : ''} ${blamed.has(called) ? 'blamed' : ''} ${numbers.has(number) ? 'selectedmark' : ''}`);
-    return this.placed.marks.map((mark, place) => markMade(mark, place, kinds[mark.number - 1]));
+    const kinds = this.answer.drawing.constraints.map(({ number, called }) => `markgroup ${spare.has(number) || excess.has(number) ? 'spare' : ''} ${excess.has(number) ? 'excess' : ''} ${blamed.has(called) ? 'blamed' : ''} ${numbers.has(number) ? 'selectedmark' : ''}`);
+    return this.placed.marks.map((mark, place) => markMade(mark, place, kinds[mark.number - 1], excess.get(mark.number)?.told));
   }
 
   /** Where the first mark of a constraint stands, in pixels. */

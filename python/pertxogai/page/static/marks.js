@@ -84,9 +84,9 @@ export class Marks {
   }
 }
 
-/** A placed mark, in classes. */
-export function markMade({ number, sign, path, text, at: [x, y] }, key, kind) {
-  return [key, 'g', { class: kind, 'data-constraint': number }, path && ['path', { class: 'mark', d: path }], ['text', { x, y, class: sign ? 'sign' : 'value' }, text]];
+/** A placed mark, in classes, with what is told of it where a hand rests on it. */
+export function markMade({ number, sign, path, text, at: [x, y] }, key, kind, told) {
+  return [key, 'g', { class: kind, 'data-constraint': number }, told && ['title', {}, told], path && ['path', { class: 'mark', d: path }], ['text', { x, y, class: sign ? 'sign' : 'value' }, text]];
 }
 
 /** The box of two places, with so much around: left, right, low, high. */
