@@ -7,7 +7,6 @@ from __future__ import annotations
 from collections.abc import Iterator, Sequence
 from dataclasses import dataclass, replace
 from enum import Enum
-from typing import cast
 
 from pertxogai.answers.freezing import frozen_choices
 from pertxogai.answers.growing import grown
@@ -15,7 +14,7 @@ from pertxogai.drawing import Drawing
 from pertxogai.language import Refusal
 from pertxogai.program import Asks, Status
 from pertxogai.reports import (
-    CheckReport, Fault, NotAReport, Refused, Solved, Verdict, read_answer, read_parts)
+    CheckReport, Fault, NotAReport, Refused, Solved, Verdict, read_answer, read_fault, read_parts)
 from pertxogai.spelling import Axes, Care, Rails, Spelled, Spellings, Style, readings, written
 from pertxogai.spelling.axes import Equation
 from pertxogai.spelling.facts import Owner
@@ -140,12 +139,13 @@ def _ask(rails: Rails, spelled: Spelled, program: Asks, care: Care) -> Asked:
         spelled = written(more.axes, rails, spelled.style, care)
 
 
-def written_by(program: Asks, command: str, text: str) -> str:
+def written_by(program: Asks, command: str, text: str, *keys: str) -> str:
     """What a command wrote of a text that `check` has taken. Raises ProgramError, which says why
     where there is no whole report."""
-    answer = program.ask([command], text)
+    words = command, *keys
+    answer = program.ask(words, text)
     if answer.status is not Status.DONE:
-        read_answer((command,), answer)
+        read_answer(words, answer)
         raise NotAReport(f"the program ended {command} with status {answer.status.value}, which "
                          "doesn't fit what it was asked")
     return answer.text
@@ -154,16 +154,18 @@ def written_by(program: Asks, command: str, text: str) -> str:
 def _told(program: Asks, text: str, place: Place) -> CheckReport | Solved | Fault:
     """What `solve` says: the places of what is well, or its fault; of what isn't well, what `check`
     says of it. Raises Refusal where the program refuses the text, as one that is too large."""
-    words = ("solve", f"place={place.value}")
-    report = read_answer(words, program.ask(words, text))
+    words = "solve", f"place={place.value}"
+    answer = program.ask(words, text)
+    if answer.status in (Status.FAULT, Status.TOLERANCE):
+        return read_fault(answer.text)
+    report = read_answer(words, answer)
     if isinstance(report, Refused):
         raise Refusal(report)
-    if isinstance(report, CheckReport):
+    if isinstance(report, Solved):
         return report
-    if not isinstance(report, Solved | Fault):
-        raise NotAReport("the program ended solve with a status that doesn't fit what it was "
-                         "asked")
-    return cast(Solved | Fault, report)
+    if isinstance(report, CheckReport) and report.verdict is not Verdict.WELL:
+        return report
+    raise NotAReport("the program ended solve with a status that doesn't fit what it was asked")
 
 
 def _answered(rails: Rails, spelled: Spelled, program: Asks) -> Asked:
@@ -179,7 +181,8 @@ def placed(asked: Asked, program: Asks) -> Asked:
     if asked.solved is None or isinstance(asked.solved, Solved):
         return asked
     told = _told(program, asked.spelled.sketch.text(), Place.POINTS)
-    assert not isinstance(told, CheckReport)
+    if isinstance(told, CheckReport):
+        raise NotAReport("the program faults by boxes what it doesn't call well by points")
     return replace(asked, place=Place.POINTS, solved=told)
 
 
