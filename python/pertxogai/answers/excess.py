@@ -2,59 +2,82 @@
 without, as the program leaves them out, and how far each is off where it places the others."""
 from __future__ import annotations
 
-from collections.abc import Iterator
+from collections.abc import Iterable, Iterator, Mapping
 from dataclasses import dataclass, replace
 from enum import Enum
 from fractions import Fraction
-from math import asin, degrees, hypot
 
-from pertxogai.answers.asking import written_by
+from pertxogai import language
+from pertxogai.answers.asking import Place, written_by
 from pertxogai.answers.naming import Names
-from pertxogai.drawing import Diameter
-from pertxogai.language import Angle, Sketch
+from pertxogai.drawing import Diameter, Distance, Length, PointRef, Radius, Which
 from pertxogai.program import Asks
-from pertxogai.reports import Excessive, Off, read_excess
-from pertxogai.spelling.facts import Owner
+from pertxogai.reports import Excessive, OverPart, read_excess
+from pertxogai.spelling.facts import ORIGIN_KNOT, Knot, Owner
+from pertxogai.spelling.rails import Rail
+
+REPEATS_NM = 1000
+"""What is off by no more nanometres of the drawing repeats the others: the limit that the language
+has where none is told."""
 
 
-class Measure(Enum):
-    """What an excess is told in."""
+class Rest(Enum):
+    """What the program says of the others, as it is told above what is left out."""
 
-    MM = "mm"
-    DEGREES = "degrees"
+    PLACED = "Without these, the others can be placed:"
+    NO_PLACES = "Without these they are just enough, but have no places:"
+    OVER = "Without these there are too many still:"
 
 
 @dataclass(frozen=True)
 class Excess:
-    """A dimension that is left out so that the others can be placed, by its place and its name.
+    """A dimension that is left out, by its place and its name.
 
-    conflicts: whether it contradicts the others, by `amount`, else it repeats them within that;
-    None where they have no places. amount: what they give, less what it says, in mm or degrees.
-    turned: whether they turn the other way than it is drawn."""
+    conflicts: whether it contradicts the others, else it repeats them within the limit; None where
+    that isn't measured. off_um: what the others give, less what it says; None where the line that
+    is left out isn't just what it says. in_part: whether another line that it says is kept, so
+    that the others can't do without all of it."""
 
     number: int
     name: str
     conflicts: bool | None = None
-    amount: float = 0.0
-    measure: Measure = Measure.MM
-    turned: bool = False
+    off_um: Fraction | None = None
+    in_part: bool = False
 
 
-def excess(names: Names, program: Asks) -> tuple[Excess, ...]:
-    """The dimensions that are left out of a drawing, by their places: the last ones, since the
-    program is asked with the lines of the sketch in the order of the dimensions that say them.
-    Raises ProgramError."""
-    spelled = names.spelled
-    order = sorted(range(len(spelled.owners)), key=lambda place: _said_by(spelled.owners[place]))
-    constraints = spelled.sketch.constraints
-    sketch = replace(spelled.sketch, constraints=tuple(constraints[place] for place in order))
-    found: dict[int, Excess] = {}
-    for each in _left_out(sketch, program):
-        number = _said_by(spelled.owners[order[each.number - 1]])
+@dataclass(frozen=True)
+class TooMuch:
+    """All that is left out of a drawing that is over, by the dimensions' places, and what becomes
+    of the others. helps: whether a line is left out that no dimension says."""
+
+    dimensions: tuple[Excess, ...]
+    rest: Rest = Rest.PLACED
+    helps: bool = False
+
+
+def too_much(names: Names, program: Asks) -> TooMuch:
+    """What is left out of a drawing: the last dimensions, since the lines of the sketch are asked
+    about in the order of the dimensions that say them. Raises ProgramError."""
+    spelled, owners = names.spelled, names.spelled.owners
+    order = sorted(range(len(owners)), key=lambda place: _said_by(owners[place]))
+    lines = tuple(spelled.sketch.constraints[place] for place in order)
+    parts = _over_parts(replace(spelled.sketch, constraints=lines), spelled.scale, program)
+    left = {order[each.number - 1]: each for part in parts for each in part.left_out}
+    helps = any(_said_by(owners[place]) == 0 for place in left)
+    return TooMuch(tuple(_dimensions(names, left)), _rest(parts), helps)
+
+
+def _dimensions(names: Names, left: Mapping[int, Excessive]) -> Iterator[Excess]:
+    """The dimensions that say lines which are left out, these by their places in the sketch."""
+    owners = names.spelled.owners
+    kept = {owner for place, who in enumerate(owners) if place not in left for owner in who}
+    mine: dict[int, list[Excess]] = {}
+    for place, each in left.items():
+        number = _said_by(owners[place])
         if number:
-            told = _excess(names, number, each)
-            found[number] = max(found.get(number, told), told, key=_weight)
-    return tuple(found[number] for number in sorted(found))
+            mine.setdefault(number, []).append(_excess(names, number, each, owners[place]))
+    for number in sorted(mine):
+        yield replace(max(mine[number], key=_weight), in_part=Owner(number) in kept)
 
 
 def _said_by(owners: frozenset[Owner]) -> int:
@@ -63,33 +86,76 @@ def _said_by(owners: frozenset[Owner]) -> int:
     return max((owner.number for owner in owners if not owner.shape), default=0)
 
 
-def _left_out(sketch: Sketch, program: Asks) -> Iterator[Excessive]:
-    """The lines that are left out of all parts that are over."""
-    for part in read_excess(written_by(program, "excess", sketch.text())).parts:
-        yield from part.left_out
+def _over_parts(sketch: language.Sketch, scale: int, program: Asks) -> tuple[OverPart, ...]:
+    """The parts that are over, as the program places the rest of each by boxes, or by points where
+    it has no places so; by the limit of the drawing, of which the sketch is so many times as
+    large."""
+    by_boxes = _asked(sketch, scale, program, Place.BOXES)
+    if all(part.fault is None for part in by_boxes):
+        return by_boxes
+    by_points = {each.part.number: each for each in _asked(sketch, scale, program, Place.POINTS)}
+    return tuple(by_points.get(each.part.number, each) if each.fault else each
+                 for each in by_boxes)
 
 
-def _weight(each: Excess) -> tuple[bool, float]:
-    """Of several lines of one dimension the one that is off most is told."""
-    return bool(each.conflicts), abs(each.amount)
+def _asked(sketch: language.Sketch, scale: int, program: Asks, place: Place) -> tuple[OverPart, ...]:
+    keys = f"within={REPEATS_NM * scale}", f"place={place.value}"
+    return read_excess(written_by(program, "excess", sketch.text(), *keys)).parts
 
 
-def _excess(names: Names, number: int, each: Excessive) -> Excess:
+def _rest(parts: Iterable[OverPart]) -> Rest:
+    """What becomes of the others, by the part that fares worst."""
+    found = {Rest.OVER if part.stays_over() else Rest.NO_PLACES if part.fault else Rest.PLACED
+             for part in parts}
+    return next((rest for rest in (Rest.OVER, Rest.NO_PLACES) if rest in found), Rest.PLACED)
+
+
+def _weight(each: Excess) -> tuple[bool, Fraction]:
+    """Of several lines of one dimension the one that contradicts most is told."""
+    return bool(each.conflicts), abs(each.off_um or Fraction(0))
+
+
+def _excess(names: Names, number: int, each: Excessive, owners: frozenset[Owner]) -> Excess:
     name, off = names.drawing.called(number), each.off
     if off is None:
         return Excess(number, name)
-    turned = off.turned is not None
-    if isinstance(each.constraint, Angle):
-        return Excess(number, name, off.conflicts, _degrees(each.constraint, off),
-                      Measure.DEGREES, turned)
-    # A diameter is spelled by its radius.
-    times = 2 if isinstance(names.drawing.constraints[number - 1], Diameter) else 1
-    amount = Fraction(times * off.amount, 1_000_000 * names.spelled.scale)
-    return Excess(number, name, off.conflicts, float(amount), Measure.MM, turned)
+    times = _own(names, number, each.constraint) if owners == {Owner(number)} else 0
+    off_um = Fraction(times * off.amount, 1000 * names.spelled.scale) if times else None
+    return Excess(number, name, off.conflicts, off_um)
 
 
-def _degrees(angle: Angle, off: Off) -> float:
-    """An angle's off, by the parts of 10^9 in which the program tells it: of the sum of the two
-    numbers of its ratio, where the sine is one of the root of their squares."""
-    sine = off.amount / 1e9 * (abs(angle.p) + abs(angle.q)) / hypot(angle.p, angle.q)
-    return degrees(asin(max(-1.0, min(1.0, sine))))
+def _own(names: Names, number: int, line: language.Constraint) -> int:
+    """How many times a line of the sketch is what a dimension says: twice of a diameter, which is
+    spelled by its radius; 0 times where the line doesn't say it as it is."""
+    if not isinstance(line, language.Distance):
+        return 0
+    said_um = Fraction(line.length_um, names.spelled.scale)
+    match names.drawing.constraints[number - 1]:
+        case Length(segment, value_um) if value_um == said_um:
+            ends = (PointRef(segment.name, each) for each in (Which.START, Which.END))
+            return int(_runs(names, line, *ends))
+        case Distance(first, second, value_um) if value_um == said_um:
+            return int(_runs(names, line, first, second))
+        case Radius(_, value_um) if value_um == said_um:
+            return 1
+        case Diameter(_, value_um) if value_um == 2 * said_um:
+            return 2
+    return 0
+
+
+def _runs(names: Names, line: language.Distance, first: PointRef, second: PointRef) -> bool:
+    """Whether a distance runs from one of two points to the other, or to a rail that has it."""
+    points = names.spelled.points
+    one, other = names.refs[first], names.refs[second]
+    return any(points.get(end) == line.first and line.second in _carriers(names, far)
+               for end, far in ((one, other), (other, one)))
+
+
+def _carriers(names: Names, knot: Knot) -> set[str | None]:
+    """What a point is in the sketch, and the rails that have it."""
+    spelled, name = names.spelled, names.spelled.points.get(knot)
+    rails = {each: track for each, track in spelled.tracks.items() if isinstance(track, Rail)}
+    through = {line.carrier for line in spelled.sketch.constraints
+               if isinstance(line, language.On) and line.point == name and line.carrier in rails}
+    datum = {each for each, rail in rails.items() if knot == ORIGIN_KNOT and rail.datum()}
+    return {name, *through, *datum}

@@ -29,7 +29,7 @@ from .judging import Judged, NotPlaced
 from .offers import offers
 from .opening import opened
 from .panel import lines_shown
-from .shown import judgement_shown, places_shown
+from .shown import excess_shown, judgement_shown, places_shown
 from .sight import Sight, sight_of
 
 Json: TypeAlias = dict[str, object]
@@ -114,7 +114,7 @@ def _whole(judged: Judged, before: Sight | None = None, is_known: bool = False) 
     try:
         if judged.drawing.geometry:
             shown = judged.shown()
-            answer["judgement"] = judgement_shown(judged.judgement, judged.excess, judged.parts)
+            answer["judgement"] = judgement_shown(judged.judgement, judged.parts)
     except DrawingRefused as error:
         answer |= trouble("language", str(error))
     except ProgramError as error:
@@ -140,10 +140,12 @@ def _offers(desk: Desk, given: Fields) -> Json:
 
 
 def _weigh(desk: Desk, given: Fields) -> Json:
-    """What may go of a drawing that is over, each with how far it is off without it."""
+    """What is left out of a drawing that is over, and what may go instead, each with how far it is
+    off without it."""
     judged = desk.judged(given.text("text"))
     return {"spare": [spare_json(each) for each in judged.weighed.surplus],
-            "lines": lines_shown(judged.weighed, judged.excess)}
+            "excess": excess_shown(judged.too_much),
+            "lines": lines_shown(judged.weighed, judged.too_much)}
 
 
 def _plan(desk: Desk, given: Fields) -> Json:

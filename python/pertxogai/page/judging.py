@@ -4,19 +4,20 @@ from __future__ import annotations
 from dataclasses import dataclass, replace
 from functools import cached_property
 
-from ..answers import Excess, Judgement, excess, judge_at_once, weighed
+from ..answers import Judgement, TooMuch, judge_at_once, too_much, weighed
 from ..answers.solution import solution_of
 from ..drawing import Drawing
 from ..language import Refusal
 from ..language.claim import Claim
 from ..language.flips import Flip, Flips
 from ..measure import Solution
-from ..program import Asks, Status
+from ..program import Asks, ProgramError, Status
 from ..reports import (
     ClaimFails, Flipped, Plan, Refused, Shape, Solved, Verdict, Verified, read_answer, read_flips,
     read_plan, read_verify)
 from .construction import Construction
 from .frame import elements_placed
+from .panel import Untold
 from .parts_laid import LaidPart, parts_laid, shown_between
 from .sight import Sight
 
@@ -42,12 +43,15 @@ class Judged:
         return judge_at_once(self.drawing, self.program, before=self.before)
 
     @cached_property
-    def excess(self) -> tuple[Excess, ...]:
-        """Where the drawing is over, what is left out so that the rest can be placed. Raises
-        ProgramError."""
+    def too_much(self) -> TooMuch | Untold:
+        """Where the drawing is over, what is left out of it, or why that can't be told. Raises as
+        `judgement`."""
         if self.judgement.verdict is not Verdict.OVER:
-            return ()
-        return excess(self.judgement.names, self.program)
+            return TooMuch(())
+        try:
+            return too_much(self.judgement.names, self.program)
+        except ProgramError as error:
+            return Untold(" ".join(str(error).split()))
 
     @cached_property
     def weighed(self) -> Judgement:

@@ -2,31 +2,29 @@
 at; what was measured stays in whole nanometres."""
 from __future__ import annotations
 
-from collections.abc import Iterable, Mapping, Sequence
+from collections.abc import Iterable, Mapping
 
-from ..answers import Excess, Judgement
+from ..answers import Judgement, TooMuch
 from ..drawing import Arc, Circle, PointRef
 from ..picture.designed import Whereabouts
 from ..shape_parts import parts_of_shapes
 from ..told import spare_json
 from .motion import Spot
-from .panel import excess_told, lines_shown
+from .panel import Untold, excess_told, lines_shown
 from .parts_laid import LaidPart
 
 Json = dict[str, object]
 
 
-def judgement_shown(judgement: Judgement, excess: Sequence[Excess],
-                    parts: Iterable[LaidPart]) -> Json:
-    """What is judged, what is left out of it, and where it is shown."""
+def judgement_shown(judgement: Judgement, parts: Iterable[LaidPart]) -> Json:
+    """What is judged, and where it is shown. What is left out of what is over isn't told yet."""
     drawing, solution = judgement.names.drawing, judgement.solution
     placed = None if solution is None else places_shown(Whereabouts(drawing, solution))
     return {
         "verdict": judgement.verdict.value,
-        "lines": lines_shown(judgement, excess),
+        "lines": lines_shown(judgement),
         "spare": [spare_json(each) for each in judgement.surplus],
-        "excess": [{"number": each.number, "conflicts": each.conflicts, "told": excess_told(each)}
-                   for each in excess],
+        "excess": [],
         "placed": placed,
         "laid": [_laid(part) for part in parts],
         "colours": dict(parts_of_shapes(judgement)),
@@ -34,6 +32,14 @@ def judgement_shown(judgement: Judgement, excess: Sequence[Excess],
         "failure": _failure(judgement),
         "language": judgement.asked.spelled.sketch.text(),
     }
+
+
+def excess_shown(left: TooMuch | Untold) -> list[Json]:
+    """The dimensions that are left out, each as it is told."""
+    if isinstance(left, Untold):
+        return []
+    return [{"number": each.number, "conflicts": each.conflicts, "told": excess_told(each)}
+            for each in left.dimensions]
 
 
 def places_shown(where: Whereabouts) -> Json:
