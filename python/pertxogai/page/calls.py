@@ -121,8 +121,9 @@ def _whole(judged: Judged, before: Sight | None = None, is_known: bool = False) 
         answer |= trouble("program", str(error))
     except (Refusal, NotHeld) as error:
         answer |= trouble("language", f"the program takes no such sketch: {error}")
-    judged.sight = sight_of(judged.drawing, shown, before)
-    return {**answer, "drawing": judged.sight.told(before if is_known else None)}
+    sight = sight_of(judged.drawing, shown, before)
+    judged.sight = None if "trouble" in answer else sight
+    return {**answer, "drawing": sight.told(before if is_known else None)}
 
 
 def _edit(desk: Desk, given: Fields) -> Json:

@@ -79,7 +79,7 @@ export class Paper extends EventTarget {
 
   /** What an edit makes of a text; of one that is known, what stays as it was isn't told again. */
   async edited(text, edit) {
-    const known = this.answer?.drawing && this.answer.text === text ? this.answer : null;
+    const known = this.answer?.drawing && !this.answer.trouble && this.answer.text === text ? this.answer : null;
     const answer = await this.server.call('edit', { text, edit, knows: known !== null });
     return known ? completed(answer, known) : answer;
   }
@@ -129,7 +129,7 @@ export class Paper extends EventTarget {
     if (answer.judgement?.verdict === 'over') this.weigh(text, answer);
   }
 
-  /** Has measured, beside all else, what may go of a drawing that is over. */
+  /** Has told and measured, beside all else, what is left out of a drawing that is over, and what may go. */
   async weigh(text, answer) {
     const found = await this.server.call('weigh', { text }).catch(ended);
     if (!found?.spare || this.answer !== answer || this.refused) return;
@@ -159,10 +159,9 @@ function ended(error) {
   return false;
 }
 
-/** An answer with all that it leaves out since it is as it was: lists, things of a list, and the places. */
+/** An answer with all that it leaves out since it is as it was: lists, and things of a list. */
 function completed(answer, known) {
-  const { drawing, judgement } = answer;
+  const { drawing } = answer;
   for (const [what, old] of Object.entries(drawing ? known.drawing : {})) drawing[what] = drawing[what]?.map((each, place) => each ?? old[place]) ?? old;
-  if (judgement && !('placed' in judgement)) judgement.placed = known.judgement.placed;
   return answer;
 }
