@@ -15,7 +15,7 @@ export class Keys {
   does(event) {
     const { key, shiftKey: shift } = event;
     const chord = (event.ctrlKey || event.metaKey) && !BRACKETS[key];
-    const typing = event.target.matches('input:not([type="range"]), textarea, dialog *');
+    const typing = event.target.matches('input:not([type="range"]), textarea') || document.querySelector('dialog[open]');
     if (typing) return chord && ['s', 'o'].includes(key.toLowerCase()) && pressed(`Control+${key}`);
     if (BRACKETS[key]) this.page.gestures.next(BRACKETS[key], shift || '{}'.includes(key));
     else if (ARROWS[key]) return this.arrow(event, chord);
