@@ -113,7 +113,7 @@ export class Board {
     const blamed = new Set(judgement?.failure?.dimensions ?? []);
     const excess = new Map((judgement?.excess ?? []).map((each) => [each.number, each]));
     const { scale, x, y } = this.plane;
-    const from = [scale, x, y, marks, numbers, [...spare].join(), [...blamed].join(), [...excess.keys()].join()];
+    const from = [scale, x, y, marks, numbers, [...spare].join(), [...blamed].join(), JSON.stringify(judgement?.excess ?? [])];
     const isSame = (count) => from.slice(0, count).every((each, place) => each === this.placed.from?.[place]);
     if (isSame(from.length)) return null;
     this.placed = { from, marks: isSame(4) ? this.placed.marks : new Marks(this.plane).all(marks) };
