@@ -2,7 +2,7 @@
 without, as the program leaves them out, and how far each is off where it places the others."""
 from __future__ import annotations
 
-from collections.abc import Iterable, Iterator, Mapping
+from collections.abc import Collection, Iterable, Iterator, Mapping
 from dataclasses import dataclass, replace
 from enum import Enum
 from fractions import Fraction
@@ -36,7 +36,7 @@ class Excess:
     conflicts: whether it contradicts the others, else it repeats them within the limit; None where
     that isn't measured. off_um: what the others give, less what it says; None where the line that
     is left out isn't just what it says. in_part: whether another line that it says is kept, so
-    that the others can't do without all of it."""
+    that it may be needed all the same."""
 
     number: int
     name: str
@@ -55,29 +55,36 @@ class TooMuch:
     helps: bool = False
 
 
-def too_much(names: Names, program: Asks) -> TooMuch:
+def too_much(names: Names, program: Asks, whole: Collection[int] = ()) -> TooMuch:
     """What is left out of a drawing: the last dimensions, since the lines of the sketch are asked
-    about in the order of the dimensions that say them. Raises ProgramError."""
+    about in the order of the dimensions that say them. `whole`: the places of dimensions that are
+    known to leave the rest well where they go. Raises ProgramError."""
     spelled, owners = names.spelled, names.spelled.owners
     order = sorted(range(len(owners)), key=lambda place: _said_by(owners[place]))
     lines = tuple(spelled.sketch.constraints[place] for place in order)
     parts = _over_parts(replace(spelled.sketch, constraints=lines), spelled.scale, program)
     left = {order[each.number - 1]: each for part in parts for each in part.left_out}
     helps = any(_said_by(owners[place]) == 0 for place in left)
-    return TooMuch(tuple(_dimensions(names, left)), _rest(parts), helps)
+    return TooMuch(tuple(_dimensions(names, left, whole)), _rest(parts), helps)
 
 
-def _dimensions(names: Names, left: Mapping[int, Excessive]) -> Iterator[Excess]:
-    """The dimensions that say lines which are left out, these by their places in the sketch."""
+def _dimensions(names: Names, left: Mapping[int, Excessive],
+                whole: Collection[int]) -> Iterator[Excess]:
+    """The dimensions that say lines which are left out, these by their places in the sketch; of
+    several lines of one the one that contradicts most is told."""
     owners = names.spelled.owners
-    kept = {owner for place, who in enumerate(owners) if place not in left for owner in who}
-    mine: dict[int, list[Excess]] = {}
-    for place, each in left.items():
-        number = _said_by(owners[place])
-        if number:
-            mine.setdefault(number, []).append(_excess(names, number, each, owners[place]))
-    for number in sorted(mine):
-        yield replace(max(mine[number], key=_weight), in_part=Owner(number) in kept)
+    kept = [(line.names(), owners[place]) for place, line
+            in enumerate(names.spelled.sketch.constraints) if place not in left]
+    mine: dict[int, list[int]] = {}
+    for place in left:
+        mine.setdefault(_said_by(owners[place]), []).append(place)
+    for number in sorted(mine.keys() - {0}):
+        told = max((_excess(names, number, left[place], owners[place]) for place in mine[number]),
+                   key=_weight)
+        twice = {left[place].constraint.names() for place in mine[number]}
+        in_part = number not in whole and any(
+            Owner(number) in who and elements not in twice for elements, who in kept)
+        yield replace(told, in_part=in_part)
 
 
 def _said_by(owners: frozenset[Owner]) -> int:
@@ -111,7 +118,7 @@ def _rest(parts: Iterable[OverPart]) -> Rest:
 
 
 def _weight(each: Excess) -> tuple[bool, Fraction]:
-    """Of several lines of one dimension the one that contradicts most is told."""
+    """How much a dimension contradicts the others, in an order."""
     return bool(each.conflicts), abs(each.off_um or Fraction(0))
 
 
