@@ -153,7 +153,8 @@ def written_by(program: Asks, command: str, text: str, *keys: str) -> str:
 
 def _told(program: Asks, text: str, place: Place) -> CheckReport | Solved | Fault:
     """What `solve` says: the places of what is well, or its fault; of what isn't well, what
-    `check` says of it. Raises Refusal where the program refuses the text, as one that is too large."""
+    `check` says of it. Raises Refusal where the program refuses the text, as one that is too
+    large."""
     words = "solve", f"place={place.value}"
     answer = program.ask(words, text)
     if answer.status in (Status.FAULT, Status.TOLERANCE):

@@ -105,7 +105,8 @@ def _over_parts(sketch: language.Sketch, scale: int, program: Asks) -> tuple[Ove
                  for each in by_boxes)
 
 
-def _asked(sketch: language.Sketch, scale: int, program: Asks, place: Place) -> tuple[OverPart, ...]:
+def _asked(sketch: language.Sketch, scale: int, program: Asks,
+           place: Place) -> tuple[OverPart, ...]:
     keys = f"within={REPEATS_NM * scale}", f"place={place.value}"
     return read_excess(written_by(program, "excess", sketch.text(), *keys)).parts
 

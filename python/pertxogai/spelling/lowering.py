@@ -78,8 +78,8 @@ def _redrawn(drawing: Drawing, before: Drawing, facts: Facts) -> Facts | None:
 
 
 def _moved(drawing: Drawing, before: Drawing) -> set[str] | None:
-    """The shapes that are drawn elsewhere than before, and those that have a point with them; None
-    where the drawings differ otherwise."""
+    """The shapes that are drawn elsewhere than before, and those that have a point of them or one
+    that is told to be one with theirs; None where the drawings differ otherwise."""
     pairs = zip(drawing.constraints, before.constraints)
     if len(drawing.constraints) != len(before.constraints) or len(drawing.geometry) != len(
             before.geometry) or not all(one is other for one, other in pairs):
@@ -90,15 +90,22 @@ def _moved(drawing: Drawing, before: Drawing) -> set[str] | None:
             if shape.outer or _structure(shape) != _structure(old):
                 return None
             moved.add(shape.name)
+    for shape in drawing.geometry:
+        if any(spot is not None and spot.shape in moved for spot in _shared(shape)):
+            moved.add(shape.name)
     leader = drawing.meetings.leader
     return moved | {ref.shape for ref in drawing.points() if leader(ref).shape in moved}
 
 
 def _structure(shape: Shape) -> tuple[object, ...]:
     """What of a shape isn't where it is drawn."""
+    return type(shape), shape.name, shape.outer, _shared(shape)
+
+
+def _shared(shape: Shape) -> tuple[PointRef | None, ...]:
+    """The points of others that a shape has for its own, each at its place."""
     spots = (spot_of(shape, ref.which) for ref in points_of(shape))
-    shared = tuple(spot if isinstance(spot, PointRef) else None for spot in spots)
-    return type(shape), shape.name, shape.outer, shared
+    return tuple(spot if isinstance(spot, PointRef) else None for spot in spots)
 
 
 class _Lowering:
