@@ -2,6 +2,7 @@
 something elsewhere, all but the places is taken over."""
 from __future__ import annotations
 
+from collections.abc import Sequence
 from dataclasses import replace
 
 from pertxogai.spelling.axes import Axes
@@ -14,10 +15,11 @@ from pertxogai.spelling.writing import Spelled, Writer
 
 
 class Spellings:
-    """The axes of some facts, and their rails and spellings by style."""
+    """The axes of some facts, and their rails and spellings by style. made: the axes by which it
+    was found what follows from them, the last with all of it."""
 
-    def __init__(self, said: Facts, axes: Axes) -> None:
-        self.said, self.axes = said, axes
+    def __init__(self, said: Facts, made: Sequence[Axes]) -> None:
+        self.said, self.made = said, made
         self._rails: dict[bool, Rails] = {}
         self._writers: dict[Style, Writer] = {}
         self._before: dict[Style, Writer] = {}
@@ -26,10 +28,17 @@ class Spellings:
     def of(said: Facts) -> Spellings:
         """Those of what some facts say of x and y, and what follows from it."""
         facts: Facts | None = said
+        made = []
         while facts is not None:
             axes = Axes(facts, Lines(facts))
+            made.append(axes)
             facts = with_implied(axes) or with_halves(axes)
-        return Spellings(said, axes)
+        return Spellings(said, made)
+
+    @property
+    def axes(self) -> Axes:
+        """The axes with all that follows."""
+        return self.made[-1]
 
     def redrawn(self, said: Facts) -> Spellings | None:
         """Those of facts that differ by where things are drawn alone; None where they say another
@@ -38,11 +47,12 @@ class Spellings:
         facts = self.axes.facts
         if not self.said.says(said) or facts.facts[:len(said.facts)] != self.said.facts:
             return None
-        axes = self.axes.redrawn(replace(facts, drawn=said.drawn))
-        if axes is None:
+        made = [each for axes in self.made
+                if (each := axes.redrawn(replace(axes.facts, drawn=said.drawn))) is not None]
+        if len(made) < len(self.made):
             return None
-        other = Spellings(said, axes)
-        other._rails = {solves: rails.of(axes) for solves, rails in self._rails.items()}
+        other = Spellings(said, made)
+        other._rails = {solves: rails.of(other.axes) for solves, rails in self._rails.items()}
         other._before = self._writers
         return other
 
