@@ -50,6 +50,7 @@ def readings(drawing: Drawing, before: Drawing = Drawing()) -> Iterator[Spelling
     edit has left of the drawing before is taken over."""
     said = lowered(drawing, before)
     seen: list[Facts] = []
+    _made(drawing)[:] = []
     for reading in READINGS:
         facts = _read(said, reading)
         if facts not in seen:

@@ -54,7 +54,7 @@ class Rounded:
     told_um: Fraction
 
 
-Told = tuple[tuple[language.Constraint, ...], tuple[Rounded, ...]]
+Worded = tuple[tuple[language.Constraint, ...], tuple[Rounded, ...]]
 """Constraints of the language, and what of them had to be rounded."""
 
 
@@ -66,7 +66,7 @@ class Sheet:
     points: dict[str, Spot] = field(default_factory=dict)
     lines: dict[str, tuple[Spot, Spot]] = field(default_factory=dict)
     drafts: list[Draft] = field(default_factory=list)
-    told: dict[int, Told] = field(default_factory=dict)
+    told: dict[int, Worded] = field(default_factory=dict)
 
     def scale(self) -> int:
         """How many times larger the sketch is told, so that its values are whole micrometres where
@@ -92,7 +92,7 @@ class Sheet:
         return language.Sketch(1, tuple(elements), constraints), rounded
 
 
-def _told(drafts: Sequence[Draft], scale: int) -> Told:
+def _told(drafts: Sequence[Draft], scale: int) -> Worded:
     """The constraints of drafts, so many times larger, and the values that had to be rounded."""
     rounded = []
     for number, draft in enumerate(drafts, 1):
