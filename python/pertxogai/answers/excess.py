@@ -127,16 +127,19 @@ def _excess(names: Names, number: int, each: Excessive, owners: frozenset[Owner]
     name, off = names.drawing.called(number), each.off
     if off is None:
         return Excess(number, name)
-    times = _own(names, number, each.constraint) if owners == {Owner(number)} else 0
-    off_um = Fraction(times * off.amount, 1000 * names.spelled.scale) if times else None
+    off_um = None
+    if isinstance(each.constraint, language.Distance) and owners == {Owner(number)}:
+        said_nm = 1000 * each.constraint.length_um
+        times = _own(names, number, each.constraint)
+        # A height that the others turn over is below zero; what a dimension says has no side.
+        off_nm = Fraction(abs(said_nm + off.amount) - said_nm, names.spelled.scale)
+        off_um = times * off_nm / 1000 if times else None
     return Excess(number, name, off.conflicts, off_um)
 
 
-def _own(names: Names, number: int, line: language.Constraint) -> int:
+def _own(names: Names, number: int, line: language.Distance) -> int:
     """How many times a line of the sketch is what a dimension says: twice of a diameter, which is
     spelled by its radius; 0 times where the line doesn't say it as it is."""
-    if not isinstance(line, language.Distance):
-        return 0
     said_um = Fraction(line.length_um, names.spelled.scale)
     match names.drawing.constraints[number - 1]:
         case Length(segment, value_um) if value_um == said_um:

@@ -282,8 +282,7 @@ class Axes:
         if upwards is None:
             for knot in (fact.first, fact.second):
                 half = Form.of(HalfOf(fact.owner))
-                self.loose.append(Off(knot, fact.line, half, self.facts.left(knot, fact.line),
-                                      fact.owner))
+                self.loose.append(Off(knot, fact.line, half, fact.owner))
             return
         frame = self.frame(line).number
         on_line = self.at(frame, upwards, self.lines.members(line)[0].knot)

@@ -82,13 +82,11 @@ class Apart:
 
 @dataclass(frozen=True)
 class Off:
-    """A point is `value` away from a line, on the side where it is drawn: `sign` is 1 on the left
-    of the line's drawn direction, else -1."""
+    """A point is `value` away from a line, on the side where it is drawn."""
 
     point: Knot
     line: Line
     value: Form
-    sign: int
     owner: Owner
 
     def ends(self) -> tuple[Knot, Knot | Line]:

@@ -25,7 +25,7 @@ LEVEL = Lean()
 RIMS = (Circle, Arc)
 
 
-DRAWN = (XDistance, YDistance, AngleBetween, PointLineDistance, ParallelDistance, Tangent, Fixed)
+DRAWN = (XDistance, YDistance, AngleBetween, Tangent, Fixed)
 """What these say depends on where things are drawn."""
 
 
@@ -200,7 +200,7 @@ class _Lowering:
         return Form.of(size)
 
     def _off(self, point: Knot, line: ShapeRef, value: Form, owner: Owner) -> None:
-        self._say(Off(point, line, value, self.facts.left(point, line), owner))
+        self._say(Off(point, line, value, owner))
 
     def _constraint(self, constraint: Constraint, owner: Owner) -> None:
         match constraint:
