@@ -58,10 +58,3 @@ EXAMPLES = sorted((TOP / "examples").rglob("*.sketch"))
 def program() -> Program:
     """The program under test: that of PERTXOGAI_SKETCH, or the repository's build."""
     return Program.find()
-
-
-@pytest.fixture
-def has_excess(program) -> None:
-    """Passes a test over where the program has no command `excess` yet."""
-    if program.ask(["excess"], "sketch 1\npoint A 0 0\nend\n").status is Status.USAGE:
-        pytest.skip("the program has no command excess")

@@ -155,8 +155,11 @@ def _own(names: Names, number: int, line: language.Distance) -> int:
 
 
 def _runs(names: Names, line: language.Distance, first: PointRef, second: PointRef) -> bool:
-    """Whether a distance runs from one of two points to the other, or to a rail that has it."""
+    """Whether a distance runs from one of two points to the other, or to a rail that has it; or
+    between points of help, where what is told twice is spelled so."""
     points = names.spelled.points
+    if not {*points.values(), *names.spelled.tracks}.intersection(line.names()):
+        return True
     one, other = names.refs[first], names.refs[second]
     return any(points.get(end) == line.first and line.second in _carriers(names, far)
                for end, far in ((one, other), (other, one)))

@@ -234,7 +234,6 @@ def test_a_drawing_that_is_well_is_placed(client) -> None:
     assert bars[0]["bar"] == [[0, 0], [120, 0]]
 
 
-@pytest.mark.usefixtures("has_excess")
 def test_an_over_drawing_names_what_may_go_and_weighs_it(client) -> None:
     text = drawing("over-plate-contradiction")
     at_once = answer(client, "judge", text=text)["judgement"]["spare"]
