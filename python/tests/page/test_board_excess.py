@@ -180,6 +180,16 @@ def test_of_two_lines_one_is_left_out(program) -> None:
     assert line["text"].endswith(": in part too much: a repeat") and "takes" not in line
 
 
+def test_what_is_known_to_go_as_a_whole_is_not_in_part(program) -> None:
+    plate = drawing("over-plate-contradiction")
+    stands_in = LeavesOut(program, one_part({"on P2 R3": " repeat off 0 nm"}))
+    names = judge_at_once(read_drawing(plate), program).names
+    (each,) = too_much(names, stands_in).dimensions
+    assert each.in_part
+    (each,) = too_much(names, stands_in, {each.number}).dimensions
+    assert not each.in_part
+
+
 def test_a_line_of_help_that_is_left_out_is_told(program) -> None:
     plate = drawing("over-plate-contradiction")
     stands_in = LeavesOut(program, one_part({"on O X": " repeat off 0 nm"}))
