@@ -19,6 +19,8 @@ from pertxogai.spelling.rails import Rail
 REPEATS_NM = 1000
 """What is off by no more nanometres of the drawing repeats the others: the limit that the language
 has where none is told."""
+CHOICES = 4
+"""So many more choices of what is left out are tried at most, where the others have no places."""
 
 
 class Rest(Enum):
@@ -56,15 +58,31 @@ class TooMuch:
 
 
 def too_much(names: Names, program: Asks, whole: Collection[int] = ()) -> TooMuch:
-    """What is left out of a drawing: the last dimensions, since the lines of the sketch are asked
-    about in the order of the dimensions that say them. `whole`: the places of dimensions that are
-    known to leave the rest well where they go. Raises ProgramError."""
-    spelled, owners = names.spelled, names.spelled.owners
-    order = sorted(range(len(owners)), key=lambda place: _said_by(owners[place]))
+    """What is left out of a drawing: the last dimensions without which the others have places;
+    where no such are found, the last ones. `whole`: the places of dimensions that are known to
+    leave the rest well where they go. Raises ProgramError."""
+    first = found = _choice(names, program, whole, frozenset())
+    kept: frozenset[int] = frozenset()
+    for _ in range(CHOICES):
+        if found.rest is not Rest.NO_PLACES:
+            break
+        kept |= {each.number for each in found.dimensions if each.conflicts is None}
+        found = _choice(names, program, whole, kept)
+    return found if found.rest is Rest.PLACED else first
+
+
+def _choice(names: Names, program: Asks, whole: Collection[int],
+            kept: Collection[int]) -> TooMuch:
+    """What is left out where the program is asked with the lines of the sketch in the order of the
+    dimensions that say them, since it leaves out the last ones; with those first that are to be
+    kept where they can be."""
+    spelled = names.spelled
+    said = [_said_by(owners) for owners in spelled.owners]
+    order = sorted(range(len(said)), key=lambda place: (said[place] not in kept, said[place]))
     lines = tuple(spelled.sketch.constraints[place] for place in order)
     parts = _over_parts(replace(spelled.sketch, constraints=lines), spelled.scale, program)
     left = {order[each.number - 1]: each for part in parts for each in part.left_out}
-    helps = any(_said_by(owners[place]) == 0 for place in left)
+    helps = any(said[place] == 0 for place in left)
     return TooMuch(tuple(_dimensions(names, left, whole)), _rest(parts), helps)
 
 

@@ -109,7 +109,8 @@ def listed(lines: list[dict[str, object]], name: str) -> list[dict[str, object]]
 @pytest.mark.parametrize("off, told", [
     (LESS, "a contradiction by 1\u00a0mm, the others make it less"),
     (" conflict off 2500000 nm", "a contradiction by 2.5\u00a0mm, the others make it more"),
-    (" conflict off 999999000000 nm", "a contradiction by 999999\u00a0mm, the others make it more"),
+    (" conflict off 999999000000 nm",
+     "a contradiction by 999999\u00a0mm, the others make it more"),
     (" repeat off 0 nm", "a repeat"),
     (" repeat off 2 nm", "a repeat"),
     (" repeat off -1000 nm", "a repeat, within 0.001\u00a0mm"),
@@ -225,6 +226,19 @@ def test_others_without_places(program, end: str, rest: Rest, head: str) -> None
     assert line["text"].endswith(": left out; not measured") and line["takes"] == 4
 
 
+def test_of_others_without_places_the_next_choice_is_taken(program) -> None:
+    """A rectangle of two widths and no height is just enough, and has no places."""
+    plate = drawing("over-plate-contradiction")
+
+    def said(sketch: Sketch, words: Sequence[str]) -> str:
+        line = sketch.constraints[-1].text()
+        fails = line == "distance P2 X 80"
+        return one_part({line: "" if fails else LESS}, FLAT if fails else "")(sketch, words)
+    found = left_out(plate, LeavesOut(program, said))
+    (each,) = found.dimensions
+    assert (each.name, each.off_um, found.rest) == ("Top width", -1000, Rest.PLACED)
+
+
 def test_none_is_left_out_of_what_stays_over(program) -> None:
     stands_in = LeavesOut(program, one_part({}, "stays over\n"))
     assert left_out(TRIANGLE, stands_in) == TooMuch((), Rest.OVER)
@@ -292,7 +306,7 @@ def test_the_program_leaves_the_last_one_out(program) -> None:
 
 def test_of_a_plate_that_contradicts_itself(program) -> None:
     (found,) = left_out(drawing("over-plate-contradiction"), program).dimensions
-    assert found.conflicts and found.off_um is not None and abs(found.off_um) == 1000
+    assert (found.name, found.conflicts, found.off_um) == ("Top width", True, -1000)
 
 
 def test_of_a_row_that_repeats_itself(program) -> None:
