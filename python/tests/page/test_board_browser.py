@@ -59,6 +59,22 @@ def keep_picture(page: Page, name: str) -> None:
 
 def test_the_trial_of_a_new_user(page: Page) -> None:
     """The trial of docs/BOARD.md: a plate with a hole, from nothing to the DXF."""
+    _a_plate_with_a_hole_is_drawn(page)
+    page.verdict("open")
+    _the_plate_has_its_size(page)
+    keep_picture(page, "open")
+    _the_hole_has_its_place(page)
+    keep_picture(page, "well")
+    _one_is_too_many(page)
+    keep_picture(page, "over")
+    _taken_away(page, "R1Right 55")
+    page.verdict("well")
+    page.click("#export summary")
+    page.click("[data-export='dxf']")
+    assert page.downloaded("drawing.dxf").count(b"\nLINE\n") == 4
+
+
+def _a_plate_with_a_hole_is_drawn(page: Page) -> None:
     page.keys("r")
     page.press(250, 420)
     page.press(650, 180)
@@ -67,7 +83,9 @@ def test_the_trial_of_a_new_user(page: Page) -> None:
     page.press(370, 320)
     page.press(405, 320)
     page.wait("a hole", "return document.querySelectorAll('.edges [data-name]').length === 5")
-    page.verdict("open")
+
+
+def _the_plate_has_its_size(page: Page) -> None:
     page.select("R1Bottom.start", "Origin")
     page.ask("coincident")
     page.select("R1Bottom")
@@ -75,7 +93,9 @@ def test_the_trial_of_a_new_user(page: Page) -> None:
     page.select("R1Right")
     page.ask("length", "60")
     page.wait("its pieces", "return document.querySelectorAll('#verdict .chip').length === 2")
-    keep_picture(page, "open")
+
+
+def _the_hole_has_its_place(page: Page) -> None:
     page.select("C1")
     page.ask("diameter", "20")
     page.select("C1.centre")
@@ -83,19 +103,20 @@ def test_the_trial_of_a_new_user(page: Page) -> None:
     page.ask("y", "30")
     page.verdict("well")
     page.click("#fit")
-    keep_picture(page, "well")
+
+
+def _one_is_too_many(page: Page) -> None:
     page.select("C1.centre", "R1Right")
     page.ask("distance", "55")
     page.verdict("over")
     page.tells("contradiction by 5")
-    keep_picture(page, "over")
+
+
+def _taken_away(page: Page, name: str) -> None:
+    """Takes away, by its button, the dimension that is named so."""
     spare = page.driver.find_elements(By.CSS_SELECTOR, "#verdict [data-spare]")
-    last = next(each for each in spare if "R1Right 55" in each.text)
-    last.find_element(By.TAG_NAME, "button").click()
-    page.verdict("well")
-    page.click("#export summary")
-    page.click("[data-export='dxf']")
-    assert page.downloaded("drawing.dxf").count(b"\nLINE\n") == 4
+    found = next(each for each in spare if name in each.text)
+    found.find_element(By.TAG_NAME, "button").click()
 
 
 def test_a_triangle_is_drawn_and_dimensioned_until_it_is_well(page: Page) -> None:
@@ -122,9 +143,7 @@ def test_one_too_many_is_taken_away_again(page: Page) -> None:
     page.begin(drawing("over-plate-contradiction"), "over")
     page.tells("contradiction by 1 mm")
     assert page.count(".marks .spare") >= 2
-    spare = page.driver.find_elements(By.CSS_SELECTOR, "#verdict [data-spare]")
-    top = next(each for each in spare if "Top width" in each.text)
-    top.find_element(By.TAG_NAME, "button").click()
+    _taken_away(page, "Top width")
     page.verdict("well")
     assert "Top width:" not in page.text()
 

@@ -1,5 +1,5 @@
-/** The dimensions and signs of constraints, as SVG nodes. */
-import { svg } from './nodes.js';
+/** The dimensions and signs of constraints, as what SVG nodes are made of. */
+import { middleOf } from './shapes.js';
 
 const SIGNS = {
   horizontal: '―', vertical: '|', parallel: '∥', perpendicular: '⊥', collinear: '⋯', equal: '=', tangent: '◠',
@@ -43,12 +43,12 @@ export class Marks {
     const ends = AWAYS.map(beside).find((each) => this.isOpen(...each, way, length, mark.text)) ?? beside(AWAYS[0]);
     this.bars.push(ends);
     const [a, b] = ends;
-    return { path: `M${start}L${a}M${end}L${b}M${a}L${b}${tip(a, way)}${tip(b, [-way[0], -way[1]])}`, text: mark.text, at: middle(a, b) };
+    return { path: `M${start}L${a}M${end}L${b}M${a}L${b}${tip(a, way)}${tip(b, [-way[0], -way[1]])}`, text: mark.text, at: middleOf([a, b]) };
   }
 
   /** Whether a bar between two places, and its text, lie over no other. */
   isOpen(a, b, [ux, uy], length, text) {
-    if (!this.isFree(middle(a, b), text)) return false;
+    if (!this.isFree(middleOf([a, b]), text)) return false;
     const [left, right, low, high] = box(a, b, 9);
     return this.bars.every(([p, q]) => {
       if (Math.max(p[0], q[0]) < left || Math.min(p[0], q[0]) > right || Math.max(p[1], q[1]) < low || Math.min(p[1], q[1]) > high) return true;
@@ -84,21 +84,14 @@ export class Marks {
   }
 }
 
-/** A placed mark as an item of a layer, in classes. */
-export function markItem({ number, sign, path, text, at }, key, kind) {
-  const made = () => svg('g', { class: kind, 'data-constraint': number },
-    path && svg('path', { class: 'mark', d: path }), svg('text', { x: at[0], y: at[1], class: sign ? 'sign' : 'value' }, text));
-  return [key, `${number} ${kind} ${path} ${at} ${text}`, made];
+/** A placed mark, in classes, with what is told of it where a hand rests on it. */
+export function markMade({ number, sign, path, text, at: [x, y] }, key, kind, told) {
+  return [key, 'g', { class: kind, 'data-constraint': number }, told && ['title', {}, told], path && ['path', { class: 'mark', d: path }], ['text', { x, y, class: sign ? 'sign' : 'value' }, text]];
 }
 
 /** The box of two places, with so much around: left, right, low, high. */
 function box([x, y], [u, v], around) {
   return [Math.min(x, u) - around, Math.max(x, u) + around, Math.min(y, v) - around, Math.max(y, v) + around];
-}
-
-/** The place between two. */
-function middle([x, y], [u, v]) {
-  return [(x + u) / 2, (y + v) / 2];
 }
 
 /** Half the width of a text in pixels, nearly. */
