@@ -7,7 +7,7 @@ from collections.abc import Iterable, Mapping
 from ..answers import Judgement, TooMuch
 from ..drawing import Arc, Circle, PointRef
 from ..picture.designed import Whereabouts
-from ..shape_parts import parts_of_shapes
+from ..shape_parts import parts_of_points, parts_of_shapes
 from ..told import spare_json
 from .motion import Spot
 from .panel import Untold, excess_told, lines_shown
@@ -27,7 +27,7 @@ def judgement_shown(judgement: Judgement, parts: Iterable[LaidPart]) -> Json:
         "excess": [],
         "placed": placed,
         "laid": [_laid(part) for part in parts],
-        "colours": dict(parts_of_shapes(judgement)),
+        "colours": {**parts_of_points(judgement), **parts_of_shapes(judgement)},
         "missing": _missing(judgement),
         "failure": _failure(judgement),
         "language": judgement.asked.spelled.sketch.text(),

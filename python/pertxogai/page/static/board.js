@@ -92,7 +92,7 @@ export class Board {
   /** The points as they are shown, the origin's first. */
   dots(shapes) {
     const names = shapes.flatMap((shape) => Object.keys(shape.points).filter((name) => !shape.shares.includes(name)));
-    return ['Origin', ...names].map((name) => pointMade(name, this.plane.toScreen(this.shown.at(name)), this.selection.names.has(name)));
+    return ['Origin', ...names].map((name) => pointMade(name, this.plane.toScreen(this.shown.at(name)), this.selection.names.has(name), this.shown.partColourOf(name)));
   }
 
   /** The names of single points and of what is selected. */

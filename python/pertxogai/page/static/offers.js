@@ -17,20 +17,26 @@ export class Offers {
     paper.addEventListener('answer', () => { if (!selection.isEmpty) this.show(); });
   }
 
-  /** Shows what fits; where the same fits, the bar stays. */
+  /** Shows what fits; what fitted another selection goes at once, before the server has answered. */
   async show() {
     const turn = this.turn += 1;
     const { paper, selection } = this;
     const had = this.node.contains(document.activeElement);
     this.bar();
     const names = [...selection.names];
+    if (String(names) !== this.fitted) this.fill([]);
+    this.fitted = String(names);
     const found = names.length && !paper.refused ? await paper.ask('offers', { text: paper.text, names }) : null;
-    const offers = found?.offers ?? [];
-    const shown = JSON.stringify(offers);
     if (turn !== this.turn) return;
+    this.fill(found?.offers ?? []);
+    if (had && !this.node.querySelector(':focus:not([hidden])')) (this.node.querySelector('button:not([hidden])') ?? this.board.node).focus();
+  }
+
+  /** Shows offers as buttons; where they are the same, the buttons stay. */
+  fill(offers) {
+    const shown = JSON.stringify(offers);
     if (shown !== this.shown) byId('fitting').replaceChildren(...offers.map((offer, place) => this.button(offer, LETTERS[place])));
     this.shown = shown;
-    if (had && !this.node.querySelector(':focus:not([hidden])')) (this.node.querySelector('button:not([hidden])') ?? this.board.node).focus();
   }
 
   /** Shows the buttons that are there for what is selected: value, construction, name, delete. */

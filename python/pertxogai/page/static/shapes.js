@@ -43,9 +43,9 @@ export function shapeMade(shape, path, isSelected, colour) {
 }
 
 /** A point: a small circle, and a larger one to be hit. */
-export function pointMade(name, [cx, cy], isSelected) {
+export function pointMade(name, [cx, cy], isSelected, colour) {
   const r = name === 'Origin' ? 4.5 : name.endsWith('.centre') ? 2.2 : 3.2;
-  return [name, 'g', { 'data-name': name, 'data-point': name }, ['circle', { class: `dot ${isSelected ? 'selected' : ''}`, cx, cy, r }], ['circle', { class: 'dothit', cx, cy, r: 8 }]];
+  return [name, 'g', { 'data-name': name, 'data-point': name }, ['circle', { class: `dot ${isSelected ? 'selected' : ''}`, cx, cy, r, stroke: isSelected ? null : colour }], ['circle', { class: 'dothit', cx, cy, r: 8 }]];
 }
 
 /** Shapes that are only looked at, and their points: all of a kind as one path. */

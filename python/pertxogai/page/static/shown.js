@@ -25,6 +25,11 @@ export class Shown {
   colourOf(shape) {
     return colourOf(this.parts.get(shape.name) ?? this.viewOf(shape).part);
   }
+
+  /** The colour of a point, by the one part that has it. */
+  partColourOf(name) {
+    return colourOf(this.parts.get(name));
+  }
 }
 
 /** The view in which shapes are shown where they are drawn. */
