@@ -422,7 +422,7 @@ class Writer:
 
     def _run(self, run: Run) -> None:
         rails = self._run_rails(run)
-        if self.style is Style.FEET and len(rails) == 2 and self._feet(run, rails):
+        if self.style is Style.FEET and len(set(rails)) == 2 and self._feet(run, rails):
             return
         first, second, sign = run.first, run.second, 1
         rail = rails[0]
