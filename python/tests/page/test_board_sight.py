@@ -52,8 +52,8 @@ def as_drawn(drawing: Drawing, aside_nm: int = 0) -> Solution:
     """The places where all is drawn, the last point so far aside."""
     at = {ref: drawing.drawn(ref) for ref in drawing.points()}
     points = {ref: (1000 * place.x_um, 1000 * place.y_um) for ref, place in at.items()}
-    last = next(reversed(points))
-    points[last] = points[last][0] + aside_nm, points[last][1]
+    for last in list(points)[-1:]:
+        points[last] = points[last][0] + aside_nm, points[last][1]
     radii = {shape.name: 1000 * drawing.drawn_radius_um(shape.name) for shape in drawing.geometry
              if hasattr(shape, "centre")}
     return Solution(points, radii)
