@@ -145,7 +145,7 @@ def _weigh(desk: Desk, given: Fields) -> Json:
     off without it."""
     judged = desk.judged(given.text("text"))
     return {"spare": [spare_json(each) for each in judged.weighed.surplus],
-            "excess": excess_shown(judged.too_much),
+            "excess": excess_shown(judged.weighed, judged.too_much),
             "lines": lines_shown(judged.weighed, judged.too_much)}
 
 

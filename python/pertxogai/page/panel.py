@@ -93,7 +93,7 @@ def _over(judgement: Judgement, left: TooMuch | Untold) -> Iterator[Line]:
     others = [each for each in judgement.surplus if each.number not in numbers]
     yield Line(_head(left, bool(others)))
     for each in listed:
-        yield Line(f"{each.name}: {excess_told(each)}", list="left out",
+        yield Line(f"{each.name}: {excess_told(judgement, each)}", list="left out",
                    takes=None if each.in_part else each.number)
     if listed and others:
         yield Line("Or one of these may go instead:")
@@ -114,22 +114,23 @@ def _head(left: TooMuch | Untold, has_others: bool) -> str:
             else "Too many dimensions, and none can go by itself.")
 
 
-def excess_told(each: Excess) -> str:
-    """What a dimension that is left out is: a repeat of the others, or a contradiction, and by how
-    much and which way the others are off it, where that is known."""
-    told = _excess(each)
-    return f"in part too much: {told}" if each.in_part else told
+def excess_told(judgement: Judgement, each: Excess) -> str:
+    """What a dimension that is left out is: a repeat of the others, or a contradiction, by how
+    much, and which way the others are off it, where that is known."""
+    alone = next((other for other in judgement.surplus if other.number == each.number), None)
+    return "in part too much: " * each.in_part + _excess(each, alone)
 
 
-def _excess(each: Excess) -> str:
+def _excess(each: Excess, alone: Surplus | None) -> str:
+    """alone: the same as one that may go by itself, if it is."""
     if each.conflicts is None:
         return "left out; not measured"
     if not each.conflicts:
         return _repeat(each.off_um or Fraction(0))
-    if not each.off_um:
-        return "a contradiction"
-    way = "more" if each.off_um > 0 else "less"
-    return f"a contradiction by {_mm(each.off_um)}, the others make it {way}"
+    if each.off_um:
+        way = "more" if each.off_um > 0 else "less"
+        return f"a contradiction by {_mm(each.off_um)}, the others make it {way}"
+    return _surplus(alone) if alone is not None and alone.repeats() is False else "a contradiction"
 
 
 def _repeat(off_um: Fraction) -> str:

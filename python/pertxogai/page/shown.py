@@ -34,12 +34,12 @@ def judgement_shown(judgement: Judgement, parts: Iterable[LaidPart]) -> Json:
     }
 
 
-def excess_shown(left: TooMuch | Untold) -> list[Json]:
+def excess_shown(judgement: Judgement, left: TooMuch | Untold) -> list[Json]:
     """The dimensions that are left out, each as it is told."""
     if isinstance(left, Untold):
         return []
-    return [{"number": each.number, "conflicts": each.conflicts, "told": excess_told(each)}
-            for each in left.dimensions]
+    return [{"number": each.number, "conflicts": each.conflicts,
+             "told": excess_told(judgement, each)} for each in left.dimensions]
 
 
 def places_shown(where: Whereabouts) -> Json:

@@ -120,7 +120,8 @@ def test_the_last_dimension_is_left_out(program, off: str, told: str) -> None:
     found = left_out(TRIANGLE, stands_in)
     (each,) = found.dimensions
     assert (each.number, each.name) == (4, "constraint 4 (distance A.start A.end 51)")
-    assert excess_told(each) == told and not each.in_part
+    judged = judge_at_once(read_drawing(TRIANGLE), program)
+    assert excess_told(judged, each) == told and not each.in_part
     assert (found.rest, found.helps) == (Rest.PLACED, False)
     assert stands_in.asked == [("excess", "within=1000", "place=boxes")]
 
@@ -160,13 +161,23 @@ def test_what_several_say_is_told_without_an_amount(program, line: str, told: st
     """One line is said by a length and by what is vertical, the other by the length alone."""
     text = drawing("over-equal-lengths")
     (each,) = left_out(text, LeavesOut(program, one_part({line: LESS}))).dimensions
-    assert excess_told(each).removeprefix("in part too much: ") == told
+    judged = judge_at_once(read_drawing(text), program)
+    assert excess_told(judged, each).removeprefix("in part too much: ") == told
 
 
-def test_of_an_angle_no_amount_is_told() -> None:
-    assert excess_told(Excess(3, "angle A B 45deg", True)) == "a contradiction"
-    assert excess_told(Excess(3, "angle A B 45deg", False)) == "a repeat"
-    assert excess_told(Excess(3, "angle A B 45deg")) == "left out; not measured"
+def test_of_an_angle_no_amount_is_told(program) -> None:
+    judged = judge_at_once(read_drawing(TRIANGLE), program)
+    assert excess_told(judged, Excess(3, "angle A B 45deg", True)) == "a contradiction"
+    assert excess_told(judged, Excess(3, "angle A B 45deg", False)) == "a repeat"
+    assert excess_told(judged, Excess(3, "angle A B 45deg")) == "left out; not measured"
+
+
+def test_a_way_to_a_line_is_off_by_what_is_measured_of_it(program) -> None:
+    """The upright line is 40 mm from the point, and 45 mm are told."""
+    text = ("segment A 0 0 80 0\nsegment B A.end 80 30\npoint P 40 10\ncoincident A.start Origin\n"
+            "horizontal A\nvertical B\nlength A 80\nlength B 30\nx P 40\ny P 10\ndistance P B 45\n")
+    (line,) = listed(panel(text, program), "left out")
+    assert line["text"] == "constraint 8 (distance P B 45): a contradiction by 5\u00a0mm"
 
 
 def test_of_two_lines_one_is_left_out(program) -> None:
@@ -310,6 +321,7 @@ def test_of_a_plate_that_contradicts_itself(program) -> None:
 
 
 def test_of_a_row_that_repeats_itself(program) -> None:
-    found = left_out(drawing("over-hole-row"), program)
+    row = drawing("over-hole-row")
+    found, judged = left_out(row, program), judge_at_once(read_drawing(row), program)
     assert found.rest is Rest.PLACED
-    assert [excess_told(each) for each in found.dimensions] == ["a repeat"]
+    assert [excess_told(judged, each) for each in found.dimensions] == ["a repeat"]
