@@ -139,6 +139,17 @@ def test_a_triangle_is_drawn_and_dimensioned_until_it_is_well(page: Page) -> Non
     assert page.count(".marks [data-constraint]") == 3
 
 
+def test_a_chain_that_is_kept_level_is_closed_level(page: Page) -> None:
+    page.keys("s")
+    corners = (260, 420), (560, 424), (556, 240), (262, 244), (260, 420)
+    for place, corner in enumerate(corners):
+        page.press(*corner, shift=place > 0)
+        page.wait(f"side {place}", "return document.querySelectorAll('.marks [data-constraint]')"
+                                   f".length === {place}")
+    assert page.text().splitlines()[-4:] == [
+        "horizontal S1", "vertical S2", "horizontal S3", "vertical S4"]
+
+
 def test_one_too_many_is_taken_away_again(page: Page) -> None:
     page.begin(drawing("over-plate-contradiction"), "over")
     page.tells("contradiction by 1 mm")

@@ -150,7 +150,7 @@ export class Board {
     const { node } = this.layers.edges;
     const box = node.getBBox();
     const corners = [[box.x, box.y], [box.x + box.width, box.y + box.height]].map((corner) => this.plane.toPlane(corner));
-    const points = Object.values(this.shown.between.points);
+    const points = [this.shown.between, this.shown.drawn].flatMap((view) => Object.values(view.points));
     this.plane.fit(node.childElementCount ? [...points, ...corners] : points.slice(1), this.size());
     this.draw();
   }

@@ -31,14 +31,14 @@ export class Gestures {
   }
 
   /** The spot at a place in pixels: a point that is near, else a place on the grid; of a segment that is kept level, beside or above its start. */
-  spot(pixels, level) {
+  spot(pixels, keeps) {
     const near = this.board.nearPoint(pixels);
-    if (near) return { spot: { point: near.name }, at: near.at, near };
-    let [x, y] = this.onGrid(pixels);
-    const from = this.hand.clicks.at(-1)?.at;
-    const isFlat = from && Math.abs(x - from[0]) > Math.abs(y - from[1]);
-    if (level && from && this.hand.tool === 'segment') [x, y] = isFlat ? [x, from[1]] : [from[0], y];
-    return { spot: { x, y }, at: [x, y], level: level && this.hand.tool === 'segment' ? isFlat ? 'horizontal' : 'vertical' : null };
+    const [x, y] = near ? near.at : this.onGrid(pixels);
+    const from = keeps && this.hand.tool === 'segment' && this.hand.clicks.at(-1)?.at;
+    const level = from && (Math.abs(x - from[0]) > Math.abs(y - from[1]) ? 'horizontal' : 'vertical');
+    if (near) return { spot: { point: near.name }, at: near.at, near, level };
+    const at = level === 'horizontal' ? [x, from[1]] : level === 'vertical' ? [from[0], y] : [x, y];
+    return { spot: { x: at[0], y: at[1] }, at, level };
   }
 
   /** A button goes down. */

@@ -125,7 +125,7 @@ class Page {
     const { paper } = this;
     if (answer.drawing) {
       this.selection.keep(answer.drawing);
-      this.board.show(answer);
+      this.board.show(answer.refused ? paper.answer : answer);
     }
     this.verdict.show(answer);
     this.texts.show(answer);

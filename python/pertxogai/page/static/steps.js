@@ -32,9 +32,10 @@ export class Steps {
     else this.leave();
   }
 
-  /** Takes everything off the board again. */
+  /** Takes everything off the board again, and out of the tab. */
   leave() {
     this.text = null;
+    this.node.replaceChildren();
     this.show(null, null);
   }
 
@@ -132,10 +133,11 @@ export class Steps {
 
   /** Turns the choice of the step over that is told. */
   async flip() {
-    const { told, told: { number } } = this;
+    const { text, told, told: { number } } = this;
     if (!this.flipped.delete(number)) this.flipped.add(number);
     const steps = [...this.flipped];
-    const found = steps.length ? await this.paper.ask('flips', { text: this.text, steps }) : {};
+    const found = steps.length ? await this.paper.ask('flips', { text, steps }) : {};
+    if (this.text !== text) return;
     if (found.trouble) {
       this.flipped.delete(number);
       this.paper.tell('trouble', found.trouble.message);
