@@ -57,7 +57,7 @@ class Desk:
         try:
             return call(self, Fields.of(given))
         except DrawingRefusal as refusal:
-            return {"refused": {"line": refusal.line, "word": refusal.word, "what": refusal.what}}
+            return {"refused": {"line": refusal.line, "message": str(refusal)}}
         except (WordFault, DrawingUnsound) as fault:
             return trouble("edit", str(fault))
         except (FieldRefused, InputRefused, FileRefusal, NotPlaced, NoPlaces,
@@ -137,7 +137,8 @@ def _edit(desk: Desk, given: Fields) -> Json:
 def _offers(desk: Desk, given: Fields) -> Json:
     """Which constraints fit some points and shapes."""
     found = offers(desk.judged(given.text("text")).drawing, given.texts("names"))
-    return {"offers": [{"words": list(each.words), "value": each.value} for each in found]}
+    return {"offers": [{"words": list(each.words), "sign": each.sign, "value": each.value}
+                       for each in found]}
 
 
 def _weigh(desk: Desk, given: Fields) -> Json:

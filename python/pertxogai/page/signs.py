@@ -6,7 +6,10 @@ import math
 from collections.abc import Iterator, Mapping
 from contextlib import suppress
 
-from ..drawing import Arc, Axis, Circle, Constraint, Pair, PointRef, ShapeRef, Which
+from ..drawing import (
+    Arc, Axis, Circle, Coincident, Collinear, Concentric, Constraint, Equal, Fixed, Horizontal,
+    Midpoint, Pair, Parallel, Perpendicular, PointOn, PointRef, ShapeRef, Symmetric, Tangent,
+    Vertical, Which)
 from ..drawing.spoken import refs_of
 from ..measure.solution import MissingPlace
 from ..picture.designed import BAR, Whereabouts
@@ -14,6 +17,16 @@ from ..picture.marks import LengthBar, Spot, Tag
 from ..picture.plane import between, sweep
 
 Mark = Mapping[str, object]
+
+_SIGNS: Mapping[type, str] = {
+    Horizontal: "―", Vertical: "|", Parallel: "∥", Perpendicular: "⊥", Collinear: "⋯", Equal: "=",
+    Tangent: "◠", Concentric: "◎", Symmetric: "⇔", Midpoint: "△", Fixed: "▣", Coincident: "●",
+    PointOn: "×"}
+
+
+def sign_of(constraint: Constraint) -> str:
+    """The sign that stands for a constraint; none of one that has a value."""
+    return _SIGNS.get(type(constraint), "")
 
 
 def marks(where: Whereabouts, number: int, constraint: Constraint) -> Iterator[Mark]:
@@ -32,7 +45,7 @@ def _marks(where: Whereabouts, constraint: Constraint) -> Iterator[Mark]:
         elif isinstance(each, Tag):
             yield {"at": list(each.at), "radius": each.radius, "text": each.text}
     if not shown:
-        yield from ({"sign": type(constraint).__name__.lower(), "at": list(at)}
+        yield from ({"sign": sign_of(constraint), "at": list(at)}
                     for at in _places(where, constraint))
 
 

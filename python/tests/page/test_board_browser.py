@@ -250,7 +250,7 @@ def test_a_refused_line_is_marked_with_what_to_do(page: Page) -> None:
     page.begin(TRIANGLE, "well")
     page.type(TRIANGLE.replace("length B", "lenght B"))
     page.verdict("refused")
-    assert page.told("refused").startswith("line 5: ‘lenght’")
+    assert page.told("refused").startswith("line 5: 'lenght'")
     assert "do you mean length?" in page.told("refused")
     marked = page.driver.find_elements(By.CSS_SELECTOR, "#lines b")
     assert [each.text.strip() for each in marked] == ["5"]

@@ -35,7 +35,7 @@ export class Files {
     if (found.sketches) {
       const sketch = found.sketches.length === 1 ? found.sketches[0] : await chosen(file.name, found.sketches);
       if (sketch) await this.take(sketch);
-    } else if (found) this.paper.tell('trouble', found.trouble?.message ?? `${file.name}, line ${found.refused.line}: ‘${found.refused.word}’ ${found.refused.what}`);
+    } else if (found) this.paper.tell('trouble', found.trouble?.message ?? `${file.name}, ${found.refused.message}`);
   }
 
   /** Takes a sketch of a file, and tells what of it couldn't be said. */
@@ -68,7 +68,7 @@ export class Files {
     const found = kind === 'sketch' ? { sketch: answer?.judgement?.language } : await this.paper.ask(call, { text, name, release: 'R2010' });
     const content = found[{ 'program-dxf': 'dxf' }[kind] ?? kind];
     if (content) download(name + ENDINGS[kind], content);
-    else if (found) this.paper.tell('trouble', found.trouble?.message ?? found.refused?.what ?? 'there is nothing to export yet');
+    else if (found) this.paper.tell('trouble', (found.trouble ?? found.refused)?.message ?? 'there is nothing to export yet');
   }
 }
 

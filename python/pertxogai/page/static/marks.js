@@ -1,21 +1,12 @@
 /** The dimensions and signs of constraints, as what SVG nodes are made of. */
 import { middleOf } from './shapes.js';
 
-const SIGNS = {
-  horizontal: '―', vertical: '|', parallel: '∥', perpendicular: '⊥', collinear: '⋯', equal: '=', tangent: '◠',
-  concentric: '◎', symmetric: '⇔', midpoint: '△', fixed: '▣', coincident: '●', pointon: '×',
-};
 /** How far in pixels a bar may stand beside what it measures, and a text or sign from its place. */
 const AWAYS = [24, 43, 62, 81, 100, 119, 138];
 const TEXT_STEPS = [[0, -18], [0, 18], [34, 0], [-34, 0], [0, -36], [0, 36]];
 const SIGN_STEPS = [[11, -12], [-11, -12], [11, 12], [-11, 12], [24, -12], [24, 12], [37, -12], [50, -12]];
 /** The height of a line of text in pixels. */
 const ROW = 15;
-
-/** The sign of a constraint's word. */
-export function signOf(word) {
-  return SIGNS[word === 'on' ? 'pointon' : word] ?? '';
-}
 
 /** Finds places for the marks of an answer; those that are taken make the next one step aside. */
 export class Marks {
@@ -61,7 +52,7 @@ export class Marks {
   /** A text or a sign near a place. */
   tag(mark) {
     const radius = (mark.radius ?? 0) * this.plane.scale;
-    const text = mark.text ?? signOf(mark.sign);
+    const text = mark.text ?? mark.sign;
     let at = this.plane.toScreen(mark.at);
     if (radius) at = [at[0] + radius * 0.7071 + 18, at[1] - radius * 0.7071 - 12];
     const steps = mark.sign ? SIGN_STEPS : radius ? [[0, 0], ...TEXT_STEPS] : TEXT_STEPS;

@@ -1,6 +1,5 @@
 /** The bar of what can be done with the selection. Which constraints fit it, the server says. */
 import { html, byId } from './nodes.js';
-import { signOf } from './marks.js';
 import { middleOf } from './shapes.js';
 import { typed } from './dialogs.js';
 
@@ -55,7 +54,7 @@ export class Offers {
     const [word] = offer.words;
     const title = `${offer.words.join(' ')}${offer.value === null ? '' : ' ..'} (Alt+${letter})`;
     return html('button', { 'data-word': word, 'data-letter': letter, 'aria-keyshortcuts': `Alt+${letter}`, title, onclick: () => this.ask(offer) },
-      `${signOf(word)} ${word}`.trim(), html('kbd', { 'aria-hidden': 'true' }, letter));
+      `${offer.sign} ${word}`.trim(), html('kbd', { 'aria-hidden': 'true' }, letter));
   }
 
   /** The shapes and the numbers of the constraints that are selected. */

@@ -108,7 +108,7 @@ export class Paper extends EventTarget {
 
   /** Takes the answer of a call that changes the text; gives whether it does. */
   takeChange(answer) {
-    if (answer.trouble || answer.refused) this.tell('trouble', answer.trouble?.message ?? answer.refused.what);
+    if (answer.trouble || answer.refused) this.tell('trouble', (answer.trouble ?? answer.refused).message);
     if (!answer.text) {
       if (this.answer) this.tell('answer', this.answer);
       return false;

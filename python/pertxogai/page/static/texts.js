@@ -67,7 +67,7 @@ export class Texts {
     this.number();
     const told = byId('refused');
     told.hidden = !refused;
-    told.textContent = refused ? `line ${refused.line}: ‘${refused.word}’ ${refused.what}` : '';
+    told.textContent = refused?.message ?? '';
     this.area.ariaInvalid = String(Boolean(refused));
     byId('language').textContent = judgement?.language ?? '';
   }

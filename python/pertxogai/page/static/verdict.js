@@ -44,7 +44,7 @@ export class Verdict {
 
 /** A kind, a title, and the lines below it. */
 function told({ refused, trouble, judgement }) {
-  if (refused) return ['refused', 'not read', [{ text: `line ${refused.line}: ‘${refused.word}’ ${refused.what}` }]];
+  if (refused) return ['refused', 'not read', [{ text: refused.message }]];
   if (trouble) return ['trouble', 'not judged', [{ text: trouble.message }]];
   if (!judgement) return ['empty', 'empty', [{ kind: 'quiet', text: 'Draw with the tools above the board, begin from the gallery, or write in the text below.' }]];
   if (judgement.failure) return ['fault', 'well, and no places', judgement.lines];
