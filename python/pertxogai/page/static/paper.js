@@ -125,7 +125,7 @@ export class Paper extends EventTarget {
     if (text !== this.text) return;
     this.refused = answer.refused ?? null;
     if (!this.refused) this.answer = answer;
-    this.tell('answer', this.refused ? { ...this.answer, refused: this.refused, judgement: null } : answer);
+    this.tell('answer', this.refused ? { ...this.answer, ...answer, judgement: null } : answer);
     if (answer.judgement?.verdict === 'over') this.weigh(text, answer);
   }
 
