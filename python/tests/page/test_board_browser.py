@@ -246,6 +246,15 @@ def test_undo_to_the_start_and_redo(page: Page) -> None:
     assert page.text() == whole
 
 
+def test_undo_waits_for_the_edit_before_it(page: Page) -> None:
+    page.begin(TRIANGLE, "well")
+    page.select("A")
+    page.keys(Keys.DELETE, Keys.CONTROL + "z")
+    page.wait("redo", "return !document.getElementById('redo').disabled")
+    page.verdict("well")
+    assert "segment A 0 0 40 0" in page.text()
+
+
 def test_a_refused_line_is_marked_with_what_to_do(page: Page) -> None:
     page.begin(TRIANGLE, "well")
     page.type(TRIANGLE.replace("length B", "lenght B"))
@@ -266,10 +275,8 @@ def test_a_point_is_dragged_and_a_dimension_changed(page: Page) -> None:
     page.wait("moved", "return !document.getElementById('text').value.includes('circle C 20 20')")
     page.select("C")
     page.ask("diameter", "12")
-    mark = page.driver.find_element(By.CSS_SELECTOR, ".marks [data-constraint='1'] text")
-    page.driver.execute_script(
-        "arguments[0].dispatchEvent(new MouseEvent('dblclick', {bubbles: true}))", mark)
-    field = page.driver.find_element(By.CSS_SELECTOR, "#value input")
+    page.press_twice(".marks [data-constraint='1'] text")
+    field = page.driver.find_element(By.CSS_SELECTOR, "#value[open] input")
     field.send_keys(Keys.CONTROL, "a")
     field.send_keys("0.5in", Keys.ENTER)
     page.wait("changed",

@@ -60,7 +60,7 @@ class Page {
     paper.addEventListener('trouble', (event) => hint(event.detail));
     document.addEventListener('click', (event) => this.click(event.target.closest('button')));
     byId('name').addEventListener('change', () => { paper.name = byId('name').value.trim() || 'drawing'; keeping.keep(); });
-    byId('board').addEventListener('dblclick', (event) => this.offers.change(Number(event.target.closest('[data-constraint]')?.dataset.constraint)));
+    byId('board').addEventListener('dblclick', () => { if (!this.hand.draws) this.offers.change(...this.selection.numbers); });
     this.take('select');
     const { text = '', name = 'drawing', saved = '' } = keeping.kept() ?? {};
     byId('name').value = name;

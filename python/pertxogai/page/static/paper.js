@@ -39,10 +39,12 @@ export class Paper extends EventTarget {
     return this.turned();
   }
 
-  /** Undoes (-1) or redoes (1). */
+  /** Undoes (-1) or redoes (1), behind all that was asked before. */
   go(step) {
-    this.history.go(step);
-    return this.turned();
+    return this.queue(() => {
+      this.history.go(step);
+      this.turned();
+    });
   }
 
   /** Another text stands, and is judged. */
@@ -69,12 +71,23 @@ export class Paper extends EventTarget {
 
   /** Edits the text that stands by one edit of the server's. Gives whether it was taken. */
   edit(edit) {
-    return this.queue(async () => this.takeChange(await this.edited(this.text, edit)));
+    return this.change((text) => this.edited(text, edit));
   }
 
   /** The text is drawn as it is placed, or as it is with the choices of some steps turned over. */
   redraw(steps) {
-    return this.queue(async () => this.takeChange(await this.server.call('redraw', { text: this.text, steps })));
+    return this.change((text) => this.server.call('redraw', { text, steps }));
+  }
+
+  /** Changes the text that stands by a call; where another was typed meanwhile, that one. Gives whether it was taken. */
+  change(call) {
+    return this.queue(async () => {
+      for (;;) {
+        const { text } = this;
+        const answer = await call(text);
+        if (this.text === text) return this.takeChange(answer);
+      }
+    });
   }
 
   /** What an edit makes of a text; of one that is known, what stays as it was isn't told again. */

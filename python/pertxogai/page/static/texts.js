@@ -31,11 +31,13 @@ export class Texts {
   flush() {
     this.written();
     clearTimeout(this.waits);
+    this.waits = null;
     this.paper.type(this.area.value);
   }
 
-  /** Shows the text that stands, once nothing has changed for a moment: a long text takes its time, and the drawing goes before. */
+  /** Shows the text that stands, once nothing has changed for a moment: a long text takes its time, and the drawing goes before. What is being typed stays. */
   write() {
+    if (this.waits) return;
     this.area.ariaBusy = 'true';
     clearTimeout(this.behind);
     this.behind = setTimeout(() => this.written(), MOMENT);
