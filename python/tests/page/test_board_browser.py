@@ -264,6 +264,11 @@ def test_a_refused_line_is_marked_with_what_to_do(page: Page) -> None:
     marked = page.driver.find_elements(By.CSS_SELECTOR, "#lines b")
     assert [each.text.strip() for each in marked] == ["5"]
     assert page.count(".edges [data-name]") == 3
+    page.select("A")
+    page.keys(Keys.DELETE)
+    page.wait("told", "return document.getElementById('hint').textContent.startsWith('line 5')")
+    page.verdict("refused")
+    assert page.count(".edges [data-name]") == 3
     page.type(TRIANGLE)
     page.verdict("well")
 

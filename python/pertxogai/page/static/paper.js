@@ -10,6 +10,8 @@ export class Paper extends EventTarget {
   /** What is said of the last text that could be read, and the line of this one that can't. */
   answer = null;
   refused = null;
+  /** What was told of the text that stands. */
+  said = null;
   /** What is being done; the edit that a hand makes while it moves, and the last that was shown. */
   waiting = Promise.resolve();
   live = null;
@@ -123,7 +125,7 @@ export class Paper extends EventTarget {
   takeChange(answer) {
     if (answer.trouble || answer.refused) this.tell('trouble', (answer.trouble ?? answer.refused).message);
     if (!answer.text) {
-      if (this.answer) this.tell('answer', this.answer);
+      if (this.said) this.tell('answer', this.said);
       return false;
     }
     this.history.push(answer.text);
@@ -138,7 +140,8 @@ export class Paper extends EventTarget {
     if (text !== this.text) return;
     this.refused = answer.refused ?? null;
     if (!this.refused) this.answer = answer;
-    this.tell('answer', this.refused ? { ...this.answer, ...answer, judgement: null } : answer);
+    this.said = this.refused ? { ...this.answer, ...answer, judgement: null } : answer;
+    this.tell('answer', this.said);
     if (answer.judgement?.verdict === 'over') this.weigh(text, answer);
   }
 
