@@ -280,6 +280,7 @@ def test_a_point_is_dragged_and_a_dimension_changed(page: Page) -> None:
     page.wait("moved", "return !document.getElementById('text').value.includes('circle C 20 20')")
     page.select("C")
     page.ask("diameter", "12")
+    page.settled()
     page.press_twice(".marks [data-constraint='1'] text")
     field = page.driver.find_element(By.CSS_SELECTOR, "#value[open] input")
     field.send_keys(Keys.CONTROL, "a")

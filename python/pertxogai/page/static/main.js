@@ -60,7 +60,7 @@ class Page {
     paper.addEventListener('trouble', (event) => hint(event.detail));
     document.addEventListener('click', (event) => this.click(event.target.closest('button')));
     byId('name').addEventListener('change', () => { paper.name = byId('name').value.trim() || 'drawing'; keeping.keep(); });
-    byId('board').addEventListener('dblclick', () => { if (!this.hand.draws) this.offers.change(...this.selection.numbers); });
+    byId('board').addEventListener('mouseup', (event) => this.pressed(event.detail));
     this.take('select');
     const { text = '', name = 'drawing', saved = '' } = keeping.kept() ?? {};
     byId('name').value = name;
@@ -74,6 +74,11 @@ class Page {
     if (tool) this.take(tool);
     else if (kind) this.files.export(kind);
     else this.acts[button.id]?.(button);
+  }
+
+  /** The mouse was pressed so many times: twice on a dimension changes its value, once the clicks are through. Of a mark that is drawn anew between two presses the browser tells no double click. */
+  pressed(times) {
+    if (times === 2 && !this.hand.draws) setTimeout(() => this.offers.change(...this.selection.numbers));
   }
 
   /** Another drawing has begun. */
