@@ -7,6 +7,7 @@ from collections.abc import Iterable, Mapping
 from ..answers import Judgement, TooMuch
 from ..drawing import Arc, Circle, PointRef
 from ..picture.designed import Whereabouts
+from ..reports import Verdict
 from ..shape_parts import parts_of_points, parts_of_shapes
 from ..told import spare_json
 from .motion import Spot
@@ -27,7 +28,7 @@ def judgement_shown(judgement: Judgement, parts: Iterable[LaidPart]) -> Json:
         "excess": [],
         "placed": placed,
         "laid": [_laid(part) for part in parts],
-        "colours": {**parts_of_points(judgement), **parts_of_shapes(judgement)},
+        "colours": _colours(judgement),
         "missing": _missing(judgement),
         "failure": _failure(judgement),
         "language": judgement.asked.spelled.sketch.text(),
@@ -56,6 +57,13 @@ def _laid(part: LaidPart) -> Json:
 
 def _points(points: Mapping[PointRef, Spot]) -> Json:
     return {str(ref): list(spot) for ref, spot in points.items()}
+
+
+def _colours(judgement: Judgement) -> Json:
+    """The parts of the points and shapes, by their names; none of what is all of one part."""
+    if judgement.verdict is Verdict.WELL:
+        return {}
+    return {**parts_of_points(judgement), **parts_of_shapes(judgement)}
 
 
 def _missing(judgement: Judgement) -> Json | None:

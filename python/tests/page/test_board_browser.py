@@ -170,9 +170,11 @@ def test_a_fault_is_shown_at_its_place(page: Page) -> None:
 def test_open_parts_have_their_colours_and_joints(page: Page) -> None:
     page.begin(drawing("open-hinge"), "open")
     assert page.count(".joints circle") == 1
-    colours = {each.value_of_css_property("stroke")
-               for each in page.driver.find_elements(By.CSS_SELECTOR, ".edges .shape")}
-    assert len(colours) == 2
+    edges, dots = ({each.value_of_css_property("stroke")
+                    for each in page.driver.find_elements(By.CSS_SELECTOR, selector)}
+                   for selector in (".edges .shape", ".dots .dot"))
+    assert len(edges) == 2
+    assert edges < dots and len(dots) == 3
 
 
 def test_the_construction_is_watched_and_verified(page: Page) -> None:

@@ -4,7 +4,7 @@ import { colourOf } from './nodes.js';
 export class Shown {
   constructor({ drawing, judgement }) {
     this.views = judgement?.placed ? [judgement.placed] : judgement?.laid ?? [];
-    this.parts = new Map(Object.entries(!judgement || judgement.verdict === 'well' ? {} : judgement.colours));
+    this.parts = new Map(Object.entries(judgement?.colours ?? {}));
     this.drawn = drawnOf(drawing.shapes);
     const points = { Origin: [0, 0], ...this.drawn.points, ...Object.assign({}, ...this.views.map((view) => view.points).reverse()) };
     this.between = { part: null, points, radii: {} };
