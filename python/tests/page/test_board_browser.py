@@ -257,6 +257,15 @@ def test_undo_waits_for_the_edit_before_it(page: Page) -> None:
     assert "segment A 0 0 40 0" in page.text()
 
 
+def test_what_is_typed_beside_an_edit_stays(page: Page) -> None:
+    page.begin(TRIANGLE, "well")
+    page.select("A")
+    page.keys(Keys.ALT + Keys.ARROW_RIGHT)
+    page.type(TRIANGLE + "horizontal A\n")
+    page.wait("judged", "return document.querySelectorAll('.marks [data-constraint]').length > 3")
+    assert page.text().endswith("length C 35\nhorizontal A\n")
+
+
 def test_a_refused_line_is_marked_with_what_to_do(page: Page) -> None:
     page.begin(TRIANGLE, "well")
     page.type(TRIANGLE.replace("length B", "lenght B"))

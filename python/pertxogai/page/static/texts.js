@@ -15,6 +15,7 @@ export class Texts {
     this.paper = paper;
     this.area.addEventListener('input', () => this.typed());
     this.area.addEventListener('scroll', () => { this.lines.scrollTop = this.area.scrollTop; });
+    this.area.addEventListener('focus', () => this.written());
     this.area.addEventListener('blur', () => this.flush());
     paper.addEventListener('text', () => this.write());
   }
@@ -35,12 +36,13 @@ export class Texts {
     this.paper.type(this.area.value);
   }
 
-  /** Shows the text that stands, once nothing has changed for a moment: a long text takes its time, and the drawing goes before. What is being typed stays. */
+  /** Shows the text that stands, once nothing has changed for a moment: a long text takes its time, and the drawing goes before. What is being typed stays, and who is about to type sees it at once. */
   write() {
     if (this.waits) return;
     this.area.ariaBusy = 'true';
     clearTimeout(this.behind);
-    this.behind = setTimeout(() => this.written(), MOMENT);
+    if (document.activeElement === this.area) this.written();
+    else this.behind = setTimeout(() => this.written(), MOMENT);
   }
 
   /** Shows the text now, where it still waits. */
