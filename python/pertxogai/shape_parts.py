@@ -1,6 +1,7 @@
-"""Which shapes of a drawing lie in which of the parts that the program tells of it."""
+"""Which shapes and points of a drawing lie in which of the parts that the program tells of it."""
 from __future__ import annotations
 
+from collections import defaultdict
 from collections.abc import Mapping
 
 from .answers import Judgement
@@ -17,6 +18,24 @@ def parts_of_shapes(judgement: Judgement) -> Mapping[str, int]:
         for shape in judgement.names.drawing.geometry
     )
     return {name: number for name, number in found if number is not None}
+
+
+def parts_of_points(judgement: Judgement) -> Mapping[str, int]:
+    """The number of the part that has a point, by the point's name. A point that no part has, or
+    several, has none."""
+    names, holding = judgement.names, _parts_by_element(judgement)
+    found = ((ref, holding[names.spelled.points.get(names.refs[ref], "")])
+             for ref in names.drawing.points() if ref in names.refs)
+    return {str(ref): numbers[0] for ref, numbers in found if len(numbers) == 1}
+
+
+def _parts_by_element(judgement: Judgement) -> defaultdict[str, list[int]]:
+    """The numbers of the parts that have an element, by its name in the sketch."""
+    found = defaultdict(list)
+    for part in judgement.asked.check.parts:
+        for element in part.elements:
+            found[element].append(part.number)
+    return found
 
 
 def _part_of(

@@ -2,6 +2,7 @@
 drawing's words."""
 from __future__ import annotations
 
+import math
 from fractions import Fraction
 
 import pytest
@@ -99,6 +100,24 @@ def test_directions_that_contradict_are_over(program):
     assert found.verdict is Verdict.OVER
     assert {"First", "Other"} <= {each.name for each in found.surplus}
     assert all(each.repeats() is False for each in found.surplus if each.off is not None)
+
+
+def test_an_upright_way_that_is_told_to_go_across_is_over(program):
+    text = "segment A 0 0 60 1\nvertical A\nAcross: x A.start A.end 60\ny A.start A.end 5\n"
+    found = judge(read_drawing(text), program)
+    assert found.verdict is Verdict.OVER
+    assert "Across" in {each.name for each in found.surplus}
+
+
+@pytest.mark.parametrize("datum", ["", "coincident Base.start Origin\nhorizontal Base\n"])
+def test_an_apex_that_is_drawn_beside_its_base_lies_above_the_middle(program, datum):
+    text = ("segment Base 0 0 62 1\nsegment Left Base.start -39 81\nsegment Right Left.end Base.end\n"
+            "equal Left Right\nlength Base 60\ndistance Left.end Base 40\n")
+    found = judge(read_drawing(text + datum), program)
+    assert found.verdict is Verdict.WELL
+    apex, start, end = (found.solution.spot(PointRef(*each)) for each in (
+        ("Left", Which.END), ("Base", Which.START), ("Base", Which.END)))
+    assert all(math.dist(apex, foot) == pytest.approx(50_000_000, abs=2) for foot in (start, end))
 
 
 def test_no_such_triangle_names_its_three_sides_and_the_gap(program):

@@ -1,6 +1,7 @@
 """What a designer is told: the program's answers with the drawing's names, and what a person asks
 next."""
 from pertxogai.answers.asking import Asked, Place, ask_styles
+from pertxogai.answers.excess import Excess, Rest, TooMuch, too_much
 from pertxogai.answers.faults import Amount, Failure
 from pertxogai.answers.judgement import Judgement, LeftOut, Surplus, judge, judge_at_once, weighed
 from pertxogai.answers.limits import DrawingRefused
@@ -8,6 +9,6 @@ from pertxogai.answers.missing import Joint, Missing, Piece, Tie
 from pertxogai.answers.naming import Names
 from pertxogai.answers.warnings import Departure, Warning
 
-__all__ = ["Amount", "Asked", "Departure", "DrawingRefused", "Failure", "Joint", "Judgement",
-           "LeftOut", "Missing", "Names", "Piece", "Place", "Surplus", "Tie", "Warning",
-           "ask_styles", "judge", "judge_at_once", "weighed"]
+__all__ = ["Amount", "Asked", "Departure", "DrawingRefused", "Excess", "Failure", "Joint",
+           "Judgement", "LeftOut", "Missing", "Names", "Piece", "Place", "Rest", "Surplus", "Tie",
+           "TooMuch", "Warning", "ask_styles", "judge", "judge_at_once", "too_much", "weighed"]

@@ -14,8 +14,8 @@ from pertxogai.drawing import Drawing
 from pertxogai.language import Refusal
 from pertxogai.program import Asks, Status
 from pertxogai.reports import (
-    CheckReport, Fault, NotAReport, Refused, Solved, Verdict, read_answer, read_parts)
-from pertxogai.spelling import Axes, Care, Rails, Spelled, Style, readings, written
+    CheckReport, Fault, NotAReport, Refused, Solved, Verdict, read_answer, read_fault, read_parts)
+from pertxogai.spelling import Axes, Care, Rails, Spelled, Spellings, Style, readings, written
 from pertxogai.spelling.axes import Equation
 from pertxogai.spelling.facts import Owner
 
@@ -50,17 +50,19 @@ class Asked:
     solved: Solved | Fault | None = None
 
 
-def ask_styles(drawing: Drawing, program: Asks, freeze: bool) -> Asked:
+def ask_styles(drawing: Drawing, program: Asks, freeze: bool,
+               before: Drawing = Drawing()) -> Asked:
     """The first reading and style that is well and placed; else one that is well; else one that is
     over; else the one with the fewest parts. With `freeze`, what is open is asked again with
-    lengths and radii as they are drawn."""
+    lengths and radii as they are drawn. What an edit has left of the drawing before isn't spelled
+    anew."""
     best: Asked | None = None
     seen: list[list[Equation]] = []
-    for axes in readings(drawing):
-        if axes.equations in seen:
+    for spellings in readings(drawing, before):
+        if spellings.axes.equations in seen:
             continue
-        seen.append(axes.equations)
-        asked = _best_style(axes, program)
+        seen.append(spellings.axes.equations)
+        asked = _best_style(spellings, program)
         if isinstance(asked.solved, Solved):
             return asked
         if best is None or _worth(asked) > _worth(best):
@@ -71,14 +73,15 @@ def ask_styles(drawing: Drawing, program: Asks, freeze: bool) -> Asked:
     return best
 
 
-def _best_style(axes: Axes, program: Asks) -> Asked:
+def _best_style(spellings: Spellings, program: Asks) -> Asked:
     """The first style that is placed, else the best; what is linear and told twice is told so to
     the program. What is open isn't asked again with its lines in another order: which parts remain
     doesn't depend on that, as is proved."""
     best: Asked | None = None
     still_open: list[list[str]] = []
+    axes = spellings.axes
     twice = bool(axes.surplus() or axes.conflicts())
-    for rails, spelled in _styles(axes, ONE_BY_ONE if twice else SOLVED_FIRST):
+    for rails, spelled in _styles(spellings, ONE_BY_ONE if twice else SOLVED_FIRST):
         lines = sorted(spelled.sketch.text().splitlines())
         if lines in still_open:
             continue
@@ -94,18 +97,15 @@ def _best_style(axes: Axes, program: Asks) -> Asked:
     return best or placed(ask(axes, Style.VALUES, program, Care(insist=True)), program)
 
 
-def _styles(axes: Axes, styles: Sequence[Style]) -> Iterator[tuple[Rails, Spelled]]:
+def _styles(spellings: Spellings, styles: Sequence[Style]) -> Iterator[tuple[Rails, Spelled]]:
     """Each style in turn, but for those in which the same is said as in one before."""
-    rails: dict[bool, Rails] = {}
     said: set[tuple[bool | Style, str]] = set()
     for style in styles:
-        mine = rails.get(style.solves()) or Rails(axes, style)
-        rails[style.solves()] = mine
-        spelled = written(axes, mine, style)
+        spelled = spellings.spelled(style)
         key = style.solves() or style, spelled.sketch.text()
         if key not in said:
             said.add(key)
-            yield mine, spelled
+            yield spellings.rails(style), spelled
 
 
 def finer(asked: Asked, program: Asks) -> Asked:
@@ -127,56 +127,64 @@ def _ask(rails: Rails, spelled: Spelled, program: Asks, care: Care) -> Asked:
     """One spelling, and those in which more is told by what the program has placed."""
     equations: list[Equation] = []
     while True:
-        text = spelled.sketch.text()
-        check = _checked(program, text)
+        asked = replace(_answered(rails, spelled, program), grown=tuple(equations))
         more = None
-        if check.verdict is Verdict.OPEN and len(equations) < ROUNDS:
-            parts = read_parts(written_by(program, "parts", text))
+        if asked.check.verdict is Verdict.OPEN and len(equations) < ROUNDS:
+            parts = read_parts(written_by(program, "parts", spelled.sketch.text()))
             more = grown(rails.axes, rails, spelled, parts)
         if more is None:
-            return Asked(spelled, rails.axes, rails, check, tuple(equations))
+            return asked
         equations.append(more.equation)
         rails = Rails(more.axes, spelled.style)
         spelled = written(more.axes, rails, spelled.style, care)
 
 
-def written_by(program: Asks, command: str, text: str) -> str:
+def written_by(program: Asks, command: str, text: str, *keys: str) -> str:
     """What a command wrote of a text that `check` has taken. Raises ProgramError, which says why
     where there is no whole report."""
-    answer = program.ask([command], text)
+    words = command, *keys
+    answer = program.ask(words, text)
     if answer.status is not Status.DONE:
-        read_answer((command,), answer)
+        read_answer(words, answer)
         raise NotAReport(f"the program ended {command} with status {answer.status.value}, which "
                          "doesn't fit what it was asked")
     return answer.text
 
 
-def _checked(program: Asks, text: str) -> CheckReport:
-    """What `check` says. Raises Refusal where the program refuses the text, as one that is too
+def _told(program: Asks, text: str, place: Place) -> CheckReport | Solved | Fault:
+    """What `solve` says: the places of what is well, or its fault; of what isn't well, what
+    `check` says of it. Raises Refusal where the program refuses the text, as one that is too
     large."""
-    report = read_answer(("check",), program.ask(["check"], text))
+    words = "solve", f"place={place.value}"
+    answer = program.ask(words, text)
+    if answer.status in (Status.FAULT, Status.TOLERANCE):
+        return read_fault(answer.text)
+    report = read_answer(words, answer)
     if isinstance(report, Refused):
         raise Refusal(report)
-    if not isinstance(report, CheckReport):
-        raise NotAReport("the program ended check with a status that doesn't fit what it was "
-                         "asked")
-    return report
+    if isinstance(report, Solved):
+        return report
+    if isinstance(report, CheckReport) and report.verdict is not Verdict.WELL:
+        return report
+    raise NotAReport("the program ended solve with a status that doesn't fit what it was asked")
+
+
+def _answered(rails: Rails, spelled: Spelled, program: Asks) -> Asked:
+    """One spelling, and what the program says of it: asked once, by boxes."""
+    told = _told(program, spelled.sketch.text(), Place.BOXES)
+    if isinstance(told, CheckReport):
+        return Asked(spelled, rails.axes, rails, told)
+    return Asked(spelled, rails.axes, rails, CheckReport.of_well(spelled.sketch), solved=told)
 
 
 def placed(asked: Asked, program: Asks) -> Asked:
-    """The places of what is well, by boxes, else by points."""
-    if asked.check.verdict is not Verdict.WELL:
+    """The places of what is well: where there are none by boxes, by points."""
+    if asked.solved is None or isinstance(asked.solved, Solved):
         return asked
-    for place in Place:
-        words = ("solve", f"place={place.value}")
-        report = read_answer(words, program.ask(words, asked.spelled.sketch.text()))
-        if not isinstance(report, Solved | Fault):
-            raise NotAReport("the program ended solve with a status that doesn't fit what it was "
-                             "asked")
-        asked = replace(asked, place=place, solved=report)
-        if isinstance(report, Solved):
-            return asked
-    return asked
+    told = _told(program, asked.spelled.sketch.text(), Place.POINTS)
+    if isinstance(told, CheckReport):
+        raise NotAReport("the program faults by boxes what it doesn't call well by points")
+    return replace(asked, place=Place.POINTS, solved=told)
 
 
 def _frozen(asked: Asked, program: Asks) -> Asked:

@@ -5,6 +5,7 @@ from collections.abc import Iterable, Sequence
 from dataclasses import dataclass, replace
 
 from pertxogai.answers.asking import Asked, Place, ask_styles, finer, written_by
+from pertxogai.answers.excess import REPEATS_NM
 from pertxogai.answers.faults import Failure, failure
 from pertxogai.answers.limits import check_fits
 from pertxogai.answers.missing import Missing, missing
@@ -18,9 +19,10 @@ from pertxogai.reports import Solved, Verdict, read_plan, read_spare
 from pertxogai.spelling.facts import RadiusOf
 from pertxogai.spelling.style import Style
 
-WITHIN_NM = 2
-"""A dimension that is off by no more, once it was left out, repeats the others."""
-WITHIN_PPB = 200
+FINE_NM = 2
+"""What is off by more is asked for again with finer angles."""
+REPEATS_PPB = 1000
+"""A direction that is off by no more, once it was left out, repeats the others."""
 HOLDS_NM = 1
 """What was left out holds where it is off by no more."""
 TRIED = 12
@@ -30,7 +32,7 @@ TRIED = 12
 @dataclass(frozen=True)
 class Surplus:
     """A dimension that may go, and how far it is off once the rest is placed without it: a repeat
-    where `amount` is no more than rounding. None where the rest has no places."""
+    where `amount` is within the limit that `too_much` has. None where the rest has no places."""
 
     number: int
     name: str
@@ -40,7 +42,7 @@ class Surplus:
         """Whether it says the same as the others; None where that can't be told."""
         if self.off is None:
             return None
-        return self.off.amount <= (WITHIN_NM if self.off.unit is Unit.NM else WITHIN_PPB)
+        return self.off.amount <= (REPEATS_NM if self.off.unit is Unit.NM else REPEATS_PPB)
 
 
 @dataclass(frozen=True)
@@ -141,14 +143,15 @@ def judge(drawing: Drawing, program: Asks, freeze: bool = False) -> Judgement:
     return weighed(judge_at_once(drawing, program, freeze), program)
 
 
-def judge_at_once(drawing: Drawing, program: Asks, freeze: bool = False) -> Judgement:
+def judge_at_once(drawing: Drawing, program: Asks, freeze: bool = False,
+                  before: Drawing = Drawing()) -> Judgement:
     """The same, but that what may go is named as the program names it, and not measured: that
-    takes many more questions. Raises ProgramError; DrawingRefused where the drawing has
-    more points or constraints than the program takes, or makes both ends of a shape one; Refusal
-    where the program refuses the spelled sketch; NotHeld where a place or length is larger than
-    the language holds."""
+    takes many more questions. `before`: the drawing that an edit has made this one from. Raises
+    ProgramError; DrawingRefused where the drawing has more points or constraints than the program
+    takes, or makes both ends of a shape one; Refusal where the program refuses the spelled sketch;
+    NotHeld where a place or length is larger than the language holds."""
     check_fits(drawing)
-    asked = ask_styles(drawing, program, freeze)
+    asked = ask_styles(drawing, program, freeze, before)
     names = Names(drawing, asked.spelled, asked.axes.facts.refs)
     judged = Judgement(asked.check.verdict, asked, names)
     match asked.check.verdict:
@@ -166,7 +169,7 @@ def _placed(judged: Judgement, drawing: Drawing, program: Asks) -> Judgement:
     solved = judged.asked.solved
     if isinstance(solved, Solved):
         judged = _measured(judged, drawing)
-        if not any(each.amount > WITHIN_NM for each in judged.deviations):
+        if not any(each.amount > FINE_NM for each in judged.deviations):
             return judged
         asked = finer(judged.asked, program)
         if asked is judged.asked:

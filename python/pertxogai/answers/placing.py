@@ -27,9 +27,8 @@ class Plate:
     def of(places: Sequence[Placed], scale: int) -> Plate:
         """The places of a sketch that is so many times as large as the drawing."""
         per = 1000 * scale
-        points: dict[str, Spot] = {
-            each.name: (Fraction(each.x_nm, per), Fraction(each.y_nm, per))
-            for each in places if isinstance(each, PlacedPoint)}
+        points: dict[str, Spot] = {each.name: (_divided(each.x_nm, per), _divided(each.y_nm, per))
+                                   for each in places if isinstance(each, PlacedPoint)}
         lines = {each.name: _line(each, per) for each in places if isinstance(each, PlacedLine)}
         return Plate(points, lines)
 
@@ -59,9 +58,15 @@ class Plate:
         return a * c, b * c
 
 
+def _divided(value: int, by: int) -> Number:
+    """A quotient, whole where it can be."""
+    whole, rest = divmod(value, by)
+    return Fraction(value, by) if rest else whole
+
+
 def _line(line: PlacedLine, per: int) -> tuple[Number, Number, Number]:
     a, b = _of_length_one(Fraction(line.a_ppb), Fraction(line.b_ppb))
-    return a, b, Fraction(line.c_nm, per)
+    return a, b, _divided(line.c_nm, per)
 
 
 def _of_length_one(a: Fraction, b: Fraction) -> Spot:
@@ -108,4 +113,4 @@ def _shift(spelled: Spelled, plate: Plate, axis: Spot, upwards: bool,
 
 
 def _whole(value: Number) -> int:
-    return (2 * value.numerator + value.denominator) // (2 * value.denominator)
+    return value if isinstance(value, int) else (2 * value.numerator + value.denominator) // (2 * value.denominator)

@@ -11,6 +11,7 @@ from pertxogai.drawing.geometry import (
     Arc, Axis, Circle, Datum, Origin, Point, Segment, Shape, Spot)
 from pertxogai.drawing.places import Place
 from pertxogai.drawing.references import ORIGIN, X_AXIS, Y_AXIS, PointRef, Which
+from pertxogai.kept import kept
 
 
 class Scene:
@@ -79,6 +80,12 @@ def points_of(shape: Shape) -> tuple[PointRef, ...]:
 def _points(name: str, which: tuple[Which, ...]) -> tuple[PointRef, ...]:
     """These points of a shape of that name."""
     return tuple(PointRef(name, each) for each in which)
+
+
+@kept
+def shares(shape: Shape) -> bool:
+    """Whether a shape has a point of another."""
+    return any(isinstance(spot_of(shape, ref.which), PointRef) for ref in points_of(shape))
 
 
 _AT_ORIGIN = Place(Fraction(0), Fraction(0))

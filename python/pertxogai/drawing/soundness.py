@@ -10,12 +10,11 @@ from pertxogai.drawing.constraint_checks import check_constraint
 from pertxogai.drawing.constraints import Constraint
 from pertxogai.drawing.geometry import Arc, Circle, Segment, Shape, Spot
 from pertxogai.drawing.kinds import MOST_UM, check_point, check_size
-from pertxogai.drawing.meetings import Meetings
 from pertxogai.drawing.names import check_constraint_name, check_shape_name
 from pertxogai.drawing.numbers import MOST_MM, mm_text
 from pertxogai.drawing.references import PointRef, Which
 from pertxogai.drawing.refusal import DrawingUnsound, WordFault
-from pertxogai.drawing.scene import Scene, points_of, spot_of
+from pertxogai.drawing.scene import Scene, points_of, shares, spot_of
 from pertxogai.drawing.sketching import Drawing
 
 
@@ -24,7 +23,7 @@ def faults(drawing: Drawing, sound: Drawing = Drawing()) -> tuple[DrawingUnsound
 
     Constraints are looked at only where all shapes are sound. Of a `sound` drawing that it was
     made from, what it has kept isn't looked at again."""
-    return tuple(_shape_faults(drawing)) or tuple(_constraint_faults(drawing, sound))
+    return tuple(_shape_faults(drawing, sound)) or tuple(_constraint_faults(drawing, sound))
 
 
 def checked(drawing: Drawing, sound: Drawing = Drawing()) -> Drawing:
@@ -34,11 +33,13 @@ def checked(drawing: Drawing, sound: Drawing = Drawing()) -> Drawing:
     return drawing
 
 
-def _shape_faults(drawing: Drawing) -> Iterator[DrawingUnsound]:
+def _shape_faults(drawing: Drawing, sound: Drawing) -> Iterator[DrawingUnsound]:
     scene = Scene()
+    known = {id(each) for each in sound.geometry if not shares(each)}
     for shape in drawing.geometry:
         try:
-            check_shape(scene, shape)
+            if id(shape) not in known or scene.has(shape.name):
+                check_shape(scene, shape)
             scene.add(shape)
         except WordFault as fault:
             yield DrawingUnsound(shape.name, fault.word, fault.what)
@@ -65,19 +66,22 @@ def _kinds(drawing: Drawing) -> list[tuple[str, type[Shape]]]:
 def ends_made_one(drawing: Drawing) -> tuple[int, str] | None:
     """The number of the first constraint that leaves both ends of a segment or an arc one point,
     with the shape's name; None where none does."""
-    def closed(constraints: tuple[Constraint, ...]) -> str | None:
-        meetings = Meetings(Drawing(drawing.geometry, constraints))
-        return next((shape.name for shape in drawing.geometry if isinstance(shape, Segment | Arc)
-                     and meetings.same(PointRef(shape.name, Which.START),
-                                       PointRef(shape.name, Which.END))), None)
     said = drawing.constraints
-    if closed(said) is None:
+    if _closed(drawing) is None:
         return None
-    number = bisect_left(range(len(said)), True,
-                         key=lambda count: closed(said[:count + 1]) is not None) + 1
-    name = closed(said[:number])
+    number = bisect_left(range(len(said)), True, key=lambda count: _closed(
+        Drawing(drawing.geometry, said[:count + 1])) is not None) + 1
+    name = _closed(Drawing(drawing.geometry, said[:number]))
     assert name is not None
     return number, name
+
+
+def _closed(drawing: Drawing) -> str | None:
+    """The first segment or arc of which both ends are one point."""
+    same = drawing.meetings.same
+    return next((shape.name for shape in drawing.geometry if isinstance(shape, Segment | Arc)
+                 and same(PointRef(shape.name, Which.START), PointRef(shape.name, Which.END))),
+                None)
 
 
 def check_name(name: str, taken: set[str]) -> None:

@@ -12,7 +12,7 @@ from pertxogai.drawing import (
 from pertxogai.drawing.geometry import Axis, Origin
 from pertxogai.measure.directions import Bend, Line, bend, bend_of_lines
 from pertxogai.measure.exact import (
-    Number, Way, apart, between, cross, length, off, quotient, roots_apart, square, whole_up)
+    Number, Way, apart, between, cross, dot, length, off, quotient, roots_apart, square, whole_up)
 from pertxogai.measure.placed import Placed, nm
 
 Amounts = tuple[int, int | None]
@@ -127,9 +127,12 @@ def _parallel_distance(placed: Placed, first: Line, second: Line, wanted: Number
 
 
 def _run(placed: Placed, run: XDistance | YDistance) -> int:
-    along = placed.x_and_y(between(placed.spot(run.first), placed.spot(run.second)))
-    root = along[0] if isinstance(run, XDistance) else along[1]
-    return off(root, nm(run_um(placed.drawing, run)))
+    way, right = between(placed.spot(run.first), placed.spot(run.second)), placed.right()
+    along = dot(right, way) if isinstance(run, XDistance) else cross(right, way)
+    wanted = nm(run_um(placed.drawing, run))
+    if square(right) == 1:
+        return whole_up(along - wanted)
+    return off(quotient(along, square(right)), wanted)
 
 
 def _level(placed: Placed, level: Horizontal | Vertical) -> Amounts:

@@ -2,7 +2,7 @@
 from __future__ import annotations
 
 from collections.abc import Callable, Sequence
-from concurrent.futures import Future, ThreadPoolExecutor
+from concurrent.futures import ThreadPoolExecutor
 from dataclasses import dataclass, field
 from functools import cached_property
 from typing import Generic, TypeVar
@@ -10,7 +10,6 @@ from typing import Generic, TypeVar
 from ..program import Answer, Asks
 
 Value = TypeVar("Value")
-CHECK, SOLVE = ("check",), ("solve", "place=boxes")
 
 
 @dataclass
@@ -27,21 +26,15 @@ class Later(Generic[Value]):
 
 @dataclass
 class Attending:
-    """A program that is asked from one thread, while the others wait for it. Beside the first
-    `check` of a call `solve` is asked too, which is asked next of what is well; of anything else
-    it answers at once, and that isn't looked at."""
+    """A program that is asked from a thread of its own, while there is something to do beside."""
 
     program: Asks
-    _pool: ThreadPoolExecutor = field(default_factory=lambda: ThreadPoolExecutor(4))
-    _ahead: dict[tuple[tuple[str, ...], str], Future[Answer]] = field(default_factory=dict)
+    _pool: ThreadPoolExecutor = field(default_factory=lambda: ThreadPoolExecutor(1))
     _waiting: list[Later[object]] = field(default_factory=list)
-    _is_first: bool = True
 
     def begin(self) -> None:
         """A call begins."""
-        self._ahead.clear()
         self._waiting.clear()
-        self._is_first = True
 
     def meanwhile(self, make: Callable[[], Value]) -> Later[Value]:
         """A value that is worked out while the program is next waited for."""
@@ -51,12 +44,9 @@ class Attending:
 
     def ask(self, words: Sequence[str], text: str) -> Answer:
         """Asks, and does meanwhile what there is to do. Raises ProgramError."""
-        answer = self._ahead.pop((tuple(words), text), None)
-        if answer is None:
-            answer = self._pool.submit(self.program.ask, words, text)
-        if self._is_first and tuple(words) == CHECK:
-            self._ahead[SOLVE, text] = self._pool.submit(self.program.ask, SOLVE, text)
-        self._is_first = False
+        if not self._waiting:
+            return self.program.ask(words, text)
+        answer = self._pool.submit(self.program.ask, words, text)
         while self._waiting:
             self._waiting.pop().value
         return answer.result()

@@ -29,8 +29,8 @@ from .judging import Judged, NotPlaced
 from .offers import offers
 from .opening import opened
 from .panel import lines_shown
-from .parts_laid import shown_between
-from .shown import drawing_shown, judgement_shown, marks_shown, places_shown
+from .shown import excess_shown, judgement_shown, places_shown
+from .sight import Sight, sight_of
 
 Json: TypeAlias = dict[str, object]
 KEPT = 4
@@ -57,7 +57,7 @@ class Desk:
         try:
             return call(self, Fields.of(given))
         except DrawingRefusal as refusal:
-            return {"refused": {"line": refusal.line, "word": refusal.word, "what": refusal.what}}
+            return {"refused": {"line": refusal.line, "message": str(refusal)}}
         except (WordFault, DrawingUnsound) as fault:
             return trouble("edit", str(fault))
         except (FieldRefused, InputRefused, FileRefusal, NotPlaced, NoPlaces,
@@ -85,12 +85,12 @@ class Desk:
             del self.kept[next(iter(self.kept))]
         return judged
 
-    def edited(self, drawing: Drawing, known: Drawing, is_known: bool = False) -> Json:
+    def edited(self, drawing: Drawing, known: Judged, is_known: bool = False) -> Json:
         """What is told of a drawing that an edit has made of a known one, kept by its text as
         what that reads as. Raises DrawingUnsound."""
-        judged = Judged(checked(drawing, known), self.attending)
+        judged = Judged(checked(drawing, known.drawing), self.attending, known.drawing)
         text = self.attending.meanwhile(lambda: write_document(drawing))
-        found = _whole(self, judged, known if is_known else None)
+        found = _whole(judged, known.sight, is_known)
         self.keep(text.value, judged)
         return {"text": text.value, **found}
 
@@ -103,50 +103,51 @@ def trouble(kind: str, message: str) -> Json:
 def _judge(desk: Desk, given: Fields) -> Json:
     """The drawing of a text, and the judgement on it."""
     text = given.text("text")
-    return {"text": text, **_whole(desk, desk.judged(text))}
+    return {"text": text, **_whole(desk.judged(text))}
 
 
-def _whole(desk: Desk, judged: Judged, known: Drawing | None = None) -> Json:
-    """The judgement, and what is drawn: what of it isn't `known` on the page."""
-    drawn = desk.attending.meanwhile(lambda: drawing_shown(judged.drawing, known))
+def _whole(judged: Judged, before: Sight | None = None, is_known: bool = False) -> Json:
+    """The judgement, and what is drawn, by what was drawn before; where that `is_known` on the
+    page, without what is as it was."""
     answer: Json = {"judgement": None}
-    solution = None
+    shown = None
     try:
         if judged.drawing.geometry:
-            parts = judged.parts()
-            answer["judgement"] = judgement_shown(judged.drawing, judged.judgement, parts)
-            solution = judged.judgement.solution
-            if solution is None and parts:
-                solution = shown_between(judged.drawing, parts)
+            shown = judged.shown()
+            answer["judgement"] = judgement_shown(judged.judgement, judged.parts)
     except DrawingRefused as error:
         answer |= trouble("language", str(error))
     except ProgramError as error:
         answer |= trouble("program", str(error))
     except (Refusal, NotHeld) as error:
         answer |= trouble("language", f"the program takes no such sketch: {error}")
-    marks = marks_shown(judged.drawing, solution)
-    return {**answer, "drawing": {**drawn.value, "marks": marks}}
+    sight = sight_of(judged.drawing, shown, before)
+    judged.sight = None if "trouble" in answer else sight
+    return {**answer, "drawing": sight.told(before if is_known else None)}
 
 
 def _edit(desk: Desk, given: Fields) -> Json:
     """The text that an edit makes of a text, and all that `judge` tells of it; where the page
-    `knows` the constraints of the first and none has changed, they aren't told again."""
-    drawing = desk.judged(given.text("text")).drawing
-    edit = read_edit(drawing, Fields.of(given.values.get("edit")))
-    return desk.edited(edit.on(drawing), drawing, given.values.get("knows") is True)
+    `knows` that of the first, what is as it was isn't told again."""
+    known = desk.judged(given.text("text"))
+    edit = read_edit(known.drawing, Fields.of(given.values.get("edit")))
+    return desk.edited(edit.on(known.drawing), known, given.flag("knows"))
 
 
 def _offers(desk: Desk, given: Fields) -> Json:
     """Which constraints fit some points and shapes."""
     found = offers(desk.judged(given.text("text")).drawing, given.texts("names"))
-    return {"offers": [{"words": list(each.words), "value": each.value} for each in found]}
+    return {"offers": [{"words": list(each.words), "sign": each.sign, "value": each.value}
+                       for each in found]}
 
 
 def _weigh(desk: Desk, given: Fields) -> Json:
-    """What may go of a drawing that is over, each with how far it is off without it."""
+    """What is left out of a drawing that is over, and what may go instead, each with how far it is
+    off without it."""
     judged = desk.judged(given.text("text"))
     return {"spare": [spare_json(each) for each in judged.weighed.surplus],
-            "lines": lines_shown(judged.drawing, judged.weighed)}
+            "excess": excess_shown(judged.weighed, judged.too_much),
+            "lines": lines_shown(judged.weighed, judged.too_much)}
 
 
 def _plan(desk: Desk, given: Fields) -> Json:
@@ -177,7 +178,7 @@ def _redraw(desk: Desk, given: Fields) -> Json:
     solution = found.solution
     moves = tuple((ref, _place(solution.spot(ref))) for ref in judged.drawing.points())
     radii = tuple((name, Fraction(solution.radius(name)) / 1000) for name in solution.radii)
-    return desk.edited(Move(moves, radii).on(judged.drawing), judged.drawing)
+    return desk.edited(Move(moves, radii).on(judged.drawing), judged)
 
 
 def _steps(given: Fields) -> tuple[int, ...]:

@@ -35,7 +35,7 @@ class Construction:
         }
 
     def _element(self, name: str, element: Element) -> Json:
-        called = self.judgement.names.element(name)
+        called = self._called(name)
         if isinstance(element, ElementPoint):
             return {"called": called, "at": list(element.at)}
         return {"called": called, "through": list(element.through), "way": list(element.way)}

@@ -4,37 +4,55 @@ from __future__ import annotations
 from dataclasses import dataclass, replace
 from functools import cached_property
 
-from ..answers import Judgement, judge_at_once, weighed
+from ..answers import Judgement, TooMuch, judge_at_once, too_much, weighed
 from ..answers.solution import solution_of
 from ..drawing import Drawing
 from ..language import Refusal
 from ..language.claim import Claim
 from ..language.flips import Flip, Flips
-from ..program import Asks, Status
+from ..measure import Solution
+from ..program import Asks, ProgramError, Status
 from ..reports import (
     ClaimFails, Flipped, Plan, Refused, Shape, Solved, Verdict, Verified, read_answer, read_flips,
     read_plan, read_verify)
 from .construction import Construction
 from .frame import elements_placed
-from .parts_laid import LaidPart, parts_laid
+from .panel import Untold
+from .parts_laid import LaidPart, parts_laid, shown_between
+from .sight import Sight
 
 
 class NotPlaced(Exception):
     """What is asked for needs a drawing that is well and placed. The message is one line."""
 
 
-@dataclass(frozen=True)
+@dataclass
 class Judged:
-    """A drawing and the judgement on it, by a program that is asked for more."""
+    """A drawing and the judgement on it, by a program that is asked for more. before: the drawing
+    that an edit has made this one from. sight: what the page was told of it last."""
 
     drawing: Drawing
     program: Asks
+    before: Drawing = Drawing()
+    sight: Sight | None = None
 
     @cached_property
     def judgement(self) -> Judgement:
         """The judgement, in which what may go isn't measured. Raises ProgramError, Refusal,
         NotHeld."""
-        return judge_at_once(self.drawing, self.program)
+        return judge_at_once(self.drawing, self.program, before=self.before)
+
+    @cached_property
+    def too_much(self) -> TooMuch | Untold:
+        """Where the drawing is over, what is left out of it, or why that can't be told. Raises as
+        `judgement`."""
+        if self.judgement.verdict is not Verdict.OVER:
+            return TooMuch(())
+        whole = {each.number for each in self.weighed.surplus if each.off is not None}
+        try:
+            return too_much(self.judgement.names, self.program, whole)
+        except ProgramError as error:
+            return Untold(" ".join(str(error).split()))
 
     @cached_property
     def weighed(self) -> Judgement:
@@ -46,11 +64,19 @@ class Judged:
         """The drawing in the language."""
         return self.judgement.asked.spelled.sketch.text()
 
+    @cached_property
     def parts(self) -> tuple[LaidPart, ...]:
         """Where the drawing is open, each part laid on it."""
         if self.judgement.verdict is not Verdict.OPEN:
             return ()
         return parts_laid(self.judgement, self.program)
+
+    def shown(self) -> Solution | None:
+        """Where all is shown: as it is placed, or as the parts of what is open are laid; None for
+        where it is drawn."""
+        if self.judgement.solution is None and self.parts:
+            return shown_between(self.drawing, self.parts)
+        return self.judgement.solution
 
     def solved(self) -> Solved:
         """The places. Raises NotPlaced."""

@@ -16,6 +16,7 @@ from ..drawing.numbers import decimal_text
 from ..picture.designed import Whereabouts
 from ..picture.plane import foot
 from .rereading import asked
+from .signs import sign_of
 
 VALUED = frozenset({
     ConstraintWord.ANGLE, ConstraintWord.LENGTH, ConstraintWord.DISTANCE, ConstraintWord.X,
@@ -25,10 +26,11 @@ VALUED = frozenset({
 
 @dataclass(frozen=True)
 class Offer:
-    """A constraint that could be asked for: its words without a value, and where it takes one,
-    that which is drawn."""
+    """A constraint that could be asked for: its words without a value, its sign, and where it
+    takes a value, that which is drawn."""
 
     words: tuple[str, ...]
+    sign: str
     value: str | None
 
 
@@ -54,7 +56,8 @@ def _offer(drawing: Drawing, word: ConstraintWord, points: list[str],
             found = asked(drawing, trial)
         except WordFault:
             continue
-        return Offer(words, _value(drawing, found[0]) if word in VALUED else None)
+        value = _value(drawing, found[0]) if word in VALUED else None
+        return Offer(words, sign_of(found[0]), value)
     return None
 
 

@@ -5,7 +5,7 @@ from collections.abc import Iterator
 from dataclasses import dataclass
 from fractions import Fraction
 
-from ..answers import Judgement, Surplus
+from ..answers import Excess, Judgement, Surplus, TooMuch
 from ..answers.faults import Amount, Failure
 from ..drawing import Drawing
 from ..drawing.numbers import mm_text
@@ -15,6 +15,8 @@ from ..told import JudgedDrawing
 
 MOST_PIECES, MOST_JOINTS = 40, 20
 """So many of them at most are told."""
+ROUNDING_UM = Fraction(2, 1000)
+"""Within what a repeat is isn't told where it is no more: places are whole nanometres."""
 
 
 @dataclass(frozen=True)
@@ -31,18 +33,27 @@ class Line:
     part: int | None = None
 
 
-def lines_shown(drawing: Drawing, judgement: Judgement) -> list[dict[str, object]]:
-    """All lines, each with what it has."""
+@dataclass(frozen=True)
+class Untold:
+    """Why what is left out of what is over can't be told, in one line."""
+
+    why: str
+
+
+def lines_shown(judgement: Judgement,
+                left: TooMuch | Untold = TooMuch(())) -> list[dict[str, object]]:
+    """All lines, each with what it has. left: what is left out of what is over."""
     return [{name: value for name, value in vars(line).items() if value not in ("", (), None)}
-            for line in (*_told(drawing, judgement), *_notes(judgement))]
+            for line in (*_told(judgement, left), *_notes(judgement))]
 
 
-def _told(drawing: Drawing, judgement: Judgement) -> Iterator[Line]:
+def _told(judgement: Judgement, left: TooMuch | Untold) -> Iterator[Line]:
+    drawing = judgement.names.drawing
     if judgement.failure is not None:
         return _fault(drawing, judgement.failure)
     if judgement.verdict is Verdict.WELL:
         return _well(drawing, judgement)
-    return _open(judgement) if judgement.verdict is Verdict.OPEN else _over(judgement)
+    return _open(judgement) if judgement.verdict is Verdict.OPEN else _over(judgement, left)
 
 
 def _well(drawing: Drawing, judgement: Judgement) -> Iterator[Line]:
@@ -75,22 +86,70 @@ def _open(judgement: Judgement) -> Iterator[Line]:
                    f"{joint.tie.value}", list="what to do", selects=joint.shared)
 
 
-def _over(judgement: Judgement) -> Iterator[Line]:
-    """What may go, and what it would be off."""
-    yield Line("Too many dimensions. One of these may go:" if judgement.surplus
-               else "Too many dimensions, and none can go by itself.")
-    for each in judgement.surplus:
-        yield Line(f"{each.name}: {_surplus(each)}", list="spare constraints", takes=each.number)
+def _over(judgement: Judgement, left: TooMuch | Untold) -> Iterator[Line]:
+    """What is left out, and what becomes of the others; and what may go instead."""
+    listed = () if isinstance(left, Untold) else left.dimensions
+    numbers = {each.number for each in listed if not each.in_part}
+    others = [each for each in judgement.surplus if each.number not in numbers]
+    yield Line(_head(left, bool(others)))
+    for each in listed:
+        yield Line(f"{each.name}: {excess_told(judgement, each)}", list="left out",
+                   takes=None if each.in_part else each.number)
+    if listed and others:
+        yield Line("Or one of these may go instead:")
+    for other in others:
+        yield Line(f"{other.name}: {_surplus(other)}", list="spare constraints",
+                   takes=other.number)
+    if isinstance(left, Untold):
+        yield Line(f"What is left out can’t be told: {left.why}", "quiet")
+    elif left.helps:
+        yield Line("A line of help is too much too.")
+
+
+def _head(left: TooMuch | Untold, has_others: bool) -> str:
+    """What the first list of what is over is."""
+    if isinstance(left, TooMuch) and left.dimensions:
+        return f"Too many dimensions. {left.rest.value}"
+    return ("Too many dimensions. One of these may go:" if has_others
+            else "Too many dimensions, and none can go by itself.")
+
+
+def excess_told(judgement: Judgement, each: Excess) -> str:
+    """What a dimension that is left out is: a repeat of the others, or a contradiction, by how
+    much, and which way the others are off it, where that is known."""
+    alone = next((other for other in judgement.surplus if other.number == each.number), None)
+    return "in part too much: " * each.in_part + _excess(each, alone)
+
+
+def _excess(each: Excess, alone: Surplus | None) -> str:
+    """alone: the same as one that may go by itself, if it is."""
+    if each.conflicts is None:
+        return "left out; not measured"
+    if not each.conflicts:
+        return _repeat(each.off_um or Fraction(0))
+    if each.off_um:
+        way = "more" if each.off_um > 0 else "less"
+        return f"a contradiction by {_mm(each.off_um)}, the others make it {way}"
+    return _surplus(alone) if alone is not None and alone.repeats() is False else "a contradiction"
+
+
+def _repeat(off_um: Fraction) -> str:
+    """A repeat, and within what, where that is more than rounding."""
+    return "a repeat" if abs(off_um) <= ROUNDING_UM else f"a repeat, within {_mm(off_um)}"
+
+
+def _mm(um: Fraction) -> str:
+    return f"{mm_text(abs(um))}\u00a0mm"
 
 
 def _surplus(each: Surplus) -> str:
     """What of a dimension that may go is known: a repeat, or a contradiction by how much."""
     if each.off is None:
         return "may go"
+    off_um = Fraction(each.off.amount, 1000) if each.off.unit is Unit.NM else None
     if each.repeats():
-        return "a repeat"
-    by = (f"{mm_text(Fraction(each.off.amount, 1000))}\u00a0mm" if each.off.unit is Unit.NM
-          else f"{each.off.amount}\u00a0{each.off.unit.value}")
+        return _repeat(off_um or Fraction(0))
+    by = f"{each.off.amount}\u00a0{each.off.unit.value}" if off_um is None else _mm(off_um)
     return f"a contradiction by {by}"
 
 

@@ -2,11 +2,11 @@
 from __future__ import annotations
 
 from collections.abc import Iterator
-from dataclasses import dataclass, field, fields, is_dataclass
+from dataclasses import dataclass, field
 
-from ..drawing import (
-    Constraint, Drawing, Note, Pair, PointRef, Shape, ShapeRef, Spot, points_of)
+from ..drawing import Drawing, Note, PointRef, Shape, Spot, points_of
 from ..drawing.scene import spot_of
+from ..drawing.spoken import named
 from .spots import leader_of, with_spot
 
 
@@ -19,23 +19,6 @@ def without(drawing: Drawing, shapes: frozenset[str], numbers: frozenset[int]) -
             if number not in numbers and not shapes.intersection(named(each))]
     return Drawing(kept, tuple(drawing.constraints[number - 1] for number in asks),
                    tuple(_notes(drawing, shapes, frozenset(asks))))
-
-
-def named(constraint: Constraint) -> Iterator[str]:
-    """The names of the shapes that a constraint speaks of."""
-    for ref in refs_of(constraint):
-        yield ref.shape if isinstance(ref, PointRef) else ref.name
-
-
-def refs_of(constraint: Constraint) -> Iterator[PointRef | ShapeRef]:
-    """The points and shapes that a constraint speaks of, in order."""
-    assert is_dataclass(constraint)
-    for each in fields(constraint):
-        value = getattr(constraint, each.name)
-        if isinstance(value, Pair):
-            yield from (value.first, value.second)
-        elif isinstance(value, (PointRef, ShapeRef)):
-            yield value
 
 
 @dataclass(frozen=True)

@@ -1,84 +1,46 @@
-"""A drawing and the judgement on it, as one object of JSON for the page. Lengths are millimetres
-to look at; what was measured stays in whole nanometres."""
+"""The judgement on a drawing, as one object of JSON for the page. Lengths are millimetres to look
+at; what was measured stays in whole nanometres."""
 from __future__ import annotations
 
 from collections.abc import Iterable, Mapping
 
-from ..answers import Judgement
-from ..drawing import (
-    Arc, Circle, Constraint, Drawing, PointRef, Shape, points_of)
-from ..measure import Solution
+from ..answers import Judgement, TooMuch
+from ..drawing import Arc, Circle, PointRef
 from ..picture.designed import Whereabouts
-from ..shape_parts import parts_of_shapes
-from ..told import JudgedDrawing, spare_json, spelled_json, within_json
+from ..reports import Verdict
+from ..shape_parts import parts_of_points, parts_of_shapes
+from ..told import spare_json
 from .motion import Spot
-from .panel import lines_shown
+from .panel import Untold, excess_told, lines_shown
 from .parts_laid import LaidPart
-from .signs import Mark, marks
-from .spots import leader_of
 
 Json = dict[str, object]
 
 
-def drawing_shown(drawing: Drawing, known: Drawing | None = None) -> Json:
-    """The shapes where they are drawn, and the constraints, but for those of a drawing that is
-    known already, where they are the same."""
-    where = Whereabouts(drawing, None)
-    asked = None
-    if known is None or known.constraints != drawing.constraints:
-        asked = [_constraint(drawing, number, each)
-                 for number, each in enumerate(drawing.constraints, 1)]
-    return {"shapes": [_shape(where, shape) for shape in drawing.geometry], "constraints": asked}
-
-
-def marks_shown(drawing: Drawing, solution: Solution | None) -> list[Mark]:
-    """The marks of the constraints where all is placed, or drawn."""
-    return list(marks(Whereabouts(drawing, solution)))
-
-
-def _shape(where: Whereabouts, shape: Shape) -> Json:
-    drawing = where.drawing
-    found: Json = {
-        "name": shape.name, "kind": type(shape).__name__.lower(),
-        "construction": shape.construction, "outer": shape.outer,
-        "points": {str(ref): _spot(where.at(ref)) for ref in points_of(shape)},
-        "shares": [str(ref) for ref in points_of(shape) if leader_of(drawing, ref) != ref],
-    }
-    if isinstance(shape, (Circle, Arc)):
-        found["radius"] = where.radius(shape.name)
-    return found
-
-
-def _constraint(drawing: Drawing, number: int, constraint: Constraint) -> Json:
-    words = drawing.wordings[number - 1].split()
-    has_value = hasattr(constraint, "value_um") or hasattr(constraint, "value")
-    return {"number": number, "name": constraint.name, "called": drawing.called(number),
-            "words": " ".join(words), "value": words[-1] if has_value else None}
-
-
-def judgement_shown(drawing: Drawing, judgement: Judgement, parts: Iterable[LaidPart]) -> Json:
-    """What is judged, and where it is shown."""
-    judged = JudgedDrawing("the drawing", drawing, judgement)
-    solution = judgement.solution
+def judgement_shown(judgement: Judgement, parts: Iterable[LaidPart]) -> Json:
+    """What is judged, and where it is shown. What is left out of what is over isn't told yet."""
+    drawing, solution = judgement.names.drawing, judgement.solution
+    placed = None if solution is None else places_shown(Whereabouts(drawing, solution))
     return {
         "verdict": judgement.verdict.value,
-        "lines": lines_shown(drawing, judgement),
-        **spelled_json(judged),
-        **within_json(judged),
+        "lines": lines_shown(judgement),
         "spare": [spare_json(each) for each in judgement.surplus],
-        "placed": _placed(drawing, solution) if solution is not None else None,
+        "excess": [],
+        "placed": placed,
         "laid": [_laid(part) for part in parts],
-        "colours": dict(parts_of_shapes(judgement)),
+        "colours": _colours(judgement),
         "missing": _missing(judgement),
         "failure": _failure(judgement),
-        "warnings": [{"text": each.text(), "shapes": list(each.shapes)}
-                     for each in judgement.warnings],
         "language": judgement.asked.spelled.sketch.text(),
     }
 
 
-def _placed(drawing: Drawing, solution: Solution) -> Json:
-    return places_shown(Whereabouts(drawing, solution))
+def excess_shown(judgement: Judgement, left: TooMuch | Untold) -> list[Json]:
+    """The dimensions that are left out, each as it is told."""
+    if isinstance(left, Untold):
+        return []
+    return [{"number": each.number, "conflicts": each.conflicts,
+             "told": excess_told(judgement, each)} for each in left.dimensions]
 
 
 def places_shown(where: Whereabouts) -> Json:
@@ -94,7 +56,14 @@ def _laid(part: LaidPart) -> Json:
 
 
 def _points(points: Mapping[PointRef, Spot]) -> Json:
-    return {str(ref): _spot(spot) for ref, spot in points.items()}
+    return {str(ref): list(spot) for ref, spot in points.items()}
+
+
+def _colours(judgement: Judgement) -> Json:
+    """The parts of the points and shapes, by their names; none of what is all of one part."""
+    if judgement.verdict is Verdict.WELL:
+        return {}
+    return {**parts_of_points(judgement), **parts_of_shapes(judgement)}
 
 
 def _missing(judgement: Judgement) -> Json | None:
@@ -122,9 +91,3 @@ def _failure(judgement: Judgement) -> Json | None:
         amount = {"low": float(low), "high": float(high), "unit": found.amount.unit.value}
     return {"text": found.text.strip(), "dimensions": list(found.dimensions),
             "at": list(found.at), "amount": amount}
-
-
-def _spot(spot: Spot) -> list[float]:
-    return [spot[0], spot[1]]
-
-

@@ -4,39 +4,48 @@ from __future__ import annotations
 
 import math
 from collections.abc import Iterator, Mapping
+from contextlib import suppress
 
-from ..drawing import Arc, Axis, Circle, Constraint, Pair, PointRef, ShapeRef, Which
+from ..drawing import (
+    Arc, Axis, Circle, Coincident, Collinear, Concentric, Constraint, Equal, Fixed, Horizontal,
+    Midpoint, Pair, Parallel, Perpendicular, PointOn, PointRef, ShapeRef, Symmetric, Tangent,
+    Vertical, Which)
+from ..drawing.spoken import refs_of
 from ..measure.solution import MissingPlace
 from ..picture.designed import BAR, Whereabouts
 from ..picture.marks import LengthBar, Spot, Tag
 from ..picture.plane import between, sweep
-from .removal import refs_of
 
 Mark = Mapping[str, object]
 
-
-def marks(where: Whereabouts) -> Iterator[Mark]:
-    """The marks of all constraints, each with its constraint's place from 1."""
-    for number, constraint in enumerate(where.drawing.constraints, 1):
-        try:
-            yield from (_numbered(mark, number) for mark in _marks(where, constraint))
-        except MissingPlace:
-            continue
+_SIGNS: Mapping[type, str] = {
+    Horizontal: "―", Vertical: "|", Parallel: "∥", Perpendicular: "⊥", Collinear: "⋯", Equal: "=",
+    Tangent: "◠", Concentric: "◎", Symmetric: "⇔", Midpoint: "△", Fixed: "▣", Coincident: "●",
+    PointOn: "×"}
 
 
-def _numbered(mark: Mark, number: int) -> Mark:
-    return {"number": number, **mark}
+def sign_of(constraint: Constraint) -> str:
+    """The sign that stands for a constraint; none of one that has a value."""
+    return _SIGNS.get(type(constraint), "")
+
+
+def marks(where: Whereabouts, number: int, constraint: Constraint) -> Iterator[Mark]:
+    """The marks of the constraint at a place, from 1; none where a place isn't known that it
+    speaks of."""
+    with suppress(MissingPlace):
+        for mark in _marks(where, constraint):
+            yield {**mark, "number": number}
 
 
 def _marks(where: Whereabouts, constraint: Constraint) -> Iterator[Mark]:
     shown = list(where.dimensions(constraint, BAR))
     for each in shown:
         if isinstance(each, LengthBar):
-            yield {"bar": [_spot(each.start), _spot(each.end)], "text": each.text}
+            yield {"bar": [list(each.start), list(each.end)], "text": each.text}
         elif isinstance(each, Tag):
-            yield {"at": _spot(each.at), "radius": each.radius, "text": each.text}
+            yield {"at": list(each.at), "radius": each.radius, "text": each.text}
     if not shown:
-        yield from ({"sign": type(constraint).__name__.lower(), "at": _spot(at)}
+        yield from ({"sign": sign_of(constraint), "at": list(at)}
                     for at in _places(where, constraint))
 
 
@@ -73,7 +82,3 @@ def _middle(where: Whereabouts, ref: ShapeRef) -> Spot:
     radius = where.radius(ref.name)
     return (centre[0] + radius * math.cos(first + turn / 2),
             centre[1] + radius * math.sin(first + turn / 2))
-
-
-def _spot(spot: Spot) -> list[float]:
-    return [spot[0], spot[1]]

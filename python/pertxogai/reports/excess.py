@@ -97,7 +97,7 @@ class ExcessReport:
 def read_excess(text: str) -> ExcessReport:
     """The report of `excess`. Raises NotAReport."""
     with whole(text, "excess") as rows:
-        parts = []
+        parts: list[OverPart] = []
         for _ in range(int(rows.take(_EXCESS)[1])):
             parts.append(_over_part(rows, parts[-1].part.number if parts else 0))
     return ExcessReport(tuple(parts))

@@ -6,15 +6,15 @@ from collections.abc import Iterator
 from dataclasses import dataclass, replace
 
 from pertxogai.drawing import Drawing
+from pertxogai.kept import kept
 from pertxogai.spelling.axes import Axes
 from pertxogai.spelling.facts import Facts
-from pertxogai.spelling.lines import Lines
 from pertxogai.spelling.lowering import lowered
 from pertxogai.spelling.middles import with_ways
-from pertxogai.spelling.mirrors import with_halves, with_implied
 from pertxogai.spelling.polygons import with_polygons
 from pertxogai.spelling.rails import Rails
 from pertxogai.spelling.slots import with_slots
+from pertxogai.spelling.spellings import Spellings
 from pertxogai.spelling.style import Style
 from pertxogai.spelling.writing import Care, Spelled, written
 
@@ -42,18 +42,29 @@ READINGS = (Reading(), Reading(middles=True), Reading(slots=False), Reading(ways
 
 def axes_of(drawing: Drawing, reading: Reading = READINGS[0]) -> Axes:
     """What a drawing says of x and y."""
-    return _axes(_read(lowered(drawing), reading))
+    return Spellings.of(_read(lowered(drawing), reading)).axes
 
 
-def readings(drawing: Drawing) -> Iterator[Axes]:
-    """What a drawing says of x and y, by each reading that takes it otherwise than those before."""
-    said = lowered(drawing)
+def readings(drawing: Drawing, before: Drawing = Drawing()) -> Iterator[Spellings]:
+    """How a drawing is spelled by each reading that takes it otherwise than those before. What an
+    edit has left of the drawing before is taken over."""
+    said = lowered(drawing, before)
     seen: list[Facts] = []
+    _made(drawing)[:] = []
     for reading in READINGS:
         facts = _read(said, reading)
         if facts not in seen:
             seen.append(facts)
-            yield _axes(facts)
+            known = (each.redrawn(facts) for each in _made(before))
+            found = next((each for each in known if each), None) or Spellings.of(facts)
+            _made(drawing).append(found)
+            yield found
+
+
+@kept
+def _made(drawing: Drawing) -> list[Spellings]:
+    """What was spelled of a drawing so far."""
+    return []
 
 
 def _read(said: Facts, reading: Reading) -> Facts:
@@ -64,14 +75,5 @@ def _read(said: Facts, reading: Reading) -> Facts:
     return with_slots(facts) if reading.slots else facts
 
 
-def _axes(said: Facts) -> Axes:
-    """What some facts say of x and y, and what follows from it."""
-    facts: Facts | None = said
-    while facts is not None:
-        axes = Axes(facts, Lines(facts))
-        facts = with_implied(axes) or with_halves(axes)
-    return axes
-
-
-__all__ = ["Axes", "Care", "READINGS", "Rails", "Reading", "Spelled", "Style", "axes_of",
-           "readings", "spell", "written"]
+__all__ = ["Axes", "Care", "READINGS", "Rails", "Reading", "Spelled", "Spellings", "Style",
+           "axes_of", "readings", "spell", "written"]

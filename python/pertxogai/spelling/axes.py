@@ -105,6 +105,18 @@ class Axes:
         Settling(other).settle()
         return other
 
+    def redrawn(self, facts: Facts) -> Axes | None:
+        """The same of facts that differ by where things are drawn alone; None where a point is
+        drawn on another side than before."""
+        other = copy(self)
+        other.facts = facts
+        other.frames = [replace(each, way=facts.direction(each.line)) for each in self.frames]
+        other._of_root = {root: other.frames[each.number] for root, each in self._of_root.items()}
+        other._signs = {}
+        is_so = all(other.sign(other.frames[frame], upwards, first, second) == sign
+                    for (frame, upwards, first, second), sign in self._signs.items())
+        return other if is_so else None
+
     def surplus(self) -> list[tuple[Equation, Told]]:
         """The equations that say nothing new, but for radii that are told again as they are."""
         return [(equation, told) for equation, told in self.told
@@ -270,8 +282,7 @@ class Axes:
         if upwards is None:
             for knot in (fact.first, fact.second):
                 half = Form.of(HalfOf(fact.owner))
-                self.loose.append(Off(knot, fact.line, half, self.facts.left(knot, fact.line),
-                                      fact.owner))
+                self.loose.append(Off(knot, fact.line, half, fact.owner))
             return
         frame = self.frame(line).number
         on_line = self.at(frame, upwards, self.lines.members(line)[0].knot)

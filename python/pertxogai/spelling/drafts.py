@@ -2,7 +2,7 @@
 owners."""
 from __future__ import annotations
 
-from collections.abc import Callable, Iterable
+from collections.abc import Callable, Iterable, Sequence
 from dataclasses import dataclass, field
 from fractions import Fraction
 from math import lcm
@@ -54,14 +54,19 @@ class Rounded:
     told_um: Fraction
 
 
+Worded = tuple[tuple[language.Constraint, ...], tuple[Rounded, ...]]
+"""Constraints of the language, and what of them had to be rounded."""
+
+
 @dataclass
 class Sheet:
     """The elements and constraints so far; points and lines by their names, in micrometres of the
-    drawing."""
+    drawing. told: the constraints of all drafts by scale, once they are told."""
 
     points: dict[str, Spot] = field(default_factory=dict)
     lines: dict[str, tuple[Spot, Spot]] = field(default_factory=dict)
     drafts: list[Draft] = field(default_factory=list)
+    told: dict[int, Worded] = field(default_factory=dict)
 
     def scale(self) -> int:
         """How many times larger the sketch is told, so that its values are whole micrometres where
@@ -81,14 +86,20 @@ class Sheet:
                                    for each in spot)) for name, spot in self.points.items()]
         for name, ends in self.lines.items():
             elements.append(_line(name, ends, scale))
-        rounded = []
-        constraints: list[language.Constraint] = []
-        for number, draft in enumerate(self.drafts, 1):
-            constraints.append(_constraint(draft, scale))
-            if draft.value_um is not None and (draft.value_um * scale).denominator != 1:
-                told = Fraction(_whole(draft.value_um * scale), scale)
-                rounded.append(Rounded(number, draft.value_um, told))
-        return language.Sketch(1, tuple(elements), tuple(constraints)), tuple(rounded)
+        if scale not in self.told:
+            self.told[scale] = _told(self.drafts, scale)
+        constraints, rounded = self.told[scale]
+        return language.Sketch(1, tuple(elements), constraints), rounded
+
+
+def _told(drafts: Sequence[Draft], scale: int) -> Worded:
+    """The constraints of drafts, so many times larger, and the values that had to be rounded."""
+    rounded = []
+    for number, draft in enumerate(drafts, 1):
+        if draft.value_um is not None and (draft.value_um * scale).denominator != 1:
+            told = Fraction(_whole(draft.value_um * scale), scale)
+            rounded.append(Rounded(number, draft.value_um, told))
+    return tuple(_constraint(draft, scale) for draft in drafts), tuple(rounded)
 
 
 def _constraint(draft: Draft, scale: int) -> language.Constraint:

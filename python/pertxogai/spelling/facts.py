@@ -5,7 +5,7 @@ Each fact has an owner: the constraint, or the shape, that says it.
 """
 from __future__ import annotations
 
-from dataclasses import dataclass, field
+from dataclasses import dataclass, field, fields
 from typing import NamedTuple
 
 from pertxogai.drawing import Place, PointRef, ShapeRef
@@ -82,13 +82,11 @@ class Apart:
 
 @dataclass(frozen=True)
 class Off:
-    """A point is `value` away from a line, on the side where it is drawn: `sign` is 1 on the left
-    of the line's drawn direction, else -1."""
+    """A point is `value` away from a line, on the side where it is drawn."""
 
     point: Knot
     line: Line
     value: Form
-    sign: int
     owner: Owner
 
     def ends(self) -> tuple[Knot, Knot | Line]:
@@ -187,6 +185,11 @@ class Facts:
     repeats: list[Owner] = field(default_factory=list)
     implied: dict[Line, tuple[Knot, Knot]] = field(default_factory=dict)
     """Lines of which the direction follows from the places of two of their points."""
+
+    def says(self, other: Facts) -> bool:
+        """Whether others differ by where things are drawn alone."""
+        return all(getattr(self, each.name) == getattr(other, each.name)
+                   for each in fields(self) if each.name != "drawn")
 
     def direction(self, line: Line) -> tuple[Number, Number]:
         """The drawn direction of a line, from its first own point to its second."""

@@ -1,6 +1,7 @@
 """The facts that each word of a designer says."""
 from __future__ import annotations
 
+from dataclasses import replace
 from fractions import Fraction
 from math import atan2, cos, hypot, pi, sin, sqrt
 
@@ -10,42 +11,128 @@ from pertxogai.drawing import (
     Parallel, ParallelDistance, Perpendicular, Place, PointLineDistance, PointOn, PointRef, Radius,
     Segment, Sense, Shape, ShapeRef, Slope, Symmetric, Tangent, Touch, Vertical, Which, XDistance,
     YDistance, points_of, run_um, touch, turn)
+from pertxogai.drawing.scene import spot_of
+from pertxogai.drawing.spoken import named
+from pertxogai.kept import kept
 from pertxogai.spelling.facts import (
     ORIGIN_KNOT, Apart, Between, Fact, Facts, Knot, Leans, LengthOf, Lies, Middle, Mirror, Off,
     OneLine, Owner, RadiusOf, Shift, Sized, Stays)
 from pertxogai.spelling.knots import knots_of
 from pertxogai.spelling.lean import SQUARE, Lean
-from pertxogai.values import Form, small
+from pertxogai.values import Form, Number, small
 
 LEVEL = Lean()
 RIMS = (Circle, Arc)
 
 
-def lowered(drawing: Drawing) -> Facts:
-    """All facts of a drawing."""
-    return _Lowering(drawing).facts
+DRAWN = (XDistance, YDistance, AngleBetween, Tangent, Fixed)
+"""What these say depends on where things are drawn."""
+
+
+def lowered(drawing: Drawing, before: Drawing = Drawing()) -> Facts:
+    """All facts of a drawing; those of the drawing before, where it was made from that by drawing
+    something elsewhere, and nothing says another thing there."""
+    facts = next((found for known in _known(before) if (found := _redrawn(drawing, before, known))),
+                 None) or _Lowering(drawing, _points(drawing)).all()
+    _known(drawing)[:] = [facts]
+    return facts
+
+
+@kept
+def _known(drawing: Drawing) -> list[Facts]:
+    """The facts of a drawing, once they are found."""
+    return []
+
+
+def _points(drawing: Drawing) -> Facts:
+    """The points of a drawing, of which nothing is said yet."""
+    refs, repeats = knots_of(drawing)
+    return Facts(refs, _places(drawing, refs), repeats=repeats)
+
+
+def _places(drawing: Drawing, refs: dict[PointRef, Knot]) -> dict[Knot, tuple[Number, Number]]:
+    """Where each point is drawn: where the first of those is that are one."""
+    found: dict[Knot, tuple[Number, Number]] = {}
+    for ref, knot in refs.items():
+        if knot not in found:
+            place = drawing.drawn(ref)
+            found[knot] = small(place.x_um), small(place.y_um)
+    return found
+
+
+def _redrawn(drawing: Drawing, before: Drawing, facts: Facts) -> Facts | None:
+    """The facts of a drawing that differs from the one before by where some shapes are drawn; None
+    where it differs otherwise, or something says another thing than there."""
+    moved = _moved(drawing, before)
+    if moved is None or any(isinstance(each, AngleBetween) and each.sense is Sense.SIGNED
+                            for each in drawing.constraints):
+        return None
+    found = replace(facts, drawn=_places(drawing, facts.refs))
+    for number, constraint in enumerate(drawing.constraints, 1):
+        if isinstance(constraint, DRAWN) and not moved.isdisjoint(named(constraint)):
+            now, then = (_Lowering(each, replace(said, own=dict(said.own), facts=[])).one(number)
+                         for each, said in ((drawing, found), (before, facts)))
+            if now != then:
+                return None
+    return found
+
+
+def _moved(drawing: Drawing, before: Drawing) -> set[str] | None:
+    """The shapes that are drawn elsewhere than before, and those that have a point of them or one
+    that is told to be one with theirs; None where the drawings differ otherwise."""
+    pairs = zip(drawing.constraints, before.constraints)
+    if len(drawing.constraints) != len(before.constraints) or len(drawing.geometry) != len(
+            before.geometry) or not all(one is other for one, other in pairs):
+        return None
+    moved = set()
+    for shape, old in zip(drawing.geometry, before.geometry):
+        if shape is not old:
+            if shape.outer or _structure(shape) != _structure(old):
+                return None
+            moved.add(shape.name)
+    for shape in drawing.geometry:
+        if any(spot is not None and spot.shape in moved for spot in _shared(shape)):
+            moved.add(shape.name)
+    leader = drawing.meetings.leader
+    return moved | {ref.shape for ref in drawing.points() if leader(ref).shape in moved}
+
+
+def _structure(shape: Shape) -> tuple[object, ...]:
+    """What of a shape isn't where it is drawn."""
+    return type(shape), shape.name, shape.outer, _shared(shape)
+
+
+def _shared(shape: Shape) -> tuple[PointRef | None, ...]:
+    """The points of others that a shape has for its own, each at its place."""
+    spots = (spot_of(shape, ref.which) for ref in points_of(shape))
+    return tuple(spot if isinstance(spot, PointRef) else None for spot in spots)
 
 
 class _Lowering:
     """A drawing on its way to facts."""
 
-    def __init__(self, drawing: Drawing) -> None:
+    def __init__(self, drawing: Drawing, facts: Facts) -> None:
         self.drawing = drawing
-        self.facts = Facts()
+        self.facts = facts
         self._lengths: set[LengthOf] = set()
-        self.facts.refs, self.facts.repeats = knots_of(drawing)
-        for ref, knot in self.facts.refs.items():
-            place = drawing.drawn(ref)
-            self.facts.drawn.setdefault(knot, (small(place.x_um), small(place.y_um)))
+
+    def all(self) -> Facts:
+        """All that its shapes and its constraints say."""
         self.facts.own[X_AXIS] = (ORIGIN_KNOT, ORIGIN_KNOT)
         self.facts.own[Y_AXIS] = (ORIGIN_KNOT, ORIGIN_KNOT)
-        for number, shape in enumerate(drawing.geometry, 1):
+        for number, shape in enumerate(self.drawing.geometry, 1):
             self._shape(shape, Owner(number, True))
-        for constraint in drawing.constraints:
+        for constraint in self.drawing.constraints:
             if isinstance(constraint, AngleBetween) and constraint.sense is Sense.SIGNED:
                 self._redraw(constraint)
-        for number, constraint in enumerate(drawing.constraints, 1):
-            self._constraint(constraint, Owner(number))
+        for number in range(1, len(self.drawing.constraints) + 1):
+            self.one(number)
+        return self.facts
+
+    def one(self, number: int) -> list[Fact]:
+        """What is said once the constraint of that number, from 1, has been heard."""
+        self._constraint(self.drawing.constraints[number - 1], Owner(number))
+        return self.facts.facts
 
     def _say(self, fact: Fact) -> None:
         self.facts.facts.append(fact)
@@ -113,7 +200,7 @@ class _Lowering:
         return Form.of(size)
 
     def _off(self, point: Knot, line: ShapeRef, value: Form, owner: Owner) -> None:
-        self._say(Off(point, line, value, self.facts.left(point, line), owner))
+        self._say(Off(point, line, value, owner))
 
     def _constraint(self, constraint: Constraint, owner: Owner) -> None:
         match constraint:

@@ -4,6 +4,7 @@ from __future__ import annotations
 
 from collections import Counter
 from collections.abc import Hashable, Iterable
+from copy import copy
 from dataclasses import dataclass
 from functools import cached_property
 
@@ -82,6 +83,12 @@ class Rails:
         for size in self._all_sizes():
             rest = self._system.value(size)
             self._sizes.setdefault(Size(rest.key()), (size, rest.number))
+
+    def of(self, axes: Axes) -> Rails:
+        """The same rails, of axes that say the same."""
+        other = copy(self)
+        other.axes = axes
+        return other
 
     def _all_sizes(self) -> list[Hashable]:
         forms = [equation.form for equation in self.axes.equations]
@@ -173,6 +180,7 @@ class Rails:
                 found.append(Pending(number, form))
         return found
 
+    @cached_property
     def lost(self) -> frozenset[Owner]:
         """Who says something that neither the rails nor the sizes can say."""
         system = LinearSystem(lambda key: 0 if isinstance(key, Size) else 1)

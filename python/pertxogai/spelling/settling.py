@@ -91,8 +91,12 @@ class Settling:
 
     def _run(self, frame: Frame, upwards: bool, fact: Apart) -> Form:
         """The way from the first point to the second along an axis."""
-        return (self.axes.at(frame.number, upwards, fact.second)
-                - self.axes.at(frame.number, upwards, fact.first))
+        return self._way(frame, upwards, fact.first, fact.second)
+
+    def _way(self, frame: Frame, upwards: bool, first: Knot, second: Knot) -> Form:
+        """The way from a point to another along an axis."""
+        return (self.axes.at(frame.number, upwards, second)
+                - self.axes.at(frame.number, upwards, first))
 
     # -- alike
 
@@ -126,10 +130,24 @@ class Settling:
             across, mates = (self._run(frame, not upwards, each) for each in (fact, mate))
             if Form() in map(reduced, (across - mates, across + mates)):
                 owners = frozenset({fact.owner}) | self.axes.owners(mate.value - fact.value)
-                self.axes.tell(self._signed(frame, upwards, fact)
-                               - self._signed(frame, upwards, mate), owners)
+                self.axes.tell(self._alike(frame, upwards, mate, fact), owners)
                 return True
         return False
+
+    def _alike(self, frame: Frame, upwards: bool, mate: Apart, fact: Apart) -> Form:
+        """That two distances run alike along an axis, as they are drawn. Where two points would be
+        one so, which are as far from a third, they lie on both sides of it."""
+        way, other = (self._signed(frame, upwards, each) for each in (fact, mate))
+        loose = {fact.first, fact.second} ^ {mate.first, mate.second}
+        if len(loose) == 2 and self._is_one(frame, loose, way - other, upwards):
+            return way + other
+        return way - other
+
+    def _is_one(self, frame: Frame, knots: set[Knot], follows: Form, upwards: bool) -> bool:
+        """Whether two points are one once this is 0 along an axis."""
+        reduced = self.axes.system.reduced
+        along, across = (self._way(frame, each, *sorted(knots)) for each in (upwards, not upwards))
+        return reduced(across) == Form() and Form() in map(reduced, (along - follows, along + follows))
 
     def _signed(self, frame: Frame, upwards: bool, fact: Apart) -> Form:
         """The way along an axis, turned so that it is drawn forwards."""

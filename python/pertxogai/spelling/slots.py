@@ -24,8 +24,8 @@ class Foot:
 
 def with_slots(facts: Facts) -> Facts:
     """The facts, with the ways between centres that run along lines."""
-    sizes = _sizes(facts)
     feet = _feet(facts)
+    sizes = _sizes(facts) if feet else LinearSystem()
     for place, second in enumerate(feet):
         first = next((each for each in feet[:place] if _along(facts, sizes, each, second)), None)
         if first is not None and second.apart in facts.facts:

@@ -75,17 +75,17 @@ class Spelled:
 
 def written(axes: Axes, rails: Rails, style: Style, care: Care = Care()) -> Spelled:
     """The drawing, spelled in that style."""
-    writer = _Writer(axes, rails, style, care)
+    writer = Writer(axes, rails, style, care)
     writer.write()
     if care.insist:
         writer.write_told()
     return writer.spelled()
 
 
-class _Writer:
+class Writer:
     """A sheet that is being filled."""
 
-    def __init__(self, axes: Axes, rails: Rails, style: Style, care: Care) -> None:
+    def __init__(self, axes: Axes, rails: Rails, style: Style, care: Care = Care()) -> None:
         self.care = care
         self.axes = axes
         self.rails = rails
@@ -115,6 +115,22 @@ class _Writer:
         self._loose()
         self._drop_idle()
 
+    def write_as(self, other: Writer) -> None:
+        """Fills the sheet as another was filled that has no help, of axes that differ by where
+        things are drawn alone."""
+        self.names, self.points, self.bars = other.names, other.points, other.bars
+        self.left_out, self.coarse = other.left_out, other.coarse
+        self.sheet.drafts, self.sheet.told = other.sheet.drafts, other.sheet.told
+        self._settle_ways()
+        for track, name in self.names.items():
+            if name in other.sheet.lines:
+                self._draw(track)
+
+    def has_no_help(self) -> bool:
+        """Whether no line and no point was written that only helps."""
+        return (self.sheet.lines.keys() <= set(self.names.values())
+                and self.sheet.points.keys() <= set(self.points.values()))
+
     def spelled(self) -> Spelled:
         """What was written."""
         for knot, name in self.points.items():
@@ -126,7 +142,7 @@ class _Writer:
         headings = tuple(self._heading(name, track) for name, track in tracks.items()
                          if track is not None)
         said = tuple(draft.said for draft in self.sheet.drafts)
-        left_out = frozenset(self.left_out) | self.rails.lost()
+        left_out = frozenset(self.left_out) | self.rails.lost
         return Spelled(self.style, sketch, scale, said, dict(self.points), tracks, headings,
                        left_out, rounded, self.coarse)
 
@@ -406,7 +422,7 @@ class _Writer:
 
     def _run(self, run: Run) -> None:
         rails = self._run_rails(run)
-        if self.style is Style.FEET and len(rails) == 2 and self._feet(run, rails):
+        if self.style is Style.FEET and len(set(rails)) == 2 and self._feet(run, rails):
             return
         first, second, sign = run.first, run.second, 1
         rail = rails[0]

@@ -59,6 +59,22 @@ def keep_picture(page: Page, name: str) -> None:
 
 def test_the_trial_of_a_new_user(page: Page) -> None:
     """The trial of docs/BOARD.md: a plate with a hole, from nothing to the DXF."""
+    _a_plate_with_a_hole_is_drawn(page)
+    page.verdict("open")
+    _the_plate_has_its_size(page)
+    keep_picture(page, "open")
+    _the_hole_has_its_place(page)
+    keep_picture(page, "well")
+    _one_is_too_many(page)
+    keep_picture(page, "over")
+    _taken_away(page, "R1Right 55")
+    page.verdict("well")
+    page.click("#export summary")
+    page.click("[data-export='dxf']")
+    assert page.downloaded("drawing.dxf").count(b"\nLINE\n") == 4
+
+
+def _a_plate_with_a_hole_is_drawn(page: Page) -> None:
     page.keys("r")
     page.press(250, 420)
     page.press(650, 180)
@@ -67,7 +83,9 @@ def test_the_trial_of_a_new_user(page: Page) -> None:
     page.press(370, 320)
     page.press(405, 320)
     page.wait("a hole", "return document.querySelectorAll('.edges [data-name]').length === 5")
-    page.verdict("open")
+
+
+def _the_plate_has_its_size(page: Page) -> None:
     page.select("R1Bottom.start", "Origin")
     page.ask("coincident")
     page.select("R1Bottom")
@@ -75,7 +93,9 @@ def test_the_trial_of_a_new_user(page: Page) -> None:
     page.select("R1Right")
     page.ask("length", "60")
     page.wait("its pieces", "return document.querySelectorAll('#verdict .chip').length === 2")
-    keep_picture(page, "open")
+
+
+def _the_hole_has_its_place(page: Page) -> None:
     page.select("C1")
     page.ask("diameter", "20")
     page.select("C1.centre")
@@ -83,19 +103,20 @@ def test_the_trial_of_a_new_user(page: Page) -> None:
     page.ask("y", "30")
     page.verdict("well")
     page.click("#fit")
-    keep_picture(page, "well")
+
+
+def _one_is_too_many(page: Page) -> None:
     page.select("C1.centre", "R1Right")
     page.ask("distance", "55")
     page.verdict("over")
     page.tells("contradiction by 5")
-    keep_picture(page, "over")
+
+
+def _taken_away(page: Page, name: str) -> None:
+    """Takes away, by its button, the dimension that is named so."""
     spare = page.driver.find_elements(By.CSS_SELECTOR, "#verdict [data-spare]")
-    last = next(each for each in spare if "R1Right 55" in each.text)
-    last.find_element(By.TAG_NAME, "button").click()
-    page.verdict("well")
-    page.click("#export summary")
-    page.click("[data-export='dxf']")
-    assert page.downloaded("drawing.dxf").count(b"\nLINE\n") == 4
+    found = next(each for each in spare if name in each.text)
+    found.find_element(By.TAG_NAME, "button").click()
 
 
 def test_a_triangle_is_drawn_and_dimensioned_until_it_is_well(page: Page) -> None:
@@ -118,13 +139,22 @@ def test_a_triangle_is_drawn_and_dimensioned_until_it_is_well(page: Page) -> Non
     assert page.count(".marks [data-constraint]") == 3
 
 
+def test_a_chain_that_is_kept_level_is_closed_level(page: Page) -> None:
+    page.keys("s")
+    corners = (260, 420), (560, 424), (556, 240), (262, 244), (260, 420)
+    for place, corner in enumerate(corners):
+        page.press(*corner, shift=place > 0)
+        page.wait(f"side {place}", "return document.querySelectorAll('.marks [data-constraint]')"
+                                   f".length === {place}")
+    assert page.text().splitlines()[-4:] == [
+        "horizontal S1", "vertical S2", "horizontal S3", "vertical S4"]
+
+
 def test_one_too_many_is_taken_away_again(page: Page) -> None:
     page.begin(drawing("over-plate-contradiction"), "over")
     page.tells("contradiction by 1 mm")
     assert page.count(".marks .spare") >= 2
-    spare = page.driver.find_elements(By.CSS_SELECTOR, "#verdict [data-spare]")
-    top = next(each for each in spare if "Top width" in each.text)
-    top.find_element(By.TAG_NAME, "button").click()
+    _taken_away(page, "Top width")
     page.verdict("well")
     assert "Top width:" not in page.text()
 
@@ -140,9 +170,11 @@ def test_a_fault_is_shown_at_its_place(page: Page) -> None:
 def test_open_parts_have_their_colours_and_joints(page: Page) -> None:
     page.begin(drawing("open-hinge"), "open")
     assert page.count(".joints circle") == 1
-    colours = {each.value_of_css_property("stroke")
-               for each in page.driver.find_elements(By.CSS_SELECTOR, ".edges .shape")}
-    assert len(colours) == 2
+    edges, dots = ({each.value_of_css_property("stroke")
+                    for each in page.driver.find_elements(By.CSS_SELECTOR, selector)}
+                   for selector in (".edges .shape", ".dots .dot"))
+    assert len(edges) == 2
+    assert edges < dots and len(dots) == 3
 
 
 def test_the_construction_is_watched_and_verified(page: Page) -> None:
@@ -216,14 +248,37 @@ def test_undo_to_the_start_and_redo(page: Page) -> None:
     assert page.text() == whole
 
 
+def test_undo_waits_for_the_edit_before_it(page: Page) -> None:
+    page.begin(TRIANGLE, "well")
+    page.select("A")
+    page.keys(Keys.DELETE, Keys.CONTROL + "z")
+    page.wait("redo", "return !document.getElementById('redo').disabled")
+    page.verdict("well")
+    assert "segment A 0 0 40 0" in page.text()
+
+
+def test_what_is_typed_beside_an_edit_stays(page: Page) -> None:
+    page.begin(TRIANGLE, "well")
+    page.select("A")
+    page.keys(Keys.ALT + Keys.ARROW_RIGHT)
+    page.type(TRIANGLE + "horizontal A\n")
+    page.wait("judged", "return document.querySelectorAll('.marks [data-constraint]').length > 3")
+    assert page.text().endswith("length C 35\nhorizontal A\n")
+
+
 def test_a_refused_line_is_marked_with_what_to_do(page: Page) -> None:
     page.begin(TRIANGLE, "well")
     page.type(TRIANGLE.replace("length B", "lenght B"))
     page.verdict("refused")
-    assert page.told("refused").startswith("line 5: ‘lenght’")
+    assert page.told("refused").startswith("line 5: 'lenght'")
     assert "do you mean length?" in page.told("refused")
     marked = page.driver.find_elements(By.CSS_SELECTOR, "#lines b")
     assert [each.text.strip() for each in marked] == ["5"]
+    assert page.count(".edges [data-name]") == 3
+    page.select("A")
+    page.keys(Keys.DELETE)
+    page.wait("told", "return document.getElementById('hint').textContent.startsWith('line 5')")
+    page.verdict("refused")
     assert page.count(".edges [data-name]") == 3
     page.type(TRIANGLE)
     page.verdict("well")
@@ -236,10 +291,9 @@ def test_a_point_is_dragged_and_a_dimension_changed(page: Page) -> None:
     page.wait("moved", "return !document.getElementById('text').value.includes('circle C 20 20')")
     page.select("C")
     page.ask("diameter", "12")
-    mark = page.driver.find_element(By.CSS_SELECTOR, ".marks [data-constraint='1'] text")
-    page.driver.execute_script(
-        "arguments[0].dispatchEvent(new MouseEvent('dblclick', {bubbles: true}))", mark)
-    field = page.driver.find_element(By.CSS_SELECTOR, "#value input")
+    page.settled()
+    page.press_twice(".marks [data-constraint='1'] text")
+    field = page.driver.find_element(By.CSS_SELECTOR, "#value[open] input")
     field.send_keys(Keys.CONTROL, "a")
     field.send_keys("0.5in", Keys.ENTER)
     page.wait("changed",

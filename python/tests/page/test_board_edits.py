@@ -160,8 +160,9 @@ def test_what_is_no_edit_is_refused_in_one_line(edit: dict) -> None:
 
 def test_a_refused_text_is_told_with_its_line() -> None:
     found = Desk(NoProgram()).answer("judge", {"text": "segment A 0 0 1 0\nlenght A 3\n"})
-    assert found["refused"]["line"] == 2 and found["refused"]["word"] == "lenght"
-    assert "do you mean length?" in found["refused"]["what"]
+    assert found["refused"]["line"] == 2
+    assert found["refused"]["message"].startswith("line 2: 'lenght'")
+    assert "do you mean length?" in found["refused"]["message"]
 
 
 def offered(text: str, *names: str) -> dict[str, str | None]:

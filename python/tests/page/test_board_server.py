@@ -252,7 +252,9 @@ def test_an_open_drawing_has_its_parts_laid_on_it(client) -> None:
     judgement = answer(client, "judge", text=drawing("open-hinge"))["judgement"]
     assert judgement["missing"]["count"] == 1
     assert judgement["missing"]["joints"][0]["shared"] == ["Wall.start"]
-    assert judgement["colours"] == {"Wall": 1, "W1": 1, "W2": 1, "Door": 2, "D1": 2, "D2": 2}
+    assert judgement["colours"] == {
+        "Wall": 1, "Wall.end": 1, "W1": 1, "W1.centre": 1, "W2": 1, "W2.centre": 1,
+        "Door": 2, "Door.end": 2, "D1": 2, "D1.centre": 2, "D2": 2, "D2.centre": 2}
     wall = next(each for each in judgement["laid"] if each["part"] == 1)
     (ax, ay), (bx, by) = wall["points"]["W1.centre"], wall["points"]["W2.centre"]
     assert ((bx - ax) ** 2 + (by - ay) ** 2) ** 0.5 == pytest.approx(50, abs=1e-6)
@@ -388,7 +390,7 @@ def test_a_sketch_of_the_language_becomes_a_drawing(client) -> None:
 ])
 def test_bad_files_are_refused_in_one_line(client, name, data) -> None:
     found = answer(client, "open", name=name, data=base64.b64encode(data).decode())
-    told = found.get("trouble", {}).get("message") or found["refused"]["what"]
+    told = found.get("trouble", {}).get("message") or found["refused"]["message"]
     assert "\n" not in told and "/tmp" not in told and "Traceback" not in told
     assert "base 64" in answer(client, "open", name="a.dxf", data="%%")["trouble"]["message"]
 

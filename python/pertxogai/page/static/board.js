@@ -1,127 +1,124 @@
 /** The board: the drawing as SVG, faint as drawn beneath what is placed, with its marks. */
-import { svg, colourOf } from './nodes.js';
+import { svg } from './nodes.js';
 import { View } from './view.js';
-import { Marks, markItem } from './marks.js';
+import { Marks, markMade } from './marks.js';
 import { Layer } from './layer.js';
-import { shapeItem, pointItem, stillNodes, viewsOf, drawnView, isIn, shownPoints, middleOf, line, ring } from './shapes.js';
+import { Shown } from './shown.js';
+import { pathOf, shapeMade, pointMade, stillMade, middleOf, line, ring } from './shapes.js';
 
-const GROUPS = ['grid', 'drawn', 'edges', 'other', 'marks', 'dots', 'names', 'joints', 'faults', 'overlay'];
-const NOTHING = { shapes: [], constraints: [], marks: [] };
+const LAYERS = ['grid', 'drawn', 'edges', 'other', 'marks', 'dots', 'names', 'joints', 'faults'];
+const NOTHING = { drawing: { shapes: [], constraints: [], marks: [] }, judgement: null };
 
 /** Draws answers on an SVG node. */
 export class Board {
+  plane = new View();
+  answer = NOTHING;
+  shown = new Shown(NOTHING);
+  /** What the hand is about to draw, the cross of the keyboard, a step of the construction, the other shape. */
+  preview = null;
+  cross = null;
+  overlay = null;
+  other = null;
+  placed = { marks: [] };
+  waits = false;
+
   constructor(node, selection) {
-    this.node = node;
-    this.selection = selection;
-    this.plane = new View();
-    this.answer = { drawing: NOTHING, judgement: null };
-    this.groups = Object.fromEntries(GROUPS.map((kind) => [kind, svg('g', { class: kind })]));
-    node.replaceChildren(...Object.values(this.groups));
-    [this.edges, this.marks, this.dots] = ['edges', 'marks', 'dots'].map((kind) => new Layer(this.groups[kind]));
-    this.points = new Map([['Origin', [0, 0]]]);
-    this.preview = null;
-    this.cross = null;
-    this.overlay = null;
-    this.other = null;
-    this.blamed = new Set();
-    this.placed = { shown: '', marks: [] };
-    this.waits = false;
+    Object.assign(this, { node, selection, over: svg('g', { class: 'overlay' }) });
+    this.layers = Object.fromEntries(LAYERS.map((kind) => [kind, new Layer(svg('g', { class: kind }), svg)]));
+    node.replaceChildren(...Object.values(this.layers).map((layer) => layer.node), this.over);
+    selection.addEventListener('change', () => this.draw());
+    new ResizeObserver(() => this.draw()).observe(node);
   }
 
   /** Shows an answer of the server. */
   show(answer) {
     this.answer = answer;
-    this.points = shownPoints(answer);
-    this.blamed = new Set(answer.judgement?.failure?.dimensions ?? []);
+    this.shown = new Shown(answer);
     this.draw();
   }
 
   /** Draws anew before the next frame, once for all that asks for it. */
   draw() {
-    if (this.waits) return;
+    if (!this.waits) requestAnimationFrame(() => this.drawNow());
     this.waits = true;
-    requestAnimationFrame(() => {
-      this.waits = false;
-      this.drawNow();
-    });
   }
 
   /** Draws all layers. */
   drawNow() {
-    const { width, height } = this.size();
-    const { drawing, judgement } = this.overlay ? { drawing: NOTHING, judgement: null } : this.answer;
-    const views = this.overlay ? [] : viewsOf(this.answer);
-    this.groups.grid.replaceChildren(...this.grid(width, height));
-    this.groups.drawn.replaceChildren(...(views.length ? stillNodes(drawing.shapes, drawnView(drawing), this.plane) : []));
-    this.edges.show(this.edgeItems(drawing, views));
-    this.groups.other.replaceChildren(...(this.other && !this.overlay ? stillNodes(drawing.shapes, this.other, this.plane) : []));
-    this.marks.show(this.markItems(drawing.marks, judgement));
-    this.dots.show(this.overlay ? [] : this.dotItems(drawing));
-    this.groups.names.replaceChildren(...(this.overlay ? [] : this.names(drawing)));
-    this.groups.joints.replaceChildren(...this.joints(judgement));
-    this.groups.faults.replaceChildren(...this.faults(judgement));
+    this.waits = false;
+    const { drawing: { shapes, marks }, judgement } = this.overlay ? NOTHING : this.answer;
+    const made = {
+      grid: this.grid(this.size()),
+      drawn: this.shown.views.length ? stillMade(shapes, this.shown.drawn, this.plane) : [],
+      edges: shapes.map((shape) => this.edge(shape)),
+      other: this.other ? stillMade(shapes, this.other, this.plane) : [],
+      marks: this.marks(marks, judgement),
+      dots: this.overlay ? [] : this.dots(shapes),
+      names: this.overlay ? [] : this.names(shapes),
+      joints: this.around((judgement?.missing?.joints ?? []).flatMap((joint) => joint.shared), (name, [cx, cy]) => [name, 'circle', { class: 'joint', cx, cy, r: 9 }]),
+      faults: this.around(judgement?.failure?.at ?? [], (name, at) => [name, 'path', { class: 'fault', d: ring(at, 13) }]),
+    };
+    for (const [kind, things] of Object.entries(made)) if (things) this.layers[kind].show(things);
     this.drawHand();
     this.node.dataset.drawn = String(Number(this.node.dataset.drawn ?? 0) + 1);
   }
 
-  /** Draws what lies over the drawing: a step of the construction, and what the hand is about to draw. */
+  /** Draws what lies over the drawing: a step of the construction, what the hand is about to draw, and the cross. */
   drawHand() {
-    this.groups.overlay.replaceChildren(...(this.overlay ? [this.overlay(this.plane)] : []), ...this.hand());
+    const [x, y] = this.cross ? this.plane.toScreen(this.cross) : [];
+    const cross = this.cross && svg('path', { class: 'cross', d: `M${x - 14} ${y}h28M${x} ${y - 14}v28` });
+    this.over.replaceChildren(...[this.overlay?.(this.plane), ...this.preview?.(this.plane) ?? [], cross].filter(Boolean));
   }
 
-  /** The grid, and the datum's axes and origin. */
-  grid(width, height) {
+  /** The grid, and the datum's axes. */
+  grid({ width, height }) {
     const step = this.plane.step() * 5;
     const [left, high] = this.plane.toPlane([0, 0]);
     const [right, low] = this.plane.toPlane([width, height]);
-    const lines = [];
-    for (let x = Math.ceil(left / step) * step; x < right; x += step) lines.push(line(this.plane.toScreen([x, low]), this.plane.toScreen([x, high])));
-    for (let y = Math.ceil(low / step) * step; y < high; y += step) lines.push(line(this.plane.toScreen([left, y]), this.plane.toScreen([right, y])));
-    return [svg('path', { class: 'gridlines', d: lines.join('') }),
-      this.axis('XAxis', line([0, this.plane.y], [width, this.plane.y])), this.axis('YAxis', line([this.plane.x, 0], [this.plane.x, height]))];
+    const lines = (from, to, ends) => Array.from({ length: Math.max(0, Math.floor(to / step) - Math.ceil(from / step) + 1) },
+      (_, place) => line(...ends((Math.ceil(from / step) + place) * step).map((each) => this.plane.toScreen(each))));
+    const d = [...lines(left, right, (x) => [[x, low], [x, high]]), ...lines(low, high, (y) => [[left, y], [right, y]])].join('');
+    const axis = (name, path) => [name, 'g', { 'data-name': name },
+      ['path', { class: `axis ${this.selection.names.has(name) ? 'selected' : ''}`, d: path }], ['path', { class: 'hit', d: path }]];
+    return [['lines', 'path', { class: 'gridlines', d }],
+      axis('XAxis', line([0, this.plane.y], [width, this.plane.y])), axis('YAxis', line([this.plane.x, 0], [this.plane.x, height]))];
   }
 
-  /** One axis of the datum. */
-  axis(name, path) {
-    const selected = this.selection.names.has(name) ? 'selected' : '';
-    return svg('g', { 'data-name': name }, svg('path', { class: `axis ${selected}`, d: path }), svg('path', { class: 'hit', d: path }));
-  }
-
-  /** The shapes as they are shown: placed, each part laid on the drawing, or as drawn. */
-  edgeItems(drawing, views) {
-    const colours = this.answer.judgement?.verdict === 'well' ? {} : this.answer.judgement?.colours ?? {};
-    const between = { part: null, points: Object.fromEntries(this.points), radii: {} };
-    return drawing.shapes.map((shape) => {
-      const mine = views.filter((each) => isIn(shape, each));
-      const view = mine.find((each) => each.part === null || each.part === colours[shape.name]) ?? mine[0] ?? between;
-      return shapeItem(shape, view, this.plane, this.selection.names.has(shape.name), colourOf(colours[shape.name] ?? view.part));
-    });
+  /** A shape as it is shown. */
+  edge(shape) {
+    return shapeMade(shape, pathOf(shape, this.shown.viewOf(shape), this.plane), this.selection.names.has(shape.name), this.shown.colourOf(shape));
   }
 
   /** The points as they are shown, the origin's first. */
-  dotItems(drawing) {
-    const names = drawing.shapes.flatMap((shape) => Object.keys(shape.points).filter((name) => !shape.shares.includes(name)));
-    return ['Origin', ...names].map((name) => pointItem(name, this.points.get(name), this.plane, this.selection.names.has(name)));
+  dots(shapes) {
+    const names = shapes.flatMap((shape) => Object.keys(shape.points).filter((name) => !shape.shares.includes(name)));
+    return ['Origin', ...names].map((name) => pointMade(name, this.plane.toScreen(this.shown.at(name)), this.selection.names.has(name), this.shown.partColourOf(name)));
   }
 
   /** The names of single points and of what is selected. */
-  names(drawing) {
-    const shown = new Set([...this.selection.names, ...drawing.shapes.filter((shape) => shape.kind === 'point').map((shape) => shape.name)]);
-    return [...shown].map((name) => {
-      const at = this.placeOf(name);
-      return at && svg('text', { class: 'name', x: at[0] - 12, y: at[1] + 14 }, name);
-    }).filter(Boolean);
+  names(shapes) {
+    const points = shapes.filter((shape) => shape.kind === 'point').map((shape) => shape.name);
+    return this.around([...this.selection.names, ...points], (name, [x, y]) => [name, 'text', { class: 'name', x: x - 12, y: y + 14 }, name]);
   }
 
-  /** The marks of constraints; what may go, is to blame or is selected stands out. */
-  markItems(marks, judgement) {
+  /** Some things, each once, as what is made of them at their places in pixels. */
+  around(names, made) {
+    return [...new Set(names)].map((name) => [name, this.placeOf(name)]).filter(([, at]) => at).map(([name, at]) => made(name, at));
+  }
+
+  /** The marks of constraints; what may go, is to blame or is selected stands out. Null where all are shown so already. */
+  marks(marks, judgement) {
+    const { numbers } = this.selection;
     const spare = new Set((judgement?.spare ?? []).map((each) => each.number));
-    const blamed = new Set(this.answer.drawing.constraints.filter((each) => this.blamed.has(each.called)).map((each) => each.number));
-    const kind = (number) => `markgroup ${spare.has(number) ? 'spare' : ''} ${blamed.has(number) ? 'blamed' : ''} ${this.selection.numbers.has(number) ? 'selectedmark' : ''}`;
+    const blamed = new Set(judgement?.failure?.dimensions ?? []);
+    const excess = new Map((judgement?.excess ?? []).map((each) => [each.number, each]));
     const { scale, x, y } = this.plane;
-    const shown = JSON.stringify([scale, x, y, marks]);
-    if (shown !== this.placed.shown) this.placed = { shown, marks: new Marks(this.plane).all(marks) };
-    return this.placed.marks.map((mark, place) => markItem(mark, place, kind(mark.number)));
+    const from = [scale, x, y, marks, numbers, [...spare].join(), [...blamed].join(), JSON.stringify(judgement?.excess ?? [])];
+    const isSame = (count) => from.slice(0, count).every((each, place) => each === this.placed.from?.[place]);
+    if (isSame(from.length)) return null;
+    this.placed = { from, marks: isSame(4) ? this.placed.marks : new Marks(this.plane).all(marks) };
+    const kinds = this.answer.drawing.constraints.map(({ number, called }) => `markgroup ${spare.has(number) || excess.has(number) ? 'spare' : ''} ${excess.has(number) ? 'excess' : ''} ${blamed.has(called) ? 'blamed' : ''} ${numbers.has(number) ? 'selectedmark' : ''}`);
+    return this.placed.marks.map((mark, place) => markMade(mark, place, kinds[mark.number - 1], excess.get(mark.number)?.told));
   }
 
   /** Where the first mark of a constraint stands, in pixels. */
@@ -129,55 +126,32 @@ export class Board {
     return this.placed.marks.find((each) => each.number === number)?.at;
   }
 
-  /** Rings at the joints at which parts hang together. */
-  joints(judgement) {
-    const shared = new Set((judgement?.missing?.joints ?? []).flatMap((joint) => joint.shared));
-    return [...shared].map((name) => this.points.get(name)).filter(Boolean).map((place) => {
-      const [x, y] = this.plane.toScreen(place);
-      return svg('circle', { class: 'joint', cx: x, cy: y, r: 9 });
-    });
-  }
-
-  /** Rings where a step that has no places meets. */
-  faults(judgement) {
-    return (judgement?.failure?.at ?? []).map((name) => this.placeOf(name)).filter(Boolean).map((at) => svg('path', { class: 'fault', d: ring(at, 13) }));
-  }
-
-  /** What the hand is about to draw, and the cross of the keyboard. */
-  hand() {
-    const nodes = this.preview ? this.preview(this.plane) : [];
-    if (!this.cross) return nodes;
-    const [x, y] = this.plane.toScreen(this.cross);
-    return [...nodes, svg('path', { class: 'cross', d: `M${x - 14} ${y}h28M${x} ${y - 14}v28` })];
-  }
-
   /** Where a point or the middle of a shape is shown, in pixels. */
   placeOf(name) {
-    const at = this.points.get(name);
-    if (at) return this.plane.toScreen(at);
-    const shape = this.answer.drawing?.shapes.find((each) => each.name === name);
-    if (!shape) return null;
-    const ends = Object.keys(shape.points).filter((each) => shape.kind === 'circle' || !each.endsWith('.centre'));
-    const places = ends.map((each) => this.plane.toScreen(this.points.get(each)));
-    return middleOf(places);
+    const shape = this.answer.drawing.shapes.find((each) => each.name === name);
+    const names = this.shown.at(name) ? [name] : Object.keys(shape?.points ?? {}).filter((each) => shape.kind === 'circle' || !each.endsWith('.centre'));
+    return names.length ? middleOf(names.map((each) => this.plane.toScreen(this.shown.at(each)))) : null;
   }
 
-  /** The point that is shown next to a place in pixels, if one is near. */
-  nearPoint([x, y], reach = 10) {
-    let best = null;
-    for (const [name, at] of this.points) {
+  /** The point that is shown next to a place in pixels, if one is near: its name, its place, and how far it is away. */
+  nearPoint([x, y]) {
+    const near = { away: 10 };
+    for (const [name, at] of Object.entries(this.shown.between.points)) {
       const [u, v] = this.plane.toScreen(at);
       const away = Math.hypot(u - x, v - y);
-      if (away <= reach && (!best || away < best.away - 0.01)) best = { name, at, away };
+      if (away < near.away - 0.01) Object.assign(near, { name, at, away });
     }
-    return best;
+    return near.name ? near : null;
   }
 
   /** Shows all that is drawn and placed. */
   fit() {
-    const { width, height } = this.size();
-    const places = [...this.points.values(), ...(this.answer.drawing?.shapes ?? []).flatMap((shape) => this.rim(shape))];
-    this.plane.fit(places.length > 1 ? places : [], width, height);
+    this.drawNow();
+    const { node } = this.layers.edges;
+    const box = node.getBBox();
+    const corners = [[box.x, box.y], [box.x + box.width, box.y + box.height]].map((corner) => this.plane.toPlane(corner));
+    const points = [this.shown.between, this.shown.drawn].flatMap((view) => Object.values(view.points));
+    this.plane.fit(node.childElementCount ? [...points, ...corners] : points.slice(1), this.size());
     this.draw();
   }
 
@@ -188,20 +162,9 @@ export class Board {
     this.draw();
   }
 
-  /** Some places on a circle or an arc as it is shown. */
-  rim(shape) {
-    if (shape.radius === undefined) return [];
-    const [x, y] = this.points.get(`${shape.name}.centre`);
-    const angle = (which) => { const [u, v] = this.points.get(`${shape.name}.${which}`); return Math.atan2(v - y, u - x); };
-    const first = shape.kind === 'arc' ? angle('start') : 0;
-    const turn = shape.kind === 'arc' ? (angle('end') - first + 4 * Math.PI) % (2 * Math.PI) : 2 * Math.PI;
-    const radius = viewsOf(this.answer).map((view) => view.radii[shape.name]).find(Boolean) ?? shape.radius;
-    return Array.from({ length: 9 }, (_, place) => first + turn * place / 8).map((each) => [x + radius * Math.cos(each), y + radius * Math.sin(each)]);
-  }
-
   /** The size of the board in pixels. */
   size() {
-    const box = this.node.getBoundingClientRect();
-    return { width: Math.max(box.width, 50), height: Math.max(box.height, 50) };
+    const { width, height } = this.node.getBoundingClientRect();
+    return { width: Math.max(width, 50), height: Math.max(height, 50) };
   }
 }

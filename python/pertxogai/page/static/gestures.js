@@ -1,19 +1,20 @@
-/** The mouse, the pen and the keyboard on the board. */
+/** The mouse, the pen and the arrows on the board. */
 import { svg } from './nodes.js';
-import { arcThrough } from './tools.js';
+import { apart, arcThrough, rounded } from './tools.js';
 import { line, ring, bow } from './shapes.js';
+import { namesOf } from './selection.js';
 
 const SLACK = 4;
+const DATUM = ['Origin', 'XAxis', 'YAxis'];
 
 /** Turns what a hand does on the board into selections and edits. */
 export class Gestures {
+  pressed = null;
+
   constructor(board, paper, selection, hand, tell) {
     Object.assign(this, { board, paper, selection, hand, tell });
-    this.pressed = null;
     const { node } = board;
-    node.addEventListener('pointerdown', (event) => this.down(event));
-    node.addEventListener('pointermove', (event) => this.move(event));
-    node.addEventListener('pointerup', (event) => this.up(event));
+    for (const what of ['down', 'move', 'up']) node.addEventListener(`pointer${what}`, (event) => this[what](event, this.at(event)));
     node.addEventListener('pointercancel', () => { this.pressed = null; });
     node.addEventListener('wheel', (event) => this.wheel(event), { passive: false });
   }
@@ -24,134 +25,125 @@ export class Gestures {
     return [event.clientX - box.left, event.clientY - box.top];
   }
 
-  /** The spot at a place in pixels: a point that is near, else a place on the grid. */
-  spot(pixels, level = false) {
+  /** A place in pixels as one on the grid, in millimetres. */
+  onGrid(pixels) {
+    return this.board.plane.rounded(this.board.plane.toPlane(pixels));
+  }
+
+  /** The spot at a place in pixels: a point that is near, else a place on the grid; of a segment that is kept level, beside or above its start. */
+  spot(pixels, keeps) {
     const near = this.board.nearPoint(pixels);
-    if (near) return { spot: { point: near.name }, at: near.at, near };
-    let at = this.board.plane.rounded(this.board.plane.toPlane(pixels));
-    const from = this.hand.clicks.at(-1)?.at;
-    if (level && from) at = Math.abs(at[0] - from[0]) > Math.abs(at[1] - from[1]) ? [at[0], from[1]] : [from[0], at[1]];
-    return { spot: { x: at[0], y: at[1] }, at, near: null };
+    const [x, y] = near ? near.at : this.onGrid(pixels);
+    const from = keeps && this.hand.tool === 'segment' && this.hand.clicks.at(-1)?.at;
+    const level = from && (Math.abs(x - from[0]) > Math.abs(y - from[1]) ? 'horizontal' : 'vertical');
+    if (near) return { spot: { point: near.name }, at: near.at, near, level };
+    const at = level === 'horizontal' ? [x, from[1]] : level === 'vertical' ? [from[0], y] : [x, y];
+    return { spot: { x: at[0], y: at[1] }, at, level };
   }
 
   /** A button goes down. */
-  down(event) {
+  down(event, at) {
     if (event.button > 1) return;
     this.board.node.setPointerCapture(event.pointerId);
-    const at = this.at(event);
-    const name = event.target.closest('[data-name]')?.dataset.name ?? null;
-    const number = event.target.closest('[data-constraint]')?.dataset.constraint ?? null;
+    const name = event.target.closest('[data-name]')?.dataset.name;
+    const number = Number(event.target.closest('[data-constraint]')?.dataset.constraint);
     const pans = event.button === 1 || (!name && !number && !this.hand.draws);
-    this.pressed = { at, last: at, name, number: number && Number(number), pans, moved: false, text: this.paper.text, edit: null };
+    this.pressed = { at, last: at, thing: name ?? number, pans, moved: false, text: this.paper.text, edit: null };
   }
 
-  /** The pointer moves. */
-  move(event) {
-    const at = this.at(event);
-    const { pressed } = this;
+  /** The pointer moves: it pans, drags, or shows what a click would draw. */
+  move(event, at) {
+    const { pressed, board } = this;
     if (!pressed) {
       this.hover(at, event.shiftKey);
       return;
     }
-    pressed.moved ||= Math.hypot(at[0] - pressed.at[0], at[1] - pressed.at[1]) > SLACK;
+    pressed.moved ||= apart(at, pressed.at) > SLACK;
     if (!pressed.moved) return;
     if (pressed.pans) {
-      this.board.plane.pan(at[0] - pressed.last[0], at[1] - pressed.last[1]);
-      this.board.draw();
-    } else if (!this.hand.draws && pressed.name) this.drag(at);
+      board.plane.pan(at[0] - pressed.last[0], at[1] - pressed.last[1]);
+      board.draw();
+    } else if (!this.hand.draws && typeof pressed.thing === 'string') this.drag(at);
     else this.hover(at, event.shiftKey);
     pressed.last = at;
   }
 
-  /** Drags what was pressed: a point goes where the hand is, a rim grows, a shape is shifted. */
+  /** Drags what was pressed. */
   drag(at) {
-    const { pressed, board } = this;
-    if (['Origin', 'XAxis', 'YAxis'].includes(pressed.name)) return;
-    const edit = this.dragged(pressed, board.plane.rounded(board.plane.toPlane(at)));
+    const edit = DATUM.includes(this.pressed.thing) ? null : this.dragged(this.pressed.thing, this.onGrid(at));
     if (!edit) return;
-    pressed.edit = edit;
+    this.pressed.edit = edit;
     this.paper.preview(edit);
   }
 
-  /** The edit by which what was pressed is dragged to a place. */
-  dragged(pressed, [x, y]) {
-    const { board } = this;
-    const shape = board.answer.drawing.shapes.find((each) => each.name === pressed.name);
-    if (board.points.has(pressed.name)) return { do: 'move', points: [{ of: pressed.name, x, y }] };
-    if (shape?.kind === 'circle') {
-      const [u, v] = board.points.get(`${shape.name}.centre`);
-      const radius = Math.round(Math.hypot(x - u, y - v) * 100) / 100;
-      return radius > 0 ? { do: 'move', radii: [{ of: shape.name, radius }] } : null;
+  /** The edit of a drag to a place: a point goes there, a rim grows, a shape is shifted; null where there is none. */
+  dragged(name, [x, y]) {
+    const { shown, answer: { drawing } } = this.board;
+    if (shown.at(name)) return { do: 'move', points: [{ of: name, x, y }] };
+    if (drawing.shapes.find((each) => each.name === name)?.kind === 'circle') {
+      const radius = rounded(apart(shown.at(`${name}.centre`), [x, y]), 100);
+      return radius > 0 ? { do: 'move', radii: [{ of: name, radius }] } : null;
     }
-    const [u, v] = board.plane.rounded(board.plane.toPlane(pressed.at));
-    return { do: 'shift', shapes: [pressed.name], dx: Math.round((x - u) * 1000) / 1000, dy: Math.round((y - v) * 1000) / 1000 };
+    const [u, v] = this.onGrid(this.pressed.at);
+    return { do: 'shift', shapes: [name], dx: rounded(x - u, 1000), dy: rounded(y - v, 1000) };
   }
 
   /** A button goes up: a click, or the end of a drag. */
-  up(event) {
+  up(event, at) {
     const { pressed } = this;
     this.pressed = null;
     if (!pressed) return;
     if (pressed.moved && pressed.edit && pressed.text === this.paper.text) this.paper.preview(pressed.edit, true);
-    else if (this.hand.draws && event.button === 0) this.press(this.at(event), event.shiftKey);
-    else if (!pressed.moved) this.select(pressed, event.shiftKey);
+    else if (this.hand.draws && event.button === 0) this.press(at, event.shiftKey);
+    else if (!pressed.moved) this.select(pressed.thing, event.shiftKey);
   }
 
-  /** Selects what was clicked. */
-  select(pressed, more) {
-    if (pressed.name) this.selection.take(this.selection.names, pressed.name, more);
-    else if (pressed.number) this.selection.take(this.selection.numbers, pressed.number, more);
-    else if (!more) this.selection.clear();
+  /** Selects what was clicked; a click beside all selects nothing. */
+  select(thing, more) {
+    if (thing) this.selection.take(thing, more);
+    else if (!more) this.selection.set([]);
   }
 
   /** A click of a tool that draws. */
-  async press(pixels, level) {
+  async press(pixels, shift) {
     const { hand, paper } = this;
-    const levelled = level && hand.tool.word === 'segment';
-    const { spot, at, near } = this.spot(pixels, levelled);
-    const from = hand.clicks.at(-1)?.at;
+    const { spot, at, near, level } = this.spot(pixels, shift);
+    const isChain = hand.clicks.length === 1 && hand.tool === 'segment';
     const edit = hand.click(spot, at);
-    this.tell(hand.hint);
-    this.hover(pixels, level);
-    if (!edit) return;
-    const drawn = await paper.edit(edit);
-    if (!drawn) return;
+    this.showHand(pixels, shift);
+    if (!edit || !await paper.edit(edit)) return;
     const made = paper.answer.drawing.shapes.at(-1).name;
-    if (levelled && !near) await paper.edit({ do: 'ask', words: [at[1] === from[1] ? 'horizontal' : 'vertical', made] });
-    if (hand.tool.word === 'segment' && !near && !hand.clicks.length) hand.click({ point: `${made}.end` }, at);
-    this.tell(hand.hint);
-    this.hover(pixels, level);
+    if (level && isChain) await paper.edit({ do: 'ask', words: [level, made] });
+    if (isChain && !near && hand.tool === 'segment' && !hand.clicks.length) hand.click({ point: `${made}.end` }, at);
+    this.showHand(pixels, shift);
+  }
+
+  /** Says what to do next, and shows what a click would draw. */
+  showHand(pixels, shift) {
+    this.tell(this.hand.hint);
+    this.hover(pixels, shift);
   }
 
   /** Shows what a click would draw. */
-  hover(pixels, level) {
-    if (!this.hand.draws) {
-      this.board.preview = null;
-      return;
-    }
-    const { at, near } = this.spot(pixels, level && this.hand.tool.word === 'segment');
-    this.board.preview = (plane) => {
-      const [x, y] = plane.toScreen(at);
-      const path = this.path([...this.hand.clicks.map((each) => plane.toScreen(each.at)), [x, y]]);
-      return [path && svg('path', { class: 'preview', d: path }), svg('circle', { class: near ? 'snap' : 'preview', cx: x, cy: y, r: near ? 9 : 4 })].filter(Boolean);
-    };
-    this.board.drawHand();
+  hover(pixels, shift) {
+    const { board, hand } = this;
+    const { at, near } = hand.draws ? this.spot(pixels, shift) : {};
+    board.preview = hand.draws ? (plane) => {
+      const [cx, cy] = plane.toScreen(at);
+      const path = this.path([...hand.clicks.map((each) => plane.toScreen(each.at)), [cx, cy]]);
+      return [path && svg('path', { class: 'preview', d: path }), svg('circle', { class: near ? 'snap' : 'preview', cx, cy, r: near ? 9 : 4 })];
+    } : null;
+    if (hand.draws) board.drawHand();
   }
 
   /** The path of the figure through places in pixels. */
-  path(places) {
-    if (places.length < 2) return '';
-    const [first, second, third] = places;
-    switch (this.hand.tool.word) {
-      case 'circle': return ring(first, Math.hypot(first[0] - second[0], first[1] - second[1]));
-      case 'rectangle': return `M${first[0]} ${first[1]}H${second[0]}V${second[1]}H${first[0]}Z`;
-      case 'arc': {
-        const arc = third && arcThrough(first, second, third);
-        if (!arc) return line(first, second);
-        return arc.swapped ? bow(arc.centre, first, second) : bow(arc.centre, second, first);
-      }
-      default: return line(first, second);
-    }
+  path([first, second, third]) {
+    if (!second) return '';
+    if (this.hand.tool === 'circle') return ring(first, apart(first, second));
+    if (this.hand.tool === 'rectangle') return `M${first[0]} ${first[1]}H${second[0]}V${second[1]}H${first[0]}Z`;
+    const arc = third && arcThrough(first, second, third);
+    if (!arc) return line(first, second);
+    return arc.swapped ? bow(arc.centre, first, second) : bow(arc.centre, second, first);
   }
 
   /** Zooms, or pans with Shift. */
@@ -169,45 +161,43 @@ export class Gestures {
     this.board.draw();
   }
 
-  /** The cross of the keyboard moves by steps of the grid, and the board goes with it; Enter clicks there. */
+  /** The cross moves by half steps of the grid, and the board goes with it. */
   step(dx, dy) {
-    const { plane } = this.board;
-    const { width, height } = this.board.size();
-    const from = this.board.cross ?? plane.rounded(plane.toPlane([width / 2, height / 2]));
+    const { board, board: { plane } } = this;
+    const { width, height } = board.size();
+    const [u, v] = board.cross ?? this.onGrid([width / 2, height / 2]);
     const step = plane.step() / 2;
-    this.board.cross = [from[0] + dx * step, from[1] + dy * step].map((each) => Math.round(each * 1000) / 1000);
-    const [x, y] = plane.toScreen(this.board.cross);
+    board.cross = [rounded(u + dx * step, 1000), rounded(v + dy * step, 1000)];
+    const [x, y] = plane.toScreen(board.cross);
     const within = (place, size) => Math.min(Math.max(place, 24), size - 24);
     plane.pan(within(x, width) - x, within(y, height) - y);
-    this.tell(`cross at ${this.board.cross.join(' ')} mm`);
-    this.hover(plane.toScreen(this.board.cross), false);
-    this.board.draw();
-  }
-
-  /** What is selected is drawn some steps of the grid further. */
-  shift(dx, dy) {
-    const step = this.board.plane.step() / 2;
-    const points = [...this.selection.names].filter((name) => this.board.points.has(name) && name !== 'Origin');
-    const shapes = [...this.selection.names].filter((name) => !this.board.points.has(name) && !name.endsWith('Axis'));
-    if (points.length + shapes.length) this.paper.edit({ do: 'shift', points, shapes, dx: dx * step, dy: dy * step });
+    this.tell(`cross at ${board.cross.join(' ')} mm`);
+    this.hover(plane.toScreen(board.cross), false);
+    board.draw();
   }
 
   /** A click at the cross. */
-  enter(level, more) {
+  enter(more) {
     if (!this.board.cross) return;
     const pixels = this.board.plane.toScreen(this.board.cross);
-    if (this.hand.draws) this.press(pixels, level);
-    else this.select({ name: this.board.nearPoint(pixels)?.name ?? null, number: null }, more);
+    if (this.hand.draws) this.press(pixels, false);
+    else this.select(this.board.nearPoint(pixels)?.name, more);
   }
 
-  /** Selects the next (1) or last (-1) point or shape. */
+  /** What is selected is drawn half a step of the grid further. */
+  shift(dx, dy) {
+    const step = this.board.plane.step() / 2;
+    const names = [...this.selection.names].filter((name) => !DATUM.includes(name));
+    const [points, shapes] = [true, false].map((is) => names.filter((name) => Boolean(this.board.shown.at(name)) === is));
+    if (names.length) this.paper.edit({ do: 'shift', points, shapes, dx: dx * step, dy: dy * step });
+  }
+
+  /** Selects the point or shape that comes next (1), or before (-1). */
   next(step, more) {
-    const all = this.board.answer.drawing.shapes.flatMap((shape) => [...new Set([shape.name, ...Object.keys(shape.points)])]);
-    const names = [...all, 'Origin', 'XAxis', 'YAxis'];
+    const names = namesOf(this.board.answer.drawing.shapes);
     const last = [...this.selection.names].at(-1);
-    const place = last ? names.indexOf(last) : step > 0 ? -1 : 0;
-    const name = names[(place + step + names.length) % names.length];
-    this.selection.take(this.selection.names, name, more);
+    const place = last ? names.indexOf(last) : Math.min(0, -step);
+    this.selection.take(names.at((place + step) % names.length), more);
     this.tell(`${[...this.selection.names].join(', ')} selected`);
   }
 }

@@ -1,12 +1,11 @@
-/** Undo and redo, as a list of texts. */
-
+/** Undo and redo: the texts of a drawing from its beginning, and which of them stands. */
 const MOST = 500;
 
-/** The texts of a drawing from its beginning, and which of them stands. */
 export class History {
+  place = 0;
+
   constructor(text) {
     this.texts = [text];
-    this.place = 0;
   }
 
   /** The text that stands. */
@@ -21,14 +20,13 @@ export class History {
     this.place = this.texts.length - 1;
   }
 
-  /** Whether there is something to undo, or with a step of 1 to redo. */
+  /** Whether there is something to undo (-1), or to redo (1). */
   can(step) {
-    return this.place + step >= 0 && this.place + step < this.texts.length;
+    return this.place + step in this.texts;
   }
 
-  /** Goes a step back (-1) or forth (1), and gives the text that stands then. */
+  /** Goes a step back (-1) or forth (1). */
   go(step) {
     if (this.can(step)) this.place += step;
-    return this.text;
   }
 }

@@ -2,37 +2,34 @@
 const KEY = 'pertxogai.drawing';
 const ASIDE = 'pertxogai.aside';
 const MOST_ASIDE = 12;
+const OTHER_TAB = 'The board is open in another tab too. Each tab has its own drawing; the one that was changed last is shown anew, the other stands in the gallery.';
 
 /** Keeps the drawing in this browser. */
 export class Keeping {
+  tab = `${Date.now()}.${Math.random()}`;
+  channel = new BroadcastChannel('pertxogai');
+  others = new Set();
+
   constructor(paper, tell) {
     Object.assign(this, { paper, tell });
-    this.name = `${Date.now()}.${Math.random()}`;
     paper.addEventListener('text', () => this.keep());
-    this.channel = new BroadcastChannel('pertxogai');
     this.channel.addEventListener('message', (event) => this.heard(event.data));
-    this.channel.postMessage({ here: this.name });
-    this.others = new Set();
-    window.addEventListener('pagehide', () => this.channel.postMessage({ gone: this.name }));
+    this.channel.postMessage({ here: this.tab });
+    window.addEventListener('beforeunload', () => this.keep());
+    window.addEventListener('pagehide', () => this.channel.postMessage({ gone: this.tab }));
   }
 
   /** Keeps the text that stands; what another tab kept there goes aside. */
   keep() {
     const { text, name, saved } = this.paper;
     const last = this.kept();
-    if (last && last.tab !== this.name && last.text !== text) this.put(last);
-    this.store(KEY, { text, name, saved, tab: this.name });
+    if (last && last.tab !== this.tab && last.text !== text) this.put(last);
+    this.store(KEY, { text, name, saved, tab: this.tab });
   }
 
   /** What was kept, or null. */
   kept() {
     return this.read(KEY);
-  }
-
-  /** Keeps an unsaved drawing aside, before another begins. */
-  aside() {
-    const { text, name, saved } = this.paper;
-    this.put({ text, name, saved });
   }
 
   /** Puts a drawing aside, unless it is saved; of another tab's drawing its latest state alone. */
@@ -49,10 +46,10 @@ export class Keeping {
 
   /** Another tab tells that it is there, or gone: while there is one, both say so. */
   heard({ here, also, gone }) {
-    if (here) this.channel.postMessage({ also: this.name });
+    if (here) this.channel.postMessage({ also: this.tab });
     if (gone) this.others.delete(gone);
     else this.others.add(here ?? also);
-    this.tell('tabs', this.others.size === 0 ? '' : 'The board is open in another tab too. Each tab has its own drawing; the one that was changed last is shown anew, the other stands in the gallery.');
+    this.tell('tabs', this.others.size ? OTHER_TAB : '');
   }
 
   /** Writes a value, if the browser lets it. */
@@ -64,7 +61,7 @@ export class Keeping {
     }
   }
 
-  /** Reads a value. */
+  /** Reads a value; null where there is none, or it can't be read. */
   read(key) {
     try {
       return JSON.parse(localStorage.getItem(key));

@@ -1,18 +1,19 @@
 /** A group whose nodes are kept while what they show stays the same. */
-
-/** Shows items in a node of the page, and makes anew only what has changed. */
 export class Layer {
-  constructor(node) {
-    this.node = node;
-    this.kept = new Map();
+  kept = new Map();
+
+  /** `make` makes a node, as `svg` does. */
+  constructor(node, make) {
+    Object.assign(this, { node, make });
   }
 
-  /** Shows items, each a key, its state as a text, and what makes its node. */
-  show(items) {
+  /** Shows things, each a key and what its node is made of. */
+  show(things) {
     const kept = new Map();
-    for (const [key, state, make] of items) {
+    for (const [key, ...made] of things) {
+      const state = JSON.stringify(made);
       const old = this.kept.get(key);
-      kept.set(key, old?.state === state ? old : { state, node: make() });
+      kept.set(key, old?.state === state ? old : { state, node: this.make(...made) });
     }
     for (const [key, old] of this.kept) if (kept.get(key) !== old) old.node.remove();
     this.kept = kept;

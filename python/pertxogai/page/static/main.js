@@ -1,122 +1,128 @@
 /** The page: its parts, and what goes from one to the other. */
-import { html, byId } from './nodes.js';
+import { byId } from './nodes.js';
+import { closed } from './dialogs.js';
 import { Server } from './calls.js';
 import { Paper } from './paper.js';
 import { Selection } from './selection.js';
 import { Board } from './board.js';
 import { Gestures } from './gestures.js';
-import { Hand, TOOLS } from './tools.js';
-import { ValueField } from './values.js';
+import { Hand } from './tools.js';
 import { Offers } from './offers.js';
-import { VerdictPanel } from './verdict.js';
+import { Verdict } from './verdict.js';
 import { Texts } from './texts.js';
-import { stepsOf } from './steps.js';
+import { Asked } from './asked.js';
+import { Steps } from './steps.js';
+import { Tabs } from './tabs.js';
 import { Files } from './files.js';
 import { Keeping } from './keeping.js';
-import { Keys, KEYS } from './keys.js';
+import { Keys } from './keys.js';
 
 const RETRY = 1500;
 
 /** All parts of the page. */
 class Page {
+  stopped = null;
+  selection = new Selection();
+  hand = new Hand();
+
   constructor() {
-    this.server = new Server(new URL('.', document.baseURI).pathname, (there, text) => this.reach(there, text));
-    this.paper = new Paper(this.server);
-    this.selection = new Selection();
-    this.hand = new Hand();
+    this.server = new Server((why) => this.reach(why));
+    const paper = this.paper = new Paper(this.server);
     this.board = new Board(byId('board'), this.selection);
-    this.gestures = new Gestures(this.board, this.paper, this.selection, this.hand, hint);
-    this.offers = new Offers(byId('offers'), this.paper, this.board, this.selection, new ValueField());
-    this.verdict = new VerdictPanel(byId('verdict'), this.paper, this.selection);
-    this.texts = new Texts(this.paper, this.selection, this.offers);
-    this.keeping = new Keeping(this.paper, banner);
-    this.files = new Files(this.paper, this.keeping, dialog, () => { this.selection.clear(); this.board.fit(); });
-    this.stopped = null;
-    stepsOf(this.paper, this.board);
+    this.gestures = new Gestures(this.board, paper, this.selection, this.hand, hint);
+    this.offers = new Offers(paper, this.board, this.selection);
+    this.verdict = new Verdict(byId('verdict'), paper, this.selection);
+    this.texts = new Texts(paper);
+    this.asked = new Asked(paper, this.selection, this.offers);
+    this.steps = new Steps(paper, this.board);
+    this.keeping = new Keeping(paper, banner);
+    this.files = new Files(paper, this.keeping, () => this.shown());
     this.keys = new Keys(this);
+    this.tabs = new Tabs();
+    this.acts = this.buttons(this);
   }
 
-  /** Listens to all, and shows what was kept. */
+  /** What each button of the page does, by its id. */
+  buttons({ paper, board, files, offers, steps }) {
+    return {
+      new: () => files.begin('', 'drawing'), gallery: () => files.gallery(), open: () => files.input.click(), save: () => files.save(),
+      undo: () => paper.go(-1), redo: () => paper.go(1), help: () => closed(byId('keys')),
+      construction: (button) => this.construct(button), fit: () => board.fit(), 'redraw-all': () => paper.redraw([]),
+      revalue: () => this.keys.enter(false), construct: () => offers.construct(), rename: () => offers.rename(), erase: () => offers.erase(),
+      back: () => steps.go(-1), on: () => steps.go(1), play: () => steps.play(), flip: () => steps.flip(), redraw: () => steps.redraw(), verify: () => steps.verify(),
+    };
+  }
+
+  /** Listens to the parts, and shows what was kept. */
   begin() {
-    this.listen();
-    this.bar();
-    this.take('select');
-    const { text = '', name = 'drawing', saved = '' } = this.keeping.kept() ?? {};
-    byId('name').value = name;
-    this.paper.begin(text, name, saved).then(() => this.board.fit());
-  }
-
-  /** Listens to the parts, and to the buttons that are the page's own. */
-  listen() {
-    const { paper, board, keeping, offers } = this;
+    const { paper, keeping } = this;
     paper.addEventListener('answer', (event) => this.show(event.detail));
     paper.addEventListener('trouble', (event) => hint(event.detail));
-    this.selection.addEventListener('change', () => board.draw());
-    const clicks = { undo: () => paper.go(-1), redo: () => paper.go(1), help: () => this.help() };
-    for (const [id, act] of Object.entries(clicks)) byId(id).addEventListener('click', act);
+    document.addEventListener('click', (event) => this.click(event.target.closest('button')));
     byId('name').addEventListener('change', () => { paper.name = byId('name').value.trim() || 'drawing'; keeping.keep(); });
-    byId('board').addEventListener('dblclick', (event) => {
-      const number = event.target.closest('[data-constraint]')?.dataset.constraint;
-      if (number) offers.change(Number(number));
-    });
-    new ResizeObserver(() => board.draw()).observe(byId('board'));
-    window.addEventListener('beforeunload', () => keeping.keep());
+    byId('board').addEventListener('mouseup', (event) => this.pressed(event.detail));
+    this.take('select');
+    const { text = '', name = 'drawing', saved = '' } = keeping.kept() ?? {};
+    byId('name').value = name;
+    paper.begin(text, name, saved).then(() => this.shown());
   }
 
-  /** Hears whether the server is there; once it is again, the drawing is judged. */
-  reach(there, text) {
-    document.body.dataset.server = there ? 'there' : 'stopped';
-    if (!there) {
-      banner('server', text);
-      this.stopped ??= setInterval(() => this.server.reached('gallery', {}).catch(() => {}), RETRY);
-    } else if (this.stopped) {
+  /** A button is clicked. */
+  click(button) {
+    if (!button) return;
+    const { tool, export: kind } = button.dataset;
+    if (tool) this.take(tool);
+    else if (kind) this.files.export(kind);
+    else this.acts[button.id]?.(button);
+  }
+
+  /** The mouse was pressed so many times: twice on a dimension changes its value, once the clicks are through. Of a mark that is drawn anew between two presses the browser tells no double click. */
+  pressed(times) {
+    if (times === 2 && !this.hand.draws) setTimeout(() => this.offers.change(...this.selection.numbers));
+  }
+
+  /** Another drawing has begun. */
+  shown() {
+    this.selection.set([]);
+    this.board.fit();
+  }
+
+  /** Hears why the server isn't there, if it isn't; once it is again, the drawing is judged. */
+  reach(why) {
+    document.body.dataset.server = why ? 'stopped' : 'there';
+    banner('server', why);
+    if (why) this.stopped ??= setInterval(() => this.server.reached('gallery').catch(() => {}), RETRY);
+    else if (this.stopped) {
       clearInterval(this.stopped);
       this.stopped = null;
-      banner('server', '');
       this.paper.judge();
     }
   }
 
-  /** Shows the help. */
-  help() {
-    const rows = KEYS.flatMap(([key, what]) => [html('dt', {}, key), html('dd', {}, what)]);
-    dialog('Keys and hands', html('dl', { class: 'keys' }, ...rows));
+  /** Takes a tool. */
+  take(tool) {
+    this.hand.take(tool);
+    this.board.preview = null;
+    this.board.node.classList.toggle('draws', this.hand.draws);
+    for (const button of document.querySelectorAll('[data-tool]')) button.ariaPressed = String(button.dataset.tool === tool);
+    hint(this.hand.hint);
+    this.board.draw();
   }
 
-  /** Takes a tool. */
-  take(word) {
-    const { hand, board } = this;
-    hand.take(word);
-    board.preview = null;
-    board.node.classList.toggle('draws', hand.draws);
-    for (const button of byId('tools').querySelectorAll('[data-tool]')) button.setAttribute('aria-pressed', String(button.dataset.tool === word));
-    hint(hand.hint);
-    board.draw();
+  /** Draws lines of help from now on, or edges again. */
+  construct(button) {
+    this.hand.construction = !this.hand.construction;
+    button.ariaPressed = String(this.hand.construction);
   }
 
   /** Gives up, one thing after the other: the clicks, the tool, the cross, the selection. */
   escape() {
     const { hand, board } = this;
-    if (hand.drop()) board.preview = null;
-    else if (hand.draws) this.take('select');
+    if (hand.draws) this.take(hand.clicks.length ? hand.tool : 'select');
     else if (board.cross) board.cross = null;
-    else this.selection.clear();
+    else this.selection.set([]);
     hint(hand.hint);
     board.draw();
-  }
-
-  /** The bar of tools. */
-  bar() {
-    const { hand, board, paper } = this;
-    const tools = TOOLS.map((each) => html('button', { 'data-tool': each.word, title: `${each.title} (${each.key.toUpperCase()})`, onclick: () => this.take(each.word) }, each.title, html('kbd', { 'aria-hidden': 'true' }, each.key)));
-    const construct = (event) => {
-      hand.construction = !hand.construction;
-      event.currentTarget.setAttribute('aria-pressed', String(hand.construction));
-    };
-    byId('tools').replaceChildren(...tools,
-      html('button', { id: 'construction', 'aria-pressed': 'false', title: 'draw lines of help', onclick: construct }, 'Construction'),
-      html('button', { id: 'fit', title: 'show all (0)', onclick: () => board.fit() }, 'Fit'),
-      html('button', { id: 'redraw-all', title: 'draw all points where they are placed', onclick: () => paper.change('redraw', (text) => ({ text, steps: [] })) }, 'Redraw as placed'));
   }
 
   /** Shows an answer everywhere. */
@@ -124,7 +130,7 @@ class Page {
     const { paper } = this;
     if (answer.drawing) {
       this.selection.keep(answer.drawing);
-      this.board.show(answer);
+      this.board.show(answer.refused ? paper.answer : answer);
     }
     this.verdict.show(answer);
     this.texts.show(answer);
@@ -143,14 +149,6 @@ function hint(text) {
 /** Shows a line of the server's, the tabs' or the keeping's over the whole page, or none. */
 function banner(whose, text) {
   byId(`told-${whose}`).textContent = text;
-}
-
-/** Shows a dialog with a title. */
-function dialog(title, content) {
-  byId('dialog-title').textContent = title;
-  byId('dialog').querySelector('div').replaceChildren(content);
-  byId('dialog').showModal();
-  content.querySelector('button')?.focus();
 }
 
 new Page().begin();

@@ -1,21 +1,12 @@
-/** The dimensions and signs of constraints, as SVG nodes. */
-import { svg } from './nodes.js';
+/** The dimensions and signs of constraints, as what SVG nodes are made of. */
+import { middleOf } from './shapes.js';
 
-const SIGNS = {
-  horizontal: '―', vertical: '|', parallel: '∥', perpendicular: '⊥', collinear: '⋯', equal: '=', tangent: '◠',
-  concentric: '◎', symmetric: '⇔', midpoint: '△', fixed: '▣', coincident: '●', pointon: '×',
-};
 /** How far in pixels a bar may stand beside what it measures, and a text or sign from its place. */
 const AWAYS = [24, 43, 62, 81, 100, 119, 138];
 const TEXT_STEPS = [[0, -18], [0, 18], [34, 0], [-34, 0], [0, -36], [0, 36]];
 const SIGN_STEPS = [[11, -12], [-11, -12], [11, 12], [-11, 12], [24, -12], [24, 12], [37, -12], [50, -12]];
 /** The height of a line of text in pixels. */
 const ROW = 15;
-
-/** The sign of a constraint's word. */
-export function signOf(word) {
-  return SIGNS[word === 'on' ? 'pointon' : word] ?? '';
-}
 
 /** Finds places for the marks of an answer; those that are taken make the next one step aside. */
 export class Marks {
@@ -43,12 +34,12 @@ export class Marks {
     const ends = AWAYS.map(beside).find((each) => this.isOpen(...each, way, length, mark.text)) ?? beside(AWAYS[0]);
     this.bars.push(ends);
     const [a, b] = ends;
-    return { path: `M${start}L${a}M${end}L${b}M${a}L${b}${tip(a, way)}${tip(b, [-way[0], -way[1]])}`, text: mark.text, at: middle(a, b) };
+    return { path: `M${start}L${a}M${end}L${b}M${a}L${b}${tip(a, way)}${tip(b, [-way[0], -way[1]])}`, text: mark.text, at: middleOf([a, b]) };
   }
 
   /** Whether a bar between two places, and its text, lie over no other. */
   isOpen(a, b, [ux, uy], length, text) {
-    if (!this.isFree(middle(a, b), text)) return false;
+    if (!this.isFree(middleOf([a, b]), text)) return false;
     const [left, right, low, high] = box(a, b, 9);
     return this.bars.every(([p, q]) => {
       if (Math.max(p[0], q[0]) < left || Math.min(p[0], q[0]) > right || Math.max(p[1], q[1]) < low || Math.min(p[1], q[1]) > high) return true;
@@ -61,7 +52,7 @@ export class Marks {
   /** A text or a sign near a place. */
   tag(mark) {
     const radius = (mark.radius ?? 0) * this.plane.scale;
-    const text = mark.text ?? signOf(mark.sign);
+    const text = mark.text ?? mark.sign;
     let at = this.plane.toScreen(mark.at);
     if (radius) at = [at[0] + radius * 0.7071 + 18, at[1] - radius * 0.7071 - 12];
     const steps = mark.sign ? SIGN_STEPS : radius ? [[0, 0], ...TEXT_STEPS] : TEXT_STEPS;
@@ -84,21 +75,14 @@ export class Marks {
   }
 }
 
-/** A placed mark as an item of a layer, in classes. */
-export function markItem({ number, sign, path, text, at }, key, kind) {
-  const made = () => svg('g', { class: kind, 'data-constraint': number },
-    path && svg('path', { class: 'mark', d: path }), svg('text', { x: at[0], y: at[1], class: sign ? 'sign' : 'value' }, text));
-  return [key, `${number} ${kind} ${path} ${at} ${text}`, made];
+/** A placed mark, in classes, with what is told of it where a hand rests on it. */
+export function markMade({ number, sign, path, text, at: [x, y] }, key, kind, told) {
+  return [key, 'g', { class: kind, 'data-constraint': number }, told && ['title', {}, told], path && ['path', { class: 'mark', d: path }], ['text', { x, y, class: sign ? 'sign' : 'value' }, text]];
 }
 
 /** The box of two places, with so much around: left, right, low, high. */
 function box([x, y], [u, v], around) {
   return [Math.min(x, u) - around, Math.max(x, u) + around, Math.min(y, v) - around, Math.max(y, v) + around];
-}
-
-/** The place between two. */
-function middle([x, y], [u, v]) {
-  return [(x + u) / 2, (y + v) / 2];
 }
 
 /** Half the width of a text in pixels, nearly. */

@@ -4,18 +4,23 @@ import { Stopped } from './calls.js';
 
 /** A drawing that is worked on. Listeners hear 'answer', 'trouble', 'text'. */
 export class Paper extends EventTarget {
+  history = new History('');
+  name = 'drawing';
+  saved = '';
+  /** What is said of the last text that could be read, and the line of this one that can't. */
+  answer = null;
+  refused = null;
+  /** What was told of the text that stands. */
+  said = null;
+  /** What is being done; the edit that a hand makes while it moves, and the last that was shown. */
+  waiting = Promise.resolve();
+  live = null;
+  seen = null;
+  asked = 0;
+
   constructor(server) {
     super();
     this.server = server;
-    this.history = new History('');
-    this.name = 'drawing';
-    this.saved = '';
-    this.answer = null;
-    this.refused = null;
-    this.waiting = Promise.resolve();
-    this.live = null;
-    this.seen = null;
-    this.asked = 0;
   }
 
   /** The text as it stands. */
@@ -25,24 +30,27 @@ export class Paper extends EventTarget {
 
   /** Begins with a text, under a name. */
   begin(text, name, saved = text) {
-    this.history = new History(text);
-    this.name = name;
-    this.saved = saved;
-    this.tell('text');
-    return this.judge();
+    Object.assign(this, { history: new History(text), name, saved });
+    return this.turned();
   }
 
   /** Takes a text that was typed. */
   type(text) {
     if (text === this.text) return Promise.resolve();
     this.history.push(text);
-    this.tell('text');
-    return this.judge();
+    return this.turned();
   }
 
-  /** Undoes (-1) or redoes (1). */
+  /** Undoes (-1) or redoes (1), behind all that was asked before. */
   go(step) {
-    this.history.go(step);
+    return this.queue(() => {
+      this.history.go(step);
+      this.turned();
+    });
+  }
+
+  /** Another text stands, and is judged. */
+  turned() {
     this.tell('text');
     return this.judge();
   }
@@ -52,28 +60,43 @@ export class Paper extends EventTarget {
     const turn = this.asked += 1;
     return this.queue(async () => {
       if (turn !== this.asked) return;
-      const text = this.text;
+      const { text } = this;
       const answer = await this.server.call('judge', { text });
       if (turn === this.asked) this.take(text, answer);
     });
   }
 
+  /** What the server answers to a call, behind all that was asked before; false where it is stopped. */
+  ask(call, given) {
+    return this.queue(() => this.server.call(call, given));
+  }
+
   /** Edits the text that stands by one edit of the server's. Gives whether it was taken. */
   edit(edit) {
-    return this.queue(async () => this.takeChange(await this.edited(this.text, edit)));
+    return this.change((text) => this.edited(text, edit));
   }
 
-  /** What an edit makes of a text; the constraints aren't told again where they stay as they are. */
+  /** The text is drawn as it is placed, or as it is with the choices of some steps turned over. */
+  redraw(steps) {
+    return this.change((text) => this.server.call('redraw', { text, steps }));
+  }
+
+  /** Changes the text that stands by a call; where another was typed meanwhile, that one. Gives whether it was taken. */
+  change(call) {
+    return this.queue(async () => {
+      for (;;) {
+        const { text } = this;
+        const answer = await call(text);
+        if (this.text === text) return this.takeChange(answer);
+      }
+    });
+  }
+
+  /** What an edit makes of a text; of one that is known, what stays as it was isn't told again. */
   async edited(text, edit) {
-    const known = this.answer?.text === text ? this.answer.drawing.constraints : null;
+    const known = this.answer?.drawing && !this.answer.trouble && this.answer.text === text ? this.answer : null;
     const answer = await this.server.call('edit', { text, edit, knows: known !== null });
-    if (answer.drawing) answer.drawing.constraints ??= known;
-    return answer;
-  }
-
-  /** Changes the text by a call that answers another. Gives whether it was taken. */
-  change(call, given) {
-    return this.queue(async () => this.takeChange(await this.server.call(call, given(this.text))));
+    return known ? completed(answer, known) : answer;
   }
 
   /** Shows what an edit would make, while a hand moves: only the last of several is asked for. With `lands` the hand lets go, and the edit counts. */
@@ -85,7 +108,7 @@ export class Paper extends EventTarget {
 
   /** Shows one preview after the other, until none waits. What was asked for once isn't asked for again. */
   async previews() {
-    let seen = this.seen;
+    let { seen } = this;
     while (this.live) {
       const { edit, base } = this.live;
       if (seen?.edit !== edit) seen = { edit, answer: await this.edited(base, edit) };
@@ -98,14 +121,12 @@ export class Paper extends EventTarget {
     this.live = null;
   }
 
-  /** Takes the answer of a call that changes the text. */
+  /** Takes the answer of a call that changes the text; gives whether it does. */
   takeChange(answer) {
-    if (answer.trouble || answer.refused) {
-      this.tell('trouble', answer.trouble ? answer.trouble.message : answer.refused.what);
-      if (!answer.text) {
-        if (this.answer) this.tell('answer', this.answer);
-        return false;
-      }
+    if (answer.trouble || answer.refused) this.tell('trouble', (answer.trouble ?? answer.refused).message);
+    if (!answer.text) {
+      if (this.said) this.tell('answer', this.said);
+      return false;
     }
     this.history.push(answer.text);
     this.asked += 1;
@@ -119,24 +140,24 @@ export class Paper extends EventTarget {
     if (text !== this.text) return;
     this.refused = answer.refused ?? null;
     if (!this.refused) this.answer = answer;
-    this.tell('answer', this.refused ? { ...(this.answer ?? {}), refused: this.refused, judgement: null } : answer);
-    if (!this.refused && answer.judgement?.verdict === 'over') this.weigh(text, answer);
+    this.said = this.refused ? { ...this.answer, ...answer, judgement: null } : answer;
+    this.tell('answer', this.said);
+    if (answer.judgement?.verdict === 'over') this.weigh(text, answer);
   }
 
-  /** Has measured, beside all else, what may go of a drawing that is over. */
+  /** Has told and measured, beside all else, what is left out of a drawing that is over, and what may go. */
   async weigh(text, answer) {
-    const found = await this.server.call('weigh', { text }).catch((error) => { if (!(error instanceof Stopped)) throw error; });
+    const found = await this.server.call('weigh', { text }).catch(ended);
     if (!found?.spare || this.answer !== answer || this.refused) return;
     Object.assign(answer.judgement, found);
     this.tell('answer', answer);
   }
 
-  /** Does one thing after the other; what the stopped server kept from being done is told. */
+  /** Does one thing after the other; gives false of what the stopped server kept from being done. */
   queue(act) {
     const done = this.waiting.then(act).catch((error) => {
-      if (!(error instanceof Stopped)) throw error;
       this.live = null;
-      return false;
+      return ended(error);
     });
     this.waiting = done.catch(() => {});
     return done;
@@ -146,4 +167,17 @@ export class Paper extends EventTarget {
   tell(what, detail = null) {
     this.dispatchEvent(new CustomEvent(what, { detail }));
   }
+}
+
+/** Passes over that the server is stopped, which the page tells by itself. */
+function ended(error) {
+  if (!(error instanceof Stopped)) throw error;
+  return false;
+}
+
+/** An answer with all that it leaves out since it is as it was: lists, and things of a list. */
+function completed(answer, known) {
+  const { drawing } = answer;
+  for (const [what, old] of Object.entries(drawing ? known.drawing : {})) drawing[what] = drawing[what]?.map((each, place) => each ?? old[place]) ?? old;
+  return answer;
 }

@@ -1,56 +1,39 @@
-/** What is selected: points and shapes by their names, and constraints by their numbers. */
+/** What is selected: points and shapes by their names, and constraints by their numbers. Listeners hear 'change'. */
 export class Selection extends EventTarget {
-  constructor() {
-    super();
-    this.names = new Set();
-    this.numbers = new Set();
-  }
+  names = new Set();
+  numbers = new Set();
 
   /** Whether nothing is selected. */
   get isEmpty() {
     return this.names.size + this.numbers.size === 0;
   }
 
-  /** Selects one thing alone, or adds and takes away with `more`. */
-  take(set, thing, more) {
-    const had = set.has(thing);
-    if (!more) {
-      this.names.clear();
-      this.numbers.clear();
-    }
-    if (more && had) set.delete(thing);
-    else set.add(thing);
-    this.tell();
-  }
-
-  /** Selects these points and shapes alone. */
-  set(names) {
+  /** Selects these alone. */
+  set(names, numbers = []) {
     this.names = new Set(names);
-    this.numbers.clear();
-    this.tell();
+    this.numbers = new Set(numbers);
+    this.dispatchEvent(new Event('change'));
   }
 
-  /** Selects nothing. */
-  clear() {
-    if (this.isEmpty) return;
-    this.names.clear();
-    this.numbers.clear();
-    this.tell();
+  /** Selects one thing alone; with `more` adds it, or takes it away where it is selected. */
+  take(thing, more) {
+    const [names, numbers] = more ? [this.names, this.numbers] : [new Set(), new Set()];
+    const mine = typeof thing === 'number' ? numbers : names;
+    if (!mine.delete(thing)) mine.add(thing);
+    this.set(names, numbers);
   }
 
   /** Forgets what no longer stands. */
-  keep(drawing) {
-    const stands = new Set(['Origin', 'XAxis', 'YAxis', ...drawing.shapes.flatMap((shape) => [shape.name, ...Object.keys(shape.points)])]);
+  keep({ shapes, constraints }) {
+    if (this.isEmpty) return;
+    const stands = new Set(namesOf(shapes));
     const names = [...this.names].filter((name) => stands.has(name));
-    const numbers = [...this.numbers].filter((number) => number <= drawing.constraints.length);
-    if (names.length === this.names.size && numbers.length === this.numbers.size) return;
-    this.names = new Set(names);
-    this.numbers = new Set(numbers);
-    this.tell();
+    const numbers = [...this.numbers].filter((number) => number <= constraints.length);
+    if (names.length + numbers.length < this.names.size + this.numbers.size) this.set(names, numbers);
   }
+}
 
-  /** Tells the listeners. */
-  tell() {
-    this.dispatchEvent(new Event('change'));
-  }
+/** The names of some shapes and of their points, in their order, and those of the datum. */
+export function namesOf(shapes) {
+  return [...new Set(shapes.flatMap((shape) => [shape.name, ...Object.keys(shape.points)])), 'Origin', 'XAxis', 'YAxis'];
 }

@@ -1,85 +1,76 @@
 /** The tools: what a few clicks on the board draw. A spot is `{x, y}`, or `{point}` that is shared. */
 
-/** Every tool: its word, key, title, and what to do at each click. */
-export const TOOLS = [
-  { word: 'select', key: 'v', title: 'Select', hints: ['Click selects, Shift adds, dragging moves. Drag the empty board to pan, the wheel zooms.'] },
-  { word: 'point', key: 'p', title: 'Point', hints: ['Point: click where it lies.'] },
-  { word: 'segment', key: 's', title: 'Segment', hints: ['Segment: click its start. A point that stands is shared.', 'Click its end; with Shift it is kept level or upright. Escape ends the chain.'] },
-  { word: 'rectangle', key: 'r', title: 'Rectangle', hints: ['Rectangle: click a corner.', 'Click the opposite corner.'] },
-  { word: 'circle', key: 'c', title: 'Circle', hints: ['Circle: click its centre.', 'Click a place on it.'] },
-  { word: 'arc', key: 'a', title: 'Arc', hints: ['Arc: click one end.', 'Click the other end.', 'Click a place on it.'] },
-];
+/** What to do at each click of a tool. */
+const HINTS = {
+  select: ['Click selects, Shift adds, dragging moves. Drag the empty board to pan, the wheel zooms.'],
+  point: ['Point: click where it lies.'],
+  segment: ['Segment: click its start. A point that stands is shared.', 'Click its end; with Shift it is kept level or upright. Escape ends the chain.'],
+  rectangle: ['Rectangle: click a corner.', 'Click the opposite corner.'],
+  circle: ['Circle: click its centre.', 'Click a place on it.'],
+  arc: ['Arc: click one end.', 'Click the other end.', 'Click a place on it.'],
+};
 
-/** The clicks of a tool so far. */
+/** The tool that is held, and its clicks so far. */
 export class Hand {
-  constructor() {
-    this.tool = TOOLS[0];
-    this.clicks = [];
-    this.construction = false;
-  }
+  tool = 'select';
+  clicks = [];
+  construction = false;
 
   /** Takes another tool. */
-  take(word) {
-    this.tool = TOOLS.find((each) => each.word === word);
+  take(tool) {
+    this.tool = tool;
     this.clicks = [];
   }
 
   /** Whether it draws. */
   get draws() {
-    return this.tool.word !== 'select';
+    return this.tool !== 'select';
   }
 
   /** What to do next. */
   get hint() {
-    return this.tool.hints[Math.min(this.clicks.length, this.tool.hints.length - 1)];
+    return HINTS[this.tool][this.clicks.length];
   }
 
-  /** Forgets the clicks; whether there were any. */
-  drop() {
-    const had = this.clicks.length > 0;
-    this.clicks = [];
-    return had;
-  }
-
-  /** Takes a click; gives the edit that is drawn by it, or null where more are needed. */
+  /** Takes a click; gives the edit that is drawn by it, or null where more are needed, or they make no figure. */
   click(spot, at) {
     this.clicks.push({ spot, at });
-    if (this.clicks.length < Math.max(1, this.tool.hints.length)) return null;
-    const edit = this.edit();
+    if (this.clicks.length < HINTS[this.tool].length) return null;
+    const edit = this.edit(this.clicks.map((each) => each.spot), ...this.clicks.map((each) => each.at));
     this.clicks = [];
     return edit;
   }
 
-  /** The edit of all clicks; null where they make no figure. */
-  edit() {
-    const [first, second, third] = this.clicks;
-    const made = { do: 'draw', figure: this.tool.word, construction: this.construction };
-    if (second && Math.hypot(first.at[0] - second.at[0], first.at[1] - second.at[1]) === 0) return null;
-    if (this.tool.word === 'circle') {
-      const radius = round(Math.hypot(first.at[0] - second.at[0], first.at[1] - second.at[1]), 100);
-      return { ...made, spots: [first.spot], radius: Math.max(radius, 0.01) };
-    }
-    if (this.tool.word !== 'arc') return { ...made, spots: this.clicks.map((each) => each.spot) };
-    const arc = arcThrough(first.at, second.at, third.at);
+  /** The edit by which a figure is drawn through spots that lie at places; null where they make none. */
+  edit(spots, first, second, third) {
+    const made = { do: 'draw', figure: this.tool, construction: this.construction, spots };
+    const away = second ? apart(first, second) : 1;
+    if (away === 0) return null;
+    if (this.tool === 'circle') return { ...made, spots: [spots[0]], radius: Math.max(rounded(away, 100), 0.01) };
+    if (this.tool !== 'arc') return made;
+    const arc = arcThrough(first, second, third);
     if (!arc) return null;
-    const ends = arc.swapped ? [second.spot, first.spot] : [first.spot, second.spot];
-    return { ...made, spots: [{ x: round(arc.centre[0], 1000), y: round(arc.centre[1], 1000) }, ...ends] };
+    const [x, y] = arc.centre.map((each) => rounded(each, 1000));
+    return { ...made, spots: [{ x, y }, ...(arc.swapped ? [spots[1], spots[0]] : spots.slice(0, 2))] };
   }
 }
 
-/** The circle through three places: its centre, and whether it runs from the second to the first. */
+/** The circle through three places: its centre, and whether it runs from the second to the first; null where they lie on a line. */
 export function arcThrough([ax, ay], [bx, by], [cx, cy]) {
   const cross = (bx - ax) * (cy - ay) - (by - ay) * (cx - ax);
   if (Math.abs(cross) < 1e-9) return null;
-  const a = ax * ax + ay * ay;
-  const b = bx * bx + by * by;
-  const c = cx * cx + cy * cy;
+  const [a, b, c] = [ax * ax + ay * ay, bx * bx + by * by, cx * cx + cy * cy];
   const x = (a * (by - cy) + b * (cy - ay) + c * (ay - by)) / (2 * cross);
   const y = (a * (cx - bx) + b * (ax - cx) + c * (bx - ax)) / (2 * cross);
   return { centre: [x, y], swapped: cross > 0 };
 }
 
+/** How far two places are apart. */
+export function apart([x, y], [u, v]) {
+  return Math.hypot(u - x, v - y);
+}
+
 /** A number rounded to a part. */
-function round(value, parts) {
+export function rounded(value, parts) {
   return Math.round(value * parts) / parts;
 }

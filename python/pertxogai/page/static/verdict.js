@@ -2,7 +2,7 @@
 import { html, colourOf } from './nodes.js';
 
 /** Shows the judgement of each answer, line by line as the server tells it. */
-export class VerdictPanel {
+export class Verdict {
   constructor(node, paper, selection) {
     Object.assign(this, { node, paper, selection });
   }
@@ -12,28 +12,31 @@ export class VerdictPanel {
     const [kind, title, lines] = told(answer);
     this.node.className = kind;
     this.node.dataset.verdict = kind;
-    const time = answer.ms ? [html('span', { class: 'time', title: 'the time that the server took' }, `${answer.ms} ms`)] : [];
-    this.node.replaceChildren(...time, html('h2', {}, title));
-    for (const line of lines) this.append(line);
+    const time = answer.ms && html('span', { class: 'time', title: 'the time that the server took' }, `${answer.ms} ms`);
+    const lists = new Map();
+    const nodes = lines.map((line) => this.line(line, lists));
+    this.node.replaceChildren(...[time, html('h2', {}, title), ...nodes].filter(Boolean));
   }
 
-  /** Appends a line, in the list that it stands in. */
-  append(line) {
-    if (!line.list) {
-      this.node.append(html('p', { class: line.kind }, this.told(line)));
-      return;
-    }
-    const last = this.node.lastElementChild;
-    const list = last.getAttribute('aria-label') === line.list ? last : html('ul', { 'aria-label': line.list });
-    if (list !== last) this.node.append(list);
+  /** A line, or the list that it begins; null of a line in a list that another has begun. */
+  line(line, lists) {
+    if (!line.list) return html('p', { class: line.kind }, this.told(line));
+    const list = lists.get(line.list);
+    if (list) list.append(this.item(line));
+    else lists.set(line.list, html('ul', { 'aria-label': line.list }, this.item(line)));
+    return list ? null : lists.get(line.list);
+  }
+
+  /** A line of a list: with the colour of its part, or the button that takes its constraint away. */
+  item(line) {
     const erase = () => this.paper.edit({ do: 'erase', constraints: [line.takes] });
     const button = line.takes && html('button', { onclick: erase, 'aria-label': `take away ${line.text.split(': ')[0]}` }, 'Take away');
-    list.append(html('li', { 'data-spare': line.takes }, line.part && html('i', { class: 'chip', colour: colourOf(line.part) }), this.told(line), button));
+    return html('li', { 'data-spare': line.takes }, line.part && html('i', { class: 'chip', '--colour': colourOf(line.part) }), this.told(line), button);
   }
 
   /** The text of a line; where it selects something, as a button. */
   told({ text, selects, constraint }) {
-    if (constraint) return html('button', { onclick: () => this.selection.take(this.selection.numbers, constraint, false) }, text);
+    if (constraint) return html('button', { onclick: () => this.selection.take(constraint, false) }, text);
     if (selects) return html('button', { class: 'line', onclick: () => this.selection.set(selects) }, text);
     return html('span', {}, text);
   }
@@ -41,7 +44,7 @@ export class VerdictPanel {
 
 /** A kind, a title, and the lines below it. */
 function told({ refused, trouble, judgement }) {
-  if (refused) return ['refused', 'not read', [{ text: `line ${refused.line}: ‘${refused.word}’ ${refused.what}` }]];
+  if (refused) return ['refused', 'not read', [{ text: refused.message }]];
   if (trouble) return ['trouble', 'not judged', [{ text: trouble.message }]];
   if (!judgement) return ['empty', 'empty', [{ kind: 'quiet', text: 'Draw with the tools above the board, begin from the gallery, or write in the text below.' }]];
   if (judgement.failure) return ['fault', 'well, and no places', judgement.lines];

@@ -1,15 +1,14 @@
 /** What of the plane the board shows: millimetres, x to the right and y up, to pixels. */
-
 const LEAST = 0.02;
 const MOST = 2000;
+/** The room around all that is shown, for the dimensions, in pixels. */
+const ROOM = 84;
 
 /** A scale in pixels a millimetre, and where the origin lies in pixels. */
 export class View {
-  constructor() {
-    this.scale = 4;
-    this.x = 200;
-    this.y = 400;
-  }
+  scale = 4;
+  x = 200;
+  y = 400;
 
   /** A place in pixels. */
   toScreen([x, y]) {
@@ -35,15 +34,15 @@ export class View {
     this.y += dy;
   }
 
-  /** Shows all of some places in a box of pixels, with room around for the dimensions. */
-  fit(places, width, height) {
-    const xs = places.map((place) => place[0]);
-    const ys = places.map((place) => place[1]);
-    const [left, right, low, high] = places.length ? [Math.min(...xs), Math.max(...xs), Math.min(...ys), Math.max(...ys)] : [-10, 110, -10, 70];
-    const room = 84;
-    const wide = Math.max(right - left, 1e-3);
-    const tall = Math.max(high - low, 1e-3);
-    this.scale = Math.min(40, MOST, Math.max(LEAST, Math.min((width - 2 * room) / wide, (height - 2 * room) / tall)));
+  /** Shows all of some places in a box of pixels. */
+  fit(places, { width, height }) {
+    const corners = places.length ? places : [[-10, -10], [110, 70]];
+    const [[left, right], [low, high]] = [0, 1].map((axis) => {
+      const all = corners.map((place) => place[axis]);
+      return [Math.min(...all), Math.max(...all)];
+    });
+    const fitting = Math.min((width - 2 * ROOM) / Math.max(right - left, 1e-3), (height - 2 * ROOM) / Math.max(high - low, 1e-3));
+    this.scale = Math.min(40, Math.max(LEAST, fitting));
     this.x = width / 2 - (left + right) / 2 * this.scale;
     this.y = height / 2 + (low + high) / 2 * this.scale;
   }
@@ -56,8 +55,8 @@ export class View {
   }
 
   /** A place in millimetres rounded to the half step of the grid, and to a micrometre. */
-  rounded([x, y]) {
+  rounded(place) {
     const step = this.step() / 2;
-    return [x, y].map((each) => Math.round(Math.round(each / step) * step * 1000) / 1000);
+    return place.map((each) => Math.round(Math.round(each / step) * step * 1000) / 1000);
   }
 }

@@ -1,0 +1,193 @@
+"""What is too much in a drawing that is over: the last of the dimensions that the others can do
+without, as the program leaves them out, and how far each is off where it places the others."""
+from __future__ import annotations
+
+from collections.abc import Collection, Iterable, Iterator, Mapping
+from dataclasses import dataclass, replace
+from enum import Enum
+from fractions import Fraction
+
+from pertxogai import language
+from pertxogai.answers.asking import Place, written_by
+from pertxogai.answers.naming import Names
+from pertxogai.drawing import Diameter, Distance, Length, PointRef, Radius, Which
+from pertxogai.program import Asks
+from pertxogai.reports import Excessive, OverPart, read_excess
+from pertxogai.spelling.facts import ORIGIN_KNOT, Knot, Owner
+from pertxogai.spelling.rails import Rail
+
+REPEATS_NM = 1000
+"""What is off by no more nanometres of the drawing repeats the others: the limit that the language
+has where none is told."""
+CHOICES = 4
+"""So many more choices of what is left out are tried at most, where the others have no places."""
+
+
+class Rest(Enum):
+    """What the program says of the others, as it is told above what is left out."""
+
+    PLACED = "Without these, the others can be placed:"
+    NO_PLACES = "Without these they are just enough, but have no places:"
+    OVER = "Without these there are too many still:"
+
+
+@dataclass(frozen=True)
+class Excess:
+    """A dimension that is left out, by its place and its name.
+
+    conflicts: whether it contradicts the others, else it repeats them within the limit; None where
+    that isn't measured. off_um: what the others give, less what it says; None where the line that
+    is left out isn't just what it says. in_part: whether another line that it says is kept, so
+    that it may be needed all the same."""
+
+    number: int
+    name: str
+    conflicts: bool | None = None
+    off_um: Fraction | None = None
+    in_part: bool = False
+
+
+@dataclass(frozen=True)
+class TooMuch:
+    """All that is left out of a drawing that is over, by the dimensions' places, and what becomes
+    of the others. helps: whether a line is left out that no dimension says."""
+
+    dimensions: tuple[Excess, ...]
+    rest: Rest = Rest.PLACED
+    helps: bool = False
+
+
+def too_much(names: Names, program: Asks, whole: Collection[int] = ()) -> TooMuch:
+    """What is left out of a drawing: the last dimensions without which the others have places;
+    where no such are found, the last ones. `whole`: the places of dimensions that are known to
+    leave the rest well where they go. Raises ProgramError."""
+    first = found = _choice(names, program, whole, frozenset())
+    kept: frozenset[int] = frozenset()
+    for _ in range(CHOICES):
+        if found.rest is not Rest.NO_PLACES:
+            break
+        kept |= {each.number for each in found.dimensions if each.conflicts is None}
+        found = _choice(names, program, whole, kept)
+    return found if found.rest is Rest.PLACED else first
+
+
+def _choice(names: Names, program: Asks, whole: Collection[int],
+            kept: Collection[int]) -> TooMuch:
+    """What is left out where the program is asked with the lines of the sketch in the order of the
+    dimensions that say them, since it leaves out the last ones; with those first that are to be
+    kept where they can be."""
+    spelled = names.spelled
+    said = [_said_by(owners) for owners in spelled.owners]
+    order = sorted(range(len(said)), key=lambda place: (said[place] not in kept, said[place]))
+    lines = tuple(spelled.sketch.constraints[place] for place in order)
+    parts = _over_parts(replace(spelled.sketch, constraints=lines), spelled.scale, program)
+    left = {order[each.number - 1]: each for part in parts for each in part.left_out}
+    helps = any(said[place] == 0 for place in left)
+    return TooMuch(tuple(_dimensions(names, left, whole)), _rest(parts), helps)
+
+
+def _dimensions(names: Names, left: Mapping[int, Excessive],
+                whole: Collection[int]) -> Iterator[Excess]:
+    """The dimensions that say lines which are left out, these by their places in the sketch; of
+    several lines of one the one that contradicts most is told."""
+    owners = names.spelled.owners
+    kept = [(line.names(), owners[place]) for place, line
+            in enumerate(names.spelled.sketch.constraints) if place not in left]
+    mine: dict[int, list[int]] = {}
+    for place in left:
+        mine.setdefault(_said_by(owners[place]), []).append(place)
+    for number in sorted(mine.keys() - {0}):
+        told = max((_excess(names, number, left[place], owners[place]) for place in mine[number]),
+                   key=_weight)
+        twice = {left[place].constraint.names() for place in mine[number]}
+        in_part = number not in whole and any(
+            Owner(number) in who and elements not in twice for elements, who in kept)
+        yield replace(told, in_part=in_part)
+
+
+def _said_by(owners: frozenset[Owner]) -> int:
+    """The place of the last dimension that says a line; 0 where it is help, or the ends of an
+    arc."""
+    return max((owner.number for owner in owners if not owner.shape), default=0)
+
+
+def _over_parts(sketch: language.Sketch, scale: int, program: Asks) -> tuple[OverPart, ...]:
+    """The parts that are over, as the program places the rest of each by boxes, or by points where
+    it has no places so; by the limit of the drawing, of which the sketch is so many times as
+    large."""
+    by_boxes = _asked(sketch, scale, program, Place.BOXES)
+    if all(part.fault is None for part in by_boxes):
+        return by_boxes
+    by_points = {each.part.number: each for each in _asked(sketch, scale, program, Place.POINTS)}
+    return tuple(by_points.get(each.part.number, each) if each.fault else each
+                 for each in by_boxes)
+
+
+def _asked(sketch: language.Sketch, scale: int, program: Asks,
+           place: Place) -> tuple[OverPart, ...]:
+    keys = f"within={REPEATS_NM * scale}", f"place={place.value}"
+    return read_excess(written_by(program, "excess", sketch.text(), *keys)).parts
+
+
+def _rest(parts: Iterable[OverPart]) -> Rest:
+    """What becomes of the others, by the part that fares worst."""
+    found = {Rest.OVER if part.stays_over() else Rest.NO_PLACES if part.fault else Rest.PLACED
+             for part in parts}
+    return next((rest for rest in (Rest.OVER, Rest.NO_PLACES) if rest in found), Rest.PLACED)
+
+
+def _weight(each: Excess) -> tuple[bool, Fraction]:
+    """How much a dimension contradicts the others, in an order."""
+    return bool(each.conflicts), abs(each.off_um or Fraction(0))
+
+
+def _excess(names: Names, number: int, each: Excessive, owners: frozenset[Owner]) -> Excess:
+    name, off = names.drawing.called(number), each.off
+    if off is None:
+        return Excess(number, name)
+    off_um = None
+    if isinstance(each.constraint, language.Distance) and owners == {Owner(number)}:
+        said_nm = 1000 * each.constraint.length_um
+        times = _own(names, number, each.constraint)
+        # A height that the others turn over is below zero; what a dimension says has no side.
+        off_nm = Fraction(abs(said_nm + off.amount) - said_nm, names.spelled.scale)
+        off_um = times * off_nm / 1000 if times else None
+    return Excess(number, name, off.conflicts, off_um)
+
+
+def _own(names: Names, number: int, line: language.Distance) -> int:
+    """How many times a line of the sketch is what a dimension says: twice of a diameter, which is
+    spelled by its radius; 0 times where the line doesn't say it as it is."""
+    said_um = Fraction(line.length_um, names.spelled.scale)
+    match names.drawing.constraints[number - 1]:
+        case Length(segment, value_um) if value_um == said_um:
+            ends = (PointRef(segment.name, each) for each in (Which.START, Which.END))
+            return int(_runs(names, line, *ends))
+        case Distance(first, second, value_um) if value_um == said_um:
+            return int(_runs(names, line, first, second))
+        case Radius(_, value_um) if value_um == said_um:
+            return 1
+        case Diameter(_, value_um) if value_um == 2 * said_um:
+            return 2
+    return 0
+
+
+def _runs(names: Names, line: language.Distance, first: PointRef, second: PointRef) -> bool:
+    """Whether a distance runs from one of two points to the other, or to a rail that has it; or
+    between points of help, where what is told twice is spelled so."""
+    points = names.spelled.points
+    if not {*points.values(), *names.spelled.tracks}.intersection(line.names()):
+        return True
+    one, other = names.refs[first], names.refs[second]
+    return any(points.get(end) == line.first and line.second in _carriers(names, far)
+               for end, far in ((one, other), (other, one)))
+
+
+def _carriers(names: Names, knot: Knot) -> set[str | None]:
+    """What a point is in the sketch, and the rails that have it."""
+    spelled, name = names.spelled, names.spelled.points.get(knot)
+    rails = {each: track for each, track in spelled.tracks.items() if isinstance(track, Rail)}
+    through = {line.carrier for line in spelled.sketch.constraints
+               if isinstance(line, language.On) and line.point == name and line.carrier in rails}
+    datum = {each for each, rail in rails.items() if knot == ORIGIN_KNOT and rail.datum()}
+    return {name, *through, *datum}

@@ -1,0 +1,104 @@
+"""A drawing as the page is told it: its shapes where they are drawn, its constraints, and their
+marks where all is shown. What an edit leaves as it was is taken over from the drawing before, and
+isn't told again to a page that knows it."""
+from __future__ import annotations
+
+from collections.abc import Sequence
+from dataclasses import dataclass
+
+from ..drawing import Arc, Circle, Constraint, Drawing, Shape, points_of
+from ..drawing.scene import shares
+from ..drawing.spoken import named
+from ..measure import Solution
+from ..picture.designed import Whereabouts
+from .signs import Mark, marks
+from .spots import leader_of
+
+Json = dict[str, object]
+
+
+@dataclass(frozen=True)
+class Sight:
+    """What is told: each shape, each constraint, and the marks of each constraint. solution: where
+    all is shown; None for where it is drawn."""
+
+    drawing: Drawing
+    solution: Solution | None
+    shapes: Sequence[Json]
+    constraints: Sequence[Json]
+    marks: Sequence[Sequence[Mark]]
+
+    def told(self, known: Sight | None = None) -> Json:
+        """All of it; None of a list, or of a thing of a list, that is as it was in what is
+        known."""
+        if known is None:
+            return {what: now for what, now in self._lists()}
+        return {what: _unknown(now, before)
+                for (what, now), (_, before) in zip(self._lists(), known._lists())}
+
+    def _lists(self) -> tuple[tuple[str, Sequence[object]], ...]:
+        marks = [mark for each in self.marks for mark in each]
+        return ("shapes", self.shapes), ("constraints", self.constraints), ("marks", marks)
+
+
+def _unknown(now: Sequence[object], known: Sequence[object]) -> Sequence[object] | None:
+    """What of a list isn't the same at the same place of a known one."""
+    if len(now) != len(known):
+        return now
+    left = [None if each is other or each == other else each for each, other in zip(now, known)]
+    return None if left.count(None) == len(left) else left
+
+
+def sight_of(drawing: Drawing, solution: Solution | None, before: Sight | None = None) -> Sight:
+    """A drawing as it is told, by that of the drawing that it was made from."""
+    drawn, where = Whereabouts(drawing, None), Whereabouts(drawing, solution)
+    shapes, constraints, shown = [], [], []
+    whole = {id(shape): told for shape, told in zip(before.drawing.geometry, before.shapes)
+             if not shares(shape)} if before else {}
+    for shape in drawing.geometry:
+        shapes.append(whole.get(id(shape)) or _shape(drawn, shape))
+    elsewhere = _elsewhere(drawing, solution, before)
+    olds = list(zip(before.drawing.constraints, before.constraints, before.marks)) if before else []
+    for number, constraint in enumerate(drawing.constraints, 1):
+        old, told, marked = olds[number - 1] if number <= len(olds) else (None, {}, ())
+        constraints.append(told if old is constraint else _constraint(drawing, number, constraint))
+        stays = old is constraint and elsewhere.isdisjoint(named(constraint))
+        shown.append(marked if stays else list(marks(where, number, constraint)))
+    return Sight(drawing, solution, shapes, constraints, shown)
+
+
+def _elsewhere(drawing: Drawing, solution: Solution | None, before: Sight | None) -> set[str]:
+    """The shapes that are shown otherwise than before."""
+    lies = {shape.name: _lies(drawing, solution, shape) for shape in drawing.geometry}
+    if before is None or (solution is None) is not (before.solution is None):
+        return set(lies)
+    lay = {shape.name: _lies(before.drawing, before.solution, shape)
+           for shape in before.drawing.geometry}
+    return {name for name, spots in lies.items() if lay.get(name) != spots}
+
+
+def _lies(drawing: Drawing, solution: Solution | None, shape: Shape) -> list[object]:
+    """Where the points of a shape are shown, and how large it is."""
+    if solution is None:
+        return [*map(drawing.drawn, points_of(shape)), getattr(shape, "radius_um", None)]
+    return [*map(solution.points.get, points_of(shape)), solution.radii.get(shape.name)]
+
+
+def _shape(where: Whereabouts, shape: Shape) -> Json:
+    drawing = where.drawing
+    found: Json = {
+        "name": shape.name, "kind": type(shape).__name__.lower(),
+        "construction": shape.construction, "outer": shape.outer,
+        "points": {str(ref): list(where.at(ref)) for ref in points_of(shape)},
+        "shares": [str(ref) for ref in points_of(shape) if leader_of(drawing, ref) != ref],
+    }
+    if isinstance(shape, (Circle, Arc)):
+        found["radius"] = where.radius(shape.name)
+    return found
+
+
+def _constraint(drawing: Drawing, number: int, constraint: Constraint) -> Json:
+    words = drawing.wordings[number - 1].split()
+    has_value = hasattr(constraint, "value_um") or hasattr(constraint, "value")
+    return {"number": number, "name": constraint.name, "called": drawing.called(number),
+            "words": " ".join(words), "value": words[-1] if has_value else None}

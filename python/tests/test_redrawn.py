@@ -1,0 +1,159 @@
+"""What an edit has drawn elsewhere is spelled as if it were spelled anew, and the program is asked
+once for each spelling."""
+from __future__ import annotations
+
+from collections.abc import Iterator, Sequence
+from dataclasses import dataclass, field, replace
+from fractions import Fraction
+from pathlib import Path
+
+import pytest
+
+from pertxogai.answers import judge_at_once
+from pertxogai.drawing import (
+    Circle, Drawing, DrawingUnsound, Place, PointRef, Which, checked, read_drawing, write_drawing)
+from pertxogai.program import Answer, Asks
+from pertxogai.reports import CheckReport, Verdict, read_check
+from pertxogai.spelling import Spellings, Style, readings
+from pertxogai.spelling.lowering import lowered
+from pertxogai.page.edits import Move
+
+DRAWINGS = sorted((Path(__file__).parent / "drawings").glob("*.drawing"))
+WAYS = [(Fraction(1), Fraction(2)), (Fraction(-70_000), Fraction(40_000))]
+"""A move of a few micrometres, and one that changes sides."""
+TIMES = (Fraction(1, 2), Fraction(5))
+
+
+def spelled(drawing: Drawing, before: Drawing = Drawing()) -> list[dict[str, object]]:
+    """All that a drawing is spelled as."""
+    return [_shown(each.spelled(style)) for each in readings(drawing, before)
+            for style in Style]
+
+
+def _shown(each) -> dict[str, object]:
+    return {**{name: value for name, value in vars(each).items() if name != "said"},
+            "owners": each.owners}
+
+
+def moves(drawing: Drawing) -> Iterator[Move]:
+    """One point after the other drawn elsewhere, and one circle after the other drawn smaller and
+    larger."""
+    for ref in drawing.points():
+        at = drawing.drawn(ref)
+        yield from (Move(((ref, Place(at.x_um + dx, at.y_um + dy)),)) for dx, dy in WAYS)
+    for shape in drawing.geometry:
+        if isinstance(shape, Circle):
+            yield from (Move((), ((shape.name, shape.radius_um * times),)) for times in TIMES)
+
+
+def moved(drawing: Drawing) -> Iterator[Drawing]:
+    """The drawing after each of these moves that it allows."""
+    for move in moves(drawing):
+        try:
+            yield checked(move.on(drawing), drawing)
+        except DrawingUnsound:
+            continue
+
+
+@pytest.mark.parametrize("path", DRAWINGS, ids=lambda path: path.stem)
+def test_what_is_drawn_elsewhere(path: Path) -> None:
+    drawing = read_drawing(path.read_text(encoding="utf-8"))
+    spelled(drawing)
+    for each in moved(drawing):
+        assert spelled(each, drawing) == spelled(read_drawing(write_drawing(each)))
+
+
+PLATE = """rectangle R 0 0 100 60
+circle H 40 30 5
+coincident RBottom.start Origin
+length RBottom 100
+length RRight 60
+diameter H 20
+x H.centre 40
+y H.centre 30
+"""
+
+
+def test_what_is_left_is_taken_over(monkeypatch) -> None:
+    drawing = read_drawing(PLATE)
+    spelled(drawing)
+    made = []
+    monkeypatch.setattr(Spellings, "of", lambda said: made.append(said))
+    circle = drawing.shape("H")
+    at = Place(Fraction(41_000), Fraction(33_500))
+    shapes = (*drawing.geometry[:-1], replace(circle, centre=at))
+    assert spelled(replace(drawing, geometry=shapes), drawing) and not made
+
+
+def test_what_says_another_thing_is_spelled_anew() -> None:
+    """The hole is drawn to the left of the origin, so that its x is -40."""
+    drawing = read_drawing(PLATE)
+    spelled(drawing)
+    there = read_drawing(PLATE.replace("H 40 30 5", "H -40 30 5"))
+    kept = replace(there, constraints=drawing.constraints)
+    assert spelled(kept, drawing) == spelled(there)
+    assert spelled(kept, drawing) != spelled(drawing)
+
+
+RIMS = """segment D 5 0 9 9
+segment A 0 0 5 0
+arc C 0 0 A.end 0 5
+circle E 20 0 4
+coincident D.start A.end
+tangent C E
+"""
+"""The arc begins at the end of A, which is told to be the start of D, drawn before it."""
+
+
+def test_what_shares_a_point_that_is_drawn_elsewhere() -> None:
+    """The arc is drawn larger with A, so that the circle touches it from within."""
+    drawing = read_drawing(RIMS)
+    spelled(drawing)
+    there = Place(Fraction(24_000), Fraction(0))
+    larger = checked(Move(((PointRef("A", Which.END), there),)).on(drawing), drawing)
+    assert lowered(larger, drawing) == lowered(read_drawing(write_drawing(larger)))
+    assert lowered(larger, drawing).facts != lowered(drawing).facts
+    assert spelled(larger, drawing) == spelled(read_drawing(write_drawing(larger)))
+
+
+def test_the_sides_of_all_axes_count(monkeypatch) -> None:
+    """Also of those by which it was found what follows."""
+    path = next(each for each in DRAWINGS if each.stem == "slot-on-the-datum")
+    slot = next(readings(read_drawing(path.read_text(encoding="utf-8"))))
+    assert len(slot.made) > 1 and slot.redrawn(slot.said) is not None
+    monkeypatch.setattr(slot.made[0], "redrawn", lambda facts: None)
+    assert slot.redrawn(slot.said) is None
+
+
+def test_readings_that_are_read_again_are_the_same() -> None:
+    """What was spelled of a drawing before doesn't pile up."""
+    drawing = read_drawing(PLATE)
+    assert [len(list(readings(drawing))) for _ in range(3)] == [1, 1, 1]
+    assert spelled(drawing) == spelled(drawing)
+
+
+@dataclass
+class Counts:
+    """A program, and what it was asked."""
+
+    program: Asks
+    asked: list[tuple[str, ...]] = field(default_factory=list)
+
+    def ask(self, words: Sequence[str], text: str) -> Answer:
+        self.asked.append(tuple(words))
+        return self.program.ask(words, text)
+
+
+def test_of_what_is_well_the_program_is_asked_once(program) -> None:
+    counts = Counts(program)
+    judged = judge_at_once(read_drawing(PLATE), counts)
+    assert judged.verdict is Verdict.WELL and counts.asked == [("solve", "place=boxes")]
+    text = judged.asked.spelled.sketch.text()
+    assert judged.asked.check == read_check(program.ask(["check"], text).text)
+
+
+@pytest.mark.parametrize("path", DRAWINGS, ids=lambda path: path.stem)
+def test_what_solve_says_is_what_check_says(path: Path, program) -> None:
+    asked = judge_at_once(read_drawing(path.read_text(encoding="utf-8")), program).asked
+    assert isinstance(asked.check, CheckReport)
+    assert asked.check.text() == program.ask(["check"], asked.spelled.sketch.text()).text
