@@ -15,6 +15,7 @@ from pertxogai.drawing import (
 from pertxogai.program import Answer, Asks
 from pertxogai.reports import CheckReport, Verdict, read_check
 from pertxogai.spelling import Spellings, Style, readings
+from pertxogai.spelling.facts import Stays
 from pertxogai.spelling.lowering import lowered
 from pertxogai.page.edits import Move
 
@@ -114,6 +115,24 @@ def test_what_shares_a_point_that_is_drawn_elsewhere() -> None:
     assert lowered(larger, drawing) == lowered(read_drawing(write_drawing(larger)))
     assert lowered(larger, drawing).facts != lowered(drawing).facts
     assert spelled(larger, drawing) == spelled(read_drawing(write_drawing(larger)))
+
+
+@pytest.mark.parametrize("text", [
+    "segment A 0 0 40 0\nouter segment B A.end 40 30\n",
+    "segment A 0 0 40 0\nouter segment B 40 0 40 30\ncoincident A.end B.start\n",
+], ids=["shared", "coincident"])
+def test_what_is_given_from_outside_stays_where_it_is_drawn_then(text: str) -> None:
+    """Its point is drawn where the end of another is, which moves."""
+    drawing = read_drawing(text)
+    spelled(drawing)
+    there = Place(Fraction(50_000), Fraction(0))
+    longer = checked(Move(((PointRef("A", Which.END), there),)).on(drawing), drawing)
+    found = lowered(longer, drawing)
+    start = found.refs[PointRef("B", Which.START)]
+    assert [fact.place for fact in found.facts
+            if isinstance(fact, Stays) and fact.point == start] == [there]
+    assert found == lowered(read_drawing(write_drawing(longer)))
+    assert spelled(longer, drawing) == spelled(read_drawing(write_drawing(longer)))
 
 
 def test_the_sides_of_all_axes_count(monkeypatch) -> None:

@@ -79,7 +79,8 @@ def _redrawn(drawing: Drawing, before: Drawing, facts: Facts) -> Facts | None:
 
 def _moved(drawing: Drawing, before: Drawing) -> set[str] | None:
     """The shapes that are drawn elsewhere than before, and those that have a point of them or one
-    that is told to be one with theirs; None where the drawings differ otherwise."""
+    that is told to be one with theirs; None where the drawings differ otherwise, or one of these
+    is given from outside, which lies where it is drawn."""
     pairs = zip(drawing.constraints, before.constraints)
     if len(drawing.constraints) != len(before.constraints) or len(drawing.geometry) != len(
             before.geometry) or not all(one is other for one, other in pairs):
@@ -87,14 +88,15 @@ def _moved(drawing: Drawing, before: Drawing) -> set[str] | None:
     moved = set()
     for shape, old in zip(drawing.geometry, before.geometry):
         if shape is not old:
-            if shape.outer or _structure(shape) != _structure(old):
+            if _structure(shape) != _structure(old):
                 return None
             moved.add(shape.name)
     for shape in drawing.geometry:
         if any(spot is not None and spot.shape in moved for spot in _shared(shape)):
             moved.add(shape.name)
     leader = drawing.meetings.leader
-    return moved | {ref.shape for ref in drawing.points() if leader(ref).shape in moved}
+    moved |= {ref.shape for ref in drawing.points() if leader(ref).shape in moved}
+    return None if any(shape.outer and shape.name in moved for shape in drawing.geometry) else moved
 
 
 def _structure(shape: Shape) -> tuple[object, ...]:
