@@ -11,7 +11,7 @@ from pertxogai.drawing import Drawing, Shape, points_of
 def pieces(drawing: Drawing, judgement: Judgement) -> Mapping[str, int]:
     """The number of the first of the program's parts that has all points of a shape, by the
     shape's name; a shape whose points lie in no one part isn't among them."""
-    parts = judgement.asked.check.parts
+    parts = judgement.asked.parts
     found: dict[str, int] = {}
     for shape in drawing.geometry:
         names = _names(shape, judgement)

@@ -11,7 +11,7 @@ from .drawing import Shape, points_of
 def parts_of_shapes(judgement: Judgement) -> Mapping[str, int]:
     """The number of the part that has all points of a shape, by the shape's name: the greatest
     of several. A shape that hangs between parts has none."""
-    largest = sorted(judgement.asked.check.parts, key=lambda part: -len(part.elements))
+    largest = sorted(judgement.asked.parts, key=lambda part: -len(part.elements))
     holding = [(part.number, frozenset(part.elements)) for part in largest]
     found = (
         (shape.name, _part_of(judgement, shape, holding))
@@ -32,7 +32,7 @@ def parts_of_points(judgement: Judgement) -> Mapping[str, int]:
 def _parts_by_element(judgement: Judgement) -> defaultdict[str, list[int]]:
     """The numbers of the parts that have an element, by its name in the sketch."""
     found = defaultdict(list)
-    for part in judgement.asked.check.parts:
+    for part in judgement.asked.parts:
         for element in part.elements:
             found[element].append(part.number)
     return found

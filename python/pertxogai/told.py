@@ -9,7 +9,7 @@ from pertxogai.answers import Judgement, Surplus
 from pertxogai.drawing import Circle, Drawing, PointRef
 from pertxogai.drawing.geometry import Arc
 from pertxogai.measure import Deviation, Solution, Unit, greatest
-from pertxogai.reports import Part, Solved
+from pertxogai.reports import CheckReport, Part, Solved
 from pertxogai.upright import upright
 
 MOST_ADVICE = 5
@@ -43,13 +43,13 @@ class JudgedDrawing:
 
 
 def drawing_json(judged: JudgedDrawing) -> dict[str, object]:
-    """All of it as one object for JSON. Places are nm in the datum's frame, whole where they
-    were printed in it."""
+    """All of it as one object for JSON, of a judgement with counts. Places are nm in the datum's
+    frame, whole where they were printed in it."""
     judgement = judged.judgement
     return {
         "name": judged.name,
         "verdict": judgement.verdict.value,
-        "parts": [_part(judgement, part) for part in judgement.asked.check.parts],
+        "parts": [_part(judgement, part) for part in _check(judgement).parts],
         **spelled_json(judged),
         "lacks": judgement.missing.count if judgement.missing else 0,
         "spare": [spare_json(each) for each in judgement.surplus],
@@ -100,9 +100,10 @@ def within_json(judged: JudgedDrawing) -> dict[str, object]:
 
 
 def told(judged: JudgedDrawing) -> Iterator[str]:
-    """What was judged, in lines to read; the first tells the verdict."""
+    """What was judged, in lines to read, of a judgement with counts; the first tells the
+    verdict."""
     judgement = judged.judgement
-    check = judgement.asked.check
+    check = _check(judgement)
     yield (f"{judged.name}: {judgement.verdict.value}, spelled {judgement.style.value}, elements "
            f"{check.elements}, constraints {check.constraints}, parts {len(check.parts)}")
     if not judged.drawing.geometry:
@@ -189,6 +190,12 @@ def _surplus_lines(judgement: Judgement) -> Iterator[str]:
         off = each.off
         told_off = "" if off is None else f": off by {off.amount} {off.unit.value} without it"
         yield f"    {each.name}{told_off}"
+
+
+def _check(judgement: Judgement) -> CheckReport:
+    """What `check` says, which `judge` and `with_counts` ask for."""
+    assert judgement.asked.check is not None
+    return judgement.asked.check
 
 
 def _part(judgement: Judgement, part: Part) -> dict[str, object]:

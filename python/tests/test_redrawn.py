@@ -9,11 +9,11 @@ from pathlib import Path
 
 import pytest
 
-from pertxogai.answers import judge_at_once
+from pertxogai.answers import judge, judge_at_once, with_counts
 from pertxogai.drawing import (
     Circle, Drawing, DrawingUnsound, Place, PointRef, Which, checked, read_drawing, write_drawing)
-from pertxogai.program import Answer, Asks
-from pertxogai.reports import CheckReport, Verdict, read_check
+from pertxogai.program import Answer, Asks, Status
+from pertxogai.reports import NotAReport, Verdict, read_check
 from pertxogai.spelling import Spellings, Style, readings
 from pertxogai.spelling.facts import Stays
 from pertxogai.spelling.lowering import lowered
@@ -163,16 +163,43 @@ class Counts:
         return self.program.ask(words, text)
 
 
+@dataclass(frozen=True)
+class Says:
+    """A program that gives one answer to all that it is asked."""
+
+    text: str
+
+    def ask(self, words: Sequence[str], text: str) -> Answer:
+        return Answer(Status.DONE, self.text)
+
+
 def test_of_what_is_well_the_program_is_asked_once(program) -> None:
     counts = Counts(program)
     judged = judge_at_once(read_drawing(PLATE), counts)
     assert judged.verdict is Verdict.WELL and counts.asked == [("solve", "place=boxes")]
+    assert judged.asked.check is None and judged.asked.parts == ()
+
+
+def test_its_counts_are_the_programs(program) -> None:
+    counts = Counts(program)
+    judged = judge(read_drawing(PLATE), counts)
+    assert counts.asked == [("solve", "place=boxes"), ("check",)]
     text = judged.asked.spelled.sketch.text()
     assert judged.asked.check == read_check(program.ask(["check"], text).text)
+
+
+def test_counts_of_what_is_not_well_are_no_counts_of_what_is(program) -> None:
+    open_report = "verdict open\nelements 2\nconstraints 0\nparts 2\n" + "".join(
+        f"part {number} sound elements 1 held 0 due 0 : {name}\n"
+        for number, name in enumerate("AB", 1))
+    judged = judge_at_once(read_drawing(PLATE), program)
+    with pytest.raises(NotAReport, match="checks as not well"):
+        with_counts(judged, Says(open_report))
 
 
 @pytest.mark.parametrize("path", DRAWINGS, ids=lambda path: path.stem)
 def test_what_solve_says_is_what_check_says(path: Path, program) -> None:
     asked = judge_at_once(read_drawing(path.read_text(encoding="utf-8")), program).asked
-    assert isinstance(asked.check, CheckReport)
-    assert asked.check.text() == program.ask(["check"], asked.spelled.sketch.text()).text
+    said = program.ask(["check"], asked.spelled.sketch.text()).text
+    assert asked.verdict is read_check(said).verdict
+    assert asked.check is None or asked.check.text() == said

@@ -122,7 +122,7 @@ def measured(drawing, style: Style, program) -> bool:
     """Whether the style is well and placed; what is placed is within 2 nm of all constraints."""
     asked = ask(axes_of(drawing), style, program)
     answer = program.ask(["solve"], asked.spelled.sketch.text())
-    if asked.check.verdict is not Verdict.WELL or answer.status is not Status.DONE:
+    if asked.verdict is not Verdict.WELL or answer.status is not Status.DONE:
         return False
     solution = solution_of(drawing, asked, read_solve(answer.text))
     off = {each.called(drawing): each.amount for each in measure(drawing, solution)

@@ -138,7 +138,7 @@ def ref_of(word: str) -> PointRef:
 def test_a_word_is_well_and_placed(case, style, program):
     drawing = read_drawing(case.text)
     asked = placed(ask(axes_of(drawing), style, program), program)
-    assert asked.check.verdict is Verdict.WELL, asked.spelled.sketch.text()
+    assert asked.verdict is Verdict.WELL, asked.spelled.sketch.text()
     assert isinstance(asked.solved, Solved) and asked.place is Place.BOXES, asked.solved
     solution = solution_of(drawing, asked, asked.solved)
     assert all(each.amount <= 2 for each in measure(drawing, solution) if each.unit is Unit.NM)

@@ -14,7 +14,8 @@ from pertxogai.drawing import Drawing
 from pertxogai.language import Refusal
 from pertxogai.program import Asks, Status
 from pertxogai.reports import (
-    CheckReport, Fault, NotAReport, Refused, Solved, Verdict, read_answer, read_fault, read_parts)
+    CheckReport, Fault, NotAReport, Part, Refused, Solved, Verdict, read_answer, read_check,
+    read_fault, read_parts)
 from pertxogai.spelling import Axes, Care, Rails, Spelled, Spellings, Style, readings, written
 from pertxogai.spelling.axes import Equation
 from pertxogai.spelling.facts import Owner
@@ -36,18 +37,28 @@ class Place(Enum):
 
 @dataclass(frozen=True)
 class Asked:
-    """What the program answered to one style of a drawing: what `check` says, and of what is well,
-    the places or the fault. grown: equations that placed parts told. frozen: who is only
-    measured."""
+    """What the program answered to one style of a drawing: of what is well, the places or the
+    fault, and what `check` says where it was asked (`counted`); else what `check` says. grown:
+    equations that placed parts told. frozen: who is only measured."""
 
     spelled: Spelled
     axes: Axes
     rails: Rails
-    check: CheckReport
+    check: CheckReport | None = None
     grown: tuple[Equation, ...] = ()
     frozen: frozenset[Owner] = frozenset()
     place: Place = Place.BOXES
     solved: Solved | Fault | None = None
+
+    @property
+    def verdict(self) -> Verdict:
+        """The program's verdict."""
+        return Verdict.WELL if self.check is None else self.check.verdict
+
+    @property
+    def parts(self) -> tuple[Part, ...]:
+        """The parts that `check` told; none where it wasn't asked."""
+        return () if self.check is None else self.check.parts
 
 
 def ask_styles(drawing: Drawing, program: Asks, freeze: bool,
@@ -68,7 +79,7 @@ def ask_styles(drawing: Drawing, program: Asks, freeze: bool,
         if best is None or _worth(asked) > _worth(best):
             best = asked
     assert best is not None
-    if freeze and best.check.verdict is Verdict.OPEN:
+    if freeze and best.verdict is Verdict.OPEN:
         return _frozen(best, program)
     return best
 
@@ -86,9 +97,9 @@ def _best_style(spellings: Spellings, program: Asks) -> Asked:
         if lines in still_open:
             continue
         asked = placed(_ask(rails, spelled, program, Care()), program)
-        if asked.check.verdict is Verdict.OPEN and not asked.grown:
+        if asked.verdict is Verdict.OPEN and not asked.grown:
             still_open.append(lines)
-        if twice and asked.check.verdict is Verdict.WELL:
+        if twice and asked.verdict is Verdict.WELL:
             continue
         if isinstance(asked.solved, Solved):
             return asked
@@ -129,7 +140,7 @@ def _ask(rails: Rails, spelled: Spelled, program: Asks, care: Care) -> Asked:
     while True:
         asked = replace(_answered(rails, spelled, program), grown=tuple(equations))
         more = None
-        if asked.check.verdict is Verdict.OPEN and len(equations) < ROUNDS:
+        if asked.verdict is Verdict.OPEN and len(equations) < ROUNDS:
             parts = read_parts(written_by(program, "parts", spelled.sketch.text()))
             more = grown(rails.axes, rails, spelled, parts)
         if more is None:
@@ -174,7 +185,7 @@ def _answered(rails: Rails, spelled: Spelled, program: Asks) -> Asked:
     told = _told(program, spelled.sketch.text(), Place.BOXES)
     if isinstance(told, CheckReport):
         return Asked(spelled, rails.axes, rails, told)
-    return Asked(spelled, rails.axes, rails, CheckReport.of_well(spelled.sketch), solved=told)
+    return Asked(spelled, rails.axes, rails, solved=told)
 
 
 def placed(asked: Asked, program: Asks) -> Asked:
@@ -187,6 +198,16 @@ def placed(asked: Asked, program: Asks) -> Asked:
     return replace(asked, place=Place.POINTS, solved=told)
 
 
+def counted(asked: Asked, program: Asks) -> Asked:
+    """The same, with what `check` says of what is well: its parts and its counts."""
+    if asked.check is not None:
+        return asked
+    check = read_check(written_by(program, "check", asked.spelled.sketch.text()))
+    if check.verdict is not Verdict.WELL:
+        raise NotAReport("the program checks as not well what it calls well by solve")
+    return replace(asked, check=check)
+
+
 def _frozen(asked: Asked, program: Asks) -> Asked:
     """What is open, with one length or radius after the other as drawn, while that leaves fewer
     parts."""
@@ -196,9 +217,9 @@ def _frozen(asked: Asked, program: Asks) -> Asked:
             trial = ask(choice.axes, asked.spelled.style, program)
             trial = replace(placed(trial, program), grown=asked.grown + trial.grown,
                             frozen=asked.frozen | {choice.owner})
-            if trial.check.verdict is not Verdict.OVER and _worth(trial) > _worth(best):
+            if trial.verdict is not Verdict.OVER and _worth(trial) > _worth(best):
                 best = trial
-        if best is asked or best.check.verdict is Verdict.WELL:
+        if best is asked or best.verdict is Verdict.WELL:
             return best
         asked = best
     return asked
@@ -208,5 +229,5 @@ def _worth(asked: Asked) -> tuple[int, bool, int, int]:
     """What is well and placed before what is well, then what is over, then what leaves less out,
     then the fewer parts."""
     order = {Verdict.WELL: 2, Verdict.OVER: 1, Verdict.OPEN: 0}
-    return (order[asked.check.verdict], isinstance(asked.solved, Solved),
-            -len(asked.spelled.left_out), -len(asked.check.parts))
+    return (order[asked.verdict], isinstance(asked.solved, Solved),
+            -len(asked.spelled.left_out), -len(asked.parts))

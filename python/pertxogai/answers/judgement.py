@@ -4,7 +4,7 @@ from __future__ import annotations
 from collections.abc import Iterable, Sequence
 from dataclasses import dataclass, replace
 
-from pertxogai.answers.asking import Asked, Place, ask_styles, finer, written_by
+from pertxogai.answers.asking import Asked, Place, ask_styles, counted, finer, written_by
 from pertxogai.answers.excess import REPEATS_NM
 from pertxogai.answers.faults import Failure, failure
 from pertxogai.answers.limits import check_fits
@@ -137,32 +137,36 @@ class Judgement:
 
 
 def judge(drawing: Drawing, program: Asks, freeze: bool = False) -> Judgement:
-    """What the program says of a drawing, with how far each dimension is off that may go.
-    `freeze`: whether lengths and radii that nothing tells may be taken as they are drawn. Raises
-    as `judge_at_once`."""
-    return weighed(judge_at_once(drawing, program, freeze), program)
+    """What the program says of a drawing, with the counts of what is well, and how far each
+    dimension is off that may go. `freeze`: whether lengths and radii that nothing tells may be
+    taken as they are drawn. Raises as `judge_at_once`."""
+    return weighed(with_counts(judge_at_once(drawing, program, freeze), program), program)
 
 
 def judge_at_once(drawing: Drawing, program: Asks, freeze: bool = False,
                   before: Drawing = Drawing()) -> Judgement:
-    """The same, but that what may go is named as the program names it, and not measured: that
-    takes many more questions. `before`: the drawing that an edit has made this one from. Raises
-    ProgramError; DrawingRefused where the drawing has more points or constraints than the program
-    takes, or makes both ends of a shape one; Refusal where the program refuses the spelled sketch;
-    NotHeld where a place or length is larger than the language holds."""
+    """The same, but that the counts of what is well aren't asked for, and that what may go is
+    named as the program names it, and not measured: that takes many more questions. `before`: the
+    drawing that an edit has made this one from. Raises ProgramError; DrawingRefused where the
+    drawing has more points or constraints than the program takes, or makes both ends of a shape
+    one; Refusal where the program refuses the spelled sketch; NotHeld where a place or length is
+    larger than the language holds."""
     check_fits(drawing)
     asked = ask_styles(drawing, program, freeze, before)
     names = Names(drawing, asked.spelled, asked.axes.facts.refs)
-    judged = Judgement(asked.check.verdict, asked, names)
-    match asked.check.verdict:
-        case Verdict.OPEN:
-            return replace(judged, missing=missing(names, asked.check))
-        case Verdict.OVER:
-            return replace(judged, surplus=tuple(
-                Surplus(number, drawing.called(number), None)
-                for number in _spare(judged, program)))
-        case _:
-            return _placed(judged, drawing, program)
+    judged = Judgement(asked.verdict, asked, names)
+    if asked.check is None:
+        return _placed(judged, drawing, program)
+    if asked.verdict is Verdict.OPEN:
+        return replace(judged, missing=missing(names, asked.check))
+    return replace(judged, surplus=tuple(Surplus(number, drawing.called(number), None)
+                                         for number in _spare(judged, program)))
+
+
+def with_counts(judged: Judgement, program: Asks) -> Judgement:
+    """The judgement with the program's parts and counts also of what is well. Raises
+    ProgramError."""
+    return replace(judged, asked=counted(judged.asked, program))
 
 
 def _placed(judged: Judgement, drawing: Drawing, program: Asks) -> Judgement:
@@ -226,8 +230,8 @@ def _rest_without(drawing: Drawing, number: int, program: Asks,
     for _ in range(depth):
         rest, kept = _without(drawing, gone)
         asked = ask_styles(rest, program, False)
-        if asked.check.verdict is not Verdict.OVER:
-            return (rest, asked) if asked.check.verdict is Verdict.WELL else None
+        if asked.verdict is not Verdict.OVER:
+            return (rest, asked) if asked.verdict is Verdict.WELL else None
         spare = _spare(Judgement(Verdict.OVER, asked,
                                  Names(rest, asked.spelled, asked.axes.facts.refs)), program)
         if not spare:
@@ -257,4 +261,4 @@ def _worst(deviations: Iterable[Deviation], number: int) -> Deviation | None:
     return greatest(lengths, Unit.NM) or greatest(mine, Unit.PPB)
 
 
-__all__ = ["Judgement", "Surplus", "judge", "judge_at_once", "weighed"]
+__all__ = ["Judgement", "Surplus", "judge", "judge_at_once", "weighed", "with_counts"]

@@ -7,7 +7,7 @@ from dataclasses import dataclass, field
 from fractions import Fraction
 from typing import TypeAlias
 
-from ..answers import DrawingRefused
+from ..answers import DrawingRefused, with_counts
 from ..drawing import Drawing, DrawingRefusal, DrawingUnsound, Place, WordFault, checked
 from ..drawing_sheet import DrawingSheet, NoPlaces
 from ..dxf import MissingLibrary, Release
@@ -220,7 +220,8 @@ def _svg(desk: Desk, given: Fields) -> Json:
 
 def _sheet(desk: Desk, given: Fields) -> DrawingSheet:
     judged = desk.judged(given.text("text"))
-    return DrawingSheet(JudgedDrawing(given.text("name"), judged.drawing, judged.weighed), False)
+    judgement = with_counts(judged.weighed, desk.attending)
+    return DrawingSheet(JudgedDrawing(given.text("name"), judged.drawing, judgement), False)
 
 
 def _program_dxf(desk: Desk, given: Fields) -> Json:

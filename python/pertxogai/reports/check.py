@@ -5,7 +5,6 @@ import re
 from dataclasses import dataclass
 from enum import Enum
 
-from ..language.sketch import Sketch
 from .rows import COUNT, NAMES, Rows, whole
 
 _VERDICT = re.compile("verdict (well|over|open)")
@@ -54,15 +53,6 @@ class CheckReport:
     elements: int
     constraints: int
     parts: tuple[Part, ...]
-
-    @staticmethod
-    def of_well(sketch: Sketch) -> CheckReport:
-        """The report of a sketch that is well, as `solve` says by placing it, or by its fault: one
-        part, which has all elements and holds just as many constraints as it is due."""
-        due = max(2 * len(sketch.elements) - 3, 0)
-        part = Part(1, False, tuple(each.name for each in sketch.elements), due, due)
-        counts = len(sketch.elements), len(sketch.constraints)
-        return CheckReport(Verdict.WELL, *counts, (part,))
 
     def text(self) -> str:
         """The report as the program writes it."""

@@ -336,6 +336,13 @@ def test_exports_are_those_of_the_commands(client, program, tmp_path, monkeypatc
         own.startswith("0\nSECTION")
 
 
+def test_a_picture_of_what_has_no_places_tells_the_programs_counts(client) -> None:
+    text = ("segment A 0 0 10 0\nsegment B A.end 3 8\nsegment C B.end A.start\n"
+            "length A 40\nlength B 36\nlength C 3\n")
+    found = answer(client, "svg", text=text, name="no-triangle")
+    assert "elements 3, constraints 3, parts 1" in found["svg"]
+
+
 @pytest.mark.parametrize("name", ["open-hinge", "no-triangle"])
 def test_what_has_no_places_is_no_dxf_of_the_program(client, name) -> None:
     text = drawing("open-hinge") if name == "open-hinge" else (
