@@ -50,16 +50,16 @@ class Excess:
 @dataclass(frozen=True)
 class TooMuch:
     """All that is left out of a drawing that is over, by the dimensions' places, and what becomes
-    of the others. helps: whether a line is left out that no dimension says."""
+    of the others. helps: how many lines are left out that no dimension says."""
 
     dimensions: tuple[Excess, ...]
     rest: Rest = Rest.PLACED
-    helps: bool = False
+    helps: int = 0
 
 
 def too_much(names: Names, program: Asks, whole: Collection[int] = ()) -> TooMuch:
     """What is left out of a drawing: the last dimensions without which the others have places;
-    where no such are found, the last ones. `whole`: the places of dimensions that are known to
+    where no such are found without more lines of help, the last ones. `whole`: the places of dimensions that are known to
     leave the rest well where they go. Raises ProgramError."""
     first = found = _choice(names, program, whole, frozenset())
     kept: frozenset[int] = frozenset()
@@ -68,21 +68,22 @@ def too_much(names: Names, program: Asks, whole: Collection[int] = ()) -> TooMuc
             break
         kept |= {each.number for each in found.dimensions if each.conflicts is None}
         found = _choice(names, program, whole, kept)
-    return found if found.rest is Rest.PLACED else first
+    return found if found.rest is Rest.PLACED and found.helps <= first.helps else first
 
 
 def _choice(names: Names, program: Asks, whole: Collection[int],
             kept: Collection[int]) -> TooMuch:
     """What is left out where the program is asked with the lines of the sketch in the order of the
-    dimensions that say them, since it leaves out the last ones; with those first that are to be
-    kept where they can be."""
+    dimensions that say them, since it leaves out the last ones; with the lines of help, and those
+    that are to be kept where they can be, first."""
     spelled = names.spelled
     said = [_said_by(owners) for owners in spelled.owners]
-    order = sorted(range(len(said)), key=lambda place: (said[place] not in kept, said[place]))
+    order = sorted(range(len(said)),
+                   key=lambda place: (said[place] not in {0, *kept}, said[place]))
     lines = tuple(spelled.sketch.constraints[place] for place in order)
     parts = _over_parts(replace(spelled.sketch, constraints=lines), spelled.scale, program)
     left = {order[each.number - 1]: each for part in parts for each in part.left_out}
-    helps = any(said[place] == 0 for place in left)
+    helps = sum(said[place] == 0 for place in left)
     return TooMuch(tuple(_dimensions(names, left, whole)), _rest(parts), helps)
 
 

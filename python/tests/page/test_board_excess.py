@@ -122,7 +122,7 @@ def test_the_last_dimension_is_left_out(program, off: str, told: str) -> None:
     assert (each.number, each.name) == (4, "constraint 4 (distance A.start A.end 51)")
     judged = judge_at_once(read_drawing(TRIANGLE), program)
     assert excess_told(judged, each) == told and not each.in_part
-    assert (found.rest, found.helps) == (Rest.PLACED, False)
+    assert (found.rest, found.helps) == (Rest.PLACED, 0)
     assert stands_in.asked == [("excess", "within=1000", "place=boxes")]
 
 
@@ -205,7 +205,7 @@ def test_what_is_known_to_go_as_a_whole_is_not_in_part(program) -> None:
 def test_a_line_of_help_that_is_left_out_is_told(program) -> None:
     plate = drawing("over-plate-contradiction")
     stands_in = LeavesOut(program, one_part({"on O X": " repeat off 0 nm"}))
-    assert left_out(plate, stands_in) == TooMuch((), Rest.PLACED, True)
+    assert left_out(plate, stands_in) == TooMuch((), Rest.PLACED, 1)
     lines = [each["text"] for each in panel(plate, stands_in)]
     assert lines[0] == "Too many dimensions. One of these may go:"
     assert "A line of help is too much too." in lines
@@ -248,6 +248,35 @@ def test_of_others_without_places_the_next_choice_is_taken(program) -> None:
     found = left_out(plate, LeavesOut(program, said))
     (each,) = found.dimensions
     assert (each.name, each.off_um, found.rest) == ("Top width", -1000, Rest.PLACED)
+
+
+def test_lines_of_help_are_kept_before_all_dimensions(program) -> None:
+    """Also where some dimensions are to be kept."""
+    plate = drawing("over-plate-contradiction")
+    told: list[list[str]] = []
+
+    def said(sketch: Sketch, words: Sequence[str]) -> str:
+        if "place=boxes" in words:
+            told.append([line.text() for line in sketch.constraints])
+        return last("", FLAT)(sketch, words)
+    left_out(plate, LeavesOut(program, said))
+    owners = judge_at_once(read_drawing(plate), program).names.spelled.owners
+    helps = sum(not any(owner.number and not owner.shape for owner in who) for who in owners)
+    assert helps > 1 and len(told) > 2
+    assert all(lines[:helps] == told[0][:helps] for lines in told)
+
+
+def test_no_choice_is_taken_that_leaves_out_more_lines_of_help(program) -> None:
+    plate = drawing("over-plate-contradiction")
+
+    def said(sketch: Sketch, words: Sequence[str]) -> str:
+        line = sketch.constraints[-1].text()
+        fails = line == "distance P2 X 80"
+        return one_part({line if fails else "on O X": "" if fails else LESS},
+                        FLAT if fails else "")(sketch, words)
+    found = left_out(plate, LeavesOut(program, said))
+    assert (found.rest, found.helps) == (Rest.NO_PLACES, 0)
+    assert len(found.dimensions) == 1
 
 
 def test_none_is_left_out_of_what_stays_over(program) -> None:
