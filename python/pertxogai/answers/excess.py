@@ -57,21 +57,22 @@ class TooMuch:
     helps: int = 0
 
 
-def too_much(names: Names, program: Asks, whole: Collection[int] = ()) -> TooMuch:
+def too_much(names: Names, program: Asks, dispensable: Collection[int] = ()) -> TooMuch:
     """What is left out of a drawing: the last dimensions without which the others have places;
-    where no such are found without more lines of help, the last ones. `whole`: the places of dimensions that are known to
-    leave the rest well where they go. Raises ProgramError."""
-    first = found = _choice(names, program, whole, frozenset())
+    where no such are found without more lines of help, the last ones. `dispensable`: the places
+    of dimensions of which each may go by itself, so that it isn't needed in part where it is the
+    only one that is left out; several needn't go together. Raises ProgramError."""
+    first = found = _choice(names, program, dispensable, frozenset())
     kept: frozenset[int] = frozenset()
     for _ in range(CHOICES):
         if found.rest is not Rest.NO_PLACES:
             break
         kept |= {each.number for each in found.dimensions if each.conflicts is None}
-        found = _choice(names, program, whole, kept)
+        found = _choice(names, program, dispensable, kept)
     return found if found.rest is Rest.PLACED and found.helps <= first.helps else first
 
 
-def _choice(names: Names, program: Asks, whole: Collection[int],
+def _choice(names: Names, program: Asks, dispensable: Collection[int],
             kept: Collection[int]) -> TooMuch:
     """What is left out where the program is asked with the lines of the sketch in the order of the
     dimensions that say them, since it leaves out the last ones; with the lines of help, and those
@@ -84,11 +85,13 @@ def _choice(names: Names, program: Asks, whole: Collection[int],
     parts = _over_parts(replace(spelled.sketch, constraints=lines), spelled.scale, program)
     left = {order[each.number - 1]: each for part in parts for each in part.left_out}
     helps = sum(said[place] == 0 for place in left)
-    return TooMuch(tuple(_dimensions(names, left, whole)), _rest(parts), helps)
+    found = tuple(_dimensions(names, left))
+    if len(found) == 1 and found[0].number in dispensable:
+        found = (replace(found[0], in_part=False),)
+    return TooMuch(found, _rest(parts), helps)
 
 
-def _dimensions(names: Names, left: Mapping[int, Excessive],
-                whole: Collection[int]) -> Iterator[Excess]:
+def _dimensions(names: Names, left: Mapping[int, Excessive]) -> Iterator[Excess]:
     """The dimensions that say lines which are left out, these by their places in the sketch; of
     several lines of one the one that contradicts most is told."""
     owners = names.spelled.owners
@@ -101,8 +104,7 @@ def _dimensions(names: Names, left: Mapping[int, Excessive],
         told = max((_excess(names, number, left[place], owners[place]) for place in mine[number]),
                    key=_weight)
         twice = {left[place].constraint.names() for place in mine[number]}
-        in_part = number not in whole and any(
-            Owner(number) in who and elements not in twice for elements, who in kept)
+        in_part = any(Owner(number) in who and elements not in twice for elements, who in kept)
         yield replace(told, in_part=in_part)
 
 

@@ -48,9 +48,9 @@ class Judged:
         `judgement`."""
         if self.judgement.verdict is not Verdict.OVER:
             return TooMuch(())
-        whole = {each.number for each in self.weighed.surplus if each.off is not None}
+        dispensable = {each.number for each in self.weighed.surplus if each.off is not None}
         try:
-            return too_much(self.judgement.names, self.program, whole)
+            return too_much(self.judgement.names, self.program, dispensable)
         except ProgramError as error:
             return Untold(" ".join(str(error).split()))
 

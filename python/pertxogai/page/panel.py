@@ -1,7 +1,7 @@
 """The verdict in words: the lines of the panel beside the board, and what each of them selects."""
 from __future__ import annotations
 
-from collections.abc import Iterator
+from collections.abc import Iterator, Sequence
 from dataclasses import dataclass
 from fractions import Fraction
 
@@ -92,11 +92,13 @@ def _over(judgement: Judgement, left: TooMuch | Untold) -> Iterator[Line]:
     numbers = {each.number for each in listed if not each.in_part}
     others = [each for each in judgement.surplus if each.number not in numbers]
     yield Line(_head(left, bool(others)))
+    alone = alone_of(judgement, listed)
     for each in listed:
-        yield Line(f"{each.name}: {excess_told(judgement, each)}", list="left out",
+        yield Line(f"{each.name}: {excess_told(each, alone)}", list="left out",
                    takes=None if each.in_part else each.number)
     if listed and others:
-        yield Line("Or one of these may go instead:")
+        yield Line("Or one of these may go instead:" if len(listed) == 1
+                   else "Or one of these may go instead of one of them:")
     for other in others:
         yield Line(f"{other.name}: {_surplus(other)}", list="spare constraints",
                    takes=other.number)
@@ -114,15 +116,22 @@ def _head(left: TooMuch | Untold, has_others: bool) -> str:
             else "Too many dimensions, and none can go by itself.")
 
 
-def excess_told(judgement: Judgement, each: Excess) -> str:
+def alone_of(judgement: Judgement, listed: Sequence[Excess]) -> Surplus | None:
+    """The only dimension that is left out as one that may go by itself, if it is; None where
+    several are left out, which are measured on other places than one that goes alone."""
+    if len(listed) != 1:
+        return None
+    return next((each for each in judgement.surplus if each.number == listed[0].number), None)
+
+
+def excess_told(each: Excess, alone: Surplus | None = None) -> str:
     """What a dimension that is left out is: a repeat of the others, or a contradiction, by how
-    much, and which way the others are off it, where that is known."""
-    alone = next((other for other in judgement.surplus if other.number == each.number), None)
+    much, and which way the others are off it, where that is known. alone: the same as one that may
+    go by itself, if it is (`alone_of`)."""
     return "in part too much: " * each.in_part + _excess(each, alone)
 
 
 def _excess(each: Excess, alone: Surplus | None) -> str:
-    """alone: the same as one that may go by itself, if it is."""
     if each.conflicts is None:
         return "left out; not measured"
     if not each.conflicts:

@@ -11,7 +11,7 @@ from ..reports import Verdict
 from ..shape_parts import parts_of_points, parts_of_shapes
 from ..told import spare_json
 from .motion import Spot
-from .panel import Untold, excess_told, lines_shown
+from .panel import Untold, alone_of, excess_told, lines_shown
 from .parts_laid import LaidPart
 
 Json = dict[str, object]
@@ -39,8 +39,9 @@ def excess_shown(judgement: Judgement, left: TooMuch | Untold) -> list[Json]:
     """The dimensions that are left out, each as it is told."""
     if isinstance(left, Untold):
         return []
+    alone = alone_of(judgement, left.dimensions)
     return [{"number": each.number, "conflicts": each.conflicts,
-             "told": excess_told(judgement, each)} for each in left.dimensions]
+             "told": excess_told(each, alone)} for each in left.dimensions]
 
 
 def places_shown(where: Whereabouts) -> Json:

@@ -120,8 +120,7 @@ def test_the_last_dimension_is_left_out(program, off: str, told: str) -> None:
     found = left_out(TRIANGLE, stands_in)
     (each,) = found.dimensions
     assert (each.number, each.name) == (4, "constraint 4 (distance A.start A.end 51)")
-    judged = judge_at_once(read_drawing(TRIANGLE), program)
-    assert excess_told(judged, each) == told and not each.in_part
+    assert excess_told(each) == told and not each.in_part
     assert (found.rest, found.helps) == (Rest.PLACED, 0)
     assert stands_in.asked == [("excess", "within=1000", "place=boxes")]
 
@@ -161,23 +160,35 @@ def test_what_several_say_is_told_without_an_amount(program, line: str, told: st
     """One line is said by a length and by what is vertical, the other by the length alone."""
     text = drawing("over-equal-lengths")
     (each,) = left_out(text, LeavesOut(program, one_part({line: LESS}))).dimensions
-    judged = judge_at_once(read_drawing(text), program)
-    assert excess_told(judged, each).removeprefix("in part too much: ") == told
+    assert excess_told(each).removeprefix("in part too much: ") == told
 
 
-def test_of_an_angle_no_amount_is_told(program) -> None:
-    judged = judge_at_once(read_drawing(TRIANGLE), program)
-    assert excess_told(judged, Excess(3, "angle A B 45deg", True)) == "a contradiction"
-    assert excess_told(judged, Excess(3, "angle A B 45deg", False)) == "a repeat"
-    assert excess_told(judged, Excess(3, "angle A B 45deg")) == "left out; not measured"
+def test_of_an_angle_no_amount_is_told() -> None:
+    assert excess_told(Excess(3, "angle A B 45deg", True)) == "a contradiction"
+    assert excess_told(Excess(3, "angle A B 45deg", False)) == "a repeat"
+    assert excess_told(Excess(3, "angle A B 45deg")) == "left out; not measured"
+
+
+WAY = ("segment A 0 0 80 0\nsegment B A.end 80 30\npoint P 40 10\ncoincident A.start Origin\n"
+       "horizontal A\nvertical B\nlength A 80\nlength B 30\nx P 40\ny P 10\ndistance P B 45\n")
+"""The upright line is 40 mm from the point, and 45 mm are told."""
 
 
 def test_a_way_to_a_line_is_off_by_what_is_measured_of_it(program) -> None:
-    """The upright line is 40 mm from the point, and 45 mm are told."""
-    text = ("segment A 0 0 80 0\nsegment B A.end 80 30\npoint P 40 10\ncoincident A.start Origin\n"
-            "horizontal A\nvertical B\nlength A 80\nlength B 30\nx P 40\ny P 10\ndistance P B 45\n")
-    (line,) = listed(panel(text, program), "left out")
+    lines = panel(WAY, program)
+    (line,) = listed(lines, "left out")
     assert line["text"] == "constraint 8 (distance P B 45): a contradiction by 5\u00a0mm"
+    assert "Or one of these may go instead:" in [each["text"] for each in lines]
+
+
+def test_of_several_none_is_told_as_if_it_went_alone(program) -> None:
+    """What the line is off, as one that may go, is measured where the point's other x is taken
+    away too; and without one of the two that are left out there is still one too many."""
+    lines = panel(WAY + "x P 42\n", program)
+    assert [(each["text"], each["takes"]) for each in listed(lines, "left out")] == [
+        ("constraint 8 (distance P B 45): a contradiction", 8),
+        ("constraint 9 (x P 42): a contradiction", 9)]
+    assert "Or one of these may go instead of one of them:" in [each["text"] for each in lines]
 
 
 def test_of_two_lines_one_is_left_out(program) -> None:
@@ -200,6 +211,17 @@ def test_what_is_known_to_go_as_a_whole_is_not_in_part(program) -> None:
     assert each.in_part
     (each,) = too_much(names, stands_in, {each.number}).dimensions
     assert not each.in_part
+
+
+def test_of_several_each_may_be_needed_in_part(program) -> None:
+    """That each may go where the other stays doesn't say that both may."""
+    plate = drawing("over-plate-contradiction")
+    stands_in = LeavesOut(program, one_part({"on P2 R3": " repeat off 0 nm",
+                                             "distance P2 Y 121": LESS}))
+    names = judge_at_once(read_drawing(plate), program).names
+    numbers = {each.number for each in too_much(names, stands_in).dimensions}
+    assert len(numbers) == 2
+    assert [each.in_part for each in too_much(names, stands_in, numbers).dimensions].count(True) == 1
 
 
 def test_a_line_of_help_that_is_left_out_is_told(program) -> None:
@@ -351,6 +373,6 @@ def test_of_a_plate_that_contradicts_itself(program) -> None:
 
 def test_of_a_row_that_repeats_itself(program) -> None:
     row = drawing("over-hole-row")
-    found, judged = left_out(row, program), judge_at_once(read_drawing(row), program)
+    found = left_out(row, program)
     assert found.rest is Rest.PLACED
-    assert [excess_told(judged, each) for each in found.dimensions] == ["a repeat"]
+    assert [excess_told(each) for each in found.dimensions] == ["a repeat"]
