@@ -2,7 +2,7 @@
 without, as the program leaves them out, and how far each is off where it places the others."""
 from __future__ import annotations
 
-from collections.abc import Collection, Iterable, Iterator, Mapping
+from collections.abc import Collection, Iterable, Iterator, Mapping, Sequence
 from dataclasses import dataclass, replace
 from enum import Enum
 from fractions import Fraction
@@ -16,9 +16,9 @@ from pertxogai.reports import Excessive, OverPart, read_excess
 from pertxogai.spelling.facts import ORIGIN_KNOT, Knot, Owner
 from pertxogai.spelling.rails import Rail
 
-REPEATS_NM = 1000
-"""What is off by no more nanometres of the drawing repeats the others: the limit that the language
-has where none is told."""
+REPEATS_NM = REPEATS_PPB = 1000
+"""What is off by no more nanometres of the drawing, or an angle by no more parts per 10^9, repeats
+the others: the limit that the language has where none is told."""
 CHOICES = 4
 """So many more choices of what is left out are tried at most, where the others have no places."""
 
@@ -82,8 +82,10 @@ def _choice(names: Names, program: Asks, dispensable: Collection[int],
     order = sorted(range(len(said)),
                    key=lambda place: (said[place] not in {0, *kept}, said[place]))
     lines = tuple(spelled.sketch.constraints[place] for place in order)
-    parts = _over_parts(replace(spelled.sketch, constraints=lines), spelled.scale, program)
-    left = {order[each.number - 1]: each for part in parts for each in part.left_out}
+    sketch = replace(spelled.sketch, constraints=lines)
+    parts = _over_parts(sketch, REPEATS_NM * spelled.scale, program)
+    measured = _angles_by_their_limit(sketch, spelled.scale, _left_out(parts), program)
+    left = {order[each.number - 1]: each for each in measured}
     helps = sum(said[place] == 0 for place in left)
     found = tuple(_dimensions(names, left))
     if len(found) == 1 and found[0].number in dispensable:
@@ -114,21 +116,38 @@ def _said_by(owners: frozenset[Owner]) -> int:
     return max((owner.number for owner in owners if not owner.shape), default=0)
 
 
-def _over_parts(sketch: language.Sketch, scale: int, program: Asks) -> tuple[OverPart, ...]:
+def _angles_by_their_limit(sketch: language.Sketch, scale: int, left: Sequence[Excessive],
+                           program: Asks) -> Sequence[Excessive]:
+    """What is left out by the limit of lengths, which grows with the sketch, that is so many times
+    as large as the drawing; the angles as the program measures them by their own."""
+    if scale == 1 or not any(map(_is_angle, left)):
+        return left
+    strict = {each.number: each for each in _left_out(_over_parts(sketch, REPEATS_PPB, program))}
+    return [strict[each.number] if _is_angle(each) else each for each in left]
+
+
+def _is_angle(each: Excessive) -> bool:
+    return isinstance(each.constraint, language.Angle)
+
+
+def _left_out(parts: Iterable[OverPart]) -> list[Excessive]:
+    return [each for part in parts for each in part.left_out]
+
+
+def _over_parts(sketch: language.Sketch, limit: int, program: Asks) -> tuple[OverPart, ...]:
     """The parts that are over, as the program places the rest of each by boxes, or by points where
-    it has no places so; by the limit of the drawing, of which the sketch is so many times as
-    large."""
-    by_boxes = _asked(sketch, scale, program, Place.BOXES)
+    it has no places so; by this limit of what is a repeat."""
+    by_boxes = _asked(sketch, limit, program, Place.BOXES)
     if all(part.fault is None for part in by_boxes):
         return by_boxes
-    by_points = {each.part.number: each for each in _asked(sketch, scale, program, Place.POINTS)}
+    by_points = {each.part.number: each for each in _asked(sketch, limit, program, Place.POINTS)}
     return tuple(by_points.get(each.part.number, each) if each.fault else each
                  for each in by_boxes)
 
 
-def _asked(sketch: language.Sketch, scale: int, program: Asks,
+def _asked(sketch: language.Sketch, limit: int, program: Asks,
            place: Place) -> tuple[OverPart, ...]:
-    keys = f"within={REPEATS_NM * scale}", f"place={place.value}"
+    keys = f"within={limit}", f"place={place.value}"
     return read_excess(written_by(program, "excess", sketch.text(), *keys)).parts
 
 

@@ -5,7 +5,7 @@ from collections.abc import Iterable, Sequence
 from dataclasses import dataclass, replace
 
 from pertxogai.answers.asking import Asked, Place, ask_styles, counted, finer, written_by
-from pertxogai.answers.excess import REPEATS_NM
+from pertxogai.answers.excess import REPEATS_NM, REPEATS_PPB
 from pertxogai.answers.faults import Failure, failure
 from pertxogai.answers.limits import check_fits
 from pertxogai.answers.missing import Missing, missing
@@ -21,8 +21,6 @@ from pertxogai.spelling.style import Style
 
 FINE_NM = 2
 """What is off by more is asked for again with finer angles."""
-REPEATS_PPB = 1000
-"""A direction that is off by no more, once it was left out, repeats the others."""
 HOLDS_NM = 1
 """What was left out holds where it is off by no more."""
 TRIED = 12

@@ -11,7 +11,7 @@ from boards import drawing
 from pertxogai.answers import Excess, Rest, TooMuch, judge_at_once, too_much
 from pertxogai.drawing import read_drawing
 from pertxogai.errors import ProgramTimedOut
-from pertxogai.language import Sketch
+from pertxogai.language import Angle, Sketch
 from pertxogai.page.calls import Desk
 from pertxogai.page.panel import excess_told
 from pertxogai.program import Answer, Asks, Status
@@ -142,6 +142,28 @@ def test_the_limit_is_of_the_drawing(program) -> None:
     (each,) = left_out(inches, stands_in).dimensions
     assert stands_in.asked == [("excess", "within=2000", "place=boxes")]
     assert each.off_um == 1000
+
+
+@pytest.mark.parametrize("strict, end, conflicts", [
+    (" conflict off 1500 ppb", "", True), (" repeat off 900 ppb", "", False), ("", FLAT, None)])
+def test_an_angle_is_asked_for_again_by_its_own_limit(program, strict: str, end: str,
+                                                      conflicts: bool | None) -> None:
+    """The sketch is told larger, and with it the limit of lengths. Where the others have no places
+    by the angle's own limit, it isn't measured."""
+    text = ("segment A 0 0 50 0\nsegment B A.end 32 24\nsegment C B.end A.start\n"
+            "length C 40.0005\nlength A 50\nlength B 30\nangle A B 4/3\n")
+    lines = judge_at_once(read_drawing(text), program).names.spelled.sketch.constraints
+    (angle,) = [line.text() for line in lines if isinstance(line, Angle)]
+
+    def said(sketch: Sketch, words: Sequence[str]) -> str:
+        is_strict = "within=1000" in words
+        return one_part({angle: strict if is_strict else " repeat off 1500 ppb"},
+                        end if is_strict else "")(sketch, words)
+    stands_in = LeavesOut(program, said)
+    found = left_out(text, stands_in)
+    assert [each.conflicts for each in found.dimensions] == [conflicts]
+    assert found.rest is Rest.PLACED
+    assert [words[1] for words in stands_in.asked][:2] == ["within=2000", "within=1000"]
 
 
 def test_a_height_that_the_others_turn_over(program) -> None:
