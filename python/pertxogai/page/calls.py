@@ -28,7 +28,7 @@ from .fields import FieldRefused, Fields
 from .judging import Judged, NotPlaced
 from .offers import offers
 from .opening import opened
-from .panel import lines_shown
+from .panel import Untold, lines_shown
 from .shown import excess_shown, judgement_shown, places_shown
 from .sight import Sight, sight_of
 
@@ -143,11 +143,13 @@ def _offers(desk: Desk, given: Fields) -> Json:
 
 def _weigh(desk: Desk, given: Fields) -> Json:
     """What is left out of a drawing that is over, and what may go instead, each with how far it is
-    off without it."""
+    off without it; where one of these can't be told, the other, and why."""
     judged = desk.judged(given.text("text"))
-    return {"spare": [spare_json(each) for each in judged.weighed.surplus],
-            "excess": excess_shown(judged.weighed, judged.too_much),
-            "lines": lines_shown(judged.weighed, judged.too_much)}
+    judgement, left, weighing = judged.weighed, judged.too_much, judged.weighing
+    unweighed = weighing if isinstance(weighing, Untold) else None
+    return {"spare": [spare_json(each) for each in judgement.surplus],
+            "excess": excess_shown(judgement, left),
+            "lines": lines_shown(judgement, left, unweighed)}
 
 
 def _plan(desk: Desk, given: Fields) -> Json:

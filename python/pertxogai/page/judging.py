@@ -48,16 +48,28 @@ class Judged:
         `judgement`."""
         if self.judgement.verdict is not Verdict.OVER:
             return TooMuch(())
-        dispensable = {each.number for each in self.weighed.surplus if each.off is not None}
+        known = () if isinstance(self.weighing, Untold) else self.weighing.surplus
+        dispensable = {each.number for each in known if each.off is not None}
         try:
             return too_much(self.judgement.names, self.program, dispensable)
         except ProgramError as error:
-            return Untold(" ".join(str(error).split()))
+            return Untold.by(error)
 
     @cached_property
+    def weighing(self) -> Judgement | Untold:
+        """The judgement with what may go measured, or why that can't be told. Raises as
+        `judgement`."""
+        judgement = self.judgement
+        try:
+            return weighed(judgement, self.program)
+        except ProgramError as error:
+            return Untold.by(error)
+
+    @property
     def weighed(self) -> Judgement:
-        """The judgement, with what may go measured. Raises as `judgement`."""
-        return weighed(self.judgement, self.program)
+        """The judgement, with what may go measured where the program does that. Raises as
+        `judgement`."""
+        return self.judgement if isinstance(self.weighing, Untold) else self.weighing
 
     @property
     def text(self) -> str:

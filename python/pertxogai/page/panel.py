@@ -10,6 +10,7 @@ from ..answers.faults import Amount, Failure
 from ..drawing import Drawing
 from ..drawing.numbers import mm_text
 from ..measure import Unit
+from ..program import ProgramError
 from ..reports import Solved, Verdict
 from ..told import JudgedDrawing
 
@@ -35,25 +36,34 @@ class Line:
 
 @dataclass(frozen=True)
 class Untold:
-    """Why what is left out of what is over can't be told, in one line."""
+    """Why something of what is over can't be told, in one line."""
 
     why: str
 
+    @staticmethod
+    def by(error: ProgramError) -> Untold:
+        """The program gave no answer."""
+        return Untold(" ".join(str(error).split()))
 
-def lines_shown(judgement: Judgement,
-                left: TooMuch | Untold = TooMuch(())) -> list[dict[str, object]]:
-    """All lines, each with what it has. left: what is left out of what is over."""
+
+def lines_shown(judgement: Judgement, left: TooMuch | Untold = TooMuch(()),
+                unweighed: Untold | None = None) -> list[dict[str, object]]:
+    """All lines, each with what it has. left: what is left out of what is over. unweighed: why
+    what may go isn't measured, where that failed."""
     return [{name: value for name, value in vars(line).items() if value not in ("", (), None)}
-            for line in (*_told(judgement, left), *_notes(judgement))]
+            for line in (*_told(judgement, left, unweighed), *_notes(judgement))]
 
 
-def _told(judgement: Judgement, left: TooMuch | Untold) -> Iterator[Line]:
+def _told(judgement: Judgement, left: TooMuch | Untold,
+          unweighed: Untold | None) -> Iterator[Line]:
     drawing = judgement.names.drawing
     if judgement.failure is not None:
         return _fault(drawing, judgement.failure)
     if judgement.verdict is Verdict.WELL:
         return _well(drawing, judgement)
-    return _open(judgement) if judgement.verdict is Verdict.OPEN else _over(judgement, left)
+    if judgement.verdict is Verdict.OPEN:
+        return _open(judgement)
+    return _over(judgement, left, unweighed)
 
 
 def _well(drawing: Drawing, judgement: Judgement) -> Iterator[Line]:
@@ -86,7 +96,8 @@ def _open(judgement: Judgement) -> Iterator[Line]:
                    f"{joint.tie.value}", list="what to do", selects=joint.shared)
 
 
-def _over(judgement: Judgement, left: TooMuch | Untold) -> Iterator[Line]:
+def _over(judgement: Judgement, left: TooMuch | Untold,
+          unweighed: Untold | None) -> Iterator[Line]:
     """What is left out, and what becomes of the others; and what may go instead."""
     listed = () if isinstance(left, Untold) else left.dimensions
     numbers = {each.number for each in listed if not each.in_part}
@@ -102,6 +113,8 @@ def _over(judgement: Judgement, left: TooMuch | Untold) -> Iterator[Line]:
     for other in others:
         yield Line(f"{other.name}: {_surplus(other)}", list="spare constraints",
                    takes=other.number)
+    if unweighed is not None:
+        yield Line(f"What may go can’t be measured: {unweighed.why}", "quiet")
     if isinstance(left, Untold):
         yield Line(f"What is left out can’t be told: {left.why}", "quiet")
     elif left.helps:

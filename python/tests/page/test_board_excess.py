@@ -381,6 +381,37 @@ def test_the_verdict_stays_where_excess_fails(program, answer: Answer | Exceptio
     assert why in untold and "\n" not in untold
 
 
+@dataclass
+class Tires:
+    """A program that places nothing more once it has told what is spare; it counts what it was
+    asked then."""
+
+    program: Asks
+    refused: int | None = None
+
+    def ask(self, words: Sequence[str], text: str) -> Answer:
+        if words[0] == "solve" and self.refused is not None:
+            self.refused += 1
+            raise ProgramTimedOut("it took\nmore than 60 s")
+        if words[0] == "spare":
+            self.refused = self.refused or 0
+        return self.program.ask(words, text)
+
+
+def test_what_is_left_out_is_told_where_what_may_go_cannot_be_measured(program) -> None:
+    tires = Tires(program)
+    desk = Desk(tires)
+    assert desk.answer("judge", {"text": TRIANGLE})["judgement"]["verdict"] == "over"
+    found = desk.answer("weigh", {"text": TRIANGLE})
+    assert [(each["number"], each["conflicts"]) for each in found["excess"]] == [(4, True)]
+    assert [(each["number"], each["off"]) for each in found["spare"]] == [(2, None), (4, None)]
+    (line,) = listed(found["lines"], "spare constraints")
+    assert line["text"].endswith(": may go")
+    lines = [each["text"] for each in found["lines"]]
+    assert "What may go can’t be measured: it took more than 60 s" in lines
+    assert tires.refused == 1
+
+
 # The program itself.
 
 def test_the_program_leaves_the_last_one_out(program) -> None:
