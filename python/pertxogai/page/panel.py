@@ -207,7 +207,7 @@ def _notes(judgement: Judgement) -> Iterator[Line]:
     for warning in judgement.warnings:
         yield Line(f"look: {warning.text()}", "warning", selects=warning.shapes)
     for what, names in (
-            ("left out", judgement.left_out), ("taken as drawn", judgement.frozen),
+            ("couldn’t be spelled", judgement.left_out), ("taken as drawn", judgement.frozen),
             ("told by a rounded value", judgement.rounded),
             ("repeats others, and may go", judgement.repeats),
             ("its size is told by nothing, so it is as drawn", judgement.undimensioned),
