@@ -10,11 +10,10 @@ from fractions import Fraction
 from pertxogai import language
 from pertxogai.answers.asking import Place, written_by
 from pertxogai.answers.naming import Names
-from pertxogai.drawing import Diameter, Distance, Length, PointRef, Radius, Which
+from pertxogai.answers.own_lines import times_said
 from pertxogai.program import Asks
 from pertxogai.reports import Excessive, OverPart, read_excess
-from pertxogai.spelling.facts import ORIGIN_KNOT, Knot, Owner
-from pertxogai.spelling.rails import Rail
+from pertxogai.spelling.facts import Owner
 
 REPEATS_NM = REPEATS_PPB = 1000
 """What is off by no more nanometres of the drawing, or an angle by no more parts per 10^9, repeats
@@ -170,46 +169,8 @@ def _excess(names: Names, number: int, each: Excessive, owners: frozenset[Owner]
     off_um = None
     if isinstance(each.constraint, language.Distance) and owners == {Owner(number)}:
         said_nm = 1000 * each.constraint.length_um
-        times = _own(names, number, each.constraint)
+        times = times_said(names, number, each.constraint)
         # A height that the others turn over is below zero; what a dimension says has no side.
         off_nm = Fraction(abs(said_nm + off.amount) - said_nm, names.spelled.scale)
         off_um = times * off_nm / 1000 if times else None
     return Excess(number, name, off.conflicts, off_um)
-
-
-def _own(names: Names, number: int, line: language.Distance) -> int:
-    """How many times a line of the sketch is what a dimension says: twice of a diameter, which is
-    spelled by its radius; 0 times where the line doesn't say it as it is."""
-    said_um = Fraction(line.length_um, names.spelled.scale)
-    match names.drawing.constraints[number - 1]:
-        case Length(segment, value_um) if value_um == said_um:
-            ends = (PointRef(segment.name, each) for each in (Which.START, Which.END))
-            return int(_runs(names, line, *ends))
-        case Distance(first, second, value_um) if value_um == said_um:
-            return int(_runs(names, line, first, second))
-        case Radius(_, value_um) if value_um == said_um:
-            return 1
-        case Diameter(_, value_um) if value_um == 2 * said_um:
-            return 2
-    return 0
-
-
-def _runs(names: Names, line: language.Distance, first: PointRef, second: PointRef) -> bool:
-    """Whether a distance runs from one of two points to the other, or to a rail that has it; or
-    between points of help, where what is told twice is spelled so."""
-    points = names.spelled.points
-    if not {*points.values(), *names.spelled.tracks}.intersection(line.names()):
-        return True
-    one, other = names.refs[first], names.refs[second]
-    return any(points.get(end) == line.first and line.second in _carriers(names, far)
-               for end, far in ((one, other), (other, one)))
-
-
-def _carriers(names: Names, knot: Knot) -> set[str | None]:
-    """What a point is in the sketch, and the rails that have it."""
-    spelled, name = names.spelled, names.spelled.points.get(knot)
-    rails = {each: track for each, track in spelled.tracks.items() if isinstance(track, Rail)}
-    through = {line.carrier for line in spelled.sketch.constraints
-               if isinstance(line, language.On) and line.point == name and line.carrier in rails}
-    datum = {each for each, rail in rails.items() if knot == ORIGIN_KNOT and rail.datum()}
-    return {name, *through, *datum}
