@@ -68,6 +68,20 @@ class Page:
         return [each["message"] for each in self.driver.get_log("browser")
                 if each["level"] == "SEVERE" and "ERR_CONNECTION" not in each["message"]]
 
+    @contextmanager
+    def held(self, call: str) -> Iterator[None]:
+        """Holds back all that the server answers to a call, until it is left."""
+        self.driver.execute_script(
+            "const { fetch } = window, held = `call/${arguments[0]}`; let release;"
+            "const released = new Promise((done) => { release = done; });"
+            "window.fetch = async (path, options) => { const response = await fetch(path, options);"
+            "  if (path === held) { window.isHeld = true; await released; }"
+            "  return response; };"
+            "window.release = () => { Object.assign(window, { fetch, isHeld: false }); release(); };", call)
+        yield
+        self.wait("an answer that is held", "return window.isHeld")
+        self.driver.execute_script("window.release()")
+
     # What a hand does.
 
     def keys(self, *keys: str) -> None:

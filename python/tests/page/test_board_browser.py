@@ -159,6 +159,31 @@ def test_one_too_many_is_taken_away_again(page: Page) -> None:
     assert "Top width:" not in page.text()
 
 
+def test_of_two_taken_away_before_the_answer_one_goes(page: Page) -> None:
+    page.begin(TRIANGLE + "length A 41\n", "over")
+    with page.held("edit"):
+        page.click("#verdict [data-spare] button")
+        page.click("#verdict [data-spare]:last-child button")
+    _told_to_choose_again(page)
+    assert page.text().count("length") == 3
+
+
+def test_a_constraint_that_is_typed_above_leaves_those_below_it(page: Page) -> None:
+    over = TRIANGLE + "length A 41\n"
+    page.begin(over, "over")
+    typed = over.replace("length A 40", "horizontal A\nlength A 40")
+    with page.held("judge"):
+        page.type(typed)
+        page.click("#verdict [data-spare] button")
+    _told_to_choose_again(page)
+    assert page.text() == typed
+
+
+def _told_to_choose_again(page: Page) -> None:
+    page.wait("told", "return document.getElementById('hint').textContent"
+                      " === 'the drawing has changed: choose again'")
+
+
 def test_a_fault_is_shown_at_its_place(page: Page) -> None:
     page.begin(TRIANGLE.replace("length C 35", "length C 3"), "fault")
     assert "It misses by" in page.told() and "mm²" in page.told()

@@ -2,7 +2,9 @@
 import { History } from './history.js';
 import { Stopped } from './calls.js';
 
-/** A drawing that is worked on. Listeners hear 'answer', 'trouble', 'text'. */
+const CHANGED = { message: 'the drawing has changed: choose again' };
+
+/** A drawing that is worked on. Listeners hear 'begin', 'answer', 'trouble', 'text'. */
 export class Paper extends EventTarget {
   history = new History('');
   name = 'drawing';
@@ -71,9 +73,10 @@ export class Paper extends EventTarget {
     return this.queue(() => this.server.call(call, given));
   }
 
-  /** Edits the text that stands by one edit of the server's. Gives whether it was taken. */
-  edit(edit) {
-    return this.change((text) => this.edited(text, edit));
+  /** Edits the text that stands by one edit of the server's; by numbers of constraints only the text in which they were seen. Gives whether it was taken. */
+  edit(edit, seen = this.answer?.text) {
+    const isNumbered = edit.number || edit.constraints?.length;
+    return this.change((text) => (isNumbered && text !== seen ? { trouble: this.refused ?? CHANGED } : this.edited(text, edit)));
   }
 
   /** The text is drawn as it is placed, or as it is with the choices of some steps turned over. */
