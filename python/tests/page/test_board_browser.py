@@ -184,6 +184,17 @@ def _told_to_choose_again(page: Page) -> None:
                       " === 'the drawing has changed: choose again'")
 
 
+def test_an_edit_stays_with_its_drawing(page: Page) -> None:
+    page.begin(TRIANGLE, "well")
+    page.select("A")
+    with page.held("edit"):
+        page.keys(Keys.ALT + Keys.ARROW_RIGHT)
+        page.click("#new")
+        page.wait("an empty board", "return !document.querySelector('.edges [data-name]')")
+    page.verdict("empty")
+    assert page.text() == "" and page.driver.find_element(By.ID, "erase").is_displayed() is False
+
+
 def test_a_fault_is_shown_at_its_place(page: Page) -> None:
     page.begin(TRIANGLE.replace("length C 35", "length C 3"), "fault")
     assert "It misses by" in page.told() and "mm²" in page.told()

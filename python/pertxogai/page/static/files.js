@@ -8,7 +8,7 @@ const ENDINGS = { dxf: '.dxf', 'program-dxf': '-program.dxf', svg: '.svg', sketc
 export class Files {
   input = byId('file');
 
-  /** `shown`: what is done once another drawing has begun. */
+  /** `shown`: what is done once another drawing is shown. */
   constructor(paper, keeping, shown) {
     Object.assign(this, { paper, keeping, shown });
     this.input.addEventListener('change', () => this.open(this.input.files[0]));

@@ -4,7 +4,7 @@ import { closed } from './dialogs.js';
 import { Server } from './calls.js';
 import { Paper } from './paper.js';
 import { Selection } from './selection.js';
-import { Board } from './board.js';
+import { Board, NOTHING } from './board.js';
 import { Gestures } from './gestures.js';
 import { Hand } from './tools.js';
 import { Offers } from './offers.js';
@@ -36,7 +36,7 @@ class Page {
     this.asked = new Asked(paper, this.selection, this.offers);
     this.steps = new Steps(paper, this.board);
     this.keeping = new Keeping(paper, banner);
-    this.files = new Files(paper, this.keeping, () => this.shown());
+    this.files = new Files(paper, this.keeping, () => this.board.fit());
     this.keys = new Keys(this);
     this.tabs = new Tabs();
     this.acts = this.buttons(this);
@@ -56,6 +56,7 @@ class Page {
   /** Listens to the parts, and shows what was kept. */
   begin() {
     const { paper, keeping } = this;
+    paper.addEventListener('begin', () => this.leave());
     paper.addEventListener('answer', (event) => this.show(event.detail));
     paper.addEventListener('trouble', (event) => hint(event.detail));
     document.addEventListener('click', (event) => this.click(event.target.closest('button')));
@@ -64,7 +65,7 @@ class Page {
     this.take('select');
     const { text = '', name = 'drawing', saved = '' } = keeping.kept() ?? {};
     byId('name').value = name;
-    paper.begin(text, name, saved).then(() => this.shown());
+    paper.begin(text, name, saved).then(() => this.board.fit());
   }
 
   /** A button is clicked. */
@@ -81,10 +82,12 @@ class Page {
     if (times === 2 && !this.hand.draws) setTimeout(() => this.offers.change(...this.selection.numbers));
   }
 
-  /** Another drawing has begun. */
-  shown() {
+  /** Another drawing begins: nothing of the last is shown, held or selected. */
+  leave() {
+    this.gestures.pressed = null;
+    this.board.show(NOTHING);
     this.selection.set([]);
-    this.board.fit();
+    this.take(this.hand.tool);
   }
 
   /** Hears why the server isn't there, if it isn't; once it is again, the drawing is judged. */

@@ -32,7 +32,8 @@ export class Paper extends EventTarget {
 
   /** Begins with a text, under a name. */
   begin(text, name, saved = text) {
-    Object.assign(this, { history: new History(text), name, saved });
+    Object.assign(this, { history: new History(text), name, saved, answer: null, refused: null, said: null, live: null, seen: null });
+    this.tell('begin');
     return this.turned();
   }
 
@@ -45,8 +46,9 @@ export class Paper extends EventTarget {
 
   /** Undoes (-1) or redoes (1), behind all that was asked before. */
   go(step) {
+    const { history } = this;
     return this.queue(() => {
-      this.history.go(step);
+      history.go(step);
       this.turned();
     });
   }
@@ -84,14 +86,16 @@ export class Paper extends EventTarget {
     return this.change((text) => this.server.call('redraw', { text, steps }));
   }
 
-  /** Changes the text that stands by a call; where another was typed meanwhile, that one. Gives whether it was taken. */
+  /** Changes the text that stands by a call; where another was typed meanwhile, that one; where another drawing has begun, none. Gives whether it was taken. */
   change(call) {
+    const { history } = this;
     return this.queue(async () => {
-      for (;;) {
+      while (this.history === history) {
         const { text } = this;
         const answer = await call(text);
-        if (this.text === text) return this.takeChange(answer);
+        if (this.history === history && this.text === text) return this.takeChange(answer);
       }
+      return false;
     });
   }
 
