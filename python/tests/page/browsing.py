@@ -79,7 +79,7 @@ class Page:
             "  return response; };"
             "window.release = () => { Object.assign(window, { fetch, isHeld: false }); release(); };", call)
         yield
-        self.wait("an answer that is held", "return window.isHeld")
+        self.wait("an answer that is held", "return window.isHeld !== undefined")
         self.driver.execute_script("window.release()")
 
     # What a hand does.

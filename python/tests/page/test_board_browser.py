@@ -29,6 +29,10 @@ length B 36
 length C 35
 """
 
+TYPED = """const area = document.getElementById('text'); area.focus(); area.value = arguments[0];
+area.dispatchEvent(new Event('input'));
+"""
+
 
 @pytest.fixture(scope="module")
 def board(program):
@@ -287,7 +291,8 @@ def test_undo_to_the_start_and_redo(page: Page) -> None:
 def test_undo_waits_for_the_edit_before_it(page: Page) -> None:
     page.begin(TRIANGLE, "well")
     page.select("A")
-    page.keys(Keys.DELETE, Keys.CONTROL + "z")
+    with page.held("edit"):
+        page.keys(Keys.DELETE, Keys.CONTROL + "z")
     page.wait("redo", "return !document.getElementById('redo').disabled")
     page.verdict("well")
     assert "segment A 0 0 40 0" in page.text()
@@ -296,10 +301,35 @@ def test_undo_waits_for_the_edit_before_it(page: Page) -> None:
 def test_what_is_typed_beside_an_edit_stays(page: Page) -> None:
     page.begin(TRIANGLE, "well")
     page.select("A")
-    page.keys(Keys.ALT + Keys.ARROW_RIGHT)
-    page.type(TRIANGLE + "horizontal A\n")
+    with page.held("edit"):
+        page.keys(Keys.ALT + Keys.ARROW_RIGHT)
+        page.type(TRIANGLE + "horizontal A\n")
+    _a_has_moved_and_is_level(page)
+
+
+def test_what_was_typed_just_before_the_answer_to_an_edit_stays(page: Page) -> None:
+    page.begin(TRIANGLE, "well")
+    page.select("A")
+    with page.held("edit"):
+        page.keys(Keys.ALT + Keys.ARROW_RIGHT)
+        page.wait("an answer", "return window.isHeld")
+        page.driver.execute_script(TYPED + "window.release();", TRIANGLE + "horizontal A\n")
+    _a_has_moved_and_is_level(page)
+
+
+def _a_has_moved_and_is_level(page: Page) -> None:
     page.wait("judged", "return document.querySelectorAll('.marks [data-constraint]').length > 3")
     assert page.text().endswith("length C 35\nhorizontal A\n")
+    assert "segment A " in page.text() and "segment A 0 0 40 0" not in page.text()
+
+
+def test_what_was_typed_just_before_is_saved_and_kept(page: Page) -> None:
+    page.driver.execute_script(TYPED + "document.getElementById('save').click();", TRIANGLE)
+    assert page.downloaded("drawing.drawing").decode() == TRIANGLE
+    kept = page.driver.execute_script(
+        TYPED + "window.dispatchEvent(new Event('pagehide'));"
+        "return localStorage['pertxogai.drawing'];", TRIANGLE + "horizontal A\n")
+    assert "horizontal A" in str(kept)
 
 
 def test_a_refused_line_is_marked_with_what_to_do(page: Page) -> None:

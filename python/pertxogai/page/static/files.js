@@ -21,6 +21,7 @@ export class Files {
 
   /** Begins with a text, once what isn't saved is kept aside. */
   async begin(text, name) {
+    this.paper.settle();
     this.keeping.put(this.paper);
     byId('name').value = name;
     await this.paper.begin(text, name);
@@ -55,20 +56,29 @@ export class Files {
 
   /** Saves the drawing's text. */
   save() {
-    this.paper.saved = this.paper.text;
+    const text = this.paper.saved = this.paper.settle();
     this.keeping.keep();
-    download(`${this.paper.name}.drawing`, this.paper.text);
+    download(`${this.paper.name}.drawing`, text);
   }
 
   /** Exports what is shown. */
   async export(kind) {
     byId('export').open = false;
-    const { name, text, answer } = this.paper;
+    const { name } = this.paper;
+    const text = this.paper.settle();
     const call = { claim: 'verify' }[kind] ?? kind;
-    const found = kind === 'sketch' ? { sketch: answer?.judgement?.language } : await this.paper.ask(call, { text, name, release: 'R2010' });
+    const found = kind === 'sketch' ? await this.language(text) : await this.paper.ask(call, { text, name, release: 'R2010' });
     const content = found[{ 'program-dxf': 'dxf' }[kind] ?? kind];
     if (content) download(name + ENDINGS[kind], content);
     else if (found) this.paper.tell('trouble', (found.trouble ?? found.refused)?.message ?? 'there is nothing to export yet');
+  }
+
+  /** The sketch of a text, once it is judged. */
+  language(text) {
+    return this.paper.queue(() => {
+      const { answer, refused } = this.paper;
+      return { sketch: answer?.text === text && !refused && answer.judgement?.language, refused };
+    });
   }
 }
 

@@ -15,7 +15,10 @@ export class Keeping {
     paper.addEventListener('text', () => this.keep());
     this.channel.addEventListener('message', (event) => this.heard(event.data));
     this.channel.postMessage({ here: this.tab });
-    window.addEventListener('beforeunload', () => this.keep());
+    for (const what of ['beforeunload', 'pagehide']) window.addEventListener(what, () => {
+      paper.settle();
+      this.keep();
+    });
     window.addEventListener('pagehide', () => this.channel.postMessage({ gone: this.tab }));
   }
 

@@ -4,7 +4,7 @@ import { Stopped } from './calls.js';
 
 const CHANGED = { message: 'the drawing has changed: choose again' };
 
-/** A drawing that is worked on. Listeners hear 'begin', 'answer', 'trouble', 'text'. */
+/** A drawing that is worked on. Listeners hear 'begin', 'answer', 'trouble', 'text', and 'settle' where what is being typed is to count. */
 export class Paper extends EventTarget {
   history = new History('');
   name = 'drawing';
@@ -35,6 +35,12 @@ export class Paper extends EventTarget {
     Object.assign(this, { history: new History(text), name, saved, answer: null, refused: null, said: null, live: null, seen: null });
     this.tell('begin');
     return this.turned();
+  }
+
+  /** The text as it stands, with all that was typed. */
+  settle() {
+    this.tell('settle');
+    return this.text;
   }
 
   /** Takes a text that was typed. */
@@ -91,9 +97,9 @@ export class Paper extends EventTarget {
     const { history } = this;
     return this.queue(async () => {
       while (this.history === history) {
-        const { text } = this;
+        const text = this.settle();
         const answer = await call(text);
-        if (this.history === history && this.text === text) return this.takeChange(answer);
+        if (this.history === history && this.settle() === text) return this.takeChange(answer);
       }
       return false;
     });
