@@ -366,6 +366,15 @@ def test_a_point_is_dragged_and_a_dimension_changed(page: Page) -> None:
               "return document.getElementById('text').value.includes('diameter C 12.7')")
 
 
+def test_of_two_drags_before_the_answer_both_count(page: Page) -> None:
+    page.begin("drawing 1\nsegment A 0 0 40 0\nsegment B 0 20 40 20\n", "open")
+    with page.held("edit"):
+        for name in ("A.end", "B.end"):
+            x, y = page.at(name)
+            page.press(x, y, to=(x + 60, y - 40))
+    page.wait("both", "return !/ 40 (0|20)$/m.test(document.getElementById('text').value)")
+
+
 def test_everything_by_the_keyboard(page: Page) -> None:
     page.keys("s", *[Keys.ARROW_LEFT] * 6, Keys.ENTER, *[Keys.ARROW_RIGHT] * 12, Keys.ENTER)
     page.wait("a segment", "return document.querySelectorAll('.edges [data-name]').length === 1")

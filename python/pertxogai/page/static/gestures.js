@@ -15,7 +15,7 @@ export class Gestures {
     Object.assign(this, { board, paper, selection, hand, tell });
     const { node } = board;
     for (const what of ['down', 'move', 'up']) node.addEventListener(`pointer${what}`, (event) => this[what](event, this.at(event)));
-    node.addEventListener('pointercancel', () => { this.pressed = null; });
+    node.addEventListener('pointercancel', () => this.cancel());
     node.addEventListener('wheel', (event) => this.wheel(event), { passive: false });
   }
 
@@ -48,7 +48,7 @@ export class Gestures {
     const name = event.target.closest('[data-name]')?.dataset.name;
     const number = Number(event.target.closest('[data-constraint]')?.dataset.constraint);
     const pans = event.button === 1 || (!name && !number && !this.hand.draws);
-    this.pressed = { at, last: at, thing: name ?? number, pans, moved: false, text: this.paper.text, edit: null };
+    this.pressed = { at, last: at, thing: name ?? number, pans, moved: false, edit: null };
   }
 
   /** The pointer moves: it pans, drags, or shows what a click would draw. */
@@ -93,9 +93,15 @@ export class Gestures {
     const { pressed } = this;
     this.pressed = null;
     if (!pressed) return;
-    if (pressed.moved && pressed.edit && pressed.text === this.paper.text) this.paper.preview(pressed.edit, true);
+    if (pressed.edit) this.paper.land(pressed.edit);
     else if (this.hand.draws && event.button === 0) this.press(at, event.shiftKey);
     else if (!pressed.moved) this.select(pressed.thing, event.shiftKey);
+  }
+
+  /** The browser takes the pointer away: what was dragged stays where it was. */
+  cancel() {
+    this.pressed = null;
+    this.paper.drop();
   }
 
   /** Selects what was clicked; a click beside all selects nothing. */

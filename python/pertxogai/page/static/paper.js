@@ -14,7 +14,7 @@ export class Paper extends EventTarget {
   refused = null;
   /** What was told of the text that stands. */
   said = null;
-  /** What is being done; the edit that a hand makes while it moves, and the last that was shown. */
+  /** What is being done; the edit that a hand makes while it moves, and the last that was shown, of which text. */
   waiting = Promise.resolve();
   live = null;
   seen = null;
@@ -112,26 +112,28 @@ export class Paper extends EventTarget {
     return known ? completed(answer, known) : answer;
   }
 
-  /** Shows what an edit would make, while a hand moves: only the last of several is asked for. With `lands` the hand lets go, and the edit counts. */
-  preview(edit, lands = false) {
-    const busy = this.live !== null;
-    this.live = { edit, base: this.text, lands };
-    if (!busy) this.queue(() => this.previews());
+  /** Shows what an edit would make, while a hand moves; of several that wait, the last counts. */
+  preview(edit) {
+    this.live = edit;
+    return this.queue(async () => {
+      if (this.live !== edit) return;
+      const { text } = this;
+      const answer = await this.edited(text, edit);
+      this.seen = { edit, text, answer };
+      if (this.live && this.text === text && answer.drawing) this.tell('answer', answer);
+    });
   }
 
-  /** Shows one preview after the other, until none waits. What was asked for once isn't asked for again. */
-  async previews() {
-    let { seen } = this;
-    while (this.live) {
-      const { edit, base } = this.live;
-      if (seen?.edit !== edit) seen = { edit, answer: await this.edited(base, edit) };
-      const isLast = this.live.edit === edit;
-      if (this.text === base && isLast && this.live.lands) this.takeChange(seen.answer);
-      else if (this.text === base && seen.answer.drawing) this.tell('answer', seen.answer);
-      if (isLast) break;
-    }
-    this.seen = seen;
+  /** The hand lets go, and its edit counts. What was shown isn't asked for again. */
+  land(edit) {
     this.live = null;
+    return this.change((text) => (this.seen?.edit === edit && this.seen.text === text ? this.seen.answer : this.edited(text, edit)));
+  }
+
+  /** The hand gives up: what is said of the text that stands is shown again. */
+  drop() {
+    this.live = null;
+    this.queue(() => { if (this.said) this.tell('answer', this.said); });
   }
 
   /** Takes the answer of a call that changes the text; gives whether it does. */
@@ -163,15 +165,12 @@ export class Paper extends EventTarget {
     const found = await this.server.call('weigh', { text }).catch(ended);
     if (!found?.spare || this.answer !== answer || this.refused) return;
     Object.assign(answer.judgement, found);
-    this.tell('answer', answer);
+    if (!this.live) this.tell('answer', answer);
   }
 
   /** Does one thing after the other; gives false of what the stopped server kept from being done. */
   queue(act) {
-    const done = this.waiting.then(act).catch((error) => {
-      this.live = null;
-      return ended(error);
-    });
+    const done = this.waiting.then(act).catch(ended);
     this.waiting = done.catch(() => {});
     return done;
   }
