@@ -397,6 +397,26 @@ def test_everything_by_the_keyboard(page: Page) -> None:
     page.wait("a drawing is taken", "return document.getElementById('text').value !== ''")
 
 
+def test_behind_a_dialog_nothing_is_drawn_or_opened(page: Page) -> None:
+    page.driver.execute_script(
+        "window.opened = 0; document.getElementById('file').addEventListener('click', (event) => {"
+        "  event.preventDefault(); window.opened += 1; });")
+    drops = ("const dataTransfer = new DataTransfer();"
+             "dataTransfer.items.add(new File(['point P 0 0\\n'], 'P.drawing'));"
+             "document.body.dispatchEvent(new DragEvent('drop',"
+             " { dataTransfer, bubbles: true, cancelable: true }));")
+    page.keys("?")
+    page.driver.switch_to.active_element.send_keys("r" + Keys.CONTROL + "o" + Keys.NULL)
+    page.driver.execute_script(drops)
+    page.driver.switch_to.active_element.send_keys(Keys.ESCAPE)
+    page.keys(Keys.CONTROL + "o")
+    assert page.driver.execute_script("return window.opened") == 1
+    assert page.count("[data-tool=select][aria-pressed=true]") == 1
+    page.verdict("empty")
+    page.driver.execute_script(drops)
+    page.wait("the file", "return document.getElementById('text').value.includes('point P')")
+
+
 def test_panning_by_the_keyboard(page: Page) -> None:
     page.begin(TRIANGLE, "well")
     width = page.driver.execute_script(

@@ -12,11 +12,14 @@ export class Files {
   constructor(paper, keeping, shown) {
     Object.assign(this, { paper, keeping, shown });
     this.input.addEventListener('change', () => this.open(this.input.files[0]));
-    document.addEventListener('dragover', (event) => event.preventDefault());
-    document.addEventListener('drop', (event) => {
-      event.preventDefault();
-      this.open(event.dataTransfer.files[0]);
-    });
+    for (const what of ['dragover', 'drop']) document.addEventListener(what, (event) => this.drop(event));
+  }
+
+  /** A file is dropped on the page, or about to be; behind a dialog it is passed over. */
+  drop(event) {
+    if (!event.dataTransfer.types.includes('Files')) return;
+    event.preventDefault();
+    if (event.type === 'drop' && !document.querySelector('dialog[open]')) this.open(event.dataTransfer.files[0]);
   }
 
   /** Begins with a text, once what isn't saved is kept aside. */
@@ -32,7 +35,8 @@ export class Files {
   async open(file) {
     this.input.value = '';
     if (!file) return;
-    const found = await this.paper.ask('open', { name: file.name, data: await base64(file) });
+    const data = await base64(file);
+    const found = data === undefined ? { trouble: { message: `${file.name} can’t be read` } } : await this.paper.ask('open', { name: file.name, data });
     if (found.sketches) {
       const sketch = found.sketches.length === 1 ? found.sketches[0] : await chosen(file.name, found.sketches);
       if (sketch) await this.take(sketch);
@@ -88,14 +92,14 @@ async function chosen(title, drawings) {
   return drawings[await told(title, html('div', { class: 'gallery' }, ...buttons)) || -1];
 }
 
-/** The bytes of a file in base 64. */
+/** The bytes of a file in base 64; undefined where it can't be read. */
 async function base64(file) {
   const reader = new FileReader();
   await new Promise((done) => {
-    reader.onload = done;
+    reader.onloadend = done;
     reader.readAsDataURL(file);
   });
-  return reader.result.slice(reader.result.indexOf(',') + 1);
+  return reader.result?.slice(reader.result.indexOf(',') + 1);
 }
 
 /** Hands a text to the browser as a file. */
