@@ -39,7 +39,7 @@ export class Keeping {
   put({ text, name, saved, tab }) {
     if (!text.trim() || text === saved) return;
     const all = this.unsaved().filter((each) => each.text !== text && (!tab || each.tab !== tab));
-    this.store(ASIDE, [{ text, name: `${name}, unsaved`, tab }, ...all].slice(0, MOST_ASIDE));
+    this.store(ASIDE, [{ text, name: `${name.replace(/, unsaved$/, '')}, unsaved`, tab }, ...all].slice(0, MOST_ASIDE));
   }
 
   /** The drawings that were left unsaved. */
