@@ -282,7 +282,7 @@ def test_undo_to_the_start_and_redo(page: Page) -> None:
     page.keys(Keys.CONTROL + "z")
     page.verdict("empty")
     assert page.text() == "" and page.count(".edges [data-name]") == 0
-    assert not page.driver.find_element(By.ID, "undo").is_enabled()
+    assert page.driver.find_element(By.ID, "undo").get_attribute("aria-disabled") == "true"
     page.keys(Keys.CONTROL + "y", Keys.CONTROL + "y")
     page.verdict("open")
     assert page.text() == whole
@@ -293,9 +293,38 @@ def test_undo_waits_for_the_edit_before_it(page: Page) -> None:
     page.select("A")
     with page.held("edit"):
         page.keys(Keys.DELETE, Keys.CONTROL + "z")
-    page.wait("redo", "return !document.getElementById('redo').disabled")
+    page.wait("redo", "return document.getElementById('redo').ariaDisabled === 'false'")
     page.verdict("well")
     assert "segment A 0 0 40 0" in page.text()
+
+
+def test_undo_waits_for_the_very_first_edit(page: Page) -> None:
+    page.keys("p")
+    with page.held("edit"):
+        page.press(300, 300)
+        page.keys(Keys.CONTROL + "z")
+    page.wait("redo", "return document.getElementById('redo').ariaDisabled === 'false'")
+    page.verdict("empty")
+    assert page.text() == ""
+
+
+def test_clicks_before_the_answer_go_on_with_the_chain(page: Page) -> None:
+    page.keys("s")
+    with page.held("edit"):
+        for corner in ((260, 420), (620, 420), (500, 180)):
+            page.press(*corner)
+    page.wait("two", "return document.getElementById('text').value.includes('segment S2 S1.end')")
+    assert page.text().count("segment") == 2
+
+
+def test_a_level_segment_is_undone_at_once(page: Page) -> None:
+    page.keys("s")
+    page.press(260, 420)
+    page.press(620, 424, shift=True)
+    page.wait("level", "return document.getElementById('text').value.includes('horizontal S1')")
+    page.keys(Keys.CONTROL + "z")
+    page.verdict("empty")
+    assert page.text() == ""
 
 
 def test_what_is_typed_beside_an_edit_stays(page: Page) -> None:

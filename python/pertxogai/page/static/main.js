@@ -137,8 +137,8 @@ class Page {
     }
     this.verdict.show(answer);
     this.texts.show(answer);
-    byId('undo').disabled = !paper.history.can(-1);
-    byId('redo').disabled = !paper.history.can(1);
+    byId('undo').ariaDisabled = String(!paper.history.can(-1));
+    byId('redo').ariaDisabled = String(!paper.history.can(1));
     byId('redraw-all').disabled = !answer.judgement?.placed;
     document.title = `${paper.name}, a drawing board`;
   }

@@ -53,10 +53,7 @@ export class Paper extends EventTarget {
   /** Undoes (-1) or redoes (1), behind all that was asked before. */
   go(step) {
     const { history } = this;
-    return this.queue(() => {
-      history.go(step);
-      this.turned();
-    });
+    return this.queue(() => { if (history.go(step)) this.turned(); });
   }
 
   /** Another text stands, and is judged. */
