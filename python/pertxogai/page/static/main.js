@@ -79,7 +79,7 @@ class Page {
 
   /** The mouse was pressed so many times: twice on a dimension changes its value, once the clicks are through. Of a mark that is drawn anew between two presses the browser tells no double click. */
   pressed(times) {
-    if (times === 2 && !this.hand.draws) setTimeout(() => this.offers.change(...this.selection.numbers));
+    if (times === 2 && !this.hand.draws) setTimeout(() => this.offers.change(this.gestures.clicked));
   }
 
   /** Another drawing begins: nothing of the last is shown, held or selected. */

@@ -84,6 +84,14 @@ export class Paper extends EventTarget {
     return this.change((text) => (isNumbered && text !== seen ? { trouble: this.refused ?? CHANGED } : this.edited(text, edit)));
   }
 
+  /** Draws a figure, and asks for a constraint of its last shape if a word for it is given: one change. Gives whether it was taken. */
+  draw(edit, word) {
+    return this.change(async (text) => {
+      const answer = await this.edited(text, edit);
+      return word && answer.text ? this.edited(answer.text, { do: 'ask', words: [word, answer.drawing.shapes.at(-1).name] }) : answer;
+    });
+  }
+
   /** The text is drawn as it is placed, or as it is with the choices of some steps turned over. */
   redraw(steps) {
     return this.change((text) => this.server.call('redraw', { text, steps }));
