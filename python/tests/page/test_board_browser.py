@@ -9,7 +9,7 @@ import pytest
 pytest.importorskip("flask", reason="the board needs Debian's python3-flask")
 pytest.importorskip("selenium", reason="the browser is driven by Debian's python3-selenium")
 
-from boards import CHROMIUM, DRAWINGS, DRIVER, Served, drawing, served  # noqa: E402
+from boards import CHROMIUM, DRAWINGS, DRIVER, Served, drawing, served, wait_for  # noqa: E402
 from browsing import Page, browser  # noqa: E402
 from pertxogai.page.serving import leading_to  # noqa: E402
 from selenium.webdriver.common.by import By  # noqa: E402
@@ -402,6 +402,35 @@ def test_of_two_drags_before_the_answer_both_count(page: Page) -> None:
             x, y = page.at(name)
             page.press(x, y, to=(x + 60, y - 40))
     page.wait("both", "return !/ 40 (0|20)$/m.test(document.getElementById('text').value)")
+
+
+def test_a_drag_that_the_browser_ends_leaves_the_drawing(page: Page) -> None:
+    page.begin("drawing 1\nsegment A 0 0 40 0\n", "open")
+    x, y = _dragged(page, "A.end")
+    page.driver.execute_script(
+        "document.getElementById('board').dispatchEvent(new PointerEvent('pointercancel'))")
+    wait_for("as it was", lambda: page.at("A.end") == pytest.approx((x, y), abs=1))
+    page.let_go()
+    page.settled()
+    assert page.text() == "drawing 1\nsegment A 0 0 40 0\n"
+
+
+def test_what_is_left_out_is_told_behind_a_drag(page: Page) -> None:
+    with page.held("weigh"):
+        page.begin(TRIANGLE + "length A 41\n", "over")
+        place = _dragged(page, "B.end")
+    page.settled()
+    assert page.at("B.end") != pytest.approx(place, abs=1)
+    page.let_go()
+    page.tells("contradiction by 1 mm")
+
+
+def _dragged(page: Page, name: str) -> tuple[float, float]:
+    """Drags a point, and holds it; gives where it was."""
+    x, y = page.at(name)
+    page.press(x, y, to=(x + 60, y - 40), lets_go=False)
+    wait_for("dragged", lambda: page.at(name) != pytest.approx((x, y), abs=1))
+    return x, y
 
 
 def test_everything_by_the_keyboard(page: Page) -> None:
