@@ -68,6 +68,21 @@ class Page:
         return [each["message"] for each in self.driver.get_log("browser")
                 if each["level"] == "SEVERE" and "ERR_CONNECTION" not in each["message"]]
 
+    @contextmanager
+    def held(self, call: str) -> Iterator[None]:
+        """Holds back all that the server answers to a call, until it is left."""
+        self.driver.execute_script(
+            "const { fetch } = window, held = `call/${arguments[0]}`; let release;"
+            "const released = new Promise((done) => { release = done; });"
+            "window.fetch = async (path, options) => { const response = await fetch(path, options);"
+            "  if (path === held) { window.isHeld = true; await released; }"
+            "  return response; };"
+            "window.release = () => {"
+            "  Object.assign(window, { fetch, isHeld: false }); release(); };", call)
+        yield
+        self.wait("an answer that is held", "return window.isHeld !== undefined")
+        self.driver.execute_script("window.release()")
+
     # What a hand does.
 
     def keys(self, *keys: str) -> None:
@@ -80,9 +95,10 @@ class Page:
         """Clicks a button."""
         self.driver.find_element(By.CSS_SELECTOR, selector).click()
 
-    def press(self, x: float, y: float, shift: bool = False, to: tuple[float, float] | None = None
-              ) -> None:
-        """Presses the mouse on the board at a place in pixels, or drags it to another."""
+    def press(self, x: float, y: float, shift: bool = False, to: tuple[float, float] | None = None,
+              lets_go: bool = True) -> None:
+        """Presses the mouse on the board at a place in pixels, or drags it to another, and lets
+        go there or doesn't."""
         board = self.driver.find_element(By.ID, "board")
         half = board.size["width"] / 2, board.size["height"] / 2
         chain = ActionChains(self.driver, duration=30)
@@ -97,10 +113,15 @@ class Page:
                 chain.move_to_element_with_offset(
                     board, round(x + (to[0] - x) * share - half[0]),
                     round(y + (to[1] - y) * share - half[1]))
-            chain.release()
+            if lets_go:
+                chain.release()
         if shift:
             chain.key_up(Keys.SHIFT)
         chain.perform()
+
+    def let_go(self) -> None:
+        """Lets go of the mouse where it is."""
+        ActionChains(self.driver, duration=30).release().perform()
 
     def press_twice(self, selector: str) -> None:
         """Presses the mouse twice on a node, as fast as counts for a double click."""

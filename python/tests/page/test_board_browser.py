@@ -9,7 +9,7 @@ import pytest
 pytest.importorskip("flask", reason="the board needs Debian's python3-flask")
 pytest.importorskip("selenium", reason="the browser is driven by Debian's python3-selenium")
 
-from boards import CHROMIUM, DRAWINGS, DRIVER, Served, drawing, served  # noqa: E402
+from boards import CHROMIUM, DRAWINGS, DRIVER, Served, drawing, served, wait_for  # noqa: E402
 from browsing import Page, browser  # noqa: E402
 from pertxogai.page.serving import leading_to  # noqa: E402
 from selenium.webdriver.common.by import By  # noqa: E402
@@ -27,6 +27,10 @@ segment C B.end A.start
 length A 40
 length B 36
 length C 35
+"""
+
+TYPED = """const area = document.getElementById('text'); area.focus(); area.value = arguments[0];
+area.dispatchEvent(new Event('input'));
 """
 
 
@@ -159,6 +163,42 @@ def test_one_too_many_is_taken_away_again(page: Page) -> None:
     assert "Top width:" not in page.text()
 
 
+def test_of_two_taken_away_before_the_answer_one_goes(page: Page) -> None:
+    page.begin(TRIANGLE + "length A 41\n", "over")
+    with page.held("edit"):
+        page.click("#verdict [data-spare] button")
+        page.click("#verdict [data-spare]:last-child button")
+    _told_to_choose_again(page)
+    assert page.text().count("length") == 3
+
+
+def test_a_constraint_that_is_typed_above_leaves_those_below_it(page: Page) -> None:
+    over = TRIANGLE + "length A 41\n"
+    page.begin(over, "over")
+    typed = over.replace("length A 40", "horizontal A\nlength A 40")
+    with page.held("judge"):
+        page.type(typed)
+        page.click("#verdict [data-spare] button")
+    _told_to_choose_again(page)
+    assert page.text() == typed
+
+
+def _told_to_choose_again(page: Page) -> None:
+    page.wait("told", "return document.getElementById('hint').textContent"
+                      " === 'the drawing has changed: choose again'")
+
+
+def test_an_edit_stays_with_its_drawing(page: Page) -> None:
+    page.begin(TRIANGLE, "well")
+    page.select("A")
+    with page.held("edit"):
+        page.keys(Keys.ALT + Keys.ARROW_RIGHT)
+        page.click("#new")
+        page.wait("an empty board", "return !document.querySelector('.edges [data-name]')")
+    page.verdict("empty")
+    assert page.text() == "" and page.driver.find_element(By.ID, "erase").is_displayed() is False
+
+
 def test_a_fault_is_shown_at_its_place(page: Page) -> None:
     page.begin(TRIANGLE.replace("length C 35", "length C 3"), "fault")
     assert "It misses by" in page.told() and "mm²" in page.told()
@@ -242,7 +282,7 @@ def test_undo_to_the_start_and_redo(page: Page) -> None:
     page.keys(Keys.CONTROL + "z")
     page.verdict("empty")
     assert page.text() == "" and page.count(".edges [data-name]") == 0
-    assert not page.driver.find_element(By.ID, "undo").is_enabled()
+    assert page.driver.find_element(By.ID, "undo").get_attribute("aria-disabled") == "true"
     page.keys(Keys.CONTROL + "y", Keys.CONTROL + "y")
     page.verdict("open")
     assert page.text() == whole
@@ -251,19 +291,74 @@ def test_undo_to_the_start_and_redo(page: Page) -> None:
 def test_undo_waits_for_the_edit_before_it(page: Page) -> None:
     page.begin(TRIANGLE, "well")
     page.select("A")
-    page.keys(Keys.DELETE, Keys.CONTROL + "z")
-    page.wait("redo", "return !document.getElementById('redo').disabled")
+    with page.held("edit"):
+        page.keys(Keys.DELETE, Keys.CONTROL + "z")
+    page.wait("redo", "return document.getElementById('redo').ariaDisabled === 'false'")
     page.verdict("well")
     assert "segment A 0 0 40 0" in page.text()
+
+
+def test_undo_waits_for_the_very_first_edit(page: Page) -> None:
+    page.keys("p")
+    with page.held("edit"):
+        page.press(300, 300)
+        page.keys(Keys.CONTROL + "z")
+    page.wait("redo", "return document.getElementById('redo').ariaDisabled === 'false'")
+    page.verdict("empty")
+    assert page.text() == ""
+
+
+def test_clicks_before_the_answer_go_on_with_the_chain(page: Page) -> None:
+    page.keys("s")
+    with page.held("edit"):
+        for corner in ((260, 420), (620, 420), (500, 180)):
+            page.press(*corner)
+    page.wait("two", "return document.getElementById('text').value.includes('segment S2 S1.end')")
+    assert page.text().count("segment") == 2
+
+
+def test_a_level_segment_is_undone_at_once(page: Page) -> None:
+    page.keys("s")
+    page.press(260, 420)
+    page.press(620, 424, shift=True)
+    page.wait("level", "return document.getElementById('text').value.includes('horizontal S1')")
+    page.keys(Keys.CONTROL + "z")
+    page.verdict("empty")
+    assert page.text() == ""
 
 
 def test_what_is_typed_beside_an_edit_stays(page: Page) -> None:
     page.begin(TRIANGLE, "well")
     page.select("A")
-    page.keys(Keys.ALT + Keys.ARROW_RIGHT)
-    page.type(TRIANGLE + "horizontal A\n")
+    with page.held("edit"):
+        page.keys(Keys.ALT + Keys.ARROW_RIGHT)
+        page.type(TRIANGLE + "horizontal A\n")
+    _a_has_moved_and_is_level(page)
+
+
+def test_what_was_typed_just_before_the_answer_to_an_edit_stays(page: Page) -> None:
+    page.begin(TRIANGLE, "well")
+    page.select("A")
+    with page.held("edit"):
+        page.keys(Keys.ALT + Keys.ARROW_RIGHT)
+        page.wait("an answer", "return window.isHeld")
+        page.driver.execute_script(TYPED + "window.release();", TRIANGLE + "horizontal A\n")
+    _a_has_moved_and_is_level(page)
+
+
+def _a_has_moved_and_is_level(page: Page) -> None:
     page.wait("judged", "return document.querySelectorAll('.marks [data-constraint]').length > 3")
     assert page.text().endswith("length C 35\nhorizontal A\n")
+    assert "segment A " in page.text() and "segment A 0 0 40 0" not in page.text()
+
+
+def test_what_was_typed_just_before_is_saved_and_kept(page: Page) -> None:
+    page.driver.execute_script(TYPED + "document.getElementById('save').click();", TRIANGLE)
+    assert page.downloaded("drawing.drawing").decode() == TRIANGLE
+    kept = page.driver.execute_script(
+        TYPED + "window.dispatchEvent(new Event('pagehide'));"
+        "return localStorage['pertxogai.drawing'];", TRIANGLE + "horizontal A\n")
+    assert "horizontal A" in str(kept)
 
 
 def test_a_refused_line_is_marked_with_what_to_do(page: Page) -> None:
@@ -300,6 +395,44 @@ def test_a_point_is_dragged_and_a_dimension_changed(page: Page) -> None:
               "return document.getElementById('text').value.includes('diameter C 12.7')")
 
 
+def test_of_two_drags_before_the_answer_both_count(page: Page) -> None:
+    page.begin("drawing 1\nsegment A 0 0 40 0\nsegment B 0 20 40 20\n", "open")
+    with page.held("edit"):
+        for name in ("A.end", "B.end"):
+            x, y = page.at(name)
+            page.press(x, y, to=(x + 60, y - 40))
+    page.wait("both", "return !/ 40 (0|20)$/m.test(document.getElementById('text').value)")
+
+
+def test_a_drag_that_the_browser_ends_leaves_the_drawing(page: Page) -> None:
+    page.begin("drawing 1\nsegment A 0 0 40 0\n", "open")
+    x, y = _dragged(page, "A.end")
+    page.driver.execute_script(
+        "document.getElementById('board').dispatchEvent(new PointerEvent('pointercancel'))")
+    wait_for("as it was", lambda: page.at("A.end") == pytest.approx((x, y), abs=1))
+    page.let_go()
+    page.settled()
+    assert page.text() == "drawing 1\nsegment A 0 0 40 0\n"
+
+
+def test_what_is_left_out_is_told_behind_a_drag(page: Page) -> None:
+    with page.held("weigh"):
+        page.begin(TRIANGLE + "length A 41\n", "over")
+        place = _dragged(page, "B.end")
+    page.settled()
+    assert page.at("B.end") != pytest.approx(place, abs=1)
+    page.let_go()
+    page.tells("contradiction by 1 mm")
+
+
+def _dragged(page: Page, name: str) -> tuple[float, float]:
+    """Drags a point, and holds it; gives where it was."""
+    x, y = page.at(name)
+    page.press(x, y, to=(x + 60, y - 40), lets_go=False)
+    wait_for("dragged", lambda: page.at(name) != pytest.approx((x, y), abs=1))
+    return x, y
+
+
 def test_everything_by_the_keyboard(page: Page) -> None:
     page.keys("s", *[Keys.ARROW_LEFT] * 6, Keys.ENTER, *[Keys.ARROW_RIGHT] * 12, Keys.ENTER)
     page.wait("a segment", "return document.querySelectorAll('.edges [data-name]').length === 1")
@@ -320,6 +453,26 @@ def test_everything_by_the_keyboard(page: Page) -> None:
     page.wait("a drawing has the focus", "return document.activeElement.matches('#dialog .gallery button')")
     page.driver.switch_to.active_element.send_keys(Keys.ENTER)
     page.wait("a drawing is taken", "return document.getElementById('text').value !== ''")
+
+
+def test_behind_a_dialog_nothing_is_drawn_or_opened(page: Page) -> None:
+    page.driver.execute_script(
+        "window.opened = 0; document.getElementById('file').addEventListener('click', (event) => {"
+        "  event.preventDefault(); window.opened += 1; });")
+    drops = ("const dataTransfer = new DataTransfer();"
+             "dataTransfer.items.add(new File(['point P 0 0\\n'], 'P.drawing'));"
+             "document.body.dispatchEvent(new DragEvent('drop',"
+             " { dataTransfer, bubbles: true, cancelable: true }));")
+    page.keys("?")
+    page.driver.switch_to.active_element.send_keys("r" + Keys.CONTROL + "o" + Keys.NULL)
+    page.driver.execute_script(drops)
+    page.driver.switch_to.active_element.send_keys(Keys.ESCAPE)
+    page.keys(Keys.CONTROL + "o")
+    assert page.driver.execute_script("return window.opened") == 1
+    assert page.count("[data-tool=select][aria-pressed=true]") == 1
+    page.verdict("empty")
+    page.driver.execute_script(drops)
+    page.wait("the file", "return document.getElementById('text').value.includes('point P')")
 
 
 def test_panning_by_the_keyboard(page: Page) -> None:

@@ -7,7 +7,7 @@ import { Shown } from './shown.js';
 import { pathOf, shapeMade, pointMade, stillMade, middleOf, line, ring } from './shapes.js';
 
 const LAYERS = ['grid', 'drawn', 'edges', 'other', 'marks', 'dots', 'names', 'joints', 'faults'];
-const NOTHING = { drawing: { shapes: [], constraints: [], marks: [] }, judgement: null };
+export const NOTHING = { drawing: { shapes: [], constraints: [], marks: [] }, judgement: null };
 
 /** Draws answers on an SVG node. */
 export class Board {

@@ -17,22 +17,33 @@ export class Server {
     const asked = { method: 'POST', headers: { 'Content-Type': 'application/json' }, body: JSON.stringify(given) };
     for (let turn = 0; ; turn += 1) {
       const response = await this.reached(`call/${name}`, asked);
-      if (response.status !== 503 || turn === 40) return response.json();
+      if (response.status !== 503 || turn === 40) return this.read(response);
       await new Promise((done) => { setTimeout(done, 50 + 10 * turn); });
     }
   }
 
   /** The drawings to begin from. Throws Stopped. */
   async gallery() {
-    return (await (await this.reached('gallery')).json()).drawings;
+    return (await this.read(await this.reached('gallery'))).drawings;
   }
 
   /** The response of the server. Throws Stopped. */
   async reached(path, options = {}) {
     const response = await fetch(path, options).catch(() => null);
-    const why = response === null ? STOPPED : response.status === 403 ? ANEW : '';
-    this.tell(why);
-    if (why) throw new Stopped();
+    if (response === null) this.stop(STOPPED);
+    if (response.status === 403) this.stop(ANEW);
+    this.tell('');
     return response;
+  }
+
+  /** What a response says; one that breaks off is of a server that was stopped. Throws Stopped. */
+  read(response) {
+    return response.json().catch(() => this.stop(STOPPED));
+  }
+
+  /** Tells why the server isn't there. Throws Stopped. */
+  stop(why) {
+    this.tell(why);
+    throw new Stopped();
   }
 }

@@ -8,19 +8,23 @@ const ENDINGS = { dxf: '.dxf', 'program-dxf': '-program.dxf', svg: '.svg', sketc
 export class Files {
   input = byId('file');
 
-  /** `shown`: what is done once another drawing has begun. */
+  /** `shown`: what is done once another drawing is shown. */
   constructor(paper, keeping, shown) {
     Object.assign(this, { paper, keeping, shown });
     this.input.addEventListener('change', () => this.open(this.input.files[0]));
-    document.addEventListener('dragover', (event) => event.preventDefault());
-    document.addEventListener('drop', (event) => {
-      event.preventDefault();
-      this.open(event.dataTransfer.files[0]);
-    });
+    for (const what of ['dragover', 'drop']) document.addEventListener(what, (event) => this.drop(event));
+  }
+
+  /** A file is dropped on the page, or about to be; behind a dialog it is passed over. */
+  drop(event) {
+    if (!event.dataTransfer.types.includes('Files')) return;
+    event.preventDefault();
+    if (event.type === 'drop' && !document.querySelector('dialog[open]')) this.open(event.dataTransfer.files[0]);
   }
 
   /** Begins with a text, once what isn't saved is kept aside. */
   async begin(text, name) {
+    this.paper.settle();
     this.keeping.put(this.paper);
     byId('name').value = name;
     await this.paper.begin(text, name);
@@ -31,7 +35,8 @@ export class Files {
   async open(file) {
     this.input.value = '';
     if (!file) return;
-    const found = await this.paper.ask('open', { name: file.name, data: await base64(file) });
+    const data = await base64(file);
+    const found = data === undefined ? { trouble: { message: `${file.name} can’t be read` } } : await this.paper.ask('open', { name: file.name, data });
     if (found.sketches) {
       const sketch = found.sketches.length === 1 ? found.sketches[0] : await chosen(file.name, found.sketches);
       if (sketch) await this.take(sketch);
@@ -55,20 +60,29 @@ export class Files {
 
   /** Saves the drawing's text. */
   save() {
-    this.paper.saved = this.paper.text;
+    const text = this.paper.saved = this.paper.settle();
     this.keeping.keep();
-    download(`${this.paper.name}.drawing`, this.paper.text);
+    download(`${this.paper.name}.drawing`, text);
   }
 
   /** Exports what is shown. */
   async export(kind) {
     byId('export').open = false;
-    const { name, text, answer } = this.paper;
+    const { name } = this.paper;
+    const text = this.paper.settle();
     const call = { claim: 'verify' }[kind] ?? kind;
-    const found = kind === 'sketch' ? { sketch: answer?.judgement?.language } : await this.paper.ask(call, { text, name, release: 'R2010' });
+    const found = kind === 'sketch' ? await this.language(text) : await this.paper.ask(call, { text, name, release: 'R2010' });
     const content = found[{ 'program-dxf': 'dxf' }[kind] ?? kind];
     if (content) download(name + ENDINGS[kind], content);
     else if (found) this.paper.tell('trouble', (found.trouble ?? found.refused)?.message ?? 'there is nothing to export yet');
+  }
+
+  /** The sketch of a text, once it is judged. */
+  language(text) {
+    return this.paper.queue(() => {
+      const { answer, refused } = this.paper;
+      return { sketch: answer?.text === text && !refused && answer.judgement?.language, refused };
+    });
   }
 }
 
@@ -78,14 +92,14 @@ async function chosen(title, drawings) {
   return drawings[await told(title, html('div', { class: 'gallery' }, ...buttons)) || -1];
 }
 
-/** The bytes of a file in base 64. */
+/** The bytes of a file in base 64; undefined where it can't be read. */
 async function base64(file) {
   const reader = new FileReader();
   await new Promise((done) => {
-    reader.onload = done;
+    reader.onloadend = done;
     reader.readAsDataURL(file);
   });
-  return reader.result.slice(reader.result.indexOf(',') + 1);
+  return reader.result?.slice(reader.result.indexOf(',') + 1);
 }
 
 /** Hands a text to the browser as a file. */

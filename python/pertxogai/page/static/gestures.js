@@ -10,12 +10,15 @@ const DATUM = ['Origin', 'XAxis', 'YAxis'];
 /** Turns what a hand does on the board into selections and edits. */
 export class Gestures {
   pressed = null;
+  /** What was clicked last: the name of a point or shape, the number of a constraint. */
+  clicked = null;
+  pressing = Promise.resolve();
 
   constructor(board, paper, selection, hand, tell) {
     Object.assign(this, { board, paper, selection, hand, tell });
     const { node } = board;
     for (const what of ['down', 'move', 'up']) node.addEventListener(`pointer${what}`, (event) => this[what](event, this.at(event)));
-    node.addEventListener('pointercancel', () => { this.pressed = null; });
+    node.addEventListener('pointercancel', () => this.cancel());
     node.addEventListener('wheel', (event) => this.wheel(event), { passive: false });
   }
 
@@ -48,7 +51,7 @@ export class Gestures {
     const name = event.target.closest('[data-name]')?.dataset.name;
     const number = Number(event.target.closest('[data-constraint]')?.dataset.constraint);
     const pans = event.button === 1 || (!name && !number && !this.hand.draws);
-    this.pressed = { at, last: at, thing: name ?? number, pans, moved: false, text: this.paper.text, edit: null };
+    this.pressed = { at, last: at, thing: name ?? number, pans, moved: false, edit: null };
   }
 
   /** The pointer moves: it pans, drags, or shows what a click would draw. */
@@ -93,9 +96,16 @@ export class Gestures {
     const { pressed } = this;
     this.pressed = null;
     if (!pressed) return;
-    if (pressed.moved && pressed.edit && pressed.text === this.paper.text) this.paper.preview(pressed.edit, true);
+    if (pressed.edit) this.paper.land(pressed.edit);
     else if (this.hand.draws && event.button === 0) this.press(at, event.shiftKey);
     else if (!pressed.moved) this.select(pressed.thing, event.shiftKey);
+    this.clicked = pressed.moved ? null : pressed.thing;
+  }
+
+  /** The browser takes the pointer away: what was dragged stays where it was. */
+  cancel() {
+    this.pressed = null;
+    this.paper.drop();
   }
 
   /** Selects what was clicked; a click beside all selects nothing. */
@@ -104,17 +114,23 @@ export class Gestures {
     else if (!more) this.selection.set([]);
   }
 
-  /** A click of a tool that draws. */
-  async press(pixels, shift) {
+  /** A click of a tool that draws counts once what was clicked before it is drawn. */
+  press(pixels, shift) {
+    const next = () => this.draw(pixels, shift);
+    this.pressing = this.pressing.then(next, next);
+  }
+
+  /** Draws by a click. */
+  async draw(pixels, shift) {
     const { hand, paper } = this;
+    if (!hand.draws) return;
     const { spot, at, near, level } = this.spot(pixels, shift);
     const isChain = hand.clicks.length === 1 && hand.tool === 'segment';
     const edit = hand.click(spot, at);
+    const { clicks } = hand;
     this.showHand(pixels, shift);
-    if (!edit || !await paper.edit(edit)) return;
-    const made = paper.answer.drawing.shapes.at(-1).name;
-    if (level && isChain) await paper.edit({ do: 'ask', words: [level, made] });
-    if (isChain && !near && hand.tool === 'segment' && !hand.clicks.length) hand.click({ point: `${made}.end` }, at);
+    if (!edit || !await paper.draw(edit, isChain && level) || hand.clicks !== clicks) return;
+    if (isChain && !near) hand.click({ point: `${paper.answer.drawing.shapes.at(-1).name}.end` }, at);
     this.showHand(pixels, shift);
   }
 

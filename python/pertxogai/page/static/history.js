@@ -25,8 +25,10 @@ export class History {
     return this.place + step in this.texts;
   }
 
-  /** Goes a step back (-1) or forth (1). */
+  /** Goes a step back (-1) or forth (1); gives whether there was one. */
   go(step) {
-    if (this.can(step)) this.place += step;
+    const can = this.can(step);
+    if (can) this.place += step;
+    return can;
   }
 }

@@ -15,7 +15,10 @@ export class Keeping {
     paper.addEventListener('text', () => this.keep());
     this.channel.addEventListener('message', (event) => this.heard(event.data));
     this.channel.postMessage({ here: this.tab });
-    window.addEventListener('beforeunload', () => this.keep());
+    for (const what of ['beforeunload', 'pagehide']) window.addEventListener(what, () => {
+      paper.settle();
+      this.keep();
+    });
     window.addEventListener('pagehide', () => this.channel.postMessage({ gone: this.tab }));
   }
 
@@ -36,7 +39,7 @@ export class Keeping {
   put({ text, name, saved, tab }) {
     if (!text.trim() || text === saved) return;
     const all = this.unsaved().filter((each) => each.text !== text && (!tab || each.tab !== tab));
-    this.store(ASIDE, [{ text, name: `${name}, unsaved`, tab }, ...all].slice(0, MOST_ASIDE));
+    this.store(ASIDE, [{ text, name: `${name.replace(/, unsaved$/, '')}, unsaved`, tab }, ...all].slice(0, MOST_ASIDE));
   }
 
   /** The drawings that were left unsaved. */

@@ -4,7 +4,7 @@ import { closed } from './dialogs.js';
 import { Server } from './calls.js';
 import { Paper } from './paper.js';
 import { Selection } from './selection.js';
-import { Board } from './board.js';
+import { Board, NOTHING } from './board.js';
 import { Gestures } from './gestures.js';
 import { Hand } from './tools.js';
 import { Offers } from './offers.js';
@@ -36,7 +36,7 @@ class Page {
     this.asked = new Asked(paper, this.selection, this.offers);
     this.steps = new Steps(paper, this.board);
     this.keeping = new Keeping(paper, banner);
-    this.files = new Files(paper, this.keeping, () => this.shown());
+    this.files = new Files(paper, this.keeping, () => this.board.fit());
     this.keys = new Keys(this);
     this.tabs = new Tabs();
     this.acts = this.buttons(this);
@@ -56,6 +56,7 @@ class Page {
   /** Listens to the parts, and shows what was kept. */
   begin() {
     const { paper, keeping } = this;
+    paper.addEventListener('begin', () => this.leave());
     paper.addEventListener('answer', (event) => this.show(event.detail));
     paper.addEventListener('trouble', (event) => hint(event.detail));
     document.addEventListener('click', (event) => this.click(event.target.closest('button')));
@@ -64,7 +65,7 @@ class Page {
     this.take('select');
     const { text = '', name = 'drawing', saved = '' } = keeping.kept() ?? {};
     byId('name').value = name;
-    paper.begin(text, name, saved).then(() => this.shown());
+    paper.begin(text, name, saved).then(() => this.board.fit());
   }
 
   /** A button is clicked. */
@@ -78,13 +79,15 @@ class Page {
 
   /** The mouse was pressed so many times: twice on a dimension changes its value, once the clicks are through. Of a mark that is drawn anew between two presses the browser tells no double click. */
   pressed(times) {
-    if (times === 2 && !this.hand.draws) setTimeout(() => this.offers.change(...this.selection.numbers));
+    if (times === 2 && !this.hand.draws) setTimeout(() => this.offers.change(this.gestures.clicked));
   }
 
-  /** Another drawing has begun. */
-  shown() {
+  /** Another drawing begins: nothing of the last is shown, held or selected. */
+  leave() {
+    this.gestures.pressed = null;
+    this.board.show(NOTHING);
     this.selection.set([]);
-    this.board.fit();
+    this.take(this.hand.tool);
   }
 
   /** Hears why the server isn't there, if it isn't; once it is again, the drawing is judged. */
@@ -134,8 +137,8 @@ class Page {
     }
     this.verdict.show(answer);
     this.texts.show(answer);
-    byId('undo').disabled = !paper.history.can(-1);
-    byId('redo').disabled = !paper.history.can(1);
+    byId('undo').ariaDisabled = String(!paper.history.can(-1));
+    byId('redo').ariaDisabled = String(!paper.history.can(1));
     byId('redraw-all').disabled = !answer.judgement?.placed;
     document.title = `${paper.name}, a drawing board`;
   }

@@ -78,17 +78,19 @@ export class Offers {
   async change(number) {
     const constraint = this.constraint(number);
     if (!constraint?.value) return;
+    const { text } = this.paper.answer;
     const value = await typed(constraint.called, constraint.value, this.place(number));
-    if (value !== null) await this.paper.edit({ do: 'value', number, value });
+    if (value !== null) await this.paper.edit({ do: 'value', number, value }, text);
   }
 
   /** Gives what is selected another name. */
   async rename() {
     const { shapes: [shape], numbers: [number] } = this.selected();
-    const old = number ? this.constraint(number).name ?? '' : shape.name;
+    const old = number ? this.constraint(number)?.name ?? '' : shape.name;
+    const { text } = this.paper.answer;
     const name = await typed(number ? 'name of the constraint' : 'name', old, this.place(number));
     if (name === null) return;
-    if (number) await this.paper.edit({ do: 'call', number, name });
+    if (number) await this.paper.edit({ do: 'call', number, name }, text);
     else if (await this.paper.edit({ do: 'rename', old, new: name })) this.selection.set([name]);
   }
 

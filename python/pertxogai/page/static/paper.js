@@ -2,7 +2,9 @@
 import { History } from './history.js';
 import { Stopped } from './calls.js';
 
-/** A drawing that is worked on. Listeners hear 'answer', 'trouble', 'text'. */
+const CHANGED = { message: 'the drawing has changed: choose again' };
+
+/** A drawing that is worked on. Listeners hear 'begin', 'answer', 'trouble', 'text', and 'settle' where what is being typed is to count. */
 export class Paper extends EventTarget {
   history = new History('');
   name = 'drawing';
@@ -12,7 +14,7 @@ export class Paper extends EventTarget {
   refused = null;
   /** What was told of the text that stands. */
   said = null;
-  /** What is being done; the edit that a hand makes while it moves, and the last that was shown. */
+  /** What is being done; the edit that a hand makes while it moves, and the last that was shown, of which text. */
   waiting = Promise.resolve();
   live = null;
   seen = null;
@@ -30,8 +32,15 @@ export class Paper extends EventTarget {
 
   /** Begins with a text, under a name. */
   begin(text, name, saved = text) {
-    Object.assign(this, { history: new History(text), name, saved });
+    Object.assign(this, { history: new History(text), name, saved, answer: null, refused: null, said: null, live: null, seen: null });
+    this.tell('begin');
     return this.turned();
+  }
+
+  /** The text as it stands, with all that was typed. */
+  settle() {
+    this.tell('settle');
+    return this.text;
   }
 
   /** Takes a text that was typed. */
@@ -43,10 +52,8 @@ export class Paper extends EventTarget {
 
   /** Undoes (-1) or redoes (1), behind all that was asked before. */
   go(step) {
-    return this.queue(() => {
-      this.history.go(step);
-      this.turned();
-    });
+    const { history } = this;
+    return this.queue(() => { if (history.go(step)) this.turned(); });
   }
 
   /** Another text stands, and is judged. */
@@ -71,9 +78,18 @@ export class Paper extends EventTarget {
     return this.queue(() => this.server.call(call, given));
   }
 
-  /** Edits the text that stands by one edit of the server's. Gives whether it was taken. */
-  edit(edit) {
-    return this.change((text) => this.edited(text, edit));
+  /** Edits the text that stands by one edit of the server's; by numbers of constraints only the text in which they were seen. Gives whether it was taken. */
+  edit(edit, seen = this.answer?.text) {
+    const isNumbered = edit.number || edit.constraints?.length;
+    return this.change((text) => (isNumbered && text !== seen ? { trouble: this.refused ?? CHANGED } : this.edited(text, edit)));
+  }
+
+  /** Draws a figure, and asks for a constraint of its last shape if a word for it is given: one change. Gives whether it was taken. */
+  draw(edit, word) {
+    return this.change(async (text) => {
+      const answer = await this.edited(text, edit);
+      return word && answer.text ? this.edited(answer.text, { do: 'ask', words: [word, answer.drawing.shapes.at(-1).name] }) : answer;
+    });
   }
 
   /** The text is drawn as it is placed, or as it is with the choices of some steps turned over. */
@@ -81,14 +97,16 @@ export class Paper extends EventTarget {
     return this.change((text) => this.server.call('redraw', { text, steps }));
   }
 
-  /** Changes the text that stands by a call; where another was typed meanwhile, that one. Gives whether it was taken. */
+  /** Changes the text that stands by a call; where another was typed meanwhile, that one; where another drawing has begun, none. Gives whether it was taken. */
   change(call) {
+    const { history } = this;
     return this.queue(async () => {
-      for (;;) {
-        const { text } = this;
+      while (this.history === history) {
+        const text = this.settle();
         const answer = await call(text);
-        if (this.text === text) return this.takeChange(answer);
+        if (this.history === history && this.settle() === text) return this.takeChange(answer);
       }
+      return false;
     });
   }
 
@@ -99,26 +117,28 @@ export class Paper extends EventTarget {
     return known ? completed(answer, known) : answer;
   }
 
-  /** Shows what an edit would make, while a hand moves: only the last of several is asked for. With `lands` the hand lets go, and the edit counts. */
-  preview(edit, lands = false) {
-    const busy = this.live !== null;
-    this.live = { edit, base: this.text, lands };
-    if (!busy) this.queue(() => this.previews());
+  /** Shows what an edit would make, while a hand moves; of several that wait, the last counts. */
+  preview(edit) {
+    this.live = edit;
+    return this.queue(async () => {
+      if (this.live !== edit) return;
+      const { text } = this;
+      const answer = await this.edited(text, edit);
+      this.seen = { edit, text, answer };
+      if (this.live && this.text === text && answer.drawing) this.tell('answer', answer);
+    });
   }
 
-  /** Shows one preview after the other, until none waits. What was asked for once isn't asked for again. */
-  async previews() {
-    let { seen } = this;
-    while (this.live) {
-      const { edit, base } = this.live;
-      if (seen?.edit !== edit) seen = { edit, answer: await this.edited(base, edit) };
-      const isLast = this.live.edit === edit;
-      if (this.text === base && isLast && this.live.lands) this.takeChange(seen.answer);
-      else if (this.text === base && seen.answer.drawing) this.tell('answer', seen.answer);
-      if (isLast) break;
-    }
-    this.seen = seen;
+  /** The hand lets go, and its edit counts. What was shown isn't asked for again. */
+  land(edit) {
     this.live = null;
+    return this.change((text) => (this.seen?.edit === edit && this.seen.text === text ? this.seen.answer : this.edited(text, edit)));
+  }
+
+  /** The hand gives up: what is said of the text that stands is shown again. */
+  drop() {
+    this.live = null;
+    this.queue(() => { if (this.said) this.tell('answer', this.said); });
   }
 
   /** Takes the answer of a call that changes the text; gives whether it does. */
@@ -150,15 +170,12 @@ export class Paper extends EventTarget {
     const found = await this.server.call('weigh', { text }).catch(ended);
     if (!found?.spare || this.answer !== answer || this.refused) return;
     Object.assign(answer.judgement, found);
-    this.tell('answer', answer);
+    if (!this.live) this.tell('answer', answer);
   }
 
   /** Does one thing after the other; gives false of what the stopped server kept from being done. */
   queue(act) {
-    const done = this.waiting.then(act).catch((error) => {
-      this.live = null;
-      return ended(error);
-    });
+    const done = this.waiting.then(act).catch(ended);
     this.waiting = done.catch(() => {});
     return done;
   }

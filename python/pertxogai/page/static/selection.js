@@ -2,6 +2,8 @@
 export class Selection extends EventTarget {
   names = new Set();
   numbers = new Set();
+  /** How many constraints there are. */
+  length = 0;
 
   /** Whether nothing is selected. */
   get isEmpty() {
@@ -23,12 +25,14 @@ export class Selection extends EventTarget {
     this.set(names, numbers);
   }
 
-  /** Forgets what no longer stands. */
-  keep({ shapes, constraints }) {
+  /** Forgets what no longer stands; where there are more or fewer constraints, their numbers too. */
+  keep({ shapes, constraints: { length } }) {
+    const isSame = length === this.length;
+    this.length = length;
     if (this.isEmpty) return;
     const stands = new Set(namesOf(shapes));
     const names = [...this.names].filter((name) => stands.has(name));
-    const numbers = [...this.numbers].filter((number) => number <= constraints.length);
+    const numbers = isSame ? [...this.numbers] : [];
     if (names.length + numbers.length < this.names.size + this.numbers.size) this.set(names, numbers);
   }
 }

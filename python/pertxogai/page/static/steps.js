@@ -50,10 +50,12 @@ export class Steps {
     const { text, answer, refused } = this.paper;
     if (text === this.text) return;
     this.leave();
+    if (answer?.text !== text && !refused) return;
     this.text = text;
     const isPlaced = answer?.judgement?.placed && !refused;
     const found = isPlaced ? await this.paper.ask('plan', { text }) : {};
-    if (this.text !== text || !found) return;
+    if (!found) this.text = null;
+    if (this.text !== text) return;
     this.flipped.clear();
     this.plan = found.construction ?? null;
     if (this.plan) this.build(this.plan.steps);

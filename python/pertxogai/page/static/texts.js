@@ -18,6 +18,7 @@ export class Texts {
     this.area.addEventListener('focus', () => this.written());
     this.area.addEventListener('blur', () => this.flush());
     paper.addEventListener('text', () => this.write());
+    paper.addEventListener('settle', () => { if (this.waits) this.flush(); });
   }
 
   /** A text is being typed: it counts a moment after the last letter. */
