@@ -96,7 +96,9 @@ def _moved(drawing: Drawing, before: Drawing) -> set[str] | None:
             moved.add(shape.name)
     leader = drawing.meetings.leader
     moved |= {ref.shape for ref in drawing.points() if leader(ref).shape in moved}
-    return None if any(shape.outer and shape.name in moved for shape in drawing.geometry) else moved
+    if any(shape.outer and shape.name in moved for shape in drawing.geometry):
+        return None
+    return moved
 
 
 def _structure(shape: Shape) -> tuple[object, ...]:

@@ -243,7 +243,8 @@ def test_of_several_each_may_be_needed_in_part(program) -> None:
     names = judge_at_once(read_drawing(plate), program).names
     numbers = {each.number for each in too_much(names, stands_in).dimensions}
     assert len(numbers) == 2
-    assert [each.in_part for each in too_much(names, stands_in, numbers).dimensions].count(True) == 1
+    found = too_much(names, stands_in, numbers)
+    assert sum(each.in_part for each in found.dimensions) == 1
 
 
 def test_a_line_of_help_that_is_left_out_is_told(program) -> None:
