@@ -15,9 +15,9 @@ export class Keys {
   does(event) {
     const { key, shiftKey: shift } = event;
     const chord = (event.ctrlKey || event.metaKey) && !BRACKETS[key];
-    const isBehind = document.querySelector('dialog[open]');
-    const isTyping = isBehind || event.target.matches('input:not([type="range"]), textarea');
-    if (isTyping) return chord && (isBehind ? 's' : 'so').includes(key.toLowerCase()) && pressed(`Control+${key}`);
+    const dialog = document.querySelector('dialog[open]');
+    const isTyping = dialog || event.target.matches('input:not([type="range"]), textarea');
+    if (isTyping) return chord && (dialog ? 's' : 'so').includes(key.toLowerCase()) && pressed(`Control+${key}`);
     if (BRACKETS[key]) this.page.gestures.next(BRACKETS[key], shift || '{}'.includes(key));
     else if (ARROWS[key]) return this.arrow(event, chord);
     else if (chord) return pressed(`Control+${shift ? 'Shift+' : ''}${key}`);
