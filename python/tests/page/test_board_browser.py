@@ -388,6 +388,7 @@ def test_a_point_is_dragged_and_a_dimension_changed(page: Page) -> None:
     page.ask("diameter", "12")
     page.settled()
     page.press_twice(".marks [data-constraint='1'] text")
+    page.wait("asked", "return document.querySelector('#value[open] input')")
     field = page.driver.find_element(By.CSS_SELECTOR, "#value[open] input")
     field.send_keys(Keys.CONTROL, "a")
     field.send_keys("0.5in", Keys.ENTER)
