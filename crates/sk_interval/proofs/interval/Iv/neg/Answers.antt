@@ -6,12 +6,6 @@ use lib.IntN.{+ℤ_idl}
 use Rattle.sk_interval.proofs.FinerSums.{negative-IsInside}
 use Rattle.sk_interval.proofs.interval.Iv.neg.Goals as goal
 
-pub overflow_sub-result : goal.overflow_sub-result
-overflow_sub-result g c = omega (arith, ints, end_limit g.G.Grid.BITS g.G.Grid.few)
-
-pub overflow_sub-result-2 : goal.overflow_sub-result-2
-overflow_sub-result-2 g c = omega (arith, ints, end_limit g.G.Grid.BITS g.G.Grid.few)
-
 pub invariant_of-result : goal.invariant_of-result
 invariant_of-result g c =
     let limit = end_limit g.G.Grid.BITS g.G.Grid.few in
