@@ -1,5 +1,5 @@
 -- Frames have no fault.
-use Rattle.std.proofs.Common.{◌≡◌, ◌≢◌, ℕ, ◌+◌, ◌*◌, ◌≤◌, ◌<◌, ◌^◌, ℤ, pos, ◌+ℤ◌, ◌*ℤ◌, ◌≤ℤ◌, ◌<ℤ◌, unsigned_abs, false, inl, inr, Ok, sym, ◌∙◌, arith}
+use Rattle.std.proofs.Common.{◌≡◌, ◌≢◌, ℕ, zero, suc, ◌+◌, ◌*◌, ◌≤◌, ◌<◌, ◌^◌, ℤ, pos, ◌+ℤ◌, ◌*ℤ◌, ◌≤ℤ◌, ◌<ℤ◌, unsigned_abs, false, inl, inr, Ok, sym, ◌∙◌, arith}
 use Rattle.std.proofs.lemmas.Int.{ints, unsigned_abs-mul}
 use Rattle.std.proofs.lemmas.Nat.{mul-le, pow-add}
 use native.Mathlib.Nat.{le_refl}
@@ -51,6 +51,11 @@ pub root-ok : (F s : ℕ) → 0 < s → root F (whole F (pos s)) ≡ Ok (norm F 
 root-ok F s h =
     let positive : 0 < s * 2 ^ F = omega (arith, mul-le 1 1 s (2 ^ F) h (unit_positive F)) in
     sym (root-real F (whole F (pos s)) (omega (arith, ints)))
+
+-- a number whose square is at most s is at most s
+pub below_square : (n s : ℕ) → n * n ≤ s → n ≤ s
+below_square zero s h = omega arith
+below_square (suc n) s h = omega (arith, mul-le 1 (suc n) (suc n) (suc n) (omega arith) (le_refl _))
 
 -- a number whose square is at most s is at most the root of s
 below_norm : (F m s : ℕ) → m * m ≤ s → m * 2 ^ F ≤ floor_root (s * 2 ^ F * 2 ^ F)

@@ -1,39 +1,39 @@
 use Rattle.std.proofs.Common.{◌≡◌, pos, ◌+ℤ◌, ◌-ℤ◌, ◌*ℤ◌, FitsSigned, arith, to_z-of_z, refl}
 use Rattle.std.proofs.lemmas.Int.{ints}
-use Rattle.std.specs.Int.{w64, w128}
+use Rattle.std.specs.Int.{w128}
 use Rattle.sk_holding.specs.Offsets.{billion, height_above}
 use Rattle.sk_holding.proofs.Bounds.{height_bound, abs_within}
 use Rattle.sk_holding.proofs.measured.height.Goals as goal
 
 pub overflow_add-result : goal.overflow_add-result
 overflow_add-result c =
-    let one : FitsSigned w128 c.scaled.result = omega (arith, ints) in
-    let two : FitsSigned w128 c.scaled-2.result = omega (arith, ints) in
+    let one : FitsSigned w128 c.scaled.result = record { sfits = c.scaled.type_inv } in
+    let two : FitsSigned w128 c.scaled-2.result = record { sfits = c.scaled-2.type_inv } in
     let sum : FitsSigned w128 (c.scaled.result +ℤ c.scaled-2.result) = omega (arith, ints) in
     simp to_z-of_z sum
 
 pub overflow_sub-result : goal.overflow_sub-result
 overflow_sub-result c =
-    let one : FitsSigned w128 c.scaled.result = omega (arith, ints) in
-    let two : FitsSigned w128 c.scaled-2.result = omega (arith, ints) in
-    let three : FitsSigned w128 c.scaled-3.result = omega (arith, ints) in
+    let one : FitsSigned w128 c.scaled.result = record { sfits = c.scaled.type_inv } in
+    let two : FitsSigned w128 c.scaled-2.result = record { sfits = c.scaled-2.type_inv } in
+    let three : FitsSigned w128 c.scaled-3.result = record { sfits = c.scaled-3.type_inv } in
     let sum : FitsSigned w128 (c.scaled.result +ℤ c.scaled-2.result) = omega (arith, ints) in
     let all : FitsSigned w128 ((c.scaled.result +ℤ c.scaled-2.result) -ℤ c.scaled-3.result) = omega (arith, ints) in
     simp to_z-of_z all
 
 pub returns-clause-value : goal.returns-clause-value
 returns-clause-value c =
-    let a64 : FitsSigned w64 c.args.a = omega (arith, ints) in
-    let b64 : FitsSigned w64 c.args.b = omega (arith, ints) in
-    let x64 : FitsSigned w64 c.args.x = omega (arith, ints) in
-    let y64 : FitsSigned w64 c.args.y = omega (arith, ints) in
-    let c64 : FitsSigned w64 c.args.c = omega (arith, ints) in
+    let a64 = c.ranges.a in
+    let b64 = c.ranges.b in
+    let x64 = c.ranges.x in
+    let y64 = c.ranges.y in
+    let c64 = c.ranges.c in
     let x128 : FitsSigned w128 c.args.x = omega (arith, ints) in
     let y128 : FitsSigned w128 c.args.y = omega (arith, ints) in
     let c128 : FitsSigned w128 c.args.c = omega (arith, ints) in
-    let one : FitsSigned w128 c.scaled.result = omega (arith, ints) in
-    let two : FitsSigned w128 c.scaled-2.result = omega (arith, ints) in
-    let three : FitsSigned w128 c.scaled-3.result = omega (arith, ints) in
+    let one : FitsSigned w128 c.scaled.result = record { sfits = c.scaled.type_inv } in
+    let two : FitsSigned w128 c.scaled-2.result = record { sfits = c.scaled-2.type_inv } in
+    let three : FitsSigned w128 c.scaled-3.result = record { sfits = c.scaled-3.type_inv } in
     let sum : FitsSigned w128 (c.scaled.result +ℤ c.scaled-2.result) = omega (arith, ints) in
     let all : FitsSigned w128 ((c.scaled.result +ℤ c.scaled-2.result) -ℤ c.scaled-3.result) = omega (arith, ints) in
     let along : c.scaled.result ≡ c.args.a *ℤ c.args.x = simp to_z-of_z at (rw c.from.ensures at c.scaled.ensures.value) in

@@ -10,10 +10,10 @@ returns-clause-value c =
     let len64 : FitsSigned w64 c.args.len.0 = omega (arith, ints) in
     let len128 : FitsSigned w128 c.args.len.0 = omega (arith, ints) in
     let asked : FitsSigned w128 (pos 1000 *ℤ c.args.len.0) = omega (arith, ints) in
-    let height : FitsSigned w128 c.args.height = omega (arith, ints) in
+    let height = c.ranges.height in
     let size : unsigned_abs c.signed.result ≡ unsigned_abs c.args.height = simp to_z-of_z at c.signed.ensures.size in
-    let first : FitsSigned w128 c.signed.result = omega (arith, ints) in
-    let second : FitsSigned w128 c.scaled.result = omega (arith, ints) in
+    let first : FitsSigned w128 c.signed.result = record { sfits = c.signed.type_inv } in
+    let second : FitsSigned w128 c.scaled.result = record { sfits = c.scaled.type_inv } in
     let all : FitsSigned w128 (c.signed.result -ℤ c.scaled.result) = omega (arith, ints) in
     let sided : c.signed.result ≡ signed c.args.side c.args.height = simp to_z-of_z at c.signed.ensures.value in
     let scaled : c.scaled.result ≡ pos billion *ℤ (pos 1000 *ℤ c.args.len.0) = simp to_z-of_z at (rw c.from.ensures at c.scaled.ensures.value) in
@@ -25,10 +25,10 @@ returns-clause-within c =
     let len64 : FitsSigned w64 c.args.len.0 = omega (arith, ints) in
     let len128 : FitsSigned w128 c.args.len.0 = omega (arith, ints) in
     let asked : FitsSigned w128 (pos 1000 *ℤ c.args.len.0) = omega (arith, ints) in
-    let height : FitsSigned w128 c.args.height = omega (arith, ints) in
+    let height = c.ranges.height in
     let size : unsigned_abs c.signed.result ≡ unsigned_abs c.args.height = simp to_z-of_z at c.signed.ensures.size in
-    let first : FitsSigned w128 c.signed.result = omega (arith, ints) in
-    let second : FitsSigned w128 c.scaled.result = omega (arith, ints) in
+    let first : FitsSigned w128 c.signed.result = record { sfits = c.signed.type_inv } in
+    let second : FitsSigned w128 c.scaled.result = record { sfits = c.scaled.type_inv } in
     let all : FitsSigned w128 (c.signed.result -ℤ c.scaled.result) = omega (arith, ints) in
     let scaled : c.scaled.result ≡ pos billion *ℤ (pos 1000 *ℤ c.args.len.0) = simp to_z-of_z at (rw c.from.ensures at c.scaled.ensures.value) in
     let few : unsigned_abs c.args.len.0 ≤ billion = omega (arith, ints) in

@@ -1,9 +1,8 @@
-use Rattle.std.proofs.Common.{◌≡◌, arith, FitsSigned, to_z-of_z}
-use Rattle.std.proofs.lemmas.Int.{ints}
-use Rattle.std.specs.Int.{w64}
+use Rattle.std.proofs.Common.{◌≡◌, to_z-of_z}
 use Rattle.sk_holding.specs.Least.{IsLeast}
 use Rattle.sk_holding.specs.Holding.{IsLength, given_squared}
 use Rattle.sk_holding.specs.Offsets.{distance_squared}
+use Rattle.sk_holding.proofs.Bounds.{length_fits}
 use Rattle.sk_holding.proofs.measured.least_of_pair.Goals as goal
 
 pub returns : goal.returns
@@ -11,10 +10,10 @@ returns c =
     let is = c.in-Point-Point in
     let u_bounded = rw is.is-0 at c.requires.u.1 in
     let v_bounded = rw is.is-1 at c.requires.v.1 in
-    let x64 : FitsSigned w64 is.x = omega (arith, ints, u_bounded) in
-    let y64 : FitsSigned w64 is.y = omega (arith, ints, u_bounded) in
-    let z64 : FitsSigned w64 is.z = omega (arith, ints, v_bounded) in
-    let t64 : FitsSigned w64 is.t = omega (arith, ints, v_bounded) in
+    let x64 = length_fits is.x u_bounded.0 in
+    let y64 = length_fits is.y u_bounded.1 in
+    let z64 = length_fits is.z v_bounded.0 in
+    let t64 = length_fits is.t v_bounded.1 in
     let square : c.square_of.result ≡ distance_squared is.x is.y is.z is.t = simp to_z-of_z at c.square_of.ensures.value in
     let told : IsLeast (IsLength c.root_floor.result c.root_ceil.result c.square_of.result) c.least_of_length.result = c.least_of_length.ensures in
     let given : c.given_squared-given.result ≡ given_squared c.args.a.now c.args.b.now = c.given_squared-given.ensures.value in

@@ -2,7 +2,7 @@ use Rattle.std.proofs.Common.{◌≡◌, ◌<◌, ◌<ℤ◌, ℕ, ℤ, pos, uns
 use Rattle.std.specs.Int.{w64}
 use Rattle.std.proofs.lemmas.Int.{ints}
 use Rattle.sk_interval.specs.Operations.{root, whole}
-use Rattle.sk_steps.proofs.LeafLemmas.{norm, ratio, root-ok, quotient-ok, normal-ok}
+use Rattle.sk_steps.proofs.LeafLemmas.{below_square, norm, ratio, root-ok, quotient-ok, normal-ok}
 use Rattle.sk_steps.proofs.leaf.part.Goals as goal
 
 -- a positive number is that of its size
@@ -11,6 +11,11 @@ positive_is z h = omega (arith, ints)
 
 root_is : (F : ℕ) (z : ℤ) → pos 0 <ℤ z → root F (whole F z) ≡ Ok (norm F (unsigned_abs z))
 root_is F z h = rw (positive_is z h) (root-ok F (unsigned_abs z) (omega (arith, ints)))
+
+pub whole-requires-2 : goal.whole-requires-2
+whole-requires-2 g c =
+    let few = below_square (unsigned_abs c.args.n) (unsigned_abs c.args.square) c.requires.least in
+    omega (arith, ints)
 
 pub unwrap-root-requires : goal.unwrap-root-requires
 unwrap-root-requires g c =

@@ -1,24 +1,32 @@
-use Rattle.std.proofs.Common.{◌+ℤ◌, FitsSigned, arith, to_z-of_z, ◌≤ℤ◌, subst}
+use Rattle.std.proofs.Common.{arith, to_z-of_z, ◌≤ℤ◌, subst}
 use Rattle.std.proofs.lemmas.Int.{ints}
-use Rattle.std.specs.Int.{w128}
-use Rattle.sk_interval.proofs.PowerLemmas.{end_limit}
+use Rattle.sk_interval.proofs.PowerLemmas.{end_limit, end_fits, sum_fits}
 use Rattle.sk_interval.specs.Interval.{Interval}
 use Rattle.sk_interval.proofs.LeastLemmas.{sum-least}
 use Rattle.sk_interval.proofs.FinerSums.{sum-Refines}
 use Rattle.sk_interval.proofs.interval.Iv.add.Goals as goal
+
+pub overflow_add-self-inside : goal.overflow_add-self-inside
+overflow_add-self-inside g c = omega (arith, ints, end_limit g.G.Grid.BITS g.G.Grid.few)
+
+pub overflow_add-self-inside-2 : goal.overflow_add-self-inside-2
+overflow_add-self-inside-2 g c = omega (arith, ints, end_limit g.G.Grid.BITS g.G.Grid.few)
+
+pub bounded-requires-clause-bits : goal.bounded-requires-clause-bits
+bounded-requires-clause-bits g c = omega arith
 
 pub bounded-requires-clause-ordered : goal.bounded-requires-clause-ordered
 bounded-requires-clause-ordered g c = omega (arith, ints, end_limit g.G.Grid.BITS g.G.Grid.few)
 
 pub returns-clause-value : goal.returns-clause-value
 returns-clause-value g c =
-    let limit = end_limit g.G.Grid.BITS g.G.Grid.few in
-    let a : FitsSigned w128 c.self.inside.lo = omega (arith, ints) in
-    let b : FitsSigned w128 c.self.inside.hi = omega (arith, ints) in
-    let p : FitsSigned w128 c.other.inside.lo = omega (arith, ints) in
-    let q : FitsSigned w128 c.other.inside.hi = omega (arith, ints) in
-    let low : FitsSigned w128 (c.self.inside.lo +ℤ c.other.inside.lo) = omega (arith, ints) in
-    let high : FitsSigned w128 (c.self.inside.hi +ℤ c.other.inside.hi) = omega (arith, ints) in
+    let few = g.G.Grid.few in
+    let a = end_fits g.G.Grid.BITS c.self.inside.lo few c.self.invariant.lo_within in
+    let b = end_fits g.G.Grid.BITS c.self.inside.hi few c.self.invariant.hi_within in
+    let p = end_fits g.G.Grid.BITS c.other.inside.lo few c.other.invariant.lo_within in
+    let q = end_fits g.G.Grid.BITS c.other.inside.hi few c.other.invariant.hi_within in
+    let low = sum_fits g.G.Grid.BITS c.self.inside.lo c.other.inside.lo few c.self.invariant.lo_within c.other.invariant.lo_within in
+    let high = sum_fits g.G.Grid.BITS c.self.inside.hi c.other.inside.hi few c.self.invariant.hi_within c.other.invariant.hi_within in
     rw (← c.self.view_is, ← c.other.view_is) (simp to_z-of_z at c.bounded.ensures)
 
 pub returns-clause-least : goal.returns-clause-least

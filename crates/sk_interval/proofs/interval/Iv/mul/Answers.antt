@@ -3,19 +3,37 @@ use Rattle.std.specs.Int.{w128}
 use Rattle.std.proofs.lemmas.Int.{ints}
 use Rattle.sk_interval.specs.Interval.{one}
 use Rattle.sk_interval.proofs.AroundLemmas.{floor_below_ceil}
-use Rattle.sk_interval.proofs.PowerLemmas.{power_below, power_from_8, end_limit}
+use Rattle.sk_interval.proofs.PowerLemmas.{power_below, power_from_8, end_limit, end_fits, within_fits}
 use Rattle.sk_interval.proofs.ProductLemmas.{not_within, product-range, product-quotients}
 use Rattle.sk_interval.proofs.LeastLemmas.{product-least}
 use Rattle.sk_interval.proofs.FinerProducts.{product-Refines}
 use Rattle.sk_interval.proofs.interval.Iv.mul.Goals as goal
 
+pub overflow_mul-BITS : goal.overflow_mul-BITS
+overflow_mul-BITS g c = omega (arith, g.G.Grid.few)
+
+pub overflow_add-BITS : goal.overflow_add-BITS
+overflow_add-BITS g c = omega (arith, g.G.Grid.few)
+
+pub floor-requires-clause-dividend : goal.floor-requires-clause-dividend
+floor-requires-clause-dividend g c = omega (arith, ints)
+
+pub floor-requires-clause-divisor : goal.floor-requires-clause-divisor
+floor-requires-clause-divisor g c = omega (arith, ints)
+
+pub ceil-requires-clause-dividend : goal.ceil-requires-clause-dividend
+ceil-requires-clause-dividend g c = omega (arith, ints)
+
+pub ceil-requires-clause-divisor : goal.ceil-requires-clause-divisor
+ceil-requires-clause-divisor g c = omega (arith, ints)
+
 pub extreme_products-least-requires : goal.extreme_products-least-requires
 extreme_products-least-requires g c =
     let limit = end_limit g.G.Grid.BITS g.G.Grid.few in
-    let self_lo : FitsSigned w128 c.self.inside.lo = omega (arith, ints) in
-    let self_hi : FitsSigned w128 c.self.inside.hi = omega (arith, ints) in
-    let other_lo : FitsSigned w128 c.other.inside.lo = omega (arith, ints) in
-    let other_hi : FitsSigned w128 c.other.inside.hi = omega (arith, ints) in
+    let self_lo = end_fits g.G.Grid.BITS c.self.inside.lo g.G.Grid.few c.self.invariant.lo_within in
+    let self_hi = end_fits g.G.Grid.BITS c.self.inside.hi g.G.Grid.few c.self.invariant.hi_within in
+    let other_lo = end_fits g.G.Grid.BITS c.other.inside.lo g.G.Grid.few c.other.invariant.lo_within in
+    let other_hi = end_fits g.G.Grid.BITS c.other.inside.hi g.G.Grid.few c.other.invariant.hi_within in
     let small = c.if-product_is_within.ensures.0 refl in
     let most = power_below (50 + 2 * g.G.Grid.BITS) 126 (omega (arith, g.G.Grid.few)) in
     let bits = rw c.BITS.ensures at c.two_to-most.ensures in
@@ -25,11 +43,11 @@ extreme_products-least-requires g c =
 
 pub bounded-requires-clause-ordered : goal.bounded-requires-clause-ordered
 bounded-requires-clause-ordered g c =
-    let least_fits : FitsSigned w128 c.extreme_products-least.result.0 = omega (arith, ints) in
-    let greatest_fits : FitsSigned w128 c.extreme_products-least.result.1 = omega (arith, ints) in
-    let unit_fits : FitsSigned w128 c.unit-one.result = omega (arith, ints) in
-    let floor_fits : FitsSigned w128 c.floor.result = omega (arith, ints) in
-    let ceil_fits : FitsSigned w128 c.ceil.result = omega (arith, ints) in
+    let least_fits = within_fits c.extreme_products-least.result.0 c.extreme_products-least.ensures.least_within in
+    let greatest_fits = within_fits c.extreme_products-least.result.1 c.extreme_products-least.ensures.greatest_within in
+    let unit_fits : FitsSigned w128 c.unit-one.result = record { sfits = c.unit-one.type_inv } in
+    let floor_fits : FitsSigned w128 c.floor.result = record { sfits = c.floor.type_inv } in
+    let ceil_fits : FitsSigned w128 c.ceil.result = record { sfits = c.ceil.type_inv } in
     let floor = rw c.unit-one.ensures.value at (simp to_z-of_z at c.floor.ensures.value) in
     let ceil = rw c.unit-one.ensures.value at (simp to_z-of_z at c.ceil.ensures.value) in
     let unit = power_from_8 g.G.Grid.BITS g.G.Grid.enough in
@@ -37,16 +55,15 @@ bounded-requires-clause-ordered g c =
 
 pub returns-then-product_is_within-clause-value : goal.returns-then-product_is_within-clause-value
 returns-then-product_is_within-clause-value g c =
-    let limit = end_limit g.G.Grid.BITS g.G.Grid.few in
-    let self_lo : FitsSigned w128 c.self.inside.lo = omega (arith, ints) in
-    let self_hi : FitsSigned w128 c.self.inside.hi = omega (arith, ints) in
-    let other_lo : FitsSigned w128 c.other.inside.lo = omega (arith, ints) in
-    let other_hi : FitsSigned w128 c.other.inside.hi = omega (arith, ints) in
-    let least_fits : FitsSigned w128 c.extreme_products-least.result.0 = omega (arith, ints) in
-    let greatest_fits : FitsSigned w128 c.extreme_products-least.result.1 = omega (arith, ints) in
-    let unit_fits : FitsSigned w128 c.unit-one.result = omega (arith, ints) in
-    let floor_fits : FitsSigned w128 c.floor.result = omega (arith, ints) in
-    let ceil_fits : FitsSigned w128 c.ceil.result = omega (arith, ints) in
+    let self_lo = end_fits g.G.Grid.BITS c.self.inside.lo g.G.Grid.few c.self.invariant.lo_within in
+    let self_hi = end_fits g.G.Grid.BITS c.self.inside.hi g.G.Grid.few c.self.invariant.hi_within in
+    let other_lo = end_fits g.G.Grid.BITS c.other.inside.lo g.G.Grid.few c.other.invariant.lo_within in
+    let other_hi = end_fits g.G.Grid.BITS c.other.inside.hi g.G.Grid.few c.other.invariant.hi_within in
+    let least_fits = within_fits c.extreme_products-least.result.0 c.extreme_products-least.ensures.least_within in
+    let greatest_fits = within_fits c.extreme_products-least.result.1 c.extreme_products-least.ensures.greatest_within in
+    let unit_fits : FitsSigned w128 c.unit-one.result = record { sfits = c.unit-one.type_inv } in
+    let floor_fits : FitsSigned w128 c.floor.result = record { sfits = c.floor.type_inv } in
+    let ceil_fits : FitsSigned w128 c.ceil.result = record { sfits = c.ceil.type_inv } in
     let floor = rw c.unit-one.ensures.value at (simp to_z-of_z at c.floor.ensures.value) in
     let ceil = rw c.unit-one.ensures.value at (simp to_z-of_z at c.ceil.ensures.value) in
     let bounded_is = rw (floor, ceil) at (simp to_z-of_z at c.bounded.ensures) in
