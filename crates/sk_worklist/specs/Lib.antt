@@ -6,3 +6,4 @@ pub mod Gather
 pub mod Turns
 pub mod Settling
 pub mod Grown
+pub mod Heirs

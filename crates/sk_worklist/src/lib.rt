@@ -6,6 +6,7 @@ mod any_order;
 mod chosen;
 mod close;
 mod growth;
+mod heir;
 mod kept;
 mod law;
 mod meets;
