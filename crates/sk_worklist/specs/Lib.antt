@@ -7,3 +7,4 @@ pub mod Turns
 pub mod Settling
 pub mod Grown
 pub mod Heirs
+pub mod Ranked

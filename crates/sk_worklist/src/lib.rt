@@ -12,6 +12,7 @@ mod law;
 mod meets;
 mod partner;
 mod picker;
+mod ranked;
 mod triples;
 mod worklist;
 
