@@ -3,3 +3,4 @@ pub mod Placing
 pub mod Normals
 pub mod Judgements
 pub mod SomeJudgements
+pub mod Marking

@@ -3,3 +3,4 @@ pub mod Judging
 pub mod Ordering
 pub mod Parts
 pub mod OneCluster
+pub mod Leaving

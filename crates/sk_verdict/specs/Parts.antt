@@ -13,9 +13,13 @@ use Rattle.sk_verdict.specs.declared.part.Part.{Part}
 abbrev pub elem_of : Node → Elem
 elem_of n = n.elem
 
+-- the constraint doesn't end there
+abbrev pub EndsElsewhere : Edge → Elem → Type 0
+EndsElsewhere d e = (d.u ≢ e) × (d.v ≢ e)
+
 -- no constraint between two elements ends there
 abbrev pub IsEndOfNone : Graph → Elem → Type 0
-IsEndOfNone g e = All (λ (d : Edge). (d.u ≢ e) × (d.v ≢ e)) g.edges
+IsEndOfNone g e = All (λ (d : Edge). EndsElsewhere d e) g.edges
 
 -- the block has no pin there
 abbrev pub HasNoPin : Elem → Block → Type 0

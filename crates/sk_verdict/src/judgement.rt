@@ -6,14 +6,14 @@ ghost use Rattle.sk_family.specs.Body.{Body};
 ghost use Rattle.sk_family.specs.Clusters.{bodies};
 ghost use Rattle.sk_rules.specs.Excess.{weight_of, AreConstraints};
 ghost use Rattle.sk_rules.specs.Reach.{IsNormal};
-ghost use Rattle.sk_verdict.specs.Parts.{IsEndOfNone, IsNamedByNone, HasNoPin};
 ghost use Rattle.sk_verdict.specs.Ordering.{AreInOrder};
 ghost use Rattle.sk_verdict.specs.Building.{AreOfClusters, AddsLone, HasNoSingle};
 ghost use Rattle.sk_verdict.specs.Judging.{IsJudgement, IsOver, some_over, verdict_on};
 
+use crate::named::{is_unmarked, named_in};
 use crate::part::{Part, lone_part, part_of};
 use crate::store::put;
-use sk_base::{Block, Elem, Graph, List, NoMemory};
+use sk_base::{Graph, List, NoMemory};
 use sk_family::{Cluster, Family};
 use std::alloc::Global;
 
@@ -74,43 +74,13 @@ fn add_lone(alloc: Global, graph: &Graph, parts: &mut List<Part>) -> Result<(), 
     requires no_single { HasNoSingle parts.old }
     ensures { OnOk result (AddsLone graph.now graph.now.nodes parts.old parts.new) }
 {
+    let named = named_in(alloc, graph)?;
     for node in graph.nodes.as_slice() {
-        if is_named_by_none(graph, node.elem) {
+        if is_unmarked(named.as_slice(), node.elem) {
             put(parts, lone_part(alloc, node.elem)?)?;
         }
     }
     Ok(())
-}
-
-/// Whether no constraint names the element, and no block.
-fn is_named_by_none(graph: &Graph, elem: Elem) -> bool
-    ensures { IsTrue result ↔ IsNamedByNone graph.now elem }
-{
-    is_end_of_none(graph, elem) && is_pinned_by_none(graph, elem)
-}
-
-fn is_end_of_none(graph: &Graph, elem: Elem) -> bool
-    ensures { IsTrue result ↔ IsEndOfNone graph.now elem }
-{
-    graph
-        .edges
-        .as_slice()
-        .iter()
-        .all(|edge| edge.u != elem && edge.v != elem)
-}
-
-fn is_pinned_by_none(graph: &Graph, elem: Elem) -> bool
-    ensures { IsTrue result ↔ All (HasNoPin elem) graph.now.blocks }
-{
-    let blocks = graph.blocks.as_slice();
-    blocks.iter().all(|block| has_no_pin(block, elem))
-}
-
-fn has_no_pin(block: &Block, elem: Elem) -> bool
-    ensures { IsTrue result ↔ HasNoPin elem block.now }
-{
-    let pins = block.pins.as_slice();
-    pins.iter().all(|pin| pin.elem != elem)
 }
 
 /// Over where some part holds more than is due, else several where there is more than one, else well.

@@ -3,6 +3,7 @@
 
 mod judgement;
 mod law;
+mod named;
 mod part;
 mod store;
 

@@ -1,6 +1,6 @@
 -- Clusters that leave the index and enter it at a merge.
-use Rattle.std.proofs.Common.{◌≡◌, ◌⊎◌, inl, inr, ◌+◌, ◌-◌, List, [], ◌∷◌, ◌++◌, length, sym, subst, ◌∙◌, ap, Bool, Vec, Global}
-use Rattle.std.specs.Prelude.{◌↔◌, Contains, Some, slice_get, not}
+use Rattle.std.proofs.Common.{◌≡◌, ◌⊎◌, inl, inr, ◌-◌, List, [], ◌∷◌, ◌++◌, length, sym, subst, ◌∙◌, ap, Bool, Vec, Global}
+use Rattle.std.specs.Prelude.{◌↔◌, Contains, Option, Some, slice_get, not}
 use Rattle.std.proofs.lemmas.Option.{same_Some}
 use Rattle.std.proofs.lemmas.List.Elements.{Contains-append_left, Contains-append_right, Contains-append_cases}
 use Rattle.sk_base.specs.declared.Name.{Name}
@@ -19,6 +19,11 @@ use Rattle.sk_index.specs.declared.Index.{Index}
 use Rattle.sk_worklist.specs.Choices.{CanTake}
 use Rattle.sk_index.specs.Indexed.{HasElements, IsHeld, IsIndex, KeepsLines, IsLast, Represents}
 use Rattle.sk_worklist.specs.Known.{Knows}
+use Rattle.sk_base.specs.declared.Elem.{Elem}
+use Rattle.sk_worklist.specs.declared.heir.Heir.{Heir}
+use Rattle.sk_worklist.specs.Heirs.{IsHeirOf}
+use Rattle.sk_worklist.specs.declared.worklist.Worklist.{Worklist}
+use Rattle.sk_worklist.specs.Turns.{IsSameButHeir, KnowsOf}
 use Rattle.sk_worklist.proofs.Mending.{knows_after, live_below_next}
 
 -- the clusters of a merge that may be taken have elements
@@ -94,3 +99,17 @@ pub knows_entered : (clear covered : Name) (kept : List Merge) (gone gone' : Lis
 knows_entered clear covered kept gone gone' g f sound m after after_is gone_is knows =
     subst (λ (h : Clusters). Knows clear covered kept gone' g h) (sym after_is) (subst (λ ns. Knows clear covered kept ns g (merged f m)) (sym gone_is)
     (knows_after clear covered kept gone (names_of m) g f sound knows))
+
+pub heirs_entered : (covered : Name) (kept : List Merge) (gone gone' : List Name) (heir : Option Heir) (fresh : List Elem) (g : Graph) (f : Clusters) (m : Merge) (after : Clusters) → after ≡ merged f m
+    → gone' ≡ gone ++ names_of m → IsHeirOf g (merged f m) covered kept (gone ++ names_of m) heir fresh → IsHeirOf g after covered kept gone' heir fresh
+heirs_entered covered kept gone gone' heir fresh g f m after after_is gone_is heirs =
+    subst (λ (h : Clusters). IsHeirOf g h covered kept gone' heir fresh) (sym after_is) (subst (λ ns. IsHeirOf g (merged f m) covered kept ns heir fresh) (sym gone_is) heirs)
+
+-- what holds of a worklist holds of one that differs in the heir alone
+module _ (old new : Worklist) (same : IsSameButHeir old new) where
+  pub same_knows : (g : Graph) (f : Clusters) → KnowsOf old g f → KnowsOf new g f
+  same_knows g f knows =
+      subst (λ n. Knows n new.covered new.kept.items new.gone g f) (sym same.clear)
+      (subst (λ n. Knows old.clear n new.kept.items new.gone g f) (sym same.covered)
+      (subst (λ (v : Vec Merge Global). Knows old.clear old.covered v.items new.gone g f) (sym same.kept)
+      (subst (λ ns. Knows old.clear old.covered old.kept.items ns g f) (sym same.gone) knows)))

@@ -9,7 +9,7 @@ use Rattle.sk_base.proofs.Members.{contains_none, contains_head, contains_one}
 use Rattle.sk_family.proofs.Naming.{below_chain}
 use Rattle.sk_base.proofs.Unions.{which}
 use Rattle.sk_base.specs.declared.Name.TheVariants.{Con, Step}
-use Rattle.sk_worklist.specs.Gather.{IsLeast, IsLesser}
+use Rattle.sk_worklist.specs.Gather.{GivenBy, IsLeast, IsLesser}
 
 -- what is not below m is, where m is above n, not below n
 pub not_below_lower : (k m n : Name) → ¬ IsBelow k m → IsBelow n m → ¬ IsBelow k n
@@ -48,10 +48,6 @@ least_both kind other (Some m) (Some l) r (m_is, m_least) (l_is, l_least) (inl (
 least_both kind other (Some m) (Some l) r (m_is, m_least) (l_is, l_least) (inr (is, above)) =
     subst (λ o. IsLeast (λ n. kind n ⊎ other n) o) (sym is)
     (inl m_is, (λ n h. elim h [ inl k ↦ m_least n k | inr o ↦ below_or_not n l m above (l_least n o) ]))
-
--- what some item of the list gives
-abbrev pub GivenBy : {X : Type 0} → (X → Name → Type 0) → List X → Name → Type 0
-GivenBy kind xs n = (x : _) × Contains xs x × kind x n
 
 module _ {X : Type 0} (kind : X → Name → Type 0) (xs : List X) where
   pub least_start : IsLeast (GivenBy kind (take 0 xs)) None

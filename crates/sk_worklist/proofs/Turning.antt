@@ -14,7 +14,7 @@ use Rattle.sk_rules.specs.declared.Merge.TheVariants.{Two}
 use Rattle.sk_index.specs.declared.Index.{Index}
 use Rattle.sk_worklist.specs.Choices.{CanTake, ComesFirst, IsFirstPair, AreTriples}
 use Rattle.sk_index.specs.Walks.{GrowsBy, FromSome}
-use Rattle.sk_worklist.specs.Gather.{TriplesOf, Partner, IsPartner, TakesFrom, AreUncovered}
+use Rattle.sk_worklist.specs.Gather.{TriplesOf, Partner, IsPartner, IsUncovered, AreUncovered}
 use Rattle.sk_worklist.specs.Known.{AreKept, IsTriple, IsWithin, Knows, NoPairBelow, avoiding}
 use Rattle.sk_index.specs.Indexed.{Represents}
 use Rattle.sk_worklist.specs.Turns.{HasNoPair}
@@ -59,26 +59,29 @@ module _ (ix : Index) (g : Graph) (f : Clusters) (sound : IsSound f) (r : Repres
           p.least.1 n (can_partner ix g f sound r p.greater ((rest_is p.greater).0 p.among).0 n (subst (λ k. CanTake g f (Two k n)) (same ∙ sym p.has_name) can)) n_y
       none m n can (inr (same, inr (level, never))) = never
 
-  -- what the walks from the rest add is just what isn't covered
-  pub uncovered : (list found : List Merge) → GrowsBy (FromSome (TriplesOf ix) rest) [] list → ((m : Merge) → Contains found m ↔ Contains list m)
-      → (((m : Merge) → Contains list m → IsTriple m) → AllPairs ComesFirst found) → AreUncovered g f bound found
-  uncovered list found grows same order = record {
-    in_order = order (λ m m_in. triple m (from_list m m_in));
-    exactly = λ m. (
-      (λ h. from_list m ((same m).0 h)),
-      (λ (x, (x_in, above), takes). (same m).1 ((grows m).1 (inr (x, (rest_is x).1 (x_in, above), can_found ix g f sound r x x_in m takes)))),
-    );
-  }
-    where
-      from_list : (m : Merge) → Contains list m → (x : Cluster) × (Contains f.live x × ¬ IsBelow x.name bound) × TakesFrom g f x m
-      from_list m m_in =
-          elim ((grows m).0 m_in) [
-            | inl none ↦ absurd (contains_none m none)
-            | inr (x, x_in, is) ↦ (x, (rest_is x).0 x_in, found_can ix g f sound r x ((rest_is x).0 x_in).0 m is)
-          ]
+  -- what the walks from the rest find is just what isn't covered
+  pub walks_uncovered : (m : Merge) → FromSome (TriplesOf ix) rest m ↔ IsUncovered g f bound m
+  walks_uncovered m = (
+    (λ (x, x_in, is). (x, (rest_is x).0 x_in, found_can ix g f sound r x ((rest_is x).0 x_in).0 m is)),
+    (λ (x, (x_in, above), takes). (x, (rest_is x).1 (x_in, above), can_found ix g f sound r x x_in m takes)),
+  )
 
-      triple : (m : Merge) → (x : Cluster) × (Contains f.live x × ¬ IsBelow x.name bound) × TakesFrom g f x m → IsTriple m
-      triple m (x, x_in, (can, (y, z, is))) = (x.name, y, z, is)
+-- what is found, once it is put in order
+pub uncovered : (g : Graph) (f : Clusters) (bound : Name) (list found : List Merge) → GrowsBy (IsUncovered g f bound) [] list → ((m : Merge) → Contains found m ↔ Contains list m)
+    → (((m : Merge) → Contains list m → IsTriple m) → AllPairs ComesFirst found) → AreUncovered g f bound found
+uncovered g f bound list found grows same order = record {
+  in_order = order (λ m m_in. triple m (from_list m m_in));
+  exactly = λ m. (
+    (λ h. from_list m ((same m).0 h)),
+    (λ is. (same m).1 ((grows m).1 (inr is))),
+  );
+}
+  where
+    from_list : (m : Merge) → Contains list m → IsUncovered g f bound m
+    from_list m m_in = elim ((grows m).0 m_in) [ inl none ↦ absurd (contains_none m none) | inr is ↦ is ]
+
+    triple : (m : Merge) → IsUncovered g f bound m → IsTriple m
+    triple m (x, x_in, (can, (y, z, is))) = (x.name, y, z, is)
 
 -- once all triples are kept
 module _ (g : Graph) (f : Clusters) (sound : IsSound f) (clear covered : Name) (kept found all : List Merge) (gone none : List Name) (knows : Knows clear covered kept gone g f)

@@ -1,5 +1,5 @@
 -- Walks along the keys that are below a name, to partners and to triples.
-use Rattle.std.proofs.Common.{◌≡◌, ◌∙◌, ℕ, List, sym, subst, ap}
+use Rattle.std.proofs.Common.{◌≡◌, ◌∙◌, inl, inr, ℕ, List, sym, subst}
 use Rattle.std.specs.Prelude.{◌↔◌, Contains, Some}
 use Rattle.sk_base.specs.declared.Elem.{Elem}
 use Rattle.sk_base.specs.declared.Name.{Name}
@@ -9,9 +9,11 @@ use Rattle.sk_family.specs.declared.Cluster.{Cluster}
 use Rattle.sk_index.specs.declared.Index.{Index}
 use Rattle.sk_index.specs.Indexed.{cluster_at}
 use Rattle.sk_rules.specs.declared.Merge.{Merge}
-use Rattle.sk_rules.specs.declared.Merge.TheVariants.{Three}
-use Rattle.sk_worklist.specs.Gather.{ThirdAt, WithCorner, SecondAt}
-use Rattle.sk_worklist.proofs.Least.{GivenBy}
+use Rattle.std.specs.Prelude.{◌≢◌}
+use Rattle.sk_family.proofs.Naming.{below_asymmetric, below_differs}
+use Rattle.sk_worklist.specs.declared.triples.Third.{Third}
+use Rattle.sk_worklist.specs.declared.triples.Third.TheVariants.{Below, Either}
+use Rattle.sk_worklist.specs.Gather.{IsPlaced, limit_of, GivenBy, IsTripleOf, ThirdAt, WithCorner, SecondAt}
 
 -- what the walk along the front gives is what the walk along all gives, where only the front gives any
 module _ (front all : List ℕ) (P : ℕ → Type 0) (front_is : (k : ℕ) → Contains front k ↔ (Contains all k × P k)) where
@@ -21,15 +23,32 @@ module _ (front all : List ℕ) (P : ℕ → Type 0) (front_is : (k : ℕ) → C
     (λ (k, k_in, is). (k, (front_is k).1 (k_in, only k n is), is)),
   )
 
+-- three names have one triple
+one_triple : (x y z : Name) (m n : Merge) → IsTripleOf x y z m → IsTripleOf x y z n → m ≡ n
+one_triple x y z m n (inl (z_y, m_is)) (inl (again, n_is)) = m_is ∙ sym n_is
+one_triple x y z m n (inl (z_y, m_is)) (inr (y_z, n_is)) = absurd (below_asymmetric z y z_y y_z)
+one_triple x y z m n (inr (y_z, m_is)) (inl (z_y, n_is)) = absurd (below_asymmetric z y z_y y_z)
+one_triple x y z m n (inr (y_z, m_is)) (inr (again, n_is)) = m_is ∙ sym n_is
+
 -- the triple with a third cluster is that of the one at the key
-pub third_only : (ix : Index) (x y z : Cluster) (a b : Elem) (k : ℕ) → cluster_at ix k ≡ Some z → (m : Merge) → ThirdAt ix x y a b k m → m ≡ Three x.name y.name z.name
-third_only ix x y z a b k is m (z', z'_is, third, m_is) =
+pub third_only : (third : Third) (ix : Index) (x y z : Cluster) (a b : Elem) (k : ℕ) → cluster_at ix k ≡ Some z → (m n : Merge) → IsTripleOf x.name y.name z.name n → ThirdAt third ix x y a b k m → m ≡ n
+third_only third ix x y z a b k is m n n_is (z', z'_is, stands, m_is) =
     let same : Some z' ≡ Some z = sym z'_is ∙ is in
-    m_is ∙ ap (λ (w : Cluster). Three x.name y.name w.name) (same_Some _ _ same)
+    one_triple x.name y.name z.name m n (subst (λ (w : Cluster). IsTripleOf x.name y.name w.name m) (same_Some _ _ same) m_is) n_is
+
+-- the third cluster is below the name up to which it is looked for
+pub placed_in_limit : (third : Third) (x y z : Name) → IsPlaced third x y z → IsBelow z (limit_of third x y)
+placed_in_limit Below x y z placed = placed
+placed_in_limit Either x y z (placed, other) = placed
+
+-- and it isn't the second
+pub placed_apart : (third : Third) (x y z : Name) → IsPlaced third x y z → z ≢ y
+placed_apart Below x y z placed = below_differs z y placed
+placed_apart Either x y z (placed, other) = other
 
 -- the triples with the cluster of the key as the second are those with that one
-pub second_same : (ix : Index) (x y : Cluster) (a : Elem) (k : ℕ) → cluster_at ix k ≡ Some y → IsBelow y.name x.name → (m : Merge) → WithCorner ix x y a m ↔ SecondAt ix x a k m
-second_same ix x y a k is below m = (
+pub second_same : (third : Third) (ix : Index) (x y : Cluster) (a : Elem) (k : ℕ) → cluster_at ix k ≡ Some y → IsBelow y.name x.name → (m : Merge) → WithCorner third ix x y a m ↔ SecondAt third ix x a k m
+second_same third ix x y a k is below m = (
   (λ with. (y, is, below, with)),
-  (λ (y', y'_is, y'_below, with). (let same : Some y' ≡ Some y = sym y'_is ∙ is in subst (λ (w : Cluster). WithCorner ix x w a m) (same_Some _ _ same) with)),
+  (λ (y', y'_is, y'_below, with). (let same : Some y' ≡ Some y = sym y'_is ∙ is in subst (λ (w : Cluster). WithCorner third ix x w a m) (same_Some _ _ same) with)),
 )

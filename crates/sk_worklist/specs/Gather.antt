@@ -8,6 +8,8 @@ use Rattle.sk_family.specs.declared.Cluster.{Cluster}
 use Rattle.sk_rules.specs.declared.Merge.{Merge}
 use Rattle.sk_rules.specs.declared.Merge.TheVariants.{Three}
 use Rattle.sk_index.specs.declared.Index.{Index}
+use Rattle.sk_worklist.specs.declared.triples.Third.{Third}
+use Rattle.sk_worklist.specs.declared.triples.Third.TheVariants.{Below, Either}
 use Rattle.sk_worklist.specs.Choices.{CanTake, ComesFirst}
 use Rattle.sk_index.specs.Indexed.{cluster_at, holders_of, IsThirdIn}
 use Rattle.sk_index.specs.Walks.{FromSome}
@@ -22,31 +24,45 @@ IsOther xs a e = (e ≢ a) × Contains xs e
 abbrev pub HoldsSome : Clusters → List Elem → Name → Name → Type 0
 HoldsSome f es bound n = (c : Cluster) × IsNamed f n c × IsBelow n bound × ((e : Elem) × Contains es e × Contains c.elements e)
 
--- z is below y, and some corner between it and x makes a triangle with a and b
-abbrev pub IsThirdCluster : Index → Cluster → Cluster → Cluster → Elem → Elem → Type 0
-IsThirdCluster ix x y z a b = IsBelow z.name y.name × (a ≢ b) × IsThirdIn ix a b x.elements z.elements
+-- the third cluster's name is below the second's alone, or it is another below the greatest
+abbrev pub IsPlaced : Third → Name → Name → Name → Type 0
+IsPlaced Below x y z = IsBelow z y
+IsPlaced Either x y z = IsBelow z x × (z ≢ y)
+
+-- the name below which it stands
+abbrev pub limit_of : Third → Name → Name → Name
+limit_of Below x y = y
+limit_of Either x y = x
+
+-- z stands where it is looked for, and some corner between it and x makes a triangle with a and b
+abbrev pub IsThirdCluster : Third → Index → Cluster → Cluster → Cluster → Elem → Elem → Type 0
+IsThirdCluster third ix x y z a b = IsPlaced third x.name y.name z.name × (a ≢ b) × IsThirdIn ix a b x.elements z.elements
+
+-- the triple of three names of which x is the greatest
+abbrev pub IsTripleOf : Name → Name → Name → Merge → Type 0
+IsTripleOf x y z m = (IsBelow z y × (m ≡ Three x y z)) ⊎ (IsBelow y z × (m ≡ Three x z y))
 
 -- the triple of x, y and the cluster of that key
-abbrev pub ThirdAt : Index → Cluster → Cluster → Elem → Elem → ℕ → Merge → Type 0
-ThirdAt ix x y a b k m = (z : Cluster) × (cluster_at ix k ≡ Some z) × IsThirdCluster ix x y z a b × (m ≡ Three x.name y.name z.name)
+abbrev pub ThirdAt : Third → Index → Cluster → Cluster → Elem → Elem → ℕ → Merge → Type 0
+ThirdAt third ix x y a b k m = (z : Cluster) × (cluster_at ix k ≡ Some z) × IsThirdCluster third ix x y z a b × IsTripleOf x.name y.name z.name m
 
 -- the triples of x and y with a and b as corners, and with a as the corner between the two
-abbrev pub WithCorners : Index → Cluster → Cluster → Elem → Elem → Merge → Type 0
-WithCorners ix x y a b = FromSome (ThirdAt ix x y a b) (holders_of ix b)
+abbrev pub WithCorners : Third → Index → Cluster → Cluster → Elem → Elem → Merge → Type 0
+WithCorners third ix x y a b = FromSome (ThirdAt third ix x y a b) (holders_of ix b)
 
-abbrev pub WithCorner : Index → Cluster → Cluster → Elem → Merge → Type 0
-WithCorner ix x y a = FromSome (WithCorners ix x y a) y.elements
+abbrev pub WithCorner : Third → Index → Cluster → Cluster → Elem → Merge → Type 0
+WithCorner third ix x y a = FromSome (WithCorners third ix x y a) y.elements
 
 -- the triples of x and the cluster of that key, as the second, with a between the two
-abbrev pub SecondAt : Index → Cluster → Elem → ℕ → Merge → Type 0
-SecondAt ix x a k m = (y : Cluster) × (cluster_at ix k ≡ Some y) × IsBelow y.name x.name × WithCorner ix x y a m
+abbrev pub SecondAt : Third → Index → Cluster → Elem → ℕ → Merge → Type 0
+SecondAt third ix x a k m = (y : Cluster) × (cluster_at ix k ≡ Some y) × IsBelow y.name x.name × WithCorner third ix x y a m
 
 -- all triples of x as the greatest, with a as a corner, and with any
-abbrev pub AtCorner : Index → Cluster → Elem → Merge → Type 0
-AtCorner ix x a = FromSome (SecondAt ix x a) (holders_of ix a)
+abbrev pub AtCorner : Third → Index → Cluster → Elem → Merge → Type 0
+AtCorner third ix x a = FromSome (SecondAt third ix x a) (holders_of ix a)
 
 abbrev pub TriplesOf : Index → Cluster → Merge → Type 0
-TriplesOf ix x = FromSome (AtCorner ix x) x.elements
+TriplesOf ix x = FromSome (AtCorner Below ix x) x.elements
 
 -- the cluster of that key is below x and shares two elements with it, and is so named
 abbrev pub PartnerAt : Index → Cluster → ℕ → Name → Type 0
@@ -55,8 +71,16 @@ PartnerAt ix x k n = (y : Cluster) × (cluster_at ix k ≡ Some y) × IsBelow y.
 abbrev pub PartnerOf : Index → Cluster → Elem → Name → Type 0
 PartnerOf ix x e n = (k : ℕ) × Contains (holders_of ix e) k × PartnerAt ix x k n
 
+-- the same by another element than that one
+abbrev pub PartnerUnless : Option Elem → Index → Cluster → Elem → Name → Type 0
+PartnerUnless hub ix x e n = (hub ≢ Some e) × PartnerOf ix x e n
+
+-- what some item of the list gives
+abbrev pub GivenBy : {X : Type 0} → (X → Name → Type 0) → List X → Name → Type 0
+GivenBy kind xs n = (x : _) × Contains xs x × kind x n
+
 abbrev pub Partner : Index → Cluster → Name → Type 0
-Partner ix x n = (e : Elem) × Contains x.elements e × PartnerOf ix x e n
+Partner ix x = GivenBy (PartnerOf ix x) x.elements
 
 -- the least name of that kind, if there is one
 abbrev pub IsLeast : (Name → Type 0) → Option Name → Type 0
@@ -82,7 +106,11 @@ pub record IsPartner (ix : Index) (clusters : List Cluster) (x y : Name) : Type 
 abbrev pub TakesFrom : Graph → Clusters → Cluster → Merge → Type 0
 TakesFrom g f x m = CanTake g f m × ((y : Name) × (z : Name) × (m ≡ Three x.name y z))
 
--- just the triples whose greatest cluster isn't below the name, in order
+-- a triple whose greatest cluster isn't below the name
+abbrev pub IsUncovered : Graph → Clusters → Name → Merge → Type 0
+IsUncovered g f bound m = (x : Cluster) × (Contains f.live x × ¬ IsBelow x.name bound) × TakesFrom g f x m
+
+-- just those, in order
 pub record AreUncovered (g : Graph) (f : Clusters) (bound : Name) (found : List Merge) : Type 0 where
   pub in_order : AllPairs ComesFirst found
-  pub exactly : (m : Merge) → Contains found m ↔ ((x : Cluster) × (Contains f.live x × ¬ IsBelow x.name bound) × TakesFrom g f x m)
+  pub exactly : (m : Merge) → Contains found m ↔ IsUncovered g f bound m

@@ -6,3 +6,5 @@ pub mod Gather
 pub mod Turns
 pub mod Settling
 pub mod Grown
+pub mod Heirs
+pub mod Ranked

@@ -1,15 +1,16 @@
 -- What a worklist knows, and what it answers at a turn.
-use Rattle.std.specs.Prelude.{◌≡◌, ℕ, List, [], Option, None, Some, length, slice_get}
+use Rattle.std.specs.Prelude.{◌≡◌, ◌++◌, ℕ, List, [], Option, None, Some, length, slice_get}
 use Rattle.sk_base.specs.declared.Name.{Name}
 use Rattle.sk_base.specs.declared.Graph.{Graph}
 use Rattle.sk_family.specs.Clusters.{Clusters, unnamed}
 use Rattle.sk_rules.specs.declared.Merge.{Merge}
 use Rattle.sk_rules.specs.declared.Merge.TheVariants.{Two}
-use Rattle.sk_rules.specs.Merges.{names_of}
+use Rattle.sk_rules.specs.Merges.{merged, names_of}
 use Rattle.sk_worklist.specs.declared.worklist.Worklist.{Worklist}
 use Rattle.sk_worklist.specs.Choices.{AreChoices, CanTake}
 use Rattle.sk_index.specs.Indexed.{Represents}
 use Rattle.sk_worklist.specs.Known.{Knows}
+use Rattle.sk_worklist.specs.Heirs.{IsHeirOf}
 
 -- what the worklist knows of the merges of the family
 abbrev pub KnowsOf : Worklist → Graph → Clusters → Type 0
@@ -19,11 +20,21 @@ KnowsOf w g f = Knows w.clear w.covered w.kept.items w.gone g f
 pub record Follows (w : Worklist) (g : Graph) (f : Clusters) : Type 0 where
   pub represents : Represents w.index g f.live
   pub knows : KnowsOf w g f
+  pub heirs : IsHeirOf g f w.covered w.kept.items w.gone w.heir w.fresh
 
--- the same, with the clusters of the merge taken out of the index
+-- the same, with the clusters of the merge taken out of the index, and what it makes of the heir
 pub record HasLeft (w : Worklist) (g : Graph) (f : Clusters) (m : Merge) : Type 0 where
   pub represents : Represents w.index g (unnamed (names_of m) f.live)
   pub knows : KnowsOf w g f
+  pub heirs : IsHeirOf g (merged f m) w.covered w.kept.items (w.gone ++ names_of m) w.heir w.fresh
+
+-- all but the heir and its fresh elements is the same
+pub record IsSameButHeir (old new : Worklist) : Type 0 where
+  pub index : new.index ≡ old.index
+  pub clear : new.clear ≡ old.clear
+  pub covered : new.covered ≡ old.covered
+  pub kept : new.kept ≡ old.kept
+  pub gone : new.gone ≡ old.gone
 
 abbrev pub HasNoPair : Graph → Clusters → Type 0
 HasNoPair g f = (p q : Name) → ¬ CanTake g f (Two p q)

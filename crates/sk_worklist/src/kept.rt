@@ -51,7 +51,7 @@ fn names_any(merge: Merge, names: &[Name]) -> bool
 }
 
 /// Whether the name is one of these, which stand in order.
-fn is_among(name: Name, names: &[Name]) -> bool
+pub(crate) fn is_among(name: Name, names: &[Name]) -> bool
     requires { AllPairs IsBelow names.now }
     ensures { result ≡ is_named names.now name }
 {

@@ -6,11 +6,13 @@ mod any_order;
 mod chosen;
 mod close;
 mod growth;
+mod heir;
 mod kept;
 mod law;
 mod meets;
 mod partner;
 mod picker;
+mod ranked;
 mod triples;
 mod worklist;
 

@@ -1,4 +1,5 @@
-ghost use Rattle.std.specs.Prelude.{◌↔◌, IsTrue, IfSome, IfNone, Contains, AllPairs};
+// Clusters that may merge as a pair.
+ghost use Rattle.std.specs.Prelude.{◌≡◌, ◌↔◌, IsTrue, IfSome, IfNone, Contains, AllPairs, Some};
 ghost use Rattle.sk_base.specs.ClusterNames.{IsBelow};
 ghost use Rattle.sk_base.specs.Numbering.{elem_number};
 ghost use Rattle.sk_base.specs.Rising.{IsRising};
@@ -7,40 +8,119 @@ ghost use Rattle.sk_family.specs.Clusters.{ByName};
 ghost use Rattle.sk_family.specs.declared.Cluster.{Cluster as AnyCluster};
 ghost use Rattle.sk_rules.specs.Rules.{SharesTwo};
 ghost use Rattle.sk_index.specs.Indexed.{AllRise, IsIndex};
-ghost use Rattle.sk_worklist.specs.Gather.{IsLeast, IsLesser, IsPartner, Partner, PartnerAt, PartnerOf};
+ghost use Rattle.sk_worklist.specs.Gather.{GivenBy, IsLeast, IsLesser, IsPartner, Partner, PartnerAt, PartnerOf, PartnerUnless};
+ghost use Rattle.sk_worklist.specs.Heirs.{TellsFresh};
 
+use crate::heir::{Heir, is_same};
 use crate::meets::shares_two;
 use sk_base::{Elem, Name};
 use sk_family::Cluster;
 use sk_index::Index;
 
 /// The first of these clusters that has a partner, and the least one.
-pub(crate) fn first_with_partner(index: &Index, clusters: &[Cluster]) -> Option<(Name, Name)>
+pub(crate) fn first_with_partner(
+    index: &Index,
+    clusters: &[Cluster],
+    heir: Option<Heir>,
+    fresh: &[Elem],
+) -> Option<(Name, Name)>
     requires index { IsIndex index.now }
+    requires tells { (c : AnyCluster) → Contains clusters.now c → TellsFresh index.now heir fresh.now c }
     requires rise { AllRise clusters.now }
     requires by_name { AllPairs ByName clusters.now }
     ensures none { IfNone result ((c : AnyCluster) (n : ClusterName) → Contains clusters.now c → ¬ Partner index.now c n) }
     ensures some { IfSome result (λ pair. IsPartner index.now clusters.now pair.0 pair.1) }
 {
     for x in clusters {
-        if let Some(y) = least_partner(index, x) {
+        if let Some(y) = least_partner_by(index, x, heir, fresh) {
             return Some((x.name, y));
         }
     }
     None
 }
 
-/// The least of the clusters below x that share two elements with it.
+/// The least of the clusters below x that share two elements with it, where an heir's are found by its
+/// fresh elements.
+fn least_partner_by(index: &Index, x: &Cluster, heir: Option<Heir>, fresh: &[Elem]) -> Option<Name>
+    requires index { IsIndex index.now }
+    requires rises { IsRising elem_number x.now.elements }
+    requires tells { TellsFresh index.now heir fresh.now x.now }
+    ensures { IsLeast (Partner index.now x.now) result }
+{
+    match heir {
+        Some(grown) => {
+            if is_same(x.name, grown.name) {
+                least_partner_at(index, x, fresh, None)
+            } else {
+                least_partner(index, x)
+            }
+        }
+        None => least_partner(index, x),
+    }
+}
+
+/// The least of the clusters below x that share two elements with it. Those share one beside the
+/// element that most clusters hold, so that one is left out.
 pub(crate) fn least_partner(index: &Index, x: &Cluster) -> Option<Name>
     requires index { IsIndex index.now }
     requires rises { IsRising elem_number x.now.elements }
     ensures { IsLeast (Partner index.now x.now) result }
 {
+    let elements = x.elements.as_slice();
+    least_partner_at(index, x, elements, hub_of(index, elements))
+}
+
+/// The one of these that most clusters hold.
+fn hub_of(index: &Index, elements: &[Elem]) -> Option<Elem> {
+    let mut hub = None;
+    let mut most = 0;
+    for elem in elements {
+        let count = index.holders(*elem).len();
+        if count > most {
+            hub = Some(*elem);
+            most = count;
+        }
+    }
+    hub
+}
+
+/// The least of those that hold one of these elements, but for the hub.
+fn least_partner_at(
+    index: &Index,
+    x: &Cluster,
+    elements: &[Elem],
+    hub: Option<Elem>,
+) -> Option<Name>
+    requires index { IsIndex index.now }
+    requires rises { IsRising elem_number x.now.elements }
+    ensures { IsLeast (GivenBy (PartnerUnless hub index.now x.now) elements.now) result }
+{
     let mut least = None;
-    for elem in x.elements.as_slice() {
-        least = lesser(least, partner_of(index, x, *elem));
+    for elem in elements {
+        least = lesser(least, partner_unless(index, x, *elem, hub));
     }
     least
+}
+
+/// The least of those that hold the element, unless it is the hub.
+fn partner_unless(index: &Index, x: &Cluster, elem: Elem, hub: Option<Elem>) -> Option<Name>
+    requires index { IsIndex index.now }
+    requires rises { IsRising elem_number x.now.elements }
+    ensures { IsLeast (PartnerUnless hub index.now x.now elem) result }
+{
+    if is_hub(elem, hub) {
+        return None;
+    }
+    partner_of(index, x, elem)
+}
+
+fn is_hub(elem: Elem, hub: Option<Elem>) -> bool
+    ensures { IsTrue result ↔ (hub ≡ Some elem) }
+{
+    match hub {
+        Some(other) => other == elem,
+        None => false,
+    }
 }
 
 /// The least of those that hold the element.

@@ -1,20 +1,24 @@
 // The worklist of a family that is being closed. A new cluster has the greatest name, so what is known
 // of the merges below a name stays known, but for those of the merged clusters.
-ghost use Rattle.std.specs.Prelude.{◌≡◌, ◌↔◌, IfOk, OnOk, IfSome, IfNone, AllPairs, Contains};
+ghost use Rattle.std.specs.Prelude.{◌≡◌, ◌↔◌, ◌++◌, [], IfOk, OnOk, IfSome, IfNone, IsTrue, AllPairs, Contains};
 ghost use Rattle.sk_base.specs.declared.Graph.{Graph as AnyGraph};
 ghost use Rattle.sk_base.specs.declared.Name.{Name as ClusterName};
 ghost use Rattle.sk_base.specs.ClusterNames.{IsBelow};
 ghost use Rattle.sk_family.specs.Clusters.{Clusters, IsSound};
 ghost use Rattle.sk_rules.specs.Merges.{merged, names_of};
 ghost use Rattle.sk_worklist.specs.Choices.{AreTriples, IsFirstPair};
-ghost use Rattle.sk_worklist.specs.Gather.{AreUncovered, HoldsSome};
+ghost use Rattle.sk_worklist.specs.Gather.{AreUncovered, HoldsSome, IsUncovered};
 ghost use Rattle.sk_index.specs.Indexed.{HasElements, IsIndex, Represents};
-ghost use Rattle.sk_worklist.specs.Turns.{Answers, Follows, HasLeft, HasNoPair};
+ghost use Rattle.sk_worklist.specs.Turns.{Answers, Follows, HasLeft, HasNoPair, IsSameButHeir};
+ghost use Rattle.sk_worklist.specs.Heirs.{IsHeir, IsHeirOf, IsOfFresh, IsOfHeir};
+ghost use Rattle.sk_index.specs.Walks.{GrowsBy};
 
+use crate::heir::{Heir, add_fresh, add_inherited, biggest, has_name, is_same};
 use crate::kept::{drop_naming, in_order, names_in_order};
 use crate::partner::first_with_partner;
 use crate::picker::Picker;
-use crate::triples::add_triples_of_all;
+use crate::ranked::add_ranked_of_all;
+use crate::triples::{Third, add_triples_at, add_triples_of_all};
 use sk_base::{Elem, Graph, List, Name, NoMemory};
 use sk_family::Family;
 use sk_index::{Index, add_holders_of_all};
@@ -33,6 +37,10 @@ pub struct Worklist {
     kept: Vec<Merge>,
     /// The merged clusters that kept triples may still name.
     gone: List<Name>,
+    /// The one cluster that isn't covered, where it is known how it came about, and what it has more
+    /// than its core.
+    heir: Option<Heir>,
+    fresh: List<Elem>,
 }
 
 impl Worklist {
@@ -47,6 +55,8 @@ impl Worklist {
             covered: Name::Con(0),
             kept: Vec::new(alloc),
             gone: List::new(alloc),
+            heir: None,
+            fresh: List::new(alloc),
         })
     }
 
@@ -56,7 +66,7 @@ impl Worklist {
         family: &Family,
         picker: &mut P,
     ) -> Result<Option<Merge>, NoMemory>
-        requires { IsIndex self.old.index }
+        requires { (g : AnyGraph) × Follows self.old g family.now }
         ensures follows { OnOk result ((g : AnyGraph) → Follows self.old g family.now → Follows self.new g family.now) }
         ensures answer { IfOk result (λ choice. (g : AnyGraph) → Follows self.old g family.now → Answers P.answer P.after g family.now picker.old choice picker.new) }
         ensures sound { IsSound family.now }
@@ -88,10 +98,70 @@ impl Worklist {
         requires some { (n : ClusterName) → Contains (names_of merge) n → HasElements family.now n }
         ensures { (g : AnyGraph) → Follows self.old g family.now → HasLeft self.new g family.now merge }
     {
+        self.note(family, merge);
         match merge {
             Merge::Two(x, y) => self.index.take_out_all(family, &[x, y]),
             Merge::Three(x, y, z) => self.index.take_out_all(family, &[x, y, z]),
         }
+    }
+
+    /// Notes how the cluster that the merge makes comes about.
+    fn note(&mut self, family: &Family, merge: Merge)
+        ensures same { IsSameButHeir self.old self.new }
+        ensures heirs { (g : AnyGraph) → Follows self.old g family.now → IsHeirOf g (merged family.now merge) self.new.covered self.new.kept.items (self.new.gone ++ names_of merge) self.new.heir self.new.fresh }
+    {
+        self.heir = self.grown(family, merge);
+    }
+
+    /// The heir that the merge makes, if it is known how that comes about.
+    fn grown(&mut self, family: &Family, merge: Merge) -> Option<Heir>
+        ensures same { IsSameButHeir self.old self.new }
+        ensures heir { (g : AnyGraph) → Follows self.old g family.now → IsHeirOf g (merged family.now merge) self.new.covered self.new.kept.items (self.new.gone ++ names_of merge) result self.new.fresh }
+    {
+        let base = self.heir_in(family, merge)?;
+        if add_fresh(family, merge, base.name, &mut self.fresh) {
+            Some(Heir {
+                core: base.core,
+                name: Name::Step(family.next_step()),
+            })
+        } else {
+            None
+        }
+    }
+
+    /// The heir, if the merge names it, or where all triples are kept and no pair may merge the
+    /// biggest of its clusters as one of itself.
+    fn heir_in(&mut self, family: &Family, merge: Merge) -> Option<Heir>
+        ensures same { IsSameButHeir self.old self.new }
+        ensures named { IfSome result (λ heir. Contains (names_of merge) heir.name) }
+        ensures heir { IfSome result (λ heir. (g : AnyGraph) → Follows self.old g family.now → IsHeir g family.now self.new.covered self.new.kept.items self.new.gone heir self.new.fresh) }
+    {
+        match self.heir {
+            Some(heir) => {
+                if has_name(merge, heir.name) {
+                    Some(heir)
+                } else {
+                    None
+                }
+            }
+            None => {
+                if self.keeps_all(family) {
+                    self.fresh = List::new(self.alloc);
+                    let core = biggest(family, merge)?.name;
+                    Some(Heir { core, name: core })
+                } else {
+                    None
+                }
+            }
+        }
+    }
+
+    /// Whether all triples are kept, and it is known that no pair may merge.
+    fn keeps_all(&self, family: &Family) -> bool
+        ensures { IsTrue result → (self.now.gone ≡ []) × (self.now.clear ≡ Name.Step family.now.next_step) × (self.now.covered ≡ Name.Step family.now.next_step) }
+    {
+        let next = Name::Step(family.next_step());
+        self.gone.is_empty() && is_same(self.clear, next) && is_same(self.covered, next)
     }
 
     /// Puts the cluster in that the merge made.
@@ -119,13 +189,18 @@ impl Worklist {
 
     /// The first pair that may merge.
     fn first_pair(&mut self, family: &Family) -> Option<Merge>
-        requires { IsIndex self.old.index }
+        requires { (g : AnyGraph) × Follows self.old g family.now }
         ensures index { self.new.index ≡ self.old.index }
         ensures sound { IsSound family.now }
         ensures none { IfNone result ((g : AnyGraph) → Follows self.old g family.now → Follows self.new g family.now × HasNoPair g family.now) }
         ensures some { IfSome result (λ pair. (g : AnyGraph) → Follows self.old g family.now → Follows self.new g family.now × IsFirstPair g family.now pair) }
     {
-        match first_with_partner(&self.index, family.not_below(self.clear)) {
+        match first_with_partner(
+            &self.index,
+            family.not_below(self.clear),
+            self.heir,
+            self.fresh.as_slice(),
+        ) {
             Some((x, y)) => {
                 self.clear = x;
                 Some(Merge::Two(x, y))
@@ -139,27 +214,96 @@ impl Worklist {
 
     /// Keeps all triples.
     fn keep_all(&mut self, family: &Family) -> Result<(), NoMemory>
-        requires { IsIndex self.old.index }
+        requires { (g : AnyGraph) × Follows self.old g family.now }
         ensures { OnOk result ((g : AnyGraph) → Follows self.old g family.now → HasNoPair g family.now → Follows self.new g family.now × AreTriples g family.now self.new.kept.items) }
     {
-        let found = self.uncovered(family)?;
         let gone = names_in_order(self.alloc, self.gone.as_slice())?;
+        let found = self.uncovered(family, gone.as_slice())?;
         drop_naming(&mut self.kept, gone.as_slice());
         self.gone = List::new(self.alloc);
+        self.heir = None;
         self.kept.extend_from_slice(found.as_slice())?;
         self.covered = Name::Step(family.next_step());
         Ok(())
     }
 
     /// The triples of the clusters that aren't covered, in order.
-    fn uncovered(&self, family: &Family) -> Result<Vec<Merge>, NoMemory>
-        requires { IsIndex self.now.index }
-        ensures found { IfOk result (λ found. (g : AnyGraph) → Represents self.now.index g family.now.live → AreUncovered g family.now self.now.covered found.items) }
+    fn uncovered(&self, family: &Family, gone: &[Name]) -> Result<Vec<Merge>, NoMemory>
+        requires follows { (g : AnyGraph) × Follows self.now g family.now }
+        requires in_order { AllPairs IsBelow gone.now }
+        requires same { (n : ClusterName) → Contains gone.now n ↔ Contains self.now.gone n }
+        ensures found { IfOk result (λ found. (g : AnyGraph) → Follows self.now g family.now → AreUncovered g family.now self.now.covered found.items) }
         ensures sound { IsSound family.now }
     {
         let mut found = List::new(self.alloc);
-        add_triples_of_all(&self.index, family.not_below(self.covered), &mut found)?;
+        self.add_uncovered(family, gone, &mut found)?;
         in_order(self.alloc, found.as_slice())
+    }
+
+    /// Adds the triples of the clusters that aren't covered.
+    fn add_uncovered(
+        &self,
+        family: &Family,
+        gone: &[Name],
+        all: &mut List<Merge>,
+    ) -> Result<(), NoMemory>
+        requires follows { (g : AnyGraph) × Follows self.now g family.now }
+        requires in_order { AllPairs IsBelow gone.now }
+        requires same { (n : ClusterName) → Contains gone.now n ↔ Contains self.now.gone n }
+        ensures grows { OnOk result ((g : AnyGraph) → Follows self.now g family.now → GrowsBy (IsUncovered g family.now self.now.covered) all.old all.new) }
+        ensures sound { IsSound family.now }
+    {
+        match self.heir {
+            Some(heir) => self.add_triples_of_heir(family, heir, gone, all),
+            None => self.add_triples_anew(family, all),
+        }
+    }
+
+    /// The same where it isn't known how they came about: with nothing covered they are all triples.
+    fn add_triples_anew(&self, family: &Family, all: &mut List<Merge>) -> Result<(), NoMemory>
+        requires { (g : AnyGraph) × Follows self.now g family.now }
+        ensures grows { OnOk result ((g : AnyGraph) → Follows self.now g family.now → GrowsBy (IsUncovered g family.now self.now.covered) all.old all.new) }
+        ensures sound { IsSound family.now }
+    {
+        if is_same(self.covered, Name::Con(0)) {
+            add_ranked_of_all(&self.index, family.clusters(), all)
+        } else {
+            add_triples_of_all(&self.index, family.not_below(self.covered), all)
+        }
+    }
+
+    /// Adds the triples of the heir.
+    fn add_triples_of_heir(
+        &self,
+        family: &Family,
+        heir: Heir,
+        gone: &[Name],
+        all: &mut List<Merge>,
+    ) -> Result<(), NoMemory>
+        requires index { IsIndex self.now.index }
+        requires in_order { AllPairs IsBelow gone.now }
+        ensures grows { OnOk result (GrowsBy (IsOfHeir self.now.index family.now self.now.kept.items heir gone.now self.now.fresh) all.old all.new) }
+        ensures sound { IsSound family.now }
+    {
+        self.add_fresh_triples(family, heir.name, all)?;
+        add_inherited(self.kept.as_slice(), heir, gone, all)
+    }
+
+    /// Adds those of the cluster of that name with a fresh element as a corner.
+    fn add_fresh_triples(
+        &self,
+        family: &Family,
+        name: Name,
+        all: &mut List<Merge>,
+    ) -> Result<(), NoMemory>
+        requires { IsIndex self.now.index }
+        ensures grows { OnOk result (GrowsBy (IsOfFresh self.now.index family.now name self.now.fresh) all.old all.new) }
+        ensures sound { IsSound family.now }
+    {
+        match family.cluster(name) {
+            Some(x) => { add_triples_at(&self.index, x, self.fresh.as_slice(), Third::Either, all) }
+            None => Ok(()),
+        }
     }
 }
 

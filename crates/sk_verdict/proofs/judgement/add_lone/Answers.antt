@@ -1,14 +1,16 @@
-use Rattle.std.proofs.Common.{◌+◌, ◌<◌, get_or, take, sym, subst, ap, ◌∙◌, List}
+use Rattle.std.proofs.Common.{◌+◌, ◌<◌, Bool, get_or, take, sym, subst, ap, ◌∙◌, List}
 use Rattle.std.specs.Prelude.{AllPairs}
 use Rattle.std.proofs.lemmas.List.{get_or_default}
 use Rattle.sk_base.specs.declared.Node.{Node}
 use Rattle.sk_base.specs.declared.Kind.TheVariants.{Point}
 use Rattle.sk_base.proofs.Searches.{refused}
 use Rattle.sk_verdict.specs.declared.part.Part.{Part}
+use Rattle.sk_index.specs.Marks.{IsMarked}
+use Rattle.sk_verdict.specs.Parts.{IsNamedByNone}
 use Rattle.sk_verdict.specs.Building.{AddsLone}
 use Rattle.sk_verdict.proofs.Gathering.{lone_part_is, node_new, node_more, node_passed}
 use Rattle.sk_verdict.proofs.judgement.add_lone.Goals as goal
-use Rattle.sk_verdict.proofs.judgement.add_lone.Goals.{then-is_named_by_none+in_ok-lone_part+in_ok-put, else-is_named_by_none}
+use Rattle.sk_verdict.proofs.judgement.add_lone.Goals.{then-is_unmarked+in_ok-lone_part+in_ok-put, else-is_unmarked}
 
 first : Node
 first = record { elem = record { 0 = 0 }; kind = Point }
@@ -31,13 +33,17 @@ loop-node-preserved c =
     let nodes = c.as_slice-node-items.result.now in
     let i = c.loop-node.node-index in
     let at_i = get_or_default nodes i (get_or nodes i first) first c.loop-node-test.true in
-    elim c.if-is_named_by_none.branch [
-      | then-is_named_by_none+in_ok-lone_part+in_ok-put w ↦ subst (λ (ps : List Part). AddsLone g (take (i + 1) nodes) c.args.parts.now ps) (sym w.parts-is)
+    let e = (get_or nodes i first).elem in
+    -- what the marks tell of this node
+    let by_none = λ (h : ¬ IsMarked c.as_slice.result.now e). (c.in_ok-named.ensures e).0 (λ m. h (subst (λ (l : List Bool). IsMarked l e) (sym c.as_slice.ensures.value) m)) in
+    let unmarked = λ (h : IsNamedByNone g e). (λ (m : IsMarked c.as_slice.result.now e). (c.in_ok-named.ensures e).1 h (subst (λ (l : List Bool). IsMarked l e) c.as_slice.ensures.value m)) in
+    elim c.if-is_unmarked.branch [
+      | then-is_unmarked+in_ok-lone_part+in_ok-put w ↦ subst (λ (ps : List Part). AddsLone g (take (i + 1) nodes) c.args.parts.now ps) (sym w.parts-is)
           (node_more g nodes i (get_or nodes i first) c.loop-node-test.true at_i c.args.parts.now c.loop-node.parts c.loop-node.invariant
-          (c.is_named_by_none.ensures.0 w.if-is_named_by_none.true) w.in_ok-lone_part.field-0
-          (w.in_ok-lone_part.ensures ∙ lone_part_is g (get_or nodes i first).elem (c.is_named_by_none.ensures.0 w.if-is_named_by_none.true))
+          (by_none (c.is_unmarked.ensures.0 w.if-is_unmarked.true)) w.in_ok-lone_part.field-0
+          (w.in_ok-lone_part.ensures ∙ lone_part_is g (get_or nodes i first).elem (by_none (c.is_unmarked.ensures.0 w.if-is_unmarked.true)))
           w.put.new.parts w.in_ok-put.ensures.in_order w.in_ok-put.ensures.has)
-      | else-is_named_by_none w ↦ subst (λ (ps : List Part). AddsLone g (take (i + 1) nodes) c.args.parts.now ps) (sym w.parts-is)
+      | else-is_unmarked w ↦ subst (λ (ps : List Part). AddsLone g (take (i + 1) nodes) c.args.parts.now ps) (sym w.parts-is)
           (node_passed g nodes i (get_or nodes i first) c.loop-node-test.true at_i c.args.parts.now c.loop-node.parts c.loop-node.invariant
-          (refused w.if-is_named_by_none.ensures.1))
+          (λ is. refused w.if-is_unmarked.ensures.1 (unmarked is)))
     ]

@@ -9,6 +9,11 @@ use Rattle.sk_worklist.specs.Gather.{Partner}
 use Rattle.sk_index.proofs.Fronts.{front_more, front_all, in_front}
 use Rattle.sk_worklist.proofs.partner.first_with_partner.Goals as goal
 
+pub least_partner_by-requires-clause-tells : goal.least_partner_by-requires-clause-tells
+least_partner_by-requires-clause-tells c =
+    let clusters = c.args.clusters.now in
+    c.requires.tells c.x-item.result (subst (λ (y : Cluster). Contains clusters y) (sym c.x-item.is) (Contains-get_or clusters c.loop-x.x-index c.x-item.result c.loop-x-test.true))
+
 pub returns-in-Some-clause-some : goal.returns-in-Some-clause-some
 returns-in-Some-clause-some c =
     let x = c.x-item.result in

@@ -1,5 +1,5 @@
-use Rattle.sk_worklist.specs.Gather.{PartnerAt}
-use Rattle.sk_worklist.proofs.Least.{GivenBy, least_same, least_start, least_step, least_end}
+use Rattle.sk_worklist.specs.Gather.{GivenBy, PartnerAt}
+use Rattle.sk_worklist.proofs.Least.{least_same, least_start, least_step, least_end}
 use Rattle.sk_index.specs.Indexed.{IsBelowAt, holders_of}
 use Rattle.sk_worklist.proofs.Walking.{given_same}
 use Rattle.sk_worklist.proofs.partner.partner_of.Goals as goal

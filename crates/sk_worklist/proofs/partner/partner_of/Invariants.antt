@@ -1,6 +1,5 @@
 use Rattle.std.proofs.Common.{take}
-use Rattle.sk_worklist.specs.Gather.{IsLeast, PartnerAt}
-use Rattle.sk_worklist.proofs.Least.{GivenBy}
+use Rattle.sk_worklist.specs.Gather.{GivenBy, IsLeast, PartnerAt}
 use Rattle.sk_worklist.proofs.partner.partner_of.Given as goal
 
 abbrev pub invariant-loop-key : goal.invariant-loop-key

@@ -4,4 +4,4 @@ use Rattle.sk_worklist.specs.Gather.{WithCorners}
 use Rattle.sk_worklist.proofs.triples.add_with_corner.Given as goal
 
 abbrev pub invariant-loop-b : goal.invariant-loop-b
-invariant-loop-b l = GrowsBy (FromSome (WithCorners l.index l.x l.y l.a) (take l.b-index l.b-items)) l.fn.all l.all
+invariant-loop-b l = GrowsBy (FromSome (WithCorners l.third l.index l.x l.y l.a) (take l.b-index l.b-items)) l.fn.all l.all

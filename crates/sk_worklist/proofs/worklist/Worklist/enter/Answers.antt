@@ -5,7 +5,7 @@ use Rattle.sk_family.specs.declared.Cluster.{Cluster}
 use Rattle.sk_rules.specs.declared.Merge.{Merge}
 use Rattle.sk_rules.specs.Merges.{names_of}
 use Rattle.sk_index.specs.Indexed.{IsLast}
-use Rattle.sk_worklist.proofs.Entering.{whole_is_greatest, represents_entered, knows_entered}
+use Rattle.sk_worklist.proofs.Entering.{whole_is_greatest, represents_entered, knows_entered, heirs_entered}
 use Rattle.sk_worklist.proofs.worklist.Worklist.enter.Goals as goal
 
 pub put_last-requires-clause-greatest : goal.put_last-requires-clause-greatest
@@ -26,6 +26,8 @@ returns-in-Two c =
           )) c.in_ok-put_last.ensures.lines;
       knows = knows_entered c.args.self.now.clear c.args.self.now.covered c.args.self.now.kept.items c.args.self.now.gone c.extend.new.self g f sound c.args.merge c.args.family.now after_is
           (gone ∙ ap (λ (m : Merge). c.args.self.now.gone ++ names_of m) (sym c.in-Two.is)) left.knows;
+      heirs = heirs_entered c.args.self.now.covered c.args.self.now.kept.items c.args.self.now.gone c.extend.new.self c.args.self.now.heir c.args.self.now.fresh g f c.args.merge c.args.family.now after_is
+          (gone ∙ ap (λ (m : Merge). c.args.self.now.gone ++ names_of m) (sym c.in-Two.is)) left.heirs;
     })
 
 pub returns-in-Three : goal.returns-in-Three
@@ -38,4 +40,6 @@ returns-in-Three c =
           )) c.in_ok-put_last.ensures.lines;
       knows = knows_entered c.args.self.now.clear c.args.self.now.covered c.args.self.now.kept.items c.args.self.now.gone c.extend-in-Three.new.self g f sound c.args.merge c.args.family.now after_is
           (gone ∙ ap (λ (m : Merge). c.args.self.now.gone ++ names_of m) (sym c.in-Three.is)) left.knows;
+      heirs = heirs_entered c.args.self.now.covered c.args.self.now.kept.items c.args.self.now.gone c.extend-in-Three.new.self c.args.self.now.heir c.args.self.now.fresh g f c.args.merge c.args.family.now after_is
+          (gone ∙ ap (λ (m : Merge). c.args.self.now.gone ++ names_of m) (sym c.in-Three.is)) left.heirs;
     })

@@ -1,0 +1,47 @@
+-- The two names beside one in a triple, what an heir has instead of it, and lists that grow twice.
+use Rattle.std.proofs.Common.{◌≡◌, ◌⊎◌, inl, inr, List, sym, subst, ◌∙◌, ap}
+use Rattle.std.specs.Prelude.{Contains}
+use Rattle.sk_base.specs.declared.Name.{Name}
+use Rattle.sk_rules.specs.declared.Merge.{Merge}
+use Rattle.sk_rules.specs.declared.Merge.TheVariants.{Two, Three}
+use Rattle.sk_index.specs.Walks.{GrowsBy}
+use Rattle.sk_worklist.specs.declared.heir.Heir.{Heir}
+use Rattle.sk_worklist.specs.Heirs.{Inherits, IsBeside}
+
+-- a triple has one such pair
+one_beside : (t : Merge) (n p q r s : Name) → IsBeside t n p q → IsBeside t n r s → (p ≡ r) × (q ≡ s)
+one_beside (Two x y) n p q r s none other = absurd none
+one_beside (Three x y z) n p q r s (inl (x_is, y_p, z_q)) (inl (again, y_r, z_s)) = (sym y_p ∙ y_r, sym z_q ∙ z_s)
+one_beside (Three x y z) n p q r s (inl (x_is, y_p, z_q)) (inr (inl (other, y_is, x_r, z_s))) = absurd (other x_is)
+one_beside (Three x y z) n p q r s (inl (x_is, y_p, z_q)) (inr (inr (other, later, z_is, x_r, y_s))) = absurd (other x_is)
+one_beside (Three x y z) n p q r s (inr (inl (other, y_is, x_p, z_q))) (inl (x_is, y_r, z_s)) = absurd (other x_is)
+one_beside (Three x y z) n p q r s (inr (inl (other, y_is, x_p, z_q))) (inr (inl (again, y_again, x_r, z_s))) = (sym x_p ∙ x_r, sym z_q ∙ z_s)
+one_beside (Three x y z) n p q r s (inr (inl (other, y_is, x_p, z_q))) (inr (inr (again, later, z_is, x_r, y_s))) = absurd (later y_is)
+one_beside (Three x y z) n p q r s (inr (inr (other, later, z_is, x_p, y_q))) (inl (x_is, y_r, z_s)) = absurd (other x_is)
+one_beside (Three x y z) n p q r s (inr (inr (other, later, z_is, x_p, y_q))) (inr (inl (again, y_is, x_r, z_s))) = absurd (later y_is)
+one_beside (Three x y z) n p q r s (inr (inr (other, later, z_is, x_p, y_q))) (inr (inr (again, more, z_again, x_r, y_s))) = (sym x_p ∙ x_r, sym y_q ∙ y_s)
+
+module _ (heir : Heir) (gone : List Name) (t : Merge) (p q : Name) (beside : IsBeside t heir.core p q) where
+  -- where one of the two is gone, there is none
+  pub inherits_none : Contains gone p ⊎ Contains gone q → (m : Merge) → ¬ Inherits heir gone t m
+  inherits_none (inl p_in) m (r, s, is, r_out, s_out, m_is) = r_out (subst (λ n. Contains gone n) (one_beside t heir.core p q r s beside is).0 p_in)
+  inherits_none (inr q_in) m (r, s, is, r_out, s_out, m_is) = s_out (subst (λ n. Contains gone n) (one_beside t heir.core p q r s beside is).1 q_in)
+
+  -- and else just one
+  pub inherits_one : (m : Merge) → Inherits heir gone t m → m ≡ Three heir.name p q
+  inherits_one m (r, s, is, r_out, s_out, m_is) =
+      let same = one_beside t heir.core p q r s beside is in
+      m_is ∙ ap (λ n. Three heir.name n s) (sym same.0) ∙ ap (λ n. Three heir.name p n) (sym same.1)
+
+-- what grows by one kind, and then by another, grows by both
+pub grows_then : {M : Type 0} (kind other : M → Type 0) (old mid new : List M) → GrowsBy kind old mid → GrowsBy other mid new → GrowsBy (λ m. other m ⊎ kind m) old new
+grows_then kind other old mid new first then m = (
+  (λ h. elim ((then m).0 h) [
+    | inl was ↦ elim ((first m).0 was) [ inl before ↦ inl before | inr is ↦ inr (inr is) ]
+    | inr is ↦ inr (inl is)
+  ]),
+  (λ h. elim h [
+    | inl before ↦ (then m).1 (inl ((first m).1 (inl before)))
+    | inr is ↦ elim is [ inl second ↦ (then m).1 (inr second) | inr one ↦ (then m).1 (inl ((first m).1 (inr one))) ]
+  ]),
+)
