@@ -15,9 +15,11 @@ use Rattle.sk_index.specs.declared.Index.{Index}
 use Rattle.sk_index.specs.Indexed.{Represents}
 use Rattle.sk_index.specs.Walks.{FromSome}
 use Rattle.sk_worklist.specs.declared.heir.Heir.{Heir}
-use Rattle.sk_worklist.specs.declared.triples.Third.TheVariants.{Either}
+use Rattle.sk_search.specs.declared.Third.TheVariants.{Either}
 use Rattle.sk_worklist.specs.Choices.{CanTake}
-use Rattle.sk_worklist.specs.Gather.{AtCorner, IsUncovered, Partner, PartnerOf, TakesFrom}
+use Rattle.sk_search.specs.Partners.{Partner, PartnerOf}
+use Rattle.sk_search.specs.Triples.{AtCorner}
+use Rattle.sk_worklist.specs.Gather.{IsUncovered, TakesFrom}
 use Rattle.sk_worklist.specs.Heirs.{Inherits, IsBeside, IsHeir, IsHeirOf, IsNoHeir, IsOfHeir, TellsFresh}
 use Rattle.sk_worklist.proofs.Gathered.{at_corner, found_at, three_of}
 use Rattle.sk_worklist.proofs.Lefts.{below_others}

@@ -16,9 +16,11 @@ use Rattle.sk_rules.proofs.Merging.{meets_back, meets_on}
 use Rattle.sk_index.specs.declared.Index.{Index}
 use Rattle.sk_worklist.specs.Choices.{CanTake}
 use Rattle.sk_index.specs.Indexed.{Represents}
-use Rattle.sk_worklist.specs.declared.triples.Third.{Third}
-use Rattle.sk_worklist.specs.declared.triples.Third.TheVariants.{Below, Either}
-use Rattle.sk_worklist.specs.Gather.{AtCorner, IsPlaced, IsTripleOf, TriplesOf, Partner, TakesFrom}
+use Rattle.sk_search.specs.declared.Third.{Third}
+use Rattle.sk_search.specs.declared.Third.TheVariants.{Below, Either}
+use Rattle.sk_search.specs.Partners.{Partner}
+use Rattle.sk_search.specs.Triples.{AtCorner, IsPlaced, IsTripleOf, TriplesOf}
+use Rattle.sk_worklist.specs.Gather.{TakesFrom}
 
 -- the triangle with two clusters exchanged
 pub meets_turned : (g : Graph) (xs ys zs : List Elem) → MeetsInThree g xs ys zs → MeetsInThree g xs zs ys

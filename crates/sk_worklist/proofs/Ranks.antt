@@ -1,6 +1,6 @@
 -- What the walk from a corner to lower ones finds are just the triples that may merge.
-use Rattle.std.proofs.Common.{◌≡◌, ◌≢◌, ◌⊎◌, ◌∙◌, inl, inr, refl, ℕ, length, sym, subst, ap, arith}
-use Rattle.std.specs.Prelude.{◌↔◌, Contains, Some}
+use Rattle.std.proofs.Common.{◌≡◌, ◌≢◌, ◌⊎◌, ◌∙◌, inl, inr, refl, length, sym, subst, ap, arith}
+use Rattle.std.specs.Prelude.{◌↔◌, Contains}
 use Rattle.std.proofs.lemmas.Option.{same_Some}
 use Rattle.sk_base.specs.declared.Elem.{Elem}
 use Rattle.sk_base.specs.declared.Name.{Name}
@@ -17,31 +17,13 @@ use Rattle.sk_rules.specs.declared.Merge.TheVariants.{Three}
 use Rattle.sk_rules.specs.Rules.{IsTriangle, MeetsInThree}
 use Rattle.sk_rules.proofs.Merging.{meets_on}
 use Rattle.sk_index.specs.declared.Index.{Index}
-use Rattle.sk_index.specs.Indexed.{IsLineAt, Represents, cluster_at, holders_of}
+use Rattle.sk_index.specs.Indexed.{IsLineAt, Represents, holders_of}
 use Rattle.sk_index.specs.Walks.{FromSome}
 use Rattle.sk_worklist.specs.Choices.{CanTake}
 use Rattle.sk_worklist.specs.Gather.{IsUncovered}
-use Rattle.sk_worklist.specs.Ranked.{BesideAt, IsLower, IsTripleOfAny, IsWithThird, LastAt, RankedFrom, WithLower}
+use Rattle.sk_search.specs.Ranked.{IsLower, IsTripleOfAny, IsWithThird, RankedFrom}
 use Rattle.sk_worklist.proofs.Gathered.{meets_swapped, meets_turned, three_of}
 use Rattle.sk_worklist.proofs.OneRun.{below_tells}
-
--- three names have one triple
-one_with_third : (high low z : Name) (m n : Merge) → IsWithThird high low z m → IsWithThird high low z n → m ≡ n
-one_with_third high low z m n (inl (below, m_is)) (inl (again, n_is)) = m_is ∙ sym n_is
-one_with_third high low z m n (inl (below, m_is)) (inr (inl (above, under, n_is))) = absurd (above below)
-one_with_third high low z m n (inl (below, m_is)) (inr (inr (above, over, n_is))) = absurd (above below)
-one_with_third high low z m n (inr (inl (above, under, m_is))) (inl (below, n_is)) = absurd (above below)
-one_with_third high low z m n (inr (inl (above, under, m_is))) (inr (inl (again, more, n_is))) = m_is ∙ sym n_is
-one_with_third high low z m n (inr (inl (above, under, m_is))) (inr (inr (again, over, n_is))) = absurd (over under)
-one_with_third high low z m n (inr (inr (above, over, m_is))) (inl (below, n_is)) = absurd (above below)
-one_with_third high low z m n (inr (inr (above, over, m_is))) (inr (inl (again, under, n_is))) = absurd (over under)
-one_with_third high low z m n (inr (inr (above, over, m_is))) (inr (inr (again, more, n_is))) = m_is ∙ sym n_is
-
-pub one_of_any : (x y z : Name) (m n : Merge) → IsTripleOfAny x y z m → IsTripleOfAny x y z n → m ≡ n
-one_of_any x y z m n (inl (below, m_is)) (inl (again, n_is)) = one_with_third x y z m n m_is n_is
-one_of_any x y z m n (inl (below, m_is)) (inr (above, n_is)) = absurd (above below)
-one_of_any x y z m n (inr (above, m_is)) (inl (below, n_is)) = absurd (above below)
-one_of_any x y z m n (inr (above, m_is)) (inr (again, n_is)) = one_with_third y x z m n m_is n_is
 
 -- a lower element is another one, and of two others one is lower
 lower_differs : (ix : Index) (e c : Elem) → IsLower ix e c → c ≢ e
@@ -219,22 +201,3 @@ module _ (ix : Index) (g : Graph) (f : Clusters) (sound : IsSound f) (r : Repres
         let (y, z, y_in, z_in, y_below, z_below, (a, b, c, t), m_is) = three_of ix g f sound r x x_in m takes in
         ranked_has x y z x_in y_in z_in y_below z_below a b c t m m_is)),
   )
-
--- the triple with the cluster of the key as the last is that of the one there
-pub last_only : (ix : Index) (x p q : Cluster) (c e : Elem) (k : ℕ) → cluster_at ix k ≡ Some q → (m n : Merge) → IsTripleOfAny x.name p.name q.name n → LastAt ix x p c e k m → m ≡ n
-last_only ix x p q c e k is m n n_is (q', q'_is, stands, m_is) =
-    let same : Some q' ≡ Some q = sym q'_is ∙ is in
-    one_of_any x.name p.name q.name m n (subst (λ (w : Cluster). IsTripleOfAny x.name p.name w.name m) (same_Some _ _ same) m_is) n_is
-
--- the triples with the cluster of the key beside are those with that one
-pub beside_same : (ix : Index) (x p : Cluster) (c : Elem) (k : ℕ) → cluster_at ix k ≡ Some p → p.name ≢ x.name → (m : Merge) → FromSome (WithLower ix x p c) p.elements m ↔ BesideAt ix x c k m
-beside_same ix x p c k is other m = (
-  (λ with. (p, is, other, with)),
-  (λ (p', p'_is, p'_other, with). (let same : Some p' ≡ Some p = sym p'_is ∙ is in subst (λ (w : Cluster). FromSome (WithLower ix x w c) w.elements m) (same_Some _ _ same) with)),
-)
-
--- none with r itself
-pub beside_none : (ix : Index) (x p : Cluster) (c : Elem) (k : ℕ) → cluster_at ix k ≡ Some p → p.name ≡ x.name → (m : Merge) → ¬ BesideAt ix x c k m
-beside_none ix x p c k is same m (p', p'_is, other, with) =
-    let one : Some p' ≡ Some p = sym p'_is ∙ is in
-    other (ap (λ (w : Cluster). w.name) (same_Some _ _ one) ∙ same)

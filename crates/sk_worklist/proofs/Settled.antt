@@ -18,7 +18,8 @@ use Rattle.sk_worklist.specs.Choices.{CanTake}
 use Rattle.sk_worklist.specs.Known.{IsWithin}
 use Rattle.sk_index.specs.Indexed.{Represents}
 use Rattle.sk_index.specs.Walks.{GrowsBy}
-use Rattle.sk_worklist.specs.Gather.{Partner, TriplesOf}
+use Rattle.sk_search.specs.Partners.{Partner}
+use Rattle.sk_search.specs.Triples.{TriplesOf}
 use Rattle.sk_worklist.specs.Settling.{IsAny, IsSettledBelow, IsNextMerge, MergesOf, greatest_of}
 use Rattle.sk_worklist.proofs.Gathered.{found_can, can_found, partner_can, can_partner}
 use Rattle.sk_worklist.proofs.Lefts.{below_others, is_it_below, left_three, named_before, not_next}

@@ -14,7 +14,9 @@ use Rattle.sk_rules.specs.declared.Merge.TheVariants.{Two}
 use Rattle.sk_index.specs.declared.Index.{Index}
 use Rattle.sk_worklist.specs.Choices.{CanTake, ComesFirst, IsFirstPair, AreTriples}
 use Rattle.sk_index.specs.Walks.{GrowsBy, FromSome}
-use Rattle.sk_worklist.specs.Gather.{TriplesOf, Partner, IsPartner, IsUncovered, AreUncovered}
+use Rattle.sk_search.specs.Partners.{Partner}
+use Rattle.sk_search.specs.Triples.{TriplesOf}
+use Rattle.sk_worklist.specs.Gather.{IsPartner, IsUncovered, AreUncovered}
 use Rattle.sk_worklist.specs.Known.{AreKept, IsTriple, IsWithin, Knows, NoPairBelow, avoiding}
 use Rattle.sk_index.specs.Indexed.{Represents}
 use Rattle.sk_worklist.specs.Turns.{HasNoPair}

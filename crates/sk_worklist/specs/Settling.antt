@@ -9,7 +9,8 @@ use Rattle.sk_rules.specs.declared.Merge.{Merge}
 use Rattle.sk_rules.specs.declared.Merge.TheVariants.{Two, Three}
 use Rattle.sk_index.specs.declared.Index.{Index}
 use Rattle.sk_worklist.specs.Choices.{CanTake}
-use Rattle.sk_worklist.specs.Gather.{Partner, TriplesOf}
+use Rattle.sk_search.specs.Partners.{Partner}
+use Rattle.sk_search.specs.Triples.{TriplesOf}
 
 abbrev pub greatest_of : Merge → Name
 greatest_of (Two x y) = x

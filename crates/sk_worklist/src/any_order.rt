@@ -14,12 +14,11 @@ ghost use Rattle.sk_index.specs.Indexed.{AllRise, IsIndex, Represents};
 ghost use Rattle.sk_worklist.specs.Settling.{IsAny, IsNext, MergesOf, greatest_of};
 
 use crate::growth::Growth;
-use crate::partner::least_partner;
-use crate::triples::add_triples_of;
 use sk_base::{Graph, List, Name, NoMemory};
 use sk_family::{Cluster, Family};
 use sk_index::Index;
 use sk_rules::Merge;
+use sk_search::{add_triples_of, least_partner};
 use std::alloc::Global;
 
 /// Merges until no rule holds, in an order of its own. After `NoMemory` the family may not be closed.

@@ -9,11 +9,8 @@ mod growth;
 mod heir;
 mod kept;
 mod law;
-mod meets;
 mod partner;
 mod picker;
-mod ranked;
-mod triples;
 mod worklist;
 
 pub use any_order::close_in_any_order;

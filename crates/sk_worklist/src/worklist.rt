@@ -17,12 +17,11 @@ use crate::heir::{Heir, add_fresh, add_inherited, biggest, has_name, is_same};
 use crate::kept::{drop_naming, in_order, names_in_order};
 use crate::partner::first_with_partner;
 use crate::picker::Picker;
-use crate::ranked::add_ranked_of_all;
-use crate::triples::{Third, add_triples_at, add_triples_of_all};
 use sk_base::{Elem, Graph, List, Name, NoMemory};
 use sk_family::Family;
 use sk_index::{Index, add_holders_of_all};
 use sk_rules::Merge;
+use sk_search::{Third, add_ranked_of_all, add_triples_at, add_triples_of_all};
 use std::alloc::Global;
 
 /// What is known of a family that is being closed.

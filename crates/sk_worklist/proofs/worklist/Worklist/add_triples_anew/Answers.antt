@@ -6,8 +6,9 @@ use Rattle.sk_base.specs.declared.Name.TheVariants.{Con}
 use Rattle.sk_family.specs.declared.Cluster.{Cluster}
 use Rattle.sk_index.specs.Walks.{FromSome, GrowsBy}
 use Rattle.sk_index.proofs.Growing.{grows_same}
-use Rattle.sk_worklist.specs.Gather.{IsUncovered, TriplesOf}
-use Rattle.sk_worklist.specs.Ranked.{RankedFrom}
+use Rattle.sk_search.specs.Triples.{TriplesOf}
+use Rattle.sk_worklist.specs.Gather.{IsUncovered}
+use Rattle.sk_search.specs.Ranked.{RankedFrom}
 use Rattle.sk_worklist.proofs.Ranks.{ranked_uncovered}
 use Rattle.sk_worklist.proofs.Turning.{walks_uncovered}
 use Rattle.sk_worklist.proofs.worklist.Worklist.add_triples_anew.Goals as goal

@@ -1,0 +1,3 @@
+pub mod Partners
+pub mod Triples
+pub mod Ranked

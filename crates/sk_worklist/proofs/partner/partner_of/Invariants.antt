@@ -1,6 +1,0 @@
-use Rattle.std.proofs.Common.{take}
-use Rattle.sk_worklist.specs.Gather.{GivenBy, IsLeast, PartnerAt}
-use Rattle.sk_worklist.proofs.partner.partner_of.Given as goal
-
-abbrev pub invariant-loop-key : goal.invariant-loop-key
-invariant-loop-key l = IsLeast (GivenBy (PartnerAt l.index l.x) (take l.key-index l.key-items)) l.least
