@@ -1,3 +1,5 @@
 pub mod Sharing
 pub mod Least
 pub mod Walking
+pub mod Ending
+pub mod Between

@@ -1,3 +1,4 @@
 pub mod Partners
 pub mod Triples
 pub mod Ranked
+pub mod Ends

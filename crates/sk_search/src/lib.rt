@@ -1,6 +1,7 @@
 //! The search for merges in an index: the least partner of a cluster, and the triples that may merge.
 #![tactic(auto)]
 
+mod ends;
 mod meets;
 mod partner;
 mod ranked;

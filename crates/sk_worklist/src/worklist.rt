@@ -265,7 +265,7 @@ impl Worklist {
         ensures sound { IsSound family.now }
     {
         if is_same(self.covered, Name::Con(0)) {
-            add_ranked_of_all(&self.index, family.clusters(), all)
+            add_ranked_of_all(self.alloc, &self.index, family.clusters(), all)
         } else {
             add_triples_of_all(&self.index, family.not_below(self.covered), all)
         }

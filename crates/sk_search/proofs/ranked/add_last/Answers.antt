@@ -1,15 +1,22 @@
-use Rattle.std.proofs.Common.{sym, subst, List}
-use Rattle.sk_rules.specs.declared.Merge.{Merge}
-use Rattle.sk_index.specs.Walks.{GrowsBy}
-use Rattle.sk_index.proofs.Growing.{grows_one}
-use Rattle.sk_search.specs.Ranked.{LastAt}
-use Rattle.sk_search.proofs.Walking.{last_only}
+use Rattle.std.proofs.Common.{◌≡◌, ◌≢◌, sym, rules}
+use Rattle.sk_base.proofs.Searches.{on_ok}
+use Rattle.sk_index.specs.Walks.{FromSome}
+use Rattle.sk_index.proofs.Growing.{grows_none, grows_same}
+use Rattle.sk_search.specs.Ends.{JoinedAt, LastOf}
+use Rattle.sk_search.proofs.Ending.{last_none, last_same}
 use Rattle.sk_search.proofs.ranked.add_last.Goals as goal
 
-pub returns-in_ok-push-in-Some : goal.returns-in_ok-push-in-Some
-returns-in_ok-push-in-Some c =
-    let is = sym c.in-Some.ensures in
-    let kind = LastAt c.args.index.now c.args.r.now c.args.p.now c.args.c c.args.e c.args.key in
-    subst (λ (new : List Merge). GrowsBy kind c.args.all.now new) (sym c.in_ok-push-in-Some.ensures.ok)
-    (grows_one kind c.args.all.now c.triple_of_any.result (c.in-Some.q.now, is, c.is_last_cluster.ensures.0 c.if-is_last_cluster.true, c.triple_of_any.ensures)
-    (λ m m_is. last_only c.args.index.now c.args.r.now c.args.p.now c.in-Some.q.now c.args.c c.args.e c.args.key is m c.triple_of_any.result c.triple_of_any.ensures m_is))
+pub returns-then-eq : goal.returns-then-eq
+returns-then-eq c =
+    let same : c.in-Some.q.now.name ≡ c.args.p = search rules in
+    grows_none (LastOf c.args.index.now c.args.ends.now c.args.c c.args.e c.args.p c.args.key) c.args.all.now
+    (last_none c.args.index.now c.args.ends.now c.args.c c.args.e c.args.p c.args.key c.in-Some.q.now (sym c.in-Some.ensures) same)
+
+pub returns-else-eq : goal.returns-else-eq
+returns-else-eq c =
+    let ix = c.args.index.now in
+    let q = c.in-Some.q.now in
+    let other : q.name ≢ c.args.p = search rules in
+    on_ok c.add_joined_of.result c.add_joined_of.ensures (λ grows.
+    grows_same (FromSome (JoinedAt ix c.args.ends.now c.args.c c.args.e c.args.p q.name) q.elements) (LastOf ix c.args.ends.now c.args.c c.args.e c.args.p c.args.key) c.args.all.now c.add_joined_of.new.all
+    (last_same ix c.args.ends.now c.args.c c.args.e c.args.p c.args.key q (sym c.in-Some.ensures) other) grows)

@@ -1,17 +1,23 @@
-use Rattle.std.proofs.Common.{subst}
-use Rattle.sk_family.specs.declared.Cluster.{Cluster}
-use Rattle.sk_index.specs.Walks.{GrowsBy}
-use Rattle.sk_index.proofs.Growing.{grows_start, grows_step, grows_end}
+use Rattle.std.proofs.Common.{sym, subst, List}
+use Rattle.std.specs.Prelude.{Contains}
+use Rattle.sk_base.proofs.Searches.{on_ok}
+use Rattle.sk_index.specs.Walks.{FromSome}
+use Rattle.sk_index.proofs.Growing.{grows_same}
+use Rattle.sk_search.specs.declared.ends.End.{End}
+use Rattle.sk_search.specs.Ends.{EndsOf, FromEnd}
 use Rattle.sk_search.specs.Ranked.{RankedFrom}
+use Rattle.sk_search.proofs.Ending.{from_ends, grown_from_none}
 use Rattle.sk_search.proofs.ranked.add_ranked_of_all.Goals as goal
 
-pub loop-r-init : goal.loop-r-init
-loop-r-init c = grows_start (RankedFrom c.args.index.now) c.args.clusters.now c.args.all.now
-
-pub loop-r-preserved : goal.loop-r-preserved
-loop-r-preserved c =
-    grows_step (RankedFrom c.args.index.now) c.args.clusters.now c.args.all.now c.loop-r.all c.add_ranked_of.new.all c.loop-r.r-index c.r-item.result c.loop-r-test.true c.loop-r.invariant
-    (subst (λ (x : Cluster). GrowsBy (RankedFrom c.args.index.now x) c.loop-r.all c.add_ranked_of.new.all) c.r-item.is c.in_ok-add_ranked_of.ensures)
-
 pub returns : goal.returns
-returns c = grows_end (RankedFrom c.args.index.now) c.args.clusters.now c.args.all.now c.loop-r.all c.loop-r.r-index c.loop-r-test.false c.loop-r.invariant
+returns c =
+    let ix = c.args.index.now in
+    let found = grown_from_none (FromSome (EndsOf ix) c.args.clusters.now) _ c.add_ends_of_all.new.ends c.new-ends.ensures c.in_ok-add_ends_of_all.ensures in
+    on_ok c.add_from_ends.result c.add_from_ends.ensures (λ grows.
+    grows_same (FromSome (FromEnd ix) c.as_slice-2.result.now) (FromSome (RankedFrom ix) c.args.clusters.now) c.args.all.now c.add_from_ends.new.all
+    (λ m. from_ends ix m c.args.clusters.now c.as_slice-2.result.now
+    (λ x. (
+      (λ h. (found x).0 (subst (λ (l : List End). Contains l x) c.as_slice.ensures ((c.in_ok-sorted.ensures.same x).0 (subst (λ (l : List End). Contains l x) c.as_slice-2.ensures.value h)))),
+      (λ h. subst (λ (l : List End). Contains l x) (sym c.as_slice-2.ensures.value) ((c.in_ok-sorted.ensures.same x).1 (subst (λ (l : List End). Contains l x) (sym c.as_slice.ensures) ((found x).1 h)))),
+    )))
+    grows)

@@ -1,7 +1,7 @@
 use Rattle.std.proofs.Common.{take}
 use Rattle.sk_index.specs.Walks.{GrowsBy, FromSome}
-use Rattle.sk_search.specs.Ranked.{WithLower}
+use Rattle.sk_search.specs.Ends.{DownTo}
 use Rattle.sk_search.proofs.ranked.add_with_lower_of.Given as goal
 
 abbrev pub invariant-loop-e : goal.invariant-loop-e
-invariant-loop-e l = GrowsBy (FromSome (WithLower l.index l.r l.p l.c) (take l.e-index l.e-items)) l.fn.all l.all
+invariant-loop-e l = GrowsBy (FromSome (DownTo l.index l.ends l.c l.p.name) (take l.e-index l.e-items)) l.fn.all l.all

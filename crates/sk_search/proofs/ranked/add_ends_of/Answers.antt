@@ -1,0 +1,18 @@
+use Rattle.std.proofs.Common.{subst, List}
+use Rattle.sk_base.specs.declared.Elem.{Elem}
+use Rattle.sk_index.specs.Walks.{GrowsBy, FromSome}
+use Rattle.sk_index.proofs.Growing.{grows_start, grows_step, grows_end}
+use Rattle.sk_search.specs.Ends.{EndsFrom}
+use Rattle.sk_search.proofs.ranked.add_ends_of.Goals as goal
+
+pub loop-c-init : goal.loop-c-init
+loop-c-init c = grows_start (EndsFrom c.args.index.now c.args.r.now) c.as_slice-c-items.result.now c.args.ends.now
+
+pub loop-c-preserved : goal.loop-c-preserved
+loop-c-preserved c =
+    grows_step (EndsFrom c.args.index.now c.args.r.now) c.as_slice-c-items.result.now c.args.ends.now c.loop-c.ends c.add_ends_from.new.ends c.loop-c.c-index (record { 0 = 0 }) c.loop-c-test.true c.loop-c.invariant c.in_ok-add_ends_from.ensures
+
+pub returns : goal.returns
+returns c =
+    subst (λ (xs : List Elem). GrowsBy (FromSome (EndsFrom c.args.index.now c.args.r.now) xs) c.args.ends.now c.loop-c.ends) c.as_slice-c-items.ensures
+    (grows_end (EndsFrom c.args.index.now c.args.r.now) c.as_slice-c-items.result.now c.args.ends.now c.loop-c.ends c.loop-c.c-index c.loop-c-test.false c.loop-c.invariant)

@@ -1,0 +1,13 @@
+use Rattle.std.proofs.Common.{◌≤◌, ◌-◌, length, take}
+use Rattle.sk_index.specs.Walks.{GrowsBy, FromSome}
+use Rattle.sk_search.specs.Ends.{FromEnd}
+use Rattle.sk_search.proofs.ranked.add_from_ends.Given as goal
+
+abbrev pub invariant-loop-done : goal.invariant-loop-done
+invariant-loop-done l = record {
+  within : l.done ≤ length l.ends;
+  grows : GrowsBy (FromSome (FromEnd l.index) (take l.done l.ends)) l.fn.all l.all;
+}
+
+abbrev pub decreases-loop-done : goal.decreases-loop-done
+decreases-loop-done l = length l.ends - l.done
