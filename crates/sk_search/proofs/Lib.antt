@@ -3,3 +3,4 @@ pub mod Least
 pub mod Walking
 pub mod Ending
 pub mod Between
+pub mod Meeting

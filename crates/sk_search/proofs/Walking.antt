@@ -25,7 +25,7 @@ module _ (front all : List ℕ) (P : ℕ → Type 0) (front_is : (k : ℕ) → C
   )
 
 -- three names have one triple
-one_triple : (x y z : Name) (m n : Merge) → IsTripleOf x y z m → IsTripleOf x y z n → m ≡ n
+pub one_triple : (x y z : Name) (m n : Merge) → IsTripleOf x y z m → IsTripleOf x y z n → m ≡ n
 one_triple x y z m n (inl (z_y, m_is)) (inl (again, n_is)) = m_is ∙ sym n_is
 one_triple x y z m n (inl (z_y, m_is)) (inr (y_z, n_is)) = absurd (below_asymmetric z y z_y y_z)
 one_triple x y z m n (inr (y_z, m_is)) (inl (z_y, n_is)) = absurd (below_asymmetric z y z_y y_z)

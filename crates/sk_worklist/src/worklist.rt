@@ -300,7 +300,7 @@ impl Worklist {
         ensures sound { IsSound family.now }
     {
         match family.cluster(name) {
-            Some(x) => { add_triples_at(&self.index, x, self.fresh.as_slice(), Third::Either, all) }
+            Some(x) => { add_triples_at(self.alloc, &self.index, x, self.fresh.as_slice(), Third::Either, all) }
             None => Ok(()),
         }
     }

@@ -3,7 +3,7 @@ use Rattle.sk_search.specs.Triples.{SecondAt}
 use Rattle.sk_index.proofs.Growing.{grows_start, grows_step, grows_end, grows_same}
 use Rattle.sk_index.specs.Indexed.{IsBelowAt, holders_of}
 use Rattle.sk_index.proofs.Walking.{found_in_front}
-use Rattle.sk_search.proofs.triples.add_at_corner.Goals as goal
+use Rattle.sk_search.proofs.triples.add_by_search.Goals as goal
 
 pub loop-key-init : goal.loop-key-init
 loop-key-init c = grows_start (SecondAt c.args.third c.args.index.now c.args.x.now c.args.a) c.below-key-items.result.now c.args.all.now
