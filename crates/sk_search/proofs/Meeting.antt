@@ -36,7 +36,7 @@ module _ (ix : Index) (index : IsIndex ix) where
         let named : e.name ≡ y.name = ap (λ (w : End). w.name) e_is in
         (j, j_in, (y, y_is, y_x, (b, subst (λ c. Contains y.elements c) at b'_y, (k, index.finds b k z z_is b_z, (z, z_is, (subst (λ n. IsPlaced third x.name n z.name) named placed, a_b, (d, d_x, holds d k z z_is k_in, makes)), subst (λ n. IsTripleOf x.name n z.name m) named m_is))))))),
     (λ (j, j_in, (y, y_is, y_x, (b, b_y, (k, k_in, (z, z_is, (placed, a_b, (d, d_x, d_z, makes)), m_is))))).
-    (d, d_x, (k, index.finds d k z z_is d_z, (z, z_is, placed_below third x.name y.name z.name y_x placed, (b, holds b k z z_is k_in, (a_b, makes, end_of y a b, (same (end_of y a b)).1 (j, j_in, (y, y_is, y_x, (b, b_y, refl))), refl, (placed, m_is))))))),
+        (d, d_x, (k, index.finds d k z z_is d_z, (z, z_is, placed_below third x.name y.name z.name y_x placed, (b, holds b k z z_is k_in, (a_b, makes, end_of y a b, (same (end_of y a b)).1 (j, j_in, (y, y_is, y_x, (b, b_y, refl))), refl, (placed, m_is))))))),
   )
 
 -- what the cluster of a key gives is what that one gives

@@ -270,13 +270,7 @@ fn add_meets(
 }
 
 /// Adds that with this end, if z stands where it is looked for.
-fn add_meet(
-    x: Name,
-    z: Name,
-    end: End,
-    third: Third,
-    all: &mut List<Merge>,
-) -> Result<(), NoMemory>
+fn add_meet(x: Name, z: Name, end: End, third: Third, all: &mut List<Merge>) -> Result<(), NoMemory>
     ensures { OnOk result (GrowsBy (Meets third x z end) all.old all.new) }
 {
     if is_placed(third, x, end.name, z) {

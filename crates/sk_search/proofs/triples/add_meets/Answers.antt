@@ -1,5 +1,3 @@
-use Rattle.std.proofs.Common.{subst}
-use Rattle.sk_index.specs.Walks.{GrowsBy, FromSome}
 use Rattle.sk_index.proofs.Growing.{grows_start, grows_step, grows_end}
 use Rattle.sk_search.specs.Meeting.{Meets}
 use Rattle.sk_search.proofs.triples.add_meets.Goals as goal
