@@ -1,5 +1,5 @@
 -- Walks along keys, to partners and to triples.
-use Rattle.std.proofs.Common.{◌≡◌, ◌≢◌, ◌∙◌, inl, inr, ℕ, List, sym, subst}
+use Rattle.std.proofs.Common.{◌≡◌, ◌≢◌, ◌∙◌, inl, inr, ℕ, List, sym, subst, ap}
 use Rattle.std.specs.Prelude.{◌↔◌, Contains, Some}
 use Rattle.sk_base.specs.declared.Elem.{Elem}
 use Rattle.sk_base.specs.declared.Name.{Name}
@@ -8,7 +8,8 @@ use Rattle.std.proofs.lemmas.Option.{same_Some}
 use Rattle.sk_family.specs.declared.Cluster.{Cluster}
 use Rattle.sk_index.specs.declared.Index.{Index}
 use Rattle.sk_index.specs.Indexed.{cluster_at}
-use Rattle.sk_search.specs.Ranked.{IsTripleOfAny, IsWithThird}
+use Rattle.sk_index.specs.Walks.{FromSome}
+use Rattle.sk_search.specs.Ranked.{BesideAt, IsTripleOfAny, IsWithThird, LastAt, WithLower}
 use Rattle.sk_rules.specs.declared.Merge.{Merge}
 use Rattle.sk_family.proofs.Naming.{below_asymmetric, below_differs}
 use Rattle.sk_search.specs.declared.triples.Third.{Third}
@@ -71,3 +72,22 @@ one_of_any x y z m n (inl (below, m_is)) (inl (again, n_is)) = one_with_third x 
 one_of_any x y z m n (inl (below, m_is)) (inr (above, n_is)) = absurd (above below)
 one_of_any x y z m n (inr (above, m_is)) (inl (below, n_is)) = absurd (above below)
 one_of_any x y z m n (inr (above, m_is)) (inr (again, n_is)) = one_with_third y x z m n m_is n_is
+
+-- the triple with the cluster of the key as the last is that of the one there
+pub last_only : (ix : Index) (x p q : Cluster) (c e : Elem) (k : ℕ) → cluster_at ix k ≡ Some q → (m n : Merge) → IsTripleOfAny x.name p.name q.name n → LastAt ix x p c e k m → m ≡ n
+last_only ix x p q c e k is m n n_is (q', q'_is, stands, m_is) =
+    let same : Some q' ≡ Some q = sym q'_is ∙ is in
+    one_of_any x.name p.name q.name m n (subst (λ (w : Cluster). IsTripleOfAny x.name p.name w.name m) (same_Some _ _ same) m_is) n_is
+
+-- the triples with the cluster of the key beside are those with that one
+pub beside_same : (ix : Index) (x p : Cluster) (c : Elem) (k : ℕ) → cluster_at ix k ≡ Some p → p.name ≢ x.name → (m : Merge) → FromSome (WithLower ix x p c) p.elements m ↔ BesideAt ix x c k m
+beside_same ix x p c k is other m = (
+  (λ with. (p, is, other, with)),
+  (λ (p', p'_is, p'_other, with). (let same : Some p' ≡ Some p = sym p'_is ∙ is in subst (λ (w : Cluster). FromSome (WithLower ix x w c) w.elements m) (same_Some _ _ same) with)),
+)
+
+-- none with r itself
+pub beside_none : (ix : Index) (x p : Cluster) (c : Elem) (k : ℕ) → cluster_at ix k ≡ Some p → p.name ≡ x.name → (m : Merge) → ¬ BesideAt ix x c k m
+beside_none ix x p c k is same m (p', p'_is, other, with) =
+    let one : Some p' ≡ Some p = sym p'_is ∙ is in
+    other (ap (λ (w : Cluster). w.name) (same_Some _ _ one) ∙ same)

@@ -5,6 +5,8 @@ mod ends;
 mod meets;
 mod partner;
 mod ranked;
+mod ranks;
+mod searched;
 mod triples;
 
 pub use partner::{least_partner, least_partner_at};

@@ -8,16 +8,22 @@ ghost use Rattle.sk_index.specs.Indexed.{AllRise, IsIndex, holders_of};
 ghost use Rattle.sk_index.specs.Walks.{FromSome, GrowsBy};
 ghost use Rattle.sk_search.specs.declared.ends.End.{End as AnyEnd};
 ghost use Rattle.sk_search.specs.Ends.{DownBeside, DownBesideAny, DownTo, EndsFrom, EndsOf, FromEnd, JoinedAt, Joins, LastOf, corner_number, end_number};
-ghost use Rattle.sk_search.specs.Ranked.{HasHigher, IsLower, IsTripleOfAny, IsWithThird, RankedFrom};
+ghost use Rattle.sk_search.specs.Ranked.{RankedFrom};
 
 use crate::ends::{End, add_ends, by_corner, by_elem, count_up_to, ends_at};
+use crate::ranks::{has_higher, is_lower, triple_of_any};
+use crate::searched::add_searched_of_all;
 use sk_base::{Elem, List, Name, NoMemory};
 use sk_family::Cluster;
 use sk_index::{Index, is_third};
 use sk_rules::Merge;
 use std::alloc::Global;
 
-/// Adds the triples with one of these clusters that may merge.
+/// The most elements that a cluster has at the start: those of a rigid block.
+const FEW: usize = 16;
+
+/// Adds the triples with one of these clusters that may merge. Ends take memory by the square of a
+/// cluster's elements, so where one has many the last cluster of a triple is searched for.
 pub fn add_ranked_of_all(
     alloc: Global,
     index: &Index,
@@ -26,6 +32,22 @@ pub fn add_ranked_of_all(
 ) -> Result<(), NoMemory>
     requires index { IsIndex index.now }
     requires rise { AllRise clusters.now }
+    ensures { OnOk result (GrowsBy (FromSome (RankedFrom index.now) clusters.now) all.old all.new) }
+{
+    if clusters.iter().all(|r| r.elements.len() <= FEW) {
+        add_looked_up_of_all(alloc, index, clusters, all)
+    } else {
+        add_searched_of_all(index, clusters, all)
+    }
+}
+
+/// Adds them by a look-up among the ends of the clusters.
+fn add_looked_up_of_all(
+    alloc: Global,
+    index: &Index,
+    clusters: &[Cluster],
+    all: &mut List<Merge>,
+) -> Result<(), NoMemory>
     ensures { OnOk result (GrowsBy (FromSome (RankedFrom index.now) clusters.now) all.old all.new) }
 {
     let mut ends = List::new(alloc);
@@ -66,13 +88,6 @@ fn add_ends_from(index: &Index, r: &Cluster, c: Elem, ends: &mut List<End>) -> R
         return Ok(());
     }
     add_ends(r, c, ends)
-}
-
-/// Whether some of the elements is higher than c.
-fn has_higher(index: &Index, elements: &[Elem], c: Elem) -> bool
-    ensures { IsTrue result ↔ HasHigher index.now elements.now c }
-{
-    elements.iter().any(|elem| is_lower(index, c, *elem))
 }
 
 /// Adds the triples of these ends, sorted by their corners.
@@ -283,37 +298,4 @@ fn is_other_than(r: Name, p: Name, q: Name) -> bool
     ensures { IsTrue result ↔ ((p ≢ r) × (q ≢ r)) }
 {
     p != r && q != r
-}
-
-/// Whether fewer clusters hold e, or as many and its number is less.
-fn is_lower(index: &Index, e: Elem, c: Elem) -> bool
-    ensures { IsTrue result ↔ IsLower index.now e c }
-{
-    let fewer = index.holders(e).len();
-    let more = index.holders(c).len();
-    fewer < more || (fewer == more && e.0 < c.0)
-}
-
-/// The triple of three names.
-fn triple_of_any(x: Name, y: Name, z: Name) -> Merge
-    ensures { IsTripleOfAny x y z result }
-{
-    if y.is_below(x) {
-        with_third(x, y, z)
-    } else {
-        with_third(y, x, z)
-    }
-}
-
-/// The triple of two names that fall, and a third.
-fn with_third(high: Name, low: Name, z: Name) -> Merge
-    ensures { IsWithThird high low z result }
-{
-    if z.is_below(low) {
-        Merge::Three(high, low, z)
-    } else if z.is_below(high) {
-        Merge::Three(high, z, low)
-    } else {
-        Merge::Three(z, high, low)
-    }
 }

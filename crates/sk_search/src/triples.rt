@@ -85,11 +85,17 @@ fn add_at_corner(
     requires rises { IsRising elem_number x.now.elements }
     ensures { OnOk result (GrowsBy (AtCorner third index.now x.now a) all.old all.new) }
 {
-    if x.elements.len() <= index.holders(a).len() {
+    if is_narrow(index, x.elements.as_slice(), a) {
         add_by_ends(alloc, index, x, a, third, all)
     } else {
         add_by_search(index, x, a, third, all)
     }
+}
+
+/// Whether these elements are no more than the clusters that hold a, and few clusters hold each.
+fn is_narrow(index: &Index, elements: &[Elem], a: Elem) -> bool {
+    let most = index.holders(a).len();
+    elements.len() <= most && elements.iter().all(|d| index.holders(*d).len() / 2 <= most)
 }
 
 /// Adds them by a walk from the other corners of x, where the second is looked up.
@@ -241,13 +247,13 @@ fn add_meeting_at(
     requires { IsNonDecreasingBy end_number ends.now }
     ensures { OnOk result (GrowsBy (MeetAt third index.now ends.now x a d z b) all.old all.new) }
 {
-    if !is_triangle(index, a, b, d) {
+    if !are_corners(index, a, b, d) {
         return Ok(());
     }
     add_meets(x, z, ends_at(ends, b), third, all)
 }
 
-fn is_triangle(index: &Index, a: Elem, b: Elem, d: Elem) -> bool
+fn are_corners(index: &Index, a: Elem, b: Elem, d: Elem) -> bool
     ensures { IsTrue result ↔ ((a ≢ b) × IsThird index.now a b d) }
 {
     a != b && is_third(index, a, b, d)

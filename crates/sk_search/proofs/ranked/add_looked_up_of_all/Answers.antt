@@ -7,7 +7,7 @@ use Rattle.sk_search.specs.declared.ends.End.{End}
 use Rattle.sk_search.specs.Ends.{EndsOf, FromEnd}
 use Rattle.sk_search.specs.Ranked.{RankedFrom}
 use Rattle.sk_search.proofs.Ending.{from_ends, grown_from_none}
-use Rattle.sk_search.proofs.ranked.add_ranked_of_all.Goals as goal
+use Rattle.sk_search.proofs.ranked.add_looked_up_of_all.Goals as goal
 
 pub returns : goal.returns
 returns c =

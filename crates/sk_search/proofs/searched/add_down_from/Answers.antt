@@ -1,0 +1,17 @@
+use Rattle.std.proofs.Common.{subst, List, ℕ}
+use Rattle.sk_index.specs.Walks.{GrowsBy, FromSome}
+use Rattle.sk_index.proofs.Growing.{grows_start, grows_step, grows_end}
+use Rattle.sk_search.specs.Ranked.{BesideAt}
+use Rattle.sk_search.proofs.searched.add_down_from.Goals as goal
+
+pub loop-key-init : goal.loop-key-init
+loop-key-init c = grows_start (BesideAt c.args.index.now c.args.r.now c.args.c) c.holders-key-items.result.now c.args.all.now
+
+pub loop-key-preserved : goal.loop-key-preserved
+loop-key-preserved c =
+    grows_step (BesideAt c.args.index.now c.args.r.now c.args.c) c.holders-key-items.result.now c.args.all.now c.loop-key.all c.add_beside.new.all c.loop-key.key-index 0 c.loop-key-test.true c.loop-key.invariant c.in_ok-add_beside.ensures
+
+pub returns : goal.returns
+returns c =
+    subst (λ (xs : List ℕ). GrowsBy (FromSome (BesideAt c.args.index.now c.args.r.now c.args.c) xs) c.args.all.now c.loop-key.all) c.holders-key-items.ensures
+    (grows_end (BesideAt c.args.index.now c.args.r.now c.args.c) c.holders-key-items.result.now c.args.all.now c.loop-key.all c.loop-key.key-index c.loop-key-test.false c.loop-key.invariant)

@@ -1,0 +1,17 @@
+use Rattle.std.proofs.Common.{subst, List, ℕ}
+use Rattle.sk_index.specs.Walks.{GrowsBy, FromSome}
+use Rattle.sk_index.proofs.Growing.{grows_start, grows_step, grows_end}
+use Rattle.sk_search.specs.Ranked.{LastAt}
+use Rattle.sk_search.proofs.searched.add_last_of.Goals as goal
+
+pub loop-key-init : goal.loop-key-init
+loop-key-init c = grows_start (LastAt c.args.index.now c.args.r.now c.args.p.now c.args.c c.args.e) c.holders-key-items.result.now c.args.all.now
+
+pub loop-key-preserved : goal.loop-key-preserved
+loop-key-preserved c =
+    grows_step (LastAt c.args.index.now c.args.r.now c.args.p.now c.args.c c.args.e) c.holders-key-items.result.now c.args.all.now c.loop-key.all c.add_last.new.all c.loop-key.key-index 0 c.loop-key-test.true c.loop-key.invariant c.in_ok-add_last.ensures
+
+pub returns : goal.returns
+returns c =
+    subst (λ (xs : List ℕ). GrowsBy (FromSome (LastAt c.args.index.now c.args.r.now c.args.p.now c.args.c c.args.e) xs) c.args.all.now c.loop-key.all) c.holders-key-items.ensures
+    (grows_end (LastAt c.args.index.now c.args.r.now c.args.p.now c.args.c c.args.e) c.holders-key-items.result.now c.args.all.now c.loop-key.all c.loop-key.key-index c.loop-key-test.false c.loop-key.invariant)

@@ -1,0 +1,17 @@
+use Rattle.std.proofs.Common.{refl}
+use Rattle.sk_base.proofs.Searches.{on_ok}
+use Rattle.sk_index.specs.Indexed.{holders_of}
+use Rattle.sk_index.specs.Walks.{FromSome}
+use Rattle.sk_index.proofs.Growing.{grows_same}
+use Rattle.sk_search.specs.Ranked.{IsLower, LastAt, WithLower}
+use Rattle.sk_search.proofs.searched.add_with_lower.Goals as goal
+
+pub returns : goal.returns
+returns c =
+    let ix = c.args.index.now in
+    let r = c.args.r.now in
+    let p = c.args.p.now in
+    let lower : IsLower ix c.args.e c.args.c = c.if-not-is_lower.ensures.0 refl in
+    on_ok c.add_last_of.result c.add_last_of.ensures (λ grows.
+    grows_same (FromSome (LastAt ix r p c.args.c c.args.e) (holders_of ix c.args.e)) (WithLower ix r p c.args.c c.args.e) c.args.all.now c.add_last_of.new.all
+    (λ m. ((λ h. (lower, h)), (λ (is, h). h))) grows)

@@ -1,0 +1,18 @@
+use Rattle.std.proofs.Common.{subst, List}
+use Rattle.sk_base.specs.declared.Elem.{Elem}
+use Rattle.sk_index.specs.Walks.{GrowsBy, FromSome}
+use Rattle.sk_index.proofs.Growing.{grows_start, grows_step, grows_end}
+use Rattle.sk_search.specs.Ranked.{WithLower}
+use Rattle.sk_search.proofs.searched.add_with_lower_of.Goals as goal
+
+pub loop-e-init : goal.loop-e-init
+loop-e-init c = grows_start (WithLower c.args.index.now c.args.r.now c.args.p.now c.args.c) c.as_slice-e-items.result.now c.args.all.now
+
+pub loop-e-preserved : goal.loop-e-preserved
+loop-e-preserved c =
+    grows_step (WithLower c.args.index.now c.args.r.now c.args.p.now c.args.c) c.as_slice-e-items.result.now c.args.all.now c.loop-e.all c.add_with_lower.new.all c.loop-e.e-index (record { 0 = 0 }) c.loop-e-test.true c.loop-e.invariant c.in_ok-add_with_lower.ensures
+
+pub returns : goal.returns
+returns c =
+    subst (λ (xs : List Elem). GrowsBy (FromSome (WithLower c.args.index.now c.args.r.now c.args.p.now c.args.c) xs) c.args.all.now c.loop-e.all) c.as_slice-e-items.ensures
+    (grows_end (WithLower c.args.index.now c.args.r.now c.args.p.now c.args.c) c.as_slice-e-items.result.now c.args.all.now c.loop-e.all c.loop-e.e-index c.loop-e-test.false c.loop-e.invariant)
