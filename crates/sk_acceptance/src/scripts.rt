@@ -1,11 +1,6 @@
 // Random sessions: what a session answers on its sketch is what the commands answer on the sketch as it is written.
-use crate::row::put_answer;
-use sk_base::Text;
-use sk_lang::write_sketch;
-use sk_session::{Closing, Session};
-use sk_worklist::Order;
+use crate::row::answer;
 use std::alloc::Global;
-use std::process::Abort;
 use std::test::Fail;
 
 /// A drawing that lacks one constraint.
@@ -96,69 +91,59 @@ fn script(alloc: Global, steps: &str, number: u32) -> Result<String, Fail> {
     Ok(script)
 }
 
-/// The sketch that the script ends in, written.
-fn sketch_text(alloc: Global, script: &str) -> Result<Text, Fail> {
-    let mut session = Session::new(alloc, Order::First, Closing::InAnyOrder)?;
-    for line in script.lines() {
-        let _reply = session.command(line.as_bytes())?;
-    }
-    Ok(write_sketch(alloc, session.sketch())?)
+/// What the session writes on these lines.
+fn replies(alloc: Global, lines: &str) -> Result<String, Fail> {
+    answer(alloc, " session", lines.as_bytes())
 }
 
-/// At its end the session answers the questions as the commands do on the written sketch.
-fn ends_alike(
-    rt: &impl Abort,
-    alloc: Global,
-    script: &str,
-    questions: &[&str],
-) -> Result<(), Fail> {
-    let sketch = sketch_text(alloc, script)?;
+/// At its end the session answers the questions as the commands do on the sketch that it writes there.
+fn ends_alike(alloc: Global, script: &str, questions: &[&str]) -> Result<(), Fail> {
+    let writing = format!(in alloc; "{script}write\n")?;
+    let written = replies(alloc, writing.as_str())?;
+    let (_, lines) = written.split_once("\nsketch ").ok_or("a written sketch")?;
+    let sketch = format!(in alloc; "sketch {lines}")?;
     let mut lines = String::from_str(alloc, script)?;
-    let mut wanted = Vec::new(alloc);
+    let mut wanted = String::from_str(alloc, "")?;
     for question in questions {
         put_step(&mut lines, question)?;
-        put_answer(alloc, &mut wanted, &[question], sketch.as_bytes())?;
+        let line = format!(in alloc; " {question}")?;
+        let told = answer(alloc, line.as_str(), sketch.as_bytes())?;
+        let (_, text) = told.split_once('\n').ok_or("a status")?;
+        wanted.push_str(text)?;
     }
-    let mut found = Vec::new(alloc);
-    put_answer(alloc, &mut found, &["session"], lines.as_bytes())?;
-    assert!(rt; found.as_slice().ends_with(wanted.as_slice()), "{script}");
-    Ok(())
+    let found = replies(alloc, lines.as_str())?;
+    if found.ends_with(wanted.as_str()) {
+        return Ok(());
+    }
+    Err(Fail::new(lines))
 }
 
 /// Behind each line of its steps the session answers `check` as the command does, and at its end all the questions.
-fn answers_alike(
-    rt: &impl Abort,
-    alloc: Global,
-    script: &str,
-    questions: &[&str],
-) -> Result<(), Fail> {
+fn answers_alike(alloc: Global, script: &str, questions: &[&str]) -> Result<(), Fail> {
     let mut front = String::from_str(alloc, START)?;
     for line in script.lines().skip(START.lines().count()) {
         put_step(&mut front, line)?;
-        ends_alike(rt, alloc, front.as_str(), &["check"])?;
+        ends_alike(alloc, front.as_str(), &["check"])?;
     }
-    ends_alike(rt, alloc, script, questions)
+    ends_alike(alloc, script, questions)
 }
 
 #[test]
 fn sessions_answer_as_the_commands(rt: HostRuntime) -> Result<(), Fail> {
+    let alloc = rt.alloc();
     for number in 0..200u32 {
-        let script = script(rt.alloc(), STEADY, number)?;
-        answers_alike(
-            &rt,
-            rt.alloc(),
-            script.as_str(),
-            &["check", "plan", "solve"],
-        )?;
+        let script = script(alloc, STEADY, number)?;
+        answers_alike(alloc, script.as_str(), &["check", "plan", "solve"])?;
     }
     Ok(())
 }
 
 #[test]
 fn dropped_constraints_leave_no_trace(rt: HostRuntime) -> Result<(), Fail> {
+    let alloc = rt.alloc();
     for number in 0..200u32 {
-        let script = script(rt.alloc(), LOOSE, number)?;
-        answers_alike(&rt, rt.alloc(), script.as_str(), &["check"])?;
+        let script = script(alloc, LOOSE, number)?;
+        answers_alike(alloc, script.as_str(), &["check"])?;
     }
     Ok(())
 }

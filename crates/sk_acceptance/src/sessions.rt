@@ -1,5 +1,6 @@
 // Sessions, and the family that is kept across their lines.
-use sk_base::{Elem, Name};
+use crate::row::same;
+use sk_family::Family;
 use sk_lines::Code;
 use sk_session::{Closing, Reply, Session};
 use sk_worklist::Order;
@@ -362,46 +363,46 @@ check
 undo
 check";
 
-/// Whether the kept cluster of that name holds these elements.
-fn holds(session: &Session, name: Name, elements: &[Elem]) -> bool {
-    match session.family().cluster(name) {
-        Some(cluster) => cluster.elements.as_slice() == elements,
-        None => false,
-    }
-}
-
-/// Whether some kept cluster holds these elements.
-fn some_holds(session: &Session, elements: &[Elem]) -> bool {
-    let clusters = session.family().clusters();
-    clusters
-        .iter()
-        .any(|cluster| cluster.elements.as_slice() == elements)
-}
-
-/// The session behind these lines.
+/// The session behind these lines, which it takes.
 fn hinged(alloc: Global, closing: Closing) -> Result<Session, Fail> {
     let mut session = Session::new(alloc, Order::First, closing)?;
-    for line in HINGED.split("\n") {
-        let _reply = session.command(line.as_bytes())?;
+    for line in HINGED.split('\n') {
+        if !gets(&mut session, line.as_bytes(), None)? {
+            return Err(Fail::from("a line that is taken"));
+        }
     }
     Ok(session)
 }
 
-/// A check goes on from the kept clusters, and an undone drop starts its constraint again.
+/// The next step of the family, and its clusters with their elements.
+fn family_told(alloc: Global, family: &Family) -> Result<String, Fail> {
+    let next_step = family.next_step();
+    let mut told = format!(in alloc; "{next_step}\n")?;
+    for cluster in family.clusters() {
+        let (name, elements) = (cluster.name, cluster.elements.as_slice());
+        told.push_str(format!(in alloc; "{name:?} {elements:?}\n")?.as_str())?;
+    }
+    Ok(told)
+}
+
+const MENDED: &str = "\
+3
+Step(1) [Elem(1), Elem(4), Elem(5)]
+Step(2) [Elem(1), Elem(2), Elem(3)]
+";
+
+/// A check goes on from the kept clusters, and an undone drop starts its constraint again. In any order the clusters are
+/// the same; which names they have isn't promised.
 #[test]
 fn a_check_goes_on_from_the_kept_clusters(rt: HostRuntime) -> Result<(), Fail> {
-    let session = hinged(rt.alloc(), Closing::ByRun)?;
-    assert_eq!(rt; session.family().next_step(), 3);
-    let apart = [Elem(1), Elem(4), Elem(5)];
-    let mended = [Elem(1), Elem(2), Elem(3)];
-    assert!(rt; holds(&session, Name::Step(1), apart.as_slice()));
-    assert!(rt; holds(&session, Name::Step(2), mended.as_slice()));
-
-    // In any order the clusters are the same; which names they have isn't promised.
-    let other = hinged(rt.alloc(), Closing::InAnyOrder)?;
-    assert_eq!(rt; other.family().count(), 2);
-    assert!(rt; some_holds(&other, apart.as_slice()));
-    assert!(rt; some_holds(&other, mended.as_slice()));
+    let kept = hinged(rt.alloc(), Closing::ByRun)?;
+    let told = family_told(rt.alloc(), kept.family())?;
+    same("by run", told.as_str(), MENDED)?;
+    let kept = hinged(rt.alloc(), Closing::InAnyOrder)?;
+    let told = family_told(rt.alloc(), kept.family())?;
+    assert_eq!(rt; told.lines().count(), 3);
+    assert!(rt; told.contains(" [Elem(1), Elem(4), Elem(5)]\n"));
+    assert!(rt; told.contains(" [Elem(1), Elem(2), Elem(3)]\n"));
     Ok(())
 }
 
@@ -417,10 +418,12 @@ fn gets(session: &mut Session, line: &[u8], code: Option<Code>) -> Result<bool, 
 #[test]
 fn edits_are_spent_at_a_million(rt: HostRuntime) -> Result<(), Fail> {
     let mut session = Session::new(rt.alloc(), Order::First, Closing::InAnyOrder)?;
+    let mut taken = true;
     for _ in 0..500_000u32 {
-        assert!(rt; gets(&mut session, b"point A 0 0", None)?);
-        assert!(rt; gets(&mut session, b"undo", None)?);
+        taken &= gets(&mut session, b"point A 0 0", None)?;
+        taken &= gets(&mut session, b"undo", None)?;
     }
+    assert!(rt; taken);
     assert!(rt; gets(&mut session, b"undo", Some(Code::S3))?);
     assert!(rt; gets(&mut session, b"point A 0 0", Some(Code::S5))?);
     Ok(())

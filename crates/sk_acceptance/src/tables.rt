@@ -23,7 +23,7 @@ fn texts_get_their_answers(rt: HostRuntime) -> Result<(), Fail> {
         refused_claims::REFUSED_CLAIMS,
     ];
     for table in tables {
-        rows_pass(&rt, rt.alloc(), table)?;
+        rows_pass(rt.alloc(), table)?;
     }
     Ok(())
 }
@@ -50,7 +50,7 @@ fn drawings_are_placed(rt: HostRuntime) -> Result<(), Fail> {
         versions::MIGRATED,
     ];
     for table in tables {
-        rows_pass(&rt, rt.alloc(), table)?;
+        rows_pass(rt.alloc(), table)?;
     }
     Ok(())
 }
