@@ -12,34 +12,32 @@ use crate::tolerances::{held, judged};
 use crate::trees::{leaf_told, tree_told};
 use crate::{blocks, by_order, calls, claims, flips, merges, placements, texts, tolerances, trees};
 use sk_base::Text;
-use sk_interval::{G16, G38};
 use sk_worklist::Order;
 use std::alloc::Global;
-use std::test::Fail;
+use std::process::Abort;
 
 /// What a call tells of the text.
-fn told(alloc: Global, asked: &str, with: &str, text: &str) -> Result<Text, Fail> {
+fn told(rt: &impl Abort, alloc: Global, asked: &str, with: &str, text: &str) -> Text {
     match asked {
-        "edges" => edges_told(alloc, text),
-        "written" => written(alloc, text),
-        "datum" => datum_told(alloc),
-        "list" => list_told(alloc),
-        "pieces" => pieces_told(alloc),
-        "numbers" => numbers_told(alloc, text),
-        "merges" => merges_told(alloc, text, order_of(with)),
-        "planned" => planned_told(alloc, text, order_of(with)),
-        "board" => board_told(alloc, text),
-        "places" if with == "16" => places_told::<G16>(alloc, text),
-        "places" => places_told::<G38>(alloc, text),
-        "leaf" => leaf_told(alloc),
-        "tree" => tree_told(alloc, text),
-        "judged" => judged(alloc, text, with),
-        "held" => held(alloc, text, with),
-        "claim" => claim_told(alloc, text),
-        "flips" => flips_told(alloc, text),
-        "off" => off_told(alloc, text),
-        "turned" => turned_told(alloc),
-        _ => Err(Fail::from("a call")),
+        "edges" => edges_told(rt, alloc, text),
+        "written" => written(rt, alloc, text),
+        "datum" => datum_told(rt, alloc),
+        "list" => list_told(rt, alloc),
+        "pieces" => pieces_told(rt, alloc),
+        "numbers" => numbers_told(rt, alloc, text),
+        "merges" => merges_told(rt, alloc, text, order_of(with)),
+        "planned" => planned_told(rt, alloc, text, order_of(with)),
+        "board" => board_told(rt, alloc, text),
+        "places" => places_told(rt, alloc, text, with),
+        "leaf" => leaf_told(rt, alloc),
+        "tree" => tree_told(rt, alloc, text),
+        "judged" => judged(rt, alloc, text, with),
+        "held" => held(rt, alloc, text, with),
+        "claim" => claim_told(rt, alloc, text),
+        "flips" => flips_told(rt, alloc, text),
+        "off" => off_told(rt, alloc, text),
+        "turned" => turned_told(rt, alloc),
+        _ => panic!(rt; "a call"),
     }
 }
 
@@ -52,16 +50,16 @@ fn order_of(word: &str) -> Order {
 }
 
 /// The call of the row tells its text.
-fn is_told(alloc: Global, row: &str) -> Result<(), Fail> {
-    let (line, text, wanted) = parts_of(row)?;
-    let (_, asked) = line.split_once(' ').ok_or("a call")?;
+fn is_told(rt: &impl Abort, alloc: Global, row: &str) {
+    let (line, text, wanted) = parts_of(rt, row);
+    let (_, asked) = line.split_once(' ').expect(rt, "a call");
     let (asked, with) = asked.split_once(' ').unwrap_or((asked, ""));
-    let told = told(alloc, asked, with, text)?;
-    same(line, str::from_utf8(told.as_bytes())?, wanted)
+    let told = told(rt, alloc, asked, with, text);
+    same(rt, line, told.as_bytes(), wanted.as_bytes());
 }
 
 #[test]
-fn calls_below_the_top_call_tell_their_texts(rt: HostRuntime) -> Result<(), Fail> {
+fn calls_below_the_top_call_tell_their_texts(rt: HostRuntime) {
     let tables = [
         calls::CALLS,
         texts::TEXTS,
@@ -79,20 +77,20 @@ fn calls_below_the_top_call_tell_their_texts(rt: HostRuntime) -> Result<(), Fail
     ];
     for table in tables {
         for row in table.split('$').skip(1) {
-            is_told(rt.alloc(), row)?;
+            is_told(&rt, rt.alloc(), row);
         }
     }
-    Ok(())
 }
 
 /// Lines behind a sketch, each with its code.
 #[test]
-fn refused_lines_have_their_codes(rt: HostRuntime) -> Result<(), Fail> {
+fn refused_lines_have_their_codes(rt: HostRuntime) {
     lines_are_refused(
+        &rt,
         rt.alloc(),
         " verify",
         claims::THREE_SHAPES,
         claims::REFUSED_LINES,
-    )?;
-    flips::many_lines_stand(rt.alloc())
+    );
+    flips::many_lines_stand(&rt, rt.alloc());
 }

@@ -5,15 +5,13 @@ use sk_plan::planned_by;
 use sk_report::plan_text;
 use sk_worklist::Order;
 use std::alloc::Global;
-use std::test::Fail;
+use std::process::Abort;
 
 /// The report of the drawing's plan by the order.
-pub(crate) fn planned_told(alloc: Global, text: &str, order: Order) -> Result<Text, Fail> {
-    let sketch = sketch_of(alloc, text)?;
-    match planned_by(alloc, order, &sketch) {
-        Ok(planned) => Ok(plan_text(alloc, &sketch, &planned.plan)?),
-        Err(_) => Err(Fail::from("the drawing is well")),
-    }
+pub(crate) fn planned_told(rt: &impl Abort, alloc: Global, text: &str, order: Order) -> Text {
+    let sketch = sketch_of(rt, alloc, text);
+    let planned = planned_by(alloc, order, &sketch).expect(rt, "a drawing that is well");
+    plan_text(alloc, &sketch, &planned.plan).expect(rt, "memory")
 }
 
 /// Two triangles with the side from A to C in common.

@@ -1,5 +1,5 @@
 // The calls below the top call, on drawings that are read.
-ghost use Rattle.std.specs.Prelude.{◌≡◌, ◌<◌, ◌-◌, ◌*◌, length, IfOk};
+ghost use Rattle.std.specs.Prelude.{◌≡◌, ◌<◌, ◌-◌, ◌*◌, length};
 ghost use Rattle.sk_base.specs.SoundGraph.{IsSoundGraph};
 ghost use Rattle.sk_base.specs.SoundSketch.{IsSoundSketch};
 ghost use Rattle.sk_graph.specs.SketchGraph.{graph_of};
@@ -14,53 +14,48 @@ use sk_plan::plan_of;
 use sk_tree::Plan;
 use sk_worklist::{Chosen, Order};
 use std::alloc::Global;
-use std::test::Fail;
+use std::process::Abort;
 
 /// The sketch that the text is read as.
-pub(crate) fn sketch_of(alloc: Global, text: &str) -> Result<Sketch, Fail>
-    ensures sound { IfOk result (λ s. IsSoundSketch s) }
-    ensures some { IfOk result (λ s. 0 < length s.elements) }
+pub(crate) fn sketch_of(rt: &impl Abort, alloc: Global, text: &str) -> Sketch
+    ensures sound { IsSoundSketch result }
+    ensures some { 0 < length result.elements }
 {
-    match read_sketch(alloc, text.as_bytes()) {
-        Ok(sketch) => Ok(sketch),
-        Err(_) => Err(Fail::from("the text isn't read")),
-    }
+    read_sketch(alloc, text.as_bytes()).expect(rt, "a sketch")
 }
 
 /// The plan of the sketch, whose first choice is taken always.
-pub(crate) fn planned(alloc: Global, sketch: &Sketch) -> Result<Plan, Fail>
+pub(crate) fn planned(rt: &impl Abort, alloc: Global, sketch: &Sketch) -> Plan
     requires sound { IsSoundSketch sketch.now }
     requires some { 0 < length sketch.now.elements }
-    ensures graph { IfOk result (λ _. IsSoundGraph (graph_of sketch.now)) }
-    ensures legal { IfOk result (λ plan. IsLegalPlan (graph_of sketch.now) plan) }
-    ensures steps { IfOk result (λ plan. 2 * length plan.steps ≡ length sketch.now.constraints - 1) }
+    ensures graph { IsSoundGraph (graph_of sketch.now) }
+    ensures legal { IsLegalPlan (graph_of sketch.now) result }
+    ensures steps { 2 * length result.steps ≡ length sketch.now.constraints - 1 }
 {
-    let graph = reduce(alloc, sketch)?;
-    match plan_of(alloc, sketch, &graph, &mut Chosen::new(Order::First)) {
-        Ok(plan) => Ok(plan),
-        Err(_) => Err(Fail::from("the drawing is well")),
-    }
+    let graph = reduce(alloc, sketch).expect(rt, "memory");
+    plan_of(alloc, sketch, &graph, &mut Chosen::new(Order::First)).expect(rt, "a plan")
 }
 
 /// The constraints of the graph of the drawing, a line each.
-pub(crate) fn edges_told(alloc: Global, text: &str) -> Result<Text, Fail> {
-    let graph = reduce(alloc, &sketch_of(alloc, text)?)?;
+pub(crate) fn edges_told(rt: &impl Abort, alloc: Global, text: &str) -> Text {
+    let graph = reduce(alloc, &sketch_of(rt, alloc, text)).expect(rt, "memory");
     let mut told = Text::new(alloc);
-    put_each(alloc, &mut told, graph.edges.as_slice())?;
-    Ok(told)
+    put_each(rt, alloc, &mut told, graph.edges.as_slice());
+    told
 }
 
 /// The canonical text of the drawing, and that of a copy of each constraint behind the copy's number, a line each.
-pub(crate) fn written(alloc: Global, text: &str) -> Result<Text, Fail> {
-    let sketch = sketch_of(alloc, text)?;
-    let mut told = write_sketch(alloc, &sketch)?;
+pub(crate) fn written(rt: &impl Abort, alloc: Global, text: &str) -> Text {
+    let sketch = sketch_of(rt, alloc, text);
+    let mut told = write_sketch(alloc, &sketch).expect(rt, "memory");
     for constraint in sketch.constraints.as_slice() {
-        let copy = copy_constraint(alloc, constraint)?;
-        put_each(alloc, &mut told, &[copy.number])?;
-        told.put(constraint_text(alloc, &sketch, &copy)?.as_bytes())?;
-        told.put(b"\n")?;
+        let copy = copy_constraint(alloc, constraint).expect(rt, "memory");
+        let line = constraint_text(alloc, &sketch, &copy).expect(rt, "memory");
+        put_each(rt, alloc, &mut told, &[copy.number]);
+        told.put(line.as_bytes()).expect(rt, "memory");
+        told.put(b"\n").expect(rt, "memory");
     }
-    Ok(told)
+    told
 }
 
 /// The circles of the belt are their centres in its graph.
@@ -118,4 +113,17 @@ ConId(2)
 block C 0 0 D 4 0 E 4 -3
 ConId(3)
 distance A D 3
+$ written
+sketch 2
+point A 0 0
+point B 1 1
+block A 0 0 B 1 1
+end
+> sketch 2
+point A 0 0
+point B 1 1
+block A 0 0 B 1 1
+end
+ConId(1)
+block A 0 0 B 1 1
 ";

@@ -12,7 +12,7 @@ use sk_lines::ReadError;
 use sk_report::refused_text;
 use sk_verify::{VerifyError, failure_text, verified_text, verify};
 use std::alloc::Global;
-use std::test::Fail;
+use std::process::Abort;
 
 const WHEEL: &str = "\
 sketch 1
@@ -27,40 +27,42 @@ end
 
 /// What the lines are read as behind the eight of the wheel, and what a check of that tells, or the refusal of a line.
 #[tactic(auto, using(sk_lines::proofs::LineCounts::few_lines))]
-pub(crate) fn claim_told(alloc: Global, lines: &str) -> Result<Text, Fail> {
-    let sketch = sketch_of(alloc, WHEEL)?;
-    match read_claim(alloc, &sketch, few_bytes(lines)?, 8) {
-        Ok(claim) => judged(alloc, &sketch, &claim),
-        Err(ReadError::Refused(refusal)) => Ok(refused_text(alloc, &refusal)?),
-        Err(ReadError::NoMemory) => Err(Fail::from("memory ran out")),
+pub(crate) fn claim_told(rt: &impl Abort, alloc: Global, lines: &str) -> Text {
+    let sketch = sketch_of(rt, alloc, WHEEL);
+    match read_claim(alloc, &sketch, few_bytes(rt, lines), 8) {
+        Ok(claim) => judged(rt, alloc, &sketch, &claim),
+        Err(ReadError::Refused(refusal)) => refused_text(alloc, &refusal).expect(rt, "memory"),
+        Err(ReadError::NoMemory) => panic!(rt; "memory"),
     }
 }
 
 /// The steps of the claim, its places, its radii and its tolerances, and what a check of it tells.
-fn judged(alloc: Global, sketch: &Sketch, claim: &Claim) -> Result<Text, Fail>
+fn judged(rt: &impl Abort, alloc: Global, sketch: &Sketch, claim: &Claim) -> Text
     requires sound { IsSoundSketch sketch.now }
     requires fits { IsFitting (graph_of sketch.now) claim.now }
 {
     let mut told = Text::new(alloc);
-    put_each(alloc, &mut told, claim.steps.as_slice())?;
-    put_each(alloc, &mut told, claim.at.spots.as_slice())?;
-    put_each(alloc, &mut told, claim.radii.as_slice())?;
-    put_each(alloc, &mut told, &[claim.t, claim.w])?;
-    told.put(outcome(alloc, sketch, claim)?.as_bytes())?;
-    Ok(told)
+    put_each(rt, alloc, &mut told, claim.steps.as_slice());
+    put_each(rt, alloc, &mut told, claim.at.spots.as_slice());
+    put_each(rt, alloc, &mut told, claim.radii.as_slice());
+    put_each(rt, alloc, &mut told, &[claim.t, claim.w]);
+    let outcome = outcome(rt, alloc, sketch, claim);
+    told.put(outcome.as_bytes()).expect(rt, "memory");
+    told
 }
 
 /// What a check of the claim tells.
-fn outcome(alloc: Global, sketch: &Sketch, claim: &Claim) -> Result<Text, Fail>
+fn outcome(rt: &impl Abort, alloc: Global, sketch: &Sketch, claim: &Claim) -> Text
     requires sound { IsSoundSketch sketch.now }
     requires fits { IsFitting (graph_of sketch.now) claim.now }
 {
-    let graph = reduce(alloc, sketch)?;
-    match verify(alloc, sketch, &graph, claim) {
-        Ok(()) => Ok(verified_text(alloc, claim)?),
-        Err(VerifyError::Fails(failure)) => Ok(failure_text(alloc, sketch, &failure)?),
-        Err(VerifyError::NoMemory) => Err(Fail::from("memory ran out")),
-    }
+    let graph = reduce(alloc, sketch).expect(rt, "memory");
+    let told = match verify(alloc, sketch, &graph, claim) {
+        Ok(()) => verified_text(alloc, claim),
+        Err(VerifyError::Fails(failure)) => failure_text(alloc, sketch, &failure),
+        Err(VerifyError::NoMemory) => panic!(rt; "memory"),
+    };
+    told.expect(rt, "memory")
 }
 
 /// Mirrored, C is on the other side of A and B than it is drawn. A step that turns the other way is found wrong before that.

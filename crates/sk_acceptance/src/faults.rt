@@ -1,16 +1,9 @@
-// Reads and writes that fail. The tables are run by `halting`, in which each call in turn fails.
-use crate::row::{answer_over, answer_text, same, status_of};
+// Reads and writes that fail. The tables of readers and of others are run by `halting`, in which each call in turn fails.
+use crate::row::{answer_over, ending_of, ends, parts_of, status_of};
 use sk_io::{StdSink, StdSource};
-use std::io;
-use std::test::Fail;
-
-const LONE_POINT: &[u8] = b"sketch 1\npoint A 7 7\nend\n";
-
-const LONE_POINT_REPORT: &str =
-    "0\nverdict well\nelements 1\nconstraints 0\nparts 1\npart 1 sound elements 1 held 0 due 0 : A\n";
-
-const TRIANGLE: &[u8] =
-    b"sketch 1\npoint A 0 0\npoint B 4 0\npoint C 4 3\ndistance A B 4\ndistance A C 5\ndistance B C 3\nend\n";
+use std::alloc::Global;
+use std::io::{self, Read};
+use std::process::Abort;
 
 /// A call of each command that reads.
 pub const READERS: &str = "
@@ -269,59 +262,180 @@ $ check check
 usage: sketch check|plan|solve|dxf|offers|session|grow|migrate|verify|spare|flips|derive|parts [order=first|last|0..65535] [bits=16|27|38] [within=1..1000000] [place=boxes|points] [frame=base|drawn] [n=3..1000]
 ";
 
-/// Whole pieces a call, over devices in memory: which reads fail, how much room there is, which writes fail.
+/// Whole pieces a call, over devices in memory: before its words a row has which read fails, how much room there is, and
+/// which write fails.
 ///
-/// The first read, the first write, no room at all, a room of five bytes, calls that never come.
-/// A session writes whole replies: a read that fails, even the one behind the last line, leaves nothing written, and a
-/// write that fails leaves the replies before it.
+/// The first read, the first write, no room at all, a room of five bytes, calls that never come. A session writes whole
+/// replies: a read that fails, even the one behind the last line, leaves nothing written, and a write that fails leaves the
+/// replies before it.
+const FAULTS: &str = "
+$1 1000 0 check
+sketch 1
+point A 0 0
+point B 4 0
+point C 4 3
+distance A B 4
+distance A C 5
+distance B C 3
+end
+> 3
+$0 1000 1 check
+sketch 1
+point A 0 0
+point B 4 0
+point C 4 3
+distance A B 4
+distance A C 5
+distance B C 3
+end
+> 4
+$0 0 0 check
+sketch 1
+point A 0 0
+point B 4 0
+point C 4 3
+distance A B 4
+distance A C 5
+distance B C 3
+end
+> 4
+$0 5 0 check
+sketch 1
+point A 0 0
+point B 4 0
+point C 4 3
+distance A B 4
+distance A C 5
+distance B C 3
+end
+> 4
+verdi$0 0 0 check
+sketch 1
+point A 7 7
+end
+> 4
+$9 1000 9 check
+sketch 1
+point A 7 7
+end
+> 0
+verdict well
+elements 1
+constraints 0
+parts 1
+part 1 sound elements 1 held 0 due 0 : A
+$0 1000 0 check
+sketch 1
+point A 7 7
+end
+> 0
+verdict well
+elements 1
+constraints 0
+parts 1
+part 1 sound elements 1 held 0 due 0 : A
+$2 1000 0 session
+point A 0 0
+
+point B 1 0
+write
+> 3
+$0 0 0 session
+point A 0 0
+
+point B 1 0
+write
+> 4
+$0 7 0 session
+point A 0 0
+
+point B 1 0
+write
+> 4
+ok A
+ok$0 1000 2 session
+point A 0 0
+
+point B 1 0
+write
+> 4
+ok A
+$0 1000 3 session
+point A 0 0
+
+point B 1 0
+write
+> 4
+ok A
+ok B
+$0 1000 3 session
+point A 0 0
+point B 4 0
+point C 4 3
+point D 0 3
+distance A B 4
+distance A C 5
+distance A D 3
+distance B C 3
+distance B D 5
+distance C D 4
+check
+drop 6
+check
+undo
+check
+end
+> 4
+ok A
+ok B
+";
+
+/// Over its devices the call of the row ends so.
+fn is_faulty(rt: &impl Abort, alloc: Global, row: &str) {
+    let (line, input, wanted) = parts_of(rt, row);
+    let (read, line) = line.split_once(' ').expect(rt, "a read");
+    let (room, line) = line.split_once(' ').expect(rt, "a room");
+    let (write, _) = line.split_once(' ').expect(rt, "a write");
+    let reads = [read.parse::<u64>().expect(rt, "a read")];
+    let room = room.parse::<u32>().expect(rt, "a room");
+    let writes = [write.parse::<u64>().expect(rt, "a write")];
+    let (status, sink) = answer_over(rt, alloc, line, (input.as_bytes(), &reads), (room, &writes));
+    ends(rt, line, (status, sink.written()), ending_of(rt, wanted));
+}
+
 #[test]
-fn faults_have_their_statuses(rt: HostRuntime) -> Result<(), Fail> {
-    let lines = b"point A 0 0\n\npoint B 1 0\nwrite\n".as_slice();
-    let rows: [(&str, &[u8], &[u64], u32, &[u64], &str); 10] = [
-        (" check", TRIANGLE, &[1], 1000, &[], "3\n"),
-        (" check", TRIANGLE, &[], 1000, &[1], "4\n"),
-        (" check", TRIANGLE, &[], 0, &[], "4\n"),
-        (" check", TRIANGLE, &[], 5, &[], "4\nverdi"),
-        (
-            " check",
-            LONE_POINT,
-            &[0, 9],
-            1000,
-            &[0, 9],
-            LONE_POINT_REPORT,
-        ),
-        (" session", lines, &[2], 1000, &[], "3\n"),
-        (" session", lines, &[], 0, &[], "4\n"),
-        (" session", lines, &[], 7, &[], "4\nok A\nok"),
-        (" session", lines, &[], 1000, &[2], "4\nok A\n"),
-        (" session", lines, &[], 1000, &[3], "4\nok A\nok B\n"),
-    ];
-    for (line, input, reads, room, writes, wanted) in rows {
-        let found = answer_over(rt.alloc(), line, (input, reads), (room, writes))?;
-        same(line, found.as_str(), wanted)?;
+fn faults_have_their_statuses(rt: HostRuntime) {
+    for row in FAULTS.split('$').skip(1) {
+        is_faulty(&rt, rt.alloc(), row);
     }
-    Ok(())
+}
+
+/// Over std's reader and writer a check comes to the text.
+fn is_handed_on<R: Abort, S: Read + Drop>(rt: &R, alloc: Global, reader: S, wanted: &str) {
+    let mut written = Vec::new(alloc);
+    let mut sink = StdSink::new(&mut written);
+    let status = status_of(rt, alloc, " check", &mut StdSource::new(reader), &mut sink);
+    drop(sink);
+    ends(
+        rt,
+        "check",
+        (status, written.as_slice()),
+        ending_of(rt, wanted),
+    );
 }
 
 /// The adapters over std's readers and writers hand on what they are given. Blanks without end are read to the limit of a
 /// sketch and a byte beyond it.
 #[test]
-fn the_adapters_hand_on(rt: HostRuntime) -> Result<(), Fail> {
-    let alloc = rt.alloc();
-    let mut written = Vec::new(alloc);
-    let mut sink = StdSink::new(&mut written);
-    let status = status_of(alloc, " check", &mut StdSource::new(LONE_POINT), &mut sink)?;
-    let endless = status_of(
-        alloc,
-        " check",
-        &mut StdSource::new(io::repeat(b' ')),
-        &mut sink,
-    )?;
-    drop(sink);
-    let found = answer_text(alloc, status, written.as_slice())?;
-    let refused = "refused line 0 E20 too-long\n";
-    let wanted = format!(in alloc; "{LONE_POINT_REPORT}{refused}")?;
-    same("two calls", found.as_str(), wanted.as_str())?;
-    assert_eq!(rt; endless, 1);
-    Ok(())
+fn the_adapters_hand_on(rt: HostRuntime) {
+    let point = b"sketch 1\npoint A 7 7\nend\n".as_slice();
+    let report =
+        "0\nverdict well\nelements 1\nconstraints 0\nparts 1\npart 1 sound elements 1 held 0 due 0 : A\n";
+    is_handed_on(&rt, rt.alloc(), point, report);
+    is_handed_on(
+        &rt,
+        rt.alloc(),
+        io::repeat(b' '),
+        "1\nrefused line 0 E20 too-long\n",
+    );
 }

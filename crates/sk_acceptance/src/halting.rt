@@ -1,10 +1,10 @@
 // The adapters over a reader and a writer of std's kind, of which a call fails.
 use crate::faults::{OTHERS, READERS};
-use crate::row::{answer_text, parts_of, same, status_of};
+use crate::row::{ending_of, ends, parts_of, status_of};
 use sk_io::{StdSink, StdSource};
 use std::alloc::Global;
 use std::io::{self, ErrorKind, Read, Write};
-use std::test::Fail;
+use std::process::Abort;
 
 /// Gives one byte a call. The call with that number fails, and those behind it go on.
 #[derive(Drop)]
@@ -56,13 +56,15 @@ impl Write for HaltingWriter {
     }
 }
 
-/// What the call comes to over such devices, where the calls with these numbers fail, or none where the number is 0.
-fn halted(
+/// Over such devices, where the calls with these numbers fail, or none where the number is 0, the call ends so.
+fn halts(
+    rt: &impl Abort,
     alloc: Global,
-    line: &str,
-    (input, failing_read): (&str, u64),
+    (line, input): (&str, &str),
+    failing_read: u64,
     (failing_write, takes_none): (u64, bool),
-) -> Result<String, Fail> {
+    wanted: (u8, &[u8]),
+) {
     let mut source = StdSource::new(HaltingReader {
         rest: input.as_bytes(),
         calls: 0,
@@ -75,73 +77,66 @@ fn halted(
         takes_none,
     };
     let mut sink = StdSink::new(&mut writer);
-    let status = status_of(alloc, line, &mut source, &mut sink)?;
+    let status = status_of(rt, alloc, line, &mut source, &mut sink);
     drop(sink);
-    answer_text(alloc, status, writer.taken.as_slice())
-}
-
-/// Over such devices the call of the row comes to the text.
-fn comes_to(
-    alloc: Global,
-    row: &str,
-    failing_read: u64,
-    writes: (u64, bool),
-    wanted: &str,
-) -> Result<(), Fail> {
-    let (line, input, _) = parts_of(row)?;
-    let found = halted(alloc, line, (input, failing_read), writes)?;
-    same(line, found.as_str(), wanted)
+    ends(rt, line, (status, writer.taken.as_slice()), wanted);
 }
 
 /// One byte a call is read, and then the end: a failure of any of these calls leaves nothing written.
-fn each_read_fails(alloc: Global, row: &str) -> Result<(), Fail> {
-    let (_, input, wanted) = parts_of(row)?;
-    let calls = (input.len() as u64).saturating_add(1);
-    comes_to(alloc, row, calls.saturating_add(1), (0, false), wanted)?;
+fn each_read_fails(rt: &impl Abort, alloc: Global, call: (&str, &str), whole: (u8, &[u8])) {
+    let calls = (call.1.len() as u64).saturating_add(1);
     for read in 1..=calls {
-        comes_to(alloc, row, read, (0, false), "3\n")?;
+        halts(rt, alloc, call, read, (0, false), (3, b""));
     }
-    Ok(())
+    halts(rt, alloc, call, calls.saturating_add(1), (0, false), whole);
 }
 
 /// One byte a call is written: where a call fails, or takes nothing, the bytes of the calls before it are left.
 fn each_write_fails(
+    rt: &impl Abort,
     alloc: Global,
-    row: &str,
+    call: (&str, &str),
     failing_read: u64,
     takes_none: bool,
-) -> Result<(), Fail> {
-    let (_, _, wanted) = parts_of(row)?;
-    let (_, written) = wanted.split_once('\n').ok_or("a status")?;
-    let written = written.as_bytes();
-    let later = (written.len() as u64).saturating_add(1);
-    comes_to(alloc, row, failing_read, (later, takes_none), wanted)?;
-    for done in 0..written.len() {
-        let write = (done as u64).saturating_add(1);
-        let front = answer_text(alloc, 4, &written[..done])?;
-        comes_to(
+    whole: (u8, &[u8]),
+) {
+    let mut write = 0u64;
+    for done in 0..whole.1.len() {
+        write = write.saturating_add(1);
+        halts(
+            rt,
             alloc,
-            row,
+            call,
             failing_read,
             (write, takes_none),
-            front.as_str(),
-        )?;
+            (4, &whole.1[..done]),
+        );
     }
-    Ok(())
+    halts(
+        rt,
+        alloc,
+        call,
+        failing_read,
+        (write.saturating_add(1), takes_none),
+        whole,
+    );
 }
 
 /// A reader that fails isn't at its end, and a writer that fails, or takes nothing of a piece, has not taken it. A reader that
 /// fails at its first call is no fault of a call that reads nothing.
 #[test]
-fn the_adapters_tell_failures(rt: HostRuntime) -> Result<(), Fail> {
+fn the_adapters_tell_failures(rt: HostRuntime) {
     for row in READERS.split('$').skip(1) {
-        each_read_fails(rt.alloc(), row)?;
-        each_write_fails(rt.alloc(), row, 0, false)?;
-        each_write_fails(rt.alloc(), row, 0, true)?;
+        let (line, input, wanted) = parts_of(&rt, row);
+        let whole = ending_of(&rt, wanted);
+        each_read_fails(&rt, rt.alloc(), (line, input), whole);
+        each_write_fails(&rt, rt.alloc(), (line, input), 0, false, whole);
+        each_write_fails(&rt, rt.alloc(), (line, input), 0, true, whole);
     }
     for row in OTHERS.split('$').skip(1) {
-        each_write_fails(rt.alloc(), row, 1, false)?;
-        each_write_fails(rt.alloc(), row, 1, true)?;
+        let (line, input, wanted) = parts_of(&rt, row);
+        let whole = ending_of(&rt, wanted);
+        each_write_fails(&rt, rt.alloc(), (line, input), 1, false, whole);
+        each_write_fails(&rt, rt.alloc(), (line, input), 1, true, whole);
     }
-    Ok(())
 }

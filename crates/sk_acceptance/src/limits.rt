@@ -1,13 +1,13 @@
 // Drawings at the limits of the language, and one element, constraint or byte beyond them.
 //
 // A long text is told by its parts, between lines of two points: every second part is put once for each number from 3 on.
-use crate::row::{answer, parts_of, same};
+use crate::row::{answer, ending_of, ends, parts_of};
 use std::alloc::Global;
-use std::test::Fail;
+use std::process::Abort;
 
 /// Puts the lines with the number in the place of each `#`, the two numbers before it in those of `<` and `=`, whether it is
 /// even in that of `~`, and what it leaves by 7 in that of `^`.
-fn put_numbered(alloc: Global, text: &mut String, lines: &str, number: u32) -> Result<(), Fail> {
+fn put_numbered(rt: &impl Abort, alloc: Global, text: &mut String, lines: &str, number: u32) {
     for mark in lines.chars() {
         let shown = match mark {
             '#' => number,
@@ -16,35 +16,35 @@ fn put_numbered(alloc: Global, text: &mut String, lines: &str, number: u32) -> R
             '~' => number.saturating_sub(1) % 2,
             '^' => number % 7,
             _ => {
-                text.push(mark)?;
+                text.push(mark).expect(rt, "memory");
                 continue;
             }
         };
-        text.push_str(format!(in alloc; "{shown}")?.as_str())?;
+        let shown = format!(in alloc; "{shown}").expect(rt, "memory");
+        text.push_str(shown.as_str()).expect(rt, "memory");
     }
-    Ok(())
 }
 
 /// A text by its parts, the second of each two of them once for each number from 3 to the last.
-fn long_text(alloc: Global, parts: &str, last: u32) -> Result<String, Fail> {
-    let mut text = String::from_str(alloc, "")?;
+fn long_text(rt: &impl Abort, alloc: Global, parts: &str, last: u32) -> String {
+    let mut text = String::new(alloc);
     for (i, part) in parts.split("..\n").enumerate() {
         if i % 2 == 0 {
-            text.push_str(part)?;
+            text.push_str(part).expect(rt, "memory");
         } else {
             for number in 3..=last {
-                put_numbered(alloc, &mut text, part, number)?;
+                put_numbered(rt, alloc, &mut text, part, number);
             }
         }
     }
-    Ok(text)
+    text
 }
 
-/// What the text comes to by a fixed recurrence.
-fn fingerprint(text: &str) -> u32 {
+/// What the bytes come to by a fixed recurrence.
+fn fingerprint(bytes: &[u8]) -> u32 {
     let mut print = 0u32;
-    for byte in text.bytes() {
-        print = print % 65537 * 257 + u32::from(byte);
+    for byte in bytes {
+        print = print % 65537 * 257 + u32::from(*byte);
     }
     print
 }
@@ -305,34 +305,33 @@ refused line 0 E20 too-long
 ";
 
 /// The call of the row comes to its text.
-fn is_answered(alloc: Global, row: &str) -> Result<(), Fail> {
-    let (line, input, wanted) = parts_of(row)?;
-    let (last, _) = line.split_once(' ').ok_or("a row without a number")?;
-    let last = last.parse::<u32>()?;
-    let input = long_text(alloc, input, last)?;
-    let found = answer(alloc, line, input.as_bytes())?;
-    match wanted.split_once("print ") {
-        Some((status, print)) => {
-            let (found_status, text) = found.split_once('\n').ok_or("a status")?;
-            let printed = fingerprint(text);
-            let found = format!(in alloc; "{found_status} {printed}\n")?;
-            let wanted = format!(in alloc; "{status}{print}")?;
-            same(line, found.as_str(), wanted.as_str())
+fn is_answered(rt: &impl Abort, alloc: Global, row: &str) {
+    let (line, input, wanted) = parts_of(rt, row);
+    let (last, _) = line.split_once(' ').expect(rt, "a number");
+    let last = last.parse::<u32>().expect(rt, "a number");
+    let input = long_text(rt, alloc, input, last);
+    let (status, sink) = answer(rt, alloc, line, input.as_bytes());
+    match wanted.split_once(" print ") {
+        Some((_, print)) => {
+            let print = print.trim().parse::<u32>().expect(rt, "a fingerprint");
+            assert!(rt;
+                status == 0 && fingerprint(sink.written()) == print,
+                "{line}"
+            );
         }
-        None => same(
-            line,
-            found.as_str(),
-            long_text(alloc, wanted, last)?.as_str(),
-        ),
+        None => {
+            let wanted = long_text(rt, alloc, wanted, last);
+            let wanted = ending_of(rt, wanted.as_str());
+            ends(rt, line, (status, sink.written()), wanted);
+        }
     }
 }
 
 #[test]
-fn long_texts_are_answered(rt: HostRuntime) -> Result<(), Fail> {
+fn long_texts_are_answered(rt: HostRuntime) {
     for row in LONG.split('$').skip(1) {
-        is_answered(rt.alloc(), row)?;
+        is_answered(&rt, rt.alloc(), row);
     }
-    Ok(())
 }
 
 /// Drawings that are long chains, each with the tolerance in nm and in parts of 10^9 that it is placed within, and with how
@@ -426,26 +425,25 @@ distance R< R# 1
 ";
 
 /// The drawing is placed by points in four orders.
-fn is_placed(alloc: Global, within: &str, parts: &str, last: u32) -> Result<(), Fail> {
-    let chain = long_text(alloc, parts, last)?;
-    let text = format!(in alloc; "sketch 2\n{chain}end\n")?;
+fn is_placed(rt: &impl Abort, alloc: Global, within: &str, parts: &str, last: u32) {
+    let chain = long_text(rt, alloc, parts, last);
+    let text = format!(in alloc; "sketch 2\n{chain}end\n").expect(rt, "memory");
     for order in ["first", "last", "7", "64"] {
-        let line = format!(in alloc; " solve within={within} place=points order={order}")?;
-        let found = answer(alloc, line.as_str(), text.as_bytes())?;
-        let (status, _) = found.split_once('\n').ok_or("a status")?;
-        same(line.as_str(), status, "0")?;
+        let line = format!(in alloc; " solve within={within} place=points order={order}");
+        let line = line.expect(rt, "memory");
+        let (status, _sink) = answer(rt, alloc, line.as_str(), text.as_bytes());
+        assert!(rt; status == 0, "{line} of {last} {parts}");
     }
-    Ok(())
 }
 
 #[test]
-fn long_chains_are_placed(rt: HostRuntime) -> Result<(), Fail> {
+fn long_chains_are_placed(rt: HostRuntime) {
     for row in CHAINS.split('$').skip(1) {
-        let (numbers, parts) = row.split_once('\n').ok_or("a row without parts")?;
-        let (within, lengths) = numbers.split_once(' ').ok_or("a row without a length")?;
+        let (numbers, parts) = row.split_once('\n').expect(&rt, "parts");
+        let (within, lengths) = numbers.split_once(' ').expect(&rt, "lengths");
         for length in lengths.split(' ') {
-            is_placed(rt.alloc(), within, parts, length.parse::<u32>()?)?;
+            let last = length.parse::<u32>().expect(&rt, "a length");
+            is_placed(&rt, rt.alloc(), within, parts, last);
         }
     }
-    Ok(())
 }

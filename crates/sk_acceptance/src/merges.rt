@@ -9,29 +9,32 @@ use sk_offers::Board;
 use sk_rules::Merge;
 use sk_worklist::{Chosen, Order, close_family};
 use std::alloc::Global;
-use std::test::Fail;
+use std::process::Abort;
 
 /// The merges by which closing in the order comes to an end.
-pub(crate) fn merges_told(alloc: Global, text: &str, order: Order) -> Result<Text, Fail> {
-    let graph = reduce(alloc, &sketch_of(alloc, text)?)?;
-    let mut family = initial(alloc, &graph)?;
-    let taken = close_family(alloc, &mut family, &graph, &mut Chosen::new(order))?;
+pub(crate) fn merges_told(rt: &impl Abort, alloc: Global, text: &str, order: Order) -> Text {
+    let graph = reduce(alloc, &sketch_of(rt, alloc, text)).expect(rt, "memory");
+    let mut family = initial(alloc, &graph).expect(rt, "memory");
+    let mut picker = Chosen::new(order);
+    let taken = close_family(alloc, &mut family, &graph, &mut picker).expect(rt, "memory");
     let mut told = Text::new(alloc);
-    put_each(alloc, &mut told, taken.as_slice())?;
-    Ok(told)
+    put_each(rt, alloc, &mut told, taken.as_slice());
+    told
 }
 
 /// What the drawing's board answers to two offers of its last three clusters, and its merges at its end.
-pub(crate) fn board_told(alloc: Global, text: &str) -> Result<Text, Fail> {
-    let graph = reduce(alloc, &sketch_of(alloc, text)?)?;
-    let mut board = Board::new(alloc, graph)?;
+pub(crate) fn board_told(rt: &impl Abort, alloc: Global, text: &str) -> Text {
+    let graph = reduce(alloc, &sketch_of(rt, alloc, text)).expect(rt, "memory");
+    let mut board = Board::new(alloc, graph).expect(rt, "memory");
     let merge = Merge::Three(Name::Con(5), Name::Con(4), Name::Con(3));
-    let answers = [board.offer(1, merge)?, board.offer(2, merge)?];
-    let finished = board.finish(&mut Chosen::new(Order::First))?;
+    let first = board.offer(1, merge).expect(rt, "memory");
+    let second = board.offer(2, merge).expect(rt, "memory");
+    let mut picker = Chosen::new(Order::First);
+    let finished = board.finish(&mut picker).expect(rt, "memory");
     let mut told = Text::new(alloc);
-    put_each(alloc, &mut told, &answers)?;
-    put_each(alloc, &mut told, finished.taken.as_slice())?;
-    Ok(told)
+    put_each(rt, alloc, &mut told, &[first, second]);
+    put_each(rt, alloc, &mut told, finished.taken.as_slice());
+    told
 }
 
 /// Two triangles with the side B C in common: the triangle A B C as the first step, and then D; or the triangle B C D as the

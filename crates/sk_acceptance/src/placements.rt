@@ -5,30 +5,49 @@ use crate::row::put_each;
 use sk_base::{Sketch, Text};
 use sk_dxf::dxf_text;
 use sk_graph::reduce;
-use sk_interval::Grid;
+use sk_interval::{G16, G38, Grid};
 use sk_place::{Boxes, PlaceBy, PlaceError, place, round};
 use sk_report::fault_text;
 use std::alloc::Global;
-use std::test::Fail;
+use std::process::Abort;
 
-/// Where the elements of the drawing lie as they are placed on the grid, and its DXF text, or the first fault.
-pub(crate) fn places_told<G: Grid>(alloc: Global, text: &str) -> Result<Text, Fail> {
-    let sketch = sketch_of(alloc, text)?;
-    let graph = reduce(alloc, &sketch)?;
-    let plan = planned(alloc, &sketch)?;
-    match place::<G>(alloc, PlaceBy::Boxes, &plan, &graph) {
-        Ok(boxes) => drawn_told(alloc, &sketch, &boxes),
-        Err(PlaceError::Fault(fault)) => Ok(fault_text(alloc, &sketch, &fault, G::BITS)?),
-        Err(PlaceError::NoMemory) => Err(Fail::from("memory ran out")),
+/// Where the elements of the drawing lie as they are placed on the grid of so many digits, and its DXF text, or the first
+/// fault.
+pub(crate) fn places_told(rt: &impl Abort, alloc: Global, text: &str, bits: &str) -> Text {
+    let sketch = sketch_of(rt, alloc, text);
+    let graph = reduce(alloc, &sketch).expect(rt, "memory");
+    let plan = planned(rt, alloc, &sketch);
+    if bits == "16" {
+        let boxes = place::<G16>(alloc, PlaceBy::Boxes, &plan, &graph);
+        placed_told(rt, alloc, &sketch, boxes)
+    } else {
+        let boxes = place::<G38>(alloc, PlaceBy::Boxes, &plan, &graph);
+        placed_told(rt, alloc, &sketch, boxes)
     }
 }
 
-fn drawn_told<G: Grid>(alloc: Global, sketch: &Sketch, boxes: &Boxes<G>) -> Result<Text, Fail> {
-    let places = round(alloc, boxes)?;
+fn placed_told<R: Abort, G: Grid>(
+    rt: &R,
+    alloc: Global,
+    sketch: &Sketch,
+    boxes: Result<Boxes<G>, PlaceError>,
+) -> Text {
+    match boxes {
+        Ok(boxes) => drawn_told(rt, alloc, sketch, &boxes),
+        Err(PlaceError::Fault(fault)) => {
+            fault_text(alloc, sketch, &fault, G::BITS).expect(rt, "memory")
+        }
+        Err(PlaceError::NoMemory) => panic!(rt; "memory"),
+    }
+}
+
+fn drawn_told<R: Abort, G: Grid>(rt: &R, alloc: Global, sketch: &Sketch, boxes: &Boxes<G>) -> Text {
+    let places = round(alloc, boxes).expect(rt, "memory");
     let mut told = Text::new(alloc);
-    put_each(alloc, &mut told, places.spots.as_slice())?;
-    told.put(dxf_text(alloc, &places, sketch)?.as_bytes())?;
-    Ok(told)
+    put_each(rt, alloc, &mut told, places.spots.as_slice());
+    let drawn = dxf_text(alloc, &places, sketch).expect(rt, "memory");
+    told.put(drawn.as_bytes()).expect(rt, "memory");
+    told
 }
 
 /// A plate on the finest grid, and an impossible triangle on the coarsest.

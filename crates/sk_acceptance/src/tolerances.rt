@@ -2,7 +2,7 @@
 // The numbers were worked out by hand.
 //
 // A row has a sketch, `at`, and a place for each of its elements.
-ghost use Rattle.std.specs.Prelude.{◌<◌, ◌≤◌, ◌^◌, length, IsTrue, IfOk};
+ghost use Rattle.std.specs.Prelude.{◌<◌, ◌≤◌, ◌^◌, length, IsTrue};
 ghost use Rattle.sk_base.specs.Bounds.{IsWithin};
 ghost use Rattle.sk_base.specs.Places.{IsBounded};
 ghost use Rattle.sk_base.specs.SoundGraph.{IsSoundGraph};
@@ -19,7 +19,7 @@ use sk_report::{passed_text, solve_text, turned_text};
 use sk_residual::{first_turned, least, passed};
 use sk_tree::Plan;
 use std::alloc::Global;
-use std::test::Fail;
+use std::process::Abort;
 
 /// Triangles, one of them turned over and one that is flat, and a length beyond a limit.
 pub const POINTS: &str = "
@@ -521,74 +521,78 @@ pub(crate) struct Laid {
 }
 
 /// The drawing of a row with its elements at the places of the row.
-pub(crate) fn lay(alloc: Global, text: &str) -> Result<Laid, Fail>
-    ensures sketch { IfOk result (λ laid. IsSoundSketch laid.sketch) }
-    ensures legal { IfOk result (λ laid. IsLegalPlan (graph_of laid.sketch) laid.plan) }
-    ensures lies { IfOk result (λ laid. PlacesExactly (graph_of laid.sketch) laid.at) }
-    ensures graph { IfOk result (λ laid. IsSoundGraph laid.graph) }
-    ensures placed { IfOk result (λ laid. PlacesExactly laid.graph laid.at) }
+pub(crate) fn lay(rt: &impl Abort, alloc: Global, text: &str) -> Laid
+    ensures sketch { IsSoundSketch result.sketch }
+    ensures legal { IsLegalPlan (graph_of result.sketch) result.plan }
+    ensures lies { PlacesExactly (graph_of result.sketch) result.at }
+    ensures graph { IsSoundGraph result.graph }
+    ensures placed { PlacesExactly result.graph result.at }
 {
-    let (text, places) = text.split_once("at\n").ok_or("a row without places")?;
-    let sketch = sketch_of(alloc, text)?;
-    let graph = reduce(alloc, &sketch)?;
-    let plan = planned(alloc, &sketch)?;
-    let at = placed(alloc, &graph, places_of(alloc, places)?.as_slice())?;
-    Ok(Laid {
+    let (text, places) = text.split_once("at\n").expect(rt, "places");
+    let sketch = sketch_of(rt, alloc, text);
+    let graph = reduce(alloc, &sketch).expect(rt, "memory");
+    let plan = planned(rt, alloc, &sketch);
+    let places = places_of(rt, alloc, places);
+    let at = placed(rt, alloc, &graph, places.as_slice());
+    Laid {
         sketch,
         graph,
         plan,
         at,
-    })
+    }
 }
 
 /// The places of the lines, `point x y` or `line a b c`.
-fn places_of(alloc: Global, lines: &str) -> Result<Vec<At>, Fail> {
+fn places_of(rt: &impl Abort, alloc: Global, lines: &str) -> Vec<At> {
     let mut places = Vec::new(alloc);
     for line in lines.lines() {
-        places.push(place_of(line)?)?;
+        places.push(place_of(rt, line)).expect(rt, "memory");
     }
-    Ok(places)
+    places
 }
 
-fn place_of(line: &str) -> Result<At, Fail> {
-    let (kind, rest) = line.split_once(' ').ok_or("a kind")?;
-    let (first, rest) = rest.split_once(' ').ok_or("a number")?;
-    let first = first.parse::<i64>()?;
+fn place_of(rt: &impl Abort, line: &str) -> At {
+    let (kind, rest) = line.split_once(' ').expect(rt, "a kind");
+    let (first, rest) = rest.split_once(' ').expect(rt, "two numbers");
+    let first = number(rt, first);
     match rest.split_once(' ') {
-        Some((b, c)) if kind == "line" => Ok(At::Line {
+        Some((b, c)) if kind == "line" => At::Line {
             a: first,
-            b: b.parse::<i64>()?,
-            c: c.parse::<i64>()?,
-        }),
-        None if kind == "point" => Ok(At::Point {
+            b: number(rt, b),
+            c: number(rt, c),
+        },
+        None if kind == "point" => At::Point {
             x: first,
-            y: rest.parse::<i64>()?,
-        }),
-        _ => Err(Fail::from("a place")),
+            y: number(rt, rest),
+        },
+        _ => panic!(rt; "a place"),
     }
+}
+
+fn number(rt: &impl Abort, text: &str) -> i64 {
+    text.parse::<i64>().expect(rt, "a number")
 }
 
 /// Places the nodes of the graph one by one.
-fn placed(alloc: Global, graph: &Graph, places: &[At]) -> Result<Placed, Fail>
+fn placed(rt: &impl Abort, alloc: Global, graph: &Graph, places: &[At]) -> Placed
     requires { IsSoundGraph graph.now }
-    ensures exactly { IfOk result (λ p. PlacesExactly graph.now p) }
-    ensures in_order { IfOk result (λ p. AreSpotsOf graph.now.nodes p.spots) }
+    ensures exactly { PlacesExactly graph.now result }
+    ensures in_order { AreSpotsOf graph.now.nodes result.spots }
 {
     let nodes = graph.nodes.as_slice();
-    if places.len() != nodes.len() {
-        return Err(Fail::from("a place for each element"));
-    }
+    assert!(rt; places.len() == nodes.len(), "a place for each element");
     let mut spots = List::new(alloc);
     for i in 0..nodes.len() {
         if !is_place(nodes[i].kind, places[i]) {
-            return Err(Fail::from("a place of another kind"));
+            panic!(rt; "a place of another kind");
         }
-        spots.push(Spot {
+        let spot = Spot {
             elem: nodes[i].elem,
             at: places[i],
-        })?;
+        };
+        spots.push(spot).expect(rt, "memory");
     }
-    Ok(Placed { spots })
+    Placed { spots }
 }
 
 /// Whether the place is of that kind, and within the bounds.
@@ -616,30 +620,35 @@ fn is_part(part: i64) -> bool
 }
 
 /// The report on the drawing, what is first beyond the limit, and the first turned sign.
-pub(crate) fn judged(alloc: Global, text: &str, limit: &str) -> Result<Text, Fail> {
-    let laid = lay(alloc, text)?;
+pub(crate) fn judged(rt: &impl Abort, alloc: Global, text: &str, limit: &str) -> Text {
+    let laid = lay(rt, alloc, text);
+    let limit = limit.parse::<u64>().expect(rt, "a limit");
     let tolerance = least(&laid.at, &laid.graph);
     let (sketch, plan) = (&laid.sketch, &laid.plan);
-    let mut told = solve_text(alloc, sketch, plan, 38, &laid.at, &tolerance)?;
-    if let Some(beyond) = passed(&laid.at, &laid.graph, limit.parse::<u64>()?) {
-        told.put(passed_text(alloc, sketch, &beyond)?.as_bytes())?;
+    let told = solve_text(alloc, sketch, plan, 38, &laid.at, &tolerance);
+    let mut told = told.expect(rt, "memory");
+    if let Some(beyond) = passed(&laid.at, &laid.graph, limit) {
+        let line = passed_text(alloc, sketch, &beyond).expect(rt, "memory");
+        told.put(line.as_bytes()).expect(rt, "memory");
     }
     if let Some(turned) = first_turned(&laid.at, sketch, plan) {
-        told.put(turned_text(alloc, &turned)?.as_bytes())?;
+        let line = turned_text(alloc, &turned).expect(rt, "memory");
+        told.put(line.as_bytes()).expect(rt, "memory");
     }
-    Ok(told)
+    told
 }
 
 /// Whether the edge, or behind all of them the block, at a place of the graph holds within a tolerance: both are told.
-pub(crate) fn held(alloc: Global, text: &str, numbers: &str) -> Result<Text, Fail> {
-    let laid = lay(alloc, text)?;
-    let (place, tolerance) = numbers.split_once(' ').ok_or("a tolerance")?;
-    let (i, t) = (place.parse::<usize>()?, tolerance.parse::<u64>()?);
+pub(crate) fn held(rt: &impl Abort, alloc: Global, text: &str, numbers: &str) -> Text {
+    let laid = lay(rt, alloc, text);
+    let (place, tolerance) = numbers.split_once(' ').expect(rt, "a tolerance");
+    let place = place.parse::<usize>().expect(rt, "a place");
+    let tolerance = tolerance.parse::<u64>().expect(rt, "a tolerance");
     let mut told = Text::new(alloc);
-    if holds_at(&laid.at, &laid.graph, i, t) {
-        told.put(b"holds\n")?;
+    if holds_at(&laid.at, &laid.graph, place, tolerance) {
+        told.put(b"holds\n").expect(rt, "memory");
     }
-    Ok(told)
+    told
 }
 
 /// Whether what stands at place `i` holds within `t`.

@@ -7,37 +7,41 @@ use sk_base::{ConId, List, Text};
 use sk_plan::plan_tree;
 use sk_tree::{Tree, build, height, leaf_tree, leaves, steps};
 use std::alloc::Global;
-use std::test::Fail;
+use std::process::Abort;
 
 /// The tree's leaves from left to right, how many joins it has, and how many of them stand above one another.
-fn told(alloc: Global, tree: &Tree) -> Result<Text, Fail>
+fn told(rt: &impl Abort, alloc: Global, tree: &Tree) -> Text
     requires { step_count tree.now < 2 ^ 32 }
 {
+    let leaves = leaves(alloc, tree).expect(rt, "memory");
     let mut text = Text::new(alloc);
-    text.put(b"leaves")?;
-    for leaf in leaves(alloc, tree)?.as_slice() {
+    text.put(b"leaves").expect(rt, "memory");
+    for leaf in leaves.as_slice() {
         let number = leaf.0;
-        text.put(format!(in alloc; " {number}")?.as_bytes())?;
+        let word = format!(in alloc; " {number}").expect(rt, "memory");
+        text.put(word.as_bytes()).expect(rt, "memory");
     }
     let (joins, high) = (steps(tree), height(tree));
-    text.put(format!(in alloc; " joins {joins} height {high}\n")?.as_bytes())?;
-    Ok(text)
+    let end = format!(in alloc; " joins {joins} height {high}\n").expect(rt, "memory");
+    text.put(end.as_bytes()).expect(rt, "memory");
+    text
 }
 
 /// The tree of the drawing's plan.
-pub(crate) fn tree_told(alloc: Global, text: &str) -> Result<Text, Fail> {
-    let plan = planned(alloc, &sketch_of(alloc, text)?)?;
-    match plan_tree(alloc, &plan)? {
-        Some(tree) => told(alloc, &tree),
-        None => Ok(Text::new(alloc)),
+pub(crate) fn tree_told(rt: &impl Abort, alloc: Global, text: &str) -> Text {
+    let sketch = sketch_of(rt, alloc, text);
+    let plan = planned(rt, alloc, &sketch);
+    match plan_tree(alloc, &plan).expect(rt, "memory") {
+        Some(tree) => told(rt, alloc, &tree),
+        None => Text::new(alloc),
     }
 }
 
 /// The tree of a constraint alone; of no merge there is none.
-pub(crate) fn leaf_told(alloc: Global) -> Result<Text, Fail> {
-    match build(alloc, &List::new(alloc))? {
-        Some(_) => Err(Fail::from("a tree of no merge")),
-        None => told(alloc, &leaf_tree(ConId(7))),
+pub(crate) fn leaf_told(rt: &impl Abort, alloc: Global) -> Text {
+    match build(alloc, &List::new(alloc)).expect(rt, "memory") {
+        Some(_) => panic!(rt; "a tree of no merge"),
+        None => told(rt, alloc, &leaf_tree(ConId(7))),
     }
 }
 
