@@ -94,6 +94,11 @@ xxxxxxxxxxxxxxxxxxxxxxxxxxxxxxxxxxxxxxxxxxxxxxxxxxxxxxxxxxxxxxxxxxxxxxxxxxxxxxxx
 refused line 2 E15 line-too-long
 $ check
 sketch 1
+\u{c3}
+> 1
+refused line 2 E19 not-ascii
+$ check
+sketch 1
 point A 0 0
 > 1
 refused line 3 E16 no-end
