@@ -28,7 +28,8 @@ impl Read for HaltingReader<'_> {
     }
 }
 
-/// Takes one byte a call. The call with that number fails or takes nothing, and those behind it go on.
+/// Takes one byte a call, and counts flushes among its calls. The call with that number fails, or takes nothing if it is a
+/// write and that is wanted, and those behind it go on.
 #[derive(Drop)]
 struct HaltingWriter {
     taken: Vec<u8>,
@@ -51,12 +52,16 @@ impl Write for HaltingWriter {
     }
 
     fn flush(&mut self) -> io::Result<()> {
+        self.calls = self.calls.saturating_add(1);
+        if self.calls == self.failing {
+            return Err(ErrorKind::StorageFull.into());
+        }
         Ok(())
     }
 }
 
 /// Over such devices, where the calls with these numbers fail, or none where the number is 0, the call ends so.
-fn halts(
+pub fn halts(
     rt: &impl Abort,
     alloc: Global,
     (line, input): (&str, &str),

@@ -1,5 +1,5 @@
 // Sessions that answer as they are asked, over sources that give their input in pieces.
-use crate::halting::HaltingReader;
+use crate::halting::{HaltingReader, halts};
 use crate::row::{ending_of, ends, parts_of, status_of};
 use crate::sessions::SESSIONS;
 use sk_io::{MemSink, StdSource};
@@ -85,6 +85,15 @@ fn live_answers_in_pieces(rt: HostRuntime) {
     }
 }
 
+/// What is left where that call of a writer fails that takes one byte a call, and is flushed behind each reply: the last byte
+/// of a reply, its flush, the byte behind that, and the next flush.
+const FLUSHED: [(u64, &str); 4] = [
+    (5, "ok A"),
+    (6, "ok A\n"),
+    (7, "ok A\n"),
+    (10, "ok A\nok\n"),
+];
+
 /// A failing call leaves the replies to the lines that had come to their end before it.
 #[test]
 fn each_call_of_live_may_fail(rt: HostRuntime) {
@@ -102,5 +111,9 @@ fn each_call_of_live_may_fail(rt: HostRuntime) {
     for (write, written) in [(1, ""), (2, "ok A\n"), (3, "ok A\nok\n")] {
         let wanted = (4, written.as_bytes());
         ends_in_pieces(&rt, rt.alloc(), call, 9, (0, write), wanted);
+    }
+    for (call_number, written) in FLUSHED {
+        let wanted = (4, written.as_bytes());
+        halts(&rt, rt.alloc(), call, 0, (call_number, false), wanted);
     }
 }
