@@ -1,6 +1,6 @@
 // Other drawings by turned choices, through the command and by the calls below it.
 use crate::calls::{planned, sketch_of};
-use crate::row::{answers, few_bytes, lines_are_refused, put_each};
+use crate::row::{answers, few_bytes, joined, lines_are_refused, put_each};
 use crate::tolerances::lay;
 use sk_base::{List, Name, Sign, Sketch, Text};
 use sk_cli::alternative_text;
@@ -418,7 +418,7 @@ const LONE_POINT: &str = "sketch 1\npoint A 7 7\nend\n";
 /// The lone point, with so many lines of flips that name no step, and then a line.
 fn with_flips(rt: &impl Abort, alloc: Global, count: usize, line: &str) -> String {
     let flips = "flip\n".repeat(alloc, count).expect(rt, "memory");
-    format!(in alloc; "{LONE_POINT}{flips}{line}").expect(rt, "memory")
+    joined(rt, alloc, &[LONE_POINT, flips.as_str(), line])
 }
 
 /// No more than 64 lines of flips may stand, and one more is refused for that only where nothing else is wrong with it.

@@ -1,7 +1,7 @@
 // Drawings at the limits of the language, and one element, constraint or byte beyond them.
 //
 // A long text is told by its parts, between lines of two points: every second part is put once for each number from 3 on.
-use crate::row::{answer, ending_of, ends, parts_of};
+use crate::row::{answer, ending_of, ends, joined, parts_of};
 use std::alloc::Global;
 use std::process::Abort;
 
@@ -427,10 +427,10 @@ distance R< R# 1
 /// The drawing is placed by points in four orders.
 fn is_placed(rt: &impl Abort, alloc: Global, within: &str, parts: &str, last: u32) {
     let chain = long_text(rt, alloc, parts, last);
-    let text = format!(in alloc; "sketch 2\n{chain}end\n").expect(rt, "memory");
+    let text = joined(rt, alloc, &["sketch 2\n", chain.as_str(), "end\n"]);
     for order in ["first", "last", "7", "64"] {
-        let line = format!(in alloc; " solve within={within} place=points order={order}");
-        let line = line.expect(rt, "memory");
+        let words = [" solve within=", within, " place=points order=", order];
+        let line = joined(rt, alloc, &words);
         let (status, _sink) = answer(rt, alloc, line.as_str(), text.as_bytes());
         assert!(rt; status == 0, "{line} of {last} {parts}");
     }

@@ -1,6 +1,6 @@
 // Sessions that answer as they are asked, over sources that give their input in pieces.
 use crate::halting::{HaltingReader, halts};
-use crate::row::{ending_of, ends, parts_of, status_of};
+use crate::row::{ending_of, ends, joined, parts_of, status_of};
 use crate::sessions::SESSIONS;
 use sk_io::{MemSink, StdSource};
 use std::alloc::Global;
@@ -80,7 +80,7 @@ fn live_answers_in_pieces(rt: HostRuntime) {
     for row in SESSIONS.split('$').skip(1) {
         let (line, input, wanted) = parts_of(&rt, row);
         let words = line.strip_prefix(" session").expect(&rt, "a session");
-        let line = format!(in rt.alloc(); " live{words}").expect(&rt, "memory");
+        let line = joined(&rt, rt.alloc(), &[" live", words]);
         any_pieces_serve(&rt, rt.alloc(), (line.as_str(), input), wanted);
     }
 }

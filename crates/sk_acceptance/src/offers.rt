@@ -1,5 +1,5 @@
 // Offered merges, orders of merges, and what both come to.
-use crate::row::answers;
+use crate::row::{answers, joined};
 
 pub const OFFERS: &str = "
 $ offers
@@ -234,10 +234,10 @@ fn every_offer_comes_to_the_same_report(rt: HostRuntime) {
     let alloc = rt.alloc();
     for row in OFFERED.split("$\n").skip(1) {
         let (offers, lines) = row.split_once(">\n").expect(&rt, "answers");
-        let input = format!(in alloc; "{DOUBLED}{offers}end\n").expect(&rt, "memory");
-        let wanted = format!(in alloc; "0\n{lines}{DOUBLED_REPORT}").expect(&rt, "memory");
+        let input = joined(&rt, alloc, &[DOUBLED, offers, "end\n"]);
+        let wanted = joined(&rt, alloc, &["0\n", lines, DOUBLED_REPORT]);
         for order in ["first", "last", "5"] {
-            let line = format!(in alloc; " offers order={order}").expect(&rt, "memory");
+            let line = joined(&rt, alloc, &[" offers order=", order]);
             answers(&rt, alloc, line.as_str(), input.as_bytes(), wanted.as_str());
         }
     }

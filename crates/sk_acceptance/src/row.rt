@@ -51,6 +51,11 @@ pub fn answer(rt: &impl Abort, alloc: Global, line: &str, input: &[u8]) -> (u8, 
     answer_over(rt, alloc, line, (input, &[]), (ROOM, &[]))
 }
 
+/// The texts behind one another.
+pub fn joined(rt: &impl Abort, alloc: Global, texts: &[&str]) -> String {
+    texts.concat(alloc).expect(rt, "memory")
+}
+
 /// The bytes are those that are wanted, or the test ends, and tells whose they are.
 pub fn same(rt: &impl Abort, whose: &str, found: &[u8], wanted: &[u8]) {
     let told = str::from_utf8(found).unwrap_or("no text");
@@ -107,7 +112,7 @@ pub fn rows_pass(rt: &impl Abort, alloc: Global, table: &str) {
         let (line, input, wanted) = parts_of(rt, row);
         answers(rt, alloc, line, input.as_bytes(), wanted);
         if is_done_by_boxes(line, wanted) {
-            let by_points = format!(in alloc; "{line} place=points").expect(rt, "memory");
+            let by_points = joined(rt, alloc, &[line, " place=points"]);
             answers(rt, alloc, by_points.as_str(), input.as_bytes(), wanted);
         }
     }
@@ -116,10 +121,11 @@ pub fn rows_pass(rt: &impl Abort, alloc: Global, table: &str) {
 /// Behind the sketch, each line of the table is refused: it stands behind `: `, and its code before that.
 pub fn lines_are_refused(rt: &impl Abort, alloc: Global, command: &str, sketch: &str, table: &str) {
     let number = sketch.lines().count().saturating_add(1);
+    let refused = format!(in alloc; "1\nrefused line {number} ").expect(rt, "memory");
     for row in table.split('\n') {
         let (code, line) = row.split_once(": ").expect(rt, "a code");
-        let text = format!(in alloc; "{sketch}{line}\n").expect(rt, "memory");
-        let wanted = format!(in alloc; "1\nrefused line {number} {code}\n").expect(rt, "memory");
+        let text = joined(rt, alloc, &[sketch, line, "\n"]);
+        let wanted = joined(rt, alloc, &[refused.as_str(), code, "\n"]);
         answers(rt, alloc, command, text.as_bytes(), wanted.as_str());
     }
 }

@@ -1,5 +1,5 @@
 // Random sessions: what a session answers on its sketch is what the commands answer on the sketch as it is written.
-use crate::row::answer;
+use crate::row::{answer, joined};
 use std::alloc::Global;
 use std::process::Abort;
 
@@ -89,11 +89,11 @@ fn script(rt: &impl Abort, alloc: Global, steps: &str, number: u32) -> String {
 
 /// The sketch as it stands behind the lines, as the session writes it.
 fn sketch_behind(rt: &impl Abort, alloc: Global, script: &str) -> String {
-    let lines = format!(in alloc; "{script}write\n").expect(rt, "memory");
+    let lines = joined(rt, alloc, &[script, "write\n"]);
     let (_, sink) = answer(rt, alloc, " session", lines.as_bytes());
     let replies = str::from_utf8(sink.written()).expect(rt, "a text");
     let (_, sketch) = replies.split_once("\nsketch ").expect(rt, "a sketch");
-    format!(in alloc; "sketch {sketch}").expect(rt, "memory")
+    joined(rt, alloc, &["sketch ", sketch])
 }
 
 /// At its end the session answers the questions as the commands do on the sketch that it writes there.
@@ -103,7 +103,7 @@ fn ends_alike(rt: &impl Abort, alloc: Global, script: &str, questions: &[&str]) 
     let mut wanted = Vec::new(alloc);
     for question in questions {
         put_step(rt, &mut lines, question);
-        let line = format!(in alloc; " {question}").expect(rt, "memory");
+        let line = joined(rt, alloc, &[" ", question]);
         let (_, sink) = answer(rt, alloc, line.as_str(), sketch.as_bytes());
         wanted
             .extend_from_slice(sink.written())

@@ -1,4 +1,5 @@
 // Sessions, and the family that is kept across their lines.
+use crate::row::joined;
 use sk_base::Text;
 use sk_family::Family;
 use sk_lines::Code;
@@ -394,7 +395,7 @@ fn a_check_goes_on_from_the_kept_clusters(rt: HostRuntime) {
     let kept = hinged(&rt, rt.alloc(), Closing::ByRun);
     assert!(rt; kept.family().next_step() == 3);
     let told = family_told(&rt, rt.alloc(), kept.family());
-    let wanted = format!(in rt.alloc(); "Step(1){APART}Step(2){MENDED}").expect(&rt, "memory");
+    let wanted = joined(&rt, rt.alloc(), &["Step(1)", APART, "Step(2)", MENDED]);
     assert!(rt; told.as_bytes() == wanted.as_bytes());
     let kept = hinged(&rt, rt.alloc(), Closing::InAnyOrder);
     let told = family_told(&rt, rt.alloc(), kept.family());
