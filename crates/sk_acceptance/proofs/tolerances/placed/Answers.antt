@@ -19,7 +19,7 @@ loop-i-preserved c =
     let passes : c.is_place.result ≡ true = first_of (search (rules, c.if-not-is_place.false), grind (arith, common_steps, c.if-not-is_place.false)) in
     let more : AreSpotsOf (take c.loop-i.i nodes ++ n ∷ []) (c.loop-i.spots ++ spot ∷ []) =
     spots_more (take c.loop-i.i nodes) c.loop-i.spots n spot c.loop-i.invariant (record { elem = refl; has_kind = c.is_place.ensures.kind passes; bounded = c.is_place.ensures.bounded passes }) in
-    rw (c.in_ok-push.ensures.ok, take_more nodes c.loop-i.i any_node (omega arith)) more
+    rw (rw c.expect.ensures at c.push.ensures.ok, take_more nodes c.loop-i.i any_node (omega arith)) more
 
 pub returns-clause-exactly : goal.returns-clause-exactly
 returns-clause-exactly c =
