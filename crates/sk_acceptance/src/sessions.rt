@@ -1,5 +1,5 @@
 // Sessions, and the family that is kept across their lines.
-use crate::row::joined;
+use crate::row::{joined, same};
 use sk_base::Text;
 use sk_family::Family;
 use sk_lines::Code;
@@ -384,6 +384,25 @@ fn family_told(rt: &impl Abort, alloc: Global, family: &Family) -> Text {
     told
 }
 
+/// The kept clusters behind the lines, and the number of the next step.
+fn kept(rt: &impl Abort, alloc: Global, closing: Closing) -> (Text, u32) {
+    let session = hinged(rt, alloc, closing);
+    let family = session.family();
+    (family_told(rt, alloc, family), family.next_step())
+}
+
+/// Whether the family has two clusters, with these elements.
+fn are_both(told: &[u8]) -> bool {
+    match str::from_utf8(told) {
+        Ok(lines) => {
+            lines.lines().count() == 2
+                && lines.split_once(APART).is_some()
+                && lines.split_once(MENDED).is_some()
+        }
+        Err(_) => false,
+    }
+}
+
 const APART: &str = " [Elem(1), Elem(4), Elem(5)]\n";
 
 const MENDED: &str = " [Elem(1), Elem(2), Elem(3)]\n";
@@ -392,15 +411,12 @@ const MENDED: &str = " [Elem(1), Elem(2), Elem(3)]\n";
 /// the same; which names they have isn't promised.
 #[test]
 fn a_check_goes_on_from_the_kept_clusters(rt: HostRuntime) {
-    let kept = hinged(&rt, rt.alloc(), Closing::ByRun);
-    assert!(rt; kept.family().next_step() == 3);
-    let told = family_told(&rt, rt.alloc(), kept.family());
+    let (told, next) = kept(&rt, rt.alloc(), Closing::ByRun);
     let wanted = joined(&rt, rt.alloc(), &["Step(1)", APART, "Step(2)", MENDED]);
-    assert!(rt; told.as_bytes() == wanted.as_bytes());
-    let kept = hinged(&rt, rt.alloc(), Closing::InAnyOrder);
-    let told = family_told(&rt, rt.alloc(), kept.family());
-    let told = str::from_utf8(told.as_bytes()).expect(&rt, "a text");
-    assert!(rt; told.lines().count() == 2 && told.contains(APART) && told.contains(MENDED));
+    same(&rt, "a run", told.as_bytes(), wanted.as_bytes());
+    assert!(rt; next == 3);
+    let (told, _) = kept(&rt, rt.alloc(), Closing::InAnyOrder);
+    assert!(rt; are_both(told.as_bytes()));
 }
 
 /// The session takes the line, or refuses it with that code.
