@@ -7,4 +7,3 @@ pub mod Turns
 pub mod Settling
 pub mod Grown
 pub mod Heirs
-pub mod Ranked

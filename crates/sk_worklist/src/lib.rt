@@ -12,7 +12,6 @@ mod law;
 mod meets;
 mod partner;
 mod picker;
-mod ranked;
 mod triples;
 mod worklist;
 

@@ -17,7 +17,6 @@ use crate::heir::{Heir, add_fresh, add_inherited, biggest, has_name, is_same};
 use crate::kept::{drop_naming, in_order, names_in_order};
 use crate::partner::first_with_partner;
 use crate::picker::Picker;
-use crate::ranked::add_ranked_of_all;
 use crate::triples::{Third, add_triples_at, add_triples_of_all};
 use sk_base::{Elem, Graph, List, Name, NoMemory};
 use sk_family::Family;
@@ -255,20 +254,7 @@ impl Worklist {
     {
         match self.heir {
             Some(heir) => self.add_triples_of_heir(family, heir, gone, all),
-            None => self.add_triples_anew(family, all),
-        }
-    }
-
-    /// The same where it isn't known how they came about: with nothing covered they are all triples.
-    fn add_triples_anew(&self, family: &Family, all: &mut List<Merge>) -> Result<(), NoMemory>
-        requires { (g : AnyGraph) × Follows self.now g family.now }
-        ensures grows { OnOk result ((g : AnyGraph) → Follows self.now g family.now → GrowsBy (IsUncovered g family.now self.now.covered) all.old all.new) }
-        ensures sound { IsSound family.now }
-    {
-        if is_same(self.covered, Name::Con(0)) {
-            add_ranked_of_all(&self.index, family.clusters(), all)
-        } else {
-            add_triples_of_all(&self.index, family.not_below(self.covered), all)
+            None => add_triples_of_all(&self.index, family.not_below(self.covered), all),
         }
     }
 

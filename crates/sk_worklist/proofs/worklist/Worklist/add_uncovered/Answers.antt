@@ -1,15 +1,23 @@
 use Rattle.std.proofs.Common.{subst}
 use Rattle.std.specs.Prelude.{Option}
 use Rattle.sk_base.proofs.Searches.{on_ok}
+use Rattle.sk_index.specs.Walks.{FromSome}
 use Rattle.sk_index.proofs.Growing.{grows_same}
 use Rattle.sk_worklist.specs.declared.heir.Heir.{Heir}
-use Rattle.sk_worklist.specs.Gather.{IsUncovered}
+use Rattle.sk_worklist.specs.Gather.{IsUncovered, TriplesOf}
 use Rattle.sk_worklist.specs.Heirs.{IsHeirOf, IsOfHeir}
 use Rattle.sk_worklist.proofs.Freshness.{heir_uncovered}
+use Rattle.sk_worklist.proofs.Turning.{walks_uncovered}
 use Rattle.sk_worklist.proofs.worklist.Worklist.add_uncovered.Goals as goal
 
 pub add_triples_of_heir-requires-clause-index : goal.add_triples_of_heir-requires-clause-index
 add_triples_of_heir-requires-clause-index c = (let (g, follows) = c.requires.follows in follows.represents.index)
+
+pub add_triples_of_all-requires-clause-index : goal.add_triples_of_all-requires-clause-index
+add_triples_of_all-requires-clause-index c = (let (g, follows) = c.requires.follows in follows.represents.index)
+
+pub add_triples_of_all-requires-clause-rise : goal.add_triples_of_all-requires-clause-rise
+add_triples_of_all-requires-clause-rise c x x_in = (c.not_below.ensures.sound.bodies_rise x ((c.not_below.ensures.live x).0 x_in).0).elements
 
 pub returns-in-Some-clause-grows : goal.returns-in-Some-clause-grows
 returns-in-Some-clause-grows c =
@@ -21,3 +29,11 @@ returns-in-Some-clause-grows c =
     let (whole, whole_is) = is.lives in
     grows_same (IsOfHeir w.index f w.kept.items heir c.args.gone.now w.fresh) (IsUncovered g f w.covered) c.args.all.now c.add_triples_of_heir.new.all
     (heir_uncovered w.index g f c.add_triples_of_heir.ensures.sound follows.represents w.covered w.kept.items w.gone heir w.fresh is whole whole_is apart c.args.gone.now c.requires.same) grows)
+
+pub returns-in-None-clause-grows : goal.returns-in-None-clause-grows
+returns-in-None-clause-grows c =
+    let w = c.args.self.now in
+    let f = c.args.family.now in
+    on_ok c.add_triples_of_all.result c.add_triples_of_all.ensures (λ grows g follows.
+    grows_same (FromSome (TriplesOf w.index) c.not_below.result.now) (IsUncovered g f w.covered) c.args.all.now c.add_triples_of_all.new.all
+    (walks_uncovered w.index g f c.not_below.ensures.sound follows.represents w.covered c.not_below.result.now c.not_below.ensures.live) grows)

@@ -1,7 +1,0 @@
-use Rattle.std.proofs.Common.{take}
-use Rattle.sk_index.specs.Walks.{GrowsBy, FromSome}
-use Rattle.sk_worklist.specs.Ranked.{RankedFrom}
-use Rattle.sk_worklist.proofs.ranked.add_ranked_of_all.Given as goal
-
-abbrev pub invariant-loop-r : goal.invariant-loop-r
-invariant-loop-r l = GrowsBy (FromSome (RankedFrom l.index) (take l.r-index l.clusters)) l.fn.all l.all
