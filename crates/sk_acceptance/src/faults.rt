@@ -242,6 +242,17 @@ end
 > 0
 clusters 1
 cluster 1 : A B
+$ excess
+sketch 1
+point A 0 0
+point B 1 0
+distance A B 2.5
+distance B A 3
+end
+> 0
+excess 1
+part 1 over elements 2 held 2 due 1 : A B
+c2 : distance B A 3 conflict off -500000 nm
 ";
 
 /// A call that reads nothing, and one with words that aren't of the form.
