@@ -112,7 +112,8 @@ impl Worklist {
         self.heir = self.grown(family, merge);
     }
 
-    /// The heir that the merge makes, if it is known how that comes about.
+    /// The heir that the merge makes, if it is known how that comes about; what it has more than its
+    /// core is noted as fresh.
     fn grown(&mut self, family: &Family, merge: Merge) -> Option<Heir>
         ensures same { IsSameButHeir self.old self.new }
         ensures heir { (g : AnyGraph) → Follows self.old g family.now → IsHeirOf g (merged family.now merge) self.new.covered self.new.kept.items (self.new.gone ++ names_of merge) result self.new.fresh }
@@ -128,8 +129,8 @@ impl Worklist {
         }
     }
 
-    /// The heir, if the merge names it, or where all triples are kept and no pair may merge the
-    /// biggest of its clusters as one of itself.
+    /// The heir, if the merge names it. Where all triples are kept and no pair may merge, the cluster of
+    /// the merge that has most elements, as an heir that is its own core, and no element is fresh.
     fn heir_in(&mut self, family: &Family, merge: Merge) -> Option<Heir>
         ensures same { IsSameButHeir self.old self.new }
         ensures named { IfSome result (λ heir. Contains (names_of merge) heir.name) }
