@@ -1,18 +1,4 @@
-// Rigid blocks: judged, planned and placed, and by the calls below the top call copied, measured and turned over.
-ghost use Rattle.std.specs.Prelude.{◌≤◌, ◌<◌, ◌^◌, length};
-ghost use Rattle.sk_base.specs.SoundGraph.{IsSoundGraph};
-ghost use Rattle.sk_holding.specs.Placing.{PlacesExactly};
-
-use crate::calls::{planned, sketch_of};
-use crate::tolerances::{placed, places_of};
-use sk_base::{Constraint, Graph, Placed, Rule, Text, copy_constraint};
-use sk_graph::reduce;
-use sk_holding::meets_block;
-use sk_report::turned_text;
-use sk_residual::first_turned;
-use std::alloc::Global;
-use std::test::Fail;
-
+// Rigid blocks: judged, planned and placed; and what holds of them, and of an edge, at places made by hand.
 /// A corner of three points, which weighs 3, braced by two distances; a distance within it, which is one constraint too
 /// many; two points alone, whose distance isn't whole and lies between the two roots; and two corners that share a
 /// point, the second of which is carried. In the first a block and a distance are dropped in turn: what they held together
@@ -236,7 +222,51 @@ length tolerance 0 nm at c1
 angle tolerance 0 ppb at none
 ";
 
-const HINGED: &str = "\
+/// The first side of an even triangle is exact, and the second within 1. As the second of two corners carries E no sign
+/// differs. Beside, C and E alone are 2 mm too far apart. Mirrored, a block holds still, but it turns the other way.
+pub const HELD: &str = "
+$ held 0 0
+sketch 1
+point A 0 0
+point B 10 0
+point C 5 8
+distance A B 10
+distance A C 10
+distance B C 10
+end
+at
+point 0 0
+point 10000000 0
+point 5000000 8660254
+> holds
+$ held 1 0
+sketch 1
+point A 0 0
+point B 10 0
+point C 5 8
+distance A B 10
+distance A C 10
+distance B C 10
+end
+at
+point 0 0
+point 10000000 0
+point 5000000 8660254
+> $ held 1 1
+sketch 1
+point A 0 0
+point B 10 0
+point C 5 8
+distance A B 10
+distance A C 10
+distance B C 10
+end
+at
+point 0 0
+point 10000000 0
+point 5000000 8660254
+> holds
+$ held 2 1999999
 sketch 2
 point A 0 0
 point B 4 0
@@ -247,99 +277,101 @@ block A 0 0 B 4 0 C 4 3
 block C 0 0 D 4 0 E 4 -3
 distance A D 3
 end
-";
-
-/// Where E lies as the second corner carries it, off C, and on the other side of C and D.
-const CARRIED: &str = "\
-point 0 0
-point 4000000 0
-point 4000000 3000000
-point 0 3000000
-point 0 6000000
-";
-
-const BESIDE: &str = "\
+at
 point 0 0
 point 4000000 0
 point 4000000 3000000
 point 0 3000000
 point -3000000 3000000
-";
-
-const MIRRORED: &str = "\
+> $ held 2 2000000
+sketch 2
+point A 0 0
+point B 4 0
+point C 4 3
+point D 0 3
+point E 0 6
+block A 0 0 B 4 0 C 4 3
+block C 0 0 D 4 0 E 4 -3
+distance A D 3
+end
+at
+point 0 0
+point 4000000 0
+point 4000000 3000000
+point 0 3000000
+point -3000000 3000000
+> holds
+$ held 2 0
+sketch 2
+point A 0 0
+point B 4 0
+point C 4 3
+point D 0 3
+point E 0 6
+block A 0 0 B 4 0 C 4 3
+block C 0 0 D 4 0 E 4 -3
+distance A D 3
+end
+at
 point 0 0
 point 4000000 0
 point 4000000 3000000
 point 0 3000000
 point 0 0
+> holds
+$ judged 1000
+sketch 2
+point A 0 0
+point B 4 0
+point C 4 3
+point D 0 3
+point E 0 6
+block A 0 0 B 4 0 C 4 3
+block C 0 0 D 4 0 E 4 -3
+distance A D 3
+end
+at
+point 0 0
+point 4000000 0
+point 4000000 3000000
+point 0 3000000
+point 0 6000000
+> verdict well
+steps 1
+bits 38
+point A 0 0
+point B 4000000 0
+point C 4000000 3000000
+point D 0 3000000
+point E 0 6000000
+length tolerance 0 nm at c1
+angle tolerance 0 ppb at none
+$ judged 1000
+sketch 2
+point A 0 0
+point B 4 0
+point C 4 3
+point D 0 3
+point E 0 6
+block A 0 0 B 4 0 C 4 3
+block C 0 0 D 4 0 E 4 -3
+distance A D 3
+end
+at
+point 0 0
+point 4000000 0
+point 4000000 3000000
+point 0 3000000
+point 0 0
+> verdict well
+steps 1
+bits 38
+point A 0 0
+point B 4000000 0
+point C 4000000 3000000
+point D 0 3000000
+point E 0 0
+length tolerance 0 nm at c1
+angle tolerance 0 ppb at none
+fault c2 turned drawn - placed 1
 ";
-
-/// What is turned where the elements lie there, or no text.
-fn turned_there(alloc: Global, places: &str) -> Result<Text, Fail> {
-    let sketch = sketch_of(alloc, HINGED)?;
-    let graph = reduce(alloc, &sketch)?;
-    let at = placed(alloc, &graph, places_of(alloc, places)?.as_slice())?;
-    let plan = planned(alloc, &sketch)?;
-    match first_turned(&at, &sketch, &plan) {
-        Some(turned) => Ok(turned_text(alloc, &turned)?),
-        None => Ok(Text::new(alloc)),
-    }
-}
-
-/// Whether the block at place `i` holds within `t`.
-fn block_meets(at: &Placed, graph: &Graph, i: usize, t: u64) -> bool
-    requires sound { IsSoundGraph graph.now }
-    requires placed { PlacesExactly graph.now at.now }
-    requires inside { i < length graph.now.blocks }
-    requires few { t ≤ 2 ^ 62 }
-{
-    meets_block(at, &graph.blocks.as_slice()[i], t)
-}
-
-/// Whether the second corner holds within `t` where the elements lie there.
-fn flap_meets(alloc: Global, places: &str, t: u64) -> Result<bool, Fail>
-    requires { t ≤ 2 ^ 62 }
-{
-    let graph = reduce(alloc, &sketch_of(alloc, HINGED)?)?;
-    let at = placed(alloc, &graph, places_of(alloc, places)?.as_slice())?;
-    if graph.blocks.len() <= 1 {
-        return Err(Fail::from("two blocks"));
-    }
-    Ok(block_meets(&at, &graph, 1, t))
-}
-
-/// Whether both are blocks of one number and the same pins.
-fn are_same_block(a: &Constraint, b: &Constraint) -> bool {
-    match (&a.rule, &b.rule) {
-        (Rule::Block { pins }, Rule::Block { pins: others }) => {
-            a.number == b.number
-                && pins.len() == others.len()
-                && pins
-                    .as_slice()
-                    .iter()
-                    .zip(others.as_slice())
-                    .all(|(pin, other)| pin == other)
-        }
-        _ => false,
-    }
-}
-
-/// As the second corner carries E no sign differs. Beside, C and E alone are 2 mm too far apart. Mirrored, a block holds
-/// still, but it turns the other way.
-#[test]
-fn a_carried_block_is_measured(rt: HostRuntime) -> Result<(), Fail> {
-    let alloc = rt.alloc();
-    assert!(rt; turned_there(alloc, CARRIED)?.as_bytes().is_empty());
-    assert!(rt; !flap_meets(alloc, BESIDE, 1_999_999)?);
-    assert!(rt; flap_meets(alloc, BESIDE, 2_000_000)?);
-    assert!(rt; flap_meets(alloc, MIRRORED, 0)?);
-    let wanted = "fault c2 turned drawn - placed 1\n";
-    assert_eq!(rt;
-        turned_there(alloc, MIRRORED)?.as_bytes(),
-        wanted.as_bytes()
-    );
-    let sketch = sketch_of(alloc, HINGED)?;
-    let block = sketch.constraints.get(1).ok_or("a block")?;
-    assert!(rt; are_same_block(&copy_constraint(alloc, block)?, block));
-    Ok(())
-}

@@ -5,10 +5,18 @@ use sk_plan::planned_by;
 use sk_report::plan_text;
 use sk_worklist::Order;
 use std::alloc::Global;
-use std::test::Fail;
+use std::process::Abort;
+
+/// The report of the drawing's plan by the order.
+pub(crate) fn planned_told(rt: &impl Abort, alloc: Global, text: &str, order: Order) -> Text {
+    let sketch = sketch_of(rt, alloc, text);
+    let planned = planned_by(alloc, order, &sketch).expect(rt, "a drawing that is well");
+    plan_text(alloc, &sketch, &planned.plan).expect(rt, "memory")
+}
 
 /// Two triangles with the side from A to C in common.
-const TWO_TRIANGLES: &str = "\
+pub const BY_ORDER: &str = "
+$ planned first
 sketch 1
 point A 0 0
 point B 4 0
@@ -20,10 +28,7 @@ distance B C 3
 distance A D 3
 distance C D 4
 end
-";
-
-const BY_THE_FIRST: &str = "\
-verdict well
+> verdict well
 elements 4
 constraints 5
 steps 2
@@ -34,10 +39,19 @@ leaf c4 : distance A D 3
 leaf c5 : distance C D 4
 step s1 joins c3 c2 c1 at C A B keeps c1 turn +
 step s2 joins s1 c5 c4 at C D A keeps s1 turn +
-";
-
-const BY_THE_LAST: &str = "\
-verdict well
+$ planned last
+sketch 1
+point A 0 0
+point B 4 0
+point C 4 3
+point D 0 3
+distance A B 4
+distance A C 5
+distance B C 3
+distance A D 3
+distance C D 4
+end
+> verdict well
 elements 4
 constraints 5
 steps 2
@@ -49,26 +63,3 @@ leaf c5 : distance C D 4
 step s1 joins c5 c4 c2 at D A C keeps c2 turn +
 step s2 joins s1 c3 c1 at C B A keeps s1 turn +
 ";
-
-/// The report of the drawing's plan by the order.
-fn reported_by(alloc: Global, order: Order, text: &str) -> Result<Text, Fail> {
-    let sketch = sketch_of(alloc, text)?;
-    match planned_by(alloc, order, &sketch) {
-        Ok(planned) => Ok(plan_text(alloc, &sketch, &planned.plan)?),
-        Err(_) => Err(Fail::from("the drawing is well")),
-    }
-}
-
-#[test]
-fn plans_are_by_the_order(rt: HostRuntime) -> Result<(), Fail> {
-    let alloc = rt.alloc();
-    assert_eq!(rt;
-        reported_by(alloc, Order::First, TWO_TRIANGLES)?.as_bytes(),
-        BY_THE_FIRST.as_bytes()
-    );
-    assert_eq!(rt;
-        reported_by(alloc, Order::Last, TWO_TRIANGLES)?.as_bytes(),
-        BY_THE_LAST.as_bytes()
-    );
-    Ok(())
-}

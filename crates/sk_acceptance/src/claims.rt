@@ -4,7 +4,7 @@ ghost use Rattle.sk_graph.specs.SketchGraph.{graph_of};
 ghost use Rattle.sk_claims.specs.Claims.{IsFitting};
 
 use crate::calls::sketch_of;
-use crate::row::{few_bytes, lines_are_refused, put_each};
+use crate::row::{few_bytes, put_each};
 use sk_base::{Sketch, Text};
 use sk_claims::{Claim, read_claim};
 use sk_graph::reduce;
@@ -12,7 +12,7 @@ use sk_lines::ReadError;
 use sk_report::refused_text;
 use sk_verify::{VerifyError, failure_text, verified_text, verify};
 use std::alloc::Global;
-use std::test::Fail;
+use std::process::Abort;
 
 const WHEEL: &str = "\
 sketch 1
@@ -25,86 +25,92 @@ distance B C 3
 end
 ";
 
-const CLAIM: &str = "\
+/// What the lines are read as behind the eight of the wheel, and what a check of that tells, or the refusal of a line.
+#[tactic(auto, using(sk_lines::proofs::LineCounts::few_lines))]
+pub(crate) fn claim_told(rt: &impl Abort, alloc: Global, lines: &str) -> Text {
+    let sketch = sketch_of(rt, alloc, WHEEL);
+    match read_claim(alloc, &sketch, few_bytes(rt, lines), 8) {
+        Ok(claim) => judged(rt, alloc, &sketch, &claim),
+        Err(ReadError::Refused(refusal)) => refused_text(alloc, &refusal).expect(rt, "memory"),
+        Err(ReadError::NoMemory) => panic!(rt; "memory"),
+    }
+}
+
+/// The steps of the claim, its places, its radii and its tolerances, and what a check of it tells.
+fn judged(rt: &impl Abort, alloc: Global, sketch: &Sketch, claim: &Claim) -> Text
+    requires sound { IsSoundSketch sketch.now }
+    requires fits { IsFitting (graph_of sketch.now) claim.now }
+{
+    let mut told = Text::new(alloc);
+    put_each(rt, alloc, &mut told, claim.steps.as_slice());
+    put_each(rt, alloc, &mut told, claim.at.spots.as_slice());
+    put_each(rt, alloc, &mut told, claim.radii.as_slice());
+    put_each(rt, alloc, &mut told, &[claim.t, claim.w]);
+    let outcome = outcome(rt, alloc, sketch, claim);
+    told.put(outcome.as_bytes()).expect(rt, "memory");
+    told
+}
+
+/// What a check of the claim tells.
+fn outcome(rt: &impl Abort, alloc: Global, sketch: &Sketch, claim: &Claim) -> Text
+    requires sound { IsSoundSketch sketch.now }
+    requires fits { IsFitting (graph_of sketch.now) claim.now }
+{
+    let graph = reduce(alloc, sketch).expect(rt, "memory");
+    let told = match verify(alloc, sketch, &graph, claim) {
+        Ok(()) => verified_text(alloc, claim),
+        Err(VerifyError::Fails(failure)) => failure_text(alloc, sketch, &failure),
+        Err(VerifyError::NoMemory) => panic!(rt; "memory"),
+    };
+    told.expect(rt, "memory")
+}
+
+/// Mirrored, C is on the other side of A and B than it is drawn. A step that turns the other way is found wrong before that.
+pub const CLAIMS: &str = "
+$ claim
 step s1 joins c3 c2 c1 at C A B keeps c1 turn +
 circle A 0 0 1000000
 point C 4000000 -3000000
 point B 4000001 0
 tolerance 1 2
-";
-
-/// What the claim is read as: its steps, its places, its radii and its tolerances.
-const READ: &str = "\
-PlanStep { step: Step(1), one: Con(3), two: Con(2), three: Con(1), a: Elem(3), b: Elem(1), c: Elem(2), keeps: Con(1), choice: Turn(Plus) }
+> PlanStep { step: Step(1), one: Con(3), two: Con(2), three: Con(1), a: Elem(3), b: Elem(1), c: Elem(2), keeps: Con(1), choice: Turn(Plus) }
 Spot { elem: Elem(1), at: Point { x: 0, y: 0 } }
 Spot { elem: Elem(3), at: Point { x: 4000000, y: -3000000 } }
 Spot { elem: Elem(2), at: Point { x: 4000001, y: 0 } }
 Radius { elem: Elem(1), nm: 1000000 }
 1
 2
+verify fails sign s1
+$ claim
+step s1 joins c3 c2 c1 at C A B keeps c1 turn -
+tolerance 0 0
+> PlanStep { step: Step(1), one: Con(3), two: Con(2), three: Con(1), a: Elem(3), b: Elem(1), c: Elem(2), keeps: Con(1), choice: Turn(Minus) }
+0
+0
+verify fails s1
+$ claim
+step s1 joins c3 c2 c1 at C A B keeps c1 turn +
+point B 4000000 0
+point C 4000000 3000000
+circle A 0 0 1000000
+tolerance 0 7
+> PlanStep { step: Step(1), one: Con(3), two: Con(2), three: Con(1), a: Elem(3), b: Elem(1), c: Elem(2), keeps: Con(1), choice: Turn(Plus) }
+Spot { elem: Elem(2), at: Point { x: 4000000, y: 0 } }
+Spot { elem: Elem(3), at: Point { x: 4000000, y: 3000000 } }
+Spot { elem: Elem(1), at: Point { x: 0, y: 0 } }
+Radius { elem: Elem(1), nm: 1000000 }
+0
+7
+verified steps 1 length 0 nm angle 7 ppb
+$ claim
+point B 0 0
+point A 0 0
+> refused line 10 E7 kind
+$ claim
+> refused line 9 E16 no-end
 ";
 
-/// What the lines are read as, behind the eight of the wheel.
-#[tactic(auto, using(sk_lines::proofs::LineCounts::few_lines))]
-fn read_as(alloc: Global, lines: &str) -> Result<Text, Fail> {
-    let sketch = sketch_of(alloc, WHEEL)?;
-    let claim = read_claim(alloc, &sketch, few_bytes(lines)?, 8)?;
-    let mut told = Text::new(alloc);
-    put_each(alloc, &mut told, claim.steps.as_slice())?;
-    put_each(alloc, &mut told, claim.at.spots.as_slice())?;
-    put_each(alloc, &mut told, claim.radii.as_slice())?;
-    put_each(alloc, &mut told, &[claim.t, claim.w])?;
-    Ok(told)
-}
-
-/// What a check of the claim in the lines tells, or the refusal of a line.
-#[tactic(auto, using(sk_lines::proofs::LineCounts::few_lines))]
-fn told(alloc: Global, lines: &str) -> Result<Text, Fail> {
-    let sketch = sketch_of(alloc, WHEEL)?;
-    match read_claim(alloc, &sketch, few_bytes(lines)?, 8) {
-        Ok(claim) => judged(alloc, &sketch, &claim),
-        Err(ReadError::Refused(refusal)) => Ok(refused_text(alloc, &refusal)?),
-        Err(ReadError::NoMemory) => Err(Fail::from("memory ran out")),
-    }
-}
-
-fn judged(alloc: Global, sketch: &Sketch, claim: &Claim) -> Result<Text, Fail>
-    requires sound { IsSoundSketch sketch.now }
-    requires fits { IsFitting (graph_of sketch.now) claim.now }
-{
-    let graph = reduce(alloc, sketch)?;
-    match verify(alloc, sketch, &graph, claim) {
-        Ok(()) => Ok(verified_text(alloc, claim)?),
-        Err(VerifyError::Fails(failure)) => Ok(failure_text(alloc, sketch, &failure)?),
-        Err(VerifyError::NoMemory) => Err(Fail::from("memory ran out")),
-    }
-}
-
-/// Mirrored, C is on the other side of A and B than it is drawn. A step that turns the other way is found wrong before that.
-#[test]
-fn claims_are_read_and_checked(rt: HostRuntime) -> Result<(), Fail> {
-    let alloc = rt.alloc();
-    assert_eq!(rt; read_as(alloc, CLAIM)?.as_bytes(), READ.as_bytes());
-    let rows = [
-        (CLAIM, "verify fails sign s1\n"),
-        (
-            "step s1 joins c3 c2 c1 at C A B keeps c1 turn -\ntolerance 0 0\n",
-            "verify fails s1\n",
-        ),
-        (
-            "step s1 joins c3 c2 c1 at C A B keeps c1 turn +\npoint B 4000000 0\npoint C 4000000 3000000\ncircle A 0 0 1000000\ntolerance 0 7\n",
-            "verified steps 1 length 0 nm angle 7 ppb\n",
-        ),
-        ("point B 0 0\npoint A 0 0\n", "refused line 10 E7 kind\n"),
-        ("", "refused line 9 E16 no-end\n"),
-    ];
-    for (lines, wanted) in rows {
-        assert_eq!(rt; told(alloc, lines)?.as_bytes(), wanted.as_bytes());
-    }
-    lines_are_refused(&rt, alloc, "verify", THREE_SHAPES, REFUSED_LINES)
-}
-
-const THREE_SHAPES: &str = "\
+pub const THREE_SHAPES: &str = "\
 sketch 1
 point A 0 0
 circle H 9 0 5
@@ -113,7 +119,7 @@ end
 ";
 
 /// Lines of a claim with their codes, each alone or in front of a later one of the same line.
-const REFUSED_LINES: &str = "\
+pub const REFUSED_LINES: &str = "\
 E15 line-too-long: xxxxxxxxxxxxxxxxxxxxxxxxxxxxxxxxxxxxxxxxxxxxxxxxxxxxxxxxxxxxxxxxxxxxxxxxxxxxxxxxxxxxxxxxxxxxxxxxxxxxxxxxxxxxxxxxxxxxxxxxxxxxxxxxxxxxxxxxxxxxxxxxxxxxxxxxxxxxxxxxxxxxxxxxxxxxxxxxxxxxxxxxxxxxxxxxxxxxxxxxx
 E15 line-too-long: \x7fxxxxxxxxxxxxxxxxxxxxxxxxxxxxxxxxxxxxxxxxxxxxxxxxxxxxxxxxxxxxxxxxxxxxxxxxxxxxxxxxxxxxxxxxxxxxxxxxxxxxxxxxxxxxxxxxxxxxxxxxxxxxxxxxxxxxxxxxxxxxxxxxxxxxxxxxxxxxxxxxxxxxxxxxxxxxxxxxxxxxxxxxxxxxxxxxxxxxxxxx
 E19 not-ascii: \x7f

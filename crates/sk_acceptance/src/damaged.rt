@@ -4,12 +4,12 @@
 use crate::row::answers;
 use std::alloc::Global;
 use std::process::Abort;
-use std::test::Fail;
 
 const TRIANGLE: &[u8] =
     b"sketch 1\npoint A 0 0\npoint B 4 0\npoint C 4 3\ndistance A B 4\ndistance A C 5\ndistance B C 3\nend\n";
 
 const REPORT: &str = "\
+0
 verdict well
 elements 3
 constraints 3
@@ -128,54 +128,49 @@ fn refusal(mark: u8, line: u32) -> (u32, &'static str) {
 }
 
 /// The text gets the report, or the refusal of the mark.
-fn is_answered(
-    rt: &impl Abort,
-    alloc: Global,
-    text: &[u8],
-    mark: u8,
-    line: u32,
-) -> Result<(), Fail> {
+fn is_answered(rt: &impl Abort, alloc: Global, text: &[u8], mark: u8, line: u32) {
     if mark == b'.' {
-        return answers(rt, alloc, &["check"], text, 0, REPORT.as_bytes());
+        answers(rt, alloc, " check", text, REPORT);
+    } else {
+        let (number, code) = refusal(mark, line);
+        let wanted = format!(in alloc; "1\nrefused line {number} {code}\n").expect(rt, "memory");
+        answers(rt, alloc, " check", text, wanted.as_str());
     }
-    let (number, code) = refusal(mark, line);
-    let written = format!(in alloc; "refused line {number} {code}\n")?;
-    answers(rt, alloc, &["check"], text, 1, written.as_bytes())
 }
 
 /// The sketch with that byte in that place, or cut there.
-fn damaged_text(alloc: Global, place: usize, byte: Option<u8>) -> Result<Vec<u8>, Fail> {
-    let mut text = Vec::new(alloc);
-    text.extend_from_slice(TRIANGLE)?;
-    if place < text.len() {
-        match byte {
-            Some(byte) => text[place] = byte,
-            None => text.truncate(place),
+fn damaged_text(rt: &impl Abort, alloc: Global, place: usize, byte: Option<u8>) -> Vec<u8> {
+    let mut text = TRIANGLE.to_vec(alloc).expect(rt, "memory");
+    match byte {
+        None => text.truncate(place),
+        Some(byte) => {
+            if place < text.len() {
+                text[place] = byte;
+            }
         }
     }
-    Ok(text)
+    text
 }
 
 /// Each text with that byte in the place of another passes, or each that is cut.
-fn mask_passes(rt: &impl Abort, alloc: Global, byte: Option<u8>, mask: &str) -> Result<(), Fail> {
+fn mask_passes(rt: &impl Abort, alloc: Global, byte: Option<u8>, mask: &str) {
     let (mut place, mut line) = (0usize, 0u32);
     for mark in mask.bytes() {
         if mark == b'\n' {
             line = line.saturating_add(1);
         } else {
-            let text = damaged_text(alloc, place, byte)?;
-            is_answered(rt, alloc, text.as_slice(), mark, line)?;
+            let text = damaged_text(rt, alloc, place, byte);
+            is_answered(rt, alloc, text.as_slice(), mark, line);
             place = place.saturating_add(1);
         }
     }
-    assert_eq!(rt; place, TRIANGLE.len());
-    Ok(())
+    assert!(rt; place == TRIANGLE.len(), "a mark for each byte");
 }
 
 /// The sketch is cut before each byte; each byte is changed to each of some, and to bytes beyond ASCII.
 #[test]
-fn each_damaged_text_has_its_answer(rt: HostRuntime) -> Result<(), Fail> {
-    mask_passes(&rt, rt.alloc(), None, CUT)?;
+fn each_damaged_text_has_its_answer(rt: HostRuntime) {
+    mask_passes(&rt, rt.alloc(), None, CUT);
     let rows = [
         (" \t", BLANK),
         ("\n", LINE_FEED),
@@ -187,11 +182,11 @@ fn each_damaged_text_has_its_answer(rt: HostRuntime) -> Result<(), Fail> {
     ];
     for (bytes, mask) in rows {
         for byte in bytes.bytes() {
-            mask_passes(&rt, rt.alloc(), Some(byte), mask)?;
+            mask_passes(&rt, rt.alloc(), Some(byte), mask);
         }
     }
-    mask_passes(&rt, rt.alloc(), Some(0xc3), OTHER)?;
-    mask_passes(&rt, rt.alloc(), Some(0xff), OTHER)
+    mask_passes(&rt, rt.alloc(), Some(0xc3), OTHER);
+    mask_passes(&rt, rt.alloc(), Some(0xff), OTHER);
 }
 
 /// Lines at the limit of their length, and one byte beyond it.

@@ -1,26 +1,12 @@
-// Reads and writes that fail, each call in turn, in each command.
-use crate::one_byte::{EndlessSource, OneByteSink, OneByteSource};
-use crate::row::{Call, answers_over, call_of, strings};
-use sk_cli::run;
-use sk_io::{MemSink, MemSource, StdSink, StdSource};
+// Reads and writes that fail. The tables of readers and of others are run by `halting`, in which each call in turn fails.
+use crate::row::{answer_over, ending_of, ends, parts_of, status_of};
+use sk_io::{StdSink, StdSource};
 use std::alloc::Global;
+use std::io::{self, Read};
 use std::process::Abort;
-use std::test::Fail;
-
-const LONE_POINT: &[u8] = b"sketch 1\npoint A 7 7\nend\n";
-
-const LONE_POINT_REPORT: &[u8] =
-    b"verdict well\nelements 1\nconstraints 0\nparts 1\npart 1 sound elements 1 held 0 due 0 : A\n";
-
-const TRIANGLE: &[u8] =
-    b"sketch 1\npoint A 0 0\npoint B 4 0\npoint C 4 3\ndistance A B 4\ndistance A C 5\ndistance B C 3\nend\n";
-
-/// A session on a braced square.
-const BRACED: &[u8] =
-    b"point A 0 0\npoint B 4 0\npoint C 4 3\npoint D 0 3\ndistance A B 4\ndistance A C 5\ndistance A D 3\ndistance B C 3\ndistance B D 5\ndistance C D 4\ncheck\ndrop 6\ncheck\nundo\ncheck\nend\n";
 
 /// Calls of the commands that read a whole input first.
-const READERS: &str = "
+pub const READERS: &str = "
 $ check
 sketch 1
 point A 7 7
@@ -256,10 +242,21 @@ end
 > 0
 clusters 1
 cluster 1 : A B
+$ excess
+sketch 1
+point A 0 0
+point B 1 0
+distance A B 2.5
+distance B A 3
+end
+> 0
+excess 1
+part 1 over elements 2 held 2 due 1 : A B
+c2 : distance B A 3 conflict off -500000 nm
 ";
 
 /// A call that reads nothing, and one with words that aren't of the form.
-const OTHERS: &str = "
+pub const OTHERS: &str = "
 $ grow n=3
 > 0
 grow 3
@@ -276,144 +273,180 @@ $ check check
 usage: sketch check|plan|solve|dxf|offers|session|grow|migrate|verify|spare|flips|derive|parts|live|excess [order=first|last|0..65535] [bits=16|27|38] [within=1..1000000] [place=boxes|points] [frame=base|drawn] [n=3..1000]
 ";
 
-/// Calls with one byte a call of the source and of the sink, where one call of each fails, or none where its
-/// number is 0.
-fn answers_by_bytes(
-    rt: &impl Abort,
-    alloc: Global,
-    call: &Call,
-    (failing_read, failing_write): (u64, u64),
-    status: u8,
-    written: &[u8],
-) -> Result<(), Fail> {
-    let words = strings(alloc, call.words.as_slice())?;
-    let inner = MemSource::new(alloc, call.input.as_bytes(), &[failing_read])?;
-    let mut source = OneByteSource { inner };
-    let inner = MemSink::new(alloc, 1000, &[failing_write])?;
-    let mut sink = OneByteSink { inner };
-    let answer = run(alloc, words.as_slice(), &mut source, &mut sink);
-    assert_eq!(rt; sink.inner.written(), written);
-    assert_eq!(rt; answer.code(), status);
-    Ok(())
-}
+/// Whole pieces a call, over devices in memory: before its words a row has which read fails, how much room there is, and
+/// which write fails.
+///
+/// The first read, the first write, no room at all, a room of five bytes, calls that never come. A session writes whole
+/// replies: a read that fails, even the one behind the last line, leaves nothing written, and a write that fails leaves the
+/// replies before it.
+const FAULTS: &str = "
+$1 1000 0 check
+sketch 1
+point A 0 0
+point B 4 0
+point C 4 3
+distance A B 4
+distance A C 5
+distance B C 3
+end
+> 3
+$0 1000 1 check
+sketch 1
+point A 0 0
+point B 4 0
+point C 4 3
+distance A B 4
+distance A C 5
+distance B C 3
+end
+> 4
+$0 0 0 check
+sketch 1
+point A 0 0
+point B 4 0
+point C 4 3
+distance A B 4
+distance A C 5
+distance B C 3
+end
+> 4
+$0 5 0 check
+sketch 1
+point A 0 0
+point B 4 0
+point C 4 3
+distance A B 4
+distance A C 5
+distance B C 3
+end
+> 4
+verdi$0 0 0 check
+sketch 1
+point A 7 7
+end
+> 4
+$9 1000 9 check
+sketch 1
+point A 7 7
+end
+> 0
+verdict well
+elements 1
+constraints 0
+parts 1
+part 1 sound elements 1 held 0 due 0 : A
+$0 1000 0 check
+sketch 1
+point A 7 7
+end
+> 0
+verdict well
+elements 1
+constraints 0
+parts 1
+part 1 sound elements 1 held 0 due 0 : A
+$2 1000 0 session
+point A 0 0
 
-/// One byte a call is read, and then the end: a fault in any of these calls leaves nothing written.
-fn each_read_fails(rt: &impl Abort, alloc: Global, call: &Call) -> Result<(), Fail> {
-    let calls = (call.input.len() as u64).saturating_add(1);
-    for read in 1..=calls {
-        answers_by_bytes(rt, alloc, call, (read, 0), 3, b"")?;
-    }
-    let written = call.written.as_bytes();
-    let later = calls.saturating_add(1);
-    answers_by_bytes(rt, alloc, call, (later, 0), call.status, written)
-}
+point B 1 0
+write
+> 3
+$0 0 0 session
+point A 0 0
 
-/// One byte a call is written: a fault at a call leaves the bytes of the calls before it.
-fn each_write_fails(rt: &impl Abort, alloc: Global, call: &Call) -> Result<(), Fail> {
-    let written = call.written.as_bytes();
-    for done in 0..written.len() {
-        let write = (done as u64).saturating_add(1);
-        answers_by_bytes(rt, alloc, call, (0, write), 4, &written[..done])?;
-    }
-    let later = (written.len() as u64).saturating_add(1);
-    answers_by_bytes(rt, alloc, call, (0, later), call.status, written)
+point B 1 0
+write
+> 4
+$0 7 0 session
+point A 0 0
+
+point B 1 0
+write
+> 4
+ok A
+ok$0 1000 2 session
+point A 0 0
+
+point B 1 0
+write
+> 4
+ok A
+$0 1000 3 session
+point A 0 0
+
+point B 1 0
+write
+> 4
+ok A
+ok B
+$0 1000 3 session
+point A 0 0
+point B 4 0
+point C 4 3
+point D 0 3
+distance A B 4
+distance A C 5
+distance A D 3
+distance B C 3
+distance B D 5
+distance C D 4
+check
+drop 6
+check
+undo
+check
+end
+> 4
+ok A
+ok B
+";
+
+/// Over its devices the call of the row ends so.
+fn is_faulty(rt: &impl Abort, alloc: Global, row: &str) {
+    let (line, input, wanted) = parts_of(rt, row);
+    let (read, line) = line.split_once(' ').expect(rt, "a read");
+    let (room, line) = line.split_once(' ').expect(rt, "a room");
+    let (write, _) = line.split_once(' ').expect(rt, "a write");
+    let reads = [read.parse::<u64>().expect(rt, "a read")];
+    let room = room.parse::<u32>().expect(rt, "a room");
+    let writes = [write.parse::<u64>().expect(rt, "a write")];
+    let (status, sink) = answer_over(rt, alloc, line, (input.as_bytes(), &reads), (room, &writes));
+    ends(rt, line, (status, sink.written()), ending_of(rt, wanted));
 }
 
 #[test]
-fn each_call_of_a_device_may_fail(rt: HostRuntime) -> Result<(), Fail> {
-    for row in READERS.split("$ ").skip(1) {
-        let call = call_of(rt.alloc(), row)?;
-        each_read_fails(&rt, rt.alloc(), &call)?;
-        each_write_fails(&rt, rt.alloc(), &call)?;
+fn faults_have_their_statuses(rt: HostRuntime) {
+    for row in FAULTS.split('$').skip(1) {
+        is_faulty(&rt, rt.alloc(), row);
     }
-    Ok(())
 }
 
-/// A source that fails at its first call is no fault of a call that reads nothing.
-#[test]
-fn some_calls_read_nothing(rt: HostRuntime) -> Result<(), Fail> {
-    for row in OTHERS.split("$ ").skip(1) {
-        let call = call_of(rt.alloc(), row)?;
-        let written = call.written.as_bytes();
-        answers_by_bytes(&rt, rt.alloc(), &call, (1, 0), call.status, written)?;
-        each_write_fails(&rt, rt.alloc(), &call)?;
-    }
-    Ok(())
-}
-
-/// Whole pieces a call: the first read, the first write, no room at all on two sketches, a room of five bytes, calls that never come.
-/// A session writes whole replies: a read that fails, even the one behind the last line, leaves nothing written, and a
-/// write that fails leaves the replies before it.
-#[test]
-fn faults_have_their_statuses(rt: HostRuntime) -> Result<(), Fail> {
-    let alloc = rt.alloc();
-    let check = ["check"];
-    answers_over(&rt, alloc, &check, (TRIANGLE, &[1]), (1000, &[]), 3, b"")?;
-    answers_over(&rt, alloc, &check, (TRIANGLE, &[]), (1000, &[1]), 4, b"")?;
-    answers_over(&rt, alloc, &check, (TRIANGLE, &[]), (0, &[]), 4, b"")?;
-    answers_over(&rt, alloc, &check, (TRIANGLE, &[]), (5, &[]), 4, b"verdi")?;
-    let (never, report) = ([0, 9].as_slice(), LONE_POINT_REPORT);
-    answers_over(
-        &rt,
-        alloc,
-        &check,
-        (LONE_POINT, never),
-        (1000, never),
-        0,
-        report,
-    )?;
-    let session = ["session"];
-    let lines = b"point A 0 0\n\npoint B 1 0\nwrite\n".as_slice();
-    answers_over(&rt, alloc, &session, (lines, &[2]), (1000, &[]), 3, b"")?;
-    answers_over(&rt, alloc, &session, (lines, &[]), (0, &[]), 4, b"")?;
-    answers_over(&rt, alloc, &session, (lines, &[]), (7, &[]), 4, b"ok A\nok")?;
-    answers_over(
-        &rt,
-        alloc,
-        &session,
-        (lines, &[]),
-        (1000, &[2]),
-        4,
-        b"ok A\n",
-    )?;
-    let replies = b"ok A\nok B\n".as_slice();
-    answers_over(&rt, alloc, &session, (lines, &[]), (1000, &[3]), 4, replies)?;
-    answers_over(
-        &rt,
-        alloc,
-        &session,
-        (BRACED, &[]),
-        (1000, &[3]),
-        4,
-        replies,
-    )?;
-    answers_over(&rt, alloc, &check, (LONE_POINT, &[]), (0, &[]), 4, b"")
-}
-
-/// The adapters over std's readers and writers hand on what they are given.
-#[test]
-fn the_adapters_hand_on(rt: HostRuntime) -> Result<(), Fail> {
-    let alloc = rt.alloc();
-    let words = strings(alloc, &["check"])?;
+/// Over std's reader and writer a check comes to the text.
+fn is_handed_on<R: Abort, S: Read + Drop>(rt: &R, alloc: Global, reader: S, wanted: &str) {
     let mut written = Vec::new(alloc);
-    let mut source = StdSource::new(LONE_POINT);
     let mut sink = StdSink::new(&mut written);
-    let status = run(alloc, words.as_slice(), &mut source, &mut sink);
-    assert_eq!(rt; status.code(), 0);
+    let status = status_of(rt, alloc, " check", &mut StdSource::new(reader), &mut sink);
     drop(sink);
-    assert_eq!(rt; written.as_slice(), LONE_POINT_REPORT);
-    Ok(())
+    ends(
+        rt,
+        "check",
+        (status, written.as_slice()),
+        ending_of(rt, wanted),
+    );
 }
 
-/// A source without an end is read to the limit of a sketch and a byte beyond it.
+/// The adapters over std's readers and writers hand on what they are given. Blanks without end are read to the limit of a
+/// sketch and a byte beyond it.
 #[test]
-fn a_source_without_end_is_too_long(rt: HostRuntime) -> Result<(), Fail> {
-    let alloc = rt.alloc();
-    let words = strings(alloc, &["check"])?;
-    let mut sink = MemSink::new(alloc, 1000, &[])?;
-    let status = run(alloc, words.as_slice(), &mut EndlessSource, &mut sink);
-    let refusal: &[u8] = b"refused line 0 E20 too-long\n";
-    assert_eq!(rt; sink.written(), refusal);
-    assert_eq!(rt; status.code(), 1);
-    Ok(())
+fn the_adapters_hand_on(rt: HostRuntime) {
+    let point = b"sketch 1\npoint A 7 7\nend\n".as_slice();
+    let report =
+        "0\nverdict well\nelements 1\nconstraints 0\nparts 1\npart 1 sound elements 1 held 0 due 0 : A\n";
+    is_handed_on(&rt, rt.alloc(), point, report);
+    is_handed_on(
+        &rt,
+        rt.alloc(),
+        io::repeat(b' '),
+        "1\nrefused line 0 E20 too-long\n",
+    );
 }

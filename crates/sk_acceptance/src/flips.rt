@@ -1,7 +1,7 @@
 // Other drawings by turned choices, through the command and by the calls below it.
 use crate::calls::{planned, sketch_of};
-use crate::row::{answers, few_bytes, lines_are_refused, put_each};
-use crate::tolerances::{placed, places_of};
+use crate::row::{answers, few_bytes, joined, lines_are_refused, put_each};
+use crate::tolerances::lay;
 use sk_base::{List, Name, Sign, Sketch, Text};
 use sk_cli::alternative_text;
 use sk_flips::{Alternative, alternatives, first_off, flip_plan, read_flips, turned_plan_is_legal};
@@ -12,7 +12,7 @@ use sk_place::{FrameBy, Layout, PlaceBy};
 use sk_report::{refused_text, turned_text};
 use sk_residual::Turned;
 use std::alloc::Global;
-use std::test::Fail;
+use std::process::Abort;
 
 /// A triangle turns over and back, and has no second step. Three points on one line have no height on
 /// either side. The keys are those of `solve`. No line of flips need stand, and one may name no step. Of a
@@ -365,7 +365,7 @@ refused line 0 E18 empty
 ";
 
 /// Lines of flips with their codes, each alone or in front of a later one of the same line.
-const REFUSED_LINES: &str = "\
+pub const REFUSED_LINES: &str = "\
 E15 line-too-long: xxxxxxxxxxxxxxxxxxxxxxxxxxxxxxxxxxxxxxxxxxxxxxxxxxxxxxxxxxxxxxxxxxxxxxxxxxxxxxxxxxxxxxxxxxxxxxxxxxxxxxxxxxxxxxxxxxxxxxxxxxxxxxxxxxxxxxxxxxxxxxxxxxxxxxxxxxxxxxxxxxxxxxxxxxxxxxxxxxxxxxxxxxxxxxxxxxxxxxxxx
 E15 line-too-long: \x7fxxxxxxxxxxxxxxxxxxxxxxxxxxxxxxxxxxxxxxxxxxxxxxxxxxxxxxxxxxxxxxxxxxxxxxxxxxxxxxxxxxxxxxxxxxxxxxxxxxxxxxxxxxxxxxxxxxxxxxxxxxxxxxxxxxxxxxxxxxxxxxxxxxxxxxxxxxxxxxxxxxxxxxxxxxxxxxxxxxxxxxxxxxxxxxxxxxxxxxxx
 E19 not-ascii: \x7f
@@ -392,7 +392,7 @@ E10 same: flip s1 s1
 E10 same: flip s2 s1 s2";
 
 /// Lines behind 64 lines of flips.
-const ONE_TOO_MANY: &str = "\
+pub const ONE_TOO_MANY: &str = "\
 E15 line-too-long: xxxxxxxxxxxxxxxxxxxxxxxxxxxxxxxxxxxxxxxxxxxxxxxxxxxxxxxxxxxxxxxxxxxxxxxxxxxxxxxxxxxxxxxxxxxxxxxxxxxxxxxxxxxxxxxxxxxxxxxxxxxxxxxxxxxxxxxxxxxxxxxxxxxxxxxxxxxxxxxxxxxxxxxxxxxxxxxxxxxxxxxxxxxxxxxxxxxxxxxxx
 E19 not-ascii: flip\x7f
 E2 word: flop
@@ -413,145 +413,86 @@ distance B C 3
 end
 ";
 
-/// Turned over, a step that the plan hasn't, and as it is drawn.
-const TURNED: &str = "\
-flip 9 ok
-point A 0 0
-point B 4000000 0
-point C 4000000 -3000000
-length tolerance 0 nm at c1
-angle tolerance 0 ppb at none
-flip 9 no-choice s2
-flip 9 ok
-point A 0 0
-point B 4000000 0
-point C 4000000 3000000
-length tolerance 0 nm at c1
-angle tolerance 0 ppb at none
-";
-
 const LONE_POINT: &str = "sketch 1\npoint A 7 7\nend\n";
 
 /// The lone point, with so many lines of flips that name no step, and then a line.
-fn with_flips(alloc: Global, count: usize, line: &str) -> Result<String, Fail> {
-    let mut text = String::from_str(alloc, LONE_POINT)?;
-    for _ in 0..count {
-        text.push_str("flip\n")?;
-    }
-    text.push_str(line)?;
-    Ok(text)
+fn with_flips(rt: &impl Abort, alloc: Global, count: usize, line: &str) -> String {
+    let flips = "flip\n".repeat(alloc, count).expect(rt, "memory");
+    joined(rt, alloc, &[LONE_POINT, flips.as_str(), line])
 }
 
 /// No more than 64 lines of flips may stand, and one more is refused for that only where nothing else is wrong with it.
-#[test]
-fn sixty_four_lines_of_flips_may_stand(rt: HostRuntime) -> Result<(), Fail> {
-    let alloc = rt.alloc();
-    lines_are_refused(&rt, alloc, "flips", LONE_POINT, REFUSED_LINES)?;
-    let many = with_flips(alloc, 64, "")?;
-    lines_are_refused(&rt, alloc, "flips", many.as_str(), ONE_TOO_MANY)?;
-    let no_end = b"refused line 68 E16 no-end\n".as_slice();
-    answers(&rt, alloc, &["flips"], many.as_bytes(), 1, no_end)?;
-    let text = with_flips(alloc, 63, "flip s1\nend\n")?;
-    let mut written = String::from_str(alloc, "")?;
+pub(crate) fn many_lines_stand(rt: &impl Abort, alloc: Global) {
+    lines_are_refused(rt, alloc, " flips", LONE_POINT, REFUSED_LINES);
+    let many = with_flips(rt, alloc, 64, "");
+    lines_are_refused(rt, alloc, " flips", many.as_str(), ONE_TOO_MANY);
+    answers(
+        rt,
+        alloc,
+        " flips",
+        many.as_bytes(),
+        "1\nrefused line 68 E16 no-end\n",
+    );
+    let text = with_flips(rt, alloc, 63, "flip s1\nend\n");
+    let mut wanted = String::from_str(alloc, "0\n").expect(rt, "memory");
     for number in 1..64 {
         let found = format!(in alloc;
             "flip {number} ok\npoint A 0 0\nlength tolerance 0 nm at none\nangle tolerance 0 ppb at none\n"
-        )?;
-        written.push_str(found.as_str())?;
+        );
+        let found = found.expect(rt, "memory");
+        wanted.push_str(found.as_str()).expect(rt, "memory");
     }
-    written.push_str("flip 64 no-choice s1\n")?;
-    answers(
-        &rt,
-        alloc,
-        &["flips"],
-        text.as_bytes(),
-        0,
-        written.as_bytes(),
-    )
+    wanted
+        .push_str("flip 64 no-choice s1\n")
+        .expect(rt, "memory");
+    answers(rt, alloc, " flips", text.as_bytes(), wanted.as_str());
 }
 
-/// The lists of steps that the lines are read as, behind three others, or the refusal of a line.
+/// The lists of steps that the lines are read as, behind three others, and what comes of the triangle with each of them, told
+/// as if it were the ninth; or the refusal of a line.
 #[tactic(auto, using(sk_lines::proofs::LineCounts::few_lines))]
-fn read_as(alloc: Global, lines: &str) -> Result<Text, Fail> {
-    match read_flips(alloc, few_bytes(lines)?, 3) {
-        Ok(lists) => lists_told(alloc, lists.as_slice()),
-        Err(ReadError::Refused(refusal)) => Ok(refused_text(alloc, &refusal)?),
-        Err(ReadError::NoMemory) => Err(Fail::from("memory ran out")),
+pub(crate) fn flips_told(rt: &impl Abort, alloc: Global, lines: &str) -> Text {
+    match read_flips(alloc, few_bytes(rt, lines), 3) {
+        Ok(lists) => alternatives_told(rt, alloc, &lists),
+        Err(ReadError::Refused(refusal)) => refused_text(alloc, &refusal).expect(rt, "memory"),
+        Err(ReadError::NoMemory) => panic!(rt; "memory"),
     }
 }
 
-fn lists_told(alloc: Global, lists: &[List<Name>]) -> Result<Text, Fail> {
-    let mut told = Text::new(alloc);
-    for names in lists {
-        told.put(b"flip\n")?;
-        put_each(alloc, &mut told, names.as_slice())?;
-    }
-    Ok(told)
-}
-
-/// What comes of the triangle with these flips, each told as if it were the ninth.
-#[tactic(auto, using(sk_lines::proofs::LineCounts::few_lines))]
-fn alternatives_told(alloc: Global, lines: &str) -> Result<Text, Fail> {
-    let sketch = sketch_of(alloc, TRIANGLE)?;
-    let graph = reduce(alloc, &sketch)?;
-    let plan = planned(alloc, &sketch)?;
-    let lists = read_flips(alloc, few_bytes(lines)?, 8)?;
+fn alternatives_told(rt: &impl Abort, alloc: Global, lists: &List<List<Name>>) -> Text {
+    let sketch = sketch_of(rt, alloc, TRIANGLE);
+    let graph = reduce(alloc, &sketch).expect(rt, "memory");
+    let plan = planned(rt, alloc, &sketch);
     let placing = Layout {
         by: PlaceBy::Boxes,
         frame: FrameBy::Base,
     };
-    let found = alternatives::<G38>(alloc, placing, &sketch, &graph, &plan, &lists, 1000)?;
+    let found = alternatives::<G38>(alloc, placing, &sketch, &graph, &plan, lists, 1000);
+    let found = found.expect(rt, "memory");
     let mut told = Text::new(alloc);
-    for alternative in found.as_slice() {
-        told.put(alternative_text(alloc, &sketch, 9, 38, alternative)?.as_bytes())?;
+    for (names, alternative) in lists.as_slice().iter().zip(found.as_slice()) {
+        put_each(rt, alloc, &mut told, names.as_slice());
+        let text = alternative_text(alloc, &sketch, 9, 38, alternative).expect(rt, "memory");
+        told.put(text.as_bytes()).expect(rt, "memory");
     }
-    Ok(told)
+    told
 }
 
-/// The first sign that isn't as the triangle's turned plan chooses it where the corners lie there, or no text.
-fn off_there(alloc: Global, places: &str) -> Result<Text, Fail> {
-    let sketch = sketch_of(alloc, TRIANGLE)?;
-    let graph = reduce(alloc, &sketch)?;
-    let at = placed(alloc, &graph, places_of(alloc, places)?.as_slice())?;
+/// The first sign that isn't as the plan chooses it with its first step turned over, where the elements lie there, or no text.
+pub(crate) fn off_told(rt: &impl Abort, alloc: Global, text: &str) -> Text {
+    let laid = lay(rt, alloc, text);
     let mut names = List::new(alloc);
-    names.push(Name::Step(1))?;
-    let plan = flip_plan(alloc, &planned(alloc, &sketch)?, &names)?;
+    names.push(Name::Step(1)).expect(rt, "memory");
+    let plan = flip_plan(alloc, &laid.plan, &names).expect(rt, "a turned plan");
     turned_plan_is_legal();
-    match first_off(&at, &sketch, &plan) {
-        Some(turned) => Ok(turned_text(alloc, &turned)?),
-        None => Ok(Text::new(alloc)),
+    match first_off(&laid.at, &laid.sketch, &plan) {
+        Some(turned) => turned_text(alloc, &turned).expect(rt, "memory"),
+        None => Text::new(alloc),
     }
-}
-
-/// A triangle's plan with its step turned over wants the third corner on the other side. The sign that it chooses is the
-/// one that is called drawn.
-#[test]
-fn a_triangle_turns_over(rt: HostRuntime) -> Result<(), Fail> {
-    let alloc = rt.alloc();
-    let lists = "flip\nStep(2)\nStep(1)\nflip\n";
-    let read = read_as(alloc, "flip s2 s1\n\nflip\nend\n")?;
-    assert_eq!(rt; read.as_bytes(), lists.as_bytes());
-    let refused = read_as(alloc, "flip\nflip c1\n")?;
-    assert_eq!(rt; refused.as_bytes(), b"refused line 5 E4 name\n".as_slice());
-    let told = alternatives_told(alloc, "flip s1\nflip s2\nflip\nend\n")?;
-    assert_eq!(rt; told.as_bytes(), TURNED.as_bytes());
-    let over = off_there(
-        alloc,
-        "point 0 0\npoint 4000000 0\npoint 4000000 -3000000\n",
-    )?;
-    assert!(rt; over.as_bytes().is_empty());
-    let back = off_there(alloc, "point 0 0\npoint 4000000 0\npoint 4000000 3000000\n")?;
-    assert_eq!(rt;
-        back.as_bytes(),
-        b"fault s1 turned drawn - placed 1\n".as_slice()
-    );
-    Ok(())
 }
 
 /// What comes of a turned sign that no drawing is known for.
-#[test]
-fn a_turned_sign_is_a_fault(rt: HostRuntime) -> Result<(), Fail> {
-    let alloc = rt.alloc();
+pub(crate) fn turned_told(rt: &impl Abort, alloc: Global) -> Text {
     let sketch = Sketch {
         elements: List::new(alloc),
         constraints: List::new(alloc),
@@ -561,10 +502,70 @@ fn a_turned_sign_is_a_fault(rt: HostRuntime) -> Result<(), Fail> {
         drawn: Sign::Minus,
         placed: 0,
     };
-    let text = alternative_text(alloc, &sketch, 7, 38, &Alternative::Turned(turned))?;
-    assert_eq!(rt;
-        text.as_bytes(),
-        b"flip 7 fault\nfault s2 turned drawn - placed 0\n".as_slice()
-    );
-    Ok(())
+    let told = alternative_text(alloc, &sketch, 7, 38, &Alternative::Turned(turned));
+    told.expect(rt, "memory")
 }
+
+/// A triangle's plan with its step turned over wants the third corner on the other side. The sign that it chooses is the
+/// one that is called drawn.
+pub const TURNED: &str = "
+$ flips
+flip s2 s1
+
+flip s1
+flip s2
+flip
+end
+> Step(2)
+Step(1)
+flip 9 no-choice s2
+Step(1)
+flip 9 ok
+point A 0 0
+point B 4000000 0
+point C 4000000 -3000000
+length tolerance 0 nm at c1
+angle tolerance 0 ppb at none
+Step(2)
+flip 9 no-choice s2
+flip 9 ok
+point A 0 0
+point B 4000000 0
+point C 4000000 3000000
+length tolerance 0 nm at c1
+angle tolerance 0 ppb at none
+$ flips
+flip
+flip c1
+> refused line 5 E4 name
+$ off
+sketch 1
+point A 0 0
+point B 4 0
+point C 4 3
+distance A B 4
+distance A C 5
+distance B C 3
+end
+at
+point 0 0
+point 4000000 0
+point 4000000 -3000000
+> $ off
+sketch 1
+point A 0 0
+point B 4 0
+point C 4 3
+distance A B 4
+distance A C 5
+distance B C 3
+end
+at
+point 0 0
+point 4000000 0
+point 4000000 3000000
+> fault s1 turned drawn - placed 1
+$ turned
+> flip 7 fault
+fault s2 turned drawn - placed 0
+";

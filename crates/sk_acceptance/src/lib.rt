@@ -3,6 +3,8 @@
 #![tactic(auto)]
 
 #[cfg(test)]
+mod below;
+#[cfg(test)]
 mod blocks;
 #[cfg(test)]
 mod by_order;
@@ -24,21 +26,20 @@ mod excess;
 mod faults;
 #[cfg(test)]
 mod flips;
+#[cfg(test)]
 mod framed;
 #[cfg(test)]
 mod grown;
 #[cfg(test)]
-mod limits;
+mod halting;
 #[cfg(test)]
-mod lists;
+mod limits;
 #[cfg(test)]
 mod lives;
 #[cfg(test)]
 mod merges;
 #[cfg(test)]
 mod offers;
-#[cfg(test)]
-mod one_byte;
 #[cfg(test)]
 mod parts;
 #[cfg(test)]

@@ -1,12 +1,10 @@
 // Sessions that answer as they are asked, over sources that give their input in pieces.
-use crate::one_byte::PieceSource;
-use crate::row::{Call, call_of, strings};
-use crate::sessions;
-use sk_cli::run;
-use sk_io::{MemSink, MemSource};
+use crate::halting::{HaltingReader, halts};
+use crate::row::{ending_of, ends, joined, parts_of, status_of};
+use crate::sessions::SESSIONS;
+use sk_io::{MemSink, StdSource};
 use std::alloc::Global;
 use std::process::Abort;
-use std::test::Fail;
 
 /// Room for every text of these rows.
 const ROOM: u32 = 300_000;
@@ -44,75 +42,79 @@ refused E2 word
 refused E3 shape
 ";
 
-/// Over a source that gives so many bytes at a call, and where one call of each fails, or none where its number is 0.
-fn answers_in_pieces(
+/// Over a source that gives so many bytes at a call, and where one call of each device fails, or none where its number is 0,
+/// the call ends so.
+fn ends_in_pieces(
     rt: &impl Abort,
     alloc: Global,
-    call: &Call,
+    (line, input): (&str, &str),
     most: usize,
     (failing_read, failing_write): (u64, u64),
-    status: u8,
-    written: &[u8],
-) -> Result<(), Fail> {
-    let words = strings(alloc, call.words.as_slice())?;
-    let inner = MemSource::new(alloc, call.input.as_bytes(), &[failing_read])?;
-    let mut source = PieceSource { inner, most };
-    let mut sink = MemSink::new(alloc, ROOM, &[failing_write])?;
-    let answer = run(alloc, words.as_slice(), &mut source, &mut sink);
-    assert_eq!(rt; sink.written(), written);
-    assert_eq!(rt; answer.code(), status);
-    Ok(())
+    wanted: (u8, &[u8]),
+) {
+    let mut source = StdSource::new(HaltingReader {
+        rest: input.as_bytes(),
+        most,
+        calls: 0,
+        failing: failing_read,
+    });
+    let mut sink = MemSink::new(alloc, ROOM, &[failing_write]).expect(rt, "memory");
+    let status = status_of(rt, alloc, line, &mut source, &mut sink);
+    ends(rt, line, (status, sink.written()), wanted);
 }
 
 /// Whatever the pieces are, the answer is the same.
-fn row_passes(rt: &impl Abort, alloc: Global, call: &Call) -> Result<(), Fail> {
+fn any_pieces_serve(rt: &impl Abort, alloc: Global, call: (&str, &str), wanted: &str) {
     for most in PIECES {
-        let written = call.written.as_bytes();
-        answers_in_pieces(rt, alloc, call, most, (0, 0), call.status, written)?;
+        ends_in_pieces(rt, alloc, call, most, (0, 0), ending_of(rt, wanted));
     }
-    Ok(())
-}
-
-#[test]
-fn live_answers_in_pieces(rt: HostRuntime) -> Result<(), Fail> {
-    for row in ENDS.split("$ ").skip(1) {
-        row_passes(&rt, rt.alloc(), &call_of(rt.alloc(), row)?)?;
-    }
-    Ok(())
 }
 
 /// Each session of the table is answered by `live` as by `session`.
 #[test]
-fn live_answers_as_a_session(rt: HostRuntime) -> Result<(), Fail> {
-    for row in sessions::SESSIONS.split("$ ").skip(1) {
-        let mut call = call_of(rt.alloc(), row)?;
-        if let Some(word) = call.words.first_mut() {
-            *word = "live";
-        }
-        row_passes(&rt, rt.alloc(), &call)?;
+fn live_answers_in_pieces(rt: HostRuntime) {
+    for row in ENDS.split('$').skip(1) {
+        let (line, input, wanted) = parts_of(&rt, row);
+        any_pieces_serve(&rt, rt.alloc(), (line, input), wanted);
     }
-    Ok(())
+    for row in SESSIONS.split('$').skip(1) {
+        let (line, input, wanted) = parts_of(&rt, row);
+        let words = line.strip_prefix(" session").expect(&rt, "a session");
+        let line = joined(&rt, rt.alloc(), &[" live", words]);
+        any_pieces_serve(&rt, rt.alloc(), (line.as_str(), input), wanted);
+    }
 }
+
+/// What is left where that call of a writer fails that takes one byte a call, and is flushed behind each reply: the last byte
+/// of a reply, its flush, the byte behind that, the next flush, and the last one.
+const FLUSHED: [(u64, &str); 5] = [
+    (5, "ok A"),
+    (6, "ok A\n"),
+    (7, "ok A\n"),
+    (10, "ok A\nok\n"),
+    (38, "ok A\nok\nrefused S3 nothing-to-undo\n"),
+];
 
 /// A failing call leaves the replies to the lines that had come to their end before it.
 #[test]
-fn each_call_of_live_may_fail(rt: HostRuntime) -> Result<(), Fail> {
-    let call = call_of(
-        rt.alloc(),
-        "live\npoint A 0 0\nundo\nundo\n> 0\nok A\nok\nrefused S3 nothing-to-undo\n",
-    )?;
-    let reads: [(u64, &[u8]); 4] = [
-        (1, b""),
-        (2, b""),
-        (3, b"ok A\nok\n"),
-        (4, b"ok A\nok\nrefused S3 nothing-to-undo\n"),
+fn each_call_of_live_may_fail(rt: HostRuntime) {
+    let call = (" live", "point A 0 0\nundo\nundo\n");
+    let reads = [
+        (1, ""),
+        (2, ""),
+        (3, "ok A\nok\n"),
+        (4, "ok A\nok\nrefused S3 nothing-to-undo\n"),
     ];
     for (read, written) in reads {
-        answers_in_pieces(&rt, rt.alloc(), &call, 9, (read, 0), 3, written)?;
+        let wanted = (3, written.as_bytes());
+        ends_in_pieces(&rt, rt.alloc(), call, 9, (read, 0), wanted);
     }
-    let writes: [(u64, &[u8]); 3] = [(1, b""), (2, b"ok A\n"), (3, b"ok A\nok\n")];
-    for (write, written) in writes {
-        answers_in_pieces(&rt, rt.alloc(), &call, 9, (0, write), 4, written)?;
+    for (write, written) in [(1, ""), (2, "ok A\n"), (3, "ok A\nok\n")] {
+        let wanted = (4, written.as_bytes());
+        ends_in_pieces(&rt, rt.alloc(), call, 9, (0, write), wanted);
     }
-    Ok(())
+    for (call_number, written) in FLUSHED {
+        let wanted = (4, written.as_bytes());
+        halts(&rt, rt.alloc(), call, 0, (call_number, false), wanted);
+    }
 }

@@ -1,8 +1,5 @@
 // Offered merges, orders of merges, and what both come to.
-use crate::row::answers;
-use std::alloc::Global;
-use std::process::Abort;
-use std::test::Fail;
+use crate::row::{answers, joined};
 
 pub const OFFERS: &str = "
 $ offers
@@ -231,23 +228,17 @@ offer 6 stale s1
 ";
 
 /// Whatever pair or triple of the clusters is offered first, and in whatever order its names stand, the
-/// report that follows is the same. A triangle merge is taken although a pair of clusters could merge.
+/// report that follows is the same, in every order. A triangle merge is taken although a pair of clusters could merge.
 #[test]
-fn every_offer_comes_to_the_same_report(rt: HostRuntime) -> Result<(), Fail> {
+fn every_offer_comes_to_the_same_report(rt: HostRuntime) {
+    let alloc = rt.alloc();
     for row in OFFERED.split("$\n").skip(1) {
-        let (offers, lines) = row.split_once(">\n").ok_or("offers without answers")?;
-        are_answered(&rt, rt.alloc(), offers, lines)?;
+        let (offers, lines) = row.split_once(">\n").expect(&rt, "answers");
+        let input = joined(&rt, alloc, &[DOUBLED, offers, "end\n"]);
+        let wanted = joined(&rt, alloc, &["0\n", lines, DOUBLED_REPORT]);
+        for order in ["first", "last", "5"] {
+            let line = joined(&rt, alloc, &[" offers order=", order]);
+            answers(&rt, alloc, line.as_str(), input.as_bytes(), wanted.as_str());
+        }
     }
-    Ok(())
-}
-
-/// Offers of the doubled triangle's clusters get these answers and then its report, in every order.
-fn are_answered(rt: &impl Abort, alloc: Global, offers: &str, lines: &str) -> Result<(), Fail> {
-    let input = format!(in alloc; "{DOUBLED}{offers}end\n")?;
-    let written = format!(in alloc; "{lines}{DOUBLED_REPORT}")?;
-    for order in ["order=first", "order=last", "order=5"] {
-        let words = ["offers", order];
-        answers(rt, alloc, &words, input.as_bytes(), 0, written.as_bytes())?;
-    }
-    Ok(())
 }

@@ -1,12 +1,7 @@
 // Random sessions: what a session answers on its sketch is what the commands answer on the sketch as it is written.
-use crate::row::put_answer;
-use sk_base::Text;
-use sk_lang::write_sketch;
-use sk_session::{Closing, Session};
-use sk_worklist::Order;
+use crate::row::{answer, joined};
 use std::alloc::Global;
 use std::process::Abort;
-use std::test::Fail;
 
 /// A drawing that lacks one constraint.
 const START: &str = "\
@@ -73,92 +68,78 @@ fn next(number: u32) -> u32 {
     number % 65537 * 75 + 74
 }
 
-fn put_step(script: &mut String, step: &str) -> Result<(), Fail> {
+fn put_step(rt: &impl Abort, script: &mut String, step: &str) {
     for line in step.split(", ") {
-        script.push_str(line)?;
-        script.push_str("\n")?;
+        script.push_str(line).expect(rt, "memory");
+        script.push_str("\n").expect(rt, "memory");
     }
-    Ok(())
 }
 
 /// The start, and twelve of the steps.
-fn script(alloc: Global, steps: &str, number: u32) -> Result<String, Fail> {
-    let mut script = String::from_str(alloc, START)?;
+fn script(rt: &impl Abort, alloc: Global, steps: &str, number: u32) -> String {
+    let mut script = String::from_str(alloc, START).expect(rt, "memory");
     let mut number = number;
     for _ in 0..12u32 {
         number = next(number);
-        let step = steps
-            .lines()
-            .nth((number % 16) as usize)
-            .ok_or("sixteen steps")?;
-        put_step(&mut script, step)?;
+        let step = steps.lines().nth((number % 16) as usize);
+        put_step(rt, &mut script, step.expect(rt, "sixteen steps"));
     }
-    Ok(script)
+    script
 }
 
-/// The sketch that the script ends in, written.
-fn sketch_text(alloc: Global, script: &str) -> Result<Text, Fail> {
-    let mut session = Session::new(alloc, Order::First, Closing::InAnyOrder)?;
-    for line in script.lines() {
-        let _reply = session.command(line.as_bytes())?;
-    }
-    Ok(write_sketch(alloc, session.sketch())?)
+/// The sketch as it stands behind the lines, as the session writes it.
+fn sketch_behind(rt: &impl Abort, alloc: Global, script: &str) -> String {
+    let lines = joined(rt, alloc, &[script, "write\n"]);
+    let (_, sink) = answer(rt, alloc, " session", lines.as_bytes());
+    let replies = str::from_utf8(sink.written()).expect(rt, "a text");
+    let (_, sketch) = replies.split_once("\nsketch ").expect(rt, "a sketch");
+    joined(rt, alloc, &["sketch ", sketch])
 }
 
-/// At its end the session answers the questions as the commands do on the written sketch.
-fn ends_alike(
-    rt: &impl Abort,
-    alloc: Global,
-    script: &str,
-    questions: &[&str],
-) -> Result<(), Fail> {
-    let sketch = sketch_text(alloc, script)?;
-    let mut lines = String::from_str(alloc, script)?;
+/// At its end the session answers the questions as the commands do on the sketch that it writes there.
+fn ends_alike(rt: &impl Abort, alloc: Global, script: &str, questions: &[&str]) {
+    let sketch = sketch_behind(rt, alloc, script);
+    let mut lines = String::from_str(alloc, script).expect(rt, "memory");
     let mut wanted = Vec::new(alloc);
     for question in questions {
-        put_step(&mut lines, question)?;
-        put_answer(alloc, &mut wanted, &[question], sketch.as_bytes())?;
+        put_step(rt, &mut lines, question);
+        let line = joined(rt, alloc, &[" ", question]);
+        let (_, sink) = answer(rt, alloc, line.as_str(), sketch.as_bytes());
+        wanted
+            .extend_from_slice(sink.written())
+            .expect(rt, "memory");
     }
-    let mut found = Vec::new(alloc);
-    put_answer(alloc, &mut found, &["session"], lines.as_bytes())?;
-    assert!(rt; found.as_slice().ends_with(wanted.as_slice()), "{script}");
-    Ok(())
+    let (_, sink) = answer(rt, alloc, " session", lines.as_bytes());
+    assert!(rt; sink.written().ends_with(wanted.as_slice()), "{script}");
 }
 
 /// Behind each line of its steps the session answers `check` as the command does, and at its end all the questions.
-fn answers_alike(
-    rt: &impl Abort,
-    alloc: Global,
-    script: &str,
-    questions: &[&str],
-) -> Result<(), Fail> {
-    let mut front = String::from_str(alloc, START)?;
+fn answers_alike(rt: &impl Abort, alloc: Global, script: &str, questions: &[&str]) {
+    let mut front = String::from_str(alloc, START).expect(rt, "memory");
     for line in script.lines().skip(START.lines().count()) {
-        put_step(&mut front, line)?;
-        ends_alike(rt, alloc, front.as_str(), &["check"])?;
+        put_step(rt, &mut front, line);
+        ends_alike(rt, alloc, front.as_str(), &["check"]);
     }
-    ends_alike(rt, alloc, script, questions)
+    ends_alike(rt, alloc, script, questions);
 }
 
 #[test]
-fn sessions_answer_as_the_commands(rt: HostRuntime) -> Result<(), Fail> {
+fn sessions_answer_as_the_commands(rt: HostRuntime) {
     for number in 0..200u32 {
-        let script = script(rt.alloc(), STEADY, number)?;
+        let script = script(&rt, rt.alloc(), STEADY, number);
         answers_alike(
             &rt,
             rt.alloc(),
             script.as_str(),
             &["check", "plan", "solve"],
-        )?;
+        );
     }
-    Ok(())
 }
 
 #[test]
-fn dropped_constraints_leave_no_trace(rt: HostRuntime) -> Result<(), Fail> {
+fn dropped_constraints_leave_no_trace(rt: HostRuntime) {
     for number in 0..200u32 {
-        let script = script(rt.alloc(), LOOSE, number)?;
-        answers_alike(&rt, rt.alloc(), script.as_str(), &["check"])?;
+        let script = script(&rt, rt.alloc(), LOOSE, number);
+        answers_alike(&rt, rt.alloc(), script.as_str(), &["check"]);
     }
-    Ok(())
 }

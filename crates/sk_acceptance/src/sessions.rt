@@ -1,10 +1,12 @@
 // Sessions, and the family that is kept across their lines.
-use sk_base::{Elem, Name};
+use crate::row::{joined, same};
+use sk_base::Text;
+use sk_family::Family;
 use sk_lines::Code;
 use sk_session::{Closing, Reply, Session};
 use sk_worklist::Order;
 use std::alloc::Global;
-use std::test::Fail;
+use std::process::Abort;
 
 pub const SESSIONS: &str = "
 $ session
@@ -362,66 +364,79 @@ check
 undo
 check";
 
-/// Whether the kept cluster of that name holds these elements.
-fn holds(session: &Session, name: Name, elements: &[Elem]) -> bool {
-    match session.family().cluster(name) {
-        Some(cluster) => cluster.elements.as_slice() == elements,
-        None => false,
+/// The session behind these lines, which it takes.
+fn hinged(rt: &impl Abort, alloc: Global, closing: Closing) -> Session {
+    let mut session = Session::new(alloc, Order::First, closing).expect(rt, "memory");
+    for line in HINGED.split('\n') {
+        gets(rt, &mut session, line.as_bytes(), None);
+    }
+    session
+}
+
+/// The clusters of the family with their elements, a line each.
+fn family_told(rt: &impl Abort, alloc: Global, family: &Family) -> Text {
+    let mut told = Text::new(alloc);
+    for cluster in family.clusters() {
+        let (name, elements) = (cluster.name, cluster.elements.as_slice());
+        let line = format!(in alloc; "{name:?} {elements:?}\n").expect(rt, "memory");
+        told.put(line.as_bytes()).expect(rt, "memory");
+    }
+    told
+}
+
+/// The kept clusters behind the lines, and the number of the next step.
+fn kept(rt: &impl Abort, alloc: Global, closing: Closing) -> (Text, u32) {
+    let session = hinged(rt, alloc, closing);
+    let family = session.family();
+    (family_told(rt, alloc, family), family.next_step())
+}
+
+/// Whether the family has two clusters, with these elements.
+fn are_both(told: &[u8]) -> bool {
+    match str::from_utf8(told) {
+        Ok(lines) => {
+            lines.lines().count() == 2
+                && lines.split_once(APART).is_some()
+                && lines.split_once(MENDED).is_some()
+        }
+        Err(_) => false,
     }
 }
 
-/// Whether some kept cluster holds these elements.
-fn some_holds(session: &Session, elements: &[Elem]) -> bool {
-    let clusters = session.family().clusters();
-    clusters
-        .iter()
-        .any(|cluster| cluster.elements.as_slice() == elements)
-}
+const APART: &str = " [Elem(1), Elem(4), Elem(5)]\n";
 
-/// The session behind these lines.
-fn hinged(alloc: Global, closing: Closing) -> Result<Session, Fail> {
-    let mut session = Session::new(alloc, Order::First, closing)?;
-    for line in HINGED.split("\n") {
-        let _reply = session.command(line.as_bytes())?;
-    }
-    Ok(session)
-}
+const MENDED: &str = " [Elem(1), Elem(2), Elem(3)]\n";
 
-/// A check goes on from the kept clusters, and an undone drop starts its constraint again.
+/// A check goes on from the kept clusters, and an undone drop starts its constraint again. In any order the clusters are
+/// the same; which names they have isn't promised.
 #[test]
-fn a_check_goes_on_from_the_kept_clusters(rt: HostRuntime) -> Result<(), Fail> {
-    let session = hinged(rt.alloc(), Closing::ByRun)?;
-    assert_eq!(rt; session.family().next_step(), 3);
-    let apart = [Elem(1), Elem(4), Elem(5)];
-    let mended = [Elem(1), Elem(2), Elem(3)];
-    assert!(rt; holds(&session, Name::Step(1), apart.as_slice()));
-    assert!(rt; holds(&session, Name::Step(2), mended.as_slice()));
-
-    // In any order the clusters are the same; which names they have isn't promised.
-    let other = hinged(rt.alloc(), Closing::InAnyOrder)?;
-    assert_eq!(rt; other.family().count(), 2);
-    assert!(rt; some_holds(&other, apart.as_slice()));
-    assert!(rt; some_holds(&other, mended.as_slice()));
-    Ok(())
+fn a_check_goes_on_from_the_kept_clusters(rt: HostRuntime) {
+    let (told, next) = kept(&rt, rt.alloc(), Closing::ByRun);
+    let wanted = joined(&rt, rt.alloc(), &["Step(1)", APART, "Step(2)", MENDED]);
+    same(&rt, "a run", told.as_bytes(), wanted.as_bytes());
+    assert!(rt; next == 3);
+    let (told, _) = kept(&rt, rt.alloc(), Closing::InAnyOrder);
+    assert!(rt; are_both(told.as_bytes()));
 }
 
-/// Whether the session refuses the line with that code, or with None takes it.
-fn gets(session: &mut Session, line: &[u8], code: Option<Code>) -> Result<bool, Fail> {
-    match session.command(line)? {
-        Reply::Refused(found) => Ok(code == Some(found)),
-        _ => Ok(code.is_none()),
-    }
+/// The session takes the line, or refuses it with that code.
+fn gets(rt: &impl Abort, session: &mut Session, line: &[u8], code: Option<Code>) {
+    let found = match session.command(line).expect(rt, "memory") {
+        Reply::Refused(found) => Some(found),
+        _ => None,
+    };
+    assert!(rt; found == code);
 }
 
 /// A million edits and undos are taken. Then nothing stands to be undone, and no edit is taken any more.
 #[test]
-fn edits_are_spent_at_a_million(rt: HostRuntime) -> Result<(), Fail> {
-    let mut session = Session::new(rt.alloc(), Order::First, Closing::InAnyOrder)?;
+fn edits_are_spent_at_a_million(rt: HostRuntime) {
+    let session = Session::new(rt.alloc(), Order::First, Closing::InAnyOrder);
+    let mut session = session.expect(&rt, "memory");
     for _ in 0..500_000u32 {
-        assert!(rt; gets(&mut session, b"point A 0 0", None)?);
-        assert!(rt; gets(&mut session, b"undo", None)?);
+        gets(&rt, &mut session, b"point A 0 0", None);
+        gets(&rt, &mut session, b"undo", None);
     }
-    assert!(rt; gets(&mut session, b"undo", Some(Code::S3))?);
-    assert!(rt; gets(&mut session, b"point A 0 0", Some(Code::S5))?);
-    Ok(())
+    gets(&rt, &mut session, b"undo", Some(Code::S3));
+    gets(&rt, &mut session, b"point A 0 0", Some(Code::S5));
 }

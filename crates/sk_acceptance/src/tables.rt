@@ -5,10 +5,9 @@ use crate::{
     refusals, refused_claims, sessions, settled, solves, spares, verified, verified_signs,
     versions,
 };
-use std::test::Fail;
 
 #[test]
-fn texts_get_their_answers(rt: HostRuntime) -> Result<(), Fail> {
+fn texts_get_their_answers(rt: HostRuntime) {
     let tables = [
         checks::REPORTS,
         plans::PLANS,
@@ -24,13 +23,12 @@ fn texts_get_their_answers(rt: HostRuntime) -> Result<(), Fail> {
         refused_claims::REFUSED_CLAIMS,
     ];
     for table in tables {
-        rows_pass(&rt, rt.alloc(), table)?;
+        rows_pass(&rt, rt.alloc(), table);
     }
-    Ok(())
 }
 
 #[test]
-fn drawings_are_placed(rt: HostRuntime) -> Result<(), Fail> {
+fn drawings_are_placed(rt: HostRuntime) {
     let tables = [
         solves::POINTS,
         solves::LINES,
@@ -52,7 +50,6 @@ fn drawings_are_placed(rt: HostRuntime) -> Result<(), Fail> {
         versions::MIGRATED,
     ];
     for table in tables {
-        rows_pass(&rt, rt.alloc(), table)?;
+        rows_pass(&rt, rt.alloc(), table);
     }
-    Ok(())
 }

@@ -1,27 +1,29 @@
-// Tolerances and turned signs of placed drawings. The places and the numbers were worked out by hand.
+// Drawings whose elements lie at places that were made by hand: their tolerances, what is beyond a limit, and turned signs.
+// The numbers were worked out by hand.
 //
-// A row of a table has a limit behind its `$ `, a sketch, `at` and a place for each of its elements, and behind its
-// `> 0` the end of the report, what is first beyond the limit, and the first turned sign.
-ghost use Rattle.std.specs.Prelude.{◌<◌, ◌≤◌, ◌^◌, length, IsTrue, IfOk};
+// A row has a sketch, `at`, and a place for each of its elements.
+ghost use Rattle.std.specs.Prelude.{◌<◌, ◌≤◌, ◌^◌, length, IsTrue};
 ghost use Rattle.sk_base.specs.Bounds.{IsWithin};
 ghost use Rattle.sk_base.specs.Places.{IsBounded};
 ghost use Rattle.sk_base.specs.SoundGraph.{IsSoundGraph};
+ghost use Rattle.sk_base.specs.SoundSketch.{IsSoundSketch};
+ghost use Rattle.sk_graph.specs.SketchGraph.{graph_of};
 ghost use Rattle.sk_holding.specs.Placing.{HasKind, PlacesExactly, AreSpotsOf};
+ghost use Rattle.sk_tree.specs.LegalPlan.{IsLegalPlan};
 
 use crate::calls::{planned, sketch_of};
-use crate::row::words_of;
-use sk_base::{At, Graph, Kind, List, Placed, Spot, Text};
+use sk_base::{At, Graph, Kind, List, Placed, Sketch, Spot, Text};
 use sk_graph::reduce;
-use sk_holding::meets;
+use sk_holding::{meets, meets_block};
 use sk_report::{passed_text, solve_text, turned_text};
 use sk_residual::{first_turned, least, passed};
+use sk_tree::Plan;
 use std::alloc::Global;
 use std::process::Abort;
-use std::test::Fail;
 
 /// Triangles, one of them turned over and one that is flat, and a length beyond a limit.
-const POINTS: &str = "
-$ 1000
+pub const POINTS: &str = "
+$ judged 1000
 sketch 1
 point A 0 0
 point B 4 0
@@ -34,10 +36,15 @@ at
 point 0 0
 point 4000000 0
 point 4000000 3000000
-> 0
+> verdict well
+steps 1
+bits 38
+point A 0 0
+point B 4000000 0
+point C 4000000 3000000
 length tolerance 0 nm at c1
 angle tolerance 0 ppb at none
-$ 1000
+$ judged 1000
 sketch 1
 point A 0 0
 point B 10 0
@@ -50,10 +57,15 @@ at
 point 0 0
 point 10000000 0
 point 5000000 8660254
-> 0
+> verdict well
+steps 1
+bits 38
+point A 0 0
+point B 10000000 0
+point C 5000000 8660254
 length tolerance 1 nm at c2
 angle tolerance 0 ppb at none
-$ 1000
+$ judged 1000
 sketch 1
 point A 0 0
 point B 10 0
@@ -66,11 +78,16 @@ at
 point 0 0
 point 10000000 0
 point 5000000 -8660254
-> 0
+> verdict well
+steps 1
+bits 38
+point A 0 0
+point B 10000000 0
+point C 5000000 -8660254
 length tolerance 1 nm at c2
 angle tolerance 0 ppb at none
 fault s1 turned drawn + placed -1
-$ 3000000
+$ judged 3000000
 sketch 1
 point A 0 0
 point B 4 0
@@ -83,11 +100,16 @@ at
 point 0 0
 point 4000000 0
 point 4000000 0
-> 0
+> verdict well
+steps 1
+bits 38
+point A 0 0
+point B 4000000 0
+point C 4000000 0
 length tolerance 3000000 nm at c3
 angle tolerance 0 ppb at none
 fault s1 turned drawn + placed 0
-$ 1
+$ judged 1
 sketch 1
 point A 0 0
 point B 1 0
@@ -96,11 +118,15 @@ end
 at
 point 0 0
 point 2998 0
-> 0
+> verdict well
+steps 0
+bits 38
+point A 0 0
+point B 2998 0
 length tolerance 2 nm at c1
 angle tolerance 0 ppb at none
 fault c1 tolerance 2 nm limit 1
-$ 2
+$ judged 2
 sketch 1
 point A 0 0
 point B 1 0
@@ -109,14 +135,18 @@ end
 at
 point 0 0
 point 2998 0
-> 0
+> verdict well
+steps 0
+bits 38
+point A 0 0
+point B 2998 0
 length tolerance 2 nm at c1
 angle tolerance 0 ppb at none
 ";
 
 /// As asked.
-const LINES: &str = "
-$ 1000
+pub const LINES: &str = "
+$ judged 1000
 sketch 1
 point A 0 0
 point B 40 0
@@ -149,10 +179,20 @@ line 0 1000000000 0
 line -1000000000 0 0
 line 0 -1000000000 -25000000
 line 1000000000 0 -40000000
-> 0
+> verdict well
+steps 6
+bits 38
+point A -40000000 0
+point B 0 0
+point C 0 25000000
+point D -40000000 25000000
+line S 0 1000000000 0
+line E -1000000000 0 0
+line N 0 -1000000000 -25000000
+line W 1000000000 0 -40000000
 length tolerance 0 nm at c1
 angle tolerance 0 ppb at line S
-$ 1000
+$ judged 1000
 sketch 1
 line X 0 0 100 0
 line Y 0 0 0 80
@@ -165,10 +205,15 @@ at
 line 0 1000000000 0
 line -1000000000 0 0
 point 30000000 5000000
-> 0
+> verdict well
+steps 1
+bits 38
+line X 0 1000000000 0
+line Y -1000000000 0 0
+circle H 30000000 5000000 5000000
 length tolerance 0 nm at c2
 angle tolerance 0 ppb at line X
-$ 1000
+$ judged 1000
 sketch 1
 circle H 0 0 5
 circle K 5 0 2
@@ -181,10 +226,15 @@ at
 point 0 0
 point 5000000 0
 line -600000000 800000000 -5000000
-> 0
+> verdict well
+steps 1
+bits 38
+circle H 0 0 5000000
+circle K 5000000 0 2000000
+line T -600000000 800000000 -5000000
 length tolerance 0 nm at c1
 angle tolerance 0 ppb at line T
-$ 1000
+$ judged 1000
 sketch 1
 line X 0 0 100 0
 line Y 5 0 85 60
@@ -197,15 +247,20 @@ at
 line 0 1000000000 0
 line -600000000 800000000 -3000000
 point 5000000 5000000
-> 0
+> verdict well
+steps 1
+bits 38
+line X 0 1000000000 0
+line Y -600000000 800000000 -3000000
+point H 5000000 5000000
 length tolerance 0 nm at c2
 angle tolerance 0 ppb at line X
 ";
 
 /// A length that is off by 5 and a height by 3; normals that are too long or not at their angle, and what is first beyond a
 /// limit.
-const WORST: &str = "
-$ 1000
+pub const WORST: &str = "
+$ judged 1000
 sketch 1
 line X 0 0 100 0
 line Y 0 0 0 80
@@ -218,10 +273,15 @@ at
 line 0 1000000000 0
 line -1000000000 0 0
 point 30000003 4999995
-> 0
+> verdict well
+steps 1
+bits 38
+line X 0 1000000000 0
+line Y -1000000000 0 0
+circle H 30000003 4999995 5000000
 length tolerance 5 nm at c2
 angle tolerance 0 ppb at line X
-$ 1000
+$ judged 1000
 sketch 1
 line X 0 0 100 0
 line Y 0 0 0 80
@@ -234,10 +294,15 @@ at
 line 0 1000000003 0
 line -1000000000 0 0
 point 30000000 5000000
-> 0
+> verdict well
+steps 1
+bits 38
+line X 0 1000000003 0
+line Y -1000000000 0 0
+circle H 30000000 5000000 5000000
 length tolerance 1 nm at c2
 angle tolerance 7 ppb at line X
-$ 1000
+$ judged 1000
 sketch 1
 line X 0 0 100 0
 line Y 0 0 0 80
@@ -250,10 +315,15 @@ at
 line 0 1000000000 0
 line -1000000000 5 0
 point 30000000 5000000
-> 0
+> verdict well
+steps 1
+bits 38
+line X 0 1000000000 0
+line Y -1000000000 5 0
+circle H 30000000 5000000 5000000
 length tolerance 1 nm at c3
 angle tolerance 5 ppb at c1
-$ 4
+$ judged 4
 sketch 1
 line X 0 0 100 0
 line Y 0 0 0 80
@@ -266,11 +336,16 @@ at
 line 0 1000000003 0
 line -1000000000 0 0
 point 30000003 4999995
-> 0
+> verdict well
+steps 1
+bits 38
+line X 0 1000000003 0
+line Y -1000000000 0 0
+circle H 30000003 4999995 5000000
 length tolerance 5 nm at c2
 angle tolerance 7 ppb at line X
 fault line X tolerance 7 ppb limit 4
-$ 7
+$ judged 7
 sketch 1
 line X 0 0 100 0
 line Y 0 0 0 80
@@ -283,10 +358,15 @@ at
 line 0 1000000003 0
 line -1000000000 0 0
 point 30000003 4999995
-> 0
+> verdict well
+steps 1
+bits 38
+line X 0 1000000003 0
+line Y -1000000000 0 0
+circle H 30000003 4999995 5000000
 length tolerance 5 nm at c2
 angle tolerance 7 ppb at line X
-$ 49
+$ judged 49
 sketch 1
 line X 0 0 100 0
 line Y 5 0 85 60
@@ -299,7 +379,12 @@ at
 line 70 1000000000 0
 line -600000000 800000000 -3000000
 point 5000000 5000000
-> 0
+> verdict well
+steps 1
+bits 38
+line X 70 1000000000 0
+line Y -600000000 800000000 -3000000
+point H 5000000 5000000
 length tolerance 1 nm at c2
 angle tolerance 50 ppb at c1
 fault c1 tolerance 50 ppb limit 49
@@ -307,8 +392,8 @@ fault c1 tolerance 50 ppb limit 49
 
 /// A line that runs the other way, so that the right angles at it turn to the other side, before any step; a rectangle
 /// that is turned over; and a line that runs back.
-const TURNED: &str = "
-$ 1000
+pub const TURNED: &str = "
+$ judged 1000
 sketch 1
 point A 0 0
 point B 40 0
@@ -341,11 +426,21 @@ line 0 1000000000 0
 line 1000000000 0 0
 line 0 -1000000000 -25000000
 line 1000000000 0 -40000000
-> 0
+> verdict well
+steps 6
+bits 38
+point A -40000000 0
+point B 0 0
+point C 0 25000000
+point D -40000000 25000000
+line S 0 1000000000 0
+line E 1000000000 0 0
+line N 0 -1000000000 -25000000
+line W 1000000000 0 -40000000
 length tolerance 0 nm at c1
 angle tolerance 0 ppb at line S
 fault c9 turned drawn + placed -1
-$ 1000
+$ judged 1000
 sketch 1
 point A 0 0
 point B 40 0
@@ -378,11 +473,21 @@ line 0 1000000000 0
 line 1000000000 0 0
 line 0 -1000000000 25000000
 line -1000000000 0 40000000
-> 0
+> verdict well
+steps 6
+bits 38
+point A -40000000 0
+point B 0 0
+point C 0 -25000000
+point D -40000000 -25000000
+line S 0 1000000000 0
+line E 1000000000 0 0
+line N 0 -1000000000 25000000
+line W -1000000000 0 40000000
 length tolerance 0 nm at c1
 angle tolerance 0 ppb at line S
 fault c9 turned drawn + placed -1
-$ 8000000
+$ judged 8000000
 sketch 1
 line X 0 0 100 0
 line Y 5 0 85 60
@@ -395,57 +500,99 @@ at
 line 0 1000000000 0
 line 600000000 -800000000 3000000
 point 5000000 5000000
-> 0
+> verdict well
+steps 1
+bits 38
+line X 0 1000000000 0
+line Y 600000000 -800000000 3000000
+point H 5000000 5000000
 length tolerance 8000000 nm at c3
 angle tolerance 0 ppb at line X
 fault c1 turned drawn + placed -1
 ";
 
-/// The places of the lines, `point x y` or `line a b c`.
-pub(crate) fn places_of(alloc: Global, lines: &str) -> Result<Vec<At>, Fail> {
-    let mut places = Vec::new(alloc);
-    for line in lines.lines() {
-        places.push(place_of(words_of(alloc, line)?.as_slice())?)?;
-    }
-    Ok(places)
+/// A drawing, its graph and its plan, and where its elements lie.
+#[derive(Drop)]
+pub(crate) struct Laid {
+    pub sketch: Sketch,
+    pub graph: Graph,
+    pub plan: Plan,
+    pub at: Placed,
 }
 
-fn place_of(words: &[&str]) -> Result<At, Fail> {
-    match words {
-        ["point", x, y] => Ok(At::Point {
-            x: x.parse::<i64>()?,
-            y: y.parse::<i64>()?,
-        }),
-        ["line", a, b, c] => Ok(At::Line {
-            a: a.parse::<i64>()?,
-            b: b.parse::<i64>()?,
-            c: c.parse::<i64>()?,
-        }),
-        _ => Err(Fail::from("a place")),
+/// The drawing of a row with its elements at the places of the row.
+pub(crate) fn lay(rt: &impl Abort, alloc: Global, text: &str) -> Laid
+    ensures sketch { IsSoundSketch result.sketch }
+    ensures legal { IsLegalPlan (graph_of result.sketch) result.plan }
+    ensures lies { PlacesExactly (graph_of result.sketch) result.at }
+    ensures graph { IsSoundGraph result.graph }
+    ensures placed { PlacesExactly result.graph result.at }
+{
+    let (text, places) = text.split_once("at\n").expect(rt, "places");
+    let sketch = sketch_of(rt, alloc, text);
+    let graph = reduce(alloc, &sketch).expect(rt, "memory");
+    let plan = planned(rt, alloc, &sketch);
+    let places = places_of(rt, alloc, places);
+    let at = placed(rt, alloc, &graph, places.as_slice());
+    Laid {
+        sketch,
+        graph,
+        plan,
+        at,
     }
+}
+
+/// The places of the lines, `point x y` or `line a b c`.
+fn places_of(rt: &impl Abort, alloc: Global, lines: &str) -> Vec<At> {
+    let mut places = Vec::new(alloc);
+    for line in lines.lines() {
+        places.push(place_of(rt, line)).expect(rt, "memory");
+    }
+    places
+}
+
+fn place_of(rt: &impl Abort, line: &str) -> At {
+    let (kind, rest) = line.split_once(' ').expect(rt, "a kind");
+    let (first, rest) = rest.split_once(' ').expect(rt, "two numbers");
+    let first = number(rt, first);
+    match rest.split_once(' ') {
+        Some((b, c)) if kind == "line" => At::Line {
+            a: first,
+            b: number(rt, b),
+            c: number(rt, c),
+        },
+        None if kind == "point" => At::Point {
+            x: first,
+            y: number(rt, rest),
+        },
+        _ => panic!(rt; "a place"),
+    }
+}
+
+fn number(rt: &impl Abort, text: &str) -> i64 {
+    text.parse::<i64>().expect(rt, "a number")
 }
 
 /// Places the nodes of the graph one by one.
-pub(crate) fn placed(alloc: Global, graph: &Graph, places: &[At]) -> Result<Placed, Fail>
+fn placed(rt: &impl Abort, alloc: Global, graph: &Graph, places: &[At]) -> Placed
     requires { IsSoundGraph graph.now }
-    ensures exactly { IfOk result (λ p. PlacesExactly graph.now p) }
-    ensures in_order { IfOk result (λ p. AreSpotsOf graph.now.nodes p.spots) }
+    ensures exactly { PlacesExactly graph.now result }
+    ensures in_order { AreSpotsOf graph.now.nodes result.spots }
 {
     let nodes = graph.nodes.as_slice();
-    if places.len() != nodes.len() {
-        return Err(Fail::from("a place for each element"));
-    }
+    assert!(rt; places.len() == nodes.len(), "a place for each element");
     let mut spots = List::new(alloc);
     for i in 0..nodes.len() {
         if !is_place(nodes[i].kind, places[i]) {
-            return Err(Fail::from("a place of another kind"));
+            panic!(rt; "a place of another kind");
         }
-        spots.push(Spot {
+        let spot = Spot {
             elem: nodes[i].elem,
             at: places[i],
-        })?;
+        };
+        spots.push(spot).expect(rt, "memory");
     }
-    Ok(Placed { spots })
+    Placed { spots }
 }
 
 /// Whether the place is of that kind, and within the bounds.
@@ -472,81 +619,57 @@ fn is_part(part: i64) -> bool
     -2_000_000_000 <= part && part <= 2_000_000_000
 }
 
-/// The report on the drawing that is placed there, what is first beyond the limit, and the first turned sign.
-fn judged(alloc: Global, text: &str, places: &[At], limit: u64) -> Result<Text, Fail> {
-    let sketch = sketch_of(alloc, text)?;
-    let graph = reduce(alloc, &sketch)?;
-    let at = placed(alloc, &graph, places)?;
-    let plan = planned(alloc, &sketch)?;
-    let mut judged = solve_text(alloc, &sketch, &plan, 38, &at, &least(&at, &graph))?;
-    if let Some(beyond) = passed(&at, &graph, limit) {
-        judged.put(passed_text(alloc, &sketch, &beyond)?.as_bytes())?;
+/// The report on the drawing, what is first beyond the limit, and the first turned sign.
+pub(crate) fn judged(rt: &impl Abort, alloc: Global, text: &str, limit: &str) -> Text {
+    let laid = lay(rt, alloc, text);
+    let limit = limit.parse::<u64>().expect(rt, "a limit");
+    let tolerance = least(&laid.at, &laid.graph);
+    let (sketch, plan) = (&laid.sketch, &laid.plan);
+    let told = solve_text(alloc, sketch, plan, 38, &laid.at, &tolerance);
+    let mut told = told.expect(rt, "memory");
+    if let Some(beyond) = passed(&laid.at, &laid.graph, limit) {
+        let line = passed_text(alloc, sketch, &beyond).expect(rt, "memory");
+        told.put(line.as_bytes()).expect(rt, "memory");
     }
-    if let Some(turned) = first_turned(&at, &sketch, &plan) {
-        judged.put(turned_text(alloc, &turned)?.as_bytes())?;
+    if let Some(turned) = first_turned(&laid.at, sketch, plan) {
+        let line = turned_text(alloc, &turned).expect(rt, "memory");
+        told.put(line.as_bytes()).expect(rt, "memory");
     }
-    Ok(judged)
+    told
 }
 
-fn row_passes(rt: &impl Abort, alloc: Global, row: &str) -> Result<(), Fail> {
-    let (limit, rest) = row.split_once('\n').ok_or("a row without a sketch")?;
-    let (text, rest) = rest.split_once("at\n").ok_or("a row without places")?;
-    let (places, end) = rest.split_once("> 0\n").ok_or("a row without a report")?;
-    let places = places_of(alloc, places)?;
-    let judged = judged(alloc, text, places.as_slice(), limit.parse::<u64>()?)?;
-    assert!(rt; judged.as_bytes().ends_with(end.as_bytes()), "{row}");
-    Ok(())
-}
-
-#[test]
-fn drawings_have_their_tolerance_and_signs(rt: HostRuntime) -> Result<(), Fail> {
-    for table in [POINTS, LINES, WORST, TURNED] {
-        for row in table.split("$ ").skip(1) {
-            row_passes(&rt, rt.alloc(), row)?;
-        }
+/// Whether the edge, or behind all of them the block, at a place of the graph holds within a tolerance: both are told.
+pub(crate) fn held(rt: &impl Abort, alloc: Global, text: &str, numbers: &str) -> Text {
+    let laid = lay(rt, alloc, text);
+    let (place, tolerance) = numbers.split_once(' ').expect(rt, "a tolerance");
+    let place = place.parse::<usize>().expect(rt, "a place");
+    let tolerance = tolerance.parse::<u64>().expect(rt, "a tolerance");
+    let mut told = Text::new(alloc);
+    if holds_at(&laid.at, &laid.graph, place, tolerance) {
+        told.put(b"holds\n").expect(rt, "memory");
     }
-    Ok(())
+    told
 }
 
-const EVEN_TRIANGLE: &str = "\
-sketch 1
-point A 0 0
-point B 10 0
-point C 5 8
-distance A B 10
-distance A C 10
-distance B C 10
-end
-";
-
-const EVEN_PLACES: &str = "\
-point 0 0
-point 10000000 0
-point 5000000 8660254
-";
-
-/// The first side is exact, and the second within 1.
-#[test]
-fn a_constraint_meets_its_tolerance(rt: HostRuntime) -> Result<(), Fail> {
-    assert!(rt; even_side_meets(rt.alloc(), 0, 0)?);
-    assert!(rt; !even_side_meets(rt.alloc(), 1, 0)?);
-    assert!(rt; even_side_meets(rt.alloc(), 1, 1)?);
-    Ok(())
-}
-
-/// Whether that side of the even triangle holds within `t`.
-fn even_side_meets(alloc: Global, i: usize, t: u64) -> Result<bool, Fail>
-    requires { t ≤ 2 ^ 62 }
+/// Whether what stands at place `i` holds within `t`.
+fn holds_at(at: &Placed, graph: &Graph, i: usize, t: u64) -> bool
+    requires sound { IsSoundGraph graph.now }
+    requires placed { PlacesExactly graph.now at.now }
 {
-    let graph = reduce(alloc, &sketch_of(alloc, EVEN_TRIANGLE)?)?;
-    let at = placed(alloc, &graph, places_of(alloc, EVEN_PLACES)?.as_slice())?;
-    if i >= graph.edges.len() {
-        return Err(Fail::from("a side"));
+    let edges = graph.edges.len();
+    if t > MOST {
+        return false;
     }
-    Ok(edge_meets(&at, &graph, i, t))
+    if i < edges {
+        return edge_meets(at, graph, i, t);
+    }
+    i - edges < graph.blocks.len() && block_meets(at, graph, i - edges, t)
 }
 
-/// Whether the constraint at place `i` holds within `t`.
+/// The most that a tolerance may be.
+const MOST: u64 = 4_611_686_018_427_387_904;
+
+/// Whether the edge at place `i` holds within `t`.
 fn edge_meets(at: &Placed, graph: &Graph, i: usize, t: u64) -> bool
     requires sound { IsSoundGraph graph.now }
     requires placed { PlacesExactly graph.now at.now }
@@ -554,4 +677,14 @@ fn edge_meets(at: &Placed, graph: &Graph, i: usize, t: u64) -> bool
     requires few { t ≤ 2 ^ 62 }
 {
     meets(at, &graph.edges.as_slice()[i], t, 0)
+}
+
+/// Whether the block at place `i` holds within `t`.
+fn block_meets(at: &Placed, graph: &Graph, i: usize, t: u64) -> bool
+    requires sound { IsSoundGraph graph.now }
+    requires placed { PlacesExactly graph.now at.now }
+    requires inside { i < length graph.now.blocks }
+    requires few { t ≤ 2 ^ 62 }
+{
+    meets_block(at, &graph.blocks.as_slice()[i], t)
 }

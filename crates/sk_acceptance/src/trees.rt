@@ -3,13 +3,60 @@ ghost use Rattle.std.specs.Prelude.{◌<◌, ◌^◌};
 ghost use Rattle.sk_tree.specs.Trees.{step_count};
 
 use crate::calls::{planned, sketch_of};
-use sk_base::{ConId, List};
+use sk_base::{ConId, List, Text};
 use sk_plan::plan_tree;
 use sk_tree::{Tree, build, height, leaf_tree, leaves, steps};
 use std::alloc::Global;
-use std::test::Fail;
+use std::process::Abort;
 
-const RECTANGLE: &str = "\
+/// The tree's leaves from left to right, how many joins it has, and how many of them stand above one another.
+fn told(rt: &impl Abort, alloc: Global, tree: &Tree) -> Text
+    requires { step_count tree.now < 2 ^ 32 }
+{
+    let leaves = leaves(alloc, tree).expect(rt, "memory");
+    let mut text = Text::new(alloc);
+    text.put(b"leaves").expect(rt, "memory");
+    for leaf in leaves.as_slice() {
+        let number = leaf.0;
+        let word = format!(in alloc; " {number}").expect(rt, "memory");
+        text.put(word.as_bytes()).expect(rt, "memory");
+    }
+    let (joins, high) = (steps(tree), height(tree));
+    let end = format!(in alloc; " joins {joins} height {high}\n").expect(rt, "memory");
+    text.put(end.as_bytes()).expect(rt, "memory");
+    text
+}
+
+/// The tree of the drawing's plan.
+pub(crate) fn tree_told(rt: &impl Abort, alloc: Global, text: &str) -> Text {
+    let sketch = sketch_of(rt, alloc, text);
+    let plan = planned(rt, alloc, &sketch);
+    match plan_tree(alloc, &plan).expect(rt, "memory") {
+        Some(tree) => told(rt, alloc, &tree),
+        None => Text::new(alloc),
+    }
+}
+
+/// The tree of a constraint alone; of no merge there is none.
+pub(crate) fn leaf_told(rt: &impl Abort, alloc: Global) -> Text {
+    match build(alloc, &List::new(alloc)).expect(rt, "memory") {
+        Some(_) => panic!(rt; "a tree of no merge"),
+        None => told(rt, alloc, &leaf_tree(ConId(7))),
+    }
+}
+
+/// The rectangle's plan has six joins, four of them above one another, and each constraint once.
+pub const TREES: &str = "
+$ leaf
+> leaves 7 joins 0 height 0
+$ tree
+sketch 1
+point A 0 0
+point B 1 0
+distance A B 2.50
+end
+> leaves 1 joins 0 height 0
+$ tree
 sketch 1
 point A 0 0
 point B 40 0
@@ -33,51 +80,9 @@ angle N W 1/0
 distance A B 40
 distance B C 25
 end
-";
-
-/// The tree's leaves from left to right, how many joins it has, and how many of them stand above one another.
-fn told(alloc: Global, tree: &Tree) -> Result<String, Fail>
-    requires { step_count tree.now < 2 ^ 32 }
-{
-    let mut text = String::from_str(alloc, "leaves")?;
-    for leaf in leaves(alloc, tree)?.as_slice() {
-        let number = leaf.0;
-        text.push_str(format!(in alloc; " {number}")?.as_str())?;
-    }
-    let (joins, high) = (steps(tree), height(tree));
-    text.push_str(format!(in alloc; " joins {joins} height {high}")?.as_str())?;
-    Ok(text)
-}
-
-/// The tree of the drawing's plan.
-fn planned_as(alloc: Global, text: &str) -> Result<String, Fail> {
-    let plan = planned(alloc, &sketch_of(alloc, text)?)?;
-    match plan_tree(alloc, &plan)? {
-        Some(tree) => told(alloc, &tree),
-        None => Ok(String::from_str(alloc, "no tree")?),
-    }
-}
-
-/// The rectangle's plan has six joins, four of them above one another, and each constraint once.
-const RECTANGLE_TREE: &str = "leaves 9 4 3 12 1 10 6 5 13 11 8 7 2 joins 6 height 4";
-
-#[test]
-fn plans_are_trees(rt: HostRuntime) -> Result<(), Fail> {
-    let alloc = rt.alloc();
-    let (point, pair) = (
-        "sketch 1\npoint A 7 7\nend\n",
-        "sketch 1\npoint A 0 0\npoint B 1 0\ndistance A B 2.50\nend\n",
-    );
-    assert!(rt; build(alloc, &List::new(alloc))?.is_none());
-    assert_eq!(rt;
-        told(alloc, &leaf_tree(ConId(7)))?.as_str(),
-        "leaves 7 joins 0 height 0"
-    );
-    assert_eq!(rt; planned_as(alloc, point)?.as_str(), "no tree");
-    assert_eq!(rt;
-        planned_as(alloc, pair)?.as_str(),
-        "leaves 1 joins 0 height 0"
-    );
-    assert_eq!(rt; planned_as(alloc, RECTANGLE)?.as_str(), RECTANGLE_TREE);
-    Ok(())
-}
+> leaves 9 4 3 12 1 10 6 5 13 11 8 7 2 joins 6 height 4
+$ tree
+sketch 1
+point A 7 7
+end
+> ";

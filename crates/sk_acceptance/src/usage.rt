@@ -1,105 +1,94 @@
 // Words that aren't of the form: no byte is read.
-use crate::row::answers_over;
-use std::alloc::Global;
-use std::process::Abort;
-use std::test::Fail;
+use crate::row::{answer_over, ending_of, ends};
 
 const USAGE: &str =
-    "usage: sketch check|plan|solve|dxf|offers|session|grow|migrate|verify|spare|flips|derive|parts|live|excess [order=first|last|0..65535] [bits=16|27|38] [within=1..1000000] [place=boxes|points] [frame=base|drawn] [n=3..1000]\n";
+    "2\nusage: sketch check|plan|solve|dxf|offers|session|grow|migrate|verify|spare|flips|derive|parts|live|excess [order=first|last|0..65535] [bits=16|27|38] [within=1..1000000] [place=boxes|points] [frame=base|drawn] [n=3..1000]\n";
 
-/// The words of a call on each line, between single spaces; the first line has one empty word.
+/// The words of a call on each line, each behind a blank; the first line has none, and the second one empty word.
 const NO_FORMS: &str = "
---help
---version
-check check
-check order=
-check order=+1
-check order=00
-check order=65536
-check order=first order=last
-check bits=16
-check within=5
-plan bits=38
-offers within=1
-solve bits=
-solve bits=20
-solve bits=038
-solve within=0
-solve within=1000001
-solve within=
-solve n=5
-solve place=
-solve place=point
-solve place=points place=points
-check place=boxes
-plan place=points
-offers place=points
-migrate place=points
-solve frame=
-solve frame=draw
-solve frame=drawn frame=drawn
-check frame=drawn
-spare frame=base
-verify place=boxes
-spare place=points
-derive place=points
-solve place=Points
-solve bits=38 within=5 bits=38
-solve order=first within=1000001
-grow
-grow n=2
-grow n=1001
-grow n=0003
-grow bits=16
-session n=3
-migrate migrate
-migrate order=first
-migrate bits=16
-migrate within=1
-migrate n=3
-verify verify
-verify order=first
-verify bits=16
-verify within=1
-verify n=3
-spare spare
-spare order=first
-spare bits=16
-spare within=1
-spare n=3
-flips flips
-flips order=
-flips order=00
-flips bits=20
-flips within=0
-flips n=3
-derive order=
-derive order=00
-derive order=first order=last
-derive bits=16
-derive within=1
-derive n=3
-parts parts
-parts order=00
-parts bits=20
-parts within=0
-parts n=3";
+\x20
+ --help
+ --version
+ check check
+ check order=
+ check order=+1
+ check order=00
+ check order=65536
+ check order=first order=last
+ check bits=16
+ check within=5
+ plan bits=38
+ offers within=1
+ solve bits=
+ solve bits=20
+ solve bits=038
+ solve within=0
+ solve within=1000001
+ solve within=
+ solve n=5
+ solve place=
+ solve place=point
+ solve place=points place=points
+ check place=boxes
+ plan place=points
+ offers place=points
+ migrate place=points
+ solve frame=
+ solve frame=draw
+ solve frame=drawn frame=drawn
+ check frame=drawn
+ spare frame=base
+ verify place=boxes
+ spare place=points
+ derive place=points
+ solve place=Points
+ solve bits=38 within=5 bits=38
+ solve order=first within=1000001
+ grow
+ grow n=2
+ grow n=1001
+ grow n=0003
+ grow bits=16
+ session n=3
+ migrate migrate
+ migrate order=first
+ migrate bits=16
+ migrate within=1
+ migrate n=3
+ verify verify
+ verify order=first
+ verify bits=16
+ verify within=1
+ verify n=3
+ spare spare
+ spare order=first
+ spare bits=16
+ spare within=1
+ spare n=3
+ flips flips
+ flips order=
+ flips order=00
+ flips bits=20
+ flips within=0
+ flips n=3
+ derive order=
+ derive order=00
+ derive order=first order=last
+ derive bits=16
+ derive within=1
+ derive n=3
+ parts parts
+ parts order=00
+ parts bits=20
+ parts within=0
+ parts n=3";
 
 /// The first read would fail, so a call that reads would end with another status.
 #[test]
-fn other_words_get_the_usage_line(rt: HostRuntime) -> Result<(), Fail> {
-    is_usage(&rt, rt.alloc(), &[])?;
-    for line in NO_FORMS.split("\n") {
-        let mut words = Vec::new(rt.alloc());
-        for word in line.split(" ") {
-            words.push(word)?;
-        }
-        is_usage(&rt, rt.alloc(), words.as_slice())?;
-    }
-    Ok(())
-}
-
-fn is_usage(rt: &impl Abort, alloc: Global, words: &[&str]) -> Result<(), Fail> {
+fn other_words_get_the_usage_line(rt: HostRuntime) {
     let failing = (b"end\n".as_slice(), [1].as_slice());
-    answers_over(rt, alloc, words, failing, (1000, &[]), 2, USAGE.as_bytes())
+    for line in NO_FORMS.split('\n') {
+        let (status, sink) = answer_over(&rt, rt.alloc(), line, failing, (1000, &[]));
+        ends(&rt, line, (status, sink.written()), ending_of(&rt, USAGE));
+    }
 }

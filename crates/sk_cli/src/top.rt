@@ -57,7 +57,7 @@ pub fn run<S: Source, K: Sink>(
     ensures untouched { (AskForInput (map string_bytes words.now) → ⊥) → source.new ≡ source.old }
 
     // `live` takes no byte beyond the one that is too many, and no more than 4,095 bytes behind the line that ends the
-    // session. But where a write failed, a sink that held nothing back before holds nothing back then.
+    // session. Except where a write failed, a sink that held nothing back before holds nothing back then.
     ensures live_taken { AskForLive (map string_bytes words.now) → (request : Request) × (gained : List ℕ) × Asks (map string_bytes words.now) request
         × Appends (K.written sink.old) (K.written sink.new) gained × LiveTakes request result (S.left source.old) (S.left source.new) gained }
     ensures live_few { AskForLive (map string_bytes words.now) → TakesAtMost 4294967296 (S.left source.old) (S.left source.new) }

@@ -1,5 +1,5 @@
 -- Renaming a class for another whose lines are tied to it keeps what classes tell.
-use Rattle.std.proofs.Common.{◌≡◌, ◌⊎◌, inl, inr, ℕ, ◌+◌, ◌<◌, List, ap, sym, subst, ◌∙◌, arith, take, length, get_or}
+use Rattle.std.proofs.Common.{◌≡◌, ◌⊎◌, inl, inr, ℕ, ◌+◌, ◌<◌, List, sym, subst, ◌∙◌, arith, take, length, get_or}
 use Rattle.std.specs.Prelude.{◌++◌, drop}
 use Rattle.std.proofs.Math.Seq.{take-append_seam}
 use Rattle.sk_base.specs.declared.Elem.{Elem}
@@ -98,22 +98,3 @@ alone_more nodes i d i_in old new alone adds e =
         | inr (not_before, is) ↦ inr ((λ h. elim (more.0 h) [ inl before ↦ not_before before | inr here ↦ not_here here ]), stays ∙ is)
       ]
     ]
-
--- lines that are each alone tell the ties of no chain
-pub alone_tells : (g : Graph) (f : List Body) (classes : List ℕ) → AreAlone g.nodes classes → TellTies g f classes
-alone_tells g f classes alone = record {
-  lines = λ e. elim (alone e) [
-    | inl (line, is) ↦ ((λ h. line), (λ h. omega arith))
-    | inr (no_line, is) ↦ ((λ h. absurd (omega arith)), (λ h. absurd (no_line h)))
-  ];
-  tied = λ l m some same. elim (alone l) [
-    | inr (no_line, is) ↦ absurd (omega arith)
-    | inl (l_line, l_is) ↦ elim (alone m) [
-      | inr (no_line, is) ↦ absurd (omega arith)
-      | inl (m_line, m_is) ↦ inl (same_number l m (omega arith))
-    ]
-  ];
-}
-  where
-    same_number : (l m : Elem) → l.0 ≡ m.0 → l ≡ m
-    same_number l m e = let make : ℕ → Elem = λ n. record { 0 = n } in ap make e

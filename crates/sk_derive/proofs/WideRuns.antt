@@ -1,20 +1,17 @@
 -- Runs by the three rules that go on, and merges by the tie rule as steps.
-use Rattle.std.proofs.Common.{◌≡◌, ◌≢◌, inl, inr, refl, ℕ, ◌+◌, ◌<◌, ◌≤◌, ◌==◌, true, List, [], ◌∷◌, ◌++◌, ap, sym, subst, ◌∙◌, length, arith, length-append}
+use Rattle.std.proofs.Common.{◌≡◌, ◌≢◌, inl, inr, refl, ℕ, ◌+◌, ◌<◌, ◌==◌, true, List, [], ◌∷◌, ◌++◌, ap, sym, subst, ◌∙◌, length, arith, length-append}
 use Rattle.std.specs.Prelude.{Contains, map, slice_get, Some}
 use Rattle.std.proofs.lemmas.Bool.Decides.{nat_tests}
-use Rattle.std.proofs.lemmas.List.{length-map}
 use Rattle.std.proofs.lemmas.List.Elements.{All-nil, All-cons}
 use Rattle.sk_base.specs.declared.Name.{Name}
 use Rattle.sk_base.specs.declared.Name.TheVariants.{Step as StepName}
 use Rattle.sk_base.specs.declared.Elem.{Elem}
 use Rattle.sk_base.specs.declared.Graph.{Graph}
-use Rattle.sk_base.specs.SoundGraph.{HasRisingEdges}
 use Rattle.sk_base.proofs.Members.{contains_none, contains_cases, contains_head, contains_later, contains_one, mapped_from}
 use Rattle.sk_base.proofs.Pairs.{pairs_none, pairs_cons, pairs_tell}
 use Rattle.sk_family.specs.declared.Cluster.{Cluster}
-use Rattle.sk_family.specs.Body.{Body, Start, starts}
-use Rattle.sk_family.specs.Clusters.{Clusters, body_of, bodies, named, unnamed, whole_from, CanBeReplaced, IsLive, IsNamed, IsSound, ByName, initial_clusters, start_of}
-use Rattle.sk_family.proofs.GraphStarts.{starts_few}
+use Rattle.sk_family.specs.Body.{Body}
+use Rattle.sk_family.specs.Clusters.{Clusters, body_of, bodies, named, unnamed, whole_from, CanBeReplaced, IsLive, IsNamed, IsSound, ByName}
 use Rattle.sk_family.proofs.Naming.{below_differs, one_of_name}
 use Rattle.sk_rules.specs.declared.merge.Merge.{Merge}
 use Rattle.sk_rules.specs.declared.merge.Merge.TheVariants.{Two, Three}
@@ -165,11 +162,3 @@ no_length (x ∷ xs) h = absurd (omega arith)
 
 pub empty_list : {X : Type 0} (xs : List X) → (length xs == 0) ≡ true → xs ≡ []
 empty_list xs h = no_length xs (length_told (length xs) h)
-
-map_length : (ss : List Start) → length (map start_of ss) ≡ length ss
-map_length ss = simp length-map
-
-pub initial_room : (g : Graph) (f : Clusters) → f ≡ initial_clusters g → HasRisingEdges g → length g.edges + length g.blocks ≤ 4000 → f.next_step + length f.live ≤ 4294967296
-initial_room g f is rise few =
-    subst (λ (h : Clusters). h.next_step + length h.live ≤ 4294967296) (sym is)
-    (let same = map_length (starts g) in let most = starts_few g rise in omega (arith, same, most, few))

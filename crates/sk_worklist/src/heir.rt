@@ -116,7 +116,7 @@ fn add_if_missing(elem: Elem, many: &[Elem], all: &mut List<Elem>) -> Result<(),
 }
 
 /// Adds what the clusters of the merge have and the one of the name hasn't. Answers whether that was
-/// done.
+/// done: it isn't where one of them doesn't live, or where memory is wanting.
 pub(crate) fn add_fresh(family: &Family, merge: Merge, name: Name, fresh: &mut List<Elem>) -> bool
     ensures live { IsTrue result → All (λ n. IsLive family.now n) (names_of merge) }
     ensures on { IsTrue result → IsFreshOn family.now (names_of merge) name fresh.old fresh.new }

@@ -11,7 +11,7 @@ use Rattle.sk_holding.proofs.Placings.{any_node}
 use Rattle.sk_acceptance.proofs.tolerances.placed.Goals as goal
 
 pub loop-i-preserved : goal.loop-i-preserved
-loop-i-preserved c =
+loop-i-preserved g c =
     let nodes : List Node = c.as_slice-nodes.result.now in
     let n : Node = get_or nodes c.loop-i.i any_node in
     let at : At = get_or c.args.places.now c.loop-i.i (Point (pos 0) (pos 0)) in
@@ -19,14 +19,14 @@ loop-i-preserved c =
     let passes : c.is_place.result ≡ true = first_of (search (rules, c.if-not-is_place.false), grind (arith, common_steps, c.if-not-is_place.false)) in
     let more : AreSpotsOf (take c.loop-i.i nodes ++ n ∷ []) (c.loop-i.spots ++ spot ∷ []) =
     spots_more (take c.loop-i.i nodes) c.loop-i.spots n spot c.loop-i.invariant (record { elem = refl; has_kind = c.is_place.ensures.kind passes; bounded = c.is_place.ensures.bounded passes }) in
-    rw (c.in_ok-push.ensures.ok, take_more nodes c.loop-i.i any_node (omega arith)) more
+    rw (rw c.expect.ensures at c.push.ensures.ok, take_more nodes c.loop-i.i any_node (omega arith)) more
 
 pub returns-clause-exactly : goal.returns-clause-exactly
-returns-clause-exactly c =
+returns-clause-exactly g c =
     let all : AreSpotsOf c.as_slice-nodes.result.now c.loop-i.spots = subst (λ (xs : List Node). AreSpotsOf xs c.loop-i.spots) (take_all c.loop-i.i c.as_slice-nodes.result.now (omega arith)) c.loop-i.invariant in
     exactly_in_order c.args.graph.now (record { spots = c.loop-i.spots }) c.requires.nodes_rise (rw c.as_slice-nodes.ensures at all)
 
 pub returns-clause-in_order : goal.returns-clause-in_order
-returns-clause-in_order c =
+returns-clause-in_order g c =
     let all : AreSpotsOf c.as_slice-nodes.result.now c.loop-i.spots = subst (λ (xs : List Node). AreSpotsOf xs c.loop-i.spots) (take_all c.loop-i.i c.as_slice-nodes.result.now (omega arith)) c.loop-i.invariant in
     rw c.as_slice-nodes.ensures at all

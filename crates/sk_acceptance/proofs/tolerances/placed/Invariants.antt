@@ -4,4 +4,4 @@ use Rattle.sk_acceptance.proofs.tolerances.placed.Given as goal
 
 -- the spots so far are those of the nodes so far
 abbrev pub invariant-loop-i : goal.invariant-loop-i
-invariant-loop-i l = AreSpotsOf (take l.i l.nodes) l.spots
+invariant-loop-i g l = AreSpotsOf (take l.i l.nodes) l.spots

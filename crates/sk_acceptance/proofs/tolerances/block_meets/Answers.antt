@@ -3,7 +3,7 @@ use Rattle.std.specs.Prelude.{Contains}
 use Rattle.std.proofs.lemmas.List.Elements.{Contains-get_or}
 use Rattle.sk_base.specs.declared.Block.{Block}
 use Rattle.sk_holding.proofs.Placings.{block_measurable}
-use Rattle.sk_acceptance.proofs.blocks.block_meets.Goals as goal
+use Rattle.sk_acceptance.proofs.tolerances.block_meets.Goals as goal
 
 block_inside : (c : goal.After-index-as_slice-i) → Contains c.args.graph.now.blocks c.index-as_slice-i.result
 block_inside c =
