@@ -1,11 +1,10 @@
 -- What a union holds, that it rises, and that rising lists with the same items are the same.
-use Rattle.std.proofs.Common.{◌≡◌, ◌≢◌, ◌⊎◌, inl, inr, ℕ, zero, suc, ◌+◌, ◌<◌, ◌≤◌, List, [], ◌∷◌, ◌++◌, length, get_or, ap, sym, subst, ◌∙◌, arith}
+use Rattle.std.proofs.Common.{◌≡◌, ◌≢◌, ◌⊎◌, inl, inr, ℕ, zero, suc, ◌+◌, ◌<◌, ◌≤◌, List, [], ◌∷◌, ◌++◌, length, get_or, ap, sym, subst, ◌∙◌, arith, take, drop, append_assoc, add-one, drop-cons, ◌-◌}
 use Rattle.std.specs.Prelude.{Contains, AllPairs}
 use Rattle.std.proofs.lemmas.Bool.Decides.{nat_tests}
 use Rattle.sk_base.specs.Rising.{IsRising, put, union}
 use Rattle.sk_base.proofs.Members.{contains_none, contains_head, contains_later, contains_cases}
 use Rattle.sk_base.proofs.Pairs.{pairs_none, pairs_tail, pairs_head, pairs_cons, pairs_same}
-use Rattle.std.proofs.Common.{take, drop, append_assoc, add-one, drop-cons, ◌-◌}
 use Rattle.std.proofs.lemmas.List.{drop_all, take_all, append-nil, length-drop}
 
 module _ {X : Type 0} (number : X → ℕ) where

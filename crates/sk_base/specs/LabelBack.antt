@@ -1,8 +1,7 @@
 -- A label gives its fields back.
 use Rattle.std.proofs.Common.{◌≡◌, ℕ, ◌-◌, ◌≤◌, List, ◌++◌, length, take, drop, replicate, IsTrue, refl, sym, arith, length-append}
-use Rattle.std.proofs.lemmas.List.{length-take-le, drop-replicate}
+use Rattle.std.proofs.lemmas.List.{length-take-le, drop-replicate, length-replicate}
 use Rattle.std.proofs.Math.Seq.{take-append_seam}
-use Rattle.std.proofs.lemmas.List.{length-replicate}
 use Rattle.sk_base.specs.Labels.{is_name}
 use Rattle.sk_base.specs.Padded.{IsPaddedName}
 use Rattle.sk_base.specs.declared.label.Label.TheInside.{Inside}

@@ -17,7 +17,7 @@ use Rattle.sk_family.specs.declared.Cluster.{Cluster}
 use Rattle.sk_family.specs.Body.{Start, starts}
 use Rattle.sk_family.specs.Clusters.{Clusters, IsNamed, initial_clusters, start_of, unnamed, whole_from}
 use Rattle.sk_graph.specs.SketchGraph.{graph_of, node_of}
-use Rattle.sk_rules.specs.Merges.{names_of}
+use Rattle.sk_family.specs.Merges.{names_of}
 use Rattle.sk_tree.specs.declared.Choice.{Choice}
 use Rattle.sk_tree.specs.declared.Choice.TheVariants.{Turn, Advance, Nothing}
 use Rattle.sk_tree.specs.declared.Plan.{Plan}

@@ -5,9 +5,10 @@ use Rattle.std.proofs.lemmas.List.Elements.{All-nil, All-cons, All-head, All-tai
 use Rattle.sk_base.specs.declared.Name.{Name}
 use Rattle.sk_base.specs.declared.Graph.{Graph}
 use Rattle.sk_family.specs.Clusters.{Clusters, IsLive}
-use Rattle.sk_rules.specs.declared.Merge.{Merge}
-use Rattle.sk_rules.specs.declared.Merge.TheVariants.{Two, Three}
-use Rattle.sk_rules.specs.Merges.{Holds, names_of, merged}
+use Rattle.sk_family.specs.declared.Merge.{Merge}
+use Rattle.sk_family.specs.declared.Merge.TheVariants.{Two, Three}
+use Rattle.sk_rules.specs.Merges.{Holds, merged}
+use Rattle.sk_family.specs.Merges.{names_of}
 use Rattle.sk_offers.specs.declared.Answer.{Answer}
 use Rattle.sk_offers.specs.declared.Answer.TheVariants.{Taken, Stale, Idle}
 use Rattle.sk_offers.specs.Offering.{Table, IsFirstStale, IsAnswer, Follows}

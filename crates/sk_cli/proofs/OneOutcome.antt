@@ -1,6 +1,6 @@
 -- Words and an input have one outcome at most.
 use Rattle.std.proofs.Common.{◌≡◌, ◌⊎◌, inl, inr, ℕ, ◌+◌, ◌<◌, ◌≤◌, List, [], ◌∷◌, ◌++◌, length, refl, sym, ap, ◌∙◌, subst, arith, append_assoc}
-use Rattle.std.specs.Prelude.{take, drop}
+use Rattle.std.specs.Prelude.{take, drop, ◌==◌, Bool, ℤ, Option}
 use Rattle.sk_base.specs.declared.ConId.{ConId}
 use Rattle.sk_base.specs.declared.Constraint.{Constraint}
 use Rattle.sk_base.specs.declared.Placed.{Placed}
@@ -10,7 +10,6 @@ use Rattle.sk_cli.specs.Solved.{IsPlacedPlan}
 use Rattle.sk_base.specs.Numbering.{con_exact}
 use Rattle.sk_base.proofs.Finding.{found_in}
 use Rattle.std.proofs.lemmas.Bool.Decides.{nat_tests}
-use Rattle.std.specs.Prelude.{◌==◌, Bool, ℤ, Option}
 use Rattle.sk_residual.specs.declared.OffBy.{OffBy}
 use Rattle.sk_residual.specs.declared.Turned.{Turned}
 use Rattle.sk_residual.specs.Offs.{HasNumber}

@@ -6,8 +6,9 @@ use Rattle.sk_base.specs.declared.Name.{Name}
 use Rattle.sk_base.specs.declared.Name.TheVariants.{Step}
 use Rattle.sk_base.specs.declared.Graph.{Graph}
 use Rattle.sk_family.specs.Clusters.{Clusters, IsLive}
-use Rattle.sk_rules.specs.declared.Merge.{Merge}
-use Rattle.sk_rules.specs.Merges.{Falls, names_of, merged}
+use Rattle.sk_family.specs.declared.Merge.{Merge}
+use Rattle.sk_family.specs.Merges.{Falls, names_of}
+use Rattle.sk_rules.specs.Merges.{merged}
 use Rattle.sk_offers.specs.declared.Answer.{Answer}
 use Rattle.sk_offers.specs.declared.Answer.TheVariants.{Taken, Stale, Idle}
 use Rattle.sk_offers.specs.Offering.{Table, IsFirstStale, IsAnswer, Follows}

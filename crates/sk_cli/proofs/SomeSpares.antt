@@ -10,7 +10,7 @@ use Rattle.sk_base.specs.Numbering.{con_exact, con_number}
 use Rattle.sk_base.proofs.Members.{contains_mapped}
 use Rattle.sk_family.specs.Body.{Body, Start, starts}
 use Rattle.sk_family.specs.Clusters.{bodies}
-use Rattle.sk_base.proofs.Deciding.{elem_settles, con_settles}
+use Rattle.sk_base.proofs.Deciding.{elem_settles, con_settles, Decided, all_decided, is_in, moved, some_in}
 use Rattle.sk_rules.specs.Reach.{IsNormal}
 use Rattle.sk_rules.proofs.Counting.{reached_tight}
 use Rattle.sk_rules.proofs.NormalForm.{normal_same}
@@ -20,7 +20,6 @@ use Rattle.sk_spare.specs.Sparing.{AreSpares, HoldsAll, IsOwner, IsSpare}
 use Rattle.sk_spare.specs.Trying.{trial_graph}
 use Rattle.sk_spare.proofs.Graphs.{sound_trial}
 use Rattle.sk_spare.proofs.LeavingOut.{trial_decides}
-use Rattle.sk_base.proofs.Deciding.{Decided, all_decided, is_in, moved, some_in}
 use Rattle.sk_base.proofs.Selecting.{number_tells, selected}
 use Rattle.sk_plan.proofs.SomePlans.{the_run, end_normal}
 

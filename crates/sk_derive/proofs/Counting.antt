@@ -11,9 +11,9 @@ use Rattle.sk_base.proofs.Members.{contains_none, contains_cases, contains_mappe
 use Rattle.sk_base.proofs.Pairs.{pairs_weaken}
 use Rattle.sk_family.specs.declared.Cluster.{Cluster}
 use Rattle.sk_family.specs.Clusters.{Clusters, IsSound}
-use Rattle.sk_rules.specs.declared.Merge.{Merge}
-use Rattle.sk_rules.specs.declared.Merge.TheVariants.{Two, Three}
-use Rattle.sk_rules.specs.Merges.{names_of}
+use Rattle.sk_family.specs.declared.Merge.{Merge}
+use Rattle.sk_family.specs.declared.Merge.TheVariants.{Two, Three}
+use Rattle.sk_family.specs.Merges.{names_of}
 use Rattle.sk_worklist.specs.Choices.{ComesFirst}
 use Rattle.sk_worklist.proofs.OneRun.{names_irreflexive}
 use Rattle.sk_derive.specs.WideChoices.{CanTakeByTie, AreTieMerges}

@@ -27,8 +27,8 @@ use Rattle.sk_base.proofs.Splits.{pairs_append}
 use Rattle.sk_family.specs.declared.Cluster.{Cluster}
 use Rattle.sk_family.specs.Body.{Body}
 use Rattle.sk_family.specs.Clusters.{Clusters, ByName, IsSound}
-use Rattle.sk_rules.specs.declared.Merge.{Merge}
-use Rattle.sk_rules.specs.declared.Merge.TheVariants.{Two, Three}
+use Rattle.sk_family.specs.declared.Merge.{Merge}
+use Rattle.sk_family.specs.declared.Merge.TheVariants.{Two, Three}
 use Rattle.sk_worklist.specs.Choices.{ComesFirst}
 use Rattle.sk_index.proofs.Fronts.{front_more, front_all, front_before}
 use Rattle.sk_derive.specs.Ties.{AreTied, itself, further, HaveTiedLines}

@@ -15,15 +15,15 @@ use Rattle.sk_family.specs.Body.{Body}
 use Rattle.sk_family.specs.Clusters.{Clusters, IsNamed, IsSound, bodies, body_of, made_of, named, unnamed, whole_from}
 use Rattle.sk_family.proofs.Bodies.{holder_of}
 use Rattle.sk_family.proofs.Naming.{among_named, named_among, unnamed_true, not_named, one_of_name, below_asymmetric}
-use Rattle.sk_rules.specs.declared.Merge.{Merge}
-use Rattle.sk_rules.specs.declared.Merge.TheVariants.{Two, Three}
+use Rattle.sk_family.specs.declared.Merge.{Merge}
+use Rattle.sk_family.specs.declared.Merge.TheVariants.{Two, Three}
 use Rattle.sk_rules.specs.Merges.{merged}
 use Rattle.sk_rules.specs.Reach.{stays, goes}
 use Rattle.sk_rules.proofs.Merging.{replaced_replaces}
 use Rattle.sk_rules.proofs.NormalForm.{IsCovered, covers_by}
 use Rattle.sk_worklist.specs.Choices.{ComesFirst}
 use Rattle.sk_worklist.specs.Known.{names_one_of, avoiding}
-use Rattle.sk_worklist.proofs.Mending.{live_below_next}
+use Rattle.sk_family.proofs.Lasting.{live_below_next}
 use Rattle.sk_derive.specs.Ties.{AreTied, itself, HaveTiedLines, SharesPoint, MeetsByTie, wide_rule}
 use Rattle.sk_derive.specs.Classes.{class_of, AreClasses}
 use Rattle.sk_derive.specs.WideChoices.{CanTakeByTie, AreTieMerges}

@@ -3,8 +3,8 @@ use Rattle.std.proofs.Common.{◌≡◌, inl, inr, List, []}
 use Rattle.sk_base.specs.declared.Graph.{Graph}
 use Rattle.sk_base.proofs.Pairs.{pairs_same}
 use Rattle.sk_family.specs.Clusters.{Clusters}
-use Rattle.sk_rules.specs.declared.Merge.{Merge}
-use Rattle.sk_rules.specs.Merges.{names_of}
+use Rattle.sk_family.specs.declared.Merge.{Merge}
+use Rattle.sk_family.specs.Merges.{names_of}
 use Rattle.sk_worklist.specs.Choices.{ComesFirst}
 use Rattle.sk_worklist.proofs.OneRun.{choices_are_one, names_irreflexive, names_asymmetric}
 use Rattle.sk_derive.specs.WideChoices.{AreTieMerges, AreWideChoices}

@@ -10,14 +10,15 @@ use Rattle.sk_base.proofs.Pairs.{pairs_none}
 use Rattle.sk_family.specs.declared.Cluster.{Cluster}
 use Rattle.sk_family.specs.Body.{Body, starts, initial_bodies}
 use Rattle.sk_family.specs.Clusters.{Clusters, IsNamed, IsSound, bodies, initial_clusters}
-use Rattle.sk_base.proofs.Deciding.{elem_settles}
+use Rattle.sk_base.proofs.Deciding.{elem_settles, Decided, both, either, is_in, moved, name_below, node_settles, some_in}
 use Rattle.sk_family.proofs.Bodies.{within_itself}
 use Rattle.sk_family.proofs.Soundness.{sound_initial, sound_replaced, starting_bodies}
-use Rattle.sk_rules.specs.declared.Merge.{Merge}
-use Rattle.sk_rules.specs.declared.Merge.TheVariants.{Two, Three}
-use Rattle.sk_rules.specs.Merges.{names_of, merged}
+use Rattle.sk_family.specs.declared.Merge.{Merge}
+use Rattle.sk_family.specs.declared.Merge.TheVariants.{Two, Three}
+use Rattle.sk_family.specs.Merges.{names_of}
+use Rattle.sk_rules.specs.Merges.{merged}
 use Rattle.sk_rules.specs.Reach.{stays, goes}
-use Rattle.sk_rules.specs.Rules.{IsLine}
+use Rattle.sk_family.specs.Rules.{IsLine}
 use Rattle.sk_rules.proofs.Merging.{can_be_replaced, merge_lessens, merge_steps}
 use Rattle.sk_worklist.specs.Choices.{AreChoices, ComesFirst}
 use Rattle.sk_worklist.proofs.Runs.{choice_can, none_closes}
@@ -27,7 +28,6 @@ use Rattle.sk_derive.specs.WideReach.{WideReach, WideStep, IsWideNormal}
 use Rattle.sk_derive.proofs.Tying.{tied_covered, tied_in_one, tied_on, tied_start}
 use Rattle.sk_derive.proofs.WideForm.{step_widens}
 use Rattle.sk_derive.proofs.WideRuns.{reach_by_on, tie_lessens, tie_replaced, tie_steps, wide_closed}
-use Rattle.sk_base.proofs.Deciding.{Decided, both, either, is_in, moved, name_below, node_settles, some_in}
 use Rattle.sk_rules.proofs.SettledRules.{line_decided, some_named}
 use Rattle.sk_worklist.proofs.SomeChoices.{names_listed, pairs, some_choices}
 

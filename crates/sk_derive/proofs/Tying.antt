@@ -4,7 +4,7 @@ use Rattle.std.specs.Prelude.{Contains}
 use Rattle.sk_base.specs.declared.Elem.{Elem}
 use Rattle.sk_base.specs.declared.Graph.{Graph}
 use Rattle.sk_family.specs.Body.{Body}
-use Rattle.sk_rules.specs.Rules.{IsLine}
+use Rattle.sk_family.specs.Rules.{IsLine}
 use Rattle.sk_rules.proofs.NormalForm.{IsCovered, shared_within}
 use Rattle.sk_family.proofs.Bodies.{Within}
 use Rattle.sk_derive.specs.Ties.{AreTied, itself, further, MeetsByTie}

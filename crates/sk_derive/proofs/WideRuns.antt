@@ -11,15 +11,15 @@ use Rattle.sk_base.proofs.Members.{contains_none, contains_cases, contains_head,
 use Rattle.sk_base.proofs.Pairs.{pairs_none, pairs_cons, pairs_tell}
 use Rattle.sk_family.specs.declared.Cluster.{Cluster}
 use Rattle.sk_family.specs.Body.{Body}
-use Rattle.sk_family.specs.Clusters.{Clusters, body_of, bodies, named, unnamed, whole_from, CanBeReplaced, IsLive, IsNamed, IsSound, ByName}
+use Rattle.sk_family.specs.Clusters.{Clusters, body_of, bodies, named, unnamed, whole_from, CanBeReplaced, IsLive, IsNamed, IsSound, ByName, HasElements}
 use Rattle.sk_family.proofs.Naming.{below_differs, one_of_name}
-use Rattle.sk_rules.specs.declared.merge.Merge.{Merge}
-use Rattle.sk_rules.specs.declared.merge.Merge.TheVariants.{Two, Three}
-use Rattle.sk_rules.specs.Merges.{names_of, merged}
+use Rattle.sk_family.specs.declared.Merge.{Merge}
+use Rattle.sk_family.specs.declared.Merge.TheVariants.{Two, Three}
+use Rattle.sk_family.specs.Merges.{names_of}
+use Rattle.sk_rules.specs.Merges.{merged}
 use Rattle.sk_rules.specs.Reach.{ReachBy, IsClosed, stays, goes}
 use Rattle.sk_rules.proofs.Merging.{replaced_replaces, named_among_bodies, bodies_differ, named_two, fewer_by}
 use Rattle.sk_worklist.specs.Choices.{AreChoices}
-use Rattle.sk_index.specs.Indexed.{HasElements}
 use Rattle.sk_worklist.specs.Run.{PicksLead}
 use Rattle.sk_index.proofs.Holding.{in_list}
 use Rattle.sk_derive.specs.Ties.{SharesPoint, MeetsByTie, CanMergeByTie}

@@ -5,7 +5,7 @@ use Rattle.sk_base.specs.declared.Node.{Node}
 use Rattle.sk_base.specs.declared.Kind.TheVariants.{Line}
 use Rattle.sk_base.specs.declared.Graph.{Graph}
 use Rattle.sk_family.specs.Body.{Body}
-use Rattle.sk_rules.specs.Rules.{IsLine}
+use Rattle.sk_family.specs.Rules.{IsLine}
 use Rattle.sk_derive.specs.Ties.{AreTied}
 
 -- the number of the element's class, 0 where it has none

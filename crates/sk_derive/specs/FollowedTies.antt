@@ -3,7 +3,7 @@ use Rattle.std.specs.Prelude.{◌≡◌, ℕ, List, [], Option, None, Some, AllP
 use Rattle.sk_base.specs.declared.Graph.{Graph}
 use Rattle.sk_family.specs.declared.Cluster.{Cluster}
 use Rattle.sk_family.specs.Clusters.{Clusters, IsSound, bodies}
-use Rattle.sk_rules.specs.declared.Merge.{Merge}
+use Rattle.sk_family.specs.declared.Merge.{Merge}
 use Rattle.sk_rules.specs.Merges.{merged}
 use Rattle.sk_worklist.specs.Choices.{ComesFirst}
 use Rattle.sk_index.specs.Indexed.{IsLast}

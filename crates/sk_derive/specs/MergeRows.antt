@@ -2,8 +2,8 @@
 use Rattle.std.specs.Prelude.{List, filter, map, not}
 use Rattle.sk_base.specs.declared.Name.{Name}
 use Rattle.sk_base.specs.ClusterNames.{is_named}
-use Rattle.sk_rules.specs.declared.Merge.{Merge}
-use Rattle.sk_rules.specs.declared.Merge.TheVariants.{Two}
+use Rattle.sk_family.specs.declared.Merge.{Merge}
+use Rattle.sk_family.specs.declared.Merge.TheVariants.{Two}
 use Rattle.sk_derive.specs.declared.pairs.Partners.{Partners}
 
 -- the merges of the cluster with each of these

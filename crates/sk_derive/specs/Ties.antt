@@ -5,7 +5,7 @@ use Rattle.sk_base.specs.declared.Kind.TheVariants.{Point}
 use Rattle.sk_base.specs.declared.Graph.{Graph}
 use Rattle.sk_base.specs.SoundGraph.{HasNode}
 use Rattle.sk_family.specs.Body.{Body}
-use Rattle.sk_rules.specs.Rules.{IsLine, IsShared}
+use Rattle.sk_family.specs.Rules.{IsLine, IsShared}
 use Rattle.sk_rules.specs.Reach.{CanMerge}
 
 -- a chain of lines leads from the one to the other, and each two neighbours of it lie in one body of

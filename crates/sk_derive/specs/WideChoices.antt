@@ -3,9 +3,9 @@ use Rattle.std.specs.Prelude.{◌≢◌, ◌↔◌, ◌⊎◌, List, [], Contain
 use Rattle.sk_base.specs.declared.Graph.{Graph}
 use Rattle.sk_family.specs.declared.Cluster.{Cluster}
 use Rattle.sk_family.specs.Clusters.{Clusters, IsNamed, bodies}
-use Rattle.sk_rules.specs.declared.Merge.{Merge}
-use Rattle.sk_rules.specs.declared.Merge.TheVariants.{Two, Three}
-use Rattle.sk_rules.specs.Merges.{Falls}
+use Rattle.sk_family.specs.declared.Merge.{Merge}
+use Rattle.sk_family.specs.declared.Merge.TheVariants.{Two, Three}
+use Rattle.sk_family.specs.Merges.{Falls}
 use Rattle.sk_worklist.specs.Choices.{ComesFirst, AreChoices}
 use Rattle.sk_derive.specs.Ties.{MeetsByTie}
 

@@ -2,7 +2,7 @@
 use Rattle.std.specs.Prelude.{ℕ, List}
 use Rattle.sk_base.specs.declared.Graph.{Graph}
 use Rattle.sk_family.specs.Clusters.{Clusters}
-use Rattle.sk_rules.specs.declared.Merge.{Merge}
+use Rattle.sk_family.specs.declared.Merge.{Merge}
 use Rattle.sk_worklist.specs.Run.{PicksLeadBy, IsRunBy}
 use Rattle.sk_derive.specs.WideChoices.{AreWideChoices}
 

@@ -3,7 +3,7 @@ ghost use Rattle.std.specs.Prelude.{◌≡◌, ◌<◌, IfOk, OnOk, List as Item
 ghost use Rattle.sk_base.specs.declared.Graph.{Graph as AnyGraph};
 ghost use Rattle.sk_base.specs.SoundGraph.{IsSoundGraph};
 ghost use Rattle.sk_family.specs.Clusters.{bodies, initial_clusters, IsSound};
-ghost use Rattle.sk_rules.specs.declared.Merge.{Merge as AnyMerge};
+ghost use Rattle.sk_family.specs.declared.Merge.{Merge as AnyMerge};
 ghost use Rattle.sk_rules.specs.Merges.{merged};
 ghost use Rattle.sk_derive.specs.WideReach.{IsWideNormal, IsTheOnlyWideNormal};
 ghost use Rattle.sk_derive.specs.WideChoices.{CanTakeByTie};

@@ -8,7 +8,7 @@ ghost use Rattle.sk_base.specs.SoundGraph.{HasRisingEdges, IsSoundGraph};
 ghost use Rattle.sk_family.specs.Body.{Body, SameBodies};
 ghost use Rattle.sk_family.specs.declared.Cluster.{Cluster};
 ghost use Rattle.sk_family.specs.Clusters.{Clusters, bodies, IsSound};
-ghost use Rattle.sk_rules.specs.declared.Merge.{Merge};
+ghost use Rattle.sk_family.specs.declared.Merge.{Merge};
 ghost use Rattle.sk_rules.specs.Reach.{IsNormal};
 ghost use Rattle.sk_derive.specs.WideReach.{IsWideNormal, LiesIn};
 ghost use Rattle.sk_derive.specs.WideChoices.{AreWideChoices};

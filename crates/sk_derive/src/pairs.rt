@@ -28,7 +28,7 @@ pub(crate) struct Pairs {
 impl Model for Pairs {
     ghost use Rattle.std.specs.Prelude.{List as Items};
     ghost use Rattle.std.specs.List.{flat_map};
-    ghost use Rattle.sk_rules.specs.declared.Merge.{Merge};
+    ghost use Rattle.sk_family.specs.declared.Merge.{Merge};
     ghost use Rattle.sk_derive.specs.MergeRows.{merges_of};
 
     ghost Value = { Items Merge };

@@ -4,7 +4,7 @@
 ghost use Rattle.std.specs.Prelude.{◌≡◌, ◌<◌, ◌^◌, true, IfOk, OnOk, length};
 ghost use Rattle.sk_base.specs.SoundGraph.{HasRisingNodes};
 ghost use Rattle.sk_family.specs.Clusters.{IsSound};
-ghost use Rattle.sk_rules.specs.declared.Merge.TheVariants.{Two};
+ghost use Rattle.sk_family.specs.declared.Merge.TheVariants.{Two};
 ghost use Rattle.sk_worklist.specs.Turns.{Follows};
 ghost use Rattle.sk_derive.specs.FollowedTies.{AreTies, IsAfterOne, Takes};
 

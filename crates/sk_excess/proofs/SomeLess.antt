@@ -9,14 +9,13 @@ use Rattle.sk_base.specs.declared.Block.{Block}
 use Rattle.sk_base.specs.declared.Graph.{Graph}
 use Rattle.sk_base.specs.SoundGraph.{IsSoundGraph}
 use Rattle.sk_base.specs.Numbering.{con_number, con_exact}
-use Rattle.sk_base.proofs.Filters.{filter_both}
+use Rattle.sk_base.proofs.Filters.{filter_both, same_tests}
 use Rattle.sk_base.proofs.Members.{contains_head, contains_later, contains_filtered, filtered_from}
 use Rattle.sk_base.proofs.Numbers.{among_found, found_among}
 use Rattle.sk_family.specs.Body.{edge_start, block_start}
 use Rattle.sk_family.proofs.GraphStarts.{edge_starts, block_starts}
 use Rattle.sk_rules.specs.JustSome.{with_just}
 use Rattle.sk_rules.proofs.JustSome.{all_pass, in_part}
-use Rattle.sk_base.proofs.Filters.{same_tests}
 use Rattle.sk_excess.specs.LeftOut.{is_number, is_kept, kept_graph, above, HasConstraint}
 
 -- what is one of some numbers, what is kept, and what is above

@@ -1,5 +1,5 @@
 -- The order of names, and what a name tells of a sound family.
-use Rattle.std.proofs.Common.{◌≡◌, ◌≢◌, inl, inr, refl, ℕ, ◌<◌, Bool, true, false, List, [], ◌∷◌, ap, sym, subst, ◌∙◌, arith, length, get_or}
+use Rattle.std.proofs.Common.{◌≡◌, ◌≢◌, ◌⊎◌, inl, inr, refl, ℕ, ◌<◌, Bool, true, false, List, [], ◌∷◌, ap, sym, subst, ◌∙◌, arith, length, get_or}
 use Rattle.std.specs.Prelude.{Contains, AllPairs, not, ◌||◌}
 use Rattle.std.proofs.lemmas.Bool.Decides.{nat_tests}
 use Rattle.std.proofs.lemmas.List.Elements.{Contains-get_or}
@@ -12,6 +12,7 @@ use Rattle.sk_family.specs.Clusters.{Clusters, bodies, body_of, named, IsNamed, 
 pub use Rattle.sk_family.specs.Clusters.{ByName}
 use Rattle.sk_base.proofs.Members.{contains_none, contains_head, contains_later, contains_cases, contains_mapped, contains_filtered, filtered_from}
 use Rattle.sk_base.proofs.Pairs.{pairs_tell, pairs_same, pairs_filter}
+use Rattle.sk_base.proofs.Unions.{which}
 
 pub below_irreflexive : (n : Name) → ¬ IsBelow n n
 below_irreflexive (Con k) h = absurd (omega arith)
@@ -34,6 +35,30 @@ below_chain (Step i) (Step j) (Step k) h g = omega arith
 
 pub below_differs : (m n : Name) → IsBelow m n → m ≢ n
 below_differs m n h e = below_irreflexive n (subst (λ l. IsBelow l n) e h)
+
+-- of two names one is below the other, or they are the same
+pub below_tells : (m n : Name) → IsBelow m n ⊎ ((m ≡ n) ⊎ IsBelow n m)
+below_tells (Con j) (Con k) = elim (which j k) [ inl less ↦ inl less | inr (inl level) ↦ inr (inl (ap Con level)) | inr (inr more) ↦ inr (inr more) ]
+below_tells (Con j) (Step k) = inl tt
+below_tells (Step j) (Con k) = inr (inr tt)
+below_tells (Step j) (Step k) = elim (which j k) [ inl less ↦ inl less | inr (inl level) ↦ inr (inl (ap Step level)) | inr (inr more) ↦ inr (inr more) ]
+
+-- what is below a name is below all that aren't
+pub below_others : (x bound n : Name) → IsBelow x bound → ¬ IsBelow n bound → IsBelow x n
+below_others x bound n below not_below =
+    elim (below_tells x n) [
+      | inl less ↦ less
+      | inr (inl same) ↦ absurd (not_below (subst (λ l. IsBelow l bound) same below))
+      | inr (inr above) ↦ absurd (not_below (below_chain n x bound above below))
+    ]
+
+pub is_it_below : (x bound : Name) → IsBelow x bound ⊎ ¬ IsBelow x bound
+is_it_below x bound =
+    elim (below_tells x bound) [
+      | inl below ↦ inl below
+      | inr (inl same) ↦ inr (λ h. below_irreflexive x (subst (λ l. IsBelow x l) (sym same) h))
+      | inr (inr above) ↦ inr (below_asymmetric bound x above)
+    ]
 
 pub name_eq_true : (m n : Name) → name_eq m n ≡ true → m ≡ n
 name_eq_true (Con j) (Con k) h = (let same : j ≡ k = grind (arith, nat_tests) in ap Con same)

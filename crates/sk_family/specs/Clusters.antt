@@ -3,6 +3,7 @@ use Rattle.std.specs.Prelude.{◌≡◌, ◌≢◌, ◌⊎◌, ◌+◌, ◌<◌,
 use Rattle.sk_base.specs.declared.Name.{Name}
 use Rattle.sk_base.specs.declared.Name.TheVariants.{Con, Step}
 use Rattle.sk_base.specs.declared.ConId.{ConId}
+use Rattle.sk_base.specs.declared.Elem.{Elem}
 use Rattle.sk_base.specs.declared.Graph.{Graph}
 use Rattle.sk_base.specs.ClusterNames.{IsBelow, is_named}
 use Rattle.sk_family.specs.declared.cluster.Cluster.{Cluster}
@@ -62,6 +63,14 @@ pub record IsNamed (f : Clusters) (n : Name) (c : Cluster) : Type 0 where
 
 abbrev pub IsLive : Clusters → Name → Type 0
 IsLive f n = (c : Cluster) × IsNamed f n c
+
+-- the cluster of that name has some element
+abbrev pub HasElements : Clusters → Name → Type 0
+HasElements f n = (c : Cluster) → IsNamed f n c → (e : Elem) × Contains c.elements e
+
+-- the name isn't above that of the next step
+abbrev pub IsWithin : Clusters → Name → Type 0
+IsWithin f bound = ¬ IsBelow (Step f.next_step) bound
 
 -- the cluster of that name is joined to the body, or none has it and the body stays
 abbrev pub AddsNamed : List Cluster → Name → Body → Body → Type 0

@@ -4,3 +4,5 @@ pub mod Sharing
 pub mod Starting
 pub mod Starts
 pub mod Joining
+pub mod Rules
+pub mod Merges

@@ -4,6 +4,7 @@
 mod cluster;
 mod family;
 mod law;
+mod merge;
 mod row;
 mod search;
 mod start;
@@ -12,4 +13,5 @@ mod union;
 pub use cluster::{Cluster, Overlap, common};
 pub use family::{Family, initial};
 pub use law::every_start;
+pub use merge::Merge;
 pub use row::Row;

@@ -11,7 +11,7 @@ use Rattle.sk_family.specs.declared.Cluster.{Cluster}
 use Rattle.sk_family.specs.Body.{starts}
 use Rattle.sk_family.specs.Clusters.{Clusters, initial_clusters, start_of, replaced, unnamed, whole_from}
 use Rattle.sk_family.proofs.Naming.{name_eq_true, name_eq_same}
-use Rattle.sk_rules.specs.Merges.{names_of}
+use Rattle.sk_family.specs.Merges.{names_of}
 use Rattle.sk_tree.specs.declared.Plan.{Plan}
 use Rattle.sk_tree.specs.declared.PlanStep.{PlanStep}
 use Rattle.sk_tree.specs.LegalPlan.{merge_told, AreLegalSteps, IsLegalPlan, next_after}

@@ -5,10 +5,9 @@ use Rattle.sk_base.specs.declared.sketch.Shape.{Shape}
 use Rattle.sk_base.specs.declared.sketch.Shape.TheVariants.{Point, Line, Circle}
 use Rattle.sk_base.specs.declared.numbered.Elem.{Elem}
 use Rattle.sk_base.specs.declared.sketch.Sketch.{Sketch}
-use Rattle.sk_base.specs.Drawn.{shape_of, HasCentre, IsLine}
+use Rattle.sk_base.specs.Drawn.{shape_of, HasCentre, IsLine, is_line}
 use Rattle.sk_base.specs.SoundSketch.{MayBeApart, MayBeTangent, MayJoin, BothFit}
 use Rattle.sk_graph.specs.SketchGraph.{drawn_as}
-use Rattle.sk_base.specs.Drawn.{is_line}
 
 pub line_if : (x : Shape) → is_line x ≡ true → IsLine x
 line_if (Point x y) is = cc

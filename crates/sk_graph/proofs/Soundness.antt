@@ -30,7 +30,7 @@ use Rattle.sk_base.specs.declared.graph.Edge.{Edge}
 use Rattle.sk_base.specs.declared.graph.Block.{Block}
 use Rattle.sk_base.specs.declared.graph.Graph.{Graph}
 use Rattle.sk_base.specs.Bounds.{IsFromTo}
-use Rattle.sk_base.specs.Drawn.{element_of, shape_of, HasCentre}
+use Rattle.sk_base.specs.Drawn.{element_of, shape_of, HasCentre, is_line, radius_of}
 use Rattle.sk_base.specs.Numbering.{elem_exact, con_number}
 use Rattle.sk_base.specs.SoundGraph.{IsSoundGraph, IsBlockOf, HasNode, Measures}
 use Rattle.sk_base.specs.SoundSketch.{IsSoundSketch, IsSoundShape, IsSoundRule, IsSoundRatio, IsLength, IsSoundBlock, IsCentred, MayBeApart, MayLieOn, MayBeTangent, MayNest, MayJoin, AreCircles, AreLines}
@@ -38,7 +38,6 @@ use Rattle.sk_base.proofs.Finding.{found_in}
 use Rattle.sk_base.proofs.Members.{contains_mapped}
 use Rattle.sk_base.proofs.Pairs.{pairs_map, pairs_tell}
 use Rattle.sk_graph.specs.SketchGraph.{kind_of, node_of, drawn_as, apart, beside, distance_edge, on_edge, tangent_edge, outside_edge, inside_edge, angle_edge, rule_edge, edge_of, rule_block, block_of, graph_of}
-use Rattle.sk_base.specs.Drawn.{is_line, radius_of}
 use Rattle.sk_graph.proofs.Fittings.{both_drawn}
 use Rattle.sk_graph.proofs.Given.{given_from, pairs_given}
 

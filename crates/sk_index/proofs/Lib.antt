@@ -6,3 +6,4 @@ pub mod Putting
 pub mod Removing
 pub mod Walking
 pub mod HoldersBelow
+pub mod Representing

@@ -30,10 +30,6 @@ cluster_at ix k = get ix.live k
 abbrev pub IsHeld : Index → Cluster → Type 0
 IsHeld ix c = (k : ℕ) × (cluster_at ix k ≡ Some c)
 
--- the cluster of that name has some element
-abbrev pub HasElements : Clusters → Name → Type 0
-HasElements f n = (c : Cluster) → IsNamed f n c → (e : Elem) × Contains c.elements e
-
 -- the cluster of the key has the name
 abbrev pub IsNamedAt : Index → Name → ℕ → Type 0
 IsNamedAt ix n k = (c : Cluster) × (cluster_at ix k ≡ Some c) × (c.name ≡ n)

@@ -3,7 +3,8 @@ ghost use Rattle.std.specs.Prelude.{◌≡◌, ◌≢◌, ◌↔◌, ◌⊎◌, 
 ghost use Rattle.sk_base.specs.declared.Elem.{Elem as Element};
 ghost use Rattle.sk_base.specs.declared.Name.{Name as ClusterName};
 ghost use Rattle.slab.specs.Slab.{get};
-ghost use Rattle.sk_index.specs.Indexed.{AllRise, HasElements, HoldersGrow, KeepsLines, cluster_at, IsBelowAt, RisesIn, IsHeld, IsLast, IsIndex, IsLineAt, IsNamedAt, Represents, holders_of};
+ghost use Rattle.sk_index.specs.Indexed.{AllRise, HoldersGrow, KeepsLines, cluster_at, IsBelowAt, RisesIn, IsHeld, IsLast, IsIndex, IsLineAt, IsNamedAt, Represents, holders_of};
+ghost use Rattle.sk_family.specs.Clusters.{HasElements};
 ghost use Rattle.sk_base.specs.ClusterNames.{IsBelow};
 ghost use Rattle.sk_base.specs.Numbering.{elem_number};
 ghost use Rattle.sk_base.specs.Rising.{IsRising};

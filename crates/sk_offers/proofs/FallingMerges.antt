@@ -7,9 +7,9 @@ use Rattle.sk_base.specs.declared.Name.TheVariants.{Con, Step}
 use Rattle.sk_base.specs.ClusterNames.{IsBelow, name_eq, is_named}
 use Rattle.sk_base.proofs.Members.{contains_none, contains_head, contains_later, contains_one, contains_cases}
 use Rattle.sk_family.proofs.Naming.{below_irreflexive, below_asymmetric, below_chain, name_eq_same}
-use Rattle.sk_rules.specs.declared.Merge.{Merge}
-use Rattle.sk_rules.specs.declared.Merge.TheVariants.{Two, Three}
-use Rattle.sk_rules.specs.Merges.{names_of, Falls, IsMergeOf}
+use Rattle.sk_family.specs.declared.Merge.{Merge}
+use Rattle.sk_family.specs.declared.Merge.TheVariants.{Two, Three}
+use Rattle.sk_family.specs.Merges.{names_of, Falls, IsMergeOf}
 use Rattle.sk_rules.proofs.Ordering.{AreInOrder, merge_of_three}
 use Rattle.sk_offers.specs.OfferLines.{has_twins}
 

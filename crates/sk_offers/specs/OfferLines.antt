@@ -12,7 +12,7 @@ use Rattle.sk_lines.specs.declared.Code.TheVariants.{E3, E4, E8, E10, E17}
 use Rattle.sk_offers.specs.declared.offer_line.OfferLine.{OfferLine}
 use Rattle.sk_offers.specs.declared.offer_line.Place.{Place}
 use Rattle.sk_offers.specs.declared.offer_line.Place.TheVariants.{Among, Past}
-use Rattle.sk_rules.specs.Merges.{IsMergeOf, Falls}
+use Rattle.sk_family.specs.Merges.{IsMergeOf, Falls}
 
 -- the worker that a word is, from 1 to 64
 abbrev pub worker_of : List ℕ → Option ℕ

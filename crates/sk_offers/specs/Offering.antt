@@ -6,9 +6,10 @@ use Rattle.sk_base.specs.declared.Graph.{Graph}
 use Rattle.sk_base.specs.SoundGraph.{IsSoundGraph}
 use Rattle.sk_family.specs.Body.{initial_bodies}
 use Rattle.sk_family.specs.Clusters.{Clusters, initial_clusters, bodies, IsLive}
-use Rattle.sk_rules.specs.declared.Merge.{Merge}
+use Rattle.sk_family.specs.declared.Merge.{Merge}
 use Rattle.sk_rules.specs.declared.Taken.{Taken as TakenMerge}
-use Rattle.sk_rules.specs.Merges.{Holds, names_of, merged}
+use Rattle.sk_rules.specs.Merges.{Holds, merged}
+use Rattle.sk_family.specs.Merges.{names_of}
 use Rattle.sk_rules.specs.Reach.{Reach}
 use Rattle.sk_rules.specs.Taking.{IsTaken, Leads}
 use Rattle.sk_offers.specs.declared.answer.Answer.{Answer}

@@ -3,7 +3,8 @@ ghost use Rattle.std.specs.Prelude.{◌≡◌, ◌≤◌, ◌++◌, List as Item
 ghost use Rattle.sk_base.specs.SoundGraph.{IsSoundGraph};
 ghost use Rattle.sk_family.specs.Clusters.{bodies, initial_clusters, IsLive};
 ghost use Rattle.sk_rules.specs.declared.Taken.{Taken as TakenMerge};
-ghost use Rattle.sk_rules.specs.Merges.{Falls, IsLeastShared, names_of};
+ghost use Rattle.sk_family.specs.Merges.{Falls, names_of};
+ghost use Rattle.sk_rules.specs.Merges.{IsLeastShared};
 ghost use Rattle.sk_rules.specs.Reach.{IsNormal, IsTheOnlyNormal};
 ghost use Rattle.sk_rules.specs.Taking.{Leads};
 ghost use Rattle.sk_worklist.specs.Run.{IsRun, merge_of};

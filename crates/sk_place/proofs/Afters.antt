@@ -24,7 +24,7 @@ use Rattle.sk_family.proofs.Naming.{below_chain, below_differs, named_among}
 use Rattle.sk_place.specs.Rounding.{IsBoundedBox, AreBounded}
 use Rattle.sk_place.proofs.Slots.{there_along}
 use Rattle.sk_family.proofs.Soundness.{sound_initial, sound_replaced}
-use Rattle.sk_rules.specs.declared.Merge.TheVariants.{Three}
+use Rattle.sk_family.specs.declared.Merge.TheVariants.{Three}
 use Rattle.sk_rules.specs.Merges.{Holds as MergeHolds}
 use Rattle.sk_rules.proofs.Merging.{can_be_replaced, named_three}
 use Rattle.sk_tree.specs.declared.Plan.{Plan}

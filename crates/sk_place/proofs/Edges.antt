@@ -1,8 +1,7 @@
 -- Constraints and blocks by their numbers.
-use Rattle.std.proofs.Common.{◌≡◌, ℕ, Some, None, refl, sym}
+use Rattle.std.proofs.Common.{◌≡◌, ℕ, Some, None, refl, sym, arith}
 use Rattle.std.specs.Prelude.{Contains, All, ◌==◌, true, false}
 use Rattle.std.proofs.lemmas.Bool.Decides.{nat_tests}
-use Rattle.std.proofs.Common.{arith}
 use Rattle.sk_base.specs.declared.Edge.{Edge}
 use Rattle.sk_base.specs.declared.Block.{Block}
 use Rattle.sk_base.specs.declared.Graph.{Graph}

@@ -1,5 +1,5 @@
 -- What is left after all steps.
-use Rattle.std.proofs.Common.{◌≡◌, inl, inr, ℕ, ◌+◌, ◌<◌, List, [], ◌∷◌, ◌++◌, length, get_or, Option, Some, None, refl, ap, sym, subst, ◌∙◌, arith, length-append}
+use Rattle.std.proofs.Common.{◌≡◌, inl, inr, ℕ, ◌+◌, ◌<◌, List, [], ◌∷◌, ◌++◌, length, get_or, Option, Some, None, refl, ap, sym, subst, ◌∙◌, arith, length-append, pos, Result, Err}
 use Rattle.std.specs.Prelude.{Contains, map}
 use Rattle.std.proofs.lemmas.List.{drop_all}
 use Rattle.std.proofs.Math.Seq.{get_or-append_seam}
@@ -26,10 +26,8 @@ use Rattle.sk_place.specs.declared.boxes.BoxAt.{BoxAt}
 use Rattle.sk_place.specs.declared.settling.PlaceBy.TheVariants.{Boxes}
 use Rattle.sk_place.specs.declared.settling.PlaceBy.{PlaceBy}
 use Rattle.sk_place.specs.Clusters.{Rise, Holds, nodes_of}
-use Rattle.std.proofs.Common.{pos}
 use Rattle.sk_interval.proofs.FinerSums.{whole-IsInside}
 use Rattle.sk_steps.specs.Nesting.{IsBoxInside}
-use Rattle.std.proofs.Common.{Result, Err}
 use Rattle.sk_place.specs.declared.fault.PlaceError.{PlaceError}
 use Rattle.sk_place.specs.declared.fault.PlaceError.TheVariants.{Fault, NoMemory}
 use Rattle.sk_place.specs.Nesting.{AreInside, IsKept}

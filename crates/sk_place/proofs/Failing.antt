@@ -1,5 +1,5 @@
 -- A step that fails has the first fault of the plan's tree.
-use Rattle.std.proofs.Common.{◌≡◌, inl, inr, ℕ, ℤ, suc, ◌+◌, ◌<◌, List, [], ◌∷◌, ◌++◌, length, get_or, take, drop, Option, Some, Result, Err, refl, ap, sym, subst, ◌∙◌, arith, length-append}
+use Rattle.std.proofs.Common.{◌≡◌, inl, inr, ℕ, ℤ, suc, ◌+◌, ◌<◌, List, [], ◌∷◌, ◌++◌, length, get_or, take, drop, Option, Some, Result, Err, refl, ap, sym, subst, ◌∙◌, arith, length-append, drop-cons}
 use Rattle.std.specs.Prelude.{Contains, map, not}
 use Rattle.std.proofs.lemmas.Bool.{cases_Bool}
 use Rattle.std.proofs.lemmas.List.{get_or-take, drop-append-le, length-take}
@@ -17,7 +17,7 @@ use Rattle.sk_family.proofs.GraphStarts.{no_starts}
 use Rattle.sk_family.proofs.Naming.{among_named}
 use Rattle.sk_base.proofs.Splits.{in_drop}
 use Rattle.sk_family.proofs.Soundness.{sound_replaced}
-use Rattle.sk_rules.specs.declared.Merge.TheVariants.{Three}
+use Rattle.sk_family.specs.declared.Merge.TheVariants.{Three}
 use Rattle.sk_rules.specs.Merges.{Holds as MergeHolds}
 use Rattle.sk_rules.proofs.Merging.{can_be_replaced}
 use Rattle.sk_tree.specs.declared.Plan.{Plan}
@@ -37,14 +37,12 @@ use Rattle.sk_place.proofs.InsideTrees.{nest}
 use Rattle.sk_place.specs.Steps.{joined}
 use Rattle.sk_place.specs.Trees.{step_of, IsFault, IsFirstFault}
 use Rattle.sk_tree.specs.PlanTree.{IsPlanTree}
-use Rattle.sk_place.specs.Running.{HasTree}
+use Rattle.sk_place.specs.Running.{HasTree, IsAfter, IsRun, IsMadeOf, IsStepOf, AreHeld}
 use Rattle.sk_place.proofs.PlanSteps.{named_at, join_of, the_join, step_found}
 use Rattle.sk_place.proofs.Joins.{here_named, fault_named, failing_here}
 use Rattle.sk_place.specs.declared.fault.PlaceError.{PlaceError}
 use Rattle.sk_place.specs.declared.fault.PlaceError.TheVariants.{Fault, NoMemory}
-use Rattle.sk_place.specs.Running.{IsAfter, IsRun, IsMadeOf, IsStepOf, AreHeld}
 use Rattle.sk_place.proofs.Afters.{here, joins, first, second, third, s_in}
-use Rattle.std.proofs.Common.{drop-cons}
 
 -- ---- the tree of each live cluster is a part of the whole tree
 

@@ -1,7 +1,6 @@
 -- The boxes of starting clusters.
-use Rattle.std.proofs.Common.{◌≡◌, inl, inr, ℕ, ◌+◌, List, [], ◌∷◌, Some, Result, Ok, Err, refl, ap, sym, subst, ◌∙◌}
+use Rattle.std.proofs.Common.{◌≡◌, inl, inr, ℕ, ◌+◌, List, [], ◌∷◌, Some, Result, Ok, Err, refl, ap, sym, subst, ◌∙◌, arith, get_or}
 use Rattle.std.specs.Prelude.{Contains, IsSome, map}
-use Rattle.std.proofs.Common.{arith}
 use Rattle.std.proofs.lemmas.Int.{ints}
 use Rattle.sk_base.specs.declared.Edge.{Edge}
 use Rattle.sk_base.specs.declared.Block.{Block}
@@ -38,7 +37,6 @@ use Rattle.sk_place.specs.declared.settling.PlaceBy.{PlaceBy}
 use Rattle.sk_place.specs.Clusters.{elements_of, number_of, with_box, with_boxes}
 use Rattle.sk_place.specs.Trees.{framed_of, frame_of, two_boxes, pin_at, pin_boxes, HasBoxes}
 use Rattle.sk_place.specs.Running.{HasTree, AreOfKinds, ArePlaced}
-use Rattle.std.proofs.Common.{get_or}
 use Rattle.std.proofs.lemmas.List.Elements.{Contains-get_or}
 use Rattle.sk_place.specs.Rounding.{IsBoundedBox}
 use Rattle.sk_place.proofs.Bounding.{leaf_bounded}

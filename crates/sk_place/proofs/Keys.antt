@@ -2,11 +2,10 @@
 use Rattle.std.proofs.Common.{◌≡◌, ◌≢◌, ◌⊎◌, inl, inr, ℕ, ◌<◌, ◌≤◌, true, false, List, [], ◌∷◌, ◌++◌, length, get_or, set, Option, Some, None, IsSome, Result, Ok, Err, OnOk, OnErr, refl, ap, sym, subst, ◌∙◌, arith, length-append}
 use Rattle.std.specs.Prelude.{slice_get}
 use Rattle.std.proofs.lemmas.Option.{get_or_from_slice_get}
-use Rattle.std.proofs.Math.ListN.{get_or-eq_default}
+use Rattle.std.proofs.Math.ListN.{get_or-eq_default, length-set}
 use Rattle.std.proofs.Math.Seq.{get_or-append_seam}
 use Rattle.std.proofs.lemmas.Bool.{cases_lt}
 use Rattle.std.proofs.lemmas.List.{ext_get_or, get_or-map, length-map, map-append, get_or_append_left, get_or-set_same, get_or-set_other}
-use Rattle.std.proofs.Math.ListN.{length-set}
 use Rattle.slab.specs.Slab.{Slab, get, Updates}
 use Rattle.sk_place.specs.Slots.{slot_of, slots_of, HaveOwnKeys}
 

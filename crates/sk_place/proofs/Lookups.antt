@@ -1,11 +1,9 @@
 -- Boxes that are found by their elements' numbers.
-use Rattle.std.proofs.Common.{◌≡◌, inl, inr, ℕ, zero, suc, ◌<◌, ◌≤◌, List, [], ◌∷◌, length, get_or, refl, ap, sym, subst, ◌∙◌, arith}
+use Rattle.std.proofs.Common.{◌≡◌, inl, inr, ℕ, zero, suc, ◌<◌, ◌≤◌, List, [], ◌∷◌, length, get_or, refl, ap, sym, subst, ◌∙◌, arith, ◌-◌, drop, drop-cons}
 use Rattle.std.specs.Prelude.{Contains, find, insert, ◌==◌}
 use Rattle.std.proofs.lemmas.Bool.{cases_lt}
-use Rattle.std.proofs.lemmas.List.{get_or_default}
+use Rattle.std.proofs.lemmas.List.{get_or_default, drop_all}
 use Rattle.sk_base.specs.declared.Elem.{Elem}
-use Rattle.std.proofs.Common.{◌-◌, drop, drop-cons}
-use Rattle.std.proofs.lemmas.List.{drop_all}
 use Rattle.sk_base.specs.Rising.{IsRising, put, union}
 use Rattle.sk_base.proofs.Members.{mapped_from}
 use Rattle.sk_base.proofs.Unions.{put_first, put_same, put_later, rising_put}

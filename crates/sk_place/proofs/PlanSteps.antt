@@ -12,7 +12,7 @@ use Rattle.sk_family.specs.Clusters.{Clusters, initial_clusters}
 use Rattle.sk_family.proofs.Naming.{name_eq_true, name_eq_same}
 use Rattle.sk_rules.specs.declared.Taken.{Taken}
 use Rattle.sk_rules.specs.declared.Shared.{Shared}
-use Rattle.sk_rules.specs.declared.Merge.TheVariants.{Three}
+use Rattle.sk_family.specs.declared.Merge.TheVariants.{Three}
 use Rattle.sk_tree.specs.declared.PlanStep.{PlanStep}
 use Rattle.sk_tree.specs.declared.Plan.{Plan}
 use Rattle.sk_tree.specs.declared.Tree.{Tree}

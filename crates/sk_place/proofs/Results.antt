@@ -1,15 +1,14 @@
 -- What a step's boxes are of: its children's elements, each of its kind.
-use Rattle.std.proofs.Common.{◌≡◌, ◌≢◌, inl, inr, ℕ, true, false, List, [], ◌∷◌, Result, Ok, Err, refl, ap, sym, subst, ◌∙◌}
+use Rattle.std.proofs.Common.{◌≡◌, ◌≢◌, inl, inr, ℕ, true, false, List, [], ◌∷◌, Result, Ok, Err, refl, ap, sym, subst, ◌∙◌, arith}
 use Rattle.std.specs.Prelude.{Contains, ◌==◌, ◌||◌, not, IfOk}
 use Rattle.std.proofs.lemmas.Bool.{cases_Bool}
 use Rattle.std.proofs.lemmas.Bool.Decides.{nat_tests}
-use Rattle.std.proofs.Common.{arith}
 use Rattle.sk_base.specs.declared.Elem.{Elem}
 use Rattle.sk_base.specs.declared.Kind.{Kind}
 use Rattle.sk_base.specs.declared.Name.{Name}
 use Rattle.sk_base.specs.declared.Node.{Node}
 use Rattle.sk_base.specs.Numbering.{elem_exact}
-use Rattle.sk_base.proofs.Members.{contains_mapped, mapped_from, contains_filtered, filtered_from}
+use Rattle.sk_base.proofs.Members.{contains_mapped, mapped_from, contains_filtered, filtered_from, contains_none, contains_cases}
 use Rattle.sk_base.proofs.Unions.{union_right}
 use Rattle.sk_interval.specs.declared.Cause.{Cause}
 use Rattle.sk_steps.specs.declared.BoxOf.{BoxOf}
@@ -32,7 +31,6 @@ use Rattle.sk_place.specs.Clusters.{Holds, number_of, nodes_of, with_boxes, besi
 use Rattle.sk_place.specs.Carrying.{faulty, box_faulty, in_step, and_then, carried_each, pair_in, moved, carried_child}
 use Rattle.sk_place.proofs.Lookups.{held_box}
 use Rattle.sk_place.proofs.Corners.{has_box}
-use Rattle.sk_base.proofs.Members.{contains_none, contains_cases}
 use Rattle.sk_place.specs.Rounding.{IsBoundedBox}
 use Rattle.sk_place.proofs.Bounding.{third_bounded, carried_bounded}
 use Rattle.sk_place.proofs.Settlings.{settled_from}

@@ -13,7 +13,7 @@ use Rattle.sk_base.specs.declared.Graph.{Graph}
 use Rattle.sk_base.specs.declared.Measure.{Measure}
 use Rattle.sk_base.specs.declared.Measure.TheVariants.{PointPoint, PointLine, LineLine}
 use Rattle.sk_base.specs.declared.Name.TheVariants.{Step as StepName}
-use Rattle.sk_base.specs.Numbering.{elem_number}
+use Rattle.sk_base.specs.Numbering.{elem_number, is_elem}
 use Rattle.sk_base.specs.SoundGraph.{IsSoundGraph, HasNode, Measures}
 use Rattle.sk_base.proofs.Members.{contains_none, contains_cases, contains_head, contains_later, contains_one, contains_mapped, mapped_from}
 use Rattle.sk_base.proofs.Distinct.{no_longer}
@@ -25,9 +25,9 @@ use Rattle.sk_family.proofs.Bodies.{Within, whole_within, same_within}
 use Rattle.sk_family.proofs.GraphStarts.{start_comes, starts_rise, no_starts, from_start}
 use Rattle.sk_family.proofs.Soundness.{sound_initial}
 use Rattle.sk_rules.specs.declared.Taken.{Taken}
-use Rattle.sk_rules.specs.Merges.{names_of, merged}
+use Rattle.sk_family.specs.Merges.{names_of}
+use Rattle.sk_rules.specs.Merges.{merged}
 use Rattle.sk_rules.specs.Reach.{AreAmong, Step, Reach, IsClosed, IsNormal}
-use Rattle.sk_base.specs.Numbering.{is_elem}
 use Rattle.sk_rules.specs.Excess.{weight_of, is_inside, held, OwnsEnough}
 use Rattle.sk_rules.proofs.SummedWeights.{found_inside}
 use Rattle.sk_rules.proofs.WeighedGraphs.{sound_two_each, owned_count}

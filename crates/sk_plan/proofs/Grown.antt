@@ -6,20 +6,20 @@ use Rattle.std.proofs.lemmas.List.Elements.{Contains-append_cases, Contains-appe
 use Rattle.sk_base.specs.declared.Name.{Name}
 use Rattle.sk_base.specs.declared.Name.TheVariants.{Con, Step}
 use Rattle.sk_base.specs.declared.ConId.{ConId}
-use Rattle.sk_family.specs.Body.{Start, starts}
+use Rattle.sk_family.specs.Body.{Start, starts, Body, join_all}
 use Rattle.sk_base.specs.declared.Graph.{Graph}
 use Rattle.sk_base.specs.ClusterNames.{IsBelow, is_named}
 use Rattle.sk_family.specs.declared.Cluster.{Cluster}
-use Rattle.sk_family.specs.Body.{Body, join_all}
 use Rattle.sk_family.specs.Clusters.{Clusters, body_of, start_of, initial_clusters, unnamed, made_of, whole_from, IsNamed, IsLive, IsSound}
 use Rattle.sk_base.proofs.Members.{contains_none, contains_head, contains_later, contains_one, contains_cases, mapped_from, filtered_from}
 use Rattle.sk_base.proofs.Pairs.{pairs_none, pairs_cons, pairs_tail, pairs_head}
 use Rattle.sk_family.proofs.Bodies.{each_within, owner_of}
 use Rattle.sk_family.proofs.Naming.{below_chain, below_irreflexive, below_differs}
 use Rattle.sk_family.proofs.Soundness.{below_next}
-use Rattle.sk_rules.specs.declared.Merge.TheVariants.{Three}
+use Rattle.sk_family.specs.declared.Merge.TheVariants.{Three}
 use Rattle.sk_rules.specs.declared.Taken.{Taken}
-use Rattle.sk_rules.specs.Merges.{Falls, Holds, names_of, merged}
+use Rattle.sk_family.specs.Merges.{Falls, names_of}
+use Rattle.sk_rules.specs.Merges.{Holds, merged}
 use Rattle.sk_rules.proofs.Merging.{can_be_replaced, named_three}
 use Rattle.sk_tree.specs.declared.Tree.{Tree}
 use Rattle.sk_tree.specs.declared.Tree.TheVariants.{Leaf, Join'}

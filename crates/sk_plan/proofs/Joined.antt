@@ -9,12 +9,13 @@ use Rattle.sk_base.specs.SoundGraph.{IsSoundGraph}
 use Rattle.sk_family.specs.Body.{Body, initial_bodies, starts}
 use Rattle.sk_family.specs.Clusters.{Clusters, body_of, bodies, initial_clusters, named, IsSound}
 use Rattle.sk_family.proofs.Soundness.{sound_initial, sound_replaced, starting_bodies}
-use Rattle.sk_rules.specs.declared.Merge.{Merge}
-use Rattle.sk_rules.specs.declared.Merge.TheVariants.{Two, Three}
+use Rattle.sk_family.specs.declared.Merge.{Merge}
+use Rattle.sk_family.specs.declared.Merge.TheVariants.{Two, Three}
 use Rattle.sk_rules.specs.declared.Shared.{Shared}
 use Rattle.sk_rules.specs.declared.Taken.{Taken}
-use Rattle.sk_rules.specs.Rules.{IsShared}
-use Rattle.sk_rules.specs.Merges.{Falls, Holds, IsLeastShared, names_of, merged}
+use Rattle.sk_family.specs.Rules.{IsShared}
+use Rattle.sk_family.specs.Merges.{Falls, names_of}
+use Rattle.sk_rules.specs.Merges.{Holds, IsLeastShared, merged}
 use Rattle.sk_rules.specs.Reach.{Step, Reach, stays, goes, IsClosed, IsNormal}
 use Rattle.sk_rules.specs.Taking.{IsTaken, Leads}
 use Rattle.sk_rules.proofs.WeighedGraphs.{sound_two_each}

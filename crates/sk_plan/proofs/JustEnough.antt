@@ -12,7 +12,7 @@ use Rattle.sk_base.proofs.Members.{contains_head, contains_later, contains_one, 
 use Rattle.sk_base.proofs.Unions.{union_left, union_right, union_cases}
 use Rattle.sk_base.proofs.Deciding.{elem_settles}
 use Rattle.sk_base.proofs.Sizes.{union_shares_one, union_shares_two, union_shares_three}
-use Rattle.sk_rules.specs.Rules.{IsShared, IsTriangle}
+use Rattle.sk_family.specs.Rules.{IsShared, IsTriangle}
 use Rattle.sk_rules.specs.Reach.{CanMerge, Step, Reach, stays, goes, IsNormal}
 use Rattle.sk_rules.specs.Excess.{weight_of, held, OwnsEnough, HasTwoEach}
 use Rattle.sk_rules.proofs.Families.{IsFamily}

@@ -15,9 +15,9 @@ use Rattle.sk_family.specs.Clusters.{Clusters, IsNamed, IsSound, initial_cluster
 use Rattle.sk_family.proofs.Naming.{ByName, one_of_name}
 use Rattle.sk_family.proofs.Soundness.{sound_initial}
 use Rattle.sk_graph.specs.SketchGraph.{graph_of}
-use Rattle.sk_rules.specs.declared.Merge.{Merge}
+use Rattle.sk_family.specs.declared.Merge.{Merge}
 use Rattle.sk_rules.specs.Merges.{merged}
-use Rattle.sk_rules.specs.Rules.{IsShared}
+use Rattle.sk_family.specs.Rules.{IsShared}
 use Rattle.sk_worklist.specs.declared.Order.{Order}
 use Rattle.sk_worklist.specs.Choices.{AreChoices}
 use Rattle.sk_worklist.specs.Orders.{place_of, next_call}

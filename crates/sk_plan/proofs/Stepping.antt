@@ -16,7 +16,8 @@ use Rattle.sk_family.specs.Body.{initial_bodies, starts}
 use Rattle.sk_family.specs.Clusters.{Clusters, body_of, bodies, initial_clusters, IsSound}
 use Rattle.sk_family.proofs.Soundness.{sound_initial, starting_bodies}
 use Rattle.sk_rules.specs.declared.Taken.{Taken}
-use Rattle.sk_rules.specs.Merges.{Falls, merged}
+use Rattle.sk_family.specs.Merges.{Falls}
+use Rattle.sk_rules.specs.Merges.{merged}
 use Rattle.sk_rules.specs.Reach.{Reach, stays}
 use Rattle.sk_rules.specs.Taking.{IsTaken, Leads}
 use Rattle.sk_tree.specs.declared.PlanStep.{PlanStep}

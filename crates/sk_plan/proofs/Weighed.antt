@@ -22,7 +22,7 @@ use Rattle.sk_base.proofs.Unions.{which, put_first, put_same, put_later, rising_
 use Rattle.sk_family.proofs.GraphStarts.{from_start, among_start, edge_starts}
 use Rattle.sk_family.specs.Body.{Start, start_number, edge_start, block_start, starts}
 use Rattle.sk_rules.specs.Excess.{has_ends_in, HasTwoEach}
-use Rattle.sk_rules.specs.Rules.{IsLine}
+use Rattle.sk_family.specs.Rules.{IsLine}
 use Rattle.sk_rules.proofs.WeighedGraphs.{sums_starts}
 use Rattle.sk_plan.specs.Sparse.{weight_within, weight_among, angles_among, pins_weight, AreLines}
 use Rattle.sk_plan.proofs.Counts.{count_none}

@@ -15,7 +15,7 @@ use Rattle.sk_family.specs.Clusters.{Clusters, bodies, initial_clusters}
 use Rattle.sk_family.proofs.Soundness.{sound_initial}
 use Rattle.sk_graph.specs.SketchGraph.{node_of, edge_of, block_of, rule_edge, rule_block, graph_of}
 use Rattle.sk_graph.proofs.Soundness.{graph_is_sound}
-use Rattle.sk_rules.specs.declared.Merge.{Merge}
+use Rattle.sk_family.specs.declared.Merge.{Merge}
 use Rattle.sk_rules.specs.declared.Taken.{Taken}
 use Rattle.sk_rules.specs.Reach.{IsClosed}
 use Rattle.sk_rules.specs.Taking.{Leads}

@@ -4,7 +4,7 @@ use Rattle.sk_base.specs.declared.Elem.{Elem}
 use Rattle.sk_base.specs.declared.Name.{Name}
 use Rattle.sk_base.specs.declared.Graph.{Graph}
 use Rattle.sk_family.specs.Clusters.{Clusters}
-use Rattle.sk_rules.specs.declared.Merge.TheVariants.{Three}
+use Rattle.sk_family.specs.declared.Merge.TheVariants.{Three}
 use Rattle.sk_rules.specs.declared.Taken.{Taken}
 use Rattle.sk_rules.specs.Merges.{merged}
 use Rattle.sk_tree.specs.Meeting.{JoinsOnce}

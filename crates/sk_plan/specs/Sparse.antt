@@ -6,7 +6,7 @@ use Rattle.sk_base.specs.declared.Block.{Block}
 use Rattle.sk_base.specs.declared.Pin.{Pin}
 use Rattle.sk_base.specs.Numbering.{is_elem}
 use Rattle.sk_family.specs.Body.{Body, Start, starts}
-use Rattle.sk_rules.specs.Rules.{IsLine}
+use Rattle.sk_family.specs.Rules.{IsLine}
 use Rattle.sk_rules.specs.Reach.{Reach, stays, goes}
 use Rattle.sk_rules.specs.Excess.{weight_of, held, has_ends_in}
 use Rattle.sk_tree.specs.Meeting.{MeetsOnce}

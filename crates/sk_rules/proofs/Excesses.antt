@@ -6,7 +6,7 @@ use Rattle.std.proofs.lemmas.List.Filters.{length-filter_both}
 use Rattle.sk_base.specs.declared.Elem.{Elem}
 use Rattle.sk_base.specs.declared.Graph.{Graph}
 use Rattle.sk_base.specs.SoundGraph.{HasRisingEdges}
-use Rattle.sk_base.specs.Numbering.{elem_number, con_number, elem_exact}
+use Rattle.sk_base.specs.Numbering.{elem_number, con_number, elem_exact, is_elem}
 use Rattle.sk_base.specs.Rising.{IsRising, union}
 use Rattle.sk_base.proofs.Members.{contains_filtered, filtered_from}
 use Rattle.sk_base.proofs.Pairs.{pairs_filter}
@@ -14,7 +14,6 @@ use Rattle.sk_base.proofs.Unions.{rising_union, rising_same, union_left, union_r
 use Rattle.sk_base.proofs.Sizes.{union_apart}
 use Rattle.sk_family.specs.Body.{Body, join, join_all, initial_bodies}
 use Rattle.sk_family.specs.Sharing.{shared}
-use Rattle.sk_base.specs.Numbering.{is_elem}
 use Rattle.sk_rules.specs.Reach.{Reach}
 use Rattle.sk_rules.specs.Excess.{weight_of, excess_of, shared_by_two, shared_by_three}
 use Rattle.sk_rules.proofs.Families.{IsFamily}

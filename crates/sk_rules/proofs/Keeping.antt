@@ -12,7 +12,7 @@ use Rattle.sk_base.proofs.Members.{Settles, contains_none, contains_head, contai
 use Rattle.sk_family.proofs.GraphStarts.{start_at}
 use Rattle.sk_family.proofs.Bodies.{body_settles, each_within, owner_of}
 use Rattle.sk_base.proofs.Deciding.{con_settles}
-use Rattle.sk_rules.specs.Rules.{IsLine}
+use Rattle.sk_family.specs.Rules.{IsLine}
 use Rattle.sk_rules.specs.Reach.{CanMerge, AreAmong, Step, Reach, stays, goes}
 use Rattle.sk_rules.specs.Keeping.{IsReached, IsOwned, Completes, CarriesOver}
 use Rattle.sk_rules.proofs.Families.{kept_along}

@@ -8,7 +8,7 @@ use Rattle.sk_base.specs.SoundGraph.{HasRisingEdges}
 use Rattle.sk_family.specs.Body.{Body, Start, starts, starting, initial_bodies, SameBodies}
 use Rattle.sk_base.proofs.Members.{contains_head, contains_mapped, mapped_from}
 use Rattle.sk_family.proofs.Bodies.{body_settles, holder_of}
-use Rattle.sk_rules.specs.Rules.{IsLine}
+use Rattle.sk_family.specs.Rules.{IsLine}
 use Rattle.sk_rules.specs.Reach.{Step, Reach, IsClosed, IsNormal}
 use Rattle.sk_rules.specs.Keeping.{IsReached, IsOwned, HasOneMore, HasAllBut, KeepsKinds, Adopts, Dissolves}
 use Rattle.sk_rules.proofs.Families.{kept_along}

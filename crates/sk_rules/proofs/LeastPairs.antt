@@ -2,13 +2,12 @@
 use Rattle.std.proofs.Common.{◌≡◌, inl, inr, ◌<◌, List, [], ◌∷◌, ap, sym, subst, ◌∙◌, arith}
 use Rattle.std.specs.Prelude.{Contains, AllPairs, Some, None, slice_get}
 use Rattle.sk_base.specs.declared.Elem.{Elem}
-use Rattle.sk_base.specs.Numbering.{elem_number}
+use Rattle.sk_base.specs.Numbering.{elem_number, is_elem}
 use Rattle.sk_base.specs.Rising.{IsRising}
 use Rattle.sk_base.proofs.Members.{contains_none, contains_head, contains_later, contains_one, contains_cases, contains_filtered, filtered_from}
 use Rattle.sk_base.proofs.Pairs.{pairs_head, pairs_tail, pairs_filter}
 use Rattle.sk_family.specs.Sharing.{shared}
-use Rattle.sk_base.specs.Numbering.{is_elem}
-use Rattle.sk_rules.specs.Rules.{IsShared, SharesTwo}
+use Rattle.sk_family.specs.Rules.{IsShared, SharesTwo}
 use Rattle.sk_rules.specs.Merges.{IsLeastPair}
 use Rattle.sk_base.proofs.Numbers.{elem_found, found_elem}
 

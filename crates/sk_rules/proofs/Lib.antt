@@ -1,7 +1,7 @@
-pub mod Ordering
 pub mod Families
 pub mod NormalForm
 pub mod Merging
+pub mod Takable
 pub mod SummedWeights
 pub mod Counting
 pub mod WeighedGraphs

@@ -14,11 +14,12 @@ use Rattle.sk_family.specs.Clusters.{Clusters, body_of, bodies, named, unnamed, 
 use Rattle.sk_base.proofs.Members.{contains_none, contains_head, contains_later, contains_one, contains_cases, contains_mapped, mapped_from, contains_filtered, filtered_from}
 use Rattle.sk_base.proofs.Pairs.{pairs_none, pairs_cons, pairs_tell}
 use Rattle.sk_family.proofs.Naming.{ByName, below_chain, below_differs, one_of_name, one_of_body, named_are}
-use Rattle.sk_rules.specs.declared.merge.Merge.{Merge}
-use Rattle.sk_rules.specs.declared.merge.Merge.TheVariants.{Two, Three}
-use Rattle.sk_rules.specs.Rules.{IsShared, SharesTwo, MeetsInThree}
+use Rattle.sk_family.specs.declared.Merge.{Merge}
+use Rattle.sk_family.specs.declared.Merge.TheVariants.{Two, Three}
+use Rattle.sk_family.specs.Rules.{IsShared, SharesTwo, MeetsInThree}
 use Rattle.sk_rules.specs.Reach.{CanMerge, AreAmong, Replaces, Step, IsClosed}
-use Rattle.sk_rules.specs.Merges.{Falls, Holds, names_of, merged}
+use Rattle.sk_family.specs.Merges.{Falls, names_of}
+use Rattle.sk_rules.specs.Merges.{Holds, merged}
 
 shared_back : (xs ys : List Elem) (e : Elem) → IsShared xs ys e → IsShared ys xs e
 shared_back xs ys e h = (h.1, h.0)

@@ -9,7 +9,7 @@ use Rattle.sk_base.specs.SoundGraph.{HasRisingEdges}
 use Rattle.sk_family.specs.Body.{Body, join_all, initial_bodies, SameBodies}
 use Rattle.sk_base.proofs.Members.{contains_none, contains_head, contains_later, contains_one, contains_cases}
 use Rattle.sk_family.proofs.Bodies.{Within, within_itself, within_along, each_within, whole_within, same_within, body_settles}
-use Rattle.sk_rules.specs.Rules.{IsShared, SharesTwo, MeetsInThree}
+use Rattle.sk_family.specs.Rules.{IsShared, SharesTwo, MeetsInThree}
 use Rattle.sk_rules.specs.Reach.{CanMerge, AreAmong, StepBy, ReachBy, IsClosedBy, IsNormalBy, Reach, IsClosed, IsNormal, either_rule}
 use Rattle.sk_rules.proofs.Families.{IsFamily, NamesSome, some_merges, initial_family, step_family_by, kept_by}
 

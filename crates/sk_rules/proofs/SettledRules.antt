@@ -8,10 +8,11 @@ use Rattle.sk_base.specs.declared.Graph.{Graph}
 use Rattle.sk_base.proofs.Deciding.{Decided, both, three, denied, moved, some_in, is_in, elem_settles, node_settles, name_below, name_settles}
 use Rattle.sk_family.specs.declared.Cluster.{Cluster}
 use Rattle.sk_family.specs.Clusters.{Clusters, IsNamed}
-use Rattle.sk_rules.specs.declared.merge.Merge.{Merge}
-use Rattle.sk_rules.specs.declared.merge.Merge.TheVariants.{Two, Three}
-use Rattle.sk_rules.specs.Merges.{Falls, Holds}
-use Rattle.sk_rules.specs.Rules.{IsLine, SharesTwo, IsPair, IsTriangle, MeetsInThree}
+use Rattle.sk_family.specs.declared.Merge.{Merge}
+use Rattle.sk_family.specs.declared.Merge.TheVariants.{Two, Three}
+use Rattle.sk_family.specs.Merges.{Falls}
+use Rattle.sk_rules.specs.Merges.{Holds}
+use Rattle.sk_family.specs.Rules.{IsLine, SharesTwo, IsPair, IsTriangle, MeetsInThree}
 
 pub line_decided : (g : Graph) (e : Elem) → Decided (IsLine g e)
 line_decided g e = is_in node_settles g.nodes (record { elem = e; kind = Line })

@@ -6,7 +6,7 @@ use Rattle.sk_base.proofs.Deciding.{Decided, both, denied, moved, some_in}
 use Rattle.sk_base.proofs.Members.{contains_none, contains_head, contains_later, contains_cases}
 use Rattle.sk_family.specs.Body.{Body, join_all}
 use Rattle.sk_family.proofs.Bodies.{body_settles}
-use Rattle.sk_rules.specs.Rules.{MeetsInThree}
+use Rattle.sk_family.specs.Rules.{MeetsInThree}
 use Rattle.sk_rules.specs.Reach.{CanMerge, AreAmong, Step, Reach, IsClosed, stays, goes}
 use Rattle.sk_rules.proofs.NormalForm.{two_among, among_settles}
 use Rattle.sk_rules.proofs.SettledRules.{shares_decided, meets_decided}

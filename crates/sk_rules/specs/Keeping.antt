@@ -4,7 +4,7 @@ use Rattle.sk_base.specs.declared.Elem.{Elem}
 use Rattle.sk_base.specs.declared.ConId.{ConId}
 use Rattle.sk_base.specs.declared.Graph.{Graph}
 use Rattle.sk_family.specs.Body.{Body, Start, starts, starting, initial_bodies, SameBodies}
-use Rattle.sk_rules.specs.Rules.{IsLine}
+use Rattle.sk_family.specs.Rules.{IsLine}
 use Rattle.sk_rules.specs.Reach.{Reach}
 
 -- merging leads from the graph's start to the family, in whatever order its bodies stand

@@ -1,35 +1,28 @@
 -- Merges of named clusters.
-use Rattle.std.specs.Prelude.{◌≡◌, ◌<◌, ◌≤◌, ◌⊎◌, ◌↔◌, List, [], ◌∷◌, None, Some, length, Contains}
+use Rattle.std.specs.Prelude.{◌≡◌, ◌<◌, ◌≤◌, ◌⊎◌, List, None, Some}
 use Rattle.sk_base.specs.declared.Name.{Name}
 use Rattle.sk_base.specs.declared.Elem.{Elem}
 use Rattle.sk_base.specs.declared.Graph.{Graph}
-use Rattle.sk_base.specs.ClusterNames.{IsBelow}
 use Rattle.sk_family.specs.declared.Cluster.{Cluster}
 use Rattle.sk_family.specs.Clusters.{Clusters, IsNamed, replaced}
-use Rattle.sk_rules.specs.declared.merge.Merge.{Merge}
-use Rattle.sk_rules.specs.declared.merge.Merge.TheVariants.{Two, Three}
+use Rattle.sk_family.specs.declared.Merge.{Merge}
+use Rattle.sk_family.specs.declared.Merge.TheVariants.{Two, Three}
+use Rattle.sk_family.specs.Merges.{Falls, names_of}
 use Rattle.sk_rules.specs.declared.merge.Shared.{Shared}
-use Rattle.sk_rules.specs.Rules.{IsShared, IsPair, SharesTwo, IsTriangle, MeetsInThree}
-
-abbrev pub names_of : Merge → List Name
-names_of (Two x y) = x ∷ y ∷ []
-names_of (Three x y z) = x ∷ y ∷ z ∷ []
-
--- each name is above the next
-abbrev pub Falls : Merge → Type 0
-Falls (Two x y) = IsBelow y x
-Falls (Three x y z) = IsBelow y x × IsBelow z y
-
--- the merge of these names, with each of them once
-pub record IsMergeOf (names : List Name) (m : Merge) : Type 0 where
-  pub falls : Falls m
-  pub as_many : length (names_of m) ≡ length names
-  pub same : (n : Name) → Contains (names_of m) n ↔ Contains names n
+use Rattle.sk_family.specs.Rules.{IsShared, IsPair, SharesTwo, IsTriangle, MeetsInThree}
 
 -- the clusters live, and the rule holds of them
 abbrev pub Holds : Graph → Clusters → Merge → Type 0
 Holds g f (Two x y) = (a : Cluster) × (b : Cluster) × IsNamed f x a × IsNamed f y b × SharesTwo a.elements b.elements
 Holds g f (Three x y z) = (a : Cluster) × (b : Cluster) × (c : Cluster) × IsNamed f x a × IsNamed f y b × IsNamed f z c × MeetsInThree g a.elements b.elements c.elements
+
+-- the names fall and the rule holds
+abbrev pub CanTake : Graph → Clusters → Merge → Type 0
+CanTake g f m = Falls m × Holds g f m
+
+-- the triples with that cluster as the greatest that may merge
+abbrev pub TakesFrom : Graph → Clusters → Cluster → Merge → Type 0
+TakesFrom g f x m = CanTake g f m × ((y : Name) × (z : Name) × (m ≡ Three x.name y z))
 
 -- the family after the merge
 abbrev pub merged : Clusters → Merge → Clusters

@@ -2,7 +2,7 @@
 use Rattle.std.specs.Prelude.{◌≡◌, ◌≢◌, ◌↔◌, ◌⊎◌, List, [], ◌∷◌, Contains}
 use Rattle.sk_base.specs.declared.Graph.{Graph}
 use Rattle.sk_family.specs.Body.{Body, join_all, initial_bodies, SameBodies}
-use Rattle.sk_rules.specs.Rules.{SharesTwo, MeetsInThree}
+use Rattle.sk_family.specs.Rules.{SharesTwo, MeetsInThree}
 
 -- the two or three bodies may merge, by the pair rule or the triangle rule
 abbrev pub CanMerge : Graph → List Body → Type 0

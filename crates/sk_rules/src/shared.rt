@@ -2,7 +2,7 @@ ghost use Rattle.std.specs.Prelude.{◌≢◌, ◌↔◌, ◌<◌, ◌≤◌, If
 ghost use Rattle.sk_base.specs.declared.Elem.{Elem as Element};
 ghost use Rattle.sk_base.specs.Numbering.{elem_number};
 ghost use Rattle.sk_base.specs.Rising.{IsRising};
-ghost use Rattle.sk_rules.specs.Rules.{IsLine, IsShared, IsTriangle, SharesTwo, MeetsInThree};
+ghost use Rattle.sk_family.specs.Rules.{IsLine, IsShared, IsTriangle, SharesTwo, MeetsInThree};
 ghost use Rattle.sk_rules.specs.Merges.{IsLeastPair, IsLeastTriangle};
 
 use sk_base::{Elem, Graph, Kind, Node};

@@ -13,7 +13,7 @@ use Rattle.sk_base.specs.Numbering.{elem_exact}
 use Rattle.sk_base.specs.declared.Elem.{Elem}
 use Rattle.sk_base.specs.declared.Name.{Name}
 use Rattle.sk_family.specs.declared.Cluster.{Cluster}
-use Rattle.sk_rules.specs.declared.Merge.{Merge}
+use Rattle.sk_family.specs.declared.Merge.{Merge}
 use Rattle.sk_index.specs.declared.Index.{Index}
 use Rattle.sk_index.specs.Indexed.{IsThird, cluster_at, holders_of}
 use Rattle.sk_index.specs.Walks.{FromSome, GrowsBy}

@@ -7,7 +7,7 @@ use Rattle.sk_base.specs.declared.Name.{Name}
 use Rattle.sk_base.specs.ClusterNames.{IsBelow}
 use Rattle.sk_family.specs.declared.Cluster.{Cluster}
 use Rattle.sk_family.proofs.Naming.{below_chain}
-use Rattle.sk_rules.specs.declared.Merge.{Merge}
+use Rattle.sk_family.specs.declared.Merge.{Merge}
 use Rattle.sk_index.specs.declared.Index.{Index}
 use Rattle.sk_index.specs.Indexed.{IsIndex, IsThird, cluster_at, holders_of}
 use Rattle.sk_index.specs.Walks.{FromSome}

@@ -9,7 +9,7 @@ use Rattle.sk_index.specs.Indexed.{IsIndex}
 use Rattle.sk_base.specs.declared.Elem.{Elem}
 use Rattle.sk_base.specs.Numbering.{elem_exact}
 use Rattle.sk_base.proofs.Members.{nat_settles}
-use Rattle.sk_rules.specs.Rules.{SharesTwo}
+use Rattle.sk_family.specs.Rules.{SharesTwo}
 use Rattle.sk_search.specs.Partners.{GivenBy, IsOther, Partner, PartnerUnless}
 
 pub two_of_other : (xs ys : List Elem) (a : Elem) → Contains xs a → Contains ys a → (e : Elem) × Contains xs e × IsOther ys a e → SharesTwo xs ys

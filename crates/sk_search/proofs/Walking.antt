@@ -10,7 +10,7 @@ use Rattle.sk_index.specs.declared.Index.{Index}
 use Rattle.sk_index.specs.Indexed.{cluster_at}
 use Rattle.sk_index.specs.Walks.{FromSome}
 use Rattle.sk_search.specs.Ranked.{BesideAt, IsTripleOfAny, IsWithThird, LastAt, WithLower}
-use Rattle.sk_rules.specs.declared.Merge.{Merge}
+use Rattle.sk_family.specs.declared.Merge.{Merge}
 use Rattle.sk_family.proofs.Naming.{below_asymmetric, below_differs}
 use Rattle.sk_search.specs.declared.triples.Third.{Third}
 use Rattle.sk_search.specs.declared.triples.Third.TheVariants.{Below, Either}

@@ -2,7 +2,7 @@ ghost use Rattle.std.specs.Prelude.{◌↔◌, IsTrue, Contains};
 ghost use Rattle.sk_base.specs.declared.Elem.{Elem as Element};
 ghost use Rattle.sk_base.specs.Numbering.{elem_number};
 ghost use Rattle.sk_base.specs.Rising.{IsRising};
-ghost use Rattle.sk_rules.specs.Rules.{SharesTwo};
+ghost use Rattle.sk_family.specs.Rules.{SharesTwo};
 ghost use Rattle.sk_search.specs.Partners.{IsOther};
 
 use sk_base::Elem;

@@ -3,7 +3,7 @@ ghost use Rattle.std.specs.Prelude.{◌≡◌, ◌↔◌, IsTrue, Some};
 ghost use Rattle.sk_base.specs.ClusterNames.{IsBelow};
 ghost use Rattle.sk_base.specs.Numbering.{elem_number};
 ghost use Rattle.sk_base.specs.Rising.{IsRising};
-ghost use Rattle.sk_rules.specs.Rules.{SharesTwo};
+ghost use Rattle.sk_family.specs.Rules.{SharesTwo};
 ghost use Rattle.sk_index.specs.Indexed.{IsIndex};
 ghost use Rattle.sk_search.specs.Partners.{GivenBy, IsLeast, IsLesser, Partner, PartnerAt, PartnerOf, PartnerUnless};
 

@@ -12,7 +12,7 @@ use Rattle.sk_family.specs.Clusters.{Clusters, IsSound, initial_clusters, bodies
 use Rattle.sk_family.specs.Body.{initial_bodies}
 use Rattle.sk_family.proofs.Soundness.{sound_initial}
 use Rattle.sk_rules.specs.Reach.{Reach, stays}
-use Rattle.sk_worklist.proofs.Runs.{reach_on}
+use Rattle.sk_rules.proofs.Takable.{reach_on}
 use Rattle.sk_graph.specs.SketchGraph.{graph_of}
 use Rattle.sk_graph.proofs.Soundness.{graph_is_sound}
 use Rattle.sk_edits.specs.declared.Edit.{Edit}

@@ -21,7 +21,7 @@ use Rattle.sk_base.proofs.Unions.{union_cases}
 use Rattle.sk_family.specs.Body.{Start, starts, starting, initial_bodies}
 use Rattle.sk_base.proofs.Deciding.{con_settles}
 use Rattle.sk_family.proofs.GraphStarts.{start_at}
-use Rattle.sk_rules.specs.Rules.{IsLine}
+use Rattle.sk_family.specs.Rules.{IsLine}
 use Rattle.sk_rules.specs.Keeping.{HasOneMore, HasAllBut, KeepsKinds}
 use Rattle.sk_graph.specs.Naming.{named_by}
 use Rattle.sk_graph.specs.SketchGraph.{node_of, graph_of}

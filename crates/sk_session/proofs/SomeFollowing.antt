@@ -24,13 +24,12 @@ use Rattle.sk_family.specs.declared.Cluster.{Cluster}
 use Rattle.sk_family.specs.Clusters.{Clusters, start_of, IsNamed, IsSound, ByName}
 use Rattle.sk_family.specs.Starts.{IsFree, HasStart}
 use Rattle.sk_family.proofs.Dissolving.{dissolved, fewer_left, dissolved_sound, all_differ}
-use Rattle.sk_family.proofs.Naming.{below_irreflexive, below_asymmetric, below_chain, one_of_name}
+use Rattle.sk_family.proofs.Naming.{below_irreflexive, below_asymmetric, below_chain, one_of_name, below_tells}
 use Rattle.sk_family.proofs.Sorting.{HaveOtherNames}
 use Rattle.sk_family.proofs.Starting.{start_put, start_sound, with_start}
 use Rattle.sk_graph.specs.Naming.{named_by}
 use Rattle.sk_graph.specs.SketchGraph.{graph_of}
 use Rattle.sk_rules.proofs.KeptClusters.{owned_is_constraint}
-use Rattle.sk_worklist.proofs.OneRun.{below_tells}
 use Rattle.sk_edits.specs.declared.Edit.{Edit}
 use Rattle.sk_edits.specs.declared.Edit.TheVariants as edit
 use Rattle.sk_session.specs.declared.done.Done.{Done}

@@ -30,8 +30,9 @@ use Rattle.sk_lines.specs.EndLine.{is_none_left}
 use Rattle.sk_entry.specs.Entry.{rows_of, entry_code, IsEntryOf, Begins, StandsOn, IsNumbered}
 use Rattle.sk_lines.specs.FirstCode.{first_code}
 use Rattle.sk_entry.specs.Meaning.{added}
-use Rattle.sk_rules.specs.declared.Merge.{Merge}
-use Rattle.sk_rules.specs.Merges.{names_of, merged}
+use Rattle.sk_family.specs.declared.Merge.{Merge}
+use Rattle.sk_family.specs.Merges.{names_of}
+use Rattle.sk_rules.specs.Merges.{merged}
 use Rattle.sk_rules.specs.Reach.{Reach, IsNormal, stays, goes}
 use Rattle.sk_rules.proofs.Merging.{can_be_replaced, merge_steps}
 use Rattle.sk_rules.proofs.NormalForm.{normal_same}
@@ -39,7 +40,8 @@ use Rattle.sk_worklist.specs.declared.Order.{Order}
 use Rattle.sk_worklist.specs.Orders.{Choosing, place_of, next_call}
 use Rattle.sk_worklist.specs.Run.{PicksLead, IsRun}
 use Rattle.sk_index.proofs.Holding.{in_list}
-use Rattle.sk_worklist.proofs.Runs.{choice_can, none_closes, picks_sound, picks_room, reach_on}
+use Rattle.sk_worklist.proofs.Runs.{choice_can, none_closes, picks_sound, picks_room}
+use Rattle.sk_rules.proofs.Takable.{reach_on}
 use Rattle.sk_tree.specs.declared.Plan.{Plan}
 use Rattle.sk_verdict.specs.declared.Judgement.{Judgement}
 use Rattle.sk_verdict.specs.declared.Verdict.{Verdict}

@@ -8,7 +8,6 @@ use Rattle.sk_family.specs.declared.Cluster.{Cluster}
 use Rattle.sk_family.specs.Body.{Body}
 use Rattle.sk_family.specs.Clusters.{body_of}
 use Rattle.sk_base.specs.Numbering.{is_elem}
-use Rattle.std.proofs.lemmas.Bool.{and_parts}
 use Rattle.sk_base.proofs.Numbers.{elem_found, found_elem}
 use Rattle.sk_spare.specs.Sparing.{HoldsAll}
 use Rattle.sk_spare.specs.Trying.{holds_all, some_holds}

@@ -25,12 +25,12 @@ use Rattle.sk_family.specs.Starts.{HasStart, IsFree}
 use Rattle.sk_base.proofs.Deciding.{con_settles}
 use Rattle.sk_base.proofs.Filters.{same_tests}
 use Rattle.sk_family.proofs.GraphStarts.{start_at, found_start, no_starts}
-use Rattle.sk_rules.specs.Rules.{IsLine}
+use Rattle.sk_family.specs.Rules.{IsLine}
 use Rattle.sk_rules.specs.Reach.{Step, Reach, IsClosed, IsNormal, stays, goes}
 use Rattle.sk_rules.specs.Keeping.{HasOneMore}
 use Rattle.sk_rules.proofs.Keeping.{can_carry, contains_settles}
 use Rattle.sk_rules.proofs.KeptClusters.{adopted, owned_is_constraint}
-use Rattle.sk_worklist.proofs.Runs.{reach_on}
+use Rattle.sk_rules.proofs.Takable.{reach_on}
 use Rattle.sk_rules.specs.JustSome.{with_just}
 use Rattle.sk_spare.specs.Sparing.{differs_from}
 use Rattle.sk_spare.specs.Trying.{is_other, trial_graph}

@@ -28,7 +28,7 @@ use Rattle.sk_rules.proofs.KeptFamily.{each_owned}
 use Rattle.sk_rules.proofs.NormalForm.{reached_family, reach_covers}
 use Rattle.sk_rules.proofs.SummedWeights.{weighs_at_least, owned_found, found_owned}
 use Rattle.sk_rules.proofs.WeighedGraphs.{weighs_each}
-use Rattle.sk_worklist.proofs.Runs.{reach_on}
+use Rattle.sk_rules.proofs.Takable.{reach_on}
 use Rattle.sk_rules.specs.JustSome.{with_just}
 use Rattle.sk_spare.specs.Sparing.{HoldsAll, IsSpare}
 use Rattle.sk_spare.specs.Trying.{trial_graph, some_holds}

@@ -6,7 +6,7 @@ use Rattle.sk_base.specs.declared.Name.TheVariants.{Con, Step}
 use Rattle.sk_base.specs.ClusterNames.{IsBelow}
 use Rattle.sk_base.specs.Numbering.{con_exact}
 use Rattle.sk_base.proofs.Pairs.{pairs_tell}
-use Rattle.sk_rules.specs.declared.Merge.TheVariants.{Three}
+use Rattle.sk_family.specs.declared.Merge.TheVariants.{Three}
 use Rattle.sk_rules.specs.declared.Shared.{Shared}
 use Rattle.sk_rules.specs.declared.Taken.{Taken}
 use Rattle.sk_tree.specs.declared.tree.Tree.{Tree}

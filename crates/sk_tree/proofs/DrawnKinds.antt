@@ -11,7 +11,7 @@ use Rattle.sk_base.specs.declared.Element.{Element}
 use Rattle.sk_base.specs.declared.Shape.{Shape}
 use Rattle.sk_base.specs.declared.Shape.TheVariants.{Point as ShapePoint, Line as ShapeLine, Circle as ShapeCircle}
 use Rattle.sk_base.specs.declared.Sketch.{Sketch}
-use Rattle.sk_base.specs.Drawn.{shape_of}
+use Rattle.sk_base.specs.Drawn.{shape_of, is_line}
 use Rattle.sk_base.specs.SoundGraph.{HasNode}
 use Rattle.sk_base.specs.SoundSketch.{IsSoundSketch}
 use Rattle.sk_base.proofs.Members.{mapped_from}
@@ -20,7 +20,6 @@ use Rattle.sk_tree.specs.declared.plan.Choice.{Choice}
 use Rattle.sk_tree.specs.declared.plan.Choice.TheVariants.{Turn, Advance, Nothing}
 use Rattle.sk_tree.specs.LegalPlan.{FitsKinds}
 use Rattle.sk_graph.specs.SketchGraph.{kind_of, node_of, graph_of}
-use Rattle.sk_base.specs.Drawn.{is_line}
 use Rattle.sk_tree.specs.ByNumber.{by_number}
 use Rattle.sk_tree.specs.DrawnChoice.{drawn_choice, shapes_of}
 use Rattle.sk_tree.proofs.Ordering.{by_number_some}

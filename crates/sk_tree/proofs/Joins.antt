@@ -7,8 +7,8 @@ use Rattle.std.proofs.lemmas.List.Elements.{Contains-append_left, Contains-get_o
 use Rattle.sk_base.specs.declared.Name.{Name}
 use Rattle.sk_base.proofs.Members.{contains_head, contains_later}
 use Rattle.sk_rules.specs.declared.Taken.{Taken}
-use Rattle.sk_rules.specs.declared.Merge.TheVariants.{Two, Three}
-use Rattle.sk_rules.specs.Merges.{names_of}
+use Rattle.sk_family.specs.declared.Merge.TheVariants.{Two, Three}
+use Rattle.sk_family.specs.Merges.{names_of}
 use Rattle.sk_tree.specs.declared.tree.Tree.{Tree}
 use Rattle.sk_tree.specs.declared.tree.Tree.TheVariants.{Leaf, Join'}
 use Rattle.sk_tree.specs.Trees.{IsTreeOf, IsMade, AreJoins}

@@ -8,9 +8,9 @@ use Rattle.sk_base.specs.declared.Name.{Name}
 use Rattle.sk_base.specs.declared.Name.TheVariants.{Con, Step}
 use Rattle.sk_base.proofs.Members.{contains_none, contains_head, contains_cases}
 use Rattle.sk_rules.specs.declared.Taken.{Taken}
-use Rattle.sk_rules.specs.declared.Merge.{Merge}
-use Rattle.sk_rules.specs.declared.Merge.TheVariants.{Three}
-use Rattle.sk_rules.specs.Merges.{names_of}
+use Rattle.sk_family.specs.declared.Merge.{Merge}
+use Rattle.sk_family.specs.declared.Merge.TheVariants.{Three}
+use Rattle.sk_family.specs.Merges.{names_of}
 use Rattle.sk_tree.specs.declared.tree.Tree.{Tree}
 use Rattle.sk_tree.specs.declared.tree.Tree.TheVariants.{Leaf, Join'}
 use Rattle.sk_tree.specs.Trees.{IsTreeOf, IsMade, AreJoins}

@@ -12,10 +12,11 @@ use Rattle.sk_base.specs.SoundGraph.{HasNode}
 use Rattle.sk_family.specs.declared.Cluster.{Cluster}
 use Rattle.sk_family.specs.Body.{Start, starts}
 use Rattle.sk_family.specs.Clusters.{Clusters, IsNamed, initial_clusters}
-use Rattle.sk_rules.specs.declared.Merge.{Merge}
-use Rattle.sk_rules.specs.declared.Merge.TheVariants.{Three}
+use Rattle.sk_family.specs.declared.Merge.{Merge}
+use Rattle.sk_family.specs.declared.Merge.TheVariants.{Three}
 use Rattle.sk_rules.specs.declared.Taken.{Taken}
-use Rattle.sk_rules.specs.Merges.{Falls, merged}
+use Rattle.sk_family.specs.Merges.{Falls}
+use Rattle.sk_rules.specs.Merges.{merged}
 use Rattle.sk_tree.specs.declared.plan.Choice.{Choice}
 use Rattle.sk_tree.specs.declared.plan.Choice.TheVariants.{Turn, Advance, Nothing}
 use Rattle.sk_tree.specs.declared.plan.PlanStep.{PlanStep}

@@ -5,7 +5,7 @@ use Rattle.sk_base.specs.declared.Name.{Name}
 use Rattle.sk_base.specs.declared.Graph.{Graph}
 use Rattle.sk_family.specs.declared.Cluster.{Cluster}
 use Rattle.sk_family.specs.Clusters.{Clusters, IsNamed}
-use Rattle.sk_rules.specs.Rules.{IsShared, IsTriangle}
+use Rattle.sk_family.specs.Rules.{IsShared, IsTriangle}
 
 -- what the two lists share is that element
 abbrev pub SharesNoOther : List Elem → List Elem → Elem → Type 0

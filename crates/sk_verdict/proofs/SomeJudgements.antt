@@ -16,8 +16,7 @@ use Rattle.sk_verdict.specs.declared.judgement.Judgement.{Judgement}
 use Rattle.sk_verdict.specs.Ordering.{PartBefore}
 use Rattle.sk_verdict.specs.Parts.{elem_of, HasNoPin, IsLone, AreOfOnePart, part_with}
 use Rattle.sk_verdict.specs.Judging.{IsJudgement, verdict_on}
-use Rattle.sk_base.proofs.Deciding.{elem_settles}
-use Rattle.sk_base.proofs.Deciding.{Decided, all_decided, both, either, denied, moved, some_in, is_in}
+use Rattle.sk_base.proofs.Deciding.{elem_settles, Decided, all_decided, both, either, denied, moved, some_in, is_in}
 use Rattle.sk_base.proofs.Selecting.{selected}
 
 lone_decided : (g : Graph) (e : Elem) → Decided (IsLone g e)

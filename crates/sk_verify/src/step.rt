@@ -6,7 +6,7 @@ ghost use Rattle.sk_base.specs.SoundSketch.{IsSoundSketch};
 ghost use Rattle.sk_tree.specs.DrawnChoice.{HasDrawnChoice};
 ghost use Rattle.sk_graph.specs.SketchGraph.{graph_of};
 ghost use Rattle.sk_residual.specs.Telling.{HasCorners};
-ghost use Rattle.sk_rules.specs.Merges.{Falls};
+ghost use Rattle.sk_family.specs.Merges.{Falls};
 ghost use Rattle.sk_tree.specs.LegalPlan.{FitsKinds, IsLegalStep, IsLineWithPoints, IsPointWithLines, merge_told};
 ghost use Rattle.sk_verify.specs.RightSteps.{IsRightStep};
 

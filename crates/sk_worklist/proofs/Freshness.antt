@@ -7,23 +7,21 @@ use Rattle.sk_base.specs.declared.Graph.{Graph}
 use Rattle.sk_base.specs.ClusterNames.{IsBelow}
 use Rattle.sk_family.specs.declared.Cluster.{Cluster}
 use Rattle.sk_family.specs.Clusters.{Clusters, IsLive, IsNamed, IsSound}
-use Rattle.sk_family.proofs.Naming.{below_chain, below_differs, below_irreflexive, one_of_name}
-use Rattle.sk_rules.specs.declared.Merge.{Merge}
-use Rattle.sk_rules.specs.declared.Merge.TheVariants.{Three}
-use Rattle.sk_rules.specs.Rules.{MeetsInThree}
+use Rattle.sk_family.proofs.Naming.{below_chain, below_differs, below_irreflexive, one_of_name, below_others, below_tells}
+use Rattle.sk_family.specs.declared.Merge.{Merge}
+use Rattle.sk_family.specs.declared.Merge.TheVariants.{Three}
+use Rattle.sk_family.specs.Rules.{MeetsInThree}
 use Rattle.sk_index.specs.declared.Index.{Index}
 use Rattle.sk_index.specs.Indexed.{Represents}
 use Rattle.sk_index.specs.Walks.{FromSome}
 use Rattle.sk_worklist.specs.declared.heir.Heir.{Heir}
 use Rattle.sk_search.specs.declared.Third.TheVariants.{Either}
-use Rattle.sk_worklist.specs.Choices.{CanTake}
+use Rattle.sk_rules.specs.Merges.{CanTake, TakesFrom}
 use Rattle.sk_search.specs.Partners.{Partner, PartnerOf}
 use Rattle.sk_search.specs.Triples.{AtCorner}
-use Rattle.sk_worklist.specs.Gather.{IsUncovered, TakesFrom}
+use Rattle.sk_worklist.specs.Gather.{IsUncovered}
 use Rattle.sk_worklist.specs.Heirs.{Inherits, IsBeside, IsHeir, IsHeirOf, IsNoHeir, IsOfHeir, TellsFresh}
 use Rattle.sk_worklist.proofs.Gathered.{at_corner, found_at, three_of}
-use Rattle.sk_worklist.proofs.Lefts.{below_others}
-use Rattle.sk_worklist.proofs.OneRun.{below_tells}
 
 -- a name is another or the same
 one_or_other : (m n : Name) → (m ≡ n) ⊎ (m ≢ n)

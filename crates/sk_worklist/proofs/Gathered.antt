@@ -9,26 +9,17 @@ use Rattle.std.proofs.lemmas.Option.{same_Some}
 use Rattle.sk_family.specs.declared.Cluster.{Cluster}
 use Rattle.sk_family.specs.Clusters.{Clusters, IsSound}
 use Rattle.sk_family.proofs.Naming.{below_chain, one_of_name}
-use Rattle.sk_rules.specs.declared.Merge.{Merge}
-use Rattle.sk_rules.specs.declared.Merge.TheVariants.{Two, Three}
-use Rattle.sk_rules.specs.Rules.{IsTriangle, MeetsInThree, SharesTwo}
+use Rattle.sk_family.specs.declared.Merge.{Merge}
+use Rattle.sk_family.specs.declared.Merge.TheVariants.{Two, Three}
+use Rattle.sk_family.specs.Rules.{IsTriangle, MeetsInThree, SharesTwo}
 use Rattle.sk_rules.proofs.Merging.{meets_back, meets_on}
 use Rattle.sk_index.specs.declared.Index.{Index}
-use Rattle.sk_worklist.specs.Choices.{CanTake}
+use Rattle.sk_rules.specs.Merges.{CanTake, TakesFrom}
 use Rattle.sk_index.specs.Indexed.{Represents}
 use Rattle.sk_search.specs.declared.Third.{Third}
 use Rattle.sk_search.specs.declared.Third.TheVariants.{Below, Either}
 use Rattle.sk_search.specs.Partners.{Partner}
 use Rattle.sk_search.specs.Triples.{AtCorner, IsPlaced, IsTripleOf, TriplesOf}
-use Rattle.sk_worklist.specs.Gather.{TakesFrom}
-
--- the triangle with two clusters exchanged
-pub meets_turned : (g : Graph) (xs ys zs : List Elem) → MeetsInThree g xs ys zs → MeetsInThree g xs zs ys
-meets_turned g xs ys zs h = meets_on g ys xs zs (meets_on g zs ys xs (meets_back g xs ys zs h))
-
--- the first two exchanged
-pub meets_swapped : (g : Graph) (xs ys zs : List Elem) → MeetsInThree g xs ys zs → MeetsInThree g ys xs zs
-meets_swapped g xs ys zs h = meets_on g zs ys xs (meets_back g xs ys zs h)
 
 -- the third cluster is below the greatest
 placed_below : (third : Third) (x y z : Name) → IsBelow y x → IsPlaced third x y z → IsBelow z x

@@ -10,22 +10,22 @@ use Rattle.sk_base.specs.ClusterNames.{IsBelow, is_named}
 use Rattle.sk_base.proofs.Members.{contains_none, contains_head, contains_one, contains_filtered, filtered_from}
 use Rattle.sk_family.specs.declared.Cluster.{Cluster}
 use Rattle.sk_family.specs.Body.{Body}
-use Rattle.sk_family.specs.Clusters.{Clusters, IsLive, IsNamed, IsSound, body_of, replaced, unnamed, whole_from}
+use Rattle.sk_family.specs.Clusters.{Clusters, IsLive, IsNamed, IsSound, body_of, replaced, unnamed, whole_from, IsWithin}
 use Rattle.sk_family.proofs.Bodies.{each_within, holder_of}
-use Rattle.sk_family.proofs.Naming.{among_named, below_irreflexive, below_chain, below_differs, not_named, one_of_name, unnamed_true}
-use Rattle.sk_rules.specs.declared.Merge.{Merge}
-use Rattle.sk_rules.specs.declared.Merge.TheVariants.{Two, Three}
-use Rattle.sk_rules.specs.Merges.{Falls, merged, names_of}
-use Rattle.sk_rules.specs.Rules.{SharesTwo, MeetsInThree}
+use Rattle.sk_family.proofs.Naming.{among_named, below_irreflexive, below_chain, below_differs, not_named, one_of_name, unnamed_true, below_tells}
+use Rattle.sk_family.specs.declared.Merge.{Merge}
+use Rattle.sk_family.specs.declared.Merge.TheVariants.{Two, Three}
+use Rattle.sk_family.specs.Merges.{Falls, names_of}
+use Rattle.sk_rules.specs.Merges.{merged, CanTake}
+use Rattle.sk_family.specs.Rules.{SharesTwo, MeetsInThree}
 use Rattle.sk_rules.proofs.Merging.{meets_on, shares_back}
-use Rattle.sk_worklist.proofs.Gathered.{meets_swapped}
+use Rattle.sk_rules.proofs.Takable.{meets_swapped}
 use Rattle.sk_worklist.specs.declared.heir.Heir.{Heir}
-use Rattle.sk_worklist.specs.Choices.{CanTake}
-use Rattle.sk_worklist.specs.Known.{AreKept, IsWithin, Knows, NoPairBelow, avoiding}
+use Rattle.sk_worklist.specs.Known.{AreKept, Knows, NoPairBelow, avoiding}
 use Rattle.sk_worklist.specs.Heirs.{IsBeside, IsKeptWith, IsNoHeir, IsHeir, IsHeirOf, IsFreshOn}
-use Rattle.sk_worklist.proofs.Mending.{avoiding_none, live_below_next, no_pair_at_all}
-use Rattle.sk_worklist.proofs.OneRun.{below_tells}
-use Rattle.sk_worklist.proofs.TakingIn.{parts, in_parts, from_parts}
+use Rattle.sk_worklist.proofs.Mending.{avoiding_none, no_pair_at_all}
+use Rattle.sk_family.proofs.Lasting.{live_below_next}
+use Rattle.sk_family.proofs.Parts.{parts, in_parts, from_parts}
 
 module _ (g : Graph) (f : Clusters) (sound : IsSound f) where
   -- a triple that has the name and falls has the other two in order, and other than it

@@ -7,19 +7,18 @@ use Rattle.sk_base.specs.declared.Name.TheVariants.{Step}
 use Rattle.sk_base.specs.declared.Graph.{Graph}
 use Rattle.sk_base.specs.ClusterNames.{IsBelow, is_named}
 use Rattle.sk_family.specs.declared.Cluster.{Cluster}
-use Rattle.sk_family.specs.Clusters.{Clusters, IsNamed, IsSound, unnamed, whole_from, replaced}
+use Rattle.sk_family.specs.Clusters.{Clusters, IsNamed, IsSound, unnamed, whole_from, replaced, IsWithin}
 use Rattle.sk_base.proofs.Members.{contains_head, contains_later, contains_one, contains_filtered, filtered_from}
-use Rattle.sk_family.proofs.Naming.{below_irreflexive, below_asymmetric, below_chain}
+use Rattle.sk_family.proofs.Naming.{below_irreflexive, below_asymmetric, below_chain, below_tells}
 use Rattle.sk_family.proofs.Soundness.{below_next}
-use Rattle.sk_worklist.proofs.OneRun.{below_tells}
 use Rattle.sk_base.proofs.Pairs.{pairs_filter}
-use Rattle.sk_rules.specs.declared.Merge.{Merge}
-use Rattle.sk_rules.specs.declared.Merge.TheVariants.{Two, Three}
-use Rattle.sk_rules.specs.Merges.{Holds}
-use Rattle.sk_worklist.specs.Choices.{CanTake, ComesFirst}
-use Rattle.sk_worklist.specs.Known.{IsLeft, Avoids, names_one_of, avoiding, AreKept, IsWithin, NoPairBelow}
+use Rattle.sk_family.specs.declared.Merge.{Merge}
+use Rattle.sk_family.specs.declared.Merge.TheVariants.{Two, Three}
+use Rattle.sk_rules.specs.Merges.{Holds, CanTake}
+use Rattle.sk_worklist.specs.Choices.{ComesFirst}
+use Rattle.sk_worklist.specs.Known.{IsLeft, Avoids, names_one_of, avoiding, AreKept, NoPairBelow}
 
-pub is_false : (b : Bool) → not b ≡ true → b ≡ false
+is_false : (b : Bool) → not b ≡ true → b ≡ false
 is_false true h = absurd (cc)
 is_false false h = refl
 
@@ -35,23 +34,6 @@ all_three false true r h i j = absurd (cc)
 all_three false false true h i j = absurd (cc)
 all_three false false false h i j = refl
 
--- what is below a name is below all that aren't
-pub below_others : (x bound n : Name) → IsBelow x bound → ¬ IsBelow n bound → IsBelow x n
-below_others x bound n below not_below =
-    elim (below_tells x n) [
-      | inl less ↦ less
-      | inr (inl same) ↦ absurd (not_below (subst (λ l. IsBelow l bound) same below))
-      | inr (inr above) ↦ absurd (not_below (below_chain n x bound above below))
-    ]
-
-pub is_it_below : (x bound : Name) → IsBelow x bound ⊎ ¬ IsBelow x bound
-is_it_below x bound =
-    elim (below_tells x bound) [
-      | inl below ↦ inl below
-      | inr (inl same) ↦ inr (λ h. below_irreflexive x (subst (λ l. IsBelow x l) (sym same) h))
-      | inr (inr above) ↦ inr (below_asymmetric bound x above)
-    ]
-
 module _ (f : Clusters) (gone : List Name) where
   stays : Cluster → Bool
   stays d = not (is_named gone d.name)
@@ -61,19 +43,6 @@ module _ (f : Clusters) (gone : List Name) where
     lives = Contains-append_left (unnamed gone f.live) (whole_from (Step f.next_step) gone f.live ∷ []) c
         (contains_filtered (λ (d : Cluster). not (is_named gone d.name)) f.live c is.lives
         (ap not (subst (λ l. is_named gone l ≡ false) (sym is.has_name) left.not_gone)));
-    has_name = is.has_name;
-  }
-
-  pub old_before : (n : Name) → n ≢ Step f.next_step → (c : Cluster) → IsNamed (replaced f gone) n c → Contains (unnamed gone f.live) c
-  old_before n other c is =
-      elim (Contains-append_cases (unnamed gone f.live) (whole_from (Step f.next_step) gone f.live ∷ []) c is.lives) [
-        | inl old ↦ old
-        | inr new ↦ absurd (other (sym is.has_name ∙ ap (λ (d : Cluster). d.name) (sym (contains_one (whole_from (Step f.next_step) gone f.live) c new))))
-      ]
-
-  pub named_before : (n : Name) → n ≢ Step f.next_step → (c : Cluster) → IsNamed (replaced f gone) n c → IsNamed f n c
-  named_before n other c is = record {
-    lives = (filtered_from (λ (d : Cluster). not (is_named gone d.name)) f.live c (old_before n other c is)).0;
     has_name = is.has_name;
   }
 
@@ -117,12 +86,6 @@ module _ (f : Clusters) (gone : List Name) where
   three_left x y z lx ly lz n (suc (suc (suc k)), below, is) = absurd (omega arith)
 
   module _ (g : Graph) (sound : IsSound f) where
-    live_old : (c : Cluster) (n : Name) → Contains f.live c → c.name ≡ n → IsBelow n (Step f.next_step)
-    live_old c n c_in is = below_next f.next_step n (λ k e. sound.steps_below c k c_in (is ∙ e))
-
-    pub not_next : (n : Name) → IsBelow n (Step f.next_step) → n ≢ Step f.next_step
-    not_next n below e = below_asymmetric n (Step f.next_step) below (subst (λ l. IsBelow l n) e (subst (λ l. IsBelow n l) (sym e) below))
-
     right_three : (x y z : Name) → CanTake g f (Three x y z) → not (names_one_of gone (Three x y z)) ≡ true → CanTake g (replaced f gone) (Three x y z)
     right_three x y z (falls, (a, b, c, a_is, b_is, c_is, meets)) apart =
         let none = none_of_three (is_named gone x) (is_named gone y) (is_named gone z) apart in

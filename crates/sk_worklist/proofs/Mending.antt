@@ -8,22 +8,20 @@ use Rattle.sk_base.specs.declared.Name.TheVariants.{Con, Step}
 use Rattle.sk_base.specs.declared.Graph.{Graph}
 use Rattle.sk_base.specs.ClusterNames.{IsBelow, is_named, name_eq}
 use Rattle.sk_family.specs.declared.Cluster.{Cluster}
-use Rattle.sk_family.specs.Clusters.{Clusters, IsNamed, IsSound, replaced}
+use Rattle.sk_family.specs.Clusters.{Clusters, IsNamed, IsSound, replaced, IsWithin}
 use Rattle.sk_base.proofs.Splits.{pairs_append}
 use Rattle.sk_base.proofs.Filters.{filter_both, neither}
-use Rattle.sk_family.proofs.Naming.{among_named, named_among}
+use Rattle.sk_family.proofs.Naming.{among_named, named_among, below_others, is_it_below}
 use Rattle.sk_family.proofs.Soundness.{below_next}
-use Rattle.sk_rules.specs.declared.Merge.{Merge}
-use Rattle.sk_rules.specs.declared.Merge.TheVariants.{Two, Three}
-use Rattle.sk_worklist.specs.Choices.{CanTake, ComesFirst, AreTriples}
-use Rattle.sk_worklist.specs.Known.{AreKept, IsWithin, NoPairBelow, Knows, avoiding, names_one_of}
-use Rattle.sk_worklist.proofs.Lefts.{mended, no_pair_after, below_others, is_it_below}
-use Rattle.sk_worklist.specs.Gather.{TakesFrom, AreUncovered}
+use Rattle.sk_family.specs.declared.Merge.{Merge}
+use Rattle.sk_family.specs.declared.Merge.TheVariants.{Two, Three}
+use Rattle.sk_rules.specs.Merges.{CanTake, TakesFrom}
+use Rattle.sk_worklist.specs.Choices.{ComesFirst, AreTriples}
+use Rattle.sk_worklist.specs.Known.{AreKept, NoPairBelow, Knows, avoiding, names_one_of}
+use Rattle.sk_worklist.proofs.Lefts.{mended, no_pair_after}
+use Rattle.sk_worklist.specs.Gather.{AreUncovered}
 
 module _ (g : Graph) (f : Clusters) (sound : IsSound f) where
-  pub live_below_next : (c : Cluster) → Contains f.live c → IsBelow c.name (Step f.next_step)
-  live_below_next c c_in = below_next f.next_step c.name (λ k e. sound.steps_below c k c_in e)
-
   named_below_next : (n : Name) (c : Cluster) → IsNamed f n c → IsBelow n (Step f.next_step)
   named_below_next n c is = subst (λ l. IsBelow l (Step f.next_step)) is.has_name (live_below_next c is.lives)
 

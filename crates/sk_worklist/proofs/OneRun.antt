@@ -10,17 +10,12 @@ use Rattle.sk_base.proofs.Pairs.{pairs_same}
 use Rattle.std.proofs.lemmas.Option.{same_Some}
 use Rattle.sk_family.specs.Clusters.{Clusters}
 use Rattle.sk_family.proofs.Naming.{below_irreflexive, below_asymmetric}
-use Rattle.sk_rules.specs.declared.Merge.{Merge}
-use Rattle.sk_rules.specs.declared.Merge.TheVariants.{Two}
-use Rattle.sk_rules.specs.Merges.{names_of, merged}
-use Rattle.sk_worklist.specs.Choices.{NamesBefore, ComesFirst, CanTake, IsFirstPair, AreTriples, AreChoices}
+use Rattle.sk_family.specs.declared.Merge.{Merge}
+use Rattle.sk_family.specs.declared.Merge.TheVariants.{Two}
+use Rattle.sk_family.specs.Merges.{names_of}
+use Rattle.sk_rules.specs.Merges.{merged, CanTake}
+use Rattle.sk_worklist.specs.Choices.{NamesBefore, ComesFirst, IsFirstPair, AreTriples, AreChoices}
 use Rattle.sk_worklist.specs.Run.{PicksLeadBy}
-
-pub below_tells : (m n : Name) → IsBelow m n ⊎ ((m ≡ n) ⊎ IsBelow n m)
-below_tells (Con j) (Con k) = elim (which j k) [ inl less ↦ inl less | inr (inl level) ↦ inr (inl (ap Con level)) | inr (inr more) ↦ inr (inr more) ]
-below_tells (Con j) (Step k) = inl tt
-below_tells (Step j) (Con k) = inr (inr tt)
-below_tells (Step j) (Step k) = elim (which j k) [ inl less ↦ inl less | inr (inl level) ↦ inr (inl (ap Step level)) | inr (inr more) ↦ inr (inr more) ]
 
 pub names_irreflexive : (ns : List Name) → ¬ NamesBefore ns ns
 names_irreflexive [] h = h

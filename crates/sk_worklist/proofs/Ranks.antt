@@ -11,19 +11,19 @@ use Rattle.sk_base.specs.ClusterNames.{IsBelow}
 use Rattle.sk_base.proofs.Unions.{which}
 use Rattle.sk_family.specs.declared.Cluster.{Cluster}
 use Rattle.sk_family.specs.Clusters.{Clusters, IsSound}
-use Rattle.sk_family.proofs.Naming.{below_asymmetric, below_chain, below_differs}
-use Rattle.sk_rules.specs.declared.Merge.{Merge}
-use Rattle.sk_rules.specs.declared.Merge.TheVariants.{Three}
-use Rattle.sk_rules.specs.Rules.{IsTriangle, MeetsInThree}
+use Rattle.sk_family.proofs.Naming.{below_asymmetric, below_chain, below_differs, below_tells}
+use Rattle.sk_family.specs.declared.Merge.{Merge}
+use Rattle.sk_family.specs.declared.Merge.TheVariants.{Three}
+use Rattle.sk_family.specs.Rules.{IsTriangle, MeetsInThree}
 use Rattle.sk_rules.proofs.Merging.{meets_on}
 use Rattle.sk_index.specs.declared.Index.{Index}
 use Rattle.sk_index.specs.Indexed.{IsLineAt, Represents, holders_of}
 use Rattle.sk_index.specs.Walks.{FromSome}
-use Rattle.sk_worklist.specs.Choices.{CanTake}
+use Rattle.sk_rules.specs.Merges.{CanTake}
 use Rattle.sk_worklist.specs.Gather.{IsUncovered}
 use Rattle.sk_search.specs.Ranked.{IsLower, IsTripleOfAny, IsWithThird, RankedFrom}
-use Rattle.sk_worklist.proofs.Gathered.{meets_swapped, meets_turned, three_of}
-use Rattle.sk_worklist.proofs.OneRun.{below_tells}
+use Rattle.sk_rules.proofs.Takable.{meets_swapped, meets_turned}
+use Rattle.sk_worklist.proofs.Gathered.{three_of}
 
 -- a lower element is another one, and of two others one is lower
 lower_differs : (ix : Index) (e c : Elem) → IsLower ix e c → c ≢ e

@@ -7,14 +7,15 @@ use Rattle.sk_base.specs.declared.Graph.{Graph}
 use Rattle.sk_family.specs.Body.{Body}
 use Rattle.sk_family.specs.Clusters.{Clusters, bodies, unnamed, whole_from, IsSound}
 use Rattle.sk_base.proofs.Members.{contains_none, contains_one}
-use Rattle.sk_rules.specs.declared.Merge.{Merge}
+use Rattle.sk_family.specs.declared.Merge.{Merge}
 use Rattle.sk_rules.specs.declared.Taken.{Taken}
-use Rattle.sk_rules.specs.Merges.{Falls, Holds, merged, names_of}
+use Rattle.sk_family.specs.Merges.{Falls, names_of}
+use Rattle.sk_rules.specs.Merges.{Holds, merged, CanTake}
 use Rattle.sk_rules.specs.Taking.{IsTaken, Leads}
 use Rattle.sk_rules.specs.Reach.{Reach, stays, goes, IsClosed}
 use Rattle.sk_rules.proofs.Merging.{merge_lessens, closed_by_merges, can_be_replaced}
 use Rattle.sk_family.proofs.Soundness.{sound_replaced}
-use Rattle.sk_worklist.specs.Choices.{CanTake, AreChoices}
+use Rattle.sk_worklist.specs.Choices.{AreChoices}
 use Rattle.sk_worklist.specs.Run.{PicksLead, merge_of}
 use Rattle.sk_worklist.specs.Turns.{Answers}
 use Rattle.sk_index.proofs.Holding.{in_list}
@@ -22,10 +23,6 @@ use Rattle.sk_index.proofs.Holding.{in_list}
 pub on_err : {T E P : Type 0} (r : Result T E) → P → OnErr r P
 on_err (Ok x) h = tt
 on_err (Err e) h = h
-
-pub reach_on : (g : Graph) (f m n : List Body) → Reach g f m → Reach g m n → Reach g f n
-reach_on g f m n stays rest = rest
-reach_on g f m n (goes {mid = mid} first more) rest = goes first (reach_on g mid m n more rest)
 
 pub choice_can : (g : Graph) (f : Clusters) (choices : List Merge) → AreChoices g f choices → (m : Merge) → Contains choices m → CanTake g f m
 choice_can g f choices (inl (first, is, h)) m m_in =
@@ -44,13 +41,6 @@ none_closes g f sound none = closed_by_merges g f sound (none_can g f none)
 pub leads_more : (g : Graph) (f mid : Clusters) (ts : List Taken) (t : Taken) → Leads g f ts mid → IsTaken g mid t → Leads g f (ts ++ t ∷ []) (merged mid t.merge)
 leads_more g f mid [] t is taken = (subst (λ (e : Clusters). IsTaken g e t) (sym is) taken, ap (λ (e : Clusters). merged e t.merge) is)
 leads_more g f mid (u ∷ ts) t (first, rest) taken = (first, leads_more g (merged f u.merge) mid ts t rest taken)
-
--- a merge that may be taken has two clusters
-pub two_live : (g : Graph) (f : Clusters) → IsSound f → (m : Merge) → CanTake g f m → 1 < length f.live
-two_live g f sound m can =
-    let less = merge_lessens g f sound m can.0 can.1 in
-    let some = length-append (unnamed (names_of m) f.live) (whole_from (StepName f.next_step) (names_of m) f.live ∷ []) in
-    omega (arith, less, some)
 
 module _ {P : Type 0} (answer : P → ℕ → ℕ) (after : P → ℕ → P) (g : Graph) where
   -- one more picked choice at the end of those that lead here

@@ -7,23 +7,22 @@ use Rattle.sk_base.specs.declared.Graph.{Graph}
 use Rattle.sk_base.specs.ClusterNames.{IsBelow}
 use Rattle.sk_base.proofs.Members.{contains_none}
 use Rattle.sk_family.specs.declared.Cluster.{Cluster}
-use Rattle.sk_family.specs.Clusters.{Clusters, IsSound, bodies, replaced}
-use Rattle.sk_family.proofs.Naming.{below_asymmetric, below_chain}
-use Rattle.sk_rules.specs.declared.Merge.{Merge}
-use Rattle.sk_rules.specs.declared.Merge.TheVariants.{Two, Three}
+use Rattle.sk_family.specs.Clusters.{Clusters, IsSound, bodies, replaced, IsWithin}
+use Rattle.sk_family.proofs.Naming.{below_asymmetric, below_chain, below_others, is_it_below}
+use Rattle.sk_family.specs.declared.Merge.{Merge}
+use Rattle.sk_family.specs.declared.Merge.TheVariants.{Two, Three}
 use Rattle.sk_rules.specs.Reach.{IsClosed}
 use Rattle.sk_rules.proofs.Merging.{closed_by_merges}
 use Rattle.sk_index.specs.declared.Index.{Index}
-use Rattle.sk_worklist.specs.Choices.{CanTake}
-use Rattle.sk_worklist.specs.Known.{IsWithin}
+use Rattle.sk_rules.specs.Merges.{CanTake}
 use Rattle.sk_index.specs.Indexed.{Represents}
 use Rattle.sk_index.specs.Walks.{GrowsBy}
 use Rattle.sk_search.specs.Partners.{Partner}
 use Rattle.sk_search.specs.Triples.{TriplesOf}
 use Rattle.sk_worklist.specs.Settling.{IsAny, IsSettledBelow, IsNextMerge, MergesOf, greatest_of}
 use Rattle.sk_worklist.proofs.Gathered.{found_can, can_found, partner_can, can_partner}
-use Rattle.sk_worklist.proofs.Lefts.{below_others, is_it_below, left_three, named_before, not_next}
-use Rattle.sk_worklist.proofs.Mending.{live_below_next}
+use Rattle.sk_worklist.proofs.Lefts.{left_three}
+use Rattle.sk_family.proofs.Lasting.{named_before, not_next, live_below_next}
 
 -- nothing is below the first name
 pub nothing_below : (n : Name) → ¬ IsBelow n (Con 0)

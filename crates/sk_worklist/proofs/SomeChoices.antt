@@ -8,13 +8,14 @@ use Rattle.sk_base.proofs.Members.{contains_none, contains_head, contains_cases,
 use Rattle.sk_base.proofs.Pairs.{pairs_head}
 use Rattle.sk_family.specs.declared.Cluster.{Cluster}
 use Rattle.sk_family.specs.Clusters.{Clusters, IsNamed, live_names}
-use Rattle.sk_family.proofs.Naming.{below_chain}
-use Rattle.sk_rules.specs.declared.Merge.{Merge}
-use Rattle.sk_rules.specs.declared.Merge.TheVariants.{Two, Three}
-use Rattle.sk_rules.specs.Merges.{names_of}
+use Rattle.sk_family.proofs.Naming.{below_chain, below_tells}
+use Rattle.sk_family.specs.declared.Merge.{Merge}
+use Rattle.sk_family.specs.declared.Merge.TheVariants.{Two, Three}
+use Rattle.sk_family.specs.Merges.{names_of}
 use Rattle.sk_rules.proofs.SettledRules.{holds_decided, falls_decided}
-use Rattle.sk_worklist.specs.Choices.{NamesBefore, ComesFirst, CanTake, AreTriples, AreChoices}
-use Rattle.sk_worklist.proofs.OneRun.{below_tells, names_irreflexive, names_asymmetric}
+use Rattle.sk_worklist.specs.Choices.{NamesBefore, ComesFirst, AreTriples, AreChoices}
+use Rattle.sk_rules.specs.Merges.{CanTake}
+use Rattle.sk_worklist.proofs.OneRun.{names_irreflexive, names_asymmetric}
 use Rattle.sk_base.proofs.Deciding.{Decided, both}
 use Rattle.sk_base.proofs.Selecting.{selected, times, in_times, from_times}
 

@@ -7,9 +7,10 @@ use Rattle.sk_base.specs.declared.Graph.{Graph}
 use Rattle.sk_base.specs.declared.Name.TheVariants.{Step}
 use Rattle.sk_family.specs.Clusters.{Clusters, IsSound}
 use Rattle.sk_family.proofs.Soundness.{sound_replaced}
-use Rattle.sk_rules.specs.declared.Merge.{Merge}
+use Rattle.sk_family.specs.declared.Merge.{Merge}
 use Rattle.sk_rules.specs.declared.Taken.{Taken}
-use Rattle.sk_rules.specs.Merges.{names_of, merged}
+use Rattle.sk_family.specs.Merges.{names_of}
+use Rattle.sk_rules.specs.Merges.{merged}
 use Rattle.sk_rules.specs.Taking.{Leads}
 use Rattle.sk_rules.proofs.Merging.{can_be_replaced, merge_lessens}
 use Rattle.sk_worklist.specs.Choices.{AreChoices}

@@ -8,13 +8,12 @@ use Rattle.sk_base.proofs.Members.{contains_none, contains_head, contains_later,
 use Rattle.sk_base.proofs.Pairs.{pairs_tail, pairs_head}
 use Rattle.sk_base.proofs.Unions.{which}
 use Rattle.sk_family.specs.Clusters.{Clusters}
-use Rattle.sk_rules.specs.declared.Merge.{Merge}
-use Rattle.sk_rules.specs.declared.Merge.TheVariants.{Two, Three}
+use Rattle.sk_family.specs.declared.Merge.{Merge}
+use Rattle.sk_family.specs.declared.Merge.TheVariants.{Two, Three}
 use Rattle.sk_rules.specs.declared.Shared.{Shared}
-use Rattle.sk_rules.specs.Rules.{IsShared, IsTriangle, SharesTwo, MeetsInThree}
+use Rattle.sk_family.specs.Rules.{IsShared, IsTriangle, SharesTwo, MeetsInThree}
 use Rattle.sk_rules.specs.Merges.{Holds, IsLeastPair, ComesBefore, IsLeastTriangle, IsLeastShared}
-use Rattle.sk_base.proofs.Deciding.{elem_settles}
-use Rattle.sk_base.proofs.Deciding.{both, is_in}
+use Rattle.sk_base.proofs.Deciding.{elem_settles, both, is_in}
 use Rattle.sk_base.proofs.Selecting.{number_tells, selected, times, in_times}
 use Rattle.sk_rules.proofs.SettledRules.{triangle_decided}
 

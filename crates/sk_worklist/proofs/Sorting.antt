@@ -5,15 +5,14 @@ use Rattle.std.specs.Ordering.{ordering_then, ordering_index, eq_by_cmp, is_eq, 
 use Rattle.std.specs.Cmp.{ranked, IsTotalOrder, IsEquivalence}
 use Rattle.std.specs.List.Retain.{IsFiltered, DiffersFromLast}
 use Rattle.std.proofs.lemmas.List.Filters.{dedup_is}
-use Rattle.sk_rules.specs.contracts.merge.MergeEq.TheImpl as eq_laws
-use Rattle.std.specs.List.{AllByRecursion}
+use Rattle.sk_family.specs.contracts.merge.MergeEq.TheImpl as eq_laws
+use Rattle.std.specs.List.{AllByRecursion, dedup}
 use Rattle.std.specs.List.Sorted.{IsStrictlySortedBy, IsSorted, IsPermutation, IsSearchInRange, IsBinarySearchResult, IsNonDecreasingBy, IsPartitionPoint}
 use Rattle.std.proofs.lemmas.List.Kept.{IsStrictlySortedBy-dedup, Contains-dedup, Contains-from_dedup}
 use Rattle.std.proofs.lemmas.List.Sorted.{Contains-permutation, IsPermutation-sym, searchable_from_sorted}
 use Rattle.std.proofs.lemmas.List.Elements.{Contains-get_or}
 use Rattle.std.proofs.lemmas.Bool.{cases_lt}
 use Rattle.std.proofs.lemmas.Bool.Decides.{nat_tests}
-use Rattle.std.specs.List.{dedup}
 use Rattle.sk_base.specs.ClusterNames.{IsBelow, is_named}
 use Rattle.sk_base.specs.declared.Name.{Name}
 use Rattle.sk_base.specs.declared.Name.TheVariants.{Con, Step}
@@ -24,10 +23,10 @@ use Rattle.sk_base.proofs.Members.{contains_none, contains_head, contains_later,
 use Rattle.sk_base.proofs.NameOrder.{same_name}
 use Rattle.sk_base.proofs.Pairs.{pairs_none, pairs_cons}
 use Rattle.sk_family.proofs.Naming.{below_irreflexive, among_named, named_among}
-use Rattle.sk_rules.specs.declared.Merge.{Merge}
-use Rattle.sk_rules.specs.declared.Merge.TheVariants.{Two, Three}
-use Rattle.sk_rules.specs.contracts.merge.MergeOrd.TheImpl as merges
-use Rattle.sk_rules.specs.contracts.merge.MergePartialEq.TheImpl as equal_merges
+use Rattle.sk_family.specs.declared.Merge.{Merge}
+use Rattle.sk_family.specs.declared.Merge.TheVariants.{Two, Three}
+use Rattle.sk_family.specs.contracts.merge.MergeOrd.TheImpl as merges
+use Rattle.sk_family.specs.contracts.merge.MergePartialEq.TheImpl as equal_merges
 use Rattle.sk_worklist.specs.Choices.{ComesFirst}
 use Rattle.sk_worklist.specs.Known.{IsTriple}
 

@@ -12,54 +12,22 @@ use Rattle.sk_base.proofs.Pairs.{pairs_none, pairs_push}
 use Rattle.sk_rules.proofs.Keeping.{reach_then}
 use Rattle.sk_family.specs.declared.Cluster.{Cluster}
 use Rattle.sk_family.specs.Body.{Body, IsRisingBody, join_all}
-use Rattle.sk_family.specs.Clusters.{Clusters, IsLive, IsNamed, IsSound, body_of, bodies, named, made_of, replaced, unnamed}
+use Rattle.sk_family.specs.Clusters.{Clusters, IsLive, IsNamed, IsSound, body_of, bodies, named, made_of, replaced, unnamed, HasElements}
 use Rattle.sk_family.proofs.Bodies.{Within, each_within, whole_within, within_along, same_within, owner_of, holder_of, rising_whole}
 use Rattle.sk_family.proofs.Naming.{among_named, named_among, not_named, one_of_name, one_of_body}
 use Rattle.sk_family.proofs.Taking.{unnamed_more}
 use Rattle.sk_rules.specs.Reach.{AreAmong, CanMerge, Reach, Replaces, Step, goes, stays}
-use Rattle.sk_rules.specs.declared.Merge.{Merge}
-use Rattle.sk_rules.specs.declared.Merge.TheVariants.{Two, Three}
-use Rattle.sk_rules.specs.Merges.{names_of}
+use Rattle.sk_family.specs.declared.Merge.{Merge}
+use Rattle.sk_family.specs.declared.Merge.TheVariants.{Two, Three}
+use Rattle.sk_family.specs.Merges.{names_of}
 use Rattle.sk_rules.proofs.Merging.{merge_steps, replaced_replaces}
 use Rattle.sk_index.specs.declared.Index.{Index}
 use Rattle.sk_worklist.specs.declared.growth.Joining.TheVariants.{One, Both}
 use Rattle.sk_worklist.specs.Grown.{IsMarkedIn, MarksTwo, Joins, HasGrown, IsGrown}
 use Rattle.sk_index.specs.Marks.{IsMarked}
-use Rattle.sk_worklist.specs.Choices.{CanTake}
-use Rattle.sk_index.specs.Indexed.{HasElements, IsHeld, IsIndex, KeepsLines, IsThird, Represents}
-use Rattle.sk_worklist.proofs.Entering.{represents_left}
-
-module _ (f : Clusters) where
-  abbrev pub parts : List Name → List Body
-  parts names = map body_of (named names f.live)
-
-  pub in_parts : (names : List Name) (c : Cluster) → Contains f.live c → Contains names c.name → Contains (parts names) (body_of c)
-  in_parts names c c_in n_in =
-      contains_mapped body_of (named names f.live) c (contains_filtered (λ (d : Cluster). is_named names d.name) f.live c c_in (named_among names c.name n_in))
-
-  pub from_parts : (names : List Name) (b : Body) → Contains (parts names) b → (c : Cluster) × Contains f.live c × Contains names c.name × (body_of c ≡ b)
-  from_parts names b b_in =
-      let (c, c_in, is) = mapped_from body_of (named names f.live) b b_in in
-      let (was, is_one) = filtered_from (λ (d : Cluster). is_named names d.name) f.live c c_in in
-      (c, was, among_named names c.name is_one, is)
-
-  pub parts_left : (names more : List Name) (b : Body) → Contains (parts names) b → Contains (parts (names ++ more)) b
-  parts_left names more b h =
-      let (c, c_in, n_in, is) = from_parts names b h in
-      subst (λ x. Contains (parts (names ++ more)) x) is (in_parts (names ++ more) c c_in (Contains-append_left names more c.name n_in))
-
-  pub parts_right : (names more : List Name) (b : Body) → Contains (parts more) b → Contains (parts (names ++ more)) b
-  parts_right names more b h =
-      let (c, c_in, n_in, is) = from_parts more b h in
-      subst (λ x. Contains (parts (names ++ more)) x) is (in_parts (names ++ more) c c_in (Contains-append_right names more c.name n_in))
-
-  pub parts_cases : (names more : List Name) (b : Body) → Contains (parts (names ++ more)) b → Contains (parts names) b ⊎ Contains (parts more) b
-  parts_cases names more b h =
-      let (c, c_in, n_in, is) = from_parts (names ++ more) b h in
-      elim (Contains-append_cases names more c.name n_in) [
-        | inl before ↦ inl (subst (λ x. Contains (parts names) x) is (in_parts names c c_in before))
-        | inr after ↦ inr (subst (λ x. Contains (parts more) x) is (in_parts more c c_in after))
-      ]
+use Rattle.sk_rules.specs.Merges.{CanTake}
+use Rattle.sk_index.specs.Indexed.{IsHeld, IsIndex, KeepsLines, IsThird, Represents}
+use Rattle.sk_index.proofs.Representing.{represents_left}
 
 module _ (f : Clusters) (sound : IsSound f) where
   part_rises : (names : List Name) (b : Body) → Contains (parts f names) b → IsRisingBody b
@@ -291,10 +259,6 @@ module _ (ix : Index) (g : Graph) (f : Clusters) (sound : IsSound f) (names : Li
         | inr later ↦ subst (λ k. ¬ Contains names k) (z_is ∙ contains_one n l later) z_apart
       ])
       (can_both ix g f sound names marks has x held z z_held (subst (λ k. k ≢ x.name) (sym z_is) other) a b c a_in b_x b_z c_in a_b third (other_body ix g f sound names marks has z z_held))
-
-pub both_on_ok : {T E P Q R : Type 0} (r : Result T E) → OnOk r P → OnOk r Q → (P → Q → R) → OnOk r R
-both_on_ok (Ok x) p q to = to p q
-both_on_ok (Err e) p q to = tt
 
 -- what the index holds may be taken in
 module _ (ix : Index) (g : Graph) (f : Clusters) (sound : IsSound f) (names : List Name) (marks : List Bool) (has : HasGrown ix g f names marks) (n : Name) (x : Cluster) (held : IsHeld ix x) (is : x.name ≡ n) where

@@ -7,22 +7,23 @@ use Rattle.sk_base.specs.declared.Graph.{Graph}
 use Rattle.sk_base.specs.ClusterNames.{IsBelow}
 use Rattle.sk_base.proofs.Members.{contains_none}
 use Rattle.sk_family.specs.declared.Cluster.{Cluster}
-use Rattle.sk_family.specs.Clusters.{Clusters, IsSound}
-use Rattle.sk_family.proofs.Naming.{below_irreflexive, below_asymmetric}
-use Rattle.sk_rules.specs.declared.Merge.{Merge}
-use Rattle.sk_rules.specs.declared.Merge.TheVariants.{Two}
+use Rattle.sk_family.specs.Clusters.{Clusters, IsSound, IsWithin}
+use Rattle.sk_family.proofs.Naming.{below_irreflexive, below_asymmetric, is_it_below}
+use Rattle.sk_family.specs.declared.Merge.{Merge}
+use Rattle.sk_family.specs.declared.Merge.TheVariants.{Two}
 use Rattle.sk_index.specs.declared.Index.{Index}
-use Rattle.sk_worklist.specs.Choices.{CanTake, ComesFirst, IsFirstPair, AreTriples}
+use Rattle.sk_rules.specs.Merges.{CanTake}
+use Rattle.sk_worklist.specs.Choices.{ComesFirst, IsFirstPair, AreTriples}
 use Rattle.sk_index.specs.Walks.{GrowsBy, FromSome}
 use Rattle.sk_search.specs.Partners.{Partner}
 use Rattle.sk_search.specs.Triples.{TriplesOf}
 use Rattle.sk_worklist.specs.Gather.{IsPartner, IsUncovered, AreUncovered}
-use Rattle.sk_worklist.specs.Known.{AreKept, IsTriple, IsWithin, Knows, NoPairBelow, avoiding}
+use Rattle.sk_worklist.specs.Known.{AreKept, IsTriple, Knows, NoPairBelow, avoiding}
 use Rattle.sk_index.specs.Indexed.{Represents}
 use Rattle.sk_worklist.specs.Turns.{HasNoPair}
 use Rattle.sk_worklist.proofs.Gathered.{found_can, can_found, partner_can, can_partner}
-use Rattle.sk_worklist.proofs.Lefts.{is_it_below}
-use Rattle.sk_worklist.proofs.Mending.{kept_more, kept_are_choices, live_below_next, avoiding_none}
+use Rattle.sk_worklist.proofs.Mending.{kept_more, kept_are_choices, avoiding_none}
+use Rattle.sk_family.proofs.Lasting.{live_below_next}
 
 pub both_ok : {T E : Type 0} (P Q R : T → Type 0) (r : Result T E) → IfOk r P → IfOk r Q → ((x : T) → P x → Q x → R x) → IfOk r R
 both_ok P Q R (Ok x) p q to = to x p q

@@ -4,9 +4,10 @@ use Rattle.sk_base.specs.declared.Name.{Name}
 use Rattle.sk_base.specs.declared.Graph.{Graph}
 use Rattle.sk_base.specs.ClusterNames.{IsBelow}
 use Rattle.sk_family.specs.Clusters.{Clusters}
-use Rattle.sk_rules.specs.declared.Merge.{Merge}
-use Rattle.sk_rules.specs.declared.Merge.TheVariants.{Two}
-use Rattle.sk_rules.specs.Merges.{Falls, Holds, names_of}
+use Rattle.sk_family.specs.declared.Merge.{Merge}
+use Rattle.sk_family.specs.declared.Merge.TheVariants.{Two}
+use Rattle.sk_family.specs.Merges.{Falls, names_of}
+use Rattle.sk_rules.specs.Merges.{Holds}
 
 -- the one list of names comes before the other, compared place by place
 abbrev pub NamesBefore : List Name → List Name → Type 0
@@ -17,10 +18,6 @@ NamesBefore (m ∷ ms) (n ∷ ns) = IsBelow m n ⊎ ((m ≡ n) × NamesBefore ms
 
 abbrev pub ComesFirst : Merge → Merge → Type 0
 ComesFirst m n = NamesBefore (names_of m) (names_of n)
-
--- the names fall and the rule holds
-abbrev pub CanTake : Graph → Clusters → Merge → Type 0
-CanTake g f m = Falls m × Holds g f m
 
 -- the first of the pairs that may merge
 pub record IsFirstPair (g : Graph) (f : Clusters) (m : Merge) : Type 0 where

@@ -6,11 +6,12 @@ use Rattle.sk_base.specs.declared.Graph.{Graph}
 use Rattle.sk_base.specs.ClusterNames.{IsBelow}
 use Rattle.sk_family.specs.declared.Cluster.{Cluster}
 use Rattle.sk_family.specs.Clusters.{Clusters, IsNamed}
-use Rattle.sk_rules.specs.declared.Merge.{Merge}
-use Rattle.sk_rules.specs.declared.Merge.TheVariants.{Three}
+use Rattle.sk_family.specs.declared.Merge.{Merge}
+use Rattle.sk_family.specs.declared.Merge.TheVariants.{Three}
 use Rattle.sk_index.specs.declared.Index.{Index}
 use Rattle.sk_search.specs.Partners.{IsLeast, Partner}
-use Rattle.sk_worklist.specs.Choices.{CanTake, ComesFirst}
+use Rattle.sk_rules.specs.Merges.{CanTake}
+use Rattle.sk_worklist.specs.Choices.{ComesFirst}
 
 -- the name is that of a cluster of the family that is below another and holds some of these elements
 abbrev pub HoldsSome : Clusters → List Elem → Name → Name → Type 0
@@ -24,10 +25,6 @@ pub record IsPartner (ix : Index) (clusters : List Cluster) (x y : Name) : Type 
   pub least : IsLeast (Partner ix greater) (Some y)
   -- and no cluster before it has one
   pub first : (c : Cluster) (n : Name) → Contains clusters c → IsBelow c.name x → ¬ Partner ix c n
-
--- the triples with that cluster as the greatest that may merge
-abbrev pub TakesFrom : Graph → Clusters → Cluster → Merge → Type 0
-TakesFrom g f x m = CanTake g f m × ((y : Name) × (z : Name) × (m ≡ Three x.name y z))
 
 -- a triple whose greatest cluster isn't below the name
 abbrev pub IsUncovered : Graph → Clusters → Name → Merge → Type 0

@@ -6,11 +6,12 @@ use Rattle.sk_base.specs.declared.Graph.{Graph}
 use Rattle.sk_base.specs.ClusterNames.{IsBelow, is_named}
 use Rattle.sk_family.specs.declared.Cluster.{Cluster}
 use Rattle.sk_family.specs.Clusters.{Clusters}
-use Rattle.sk_rules.specs.declared.Merge.{Merge}
-use Rattle.sk_rules.specs.declared.Merge.TheVariants.{Two, Three}
-use Rattle.sk_rules.specs.Rules.{SharesTwo}
-use Rattle.sk_rules.specs.Merges.{names_of}
-use Rattle.sk_worklist.specs.Choices.{CanTake, ComesFirst}
+use Rattle.sk_family.specs.declared.Merge.{Merge}
+use Rattle.sk_family.specs.declared.Merge.TheVariants.{Two, Three}
+use Rattle.sk_family.specs.Rules.{SharesTwo}
+use Rattle.sk_family.specs.Merges.{names_of}
+use Rattle.sk_rules.specs.Merges.{CanTake}
+use Rattle.sk_worklist.specs.Choices.{ComesFirst}
 
 -- the name is that of a cluster that a merge of those leaves as it is
 pub record IsLeft (f : Clusters) (gone : List Name) (n : Name) : Type 0 where
@@ -42,10 +43,6 @@ pub record AreKept (g : Graph) (f : Clusters) (kind : Name → Type 0) (kept : L
 -- no pair whose greater cluster is below the name may merge
 abbrev pub NoPairBelow : Clusters → Name → Type 0
 NoPairBelow f bound = (x y : Cluster) → Contains f.live x → Contains f.live y → IsBelow x.name bound → IsBelow y.name x.name → ¬ SharesTwo x.elements y.elements
-
--- the name isn't above that of the next step
-abbrev pub IsWithin : Clusters → Name → Type 0
-IsWithin f bound = ¬ IsBelow (Step f.next_step) bound
 
 -- what is known of the merges of a family: no pair below one name may merge, and just the triples below
 -- another are kept, in order, beside some that name a cluster that is gone

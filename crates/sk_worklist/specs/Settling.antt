@@ -5,10 +5,10 @@ use Rattle.sk_base.specs.declared.Graph.{Graph}
 use Rattle.sk_base.specs.ClusterNames.{IsBelow}
 use Rattle.sk_family.specs.declared.Cluster.{Cluster}
 use Rattle.sk_family.specs.Clusters.{Clusters}
-use Rattle.sk_rules.specs.declared.Merge.{Merge}
-use Rattle.sk_rules.specs.declared.Merge.TheVariants.{Two, Three}
+use Rattle.sk_family.specs.declared.Merge.{Merge}
+use Rattle.sk_family.specs.declared.Merge.TheVariants.{Two, Three}
 use Rattle.sk_index.specs.declared.Index.{Index}
-use Rattle.sk_worklist.specs.Choices.{CanTake}
+use Rattle.sk_rules.specs.Merges.{CanTake}
 use Rattle.sk_search.specs.Partners.{Partner}
 use Rattle.sk_search.specs.Triples.{TriplesOf}
 

@@ -3,11 +3,12 @@ use Rattle.std.specs.Prelude.{◌≡◌, ◌++◌, ℕ, List, [], Option, None, 
 use Rattle.sk_base.specs.declared.Name.{Name}
 use Rattle.sk_base.specs.declared.Graph.{Graph}
 use Rattle.sk_family.specs.Clusters.{Clusters, unnamed}
-use Rattle.sk_rules.specs.declared.Merge.{Merge}
-use Rattle.sk_rules.specs.declared.Merge.TheVariants.{Two}
-use Rattle.sk_rules.specs.Merges.{merged, names_of}
+use Rattle.sk_family.specs.declared.Merge.{Merge}
+use Rattle.sk_family.specs.declared.Merge.TheVariants.{Two}
+use Rattle.sk_rules.specs.Merges.{merged, CanTake}
+use Rattle.sk_family.specs.Merges.{names_of}
 use Rattle.sk_worklist.specs.declared.worklist.Worklist.{Worklist}
-use Rattle.sk_worklist.specs.Choices.{AreChoices, CanTake}
+use Rattle.sk_worklist.specs.Choices.{AreChoices}
 use Rattle.sk_index.specs.Indexed.{Represents}
 use Rattle.sk_worklist.specs.Known.{Knows}
 use Rattle.sk_worklist.specs.Heirs.{IsHeirOf}

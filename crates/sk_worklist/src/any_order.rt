@@ -9,7 +9,7 @@ ghost use Rattle.sk_base.specs.SoundGraph.{HasRisingEdges};
 ghost use Rattle.sk_family.specs.Body.{initial_bodies};
 ghost use Rattle.sk_family.specs.Clusters.{ByName, IsSound, bodies, replaced};
 ghost use Rattle.sk_rules.specs.Reach.{Reach, IsClosed, IsNormal, IsTheOnlyNormal};
-ghost use Rattle.sk_worklist.specs.Choices.{CanTake};
+ghost use Rattle.sk_rules.specs.Merges.{CanTake};
 ghost use Rattle.sk_index.specs.Indexed.{AllRise, IsIndex, Represents};
 ghost use Rattle.sk_worklist.specs.Settling.{IsAny, IsNext, MergesOf, greatest_of};
 

@@ -4,9 +4,8 @@ ghost use Rattle.sk_base.specs.SoundGraph.{HasRisingEdges};
 ghost use Rattle.sk_family.specs.Body.{initial_bodies};
 ghost use Rattle.sk_family.specs.Clusters.{bodies};
 ghost use Rattle.sk_rules.specs.Reach.{Reach, IsClosed, IsNormal, IsTheOnlyNormal, Step as StepOf};
-ghost use Rattle.sk_rules.specs.Merges.{merged};
+ghost use Rattle.sk_rules.specs.Merges.{merged, CanTake};
 ghost use Rattle.sk_rules.specs.Taking.{IsTaken, Leads};
-ghost use Rattle.sk_worklist.specs.Choices.{CanTake};
 ghost use Rattle.sk_worklist.specs.Run.{IsRun, IsOnTheWay, merge_of};
 ghost use Rattle.sk_worklist.specs.Turns.{Follows};
 

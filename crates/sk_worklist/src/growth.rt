@@ -4,11 +4,11 @@ ghost use Rattle.std.specs.Prelude.{◌≡◌, ◌≢◌, ◌↔◌, ◌⊎◌, 
 ghost use Rattle.sk_base.specs.declared.Elem.{Elem as Element};
 ghost use Rattle.sk_base.specs.Numbering.{elem_number};
 ghost use Rattle.sk_base.specs.Rising.{IsRising};
-ghost use Rattle.sk_family.specs.Clusters.{IsLive, IsSound};
-ghost use Rattle.sk_worklist.specs.Choices.{CanTake};
+ghost use Rattle.sk_family.specs.Clusters.{IsLive, IsSound, HasElements};
+ghost use Rattle.sk_rules.specs.Merges.{CanTake};
 ghost use Rattle.sk_index.specs.Marks.{IsMarked};
 ghost use Rattle.sk_worklist.specs.Grown.{IsMarkedIn, MarksTwo, MakesThird, MeetsAt, Joins, HasGrown, IsGrown};
-ghost use Rattle.sk_index.specs.Indexed.{HasElements, IsHeld, IsIndex, IsThird, Represents};
+ghost use Rattle.sk_index.specs.Indexed.{IsHeld, IsIndex, IsThird, Represents};
 
 use sk_base::{Elem, Graph, List, Name, NoMemory};
 use sk_family::{Cluster, Family};

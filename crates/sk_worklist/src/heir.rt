@@ -9,7 +9,7 @@ ghost use Rattle.sk_base.specs.Numbering.{elem_number};
 ghost use Rattle.sk_base.specs.Rising.{IsRising};
 ghost use Rattle.sk_family.specs.Clusters.{IsLive, IsNamed, IsSound};
 ghost use Rattle.sk_index.specs.Walks.{FromSome, GrowsBy};
-ghost use Rattle.sk_rules.specs.Merges.{names_of};
+ghost use Rattle.sk_family.specs.Merges.{names_of};
 ghost use Rattle.sk_worklist.specs.Heirs.{Inherits, IsBeside, IsFreshOn, MissesSome};
 
 use crate::kept::is_among;

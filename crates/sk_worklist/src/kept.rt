@@ -2,7 +2,7 @@
 ghost use Rattle.std.specs.Prelude.{◌≡◌, ◌↔◌, IfOk, Contains, AllPairs};
 ghost use Rattle.sk_base.specs.declared.Name.{Name as AnyName};
 ghost use Rattle.sk_base.specs.ClusterNames.{IsBelow, is_named};
-ghost use Rattle.sk_rules.specs.declared.Merge.{Merge as AnyMerge};
+ghost use Rattle.sk_family.specs.declared.Merge.{Merge as AnyMerge};
 ghost use Rattle.sk_worklist.specs.Choices.{ComesFirst};
 ghost use Rattle.sk_worklist.specs.Known.{IsTriple, names_one_of, avoiding};
 

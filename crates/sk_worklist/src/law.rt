@@ -2,7 +2,7 @@
 ghost use Rattle.std.specs.Prelude.{◌≡◌, ◌+◌, ◌≤◌, length, List};
 ghost use Rattle.sk_base.specs.declared.Graph.{Graph};
 ghost use Rattle.sk_family.specs.Clusters.{Clusters, IsSound};
-ghost use Rattle.sk_rules.specs.declared.Merge.{Merge};
+ghost use Rattle.sk_family.specs.declared.Merge.{Merge};
 ghost use Rattle.sk_worklist.specs.Choices.{AreChoices};
 ghost use Rattle.sk_worklist.specs.Run.{IsRun, PicksLead};
 

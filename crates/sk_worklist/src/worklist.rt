@@ -4,11 +4,12 @@ ghost use Rattle.std.specs.Prelude.{◌≡◌, ◌↔◌, ◌++◌, [], IfOk, On
 ghost use Rattle.sk_base.specs.declared.Graph.{Graph as AnyGraph};
 ghost use Rattle.sk_base.specs.declared.Name.{Name as ClusterName};
 ghost use Rattle.sk_base.specs.ClusterNames.{IsBelow};
-ghost use Rattle.sk_family.specs.Clusters.{Clusters, IsSound};
-ghost use Rattle.sk_rules.specs.Merges.{merged, names_of};
+ghost use Rattle.sk_family.specs.Clusters.{Clusters, IsSound, HasElements};
+ghost use Rattle.sk_rules.specs.Merges.{merged};
+ghost use Rattle.sk_family.specs.Merges.{names_of};
 ghost use Rattle.sk_worklist.specs.Choices.{AreTriples, IsFirstPair};
 ghost use Rattle.sk_worklist.specs.Gather.{AreUncovered, HoldsSome, IsUncovered};
-ghost use Rattle.sk_index.specs.Indexed.{HasElements, IsIndex, Represents};
+ghost use Rattle.sk_index.specs.Indexed.{IsIndex, Represents};
 ghost use Rattle.sk_worklist.specs.Turns.{Answers, Follows, HasLeft, HasNoPair, IsSameButHeir};
 ghost use Rattle.sk_worklist.specs.Heirs.{IsHeir, IsHeirOf, IsOfFresh, IsOfHeir};
 ghost use Rattle.sk_index.specs.Walks.{GrowsBy};

@@ -1,7 +1,7 @@
 use Rattle.std.proofs.Common.{◌≡◌, ℕ, List, [], ◌∷◌, ◌++◌, get_or, take, ap, sym, subst, ◌∙◌}
 use Rattle.std.proofs.lemmas.List.{take_more}
 use Rattle.sk_base.specs.declared.Name.TheVariants.{Con}
-use Rattle.sk_rules.specs.declared.Merge.TheVariants.{Two}
+use Rattle.sk_family.specs.declared.Merge.TheVariants.{Two}
 use Rattle.sk_report.specs.AnswerLine.{answer_line}
 use Rattle.sk_offers.specs.declared.OfferLine.{OfferLine}
 use Rattle.sk_cli.specs.OffersReport.{AreAnswered}

@@ -2,7 +2,7 @@ use Rattle.std.proofs.Common.{List, inr, sym, subst, ◌∙◌, ap, arith, lengt
 use Rattle.std.specs.Prelude.{Option, map}
 use Rattle.sk_family.specs.Body.{Body, initial_bodies}
 use Rattle.sk_family.specs.Clusters.{Clusters, bodies, initial_clusters}
-use Rattle.sk_rules.specs.declared.Merge.{Merge}
+use Rattle.sk_family.specs.declared.Merge.{Merge}
 use Rattle.sk_rules.specs.declared.Taken.{Taken}
 use Rattle.sk_rules.specs.Reach.{goes}
 use Rattle.sk_worklist.specs.Run.{PicksLead, merge_of}

@@ -1,7 +1,7 @@
 use Rattle.std.proofs.Common.{◌+◌, ◌≤◌, length, List, []}
 use Rattle.sk_family.specs.Body.{initial_bodies}
 use Rattle.sk_family.specs.Clusters.{IsSound, bodies, initial_clusters}
-use Rattle.sk_rules.specs.declared.Merge.{Merge}
+use Rattle.sk_family.specs.declared.Merge.{Merge}
 use Rattle.sk_rules.specs.Reach.{IsClosed}
 use Rattle.sk_worklist.specs.Choices.{AreChoices}
 use Rattle.sk_worklist.specs.Turns.{Follows}

@@ -1,5 +1,5 @@
 use Rattle.std.proofs.Common.{subst}
-use Rattle.sk_rules.specs.declared.merge.Merge.{Merge}
+use Rattle.sk_family.specs.declared.Merge.{Merge}
 use Rattle.sk_derive.specs.WideChoices.{CanTakeByTie}
 use Rattle.sk_derive.proofs.WideRuns.{tie_replaced}
 use Rattle.sk_derive.proofs.closing.take_by_tie.Goals as goal

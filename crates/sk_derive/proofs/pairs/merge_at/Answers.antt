@@ -2,7 +2,7 @@ use Rattle.std.proofs.Common.{◌≡◌, ◌+◌, ◌-◌, ◌≤◌, ap, arith,
 use Rattle.std.specs.Prelude.{slice_get, Some}
 use Rattle.std.specs.List.{flat_map}
 use Rattle.sk_base.specs.declared.Name.TheVariants.{Con}
-use Rattle.sk_rules.specs.declared.Merge.TheVariants.{Two}
+use Rattle.sk_family.specs.declared.Merge.TheVariants.{Two}
 use Rattle.sk_derive.specs.MergeRows.{merges_of}
 use Rattle.sk_derive.proofs.Pairing.{rest_length, merge_here, merge_later}
 use Rattle.sk_derive.proofs.pairs.merge_at.Goals as goal

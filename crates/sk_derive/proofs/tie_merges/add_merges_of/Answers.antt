@@ -1,4 +1,4 @@
-use Rattle.sk_worklist.proofs.TakingIn.{both_on_ok}
+use Rattle.sk_family.proofs.Outcomes.{both_on_ok}
 use Rattle.sk_derive.proofs.Finding.{row_finds, row_in_order}
 use Rattle.sk_derive.proofs.tie_merges.add_merges_of.Goals as goal
 

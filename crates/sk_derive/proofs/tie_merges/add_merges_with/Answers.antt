@@ -1,4 +1,4 @@
-use Rattle.sk_worklist.proofs.TakingIn.{both_on_ok}
+use Rattle.sk_family.proofs.Outcomes.{both_on_ok}
 use Rattle.sk_derive.proofs.Finding.{found_read}
 use Rattle.sk_derive.proofs.tie_merges.add_merges_with.Goals as goal
 

@@ -2,8 +2,7 @@ use Rattle.std.proofs.Common.{rules, true, false, ◌≡◌}
 use Rattle.std.specs.List.Sorted.{IsPartitionPoint}
 use Rattle.std.proofs.lemmas.List.Sorted.{IsPartitionPoint-from_clause}
 use Rattle.sk_family.specs.declared.cluster.Cluster.{Cluster}
-use Rattle.sk_family.proofs.Halving.{is_before}
-use Rattle.sk_family.proofs.Halving.{front_passes, rest_fails, before_below, not_below, names_partition, tells_before}
+use Rattle.sk_family.proofs.Halving.{is_before, front_passes, rest_fails, before_below, not_below, names_partition, tells_before}
 use Rattle.sk_family.proofs.search.count_below.Goals as goal
 
 point : (c : goal.After-partition_point) → IsPartitionPoint (λ (x : Cluster). is_before x.name c.args.name ≡ true) (λ (x : Cluster). is_before x.name c.args.name ≡ false) c.args.clusters.now c.partition_point.result

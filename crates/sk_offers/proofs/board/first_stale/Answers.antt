@@ -1,8 +1,8 @@
 use Rattle.std.proofs.Common.{sym, subst}
 use Rattle.std.specs.Prelude.{All, IfNone}
 use Rattle.sk_family.specs.Clusters.{IsLive}
-use Rattle.sk_rules.specs.declared.Merge.{Merge}
-use Rattle.sk_rules.specs.Merges.{names_of}
+use Rattle.sk_family.specs.declared.Merge.{Merge}
+use Rattle.sk_family.specs.Merges.{names_of}
 use Rattle.sk_offers.proofs.board.first_stale.Goals as goal
 
 pub returns-in-Two-clause-none : goal.returns-in-Two-clause-none

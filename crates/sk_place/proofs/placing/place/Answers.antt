@@ -2,8 +2,7 @@ use Rattle.std.proofs.Common.{◌∙◌, subst, Some, None}
 use Rattle.sk_base.proofs.Results.{err_is}
 use Rattle.sk_place.specs.declared.settling.PlaceBy.{PlaceBy}
 use Rattle.sk_place.specs.Trees.{HasBoxes}
-use Rattle.sk_place.proofs.Ending.{no_tree, leaf_there, left_there, left_boxes, left_nodes, lone_nodes, lone_kept, kept_of, lone_bounded, left_bounded}
-use Rattle.sk_place.proofs.Ending.{last_is}
+use Rattle.sk_place.proofs.Ending.{no_tree, leaf_there, left_there, left_boxes, left_nodes, lone_nodes, lone_kept, kept_of, lone_bounded, left_bounded, last_is}
 use Rattle.sk_place.proofs.InsideTrees.{nest}
 use Rattle.sk_place.proofs.placing.place.Goals as goal
 

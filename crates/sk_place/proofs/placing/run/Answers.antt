@@ -1,5 +1,4 @@
-use Rattle.std.proofs.Common.{List as Items}
-use Rattle.std.proofs.Common.{◌≡◌, ◌<◌, ℕ, length, ap, get_or, ◌∙◌, sym, subst}
+use Rattle.std.proofs.Common.{List as Items, ◌≡◌, ◌<◌, ℕ, length, ap, get_or, ◌∙◌, sym, subst}
 use Rattle.std.proofs.lemmas.List.{get_or_default}
 use Rattle.sk_base.proofs.Results.{err_is}
 use Rattle.sk_tree.specs.declared.PlanStep.{PlanStep}

@@ -2,8 +2,7 @@ use Rattle.std.proofs.Common.{List, get_or, subst, arith}
 use Rattle.std.proofs.lemmas.List.{take_all}
 use Rattle.std.proofs.lemmas.List.Elements.{Contains-get_or}
 use Rattle.sk_tree.specs.declared.PlanStep.{PlanStep}
-use Rattle.sk_residual.specs.Turns.{AllAsDrawn}
-use Rattle.sk_residual.specs.Turns.{signs_of_step, signs_of_steps}
+use Rattle.sk_residual.specs.Turns.{AllAsDrawn, signs_of_step, signs_of_steps}
 use Rattle.sk_residual.proofs.Comparisons.{as_drawn_more, turned_there, any_step}
 use Rattle.sk_residual.proofs.turned.turned_step.Goals as goal
 

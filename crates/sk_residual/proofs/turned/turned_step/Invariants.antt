@@ -1,6 +1,5 @@
 use Rattle.std.specs.Prelude.{take}
-use Rattle.sk_residual.specs.Turns.{AllAsDrawn}
-use Rattle.sk_residual.specs.Turns.{signs_of_steps}
+use Rattle.sk_residual.specs.Turns.{AllAsDrawn, signs_of_steps}
 use Rattle.sk_residual.proofs.turned.turned_step.Given as goal
 
 -- the choices so far are as drawn

@@ -5,9 +5,9 @@ use Rattle.sk_family.specs.declared.Cluster.{Cluster}
 use Rattle.sk_base.specs.Rising.{IsRising}
 use Rattle.sk_family.proofs.Naming.{one_of_name}
 use Rattle.sk_base.proofs.Searches.{if_none}
-use Rattle.sk_rules.specs.declared.merge.Merge.{Merge}
-use Rattle.sk_rules.specs.declared.merge.Merge.TheVariants.{Two, Three}
-use Rattle.sk_rules.specs.Rules.{SharesTwo, MeetsInThree}
+use Rattle.sk_family.specs.declared.Merge.{Merge}
+use Rattle.sk_family.specs.declared.Merge.TheVariants.{Two, Three}
+use Rattle.sk_family.specs.Rules.{SharesTwo, MeetsInThree}
 use Rattle.sk_rules.specs.Merges.{Holds}
 use Rattle.sk_rules.proofs.merge.applies.Goals as goal
 

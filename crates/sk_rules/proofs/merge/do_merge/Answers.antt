@@ -1,9 +1,10 @@
 use Rattle.std.proofs.Common.{◌<◌, length, subst, sym}
 use Rattle.sk_family.specs.Clusters.{Clusters, bodies}
 use Rattle.sk_base.proofs.Searches.{on_ok}
-use Rattle.sk_rules.specs.declared.merge.Merge.{Merge}
-use Rattle.sk_rules.specs.declared.merge.Merge.TheVariants.{Two, Three}
-use Rattle.sk_rules.specs.Merges.{Falls, Holds}
+use Rattle.sk_family.specs.declared.Merge.{Merge}
+use Rattle.sk_family.specs.declared.Merge.TheVariants.{Two, Three}
+use Rattle.sk_family.specs.Merges.{Falls}
+use Rattle.sk_rules.specs.Merges.{Holds}
 use Rattle.sk_rules.specs.Reach.{Step}
 use Rattle.sk_rules.proofs.Merging.{can_be_replaced, merge_steps, merge_lessens}
 use Rattle.sk_rules.proofs.merge.do_merge.Goals as goal

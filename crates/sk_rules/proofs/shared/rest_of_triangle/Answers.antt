@@ -1,7 +1,7 @@
 use Rattle.sk_base.specs.declared.Elem.{Elem}
 use Rattle.sk_base.specs.Numbering.{elem_number}
 use Rattle.sk_base.proofs.Searches.{none_more, none_at_all, first_is_least}
-use Rattle.sk_rules.specs.Rules.{IsTriangle}
+use Rattle.sk_family.specs.Rules.{IsTriangle}
 use Rattle.sk_rules.proofs.shared.rest_of_triangle.Goals as goal
 
 pub returns-in-Some-clause-least_second : goal.returns-in-Some-clause-least_second

@@ -1,7 +1,7 @@
 use Rattle.sk_base.specs.declared.Elem.{Elem}
 use Rattle.sk_base.specs.Numbering.{elem_number}
 use Rattle.sk_base.proofs.Searches.{none_more, first_is_least, refused}
-use Rattle.sk_rules.specs.Rules.{IsTriangle}
+use Rattle.sk_family.specs.Rules.{IsTriangle}
 use Rattle.sk_rules.proofs.shared.third_corner.Goals as goal
 
 pub returns-then-is_triangle-clause-least : goal.returns-then-is_triangle-clause-least

@@ -1,6 +1,6 @@
 use Rattle.sk_base.specs.declared.Elem.{Elem}
 use Rattle.sk_base.proofs.Searches.{NoneBefore}
-use Rattle.sk_rules.specs.Rules.{IsTriangle}
+use Rattle.sk_family.specs.Rules.{IsTriangle}
 use Rattle.sk_rules.proofs.shared.third_corner.Given as goal
 
 abbrev pub invariant-loop-c : goal.invariant-loop-c

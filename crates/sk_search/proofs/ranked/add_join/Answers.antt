@@ -1,5 +1,5 @@
 use Rattle.std.proofs.Common.{sym, subst, List}
-use Rattle.sk_rules.specs.declared.Merge.{Merge}
+use Rattle.sk_family.specs.declared.Merge.{Merge}
 use Rattle.sk_index.specs.Walks.{GrowsBy}
 use Rattle.sk_index.proofs.Growing.{grows_one}
 use Rattle.sk_search.specs.Ends.{Joins}

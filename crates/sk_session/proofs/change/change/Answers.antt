@@ -5,7 +5,7 @@ use Rattle.sk_edits.specs.declared.Edit.TheVariants as edit
 use Rattle.sk_edits.specs.Edits.{applied, element_number, constraint_number}
 use Rattle.sk_edits.specs.Making.{IsPossible}
 use Rattle.sk_edits.proofs.Places.{put_last}
-use Rattle.sk_worklist.proofs.TakingIn.{both_on_ok}
+use Rattle.sk_family.proofs.Outcomes.{both_on_ok}
 use Rattle.sk_session.specs.declared.done.Done.{Done}
 use Rattle.sk_session.specs.Past.{edit_of}
 use Rattle.sk_session.proofs.change.change.Goals as goal

@@ -1,6 +1,6 @@
 use Rattle.std.proofs.Common.{sym, subst}
 use Rattle.std.specs.Prelude.{OnOk}
-use Rattle.sk_worklist.proofs.TakingIn.{both_on_ok}
+use Rattle.sk_family.proofs.Outcomes.{both_on_ok}
 use Rattle.sk_session.specs.declared.closing.Closing.{Closing}
 use Rattle.sk_session.specs.State.{EndsBy}
 use Rattle.sk_session.proofs.closing.close.Goals as goal

@@ -4,7 +4,7 @@ use Rattle.std.proofs.lemmas.Option.{slice_get-get_or}
 use Rattle.std.proofs.lemmas.List.Sorted.{answers_always}
 use Rattle.sk_base.specs.declared.Name.TheVariants.{Con}
 use Rattle.sk_rules.specs.declared.Taken.{Taken as Merging}
-use Rattle.sk_rules.specs.declared.Merge.TheVariants.{Two}
+use Rattle.sk_family.specs.declared.Merge.TheVariants.{Two}
 use Rattle.sk_base.proofs.NameOrder.{same_name}
 use Rattle.sk_tree.proofs.joined.place_of_step.Goals as goal
 

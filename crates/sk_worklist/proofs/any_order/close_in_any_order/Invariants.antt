@@ -1,7 +1,6 @@
 use Rattle.std.proofs.Common.{◌+◌, ◌≤◌, length}
-use Rattle.sk_family.specs.Clusters.{IsSound, bodies}
+use Rattle.sk_family.specs.Clusters.{IsSound, bodies, IsWithin}
 use Rattle.sk_rules.specs.Reach.{Reach}
-use Rattle.sk_worklist.specs.Known.{IsWithin}
 use Rattle.sk_index.specs.Indexed.{Represents}
 use Rattle.sk_worklist.specs.Settling.{IsSettledBelow}
 use Rattle.sk_worklist.proofs.any_order.close_in_any_order.Given as goal

@@ -1,6 +1,6 @@
 use Rattle.std.proofs.Common.{take}
 use Rattle.std.specs.Prelude.{Contains}
-use Rattle.sk_rules.specs.declared.Merge.{Merge}
+use Rattle.sk_family.specs.declared.Merge.{Merge}
 use Rattle.sk_family.specs.declared.Cluster.{Cluster}
 use Rattle.sk_worklist.specs.Settling.{MergesOf}
 use Rattle.sk_worklist.proofs.any_order.next_merge.Given as goal

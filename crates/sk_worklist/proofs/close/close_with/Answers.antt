@@ -3,15 +3,15 @@ use Rattle.std.specs.Prelude.{map, Option, None}
 use Rattle.sk_rules.proofs.Keeping.{reach_then}
 use Rattle.sk_family.specs.Body.{initial_bodies}
 use Rattle.sk_family.specs.Clusters.{Clusters, bodies}
-use Rattle.sk_rules.specs.declared.Merge.{Merge}
+use Rattle.sk_family.specs.declared.Merge.{Merge}
 use Rattle.sk_rules.specs.declared.Taken.{Taken}
 use Rattle.sk_rules.specs.Merges.{merged}
 use Rattle.sk_rules.specs.Reach.{stays}
 use Rattle.sk_rules.specs.Taking.{Leads}
 use Rattle.sk_worklist.specs.Run.{PicksLead, merge_of}
 use Rattle.sk_worklist.specs.Turns.{Answers}
-use Rattle.sk_worklist.proofs.Entering.{have_elements}
-use Rattle.sk_worklist.proofs.Runs.{on_err, reach_on, none_closes, two_live, answer_can, picks_turn, picks_taken, leads_more}
+use Rattle.sk_rules.proofs.Takable.{have_elements, reach_on, two_live}
+use Rattle.sk_worklist.proofs.Runs.{on_err, none_closes, answer_can, picks_turn, picks_taken, leads_more}
 use Rattle.sk_rules.proofs.NormalForm.{normal_same}
 use Rattle.sk_worklist.proofs.close.close_with.Goals as goal
 

@@ -2,8 +2,8 @@ use Rattle.std.proofs.Common.{◌∙◌, ap, inl, inr, refl, subst, sym, List}
 use Rattle.std.specs.Prelude.{not}
 use Rattle.sk_base.proofs.Searches.{on_ok}
 use Rattle.sk_family.proofs.Naming.{among_named, not_named}
-use Rattle.sk_rules.specs.declared.Merge.{Merge}
-use Rattle.sk_rules.specs.declared.Merge.TheVariants.{Three}
+use Rattle.sk_family.specs.declared.Merge.{Merge}
+use Rattle.sk_family.specs.declared.Merge.TheVariants.{Three}
 use Rattle.sk_index.specs.Walks.{GrowsBy}
 use Rattle.sk_index.proofs.Growing.{grows_none, grows_one}
 use Rattle.sk_worklist.specs.Heirs.{Inherits}

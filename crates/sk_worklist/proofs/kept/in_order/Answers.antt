@@ -1,6 +1,6 @@
 use Rattle.std.proofs.Common.{List, subst}
 use Rattle.std.specs.List.Sorted.{IsPermutation}
-use Rattle.sk_rules.specs.declared.Merge.{Merge}
+use Rattle.sk_family.specs.declared.Merge.{Merge}
 use Rattle.sk_worklist.proofs.Sorting.{sorted_same, sorted_order}
 use Rattle.sk_worklist.proofs.kept.in_order.Goals as goal
 

@@ -3,7 +3,7 @@ use Rattle.std.specs.Prelude.{All, AllPairs, map, not}
 use Rattle.std.specs.List.{flat_map}
 use Rattle.std.proofs.lemmas.List.Elements.{All-filter}
 use Rattle.sk_base.specs.ClusterNames.{IsBelow, is_named}
-use Rattle.sk_rules.specs.declared.Merge.{Merge}
+use Rattle.sk_family.specs.declared.Merge.{Merge}
 use Rattle.sk_worklist.specs.Choices.{ComesFirst}
 use Rattle.sk_worklist.specs.Known.{avoiding}
 use Rattle.sk_derive.specs.declared.pairs.Partners.{Partners}

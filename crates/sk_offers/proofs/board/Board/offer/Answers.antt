@@ -1,7 +1,8 @@
 use Rattle.std.proofs.Common.{subst}
 use Rattle.std.specs.Prelude.{All}
 use Rattle.sk_family.specs.Clusters.{IsLive}
-use Rattle.sk_rules.specs.Merges.{Holds, names_of}
+use Rattle.sk_rules.specs.Merges.{Holds}
+use Rattle.sk_family.specs.Merges.{names_of}
 use Rattle.sk_offers.specs.Offering.{Table}
 use Rattle.sk_offers.proofs.board.Board.offer.Goals as goal
 

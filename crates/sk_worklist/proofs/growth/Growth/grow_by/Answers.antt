@@ -5,7 +5,8 @@ use Rattle.sk_base.specs.declared.Name.{Name}
 use Rattle.sk_base.proofs.Members.{contains_one}
 use Rattle.sk_worklist.specs.declared.growth.Joining.{Joining}
 use Rattle.sk_worklist.specs.Grown.{Joins}
-use Rattle.sk_worklist.proofs.TakingIn.{both_on_ok, grown_both, grown_one, held_apart, held_lives, held_some}
+use Rattle.sk_family.proofs.Outcomes.{both_on_ok}
+use Rattle.sk_worklist.proofs.TakingIn.{grown_both, grown_one, held_apart, held_lives, held_some}
 use Rattle.sk_worklist.proofs.growth.Growth.grow_by.Goals as goal
 
 pub take-requires-clause-lives : goal.take-requires-clause-lives

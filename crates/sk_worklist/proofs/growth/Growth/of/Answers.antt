@@ -1,12 +1,12 @@
 use Rattle.std.proofs.Common.{◌≡◌, ◌∙◌, ◌∷◌, [], ◌++◌, List, Bool, ap, sym, subst}
 use Rattle.sk_base.specs.declared.Name.{Name}
 use Rattle.sk_base.proofs.Members.{contains_head, contains_later}
-use Rattle.sk_rules.specs.declared.Merge.{Merge}
-use Rattle.sk_rules.specs.declared.Merge.TheVariants.{Two, Three}
-use Rattle.sk_rules.specs.Merges.{names_of}
-use Rattle.sk_worklist.specs.Choices.{CanTake}
+use Rattle.sk_family.specs.declared.Merge.{Merge}
+use Rattle.sk_family.specs.declared.Merge.TheVariants.{Two, Three}
+use Rattle.sk_family.specs.Merges.{names_of}
+use Rattle.sk_rules.specs.Merges.{CanTake}
 use Rattle.sk_worklist.specs.Grown.{HasGrown}
-use Rattle.sk_worklist.proofs.Entering.{have_elements}
+use Rattle.sk_rules.proofs.Takable.{have_elements}
 use Rattle.sk_worklist.proofs.TakingIn.{begun, has_none}
 use Rattle.sk_worklist.proofs.growth.Growth.of.Goals as goal
 

@@ -3,7 +3,8 @@ use Rattle.std.specs.Prelude.{Contains}
 use Rattle.sk_base.specs.declared.Elem.{Elem}
 use Rattle.sk_base.specs.declared.Name.{Name}
 use Rattle.sk_worklist.specs.Grown.{HasGrown}
-use Rattle.sk_worklist.proofs.TakingIn.{has_more, not_taken, both_on_ok}
+use Rattle.sk_worklist.proofs.TakingIn.{has_more, not_taken}
+use Rattle.sk_family.proofs.Outcomes.{both_on_ok}
 use Rattle.sk_worklist.proofs.growth.Growth.take.Goals as goal
 
 pub take_out_all-requires-clause-known : goal.take_out_all-requires-clause-known

@@ -1,6 +1,6 @@
 use Rattle.std.proofs.Common.{subst, List}
 use Rattle.sk_base.proofs.Searches.{on_ok}
-use Rattle.sk_rules.specs.declared.Merge.{Merge}
+use Rattle.sk_family.specs.declared.Merge.{Merge}
 use Rattle.sk_index.specs.Walks.{FromSome, GrowsBy}
 use Rattle.sk_worklist.specs.Heirs.{Inherits, IsOfFresh}
 use Rattle.sk_worklist.proofs.Inherited.{grows_then}

@@ -2,10 +2,11 @@ use Rattle.std.proofs.Common.{◌∙◌, List, ◌++◌, sym, subst, ap, inl, in
 use Rattle.std.specs.Prelude.{Contains}
 use Rattle.sk_base.proofs.Searches.{on_ok}
 use Rattle.sk_family.specs.declared.Cluster.{Cluster}
-use Rattle.sk_rules.specs.declared.Merge.{Merge}
-use Rattle.sk_rules.specs.Merges.{names_of}
+use Rattle.sk_family.specs.declared.Merge.{Merge}
+use Rattle.sk_family.specs.Merges.{names_of}
 use Rattle.sk_index.specs.Indexed.{IsLast}
-use Rattle.sk_worklist.proofs.Entering.{whole_is_greatest, represents_entered, knows_entered, heirs_entered}
+use Rattle.sk_index.proofs.Representing.{whole_is_greatest, represents_entered}
+use Rattle.sk_worklist.proofs.Entering.{knows_entered, heirs_entered}
 use Rattle.sk_worklist.proofs.worklist.Worklist.enter.Goals as goal
 
 pub put_last-requires-clause-greatest : goal.put_last-requires-clause-greatest

@@ -1,7 +1,8 @@
 use Rattle.std.proofs.Common.{◌≡◌, List, sym, subst, ap}
 use Rattle.sk_base.specs.declared.Name.TheVariants.{Step}
 use Rattle.sk_family.proofs.Naming.{below_irreflexive}
-use Rattle.sk_worklist.specs.Known.{IsWithin, NoPairBelow}
+use Rattle.sk_family.specs.Clusters.{IsWithin}
+use Rattle.sk_worklist.specs.Known.{NoPairBelow}
 use Rattle.sk_worklist.proofs.Mending.{no_pair_at_all}
 use Rattle.sk_base.specs.declared.Elem.{Elem}
 use Rattle.sk_worklist.specs.Heirs.{TellsFresh}

@@ -1,5 +1,5 @@
 use Rattle.std.proofs.Common.{subst, sym}
-use Rattle.sk_worklist.specs.Known.{IsWithin}
+use Rattle.sk_family.specs.Clusters.{IsWithin}
 use Rattle.sk_worklist.proofs.Inheriting.{heir_of_merge}
 use Rattle.sk_worklist.proofs.worklist.Worklist.grown.Goals as goal
 

@@ -3,7 +3,7 @@ use Rattle.std.specs.Prelude.{AllPairs, Contains}
 use Rattle.sk_base.specs.declared.Name.{Name}
 use Rattle.sk_base.specs.declared.Name.TheVariants.{Step}
 use Rattle.sk_base.specs.ClusterNames.{IsBelow}
-use Rattle.sk_rules.specs.declared.Merge.{Merge}
+use Rattle.sk_family.specs.declared.Merge.{Merge}
 use Rattle.sk_worklist.specs.Known.{Knows, avoiding}
 use Rattle.sk_worklist.proofs.Mending.{avoiding_same}
 use Rattle.sk_worklist.proofs.Turning.{knows_all, all_are_choices}

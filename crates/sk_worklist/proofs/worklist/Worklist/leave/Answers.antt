@@ -1,11 +1,12 @@
 use Rattle.std.proofs.Common.{[], ◌∷◌, sym, subst}
 use Rattle.std.specs.Prelude.{Contains}
 use Rattle.sk_family.specs.Clusters.{unnamed}
-use Rattle.sk_rules.specs.declared.Merge.{Merge}
-use Rattle.sk_rules.specs.Merges.{names_of}
+use Rattle.sk_family.specs.declared.Merge.{Merge}
+use Rattle.sk_family.specs.Merges.{names_of}
 use Rattle.sk_index.specs.declared.Index.{Index}
 use Rattle.sk_index.specs.Indexed.{IsHeld, IsIndex, Represents}
-use Rattle.sk_worklist.proofs.Entering.{represents_left, same_knows}
+use Rattle.sk_index.proofs.Representing.{represents_left}
+use Rattle.sk_worklist.proofs.Entering.{same_knows}
 use Rattle.sk_worklist.proofs.worklist.Worklist.leave.Goals as goal
 
 pub take_out_all-requires-clause-index : goal.take_out_all-requires-clause-index

@@ -1,5 +1,5 @@
 use Rattle.std.proofs.Common.{sym, subst, List, []}
-use Rattle.sk_rules.specs.declared.Merge.{Merge}
+use Rattle.sk_family.specs.declared.Merge.{Merge}
 use Rattle.sk_index.specs.Walks.{GrowsBy}
 use Rattle.sk_worklist.specs.Gather.{IsUncovered}
 use Rattle.sk_worklist.proofs.Turning.{both_ok, uncovered}

@@ -1,5 +1,5 @@
-use Rattle.sk_rules.proofs.Ordering.{merge_of_three}
-use Rattle.sk_rules.proofs.merge.Merge.three.Goals as goal
+use Rattle.sk_family.proofs.Ordering.{merge_of_three}
+use Rattle.sk_family.proofs.merge.Merge.three.Goals as goal
 
 pub returns-clause-some : goal.returns-clause-some
 returns-clause-some c =

@@ -5,8 +5,8 @@ use Rattle.sk_base.specs.declared.Name.{Name}
 use Rattle.sk_base.specs.ClusterNames.{IsBelow}
 use Rattle.sk_base.proofs.Members.{contains_head, contains_later, contains_one, contains_cases}
 use Rattle.sk_family.proofs.Naming.{below_chain}
-use Rattle.sk_rules.specs.declared.merge.Merge.TheVariants.{Three}
-use Rattle.sk_rules.specs.Merges.{IsMergeOf}
+use Rattle.sk_family.specs.declared.merge.Merge.TheVariants.{Three}
+use Rattle.sk_family.specs.Merges.{IsMergeOf}
 
 -- the higher one and the lower one of two names
 pub record AreInOrder (x y high low : Name) : Type 0 where
