@@ -7,7 +7,8 @@ use Rattle.sk_base.specs.ClusterNames.{IsBelow}
 use Rattle.std.proofs.lemmas.Option.{same_Some}
 use Rattle.sk_family.specs.declared.Cluster.{Cluster}
 use Rattle.sk_index.specs.declared.index.Index.{Index}
-use Rattle.sk_index.specs.Walks.{FromSome, HolderOf}
+use Rattle.sk_ends.specs.Growing.{FromSome}
+use Rattle.sk_index.specs.Walks.{HolderOf}
 use Rattle.sk_index.specs.Indexed.{IsBelowAt, IsIndex, IsNamedAt, holders_of}
 
 module _ (ix : Index) (index : IsIndex ix) (e : Elem) (bound : Name) (keys : List ℕ) (keys_are : (k : ℕ) → Contains keys k ↔ (Contains (holders_of ix e) k × IsBelowAt ix bound k)) where

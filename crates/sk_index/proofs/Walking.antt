@@ -9,7 +9,7 @@ use Rattle.sk_family.proofs.Halving.{is_before, passing_front, before_below, bel
 use Rattle.sk_family.proofs.Naming.{below_chain}
 use Rattle.sk_base.proofs.Splits.{in_take, in_either}
 use Rattle.sk_index.specs.declared.index.Index.{Index}
-use Rattle.sk_index.specs.Walks.{FromSome}
+use Rattle.sk_ends.specs.Growing.{FromSome}
 use Rattle.sk_index.specs.Indexed.{cluster_at, IsBelowAt, RisesIn}
 
 abbrev is_below_in : Option Cluster → Name → Bool

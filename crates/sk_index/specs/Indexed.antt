@@ -12,7 +12,7 @@ use Rattle.sk_base.specs.SoundGraph.{HasNode}
 use Rattle.sk_family.specs.declared.Cluster.{Cluster}
 use Rattle.sk_family.specs.Clusters.{Clusters, IsNamed}
 use Rattle.sk_index.specs.declared.index.Index.{Index}
-use Rattle.sk_index.specs.Marks.{IsMarked}
+use Rattle.sk_ends.specs.Marks.{IsMarked}
 
 -- the keys of the clusters that hold the element
 abbrev pub keys_in : Option (List ℕ) → List ℕ

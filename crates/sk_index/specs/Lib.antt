@@ -1,3 +1,5 @@
 pub mod Indexed
-pub mod Marks
 pub mod Walks
+pub mod Partners
+pub mod Triples
+pub mod Walked

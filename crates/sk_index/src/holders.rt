@@ -1,7 +1,8 @@
 // The walk through the index to the clusters that hold some elements.
 ghost use Rattle.std.specs.Prelude.{OnOk};
 ghost use Rattle.sk_base.specs.declared.Name.{Name as ClusterName};
-ghost use Rattle.sk_index.specs.Walks.{FromSome, GrowsBy, HolderOf};
+ghost use Rattle.sk_ends.specs.Growing.{FromSome, GrowsBy};
+ghost use Rattle.sk_index.specs.Walks.{HolderOf};
 ghost use Rattle.sk_index.specs.Indexed.{IsIndex, IsNamedAt};
 
 use crate::index::Index;

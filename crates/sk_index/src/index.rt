@@ -10,8 +10,9 @@ ghost use Rattle.sk_base.specs.Numbering.{elem_number};
 ghost use Rattle.sk_base.specs.Rising.{IsRising};
 ghost use Rattle.sk_family.specs.declared.Cluster.{Cluster as AnyCluster};
 
-use crate::marks::{is_marked, lines_of};
+use crate::lines::lines_of;
 use sk_base::{Elem, Graph, Name, NoMemory};
+use sk_ends::is_marked;
 use sk_family::{Cluster, Family, Row};
 use slab::Slab;
 use std::alloc::Global;

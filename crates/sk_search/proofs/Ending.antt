@@ -16,7 +16,7 @@ use Rattle.sk_family.specs.declared.Cluster.{Cluster}
 use Rattle.sk_family.specs.declared.Merge.{Merge}
 use Rattle.sk_index.specs.declared.Index.{Index}
 use Rattle.sk_index.specs.Indexed.{IsThird, cluster_at, holders_of}
-use Rattle.sk_index.specs.Walks.{FromSome, GrowsBy}
+use Rattle.sk_ends.specs.Growing.{FromSome, GrowsBy}
 use Rattle.sk_search.specs.declared.ends.End.{End}
 use Rattle.sk_search.specs.Ranked.{BesideAt, RankedFrom}
 use Rattle.sk_search.specs.Ends.{corner_number, Closes, DownBeside, DownBesideAny, DownTo, EndsOf, FromEnd, JoinedAt, Joins, LastOf, end_of}

@@ -8,7 +8,7 @@ use Rattle.std.proofs.lemmas.Option.{same_Some}
 use Rattle.sk_family.specs.declared.Cluster.{Cluster}
 use Rattle.sk_index.specs.declared.Index.{Index}
 use Rattle.sk_index.specs.Indexed.{cluster_at}
-use Rattle.sk_index.specs.Walks.{FromSome}
+use Rattle.sk_ends.specs.Growing.{FromSome}
 use Rattle.sk_search.specs.Ranked.{BesideAt, IsTripleOfAny, IsWithThird, LastAt, WithLower}
 use Rattle.sk_family.specs.declared.Merge.{Merge}
 use Rattle.sk_family.proofs.Naming.{below_asymmetric, below_differs}

@@ -8,7 +8,7 @@ use Rattle.sk_family.specs.declared.Merge.{Merge}
 use Rattle.sk_family.specs.declared.Merge.TheVariants.{Three}
 use Rattle.sk_index.specs.declared.Index.{Index}
 use Rattle.sk_index.specs.Indexed.{cluster_at, holders_of, IsThirdIn}
-use Rattle.sk_index.specs.Walks.{FromSome}
+use Rattle.sk_ends.specs.Growing.{FromSome}
 use Rattle.sk_search.specs.declared.triples.Third.{Third}
 use Rattle.sk_search.specs.declared.triples.Third.TheVariants.{Below, Either}
 

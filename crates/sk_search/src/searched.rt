@@ -3,7 +3,7 @@ ghost use Rattle.std.specs.Prelude.{◌≡◌, ◌↔◌, IsTrue, OnOk};
 ghost use Rattle.sk_base.specs.Numbering.{elem_number};
 ghost use Rattle.sk_base.specs.Rising.{IsRising};
 ghost use Rattle.sk_index.specs.Indexed.{AllRise, IsIndex, holders_of};
-ghost use Rattle.sk_index.specs.Walks.{FromSome, GrowsBy};
+ghost use Rattle.sk_ends.specs.Growing.{FromSome, GrowsBy};
 ghost use Rattle.sk_search.specs.Ranked.{BesideAt, DownFrom, IsLastCluster, LastAt, RankedFrom, WithLower};
 
 use crate::ranks::{has_higher, is_lower, triple_of_any};

@@ -6,7 +6,7 @@ ghost use Rattle.std.specs.List.Sorted.{IsNonDecreasingBy};
 ghost use Rattle.sk_base.specs.Numbering.{elem_number};
 ghost use Rattle.sk_base.specs.Rising.{IsRising};
 ghost use Rattle.sk_index.specs.Indexed.{AllRise, IsIndex, IsThird, holders_of};
-ghost use Rattle.sk_index.specs.Walks.{FromSome, GrowsBy};
+ghost use Rattle.sk_ends.specs.Growing.{FromSome, GrowsBy};
 ghost use Rattle.sk_search.specs.Ends.{end_number};
 ghost use Rattle.sk_search.specs.Meeting.{EndsBelow, MeetAt, MeetBy, MeetFrom, Meets};
 ghost use Rattle.sk_search.specs.Triples.{IsPlaced, IsThirdCluster, IsTripleOf, ThirdAt, WithCorners, WithCorner, SecondAt, AtCorner, TriplesOf, limit_of};

@@ -3,7 +3,7 @@ ghost use Rattle.std.specs.Prelude.{◌≢◌, ◌↔◌, All, IfOk, IsTrue, OnO
 ghost use Rattle.sk_base.specs.declared.Elem.{Elem as Element};
 ghost use Rattle.sk_base.specs.declared.Edge.{Edge as AnEdge};
 ghost use Rattle.sk_base.specs.declared.Pin.{Pin as APin};
-ghost use Rattle.sk_index.specs.Marks.{IsMarked};
+ghost use Rattle.sk_ends.specs.Marks.{IsMarked};
 ghost use Rattle.sk_verdict.specs.Leaving.{LeavesOut};
 ghost use Rattle.sk_verdict.specs.Parts.{EndsElsewhere, HasNoPin, IsNamedByNone};
 

@@ -13,7 +13,7 @@ use Rattle.sk_family.specs.declared.Merge.TheVariants.{Three}
 use Rattle.sk_family.specs.Rules.{MeetsInThree}
 use Rattle.sk_index.specs.declared.Index.{Index}
 use Rattle.sk_index.specs.Indexed.{Represents}
-use Rattle.sk_index.specs.Walks.{FromSome}
+use Rattle.sk_ends.specs.Growing.{FromSome}
 use Rattle.sk_worklist.specs.declared.heir.Heir.{Heir}
 use Rattle.sk_search.specs.declared.Third.TheVariants.{Either}
 use Rattle.sk_rules.specs.Merges.{CanTake, TakesFrom}

@@ -8,7 +8,8 @@ use Rattle.sk_base.specs.ClusterNames.{IsBelow}
 use Rattle.sk_base.proofs.Members.{contains_none}
 use Rattle.sk_family.specs.Clusters.{Clusters}
 use Rattle.sk_index.specs.declared.Index.{Index}
-use Rattle.sk_index.specs.Walks.{FromSome, GrowsBy, HolderOf}
+use Rattle.sk_ends.specs.Growing.{FromSome, GrowsBy}
+use Rattle.sk_index.specs.Walks.{HolderOf}
 use Rattle.sk_worklist.specs.Gather.{HoldsSome}
 use Rattle.sk_index.specs.Indexed.{Represents}
 

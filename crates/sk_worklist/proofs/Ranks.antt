@@ -18,7 +18,7 @@ use Rattle.sk_family.specs.Rules.{IsTriangle, MeetsInThree}
 use Rattle.sk_rules.proofs.Merging.{meets_on}
 use Rattle.sk_index.specs.declared.Index.{Index}
 use Rattle.sk_index.specs.Indexed.{IsLineAt, Represents, holders_of}
-use Rattle.sk_index.specs.Walks.{FromSome}
+use Rattle.sk_ends.specs.Growing.{FromSome}
 use Rattle.sk_rules.specs.Merges.{CanTake}
 use Rattle.sk_worklist.specs.Gather.{IsUncovered}
 use Rattle.sk_search.specs.Ranked.{IsLower, IsTripleOfAny, IsWithThird, RankedFrom}

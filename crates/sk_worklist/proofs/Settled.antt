@@ -16,7 +16,7 @@ use Rattle.sk_rules.proofs.Merging.{closed_by_merges}
 use Rattle.sk_index.specs.declared.Index.{Index}
 use Rattle.sk_rules.specs.Merges.{CanTake}
 use Rattle.sk_index.specs.Indexed.{Represents}
-use Rattle.sk_index.specs.Walks.{GrowsBy}
+use Rattle.sk_ends.specs.Growing.{GrowsBy}
 use Rattle.sk_search.specs.Partners.{Partner}
 use Rattle.sk_search.specs.Triples.{TriplesOf}
 use Rattle.sk_worklist.specs.Settling.{IsAny, IsSettledBelow, IsNextMerge, MergesOf, greatest_of}

@@ -24,7 +24,7 @@ use Rattle.sk_rules.proofs.Merging.{merge_steps, replaced_replaces}
 use Rattle.sk_index.specs.declared.Index.{Index}
 use Rattle.sk_worklist.specs.declared.growth.Joining.TheVariants.{One, Both}
 use Rattle.sk_worklist.specs.Grown.{IsMarkedIn, MarksTwo, Joins, HasGrown, IsGrown}
-use Rattle.sk_index.specs.Marks.{IsMarked}
+use Rattle.sk_ends.specs.Marks.{IsMarked}
 use Rattle.sk_rules.specs.Merges.{CanTake}
 use Rattle.sk_index.specs.Indexed.{IsHeld, IsIndex, KeepsLines, IsThird, Represents}
 use Rattle.sk_index.proofs.Representing.{represents_left}

@@ -14,7 +14,7 @@ use Rattle.sk_family.specs.declared.Merge.TheVariants.{Two}
 use Rattle.sk_index.specs.declared.Index.{Index}
 use Rattle.sk_rules.specs.Merges.{CanTake}
 use Rattle.sk_worklist.specs.Choices.{ComesFirst, IsFirstPair, AreTriples}
-use Rattle.sk_index.specs.Walks.{GrowsBy, FromSome}
+use Rattle.sk_ends.specs.Growing.{GrowsBy, FromSome}
 use Rattle.sk_search.specs.Partners.{Partner}
 use Rattle.sk_search.specs.Triples.{TriplesOf}
 use Rattle.sk_worklist.specs.Gather.{IsPartner, IsUncovered, AreUncovered}

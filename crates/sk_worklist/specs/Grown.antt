@@ -10,7 +10,7 @@ use Rattle.sk_index.specs.declared.Index.{Index}
 use Rattle.sk_worklist.specs.declared.growth.Joining.{Joining}
 use Rattle.sk_worklist.specs.declared.growth.Joining.TheVariants.{One, Both}
 use Rattle.sk_index.specs.Indexed.{IsHeld, IsThird, Represents}
-use Rattle.sk_index.specs.Marks.{IsMarked}
+use Rattle.sk_ends.specs.Marks.{IsMarked}
 
 -- it is one of these, and marked
 abbrev pub IsMarkedIn : List Bool → List Elem → Elem → Type 0

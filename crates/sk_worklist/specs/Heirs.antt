@@ -12,7 +12,7 @@ use Rattle.sk_family.specs.declared.Merge.TheVariants.{Two, Three}
 use Rattle.sk_family.specs.Rules.{SharesTwo, MeetsInThree}
 use Rattle.sk_index.specs.declared.Index.{Index}
 use Rattle.sk_worklist.specs.declared.heir.Heir.{Heir}
-use Rattle.sk_index.specs.Walks.{FromSome}
+use Rattle.sk_ends.specs.Growing.{FromSome}
 use Rattle.sk_search.specs.declared.Third.TheVariants.{Either}
 use Rattle.sk_search.specs.Partners.{Partner, PartnerOf}
 use Rattle.sk_search.specs.Triples.{AtCorner}

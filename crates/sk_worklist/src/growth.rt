@@ -6,7 +6,7 @@ ghost use Rattle.sk_base.specs.Numbering.{elem_number};
 ghost use Rattle.sk_base.specs.Rising.{IsRising};
 ghost use Rattle.sk_family.specs.Clusters.{IsLive, IsSound, HasElements};
 ghost use Rattle.sk_rules.specs.Merges.{CanTake};
-ghost use Rattle.sk_index.specs.Marks.{IsMarked};
+ghost use Rattle.sk_ends.specs.Marks.{IsMarked};
 ghost use Rattle.sk_worklist.specs.Grown.{IsMarkedIn, MarksTwo, MakesThird, MeetsAt, Joins, HasGrown, IsGrown};
 ghost use Rattle.sk_index.specs.Indexed.{IsHeld, IsIndex, IsThird, Represents};
 

@@ -8,7 +8,7 @@ ghost use Rattle.sk_base.specs.ClusterNames.{IsBelow};
 ghost use Rattle.sk_base.specs.Numbering.{elem_number};
 ghost use Rattle.sk_base.specs.Rising.{IsRising};
 ghost use Rattle.sk_family.specs.Clusters.{IsLive, IsNamed, IsSound};
-ghost use Rattle.sk_index.specs.Walks.{FromSome, GrowsBy};
+ghost use Rattle.sk_ends.specs.Growing.{FromSome, GrowsBy};
 ghost use Rattle.sk_family.specs.Merges.{names_of};
 ghost use Rattle.sk_worklist.specs.Heirs.{Inherits, IsBeside, IsFreshOn, MissesSome};
 

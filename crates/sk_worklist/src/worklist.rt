@@ -12,7 +12,7 @@ ghost use Rattle.sk_worklist.specs.Gather.{AreUncovered, HoldsSome, IsUncovered}
 ghost use Rattle.sk_index.specs.Indexed.{IsIndex, Represents};
 ghost use Rattle.sk_worklist.specs.Turns.{Answers, Follows, HasLeft, HasNoPair, IsSameButHeir};
 ghost use Rattle.sk_worklist.specs.Heirs.{IsHeir, IsHeirOf, IsOfFresh, IsOfHeir};
-ghost use Rattle.sk_index.specs.Walks.{GrowsBy};
+ghost use Rattle.sk_ends.specs.Growing.{GrowsBy};
 
 use crate::heir::{Heir, add_fresh, add_inherited, biggest, has_name, is_same};
 use crate::kept::{drop_naming, in_order, names_in_order};

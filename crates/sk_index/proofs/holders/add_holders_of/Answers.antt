@@ -1,8 +1,9 @@
 use Rattle.std.proofs.Common.{ℕ}
 use Rattle.sk_base.specs.declared.Name.{Name}
-use Rattle.sk_index.specs.Walks.{FromSome, HolderOf}
+use Rattle.sk_ends.specs.Growing.{FromSome}
+use Rattle.sk_index.specs.Walks.{HolderOf}
 use Rattle.sk_index.specs.Indexed.{IsNamedAt}
-use Rattle.sk_index.proofs.Growing.{grows_start, grows_step, grows_end, grows_same}
+use Rattle.sk_ends.proofs.Growing.{grows_start, grows_step, grows_end, grows_same}
 use Rattle.sk_index.proofs.HoldersBelow.{named_below}
 use Rattle.sk_index.proofs.holders.add_holders_of.Goals as goal
 

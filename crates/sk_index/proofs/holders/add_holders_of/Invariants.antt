@@ -1,5 +1,5 @@
 use Rattle.std.proofs.Common.{take}
-use Rattle.sk_index.specs.Walks.{GrowsBy, FromSome}
+use Rattle.sk_ends.specs.Growing.{GrowsBy, FromSome}
 use Rattle.sk_index.specs.Indexed.{IsNamedAt}
 use Rattle.sk_index.proofs.holders.add_holders_of.Given as goal
 

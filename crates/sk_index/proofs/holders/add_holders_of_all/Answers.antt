@@ -1,5 +1,5 @@
 use Rattle.sk_index.specs.Walks.{HolderOf}
-use Rattle.sk_index.proofs.Growing.{grows_start, grows_step, grows_end}
+use Rattle.sk_ends.proofs.Growing.{grows_start, grows_step, grows_end}
 use Rattle.sk_index.proofs.holders.add_holders_of_all.Goals as goal
 
 pub loop-elem-init : goal.loop-elem-init

@@ -1,5 +1,6 @@
 use Rattle.std.proofs.Common.{take}
-use Rattle.sk_index.specs.Walks.{GrowsBy, FromSome, HolderOf}
+use Rattle.sk_ends.specs.Growing.{GrowsBy, FromSome}
+use Rattle.sk_index.specs.Walks.{HolderOf}
 use Rattle.sk_index.proofs.holders.add_holders_of_all.Given as goal
 
 abbrev pub invariant-loop-elem : goal.invariant-loop-elem

@@ -1,7 +1,7 @@
 use Rattle.std.proofs.Common.{sym}
 use Rattle.sk_base.proofs.Searches.{on_ok}
-use Rattle.sk_index.specs.Walks.{FromSome}
-use Rattle.sk_index.proofs.Growing.{grows_same}
+use Rattle.sk_ends.specs.Growing.{FromSome}
+use Rattle.sk_ends.proofs.Growing.{grows_same}
 use Rattle.sk_search.specs.Ends.{DownBeside, DownTo}
 use Rattle.sk_search.proofs.Ending.{beside_same}
 use Rattle.sk_search.proofs.ranked.add_beside.Goals as goal

@@ -1,4 +1,4 @@
-use Rattle.sk_index.proofs.Growing.{grows_start, grows_step, grows_end}
+use Rattle.sk_ends.proofs.Growing.{grows_start, grows_step, grows_end}
 use Rattle.sk_search.specs.Ends.{Joins}
 use Rattle.sk_search.proofs.ranked.add_joined.Goals as goal
 

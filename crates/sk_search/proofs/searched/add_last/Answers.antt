@@ -1,7 +1,7 @@
 use Rattle.std.proofs.Common.{sym, subst, List}
 use Rattle.sk_family.specs.declared.Merge.{Merge}
-use Rattle.sk_index.specs.Walks.{GrowsBy}
-use Rattle.sk_index.proofs.Growing.{grows_one}
+use Rattle.sk_ends.specs.Growing.{GrowsBy}
+use Rattle.sk_ends.proofs.Growing.{grows_one}
 use Rattle.sk_search.specs.Ranked.{LastAt}
 use Rattle.sk_search.proofs.Walking.{last_only}
 use Rattle.sk_search.proofs.searched.add_last.Goals as goal

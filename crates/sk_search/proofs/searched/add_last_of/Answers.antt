@@ -1,6 +1,6 @@
 use Rattle.std.proofs.Common.{subst, List, ℕ}
-use Rattle.sk_index.specs.Walks.{GrowsBy, FromSome}
-use Rattle.sk_index.proofs.Growing.{grows_start, grows_step, grows_end}
+use Rattle.sk_ends.specs.Growing.{GrowsBy, FromSome}
+use Rattle.sk_ends.proofs.Growing.{grows_start, grows_step, grows_end}
 use Rattle.sk_search.specs.Ranked.{LastAt}
 use Rattle.sk_search.proofs.searched.add_last_of.Goals as goal
 

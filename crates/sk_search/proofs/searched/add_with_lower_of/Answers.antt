@@ -1,7 +1,7 @@
 use Rattle.std.proofs.Common.{subst, List}
 use Rattle.sk_base.specs.declared.Elem.{Elem}
-use Rattle.sk_index.specs.Walks.{GrowsBy, FromSome}
-use Rattle.sk_index.proofs.Growing.{grows_start, grows_step, grows_end}
+use Rattle.sk_ends.specs.Growing.{GrowsBy, FromSome}
+use Rattle.sk_ends.proofs.Growing.{grows_start, grows_step, grows_end}
 use Rattle.sk_search.specs.Ranked.{WithLower}
 use Rattle.sk_search.proofs.searched.add_with_lower_of.Goals as goal
 

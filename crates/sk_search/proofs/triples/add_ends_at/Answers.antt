@@ -1,5 +1,5 @@
 use Rattle.std.proofs.Common.{sym}
-use Rattle.sk_index.proofs.Growing.{grows_same}
+use Rattle.sk_ends.proofs.Growing.{grows_same}
 use Rattle.sk_search.specs.Ends.{EndsAmong}
 use Rattle.sk_search.specs.Meeting.{EndsBelow}
 use Rattle.sk_search.proofs.Meeting.{ends_same}

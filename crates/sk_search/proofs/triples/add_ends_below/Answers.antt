@@ -1,5 +1,5 @@
-use Rattle.sk_index.specs.Walks.{FromSome}
-use Rattle.sk_index.proofs.Growing.{grows_start, grows_step, grows_end, grows_same}
+use Rattle.sk_ends.specs.Growing.{FromSome}
+use Rattle.sk_ends.proofs.Growing.{grows_start, grows_step, grows_end, grows_same}
 use Rattle.sk_index.specs.Indexed.{IsBelowAt, holders_of}
 use Rattle.sk_index.proofs.Walking.{found_in_front}
 use Rattle.sk_search.specs.Meeting.{EndsBelow}

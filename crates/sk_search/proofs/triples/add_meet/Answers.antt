@@ -1,7 +1,7 @@
 use Rattle.std.proofs.Common.{sym, subst, List}
 use Rattle.sk_family.specs.declared.Merge.{Merge}
-use Rattle.sk_index.specs.Walks.{GrowsBy}
-use Rattle.sk_index.proofs.Growing.{grows_one}
+use Rattle.sk_ends.specs.Growing.{GrowsBy}
+use Rattle.sk_ends.proofs.Growing.{grows_one}
 use Rattle.sk_search.specs.Meeting.{Meets}
 use Rattle.sk_search.proofs.Walking.{one_triple, placed_apart}
 use Rattle.sk_search.proofs.triples.add_meet.Goals as goal

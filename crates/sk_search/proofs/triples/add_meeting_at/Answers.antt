@@ -1,7 +1,7 @@
 use Rattle.std.proofs.Common.{refl}
 use Rattle.sk_base.proofs.Searches.{on_ok}
-use Rattle.sk_index.specs.Walks.{FromSome}
-use Rattle.sk_index.proofs.Growing.{grows_same}
+use Rattle.sk_ends.specs.Growing.{FromSome}
+use Rattle.sk_ends.proofs.Growing.{grows_same}
 use Rattle.sk_search.specs.Meeting.{MeetAt, Meets}
 use Rattle.sk_search.proofs.Meeting.{met_at}
 use Rattle.sk_search.proofs.triples.add_meeting_at.Goals as goal

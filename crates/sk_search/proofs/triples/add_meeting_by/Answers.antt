@@ -1,6 +1,6 @@
 use Rattle.std.proofs.Common.{sym}
-use Rattle.sk_index.specs.Walks.{FromSome}
-use Rattle.sk_index.proofs.Growing.{grows_same}
+use Rattle.sk_ends.specs.Growing.{FromSome}
+use Rattle.sk_ends.proofs.Growing.{grows_same}
 use Rattle.sk_search.specs.Meeting.{MeetAt, MeetBy}
 use Rattle.sk_search.proofs.Meeting.{met_same}
 use Rattle.sk_search.proofs.triples.add_meeting_by.Goals as goal

@@ -1,4 +1,4 @@
-use Rattle.sk_index.proofs.Growing.{grows_start, grows_step, grows_end}
+use Rattle.sk_ends.proofs.Growing.{grows_start, grows_step, grows_end}
 use Rattle.sk_search.specs.Meeting.{Meets}
 use Rattle.sk_search.proofs.triples.add_meets.Goals as goal
 

@@ -1,8 +1,8 @@
 use Rattle.std.proofs.Common.{sym, subst, List}
 use Rattle.sk_family.specs.declared.Merge.{Merge}
-use Rattle.sk_index.specs.Walks.{GrowsBy}
+use Rattle.sk_ends.specs.Growing.{GrowsBy}
 use Rattle.sk_search.specs.Triples.{ThirdAt}
-use Rattle.sk_index.proofs.Growing.{grows_one}
+use Rattle.sk_ends.proofs.Growing.{grows_one}
 use Rattle.sk_search.proofs.Walking.{placed_apart, third_only}
 use Rattle.sk_search.proofs.triples.add_third.Goals as goal
 

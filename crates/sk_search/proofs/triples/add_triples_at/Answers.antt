@@ -1,5 +1,5 @@
 use Rattle.sk_search.specs.Triples.{AtCorner}
-use Rattle.sk_index.proofs.Growing.{grows_start, grows_step, grows_end}
+use Rattle.sk_ends.proofs.Growing.{grows_start, grows_step, grows_end}
 use Rattle.sk_search.proofs.triples.add_triples_at.Goals as goal
 
 pub loop-a-init : goal.loop-a-init

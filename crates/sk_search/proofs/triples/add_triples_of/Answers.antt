@@ -1,8 +1,8 @@
 use Rattle.std.proofs.Common.{subst, List}
 use Rattle.sk_base.specs.declared.Elem.{Elem}
 use Rattle.sk_search.specs.declared.triples.Third.TheVariants.{Below}
-use Rattle.sk_index.specs.Walks.{GrowsBy, FromSome}
-use Rattle.sk_index.proofs.Growing.{grows_start, grows_step, grows_end}
+use Rattle.sk_ends.specs.Growing.{GrowsBy, FromSome}
+use Rattle.sk_ends.proofs.Growing.{grows_start, grows_step, grows_end}
 use Rattle.sk_search.specs.Triples.{AtCorner}
 use Rattle.sk_search.proofs.triples.add_triples_of.Goals as goal
 

@@ -1,5 +1,5 @@
 use Rattle.std.proofs.Common.{take}
-use Rattle.sk_index.specs.Walks.{GrowsBy, FromSome}
+use Rattle.sk_ends.specs.Growing.{GrowsBy, FromSome}
 use Rattle.sk_search.specs.declared.triples.Third.TheVariants.{Below}
 use Rattle.sk_search.specs.Triples.{AtCorner}
 use Rattle.sk_search.proofs.triples.add_triples_of.Given as goal

@@ -1,8 +1,8 @@
 use Rattle.std.proofs.Common.{subst}
 use Rattle.sk_family.specs.declared.Cluster.{Cluster}
-use Rattle.sk_index.specs.Walks.{GrowsBy}
+use Rattle.sk_ends.specs.Growing.{GrowsBy}
 use Rattle.sk_search.specs.Triples.{TriplesOf}
-use Rattle.sk_index.proofs.Growing.{grows_start, grows_step, grows_end}
+use Rattle.sk_ends.proofs.Growing.{grows_start, grows_step, grows_end}
 use Rattle.sk_search.proofs.triples.add_triples_of_all.Goals as goal
 
 pub loop-x-init : goal.loop-x-init

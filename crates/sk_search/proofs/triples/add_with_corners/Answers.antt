@@ -1,9 +1,9 @@
 use Rattle.std.proofs.Common.{sym, subst}
 use Rattle.sk_base.specs.ClusterNames.{IsBelow}
 use Rattle.sk_search.proofs.Walking.{placed_in_limit}
-use Rattle.sk_index.specs.Walks.{FromSome}
+use Rattle.sk_ends.specs.Growing.{FromSome}
 use Rattle.sk_search.specs.Triples.{ThirdAt}
-use Rattle.sk_index.proofs.Growing.{grows_start, grows_step, grows_end, grows_same}
+use Rattle.sk_ends.proofs.Growing.{grows_start, grows_step, grows_end, grows_same}
 use Rattle.sk_index.specs.Indexed.{IsBelowAt, holders_of}
 use Rattle.sk_index.proofs.Walking.{found_in_front}
 use Rattle.sk_search.proofs.triples.add_with_corners.Goals as goal

@@ -1,6 +1,6 @@
 use Rattle.std.proofs.Common.{sym}
 use Rattle.sk_search.specs.Triples.{WithCorner, SecondAt}
-use Rattle.sk_index.proofs.Growing.{grows_same}
+use Rattle.sk_ends.proofs.Growing.{grows_same}
 use Rattle.sk_search.proofs.Walking.{second_same}
 use Rattle.sk_search.proofs.triples.add_with_key.Goals as goal
 

@@ -1,5 +1,5 @@
 use Rattle.sk_worklist.specs.Heirs.{Inherits}
-use Rattle.sk_index.proofs.Growing.{grows_start, grows_step, grows_end}
+use Rattle.sk_ends.proofs.Growing.{grows_start, grows_step, grows_end}
 use Rattle.sk_worklist.proofs.heir.add_inherited.Goals as goal
 
 pub loop-merge-init : goal.loop-merge-init

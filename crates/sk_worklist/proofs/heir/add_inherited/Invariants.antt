@@ -1,5 +1,5 @@
 use Rattle.std.proofs.Common.{take}
-use Rattle.sk_index.specs.Walks.{GrowsBy, FromSome}
+use Rattle.sk_ends.specs.Growing.{GrowsBy, FromSome}
 use Rattle.sk_worklist.specs.Heirs.{Inherits}
 use Rattle.sk_worklist.proofs.heir.add_inherited.Given as goal
 

@@ -1,7 +1,7 @@
 use Rattle.std.proofs.Common.{subst, List}
 use Rattle.sk_base.proofs.Searches.{on_ok}
 use Rattle.sk_family.specs.declared.Merge.{Merge}
-use Rattle.sk_index.specs.Walks.{FromSome, GrowsBy}
+use Rattle.sk_ends.specs.Growing.{FromSome, GrowsBy}
 use Rattle.sk_worklist.specs.Heirs.{Inherits, IsOfFresh}
 use Rattle.sk_worklist.proofs.Inherited.{grows_then}
 use Rattle.sk_worklist.proofs.worklist.Worklist.add_triples_of_heir.Goals as goal

@@ -1,7 +1,7 @@
 use Rattle.std.proofs.Common.{subst}
 use Rattle.std.specs.Prelude.{Option}
 use Rattle.sk_base.proofs.Searches.{on_ok}
-use Rattle.sk_index.proofs.Growing.{grows_same}
+use Rattle.sk_ends.proofs.Growing.{grows_same}
 use Rattle.sk_worklist.specs.declared.heir.Heir.{Heir}
 use Rattle.sk_worklist.specs.Gather.{IsUncovered}
 use Rattle.sk_worklist.specs.Heirs.{IsHeirOf, IsOfHeir}

@@ -1,6 +1,6 @@
 use Rattle.std.proofs.Common.{sym, subst, List, []}
 use Rattle.sk_family.specs.declared.Merge.{Merge}
-use Rattle.sk_index.specs.Walks.{GrowsBy}
+use Rattle.sk_ends.specs.Growing.{GrowsBy}
 use Rattle.sk_worklist.specs.Gather.{IsUncovered}
 use Rattle.sk_worklist.proofs.Turning.{both_ok, uncovered}
 use Rattle.sk_worklist.proofs.worklist.Worklist.uncovered.Goals as goal

@@ -3,10 +3,10 @@ use Rattle.std.specs.List.Sorted.{IsPartitionPoint}
 use Rattle.std.proofs.lemmas.List.Sorted.{IsPartitionPoint-from_clause, IsPartitionedBy-leb, IsPartitionedBy-ltb}
 use Rattle.sk_base.specs.declared.Elem.{Elem}
 use Rattle.sk_base.specs.Numbering.{elem_exact}
-use Rattle.sk_search.specs.Ends.{end_number}
-use Rattle.sk_search.proofs.Between.{between, ordered}
-use Rattle.sk_search.proofs.ends.ends_at.Goals as goal
-use Rattle.sk_search.proofs.ends.ends_at.Goals.{After-partition_point-past}
+use Rattle.sk_ends.specs.Ends.{end_number}
+use Rattle.sk_ends.proofs.Between.{between, ordered}
+use Rattle.sk_ends.proofs.ends.ends_at.Goals as goal
+use Rattle.sk_ends.proofs.ends.ends_at.Goals.{After-partition_point-past}
 
 low : (c : goal.After-partition_point-past) → IsPartitionPoint (λ y. ltb (end_number y) c.args.elem.0 ≡ true) (λ y. ltb (end_number y) c.args.elem.0 ≡ false) c.args.ends.now c.partition_point-first.result
 low c =

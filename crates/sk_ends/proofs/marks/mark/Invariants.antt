@@ -1,6 +1,6 @@
 use Rattle.std.proofs.Common.{◌≡◌, ◌+◌, ◌-◌, length, ℕ}
 use Rattle.std.specs.Prelude.{slice_get, Some, true, ◌↔◌}
-use Rattle.sk_index.proofs.marks.mark.Given as goal
+use Rattle.sk_ends.proofs.marks.mark.Given as goal
 
 abbrev pub invariant-loop-marks : goal.invariant-loop-marks
 invariant-loop-marks l = (n : ℕ) → (slice_get l.marks.items n ≡ Some true) ↔ (slice_get l.fn.marks.items n ≡ Some true)

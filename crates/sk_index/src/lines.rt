@@ -1,33 +1,12 @@
-// Some elements, as a mark at the place of each.
-ghost use Rattle.std.specs.Prelude.{◌≡◌, ◌↔◌, ◌⊎◌, Contains, IfOk, IsTrue, OnOk};
+// Which elements are lines.
+ghost use Rattle.std.specs.Prelude.{◌≡◌, ◌↔◌, ◌⊎◌, Contains, IfOk, OnOk};
 ghost use Rattle.sk_base.specs.declared.Elem.{Elem as Element};
 ghost use Rattle.sk_base.specs.declared.Kind.TheVariants.{Line};
-ghost use Rattle.sk_index.specs.Marks.{IsMarked};
+ghost use Rattle.sk_ends.specs.Marks.{IsMarked};
 
-use sk_base::{Elem, Kind, NoMemory, Node};
+use sk_base::{Kind, NoMemory, Node};
+use sk_ends::mark;
 use std::alloc::Global;
-
-/// Whether the element is marked.
-pub fn is_marked(marks: &[bool], elem: Elem) -> bool
-    ensures { IsTrue result ↔ IsMarked marks.now elem }
-{
-    match marks.get(elem.0 as usize) {
-        Some(marked) => *marked,
-        None => false,
-    }
-}
-
-/// Marks one element.
-pub fn mark(marks: &mut Vec<bool>, elem: Elem) -> Result<(), NoMemory>
-    ensures { OnOk result ((e : Element) → IsMarked marks.new.items e ↔ (IsMarked marks.old.items e ⊎ (e ≡ elem))) }
-{
-    let at = elem.0 as usize;
-    while marks.len() <= at {
-        marks.push(false)?;
-    }
-    marks[at] = true;
-    Ok(())
-}
 
 /// Whether each element is a line.
 pub(crate) fn lines_of(alloc: Global, nodes: &[Node]) -> Result<Vec<bool>, NoMemory>

@@ -2,7 +2,7 @@ use Rattle.std.proofs.Common.{inl, inr}
 use Rattle.sk_base.specs.declared.Node.{Node}
 use Rattle.sk_base.specs.declared.Kind.TheVariants.{Line, Point}
 use Rattle.sk_index.proofs.Fronts.{front_more, front_all}
-use Rattle.sk_index.proofs.marks.lines_of.Goals as goal
+use Rattle.sk_index.proofs.lines.lines_of.Goals as goal
 
 pub loop-node-preserved : goal.loop-node-preserved
 loop-node-preserved c e =

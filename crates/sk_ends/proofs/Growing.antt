@@ -4,7 +4,7 @@ use Rattle.std.specs.Prelude.{◌↔◌, Contains}
 use Rattle.std.proofs.lemmas.List.{take_all, take_more}
 use Rattle.std.proofs.lemmas.List.Elements.{Contains-append_left, Contains-append_right, Contains-append_cases}
 use Rattle.sk_base.proofs.Members.{contains_none, contains_head, contains_one}
-use Rattle.sk_index.specs.Walks.{GrowsBy, FromSome}
+use Rattle.sk_ends.specs.Growing.{GrowsBy, FromSome}
 
 pub grows_none : {M : Type 0} (kind : M → Type 0) (old : List M) → ((m : M) → ¬ kind m) → GrowsBy kind old old
 grows_none kind old none m = ((λ h. inl h), (λ h. elim h [ inl was ↦ was | inr is ↦ absurd (none m is) ]))
@@ -51,3 +51,10 @@ module _ {X M : Type 0} (kind : X → M → Type 0) (xs : List X) where
 
   pub grows_end : (old new : List M) (i : ℕ) → length xs ≤ i → GrowsBy (FromSome kind (take i xs)) old new → GrowsBy (FromSome kind xs) old new
   grows_end old new i over so_far = subst (λ l. GrowsBy (FromSome kind l) old new) (take_all i xs over) so_far
+
+-- a list that was empty has just what was added
+pub grown_from_none : {X : Type 0} (kind : X → Type 0) (old new : List X) → old ≡ [] → GrowsBy kind old new → (x : X) → Contains new x ↔ kind x
+grown_from_none kind old new empty grows x = (
+  (λ h. elim ((grows x).0 h) [ inl was ↦ absurd (contains_none x (subst (λ l. Contains l x) empty was)) | inr is ↦ is ]),
+  (λ is. (grows x).1 (inr is)),
+)

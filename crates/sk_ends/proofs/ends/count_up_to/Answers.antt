@@ -1,8 +1,8 @@
 use Rattle.std.proofs.Common.{leb, rules}
 use Rattle.std.proofs.lemmas.Bool.{leb-true, leb-false}
 use Rattle.std.proofs.lemmas.List.Sorted.{IsPartitionPoint-from_clause, IsPartitionedBy-leb}
-use Rattle.sk_search.specs.Ends.{corner_number}
-use Rattle.sk_search.proofs.ends.count_up_to.Goals as goal
+use Rattle.sk_ends.specs.Ends.{corner_number}
+use Rattle.sk_ends.proofs.ends.count_up_to.Goals as goal
 
 pub returns-clause-place : goal.returns-clause-place
 returns-clause-place c =

@@ -1,42 +1,42 @@
 // The elements that clusters have beside a corner, sorted for look-ups.
 ghost use Rattle.std.specs.Prelude.{◌≡◌, ◌↔◌, ◌<◌, ◌≤◌, Contains, IfOk, OnOk, length};
 ghost use Rattle.std.specs.List.Sorted.{IsNonDecreasingBy, IsPartitionPoint};
-ghost use Rattle.sk_index.specs.Walks.{GrowsBy};
-ghost use Rattle.sk_search.specs.declared.ends.End.{End as AnyEnd};
-ghost use Rattle.sk_search.specs.Ends.{EndsAmong, corner_number, end_number};
+ghost use Rattle.sk_ends.specs.Growing.{GrowsBy};
+ghost use Rattle.sk_ends.specs.declared.ends.End.{End as AnyEnd};
+ghost use Rattle.sk_ends.specs.Ends.{EndsAmong, corner_number, end_number};
 
 use sk_base::{Elem, List, Name, NoMemory};
-use sk_family::Cluster;
 use std::alloc::Global;
 
 /// An element of the cluster of that name, seen from a corner of it.
 #[derive(Clone, Copy)]
-pub(crate) struct End {
-    pub(crate) corner: Elem,
-    pub(crate) elem: Elem,
-    pub(crate) name: Name,
+pub struct End {
+    pub corner: Elem,
+    pub elem: Elem,
+    pub name: Name,
 }
 
-/// Adds the ends of the cluster, seen from the corner.
-pub(crate) fn add_ends(
-    cluster: &Cluster,
+/// Adds the ends of the cluster of that name at these elements, seen from the corner.
+pub fn add_ends(
+    name: Name,
+    elements: &[Elem],
     corner: Elem,
     ends: &mut List<End>,
 ) -> Result<(), NoMemory>
-    ensures { OnOk result (GrowsBy (EndsAmong cluster.now corner cluster.now.elements) ends.old ends.new) }
+    ensures { OnOk result (GrowsBy (EndsAmong name corner elements.now) ends.old ends.new) }
 {
-    for elem in cluster.elements.as_slice() {
+    for elem in elements {
         ends.push(End {
             corner,
             elem: *elem,
-            name: cluster.name,
+            name,
         })?;
     }
     Ok(())
 }
 
 /// These ends, sorted by their corners.
-pub(crate) fn by_corner(alloc: Global, ends: &[End]) -> Result<Vec<End>, NoMemory>
+pub fn by_corner(alloc: Global, ends: &[End]) -> Result<Vec<End>, NoMemory>
     ensures same { IfOk result (λ sorted. (x : AnyEnd) → Contains sorted.items x ↔ Contains ends.now x) }
     ensures sorted { IfOk result (λ sorted. IsNonDecreasingBy corner_number sorted.items) }
 {
@@ -46,7 +46,7 @@ pub(crate) fn by_corner(alloc: Global, ends: &[End]) -> Result<Vec<End>, NoMemor
 }
 
 /// These ends, sorted by their elements.
-pub(crate) fn by_elem(alloc: Global, ends: &[End]) -> Result<Vec<End>, NoMemory>
+pub fn by_elem(alloc: Global, ends: &[End]) -> Result<Vec<End>, NoMemory>
     ensures same { IfOk result (λ sorted. (x : AnyEnd) → Contains sorted.items x ↔ Contains ends.now x) }
     ensures sorted { IfOk result (λ sorted. IsNonDecreasingBy end_number sorted.items) }
 {
@@ -56,7 +56,7 @@ pub(crate) fn by_elem(alloc: Global, ends: &[End]) -> Result<Vec<End>, NoMemory>
 }
 
 /// How many of these ends, sorted by their corners, stand before the first of a later corner.
-pub(crate) fn count_up_to(ends: &[End], corner: Elem) -> usize
+pub fn count_up_to(ends: &[End], corner: Elem) -> usize
     requires { IsNonDecreasingBy corner_number ends.now }
     ensures within { result ≤ length ends.now }
     ensures place { IsPartitionPoint (λ (x : AnyEnd). x.corner.0 ≤ corner.0) (λ (x : AnyEnd). corner.0 < x.corner.0) ends.now result }
@@ -65,11 +65,21 @@ pub(crate) fn count_up_to(ends: &[End], corner: Elem) -> usize
 }
 
 /// Those of these ends, sorted by their elements, that have this one.
-pub(crate) fn ends_at(ends: &[End], elem: Elem) -> &[End]
+pub fn ends_at(ends: &[End], elem: Elem) -> &[End]
     requires { IsNonDecreasingBy end_number ends.now }
     ensures { (x : AnyEnd) → Contains result.now x ↔ (Contains ends.now x × (x.elem ≡ elem)) }
 {
     let first = ends.partition_point(|end| end.elem.0 < elem.0);
     let past = ends.partition_point(|end| end.elem.0 <= elem.0);
+    &ends[first..past]
+}
+
+/// Those of these ends, sorted by their corners, that are seen from this one.
+pub fn seen_from(ends: &[End], corner: Elem) -> &[End]
+    requires { IsNonDecreasingBy corner_number ends.now }
+    ensures { (x : AnyEnd) → Contains result.now x ↔ (Contains ends.now x × (x.corner ≡ corner)) }
+{
+    let first = ends.partition_point(|end| end.corner.0 < corner.0);
+    let past = ends.partition_point(|end| end.corner.0 <= corner.0);
     &ends[first..past]
 }
