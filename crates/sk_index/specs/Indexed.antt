@@ -1,5 +1,5 @@
 -- What the index of a family holds.
-use Rattle.std.specs.Prelude.{◌≡◌, ◌≢◌, ◌↔◌, ◌⊎◌, ◌++◌, ℕ, List, [], ◌∷◌, Option, None, Some, Contains, AllPairs, length, ◌-◌, slice_get}
+use Rattle.std.specs.Prelude.{◌≡◌, ◌≢◌, ◌↔◌, ◌⊎◌, ◌++◌, ℕ, Bool, List, [], ◌∷◌, Option, None, Some, Contains, AllPairs, length, ◌-◌, slice_get}
 use Rattle.slab.specs.Slab.{Slab, get}
 use Rattle.sk_base.specs.declared.Name.{Name}
 use Rattle.sk_base.specs.declared.Elem.{Elem}
@@ -12,7 +12,7 @@ use Rattle.sk_base.specs.SoundGraph.{HasNode}
 use Rattle.sk_family.specs.declared.Cluster.{Cluster}
 use Rattle.sk_family.specs.Clusters.{Clusters, IsNamed}
 use Rattle.sk_index.specs.declared.index.Index.{Index}
-use Rattle.sk_ends.specs.Marks.{IsMarked}
+use Rattle.sk_ends.specs.Marks.{IsMarked, IsThird as IsThirdOf}
 
 -- the keys of the clusters that hold the element
 abbrev pub keys_in : Option (List ℕ) → List ℕ
@@ -34,9 +34,12 @@ IsHeld ix c = (k : ℕ) × (cluster_at ix k ≡ Some c)
 abbrev pub IsNamedAt : Index → Name → ℕ → Type 0
 IsNamedAt ix n k = (c : Cluster) × (cluster_at ix k ≡ Some c) × (c.name ≡ n)
 
--- the element is marked as a line
+-- the marks of the elements that are lines
+abbrev pub lines_in : Index → List Bool
+lines_in ix = ix.lines.items
+
 abbrev pub IsLineAt : Index → Elem → Type 0
-IsLineAt ix e = IsMarked ix.lines.items e
+IsLineAt ix e = IsMarked (lines_in ix) e
 
 -- the same elements are
 abbrev pub KeepsLines : Index → Index → Type 0
@@ -51,7 +54,7 @@ IsLast clusters c = slice_get clusters (length clusters - 1) ≡ Some c
 
 -- c can be the third corner beside a and b
 abbrev pub IsThird : Index → Elem → Elem → Elem → Type 0
-IsThird ix a b c = (c ≢ a) × (c ≢ b) × ¬ (IsLineAt ix a × IsLineAt ix b × IsLineAt ix c)
+IsThird ix a b c = IsThirdOf (lines_in ix) a b c
 
 -- some element that is in both can
 abbrev pub IsThirdIn : Index → Elem → Elem → List Elem → List Elem → Type 0

@@ -39,10 +39,11 @@ fn is_third_among(index: &Index, a: Elem, b: Elem, c: Elem, many: &[Elem]) -> bo
     is_third(index, a, b, c) && is_in_rising(c, many)
 }
 
+/// Whether c can be the third corner of a triangle, beside a and b.
 pub fn is_third(index: &Index, a: Elem, b: Elem, c: Elem) -> bool
     ensures { IsTrue result ↔ IsThird index.now a b c }
 {
-    c != a && c != b && !(index.is_line(a) && index.is_line(b) && index.is_line(c))
+    sk_ends::is_third(index.lines(), a, b, c)
 }
 
 /// Whether the element is one of these, which rise.

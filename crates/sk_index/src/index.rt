@@ -3,7 +3,7 @@ ghost use Rattle.std.specs.Prelude.{◌≡◌, ◌≢◌, ◌↔◌, ◌⊎◌, 
 ghost use Rattle.sk_base.specs.declared.Elem.{Elem as Element};
 ghost use Rattle.sk_base.specs.declared.Name.{Name as ClusterName};
 ghost use Rattle.slab.specs.Slab.{get};
-ghost use Rattle.sk_index.specs.Indexed.{AllRise, HoldersGrow, KeepsLines, cluster_at, IsBelowAt, RisesIn, IsHeld, IsLast, IsIndex, IsLineAt, IsNamedAt, Represents, holders_of};
+ghost use Rattle.sk_index.specs.Indexed.{AllRise, HoldersGrow, KeepsLines, cluster_at, lines_in, IsBelowAt, RisesIn, IsHeld, IsLast, IsIndex, IsNamedAt, Represents, holders_of};
 ghost use Rattle.sk_family.specs.Clusters.{HasElements};
 ghost use Rattle.sk_base.specs.ClusterNames.{IsBelow};
 ghost use Rattle.sk_base.specs.Numbering.{elem_number};
@@ -12,7 +12,6 @@ ghost use Rattle.sk_family.specs.declared.Cluster.{Cluster as AnyCluster};
 
 use crate::lines::lines_of;
 use sk_base::{Elem, Graph, Name, NoMemory};
-use sk_ends::is_marked;
 use sk_family::{Cluster, Family, Row};
 use slab::Slab;
 use std::alloc::Global;
@@ -261,10 +260,11 @@ impl Index {
         self.live.get(key)
     }
 
-    pub fn is_line(&self, elem: Elem) -> bool
-        ensures { IsTrue result ↔ IsLineAt self.now elem }
+    /// The marks of the elements that are lines.
+    pub fn lines(&self) -> &[bool]
+        ensures { result.now ≡ lines_in self.now }
     {
-        is_marked(self.lines.as_slice(), elem)
+        self.lines.as_slice()
     }
 }
 

@@ -6,6 +6,7 @@ mod corners;
 mod holders;
 mod index;
 mod lines;
+mod meeting;
 mod meets;
 mod partner;
 mod triples;

@@ -17,9 +17,9 @@ use Rattle.sk_family.specs.declared.Merge.{Merge}
 use Rattle.sk_index.specs.declared.Index.{Index}
 use Rattle.sk_index.specs.Indexed.{IsThird, cluster_at, holders_of}
 use Rattle.sk_ends.specs.Growing.{FromSome, GrowsBy}
-use Rattle.sk_search.specs.declared.ends.End.{End}
+use Rattle.sk_ends.specs.declared.End.{End}
 use Rattle.sk_search.specs.Ranked.{BesideAt, RankedFrom}
-use Rattle.sk_search.specs.Ends.{corner_number, Closes, DownBeside, DownBesideAny, DownTo, EndsOf, FromEnd, JoinedAt, Joins, LastOf, end_of}
+use Rattle.sk_ends.specs.Ends.{corner_number, Closes, DownBeside, DownBesideAny, DownTo, EndsOf, FromEnd, JoinedAt, Joins, LastOf, end_of}
 
 module _ (ix : Index) (m : Merge) where
   beside_of : (r : Cluster) (c d : Elem) → Contains r.elements d → Closes ix c d (end_of r c d) m → FromSome (BesideAt ix r c) (holders_of ix c) m

@@ -7,7 +7,7 @@ use Rattle.sk_family.specs.declared.Merge.{Merge}
 use Rattle.sk_index.specs.declared.Index.{Index}
 use Rattle.sk_index.specs.Indexed.{cluster_at, holders_of, IsThird}
 use Rattle.sk_ends.specs.Growing.{FromSome}
-use Rattle.sk_search.specs.declared.ends.End.{End}
+use Rattle.sk_ends.specs.declared.End.{End}
 use Rattle.sk_search.specs.Ranked.{HasHigher, IsLower, IsTripleOfAny}
 
 -- the numbers by which ends are sorted

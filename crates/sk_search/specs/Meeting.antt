@@ -8,10 +8,10 @@ use Rattle.sk_family.specs.declared.Merge.{Merge}
 use Rattle.sk_index.specs.declared.Index.{Index}
 use Rattle.sk_index.specs.Indexed.{cluster_at, holders_of, IsThird}
 use Rattle.sk_ends.specs.Growing.{FromSome}
-use Rattle.sk_search.specs.declared.ends.End.{End}
-use Rattle.sk_search.specs.declared.triples.Third.{Third}
-use Rattle.sk_search.specs.Ends.{EndsAmong}
-use Rattle.sk_search.specs.Triples.{IsPlaced, IsTripleOf}
+use Rattle.sk_ends.specs.declared.End.{End}
+use Rattle.sk_index.specs.declared.triples.Third.{Third}
+use Rattle.sk_ends.specs.Ends.{EndsAmong}
+use Rattle.sk_index.specs.Triples.{IsPlaced, IsTripleOf}
 
 -- the ends of the cluster of that key, where it is below x
 abbrev pub EndsBelow : Index → Name → Elem → ℕ → End → Type 0

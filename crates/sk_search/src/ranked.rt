@@ -6,8 +6,8 @@ ghost use Rattle.std.specs.Prelude.{◌≡◌, ◌≢◌, ◌↔◌, Contains, I
 ghost use Rattle.std.specs.List.Sorted.{IsNonDecreasingBy};
 ghost use Rattle.sk_index.specs.Indexed.{AllRise, IsIndex, holders_of};
 ghost use Rattle.sk_ends.specs.Growing.{FromSome, GrowsBy};
-ghost use Rattle.sk_search.specs.declared.ends.End.{End as AnyEnd};
-ghost use Rattle.sk_search.specs.Ends.{DownBeside, DownBesideAny, DownTo, EndsFrom, EndsOf, FromEnd, JoinedAt, Joins, LastOf, corner_number, end_number};
+ghost use Rattle.sk_ends.specs.declared.End.{End as AnyEnd};
+ghost use Rattle.sk_ends.specs.Ends.{DownBeside, DownBesideAny, DownTo, EndsFrom, EndsOf, FromEnd, JoinedAt, Joins, LastOf, corner_number, end_number};
 ghost use Rattle.sk_search.specs.Ranked.{RankedFrom};
 
 use crate::ends::{End, add_ends, by_corner, by_elem, count_up_to, ends_at};

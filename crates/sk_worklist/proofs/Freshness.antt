@@ -15,10 +15,10 @@ use Rattle.sk_index.specs.declared.Index.{Index}
 use Rattle.sk_index.specs.Indexed.{Represents}
 use Rattle.sk_ends.specs.Growing.{FromSome}
 use Rattle.sk_worklist.specs.declared.heir.Heir.{Heir}
-use Rattle.sk_search.specs.declared.Third.TheVariants.{Either}
+use Rattle.sk_index.specs.declared.Third.TheVariants.{Either}
 use Rattle.sk_rules.specs.Merges.{CanTake, TakesFrom}
-use Rattle.sk_search.specs.Partners.{Partner, PartnerOf}
-use Rattle.sk_search.specs.Triples.{AtCorner}
+use Rattle.sk_index.specs.Partners.{Partner, PartnerOf}
+use Rattle.sk_index.specs.Triples.{AtCorner}
 use Rattle.sk_worklist.specs.Gather.{IsUncovered}
 use Rattle.sk_worklist.specs.Heirs.{Inherits, IsBeside, IsHeir, IsHeirOf, IsNoHeir, IsOfHeir, TellsFresh}
 use Rattle.sk_worklist.proofs.Gathered.{at_corner, found_at, three_of}

@@ -16,10 +16,10 @@ use Rattle.sk_rules.proofs.Merging.{meets_back, meets_on}
 use Rattle.sk_index.specs.declared.Index.{Index}
 use Rattle.sk_rules.specs.Merges.{CanTake, TakesFrom}
 use Rattle.sk_index.specs.Indexed.{Represents}
-use Rattle.sk_search.specs.declared.Third.{Third}
-use Rattle.sk_search.specs.declared.Third.TheVariants.{Below, Either}
-use Rattle.sk_search.specs.Partners.{Partner}
-use Rattle.sk_search.specs.Triples.{AtCorner, IsPlaced, IsTripleOf, TriplesOf}
+use Rattle.sk_index.specs.declared.Third.{Third}
+use Rattle.sk_index.specs.declared.Third.TheVariants.{Below, Either}
+use Rattle.sk_index.specs.Partners.{Partner}
+use Rattle.sk_index.specs.Triples.{AtCorner, IsPlaced, IsTripleOf, TriplesOf}
 
 -- the third cluster is below the greatest
 placed_below : (third : Third) (x y z : Name) → IsBelow y x → IsPlaced third x y z → IsBelow z x

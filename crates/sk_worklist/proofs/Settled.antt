@@ -17,8 +17,8 @@ use Rattle.sk_index.specs.declared.Index.{Index}
 use Rattle.sk_rules.specs.Merges.{CanTake}
 use Rattle.sk_index.specs.Indexed.{Represents}
 use Rattle.sk_ends.specs.Growing.{GrowsBy}
-use Rattle.sk_search.specs.Partners.{Partner}
-use Rattle.sk_search.specs.Triples.{TriplesOf}
+use Rattle.sk_index.specs.Partners.{Partner}
+use Rattle.sk_index.specs.Triples.{TriplesOf}
 use Rattle.sk_worklist.specs.Settling.{IsAny, IsSettledBelow, IsNextMerge, MergesOf, greatest_of}
 use Rattle.sk_worklist.proofs.Gathered.{found_can, can_found, partner_can, can_partner}
 use Rattle.sk_worklist.proofs.Lefts.{left_three}

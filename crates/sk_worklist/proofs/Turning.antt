@@ -15,8 +15,8 @@ use Rattle.sk_index.specs.declared.Index.{Index}
 use Rattle.sk_rules.specs.Merges.{CanTake}
 use Rattle.sk_worklist.specs.Choices.{ComesFirst, IsFirstPair, AreTriples}
 use Rattle.sk_ends.specs.Growing.{GrowsBy, FromSome}
-use Rattle.sk_search.specs.Partners.{Partner}
-use Rattle.sk_search.specs.Triples.{TriplesOf}
+use Rattle.sk_index.specs.Partners.{Partner}
+use Rattle.sk_index.specs.Triples.{TriplesOf}
 use Rattle.sk_worklist.specs.Gather.{IsPartner, IsUncovered, AreUncovered}
 use Rattle.sk_worklist.specs.Known.{AreKept, IsTriple, Knows, NoPairBelow, avoiding}
 use Rattle.sk_index.specs.Indexed.{Represents}

@@ -9,7 +9,7 @@ use Rattle.sk_family.specs.Clusters.{Clusters, IsNamed}
 use Rattle.sk_family.specs.declared.Merge.{Merge}
 use Rattle.sk_family.specs.declared.Merge.TheVariants.{Three}
 use Rattle.sk_index.specs.declared.Index.{Index}
-use Rattle.sk_search.specs.Partners.{IsLeast, Partner}
+use Rattle.sk_index.specs.Partners.{IsLeast, Partner}
 use Rattle.sk_rules.specs.Merges.{CanTake}
 use Rattle.sk_worklist.specs.Choices.{ComesFirst}
 

@@ -13,9 +13,9 @@ use Rattle.sk_family.specs.Rules.{SharesTwo, MeetsInThree}
 use Rattle.sk_index.specs.declared.Index.{Index}
 use Rattle.sk_worklist.specs.declared.heir.Heir.{Heir}
 use Rattle.sk_ends.specs.Growing.{FromSome}
-use Rattle.sk_search.specs.declared.Third.TheVariants.{Either}
-use Rattle.sk_search.specs.Partners.{Partner, PartnerOf}
-use Rattle.sk_search.specs.Triples.{AtCorner}
+use Rattle.sk_index.specs.declared.Third.TheVariants.{Either}
+use Rattle.sk_index.specs.Partners.{Partner, PartnerOf}
+use Rattle.sk_index.specs.Triples.{AtCorner}
 
 -- p and q are the other two names of a triple that has the name
 abbrev pub IsBeside : Merge → Name → Name → Name → Type 0

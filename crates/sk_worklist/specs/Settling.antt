@@ -9,8 +9,8 @@ use Rattle.sk_family.specs.declared.Merge.{Merge}
 use Rattle.sk_family.specs.declared.Merge.TheVariants.{Two, Three}
 use Rattle.sk_index.specs.declared.Index.{Index}
 use Rattle.sk_rules.specs.Merges.{CanTake}
-use Rattle.sk_search.specs.Partners.{Partner}
-use Rattle.sk_search.specs.Triples.{TriplesOf}
+use Rattle.sk_index.specs.Partners.{Partner}
+use Rattle.sk_index.specs.Triples.{TriplesOf}
 
 abbrev pub greatest_of : Merge → Name
 greatest_of (Two x y) = x

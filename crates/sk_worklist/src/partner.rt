@@ -6,7 +6,7 @@ ghost use Rattle.sk_base.specs.declared.Name.{Name as ClusterName};
 ghost use Rattle.sk_family.specs.Clusters.{ByName};
 ghost use Rattle.sk_family.specs.declared.Cluster.{Cluster as AnyCluster};
 ghost use Rattle.sk_index.specs.Indexed.{AllRise, IsIndex};
-ghost use Rattle.sk_search.specs.Partners.{IsLeast, Partner};
+ghost use Rattle.sk_index.specs.Partners.{IsLeast, Partner};
 ghost use Rattle.sk_worklist.specs.Gather.{IsPartner};
 ghost use Rattle.sk_worklist.specs.Heirs.{TellsFresh};
 

@@ -2,7 +2,7 @@ use Rattle.std.proofs.Common.{sym}
 use Rattle.sk_base.proofs.Searches.{on_ok}
 use Rattle.sk_ends.specs.Growing.{FromSome}
 use Rattle.sk_ends.proofs.Growing.{grows_same}
-use Rattle.sk_search.specs.Ends.{DownBeside, DownTo}
+use Rattle.sk_ends.specs.Ends.{DownBeside, DownTo}
 use Rattle.sk_search.proofs.Ending.{beside_same}
 use Rattle.sk_search.proofs.ranked.add_beside.Goals as goal
 

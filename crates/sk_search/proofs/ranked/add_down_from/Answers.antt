@@ -1,7 +1,7 @@
 use Rattle.std.proofs.Common.{subst, List, ℕ}
 use Rattle.sk_ends.specs.Growing.{GrowsBy, FromSome}
 use Rattle.sk_ends.proofs.Growing.{grows_start, grows_step, grows_end}
-use Rattle.sk_search.specs.Ends.{DownBeside}
+use Rattle.sk_ends.specs.Ends.{DownBeside}
 use Rattle.sk_search.proofs.ranked.add_down_from.Goals as goal
 
 pub loop-key-init : goal.loop-key-init

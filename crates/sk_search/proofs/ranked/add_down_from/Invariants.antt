@@ -1,6 +1,6 @@
 use Rattle.std.proofs.Common.{take}
 use Rattle.sk_ends.specs.Growing.{GrowsBy, FromSome}
-use Rattle.sk_search.specs.Ends.{DownBeside}
+use Rattle.sk_ends.specs.Ends.{DownBeside}
 use Rattle.sk_search.proofs.ranked.add_down_from.Given as goal
 
 abbrev pub invariant-loop-key : goal.invariant-loop-key

@@ -2,7 +2,7 @@ use Rattle.std.proofs.Common.{refl, subst, List}
 use Rattle.sk_base.specs.declared.Elem.{Elem}
 use Rattle.sk_base.proofs.Searches.{on_ok}
 use Rattle.sk_ends.proofs.Growing.{grows_same}
-use Rattle.sk_search.specs.Ends.{EndsAmong, EndsFrom}
+use Rattle.sk_ends.specs.Ends.{EndsAmong, EndsFrom}
 use Rattle.sk_search.specs.Ranked.{HasHigher}
 use Rattle.sk_search.proofs.ranked.add_ends_from.Goals as goal
 

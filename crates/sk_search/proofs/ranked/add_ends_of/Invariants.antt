@@ -1,6 +1,6 @@
 use Rattle.std.proofs.Common.{take}
 use Rattle.sk_ends.specs.Growing.{GrowsBy, FromSome}
-use Rattle.sk_search.specs.Ends.{EndsFrom}
+use Rattle.sk_ends.specs.Ends.{EndsFrom}
 use Rattle.sk_search.proofs.ranked.add_ends_of.Given as goal
 
 abbrev pub invariant-loop-c : goal.invariant-loop-c

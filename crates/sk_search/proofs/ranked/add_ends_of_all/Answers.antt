@@ -2,7 +2,7 @@ use Rattle.std.proofs.Common.{subst}
 use Rattle.sk_family.specs.declared.Cluster.{Cluster}
 use Rattle.sk_ends.specs.Growing.{GrowsBy}
 use Rattle.sk_ends.proofs.Growing.{grows_start, grows_step, grows_end}
-use Rattle.sk_search.specs.Ends.{EndsOf}
+use Rattle.sk_ends.specs.Ends.{EndsOf}
 use Rattle.sk_search.proofs.ranked.add_ends_of_all.Goals as goal
 
 pub loop-r-init : goal.loop-r-init

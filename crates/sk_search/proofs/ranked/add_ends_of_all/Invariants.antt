@@ -1,6 +1,6 @@
 use Rattle.std.proofs.Common.{take}
 use Rattle.sk_ends.specs.Growing.{GrowsBy, FromSome}
-use Rattle.sk_search.specs.Ends.{EndsOf}
+use Rattle.sk_ends.specs.Ends.{EndsOf}
 use Rattle.sk_search.proofs.ranked.add_ends_of_all.Given as goal
 
 abbrev pub invariant-loop-r : goal.invariant-loop-r

@@ -3,8 +3,8 @@ use Rattle.std.specs.Prelude.{◌↔◌, Contains}
 use Rattle.sk_base.proofs.Searches.{on_ok}
 use Rattle.sk_ends.specs.Growing.{FromSome}
 use Rattle.sk_ends.proofs.Growing.{grows_same}
-use Rattle.sk_search.specs.declared.ends.End.{End}
-use Rattle.sk_search.specs.Ends.{DownBesideAny, FromEnd}
+use Rattle.sk_ends.specs.declared.End.{End}
+use Rattle.sk_ends.specs.Ends.{DownBesideAny, FromEnd}
 use Rattle.sk_search.proofs.Ending.{beside_ends}
 use Rattle.sk_search.proofs.ranked.add_from_corner.Goals as goal
 

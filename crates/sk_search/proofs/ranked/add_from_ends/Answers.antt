@@ -1,8 +1,8 @@
 use Rattle.std.proofs.Common.{◌<◌, arith}
 use Rattle.sk_base.specs.declared.Name.TheVariants.{Con}
 use Rattle.sk_ends.proofs.Growing.{grows_end}
-use Rattle.sk_search.specs.declared.ends.End.{End}
-use Rattle.sk_search.specs.Ends.{FromEnd}
+use Rattle.sk_ends.specs.declared.End.{End}
+use Rattle.sk_ends.specs.Ends.{FromEnd}
 use Rattle.sk_search.proofs.Ending.{goes_on, grows_on, one_corner}
 use Rattle.sk_search.proofs.ranked.add_from_ends.Goals as goal
 use Rattle.sk_search.proofs.ranked.add_from_ends.Goals.{After-count_up_to-next}

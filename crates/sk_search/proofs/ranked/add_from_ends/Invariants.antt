@@ -1,6 +1,6 @@
 use Rattle.std.proofs.Common.{◌≤◌, ◌-◌, length, take}
 use Rattle.sk_ends.specs.Growing.{GrowsBy, FromSome}
-use Rattle.sk_search.specs.Ends.{FromEnd}
+use Rattle.sk_ends.specs.Ends.{FromEnd}
 use Rattle.sk_search.proofs.ranked.add_from_ends.Given as goal
 
 abbrev pub invariant-loop-done : goal.invariant-loop-done

@@ -2,8 +2,8 @@ use Rattle.std.proofs.Common.{sym, subst, List}
 use Rattle.sk_family.specs.declared.Merge.{Merge}
 use Rattle.sk_ends.specs.Growing.{GrowsBy}
 use Rattle.sk_ends.proofs.Growing.{grows_one}
-use Rattle.sk_search.specs.Ends.{Joins}
-use Rattle.sk_search.proofs.Walking.{one_of_any}
+use Rattle.sk_ends.specs.Ends.{Joins}
+use Rattle.sk_index.proofs.Walked.{one_of_any}
 use Rattle.sk_search.proofs.ranked.add_join.Goals as goal
 
 pub returns-in_ok-push : goal.returns-in_ok-push

@@ -1,5 +1,5 @@
 use Rattle.sk_ends.proofs.Growing.{grows_start, grows_step, grows_end}
-use Rattle.sk_search.specs.Ends.{Joins}
+use Rattle.sk_ends.specs.Ends.{Joins}
 use Rattle.sk_search.proofs.ranked.add_joined.Goals as goal
 
 pub loop-end-init : goal.loop-end-init

@@ -1,6 +1,6 @@
 use Rattle.std.proofs.Common.{take}
 use Rattle.sk_ends.specs.Growing.{GrowsBy, FromSome}
-use Rattle.sk_search.specs.Ends.{Joins}
+use Rattle.sk_ends.specs.Ends.{Joins}
 use Rattle.sk_search.proofs.ranked.add_joined.Given as goal
 
 abbrev pub invariant-loop-end : goal.invariant-loop-end

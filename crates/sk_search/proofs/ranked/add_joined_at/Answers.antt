@@ -3,7 +3,7 @@ use Rattle.sk_base.proofs.Searches.{on_ok}
 use Rattle.sk_index.specs.Indexed.{IsThird}
 use Rattle.sk_ends.specs.Growing.{FromSome}
 use Rattle.sk_ends.proofs.Growing.{grows_same}
-use Rattle.sk_search.specs.Ends.{JoinedAt, Joins}
+use Rattle.sk_ends.specs.Ends.{JoinedAt, Joins}
 use Rattle.sk_search.proofs.Ending.{joined_same}
 use Rattle.sk_search.proofs.ranked.add_joined_at.Goals as goal
 

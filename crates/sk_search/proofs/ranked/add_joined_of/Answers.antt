@@ -2,7 +2,7 @@ use Rattle.std.proofs.Common.{subst, List}
 use Rattle.sk_base.specs.declared.Elem.{Elem}
 use Rattle.sk_ends.specs.Growing.{GrowsBy, FromSome}
 use Rattle.sk_ends.proofs.Growing.{grows_start, grows_step, grows_end}
-use Rattle.sk_search.specs.Ends.{JoinedAt}
+use Rattle.sk_ends.specs.Ends.{JoinedAt}
 use Rattle.sk_search.proofs.ranked.add_joined_of.Goals as goal
 
 pub loop-d-init : goal.loop-d-init

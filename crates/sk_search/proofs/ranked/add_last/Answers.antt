@@ -2,7 +2,7 @@ use Rattle.std.proofs.Common.{◌≡◌, ◌≢◌, sym, rules}
 use Rattle.sk_base.proofs.Searches.{on_ok}
 use Rattle.sk_ends.specs.Growing.{FromSome}
 use Rattle.sk_ends.proofs.Growing.{grows_none, grows_same}
-use Rattle.sk_search.specs.Ends.{JoinedAt, LastOf}
+use Rattle.sk_ends.specs.Ends.{JoinedAt, LastOf}
 use Rattle.sk_search.proofs.Ending.{last_none, last_same}
 use Rattle.sk_search.proofs.ranked.add_last.Goals as goal
 

@@ -3,7 +3,7 @@ use Rattle.sk_base.proofs.Searches.{on_ok}
 use Rattle.sk_index.specs.Indexed.{holders_of}
 use Rattle.sk_ends.specs.Growing.{FromSome}
 use Rattle.sk_ends.proofs.Growing.{grows_same}
-use Rattle.sk_search.specs.Ends.{DownTo, LastOf}
+use Rattle.sk_ends.specs.Ends.{DownTo, LastOf}
 use Rattle.sk_search.specs.Ranked.{IsLower}
 use Rattle.sk_search.proofs.ranked.add_with_lower.Goals as goal
 

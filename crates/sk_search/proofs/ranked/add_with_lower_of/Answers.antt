@@ -2,7 +2,7 @@ use Rattle.std.proofs.Common.{subst, List}
 use Rattle.sk_base.specs.declared.Elem.{Elem}
 use Rattle.sk_ends.specs.Growing.{GrowsBy, FromSome}
 use Rattle.sk_ends.proofs.Growing.{grows_start, grows_step, grows_end}
-use Rattle.sk_search.specs.Ends.{DownTo}
+use Rattle.sk_ends.specs.Ends.{DownTo}
 use Rattle.sk_search.proofs.ranked.add_with_lower_of.Goals as goal
 
 pub loop-e-init : goal.loop-e-init

@@ -3,7 +3,7 @@ use Rattle.sk_base.proofs.Searches.{on_ok}
 use Rattle.sk_ends.specs.Growing.{FromSome}
 use Rattle.sk_ends.proofs.Growing.{grows_none, grows_same}
 use Rattle.sk_search.specs.Ranked.{BesideAt, WithLower}
-use Rattle.sk_search.proofs.Walking.{beside_none, beside_same}
+use Rattle.sk_index.proofs.Walked.{beside_none, beside_same}
 use Rattle.sk_search.proofs.searched.add_beside.Goals as goal
 
 pub returns-then-eq : goal.returns-then-eq

@@ -3,7 +3,7 @@ use Rattle.sk_family.specs.declared.Merge.{Merge}
 use Rattle.sk_ends.specs.Growing.{GrowsBy}
 use Rattle.sk_ends.proofs.Growing.{grows_one}
 use Rattle.sk_search.specs.Ranked.{LastAt}
-use Rattle.sk_search.proofs.Walking.{last_only}
+use Rattle.sk_index.proofs.Walked.{last_only}
 use Rattle.sk_search.proofs.searched.add_last.Goals as goal
 
 pub returns-in_ok-push-in-Some : goal.returns-in_ok-push-in-Some

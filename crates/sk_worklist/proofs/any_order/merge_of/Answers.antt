@@ -2,7 +2,7 @@ use Rattle.std.proofs.Common.{List, subst}
 use Rattle.std.specs.Prelude.{Contains}
 use Rattle.sk_family.specs.declared.Merge.{Merge}
 use Rattle.sk_ends.specs.Growing.{GrowsBy}
-use Rattle.sk_search.specs.Triples.{TriplesOf}
+use Rattle.sk_index.specs.Triples.{TriplesOf}
 use Rattle.sk_worklist.specs.Settling.{IsAny}
 use Rattle.sk_worklist.proofs.Settled.{any_found}
 use Rattle.sk_worklist.proofs.any_order.merge_of.Goals as goal

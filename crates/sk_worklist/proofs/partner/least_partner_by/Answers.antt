@@ -1,9 +1,9 @@
 use Rattle.std.proofs.Common.{subst}
 use Rattle.std.specs.Prelude.{Option, None}
 use Rattle.sk_worklist.specs.declared.heir.Heir.{Heir}
-use Rattle.sk_search.specs.Partners.{GivenBy, Partner, PartnerUnless}
+use Rattle.sk_index.specs.Partners.{GivenBy, Partner, PartnerUnless}
 use Rattle.sk_worklist.specs.Heirs.{TellsFresh}
-use Rattle.sk_search.proofs.Least.{least_same}
+use Rattle.sk_index.proofs.Least.{least_same}
 use Rattle.sk_worklist.proofs.partner.least_partner_by.Goals as goal
 
 pub returns-then-is_same : goal.returns-then-is_same

@@ -6,7 +6,7 @@ use Rattle.sk_base.specs.declared.Name.TheVariants.{Con}
 use Rattle.sk_family.specs.declared.Cluster.{Cluster}
 use Rattle.sk_ends.specs.Growing.{FromSome, GrowsBy}
 use Rattle.sk_ends.proofs.Growing.{grows_same}
-use Rattle.sk_search.specs.Triples.{TriplesOf}
+use Rattle.sk_index.specs.Triples.{TriplesOf}
 use Rattle.sk_worklist.specs.Gather.{IsUncovered}
 use Rattle.sk_search.specs.Ranked.{RankedFrom}
 use Rattle.sk_worklist.proofs.Ranks.{ranked_uncovered}

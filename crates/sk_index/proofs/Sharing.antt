@@ -1,0 +1,43 @@
+-- Two lists that share two elements share one beside each that they share.
+use Rattle.std.proofs.Common.{◌≢◌, ◌⊎◌, inl, inr, sym, ◌∙◌, ap, List}
+use Rattle.std.specs.Prelude.{◌↔◌, Contains, Option, None, Some}
+use Rattle.std.proofs.lemmas.Option.{same_Some}
+use Rattle.sk_base.specs.declared.Name.{Name}
+use Rattle.sk_family.specs.declared.Cluster.{Cluster}
+use Rattle.sk_index.specs.declared.index.Index.{Index}
+use Rattle.sk_index.specs.Indexed.{IsIndex}
+use Rattle.sk_base.specs.declared.Elem.{Elem}
+use Rattle.sk_base.specs.Numbering.{elem_exact}
+use Rattle.sk_base.proofs.Members.{nat_settles}
+use Rattle.sk_family.specs.Rules.{SharesTwo}
+use Rattle.sk_index.specs.Partners.{GivenBy, IsOther, Partner, PartnerUnless}
+
+pub two_of_other : (xs ys : List Elem) (a : Elem) → Contains xs a → Contains ys a → (e : Elem) × Contains xs e × IsOther ys a e → SharesTwo xs ys
+two_of_other xs ys a a_xs a_ys (e, e_xs, (other, e_ys)) = (a, e, record { differ = λ same. other (sym same); a_shared = (a_xs, a_ys); b_shared = (e_xs, e_ys) })
+
+pub other_of_two : (xs ys : List Elem) (a : Elem) → SharesTwo xs ys → (e : Elem) × Contains xs e × IsOther ys a e
+other_of_two xs ys a (p, q, pair) =
+    elim (nat_settles p.0 a.0) [
+      | inl same ↦ (q, pair.b_shared.0, ((λ is. pair.differ (elem_exact p a same ∙ sym is)), pair.b_shared.1))
+      | inr other ↦ (p, pair.a_shared.0, ((λ is. other (ap (λ (x : Elem). x.0) is)), pair.a_shared.1))
+    ]
+
+-- of two shared elements one isn't that one
+module _ (ix : Index) (index : IsIndex ix) (x : Cluster) where
+  pub unless_hub : (hub : Option Elem) (n : Name) → Partner ix x n ↔ GivenBy (PartnerUnless hub ix x) x.elements n
+  unless_hub hub n = (found, (λ (e, e_x, (other, of)). (e, e_x, of)))
+    where
+      other_than : (hub : Option Elem) (a b : Elem) → a ≢ b → (hub ≢ Some a) ⊎ (hub ≢ Some b)
+      other_than None a b differ = inl (λ e. cc)
+      other_than (Some h) a b differ =
+          elim (nat_settles h.0 a.0) [
+            | inl same ↦ inr (λ e. differ (sym (elem_exact h a same) ∙ same_Some _ _ e))
+            | inr other ↦ inl (λ e. other (ap (λ (o : Elem). o.0) (same_Some _ _ e)))
+          ]
+
+      found : Partner ix x n → GivenBy (PartnerUnless hub ix x) x.elements n
+      found (e, e_x, (k, k_in, (y, y_is, below, (a, b, pair), named))) =
+          elim (other_than hub a b pair.differ) [
+            | inl first ↦ (a, pair.a_shared.0, (first, (k, index.finds a k y y_is pair.a_shared.1, (y, y_is, below, (a, b, pair), named))))
+            | inr second ↦ (b, pair.b_shared.0, (second, (k, index.finds b k y y_is pair.b_shared.1, (y, y_is, below, (a, b, pair), named))))
+          ]

@@ -1,0 +1,21 @@
+use Rattle.sk_index.specs.Partners.{GivenBy, PartnerAt}
+use Rattle.sk_index.proofs.Least.{least_same, least_start, least_step, least_end}
+use Rattle.sk_index.specs.Indexed.{IsBelowAt, holders_of}
+use Rattle.sk_index.proofs.Walked.{given_same}
+use Rattle.sk_index.proofs.partner.partner_of.Goals as goal
+
+pub loop-key-init : goal.loop-key-init
+loop-key-init c = least_start (PartnerAt c.args.index.now c.args.x.now) c.below-key-items.result.now
+
+pub loop-key-preserved : goal.loop-key-preserved
+loop-key-preserved c =
+    least_step (PartnerAt c.args.index.now c.args.x.now) c.below-key-items.result.now c.loop-key.key-index 0 c.loop-key-test.true c.loop-key.least c.partner_at.result c.lesser-least.result c.loop-key.invariant c.partner_at.ensures c.lesser-least.ensures
+
+pub returns : goal.returns
+returns c =
+    let x = c.args.x.now in
+    let ix = c.args.index.now in
+    least_same (GivenBy (PartnerAt ix x) c.below-key-items.result.now) (GivenBy (PartnerAt ix x) (holders_of ix c.args.elem))
+    (given_same c.below-key-items.result.now (holders_of ix c.args.elem) (IsBelowAt ix x.name) c.below-key-items.ensures (PartnerAt ix x) (λ k n (y, is, below, two, named). (y, is, below)))
+    c.loop-key.least
+    (least_end (PartnerAt ix x) c.below-key-items.result.now c.loop-key.key-index c.loop-key-test.false c.loop-key.least c.loop-key.invariant)

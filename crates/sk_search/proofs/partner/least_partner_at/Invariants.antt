@@ -1,6 +1,0 @@
-use Rattle.std.proofs.Common.{take}
-use Rattle.sk_search.specs.Partners.{GivenBy, IsLeast, PartnerUnless}
-use Rattle.sk_search.proofs.partner.least_partner_at.Given as goal
-
-abbrev pub invariant-loop-elem : goal.invariant-loop-elem
-invariant-loop-elem l = IsLeast (GivenBy (PartnerUnless l.hub l.index l.x) (take l.elem-index l.elements)) l.least

@@ -1,7 +1,0 @@
-use Rattle.std.proofs.Common.{take}
-use Rattle.sk_ends.specs.Growing.{GrowsBy, FromSome}
-use Rattle.sk_search.specs.Meeting.{MeetBy}
-use Rattle.sk_search.proofs.triples.add_meeting_from.Given as goal
-
-abbrev pub invariant-loop-key : goal.invariant-loop-key
-invariant-loop-key l = GrowsBy (FromSome (MeetBy l.third l.index l.ends l.x l.a l.d) (take l.key-index l.key-items)) l.fn.all l.all
