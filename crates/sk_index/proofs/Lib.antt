@@ -1,9 +1,13 @@
 pub mod Found
 pub mod Fronts
-pub mod Growing
 pub mod Holding
 pub mod Putting
 pub mod Removing
 pub mod Walking
 pub mod HoldersBelow
 pub mod Representing
+mod Sharing
+pub mod Least
+mod Walked
+mod Meeting
+pub mod Gathered

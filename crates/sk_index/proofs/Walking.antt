@@ -60,10 +60,10 @@ in_front_of P xs place before after x = (
   (λ (x_in, is). elim (in_either place xs x x_in) [ inl front ↦ front | inr back ↦ absurd (after x back is) ]),
 )
 
--- what the walk along the front gives is what the walk along all gives, where only the front gives any
+-- what the walk along the front gives is what those of that kind give
 module _ (front all : List ℕ) (P : ℕ → Type 0) (front_is : (k : ℕ) → Contains front k ↔ (Contains all k × P k)) where
-  pub found_in_front : {M : Type 0} (kind : ℕ → M → Type 0) → ((k : ℕ) (m : M) → kind k m → P k) → (m : M) → FromSome kind front m ↔ FromSome kind all m
-  found_in_front kind only m = (
-    (λ (k, k_in, is). (k, ((front_is k).0 k_in).0, is)),
-    (λ (k, k_in, is). (k, (front_is k).1 (k_in, only k m is), is)),
+  pub found_below : {M : Type 0} (kind : ℕ → M → Type 0) (m : M) → FromSome kind front m ↔ FromSome (λ k n. P k × kind k n) all m
+  found_below kind m = (
+    (λ (k, k_in, is). (let (k_all, below) = (front_is k).0 k_in in (k, k_all, (below, is)))),
+    (λ (k, k_all, (below, is)). (k, (front_is k).1 (k_all, below), is)),
   )

@@ -8,7 +8,7 @@ ghost use Rattle.sk_verdict.specs.Leaving.{LeavesOut};
 ghost use Rattle.sk_verdict.specs.Parts.{EndsElsewhere, HasNoPin, IsNamedByNone};
 
 use sk_base::{Block, Edge, Elem, Graph, NoMemory, Pin};
-use sk_index::{is_marked, mark};
+use sk_ends::{is_marked, mark};
 use std::alloc::Global;
 
 /// A mark for each element that a constraint names, or a block.

@@ -1,21 +1,22 @@
 use Rattle.sk_ends.specs.Growing.{FromSome}
 use Rattle.sk_ends.proofs.Growing.{grows_start, grows_step, grows_end, grows_same}
 use Rattle.sk_index.specs.Indexed.{IsBelowAt, holders_of}
-use Rattle.sk_index.proofs.Walking.{found_in_front}
-use Rattle.sk_index.specs.Walked.{EndsBelow}
+use Rattle.sk_index.specs.Walked.{EndsAt, EndsBelow}
+use Rattle.sk_index.proofs.Walking.{found_below}
 use Rattle.sk_index.proofs.meeting.add_ends_below.Goals as goal
 
 pub loop-key-init : goal.loop-key-init
-loop-key-init c = grows_start (EndsBelow c.args.index.now c.args.x c.args.a) c.below-key-items.result.now c.args.ends.now
+loop-key-init c = grows_start (EndsAt c.args.index.now c.args.a) c.below-key-items.result.now c.args.ends.now
 
 pub loop-key-preserved : goal.loop-key-preserved
 loop-key-preserved c =
-    grows_step (EndsBelow c.args.index.now c.args.x c.args.a) c.below-key-items.result.now c.args.ends.now c.loop-key.ends c.add_ends_at.new.ends c.loop-key.key-index 0 c.loop-key-test.true c.loop-key.invariant c.in_ok-add_ends_at.ensures
+    grows_step (EndsAt c.args.index.now c.args.a) c.below-key-items.result.now c.args.ends.now c.loop-key.ends c.add_ends_at.new.ends c.loop-key.key-index 0 c.loop-key-test.true c.loop-key.invariant c.in_ok-add_ends_at.ensures
 
 pub returns : goal.returns
 returns c =
-    let kind = EndsBelow c.args.index.now c.args.x c.args.a in
-    let all = holders_of c.args.index.now c.args.a in
-    grows_same (FromSome kind c.below-key-items.result.now) (FromSome kind all) c.args.ends.now c.loop-key.ends
-    (found_in_front c.below-key-items.result.now all (IsBelowAt c.args.index.now c.args.x) c.below-key-items.ensures kind (λ k m (y, is, below, with). (y, is, below)))
-    (grows_end kind c.below-key-items.result.now c.args.ends.now c.loop-key.ends c.loop-key.key-index c.loop-key-test.false c.loop-key.invariant)
+    let ix = c.args.index.now in
+    let kind = EndsAt ix c.args.a in
+    let keys = c.below-key-items.result.now in
+    grows_same (FromSome kind keys) (EndsBelow ix c.args.x c.args.a) c.args.ends.now c.loop-key.ends
+    (found_below keys (holders_of ix c.args.a) (IsBelowAt ix c.args.x) c.below-key-items.ensures kind)
+    (grows_end kind keys c.args.ends.now c.loop-key.ends c.loop-key.key-index c.loop-key-test.false c.loop-key.invariant)

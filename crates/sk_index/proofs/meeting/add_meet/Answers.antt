@@ -1,13 +1,13 @@
 use Rattle.std.proofs.Common.{sym, subst, List}
-use Rattle.sk_family.specs.declared.Merge.{Merge}
 use Rattle.sk_ends.specs.Growing.{GrowsBy}
 use Rattle.sk_ends.proofs.Growing.{grows_one}
+use Rattle.sk_family.specs.declared.Merge.{Merge}
 use Rattle.sk_index.specs.Walked.{Meets}
 use Rattle.sk_index.proofs.Walked.{one_triple, placed_apart}
 use Rattle.sk_index.proofs.meeting.add_meet.Goals as goal
 
 pub triple_of-requires : goal.triple_of-requires
-triple_of-requires c = placed_apart c.args.third c.args.x c.args.end.name c.args.z (c.is_placed.ensures.0 c.if-is_placed.true)
+triple_of-requires c = placed_apart c.args.third c.args.end.name c.args.z (c.is_placed.ensures.0 c.if-is_placed.true)
 
 pub returns-in_ok-push : goal.returns-in_ok-push
 returns-in_ok-push c =

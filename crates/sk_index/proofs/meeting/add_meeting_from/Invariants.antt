@@ -4,4 +4,4 @@ use Rattle.sk_index.specs.Walked.{MeetBy}
 use Rattle.sk_index.proofs.meeting.add_meeting_from.Given as goal
 
 abbrev pub invariant-loop-key : goal.invariant-loop-key
-invariant-loop-key l = GrowsBy (FromSome (MeetBy l.third l.index l.ends l.x l.a l.d) (take l.key-index l.key-items)) l.fn.all l.all
+invariant-loop-key l = GrowsBy (FromSome (MeetBy l.index l.ends l.corners) (take l.key-index l.key-items)) l.fn.all l.all

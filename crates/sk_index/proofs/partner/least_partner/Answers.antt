@@ -10,5 +10,5 @@ returns c =
     let ix = c.args.index.now in
     let x = c.args.x.now in
     let hub = c.hub_of.result in
-    least_same (GivenBy (PartnerUnless hub ix x) x.elements) (Partner ix x) (λ n. ((unless_hub ix c.requires.index x hub n).1, (unless_hub ix c.requires.index x hub n).0)) c.least_partner_at.result
+    least_same (GivenBy (PartnerUnless hub ix x) x.elements) (Partner ix x) (unless_hub ix x hub) c.least_partner_at.result
     (subst (λ (xs : List Elem). IsLeast (GivenBy (PartnerUnless hub ix x) xs) c.least_partner_at.result) c.as_slice-elements.ensures c.least_partner_at.ensures)

@@ -1,7 +1,7 @@
-use Rattle.sk_index.specs.Partners.{GivenBy, PartnerAt}
-use Rattle.sk_index.proofs.Least.{least_same, least_start, least_step, least_end}
 use Rattle.sk_index.specs.Indexed.{IsBelowAt, holders_of}
-use Rattle.sk_index.proofs.Walked.{given_same}
+use Rattle.sk_index.specs.Partners.{GivenBy, PartnerAt, PartnerBy, PartnerOf}
+use Rattle.sk_index.proofs.Least.{least_same, least_start, least_step, least_end}
+use Rattle.sk_index.proofs.Sharing.{given_below, partner_walked}
 use Rattle.sk_index.proofs.partner.partner_of.Goals as goal
 
 pub loop-key-init : goal.loop-key-init
@@ -15,7 +15,8 @@ pub returns : goal.returns
 returns c =
     let x = c.args.x.now in
     let ix = c.args.index.now in
-    least_same (GivenBy (PartnerAt ix x) c.below-key-items.result.now) (GivenBy (PartnerAt ix x) (holders_of ix c.args.elem))
-    (given_same c.below-key-items.result.now (holders_of ix c.args.elem) (IsBelowAt ix x.name) c.below-key-items.ensures (PartnerAt ix x) (λ k n (y, is, below, two, named). (y, is, below)))
-    c.loop-key.least
-    (least_end (PartnerAt ix x) c.below-key-items.result.now c.loop-key.key-index c.loop-key-test.false c.loop-key.least c.loop-key.invariant)
+    let keys = c.below-key-items.result.now in
+    least_same (PartnerBy ix x c.args.elem) (PartnerOf ix x c.args.elem) (partner_walked ix x c.requires.index c.args.elem) c.loop-key.least
+    (least_same (GivenBy (PartnerAt ix x) keys) (PartnerBy ix x c.args.elem)
+    (given_below keys (holders_of ix c.args.elem) (IsBelowAt ix x.name) c.below-key-items.ensures (PartnerAt ix x)) c.loop-key.least
+    (least_end (PartnerAt ix x) keys c.loop-key.key-index c.loop-key-test.false c.loop-key.least c.loop-key.invariant))

@@ -1,8 +1,10 @@
 use Rattle.sk_ends.specs.Growing.{FromSome}
-use Rattle.sk_index.specs.Walked.{SecondAt}
 use Rattle.sk_ends.proofs.Growing.{grows_start, grows_step, grows_end, grows_same}
 use Rattle.sk_index.specs.Indexed.{IsBelowAt, holders_of}
-use Rattle.sk_index.proofs.Walking.{found_in_front}
+use Rattle.sk_index.specs.Triples.{AtCorner}
+use Rattle.sk_index.specs.Walked.{FromCorner, SecondAt}
+use Rattle.sk_index.proofs.Walking.{found_below}
+use Rattle.sk_index.proofs.Walked.{corner_walked}
 use Rattle.sk_index.proofs.triples.add_by_search.Goals as goal
 
 pub loop-key-init : goal.loop-key-init
@@ -14,8 +16,12 @@ loop-key-preserved c =
 
 pub returns : goal.returns
 returns c =
-    let kind = SecondAt c.args.third c.args.index.now c.args.x.now c.args.a in
-    let all = holders_of c.args.index.now c.args.a in
-    grows_same (FromSome kind c.below-key-items.result.now) (FromSome kind all) c.args.all.now c.loop-key.all
-    (found_in_front c.below-key-items.result.now all (IsBelowAt c.args.index.now c.args.x.now.name) c.below-key-items.ensures kind (λ k m (y, is, below, with). (y, is, below)))
-    (grows_end kind c.below-key-items.result.now c.args.all.now c.loop-key.all c.loop-key.key-index c.loop-key-test.false c.loop-key.invariant)
+    let ix = c.args.index.now in
+    let x = c.args.x.now in
+    let kind = SecondAt c.args.third ix x c.args.a in
+    let keys = c.below-key-items.result.now in
+    grows_same (FromCorner c.args.third ix x c.args.a) (AtCorner c.args.third ix x c.args.a) c.args.all.now c.loop-key.all
+    (λ m. corner_walked ix c.requires.index c.args.third x c.args.a m)
+    (grows_same (FromSome kind keys) (FromCorner c.args.third ix x c.args.a) c.args.all.now c.loop-key.all
+    (found_below keys (holders_of ix c.args.a) (IsBelowAt ix x.name) c.below-key-items.ensures kind)
+    (grows_end kind keys c.args.all.now c.loop-key.all c.loop-key.key-index c.loop-key-test.false c.loop-key.invariant))

@@ -1,0 +1,3 @@
+pub mod Triples
+pub mod Ranks
+pub mod Walk

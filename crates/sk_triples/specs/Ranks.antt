@@ -1,0 +1,36 @@
+-- Which of two elements is the higher one, and the triple of three names.
+use Rattle.std.specs.Prelude.{◌≡◌, ◌<◌, ◌⊎◌, ℕ, List, Option, None, Some, slice_get}
+use Rattle.sk_base.specs.declared.Elem.{Elem}
+use Rattle.sk_base.specs.declared.Name.{Name}
+use Rattle.sk_base.specs.ClusterNames.{IsBelow}
+use Rattle.sk_ends.specs.declared.End.{End}
+use Rattle.sk_family.specs.declared.Merge.{Merge}
+use Rattle.sk_family.specs.declared.Merge.TheVariants.{Three}
+
+-- how many clusters hold the element, as was counted
+abbrev pub counted : Option ℕ → ℕ
+counted None = 0
+counted (Some count) = count
+
+abbrev pub count_in : List ℕ → Elem → ℕ
+count_in counts e = counted (slice_get counts e.0)
+
+-- fewer clusters hold the element, or as many and its number is less
+abbrev pub IsLower : List ℕ → Elem → Elem → Type 0
+IsLower counts e c = (count_in counts e < count_in counts c) ⊎ ((count_in counts e ≡ count_in counts c) × (e.0 < c.0))
+
+-- the end is at a higher element than its corner, and it is that one
+abbrev pub IsHigh : List ℕ → End → Type 0
+IsHigh counts x = IsLower counts x.corner x.elem
+
+abbrev pub IsHighOf : List ℕ → End → End → Type 0
+IsHighOf counts end x = (x ≡ end) × IsHigh counts end
+
+-- the triple of two names that fall, and a third
+abbrev pub IsWithThird : Name → Name → Name → Merge → Type 0
+IsWithThird high low z m =
+    (IsBelow z low × (m ≡ Three high low z)) ⊎ (((¬ IsBelow z low) × IsBelow z high × (m ≡ Three high z low)) ⊎ ((¬ IsBelow z low) × (¬ IsBelow z high) × (m ≡ Three z high low)))
+
+-- the triple of three names
+abbrev pub IsTripleOfAny : Name → Name → Name → Merge → Type 0
+IsTripleOfAny x y z m = (IsBelow y x × IsWithThird x y z m) ⊎ ((¬ IsBelow y x) × IsWithThird y x z m)
