@@ -22,7 +22,8 @@ use sk_report::check_text;
 use sk_request::Request;
 use sk_spare::{spare, spare_text};
 use sk_verdict::{Judgement, judge};
-use sk_worklist::{Chosen, Order, close_in_any_order};
+use sk_growth::close_in_any_order;
+use sk_worklist::{Chosen, Order};
 use std::alloc::Global;
 
 /// What is told of a sketch that is read, whatever its verdict.

@@ -164,7 +164,7 @@ module _ (g : Graph) (f : Clusters) (sound : IsSound f) (x y : Name) (falls : Is
     kept_below merges all m m_in = below m (kept_can merges all m m_in).0
       where
         below : (m : Merge) → CanTakeByTie g f m → IsBelow (first_name m) (Step f.next_step)
-        below (Two p q) (falls, (a, b, a_is, b_is, meets)) = subst (λ n. IsBelow n (Step f.next_step)) a_is.has_name (live_below_next g f sound a a_is.lives)
+        below (Two p q) (falls, (a, b, a_is, b_is, meets)) = subst (λ n. IsBelow n (Step f.next_step)) a_is.has_name (live_below_next f sound a a_is.lives)
         below (Three p q r) (falls, never) = absurd never
 
     pub kept_order : (merges : List Merge) → AreTieMerges g f merges → AllPairs ComesFirst (kept merges)
@@ -197,7 +197,7 @@ module _ (g : Graph) (f : Clusters) (sound : IsSound f) (x y : Name) (falls : Is
               | inl d_old ↦ (finds (Two p q)).1 (inl (of_old p q q_p c d c_is d_is meets c_old d_old))
               | inr is ↦ absurd (
                   let q_is : Step f.next_step ≡ q = ap (λ (w : Cluster). w.name) is ∙ d_is.has_name in
-                  let p_below : IsBelow p (Step f.next_step) = subst (λ n. IsBelow n (Step f.next_step)) c_is.has_name (live_below_next g f sound c c_old.0) in
+                  let p_below : IsBelow p (Step f.next_step) = subst (λ n. IsBelow n (Step f.next_step)) c_is.has_name (live_below_next f sound c c_old.0) in
                   below_asymmetric q p q_p (subst (λ n. IsBelow p n) q_is p_below))
             ]
           ]

@@ -1,4 +1,4 @@
--- Merges of named clusters, as far as their names tell, and the triple of three clusters that meet.
+-- Merges of named clusters, as far as their names tell, and those of one cluster with lower ones.
 use Rattle.std.specs.Prelude.{◌≡◌, ◌↔◌, List, [], ◌∷◌, length, Contains}
 use Rattle.sk_base.specs.declared.Name.{Name}
 use Rattle.sk_base.specs.declared.Graph.{Graph}
@@ -6,7 +6,7 @@ use Rattle.sk_base.specs.ClusterNames.{IsBelow}
 use Rattle.sk_family.specs.declared.cluster.Cluster.{Cluster}
 use Rattle.sk_family.specs.declared.merge.Merge.{Merge}
 use Rattle.sk_family.specs.declared.merge.Merge.TheVariants.{Two, Three}
-use Rattle.sk_family.specs.Rules.{MeetsInThree}
+use Rattle.sk_family.specs.Rules.{MeetsInThree, SharesTwo}
 
 abbrev pub names_of : Merge → List Name
 names_of (Two x y) = x ∷ y ∷ []
@@ -22,6 +22,10 @@ pub record IsMergeOf (names : List Name) (m : Merge) : Type 0 where
   pub falls : Falls m
   pub as_many : length (names_of m) ≡ length names
   pub same : (n : Name) → Contains (names_of m) n ↔ Contains names n
+
+-- the name of a lower one of these clusters that shares two elements with that one
+abbrev pub IsPairFrom : List Cluster → Cluster → Name → Type 0
+IsPairFrom live x n = (y : Cluster) × Contains live y × IsBelow y.name x.name × SharesTwo x.elements y.elements × (y.name ≡ n)
 
 -- the triple of that cluster and two lower ones of these, where the three meet
 abbrev pub IsTripleFrom : Graph → List Cluster → Cluster → Merge → Type 0

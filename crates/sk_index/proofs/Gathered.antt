@@ -1,19 +1,21 @@
--- What the walks from a cluster of a family find are the triples of three clusters that meet.
+-- What the walks from a cluster of a family find are its pairs and triples with lower ones.
 use Rattle.std.proofs.Common.{◌≢◌, inl, inr, List, sym}
 use Rattle.std.specs.Prelude.{◌↔◌, Contains}
 use Rattle.sk_base.specs.declared.Elem.{Elem}
+use Rattle.sk_base.specs.declared.Name.{Name}
 use Rattle.sk_base.specs.declared.Graph.{Graph}
 use Rattle.sk_base.specs.ClusterNames.{IsBelow}
 use Rattle.sk_ends.specs.Marks.{IsThird}
 use Rattle.sk_family.specs.declared.Cluster.{Cluster}
 use Rattle.sk_family.specs.declared.Merge.{Merge}
-use Rattle.sk_family.specs.Merges.{IsTripleFrom}
+use Rattle.sk_family.specs.Merges.{IsPairFrom, IsTripleFrom}
 use Rattle.sk_family.specs.Rules.{IsTriangle, MeetsInThree}
 use Rattle.sk_family.proofs.Naming.{below_chain}
 use Rattle.sk_index.specs.declared.index.Index.{Index}
 use Rattle.sk_index.specs.Indexed.{Represents, lines_in}
 use Rattle.sk_index.specs.declared.triples.Third.{Third}
 use Rattle.sk_index.specs.declared.triples.Third.TheVariants.{Below}
+use Rattle.sk_index.specs.Partners.{Partner}
 use Rattle.sk_index.specs.Triples.{AtCorner, IsPlaced, IsTripleOf, TriplesOf}
 
 -- a triangle with its last two clusters exchanged
@@ -69,4 +71,10 @@ module _ (ix : Index) (g : Graph) (live : List Cluster) (r : Represents ix g liv
     triples_found m = (
       (λ (a, a_x, at). found_at Below a a_x m at),
       (λ (y, z, y_in, z_in, y_x, z_y, (a, b, c, t), m_is). (a, t.a_shared.0, at_corner Below y z y_in z_in y_x (below_chain z.name y.name x.name z_y y_x) z_y a b c t m (inl (z_y, m_is)))),
+    )
+
+    pub partners_found : (n : Name) → Partner ix x n ↔ IsPairFrom live x n
+    partners_found n = (
+      (λ (y, held, below, two, named). (y, (r.held y).0 held, below, two, named)),
+      (λ (y, y_in, below, two, named). (y, (r.held y).1 y_in, below, two, named)),
     )

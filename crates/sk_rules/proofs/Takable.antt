@@ -12,8 +12,8 @@ use Rattle.sk_family.specs.declared.Merge.{Merge}
 use Rattle.sk_family.specs.declared.Merge.TheVariants.{Two, Three}
 use Rattle.sk_family.specs.Body.{Body}
 use Rattle.sk_family.specs.Clusters.{Clusters, HasElements, IsNamed, IsSound, unnamed, whole_from}
-use Rattle.sk_family.specs.Merges.{IsTripleFrom, names_of}
-use Rattle.sk_family.specs.Rules.{MeetsInThree}
+use Rattle.sk_family.specs.Merges.{IsPairFrom, IsTripleFrom, names_of}
+use Rattle.sk_family.specs.Rules.{MeetsInThree, SharesTwo}
 use Rattle.sk_family.proofs.Naming.{one_of_name}
 use Rattle.sk_rules.specs.Merges.{CanTake, TakesFrom, merged}
 use Rattle.sk_rules.specs.Reach.{Reach, stays, goes}
@@ -54,7 +54,7 @@ have_elements g f sound (Three x y z) (falls, (a, b, d, a_is, b_is, d_is, (p, q,
       ]
     ]
 
--- the triples of a cluster that may be taken are those with lower ones where the three meet
+-- the pairs and the triples of a cluster that may be taken are those with lower ones where the rule holds
 module _ (g : Graph) (f : Clusters) (sound : IsSound f) (x : Cluster) (x_in : Contains f.live x) where
   pub triple_can : (m : Merge) → IsTripleFrom g f.live x m → TakesFrom g f x m
   triple_can m (y, z, y_in, z_in, y_below, z_below, meets, m_is) =
@@ -76,3 +76,15 @@ module _ (g : Graph) (f : Clusters) (sound : IsSound f) (x : Cluster) (x_in : Co
         subst (λ (w : Cluster). MeetsInThree g w.elements y.elements z.elements) (one_of_name f sound x.name p x p_is (record { lives = x_in; has_name = refl })) meets,
         m_is ∙ ap (λ n. Three x.name n zn) (sym y_is.has_name) ∙ ap (λ n. Three x.name y.name n) (sym z_is.has_name),
       )
+
+  pub pair_can : (n : Name) → IsPairFrom f.live x n → CanTake g f (Two x.name n)
+  pair_can n (y, y_in, below, two, named) = (subst (λ l. IsBelow l x.name) named below, (x, y, record { lives = x_in; has_name = refl }, record { lives = y_in; has_name = named }, two))
+
+  pub can_pair : (n : Name) → CanTake g f (Two x.name n) → IsPairFrom f.live x n
+  can_pair n (below, (p, y, p_is, y_is, two)) = (
+    y,
+    y_is.lives,
+    subst (λ l. IsBelow l x.name) (sym y_is.has_name) below,
+    subst (λ (w : Cluster). SharesTwo w.elements y.elements) (one_of_name f sound x.name p x p_is (record { lives = x_in; has_name = refl })) two,
+    y_is.has_name,
+  )

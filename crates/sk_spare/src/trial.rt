@@ -12,7 +12,7 @@ ghost use Rattle.sk_spare.specs.Trying.{holds_all, some_holds};
 
 use sk_base::{ConId, Elem, Graph, NoMemory};
 use sk_family::{Cluster, Family, initial};
-use sk_worklist::close_in_any_order;
+use sk_growth::close_in_any_order;
 use std::alloc::Global;
 
 /// A normal family of the graph.

@@ -9,7 +9,8 @@ use sk_base::{
 };
 use sk_family::{Cluster, Family, Overlap, common, initial};
 use sk_rules::{Merge, Shared, applies, do_merge};
-use sk_worklist::{Chosen, Order, Picker, close_family, close_in_any_order};
+use sk_growth::close_in_any_order;
+use sk_worklist::{Chosen, Order, Picker, close_family};
 use std::alloc::Global;
 use std::test::Fail;
 

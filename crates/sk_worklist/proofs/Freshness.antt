@@ -21,7 +21,8 @@ use Rattle.sk_index.specs.Partners.{Partner, PartnerOf}
 use Rattle.sk_index.specs.Triples.{AtCorner}
 use Rattle.sk_worklist.specs.Gather.{IsUncovered}
 use Rattle.sk_worklist.specs.Heirs.{Inherits, IsBeside, IsHeir, IsHeirOf, IsNoHeir, IsOfHeir, TellsFresh}
-use Rattle.sk_worklist.proofs.Gathered.{at_corner, found_at, three_of}
+use Rattle.sk_index.proofs.Gathered.{at_corner, found_at}
+use Rattle.sk_rules.proofs.Takable.{can_triple, triple_can}
 
 -- a name is another or the same
 one_or_other : (m n : Name) → (m ≡ n) ⊎ (m ≢ n)
@@ -41,12 +42,12 @@ module _ (ix : Index) (g : Graph) (f : Clusters) (sound : IsSound f) (r : Repres
   other_below n below same = below_irreflexive w.name (subst (λ k. IsBelow k w.name) (same ∙ sym w_is.has_name) below)
 
   partners_by_fresh : (n : Name) → Partner ix w n → (e : Elem) × Contains fresh e × PartnerOf ix w e n
-  partners_by_fresh n (e, e_w, (k, k_in, (y, y_is, below, (a, b, pair), named))) =
+  partners_by_fresh n (y, held, below, (a, b, pair), named) =
       elim ((is.whole w w_is a).0 pair.a_shared.0) [
-        | inr new ↦ (a, new, (k, r.index.finds a k y y_is pair.a_shared.1, (y, y_is, below, (a, b, pair), named)))
+        | inr new ↦ (a, new, (y, held, pair.a_shared.1, below, (a, b, pair), named))
         | inl a_part ↦ elim ((is.whole w w_is b).0 pair.b_shared.0) [
-          | inr new ↦ (b, new, (k, r.index.finds b k y y_is pair.b_shared.1, (y, y_is, below, (a, b, pair), named)))
-          | inl b_part ↦ absurd (is.no_pair y ((r.held y).0 (k, y_is)) (other_below y.name below)
+          | inr new ↦ (b, new, (y, held, pair.b_shared.1, below, (a, b, pair), named))
+          | inl b_part ↦ absurd (is.no_pair y ((r.held y).0 held) (other_below y.name below)
               (a, b, record { differ = pair.differ; a_shared = (a_part, pair.a_shared.1); b_shared = (b_part, pair.b_shared.1) }))
         ]
       ]
@@ -58,15 +59,15 @@ module _ (ix : Index) (g : Graph) (f : Clusters) (sound : IsSound f) (r : Repres
     -- each triple of it is inherited, or has a fresh element as a corner
     of_heir : (m : Merge) → TakesFrom g f w m → FromSome (Inherits heir listed) kept m ⊎ FromSome (AtCorner Either ix w) fresh m
     of_heir m takes =
-        let (y, z, y_in, z_in, y_below, z_below, (a, b, c, t), m_is) = three_of ix g f sound r w w_is.lives m takes in
+        let (y, z, y_in, z_in, y_below, z_below, (a, b, c, t), m_is) = can_triple g f sound w w_is.lives m takes in
         let z_w = three_below y z y_below z_below in
         elim ((is.whole w w_is a).0 t.a_shared.0) [
-          | inr new ↦ inr (a, new, at_corner ix g f sound r w w_is.lives Either y z y_in z_in y_below (z_w, below_differs z.name y.name z_below) a b c t m (inl (z_below, m_is)))
+          | inr new ↦ inr (a, new, at_corner ix g f.live r w Either y z y_in z_in y_below z_w (below_differs z.name y.name z_below) a b c t m (inl (z_below, m_is)))
           | inl a_part ↦ elim ((is.whole w w_is c).0 t.c_shared.1) [
             | inr new ↦ inr (
               c,
               new,
-              at_corner ix g f sound r w w_is.lives Either z y z_in y_in z_w (y_below, (λ e. below_differs z.name y.name z_below (sym e))) c b a
+              at_corner ix g f.live r w Either z y z_in y_in z_w y_below (λ e. below_differs z.name y.name z_below (sym e)) c b a
                   (record {
                     a_shared = (t.c_shared.1, t.c_shared.0);
                     b_shared = (t.b_shared.1, t.b_shared.0);
@@ -143,7 +144,7 @@ module _ (ix : Index) (g : Graph) (f : Clusters) (sound : IsSound f) (r : Repres
         from_heir : IsOfHeir ix f kept heir listed fresh m → TakesFrom g f w m
         from_heir (inl inherited) = inherited_can m inherited
         from_heir (inr (x, x_is, (e, e_in, at))) =
-            found_at ix g f sound r w w_is.lives Either e (fresh_within e e_in) m (subst (λ (c : Cluster). AtCorner Either ix c e m) (one_of_name f sound heir.name x w x_is w_is) at)
+            triple_can g f sound w w_is.lives m (found_at ix g f.live r w Either e (fresh_within e e_in) m (subst (λ (c : Cluster). AtCorner Either ix c e m) (one_of_name f sound heir.name x w x_is w_is) at))
 
         it_is : (x : Cluster) → Contains f.live x → ¬ IsBelow x.name covered → x ≡ w
         it_is x x_in above =

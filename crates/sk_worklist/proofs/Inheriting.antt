@@ -70,7 +70,7 @@ module _ (g : Graph) (f : Clusters) (sound : IsSound f) where
   -- while all triples are kept and no pair may merge, each cluster is its own heir
   module _ (covered : Name) (all_covered : covered ≡ Step f.next_step) (kept : List Merge) (are : AreKept g f (λ x. IsBelow x covered) kept) (no_pair : (p q : Name) → ¬ CanTake g f (Two p q)) (a : Cluster) (a_in : Contains f.live a) where
     covers : (c : Cluster) → Contains f.live c → IsBelow c.name covered
-    covers c c_in = subst (λ k. IsBelow c.name k) (sym all_covered) (live_below_next g f sound c c_in)
+    covers c c_in = subst (λ k. IsBelow c.name k) (sym all_covered) (live_below_next f sound c c_in)
 
     -- a triangle with two other clusters is kept, wherever the name stands among theirs
     is_kept : (c d : Cluster) → Contains f.live c → Contains f.live d → c.name ≢ a.name → d.name ≢ a.name → IsBelow d.name c.name → MeetsInThree g a.elements c.elements d.elements → IsKeptWith kept a.name c.name d.name
@@ -143,7 +143,7 @@ module _ (g : Graph) (f : Clusters) (sound : IsSound f) where
     after = replaced f names
 
     live_below : (n : Name) → IsLive f n → IsBelow n next
-    live_below n (c, c_is) = subst (λ k. IsBelow k next) c_is.has_name (live_below_next g f sound c c_is.lives)
+    live_below n (c, c_is) = subst (λ k. IsBelow k next) c_is.has_name (live_below_next f sound c c_is.lives)
 
     -- a cluster behind the merge stood before, under a name that it doesn't name, or it is the new one
     stood : (c : Cluster) → Contains after.live c → (Contains f.live c × ¬ Contains names c.name) ⊎ (whole ≡ c)
@@ -199,7 +199,7 @@ module _ (g : Graph) (f : Clusters) (sound : IsSound f) where
     new_is_whole : (w : Cluster) → IsNamed after next w → whole ≡ w
     new_is_whole w w_is =
         elim (stood w w_is.lives) [
-          | inl (was, apart) ↦ absurd (below_irreflexive next (subst (λ k. IsBelow k next) w_is.has_name (live_below_next g f sound w was)))
+          | inl (was, apart) ↦ absurd (below_irreflexive next (subst (λ k. IsBelow k next) w_is.has_name (live_below_next f sound w was)))
           | inr new ↦ new
         ]
 

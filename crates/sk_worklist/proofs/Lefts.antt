@@ -49,7 +49,7 @@ module _ (f : Clusters) (gone : List Name) where
   pub left_of : (n : Name) → n ≢ Step f.next_step → (c : Cluster) → IsNamed (replaced f gone) n c → IsLeft f gone n
   left_of n other c is = record {
     not_gone = subst (λ l. is_named gone l ≡ false) is.has_name
-        (is_false (is_named gone c.name) (filtered_from (λ (d : Cluster). not (is_named gone d.name)) f.live c (old_before n other c is)).1);
+        (is_false (is_named gone c.name) (filtered_from (λ (d : Cluster). not (is_named gone d.name)) f.live c (old_before f gone n other c is)).1);
     not_new = other;
   }
 
@@ -68,14 +68,14 @@ module _ (f : Clusters) (gone : List Name) where
 
   pub holds_before : (g : Graph) (m : Merge) → Avoids f gone m → Holds g (replaced f gone) m → Holds g f m
   holds_before g (Two x y) left (a, b, a_is, b_is, two) =
-      (a, b, named_before x (left x (contains_head x (y ∷ []))).not_new a a_is, named_before y (left y (contains_later x (y ∷ []) y (contains_head y []))).not_new b b_is, two)
+      (a, b, named_before f gone x (left x (contains_head x (y ∷ []))).not_new a a_is, named_before f gone y (left y (contains_later x (y ∷ []) y (contains_head y []))).not_new b b_is, two)
   holds_before g (Three x y z) left (a, b, c, a_is, b_is, c_is, meets) = (
     a,
     b,
     c,
-    named_before x (left x (contains_head x (y ∷ z ∷ []))).not_new a a_is,
-    named_before y (left y (contains_later x (y ∷ z ∷ []) y (contains_head y (z ∷ [])))).not_new b b_is,
-    named_before z (left z (contains_later x (y ∷ z ∷ []) z (contains_later y (z ∷ []) z (contains_head z [])))).not_new c c_is,
+    named_before f gone x (left x (contains_head x (y ∷ z ∷ []))).not_new a a_is,
+    named_before f gone y (left y (contains_later x (y ∷ z ∷ []) y (contains_head y (z ∷ [])))).not_new b b_is,
+    named_before f gone z (left z (contains_later x (y ∷ z ∷ []) z (contains_later y (z ∷ []) z (contains_head z [])))).not_new c c_is,
     meets,
   )
 
@@ -89,18 +89,18 @@ module _ (f : Clusters) (gone : List Name) where
     right_three : (x y z : Name) → CanTake g f (Three x y z) → not (names_one_of gone (Three x y z)) ≡ true → CanTake g (replaced f gone) (Three x y z)
     right_three x y z (falls, (a, b, c, a_is, b_is, c_is, meets)) apart =
         let none = none_of_three (is_named gone x) (is_named gone y) (is_named gone z) apart in
-        let lx : IsLeft f gone x = record { not_gone = none.0; not_new = not_next x (live_old a x a_is.lives a_is.has_name) } in
-        let ly : IsLeft f gone y = record { not_gone = none.1; not_new = not_next y (live_old b y b_is.lives b_is.has_name) } in
-        let lz : IsLeft f gone z = record { not_gone = none.2; not_new = not_next z (live_old c z c_is.lives c_is.has_name) } in
+        let lx : IsLeft f gone x = record { not_gone = none.0; not_new = not_next f x (named_below_next f sound x a a_is) } in
+        let ly : IsLeft f gone y = record { not_gone = none.1; not_new = not_next f y (named_below_next f sound y b b_is) } in
+        let lz : IsLeft f gone z = record { not_gone = none.2; not_new = not_next f z (named_below_next f sound z c c_is) } in
         (falls, holds_after g (Three x y z) (three_left x y z lx ly lz) (a, b, c, a_is, b_is, c_is, meets))
 
     pub left_three : (x y z : Name) → IsBelow x (Step f.next_step) → CanTake g (replaced f gone) (Three x y z) → CanTake g f (Three x y z) × (not (names_one_of gone (Three x y z)) ≡ true)
     left_three x y z x_below (falls, (a, b, c, a_is, b_is, c_is, meets)) =
         let y_below = below_chain y x (Step f.next_step) falls.0 x_below in
         let z_below = below_chain z y (Step f.next_step) falls.1 y_below in
-        let lx = left_of x (not_next x x_below) a a_is in
-        let ly = left_of y (not_next y y_below) b b_is in
-        let lz = left_of z (not_next z z_below) c c_is in (
+        let lx = left_of x (not_next f x x_below) a a_is in
+        let ly = left_of y (not_next f y y_below) b b_is in
+        let lz = left_of z (not_next f z z_below) c c_is in (
           (falls, holds_before g (Three x y z) (three_left x y z lx ly lz) (a, b, c, a_is, b_is, c_is, meets)),
           all_three (is_named gone x) (is_named gone y) (is_named gone z) lx.not_gone ly.not_gone lz.not_gone,
         )
@@ -128,6 +128,6 @@ module _ (f : Clusters) (gone : List Name) where
     no_pair_after bound within no_pair x y x_in y_in below less =
         let x_below = below_others x.name bound (Step f.next_step) below within in
         let y_below = below_chain y.name x.name (Step f.next_step) less x_below in
-        let x_was = named_before x.name (not_next x.name x_below) x (record { lives = x_in; has_name = refl }) in
-        let y_was = named_before y.name (not_next y.name y_below) y (record { lives = y_in; has_name = refl }) in
+        let x_was = named_before f gone x.name (not_next f x.name x_below) x (record { lives = x_in; has_name = refl }) in
+        let y_was = named_before f gone y.name (not_next f y.name y_below) y (record { lives = y_in; has_name = refl }) in
         no_pair x y x_was.lives y_was.lives below less

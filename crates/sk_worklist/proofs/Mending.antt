@@ -22,9 +22,6 @@ use Rattle.sk_worklist.proofs.Lefts.{mended, no_pair_after}
 use Rattle.sk_worklist.specs.Gather.{AreUncovered}
 
 module _ (g : Graph) (f : Clusters) (sound : IsSound f) where
-  named_below_next : (n : Name) (c : Cluster) → IsNamed f n c → IsBelow n (Step f.next_step)
-  named_below_next n c is = subst (λ l. IsBelow l (Step f.next_step)) is.has_name (live_below_next c is.lives)
-
   -- where no pair may merge, all triples kept are the choices
   pub kept_are_choices : (kept : List Merge) → ((p q : Name) → ¬ CanTake g f (Two p q)) → AreKept g f (λ x. IsBelow x (Step f.next_step)) kept → AreTriples g f kept
   kept_are_choices kept no_pair are = record {
@@ -38,11 +35,11 @@ module _ (g : Graph) (f : Clusters) (sound : IsSound f) where
       every (Three x y z) can = placed can
         where
           placed : CanTake g f (Three x y z) → Contains kept (Three x y z)
-          placed (falls, (a, b, c, a_is, b_is, c_is, meets)) = are.all x y z (named_below_next x a a_is) (falls, (a, b, c, a_is, b_is, c_is, meets))
+          placed (falls, (a, b, c, a_is, b_is, c_is, meets)) = are.all x y z (named_below_next f sound x a a_is) (falls, (a, b, c, a_is, b_is, c_is, meets))
 
   pub no_pair_at_all : NoPairBelow f (Step f.next_step) → (p q : Name) → ¬ CanTake g f (Two p q)
   no_pair_at_all no_pair p q (below, (a, b, a_is, b_is, two)) =
-      no_pair a b a_is.lives b_is.lives (live_below_next a a_is.lives)
+      no_pair a b a_is.lives b_is.lives (live_below_next f sound a a_is.lives)
       (subst (λ n. IsBelow n a.name) (sym b_is.has_name) (subst (λ n. IsBelow q n) (sym a_is.has_name) below)) two
 
   -- the triples below a name and those of the other clusters, put behind, are all
@@ -62,10 +59,10 @@ module _ (g : Graph) (f : Clusters) (sound : IsSound f) where
       was m (can, (x, y, z, is, below)) = (can, (x, y, z, is, of_live x y z (subst (λ k. CanTake g f k) is can)))
         where
           of_live : (x y z : Name) → CanTake g f (Three x y z) → IsBelow x (Step f.next_step)
-          of_live x y z (falls, (a, b, c, a_is, b_is, c_is, meets)) = named_below_next x a a_is
+          of_live x y z (falls, (a, b, c, a_is, b_is, c_is, meets)) = named_below_next f sound x a a_is
 
       is_new : (m : Merge) → (c : Cluster) × (Contains f.live c × ¬ IsBelow c.name bound) × TakesFrom g f c m → CanTake g f m × ((x : Name) × (y : Name) × (z : Name) × (m ≡ Three x y z) × IsBelow x (Step f.next_step))
-      is_new m (c, (c_in, above), (can, (p, q, m_is))) = (can, (c.name, p, q, m_is, live_below_next c c_in))
+      is_new m (c, (c_in, above), (can, (p, q, m_is))) = (can, (c.name, p, q, m_is, live_below_next f sound c c_in))
 
       every : (x y z : Name) → CanTake g f (Three x y z) → Contains (kept ++ found) (Three x y z)
       every x y z (falls, (a, b, c, a_is, b_is, c_is, meets)) =

@@ -1,8 +1,8 @@
 -- What a worklist finds at a turn.
-use Rattle.std.proofs.Common.{◌≡◌, inl, inr, refl, List, [], ◌++◌, sym, subst, ◌∙◌, ap}
+use Rattle.std.proofs.Common.{◌≡◌, inl, inr, refl, List, [], ◌++◌, sym, subst, ◌∙◌, ap, arith}
 use Rattle.std.specs.Prelude.{◌↔◌, Contains, AllPairs, Result, Ok, Err, IfOk}
 use Rattle.sk_base.specs.declared.Name.{Name}
-use Rattle.sk_base.specs.declared.Name.TheVariants.{Step}
+use Rattle.sk_base.specs.declared.Name.TheVariants.{Con, Step}
 use Rattle.sk_base.specs.declared.Graph.{Graph}
 use Rattle.sk_base.specs.ClusterNames.{IsBelow}
 use Rattle.sk_base.proofs.Members.{contains_none}
@@ -19,9 +19,11 @@ use Rattle.sk_index.specs.Partners.{Partner}
 use Rattle.sk_index.specs.Triples.{TriplesOf}
 use Rattle.sk_worklist.specs.Gather.{IsPartner, IsUncovered, AreUncovered}
 use Rattle.sk_worklist.specs.Known.{AreKept, IsTriple, Knows, NoPairBelow, avoiding}
-use Rattle.sk_index.specs.Indexed.{Represents}
+use Rattle.sk_index.specs.Indexed.{Represents, lines_in}
+use Rattle.sk_triples.specs.Triples.{IsTripleAmong}
 use Rattle.sk_worklist.specs.Turns.{HasNoPair}
-use Rattle.sk_worklist.proofs.Gathered.{found_can, can_found, partner_can, can_partner}
+use Rattle.sk_index.proofs.Gathered.{partners_found, third_of, triangle_of, triples_found}
+use Rattle.sk_rules.proofs.Takable.{can_pair, can_triple, pair_can, triple_can}
 use Rattle.sk_worklist.proofs.Mending.{kept_more, kept_are_choices, avoiding_none}
 use Rattle.sk_family.proofs.Lasting.{live_below_next}
 
@@ -37,16 +39,16 @@ module _ (ix : Index) (g : Graph) (f : Clusters) (sound : IsSound f) (r : Repres
       elim (is_it_below x.name bound) [
         | inl below ↦ before x y x_in y_in below less two
         | inr above ↦ none x y.name ((rest_is x).1 (x_in, above)) x_new
-            (can_partner ix g f sound r x x_in y.name (less, (x, y, record { lives = x_in; has_name = refl }, record { lives = y_in; has_name = refl }, two)))
+            ((partners_found ix g f.live r x y.name).1 (y, y_in, less, two, refl))
       ]
 
   pub within_next : (x y : Name) → IsPartner ix rest x y → IsWithin f x
   within_next x y p above =
-      below_asymmetric x (Step f.next_step) (subst (λ n. IsBelow n (Step f.next_step)) p.has_name (live_below_next g f sound p.greater ((rest_is p.greater).0 p.among).0)) above
+      below_asymmetric x (Step f.next_step) (subst (λ n. IsBelow n (Step f.next_step)) p.has_name (live_below_next f sound p.greater ((rest_is p.greater).0 p.among).0)) above
 
   pub first_is : NoPairBelow f bound → (x y : Name) → IsPartner ix rest x y → IsFirstPair g f (Two x y)
   first_is before x y p = record {
-    can_take = subst (λ n. CanTake g f (Two n y)) p.has_name (partner_can ix g f sound r p.greater ((rest_is p.greater).0 p.among).0 y p.least.0);
+    can_take = subst (λ n. CanTake g f (Two n y)) p.has_name (pair_can g f sound p.greater ((rest_is p.greater).0 p.among).0 y ((partners_found ix g f.live r p.greater y).0 p.least.0));
     is_pair = (x, y, refl);
     first = λ m n can comes. none m n can comes;
   }
@@ -59,15 +61,30 @@ module _ (ix : Index) (g : Graph) (f : Clusters) (sound : IsSound f) (r : Repres
           below_x a b a_is.lives b_is.lives (subst (λ k. IsBelow k x) (sym a_is.has_name) m_x)
           (subst (λ k. IsBelow k a.name) (sym b_is.has_name) (subst (λ k. IsBelow n k) (sym a_is.has_name) less)) two
       none m n can (inr (same, inl n_y)) =
-          p.least.1 n (can_partner ix g f sound r p.greater ((rest_is p.greater).0 p.among).0 n (subst (λ k. CanTake g f (Two k n)) (same ∙ sym p.has_name) can)) n_y
+          p.least.1 n ((partners_found ix g f.live r p.greater n).1 (can_pair g f sound p.greater ((rest_is p.greater).0 p.among).0 n (subst (λ k. CanTake g f (Two k n)) (same ∙ sym p.has_name) can))) n_y
       none m n can (inr (same, inr (level, never))) = never
 
   -- what the walks from the rest find is just what isn't covered
   pub walks_uncovered : (m : Merge) → FromSome (TriplesOf ix) rest m ↔ IsUncovered g f bound m
   walks_uncovered m = (
-    (λ (x, x_in, is). (x, (rest_is x).0 x_in, found_can ix g f sound r x ((rest_is x).0 x_in).0 m is)),
-    (λ (x, (x_in, above), takes). (x, (rest_is x).1 (x_in, above), can_found ix g f sound r x x_in m takes)),
+    (λ (x, x_in, is). (x, (rest_is x).0 x_in, triple_can g f sound x ((rest_is x).0 x_in).0 m ((triples_found ix g f.live r x m).0 is))),
+    (λ (x, (x_in, above), takes). (x, (rest_is x).1 (x_in, above), (triples_found ix g f.live r x m).1 (can_triple g f sound x x_in m takes))),
   )
+
+-- the triples of all clusters that meet are those that aren't covered where none are
+module _ (ix : Index) (g : Graph) (f : Clusters) (sound : IsSound f) (r : Represents ix g f.live) where
+  pub all_uncovered : (m : Merge) → IsTripleAmong (lines_in ix) f.live m ↔ IsUncovered g f (Con 0) m
+  all_uncovered m = (
+    (λ (x, y, z, x_in, y_in, z_in, y_x, z_y, (a, b, c, (a_x, a_y), (b_y, b_z), (c_z, c_x), a_b, makes), m_is).
+        (x, (x_in, none_below x.name), triple_can g f sound x x_in m (y, z, y_in, z_in, y_x, z_y, (a, b, c, triangle_of ix g f.live r x.elements y.elements z.elements a b c a_x a_y b_y b_z c_z c_x a_b makes), m_is))),
+    (λ (x, (x_in, above), takes). (
+        let (y, z, y_in, z_in, y_x, z_y, (a, b, c, t), m_is) = can_triple g f sound x x_in m takes in
+        (x, y, z, x_in, y_in, z_in, y_x, z_y, (a, b, c, t.a_shared, t.b_shared, t.c_shared, t.differ.0, third_of ix g f.live r x.elements y.elements z.elements a b c t), m_is))),
+  )
+    where
+      none_below : (n : Name) → ¬ IsBelow n (Con 0)
+      none_below (Con k) below = absurd (omega arith)
+      none_below (Step k) below = below
 
 -- what is found, once it is put in order
 pub uncovered : (g : Graph) (f : Clusters) (bound : Name) (list found : List Merge) → GrowsBy (IsUncovered g f bound) [] list → ((m : Merge) → Contains found m ↔ Contains list m)

@@ -4,6 +4,4 @@ pub mod Run
 pub mod Known
 pub mod Gather
 pub mod Turns
-pub mod Settling
-pub mod Grown
 pub mod Heirs

@@ -2,10 +2,8 @@
 //! order.
 #![tactic(auto)]
 
-mod any_order;
 mod chosen;
 mod close;
-mod growth;
 mod heir;
 mod kept;
 mod law;
@@ -13,7 +11,6 @@ mod partner;
 mod picker;
 mod worklist;
 
-pub use any_order::close_in_any_order;
 pub use chosen::{Chosen, Order};
 pub use close::{close_family, close_with};
 pub use law::{on_the_way, one_list_of_choices, one_run};

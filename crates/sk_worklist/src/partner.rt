@@ -13,8 +13,7 @@ ghost use Rattle.sk_worklist.specs.Heirs.{TellsFresh};
 use crate::heir::{Heir, is_same};
 use sk_base::{Elem, Name};
 use sk_family::Cluster;
-use sk_index::Index;
-use sk_search::{least_partner, least_partner_at};
+use sk_index::{Index, least_partner, least_partner_at};
 
 /// The first of these clusters that has a partner, and the least one.
 pub(crate) fn first_with_partner(

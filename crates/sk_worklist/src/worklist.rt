@@ -20,10 +20,13 @@ use crate::partner::first_with_partner;
 use crate::picker::Picker;
 use sk_base::{Elem, Graph, List, Name, NoMemory};
 use sk_family::Family;
-use sk_index::{Index, add_holders_of_all};
+use sk_index::{Index, Third, add_holders_of_all, add_triples_at, add_triples_of_all};
 use sk_rules::Merge;
-use sk_search::{Third, add_ranked_of_all, add_triples_at, add_triples_of_all};
+use sk_triples::add_all_triples;
 use std::alloc::Global;
+
+/// The most elements that a cluster has at the start: those of a rigid block.
+const MOST_AT_START: usize = 16;
 
 /// What is known of a family that is being closed.
 #[derive(Drop)]
@@ -259,17 +262,25 @@ impl Worklist {
         }
     }
 
-    /// The same where it isn't known how they came about: with nothing covered they are all triples.
+    /// The same where it isn't known how they came about. At the start they are all triples of the family.
     fn add_triples_anew(&self, family: &Family, all: &mut List<Merge>) -> Result<(), NoMemory>
         requires { (g : AnyGraph) × Follows self.now g family.now }
         ensures grows { OnOk result ((g : AnyGraph) → Follows self.now g family.now → GrowsBy (IsUncovered g family.now self.now.covered) all.old all.new) }
         ensures sound { IsSound family.now }
     {
-        if is_same(self.covered, Name::Con(0)) {
-            add_ranked_of_all(self.alloc, &self.index, family.clusters(), all)
+        if self.is_at_start(family) {
+            add_all_triples(self.alloc, self.index.lines(), family.clusters(), all)
         } else {
             add_triples_of_all(&self.index, family.not_below(self.covered), all)
         }
+    }
+
+    /// Whether no triples are kept yet, and no cluster has more elements than one has at the start.
+    fn is_at_start(&self, family: &Family) -> bool
+        ensures { IsTrue result → (self.now.covered ≡ Name.Con 0) }
+    {
+        is_same(self.covered, Name::Con(0))
+            && family.clusters().iter().all(|x| x.elements.len() <= MOST_AT_START)
     }
 
     /// Adds the triples of the heir.

@@ -1,10 +1,9 @@
-use Rattle.std.proofs.Common.{subst, List}
+use Rattle.std.proofs.Common.{subst, List, sym}
 use Rattle.std.specs.Prelude.{◌↔◌, Contains}
 use Rattle.sk_base.proofs.Searches.{on_ok}
 use Rattle.sk_ends.specs.declared.End.{End}
 use Rattle.sk_ends.specs.Growing.{FromSome}
 use Rattle.sk_ends.proofs.Growing.{grows_same}
-use Rattle.std.proofs.Common.{sym}
 use Rattle.sk_triples.specs.Ranks.{IsHigh}
 use Rattle.sk_triples.specs.Walk.{AtCorner, DownBy}
 use Rattle.sk_triples.proofs.Walking.{seen_found}

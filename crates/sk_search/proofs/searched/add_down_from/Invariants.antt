@@ -1,7 +1,0 @@
-use Rattle.std.proofs.Common.{take}
-use Rattle.sk_ends.specs.Growing.{GrowsBy, FromSome}
-use Rattle.sk_search.specs.Ranked.{BesideAt}
-use Rattle.sk_search.proofs.searched.add_down_from.Given as goal
-
-abbrev pub invariant-loop-key : goal.invariant-loop-key
-invariant-loop-key l = GrowsBy (FromSome (BesideAt l.index l.r l.c) (take l.key-index l.key-items)) l.fn.all l.all
