@@ -9,5 +9,5 @@ pub mod Representing
 mod Sharing
 pub mod Least
 mod Walked
-mod Meeting
+mod AtCorners
 pub mod Gathered

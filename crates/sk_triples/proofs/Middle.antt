@@ -86,7 +86,7 @@ module _ (lines : List Bool) (counts : List ℕ) (clusters : List Cluster) (ends
   end_in r r_in c d c_r d_r = (made (end_of r.name c d)).1 (r, r_in, (c, c_r, (d, d_r, refl)))
 
   found_is : (m : Merge) → FromSome (Found lines counts ends) ends m → IsTripleAmong lines clusters m
-  found_is m (x, x_in, (lower, (y, y_in, y_x, ((y_not_x, (d_c, d_e, marks)), (z, z_in, z_x, high, z_y, (x_not_z, y_not_z, triple)))))) =
+  found_is m (x, x_in, (lower, y, y_in, y_x, (y_not_x, (d_c, d_e, marks)), z, z_in, z_x, high, z_y, (x_not_z, y_not_z, triple))) =
       let (p, p_in, p_is, c_p, e_p) = cluster_of x x_in in
       let (q, q_in, q_is, e_q, d_q) = cluster_of y y_in in
       let (r, r_in, r_is, c_r, d_r) = cluster_of z z_in in
@@ -111,7 +111,7 @@ module _ (lines : List Bool) (counts : List ℕ) (clusters : List Cluster) (ends
   found u v w u_in v_in w_in h l d h_u h_v l_v l_w d_w d_u lower higher v_u w_u w_v d_h d_l marks m triple = (
     end_of v.name h l,
     end_in v v_in h l h_v l_v,
-    (lower, (end_of w.name l d, end_in w w_in l d l_w d_w, refl, ((w_v, (d_h, d_l, marks)), (end_of u.name h d, end_in u u_in h d h_u d_u, refl, higher, refl, (v_u, w_u, triple))))),
+    (lower, end_of w.name l d, end_in w w_in l d l_w d_w, refl, (w_v, (d_h, d_l, marks)), end_of u.name h d, end_in u u_in h d h_u d_u, refl, higher, refl, (v_u, w_u, triple)),
   )
 
   -- each triple is found from a corner that is neither the highest nor the lowest

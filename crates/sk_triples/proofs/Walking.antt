@@ -42,35 +42,35 @@ highs_are counts ends kept x same = (
 )
 
 pub same_on_ok : {T E X : Type 0} (P : T → X → Type 0) (R Q : X → Type 0) (r : Result T E) → IfOk r (λ t. (x : X) → P t x ↔ R x) → ((x : X) → R x ↔ Q x) → IfOk r (λ t. (x : X) → P t x ↔ Q x)
-same_on_ok P R Q (Ok t) same to x = ((λ h. (to x).0 ((same x).0 h)), (λ h. (same x).1 ((to x).1 h)))
+same_on_ok P R Q (Ok t) same to = λ x. ((λ h. (to x).0 ((same x).0 h)), (λ h. (same x).1 ((to x).1 h)))
 same_on_ok P R Q (Err e) same to = tt
 
 module _ (lines : List Bool) (counts : List ℕ) (ends highs : List End) where
   -- the ends at an element are those that have it
   pub joined_same : (x y : End) (here : List End) → ((z : End) → Contains here z ↔ (Contains highs z × (z.elem ≡ y.elem))) → GoesOn lines x y → (m : Merge) → FromSome (Joins x.name y.name) here m ↔ LastBy lines highs x y m
   joined_same x y here here_is goes m = (
-    (λ (z, z_here, joins). (let (z_in, at) = (here_is z).0 z_here in (goes, (z, z_in, at, joins)))),
-    (λ (is, (z, z_in, at, joins)). (z, (here_is z).1 (z_in, at), joins)),
+    (λ (z, z_here, joins). (let (z_in, at) = (here_is z).0 z_here in (goes, z, z_in, at, joins))),
+    (λ (is, z, z_in, at, joins). (z, (here_is z).1 (z_in, at), joins)),
   )
 
   -- the ends from a corner are those that have it
   pub down_same : (x : End) (here : List End) → ((y : End) → Contains here y ↔ (Contains ends y × (y.corner ≡ x.elem))) → IsLower counts x.elem x.corner → (m : Merge) → FromSome (LastBy lines highs x) here m ↔ DownBy lines counts ends highs x m
   down_same x here here_is lower m = (
-    (λ (y, y_here, last). (let (y_in, at) = (here_is y).0 y_here in (lower, (y, y_in, at, last)))),
-    (λ (is, (y, y_in, at, last)). (y, (here_is y).1 (y_in, at), last)),
+    (λ (y, y_here, last). (let (y_in, at) = (here_is y).0 y_here in (lower, y, y_in, at, last))),
+    (λ (is, y, y_in, at, last). (y, (here_is y).1 (y_in, at), last)),
   )
 
   -- and with the highs from there they are what is found at it
   pub seen_found : (seen : List End) (c : Elem) → ((x : End) → Contains seen x ↔ (Contains ends x × (x.corner ≡ c))) → ((z : End) → Contains highs z ↔ (Contains seen z × IsHigh counts z)) → (m : Merge)
       → FromSome (DownBy lines counts ends highs) seen m ↔ AtCorner lines counts ends c m
-  seen_found seen c seen_is highs_are m = (
-    (λ (x, x_seen, (lower, (y, y_in, y_at, (goes, (z, z_high, z_at, joins))))). (
+  seen_found seen c seen_is high_is m = (
+    (λ (x, x_seen, (lower, y, y_in, y_at, (goes, z, z_high, z_at, joins))). (
         let (x_in, x_c) = (seen_is x).0 x_seen in
-        let (z_seen, high) = (highs_are z).0 z_high in
+        let (z_seen, high) = (high_is z).0 z_high in
         let (z_in, z_c) = (seen_is z).0 z_seen in
-        (x, x_in, x_c, (lower, (y, y_in, y_at, goes, (z, z_in, z_c ∙ sym x_c, high, z_at, joins)))))),
-    (λ (x, x_in, x_c, (lower, (y, y_in, y_at, goes, (z, z_in, z_x, high, z_at, joins)))).
-        (x, (seen_is x).1 (x_in, x_c), (lower, (y, y_in, y_at, (goes, (z, (highs_are z).1 ((seen_is z).1 (z_in, z_x ∙ x_c), high), z_at, joins)))))),
+        (x, x_in, x_c, (lower, y, y_in, y_at, goes, z, z_in, z_c ∙ sym x_c, high, z_at, joins)))),
+    (λ (x, x_in, x_c, (lower, y, y_in, y_at, goes, z, z_in, z_x, high, z_at, joins)).
+        (x, (seen_is x).1 (x_in, x_c), (lower, y, y_in, y_at, (goes, z, (high_is z).1 ((seen_is z).1 (z_in, z_x ∙ x_c), high), z_at, joins)))),
   )
 
 module _ (ends : List End) (done next : ℕ) (d : End) (done_in : done < length ends)

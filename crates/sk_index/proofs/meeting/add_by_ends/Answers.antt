@@ -6,7 +6,7 @@ use Rattle.sk_ends.specs.Growing.{FromSome}
 use Rattle.sk_ends.proofs.Growing.{grows_same, grown_from_none}
 use Rattle.sk_index.specs.Triples.{AtCorner}
 use Rattle.sk_index.specs.Walked.{EndsBelow, MeetAny}
-use Rattle.sk_index.proofs.Meeting.{corner_met}
+use Rattle.sk_index.proofs.AtCorners.{corner_met}
 use Rattle.sk_index.proofs.meeting.add_by_ends.Goals as goal
 
 pub returns : goal.returns

@@ -5,7 +5,7 @@ use Rattle.sk_ends.specs.Ends.{EndsAmong}
 use Rattle.sk_ends.specs.Growing.{GrowsBy}
 use Rattle.sk_ends.proofs.Growing.{grows_same}
 use Rattle.sk_index.specs.Walked.{EndsAt}
-use Rattle.sk_index.proofs.Meeting.{ends_same}
+use Rattle.sk_index.proofs.AtCorners.{ends_same}
 use Rattle.sk_index.proofs.meeting.add_ends_at.Goals as goal
 
 pub returns-in-Some : goal.returns-in-Some

@@ -3,7 +3,7 @@ use Rattle.sk_base.proofs.Searches.{on_ok}
 use Rattle.sk_ends.specs.Growing.{FromSome}
 use Rattle.sk_ends.proofs.Growing.{grows_same}
 use Rattle.sk_index.specs.Walked.{MeetAt, Meets}
-use Rattle.sk_index.proofs.Meeting.{met_at}
+use Rattle.sk_index.proofs.AtCorners.{met_at}
 use Rattle.sk_index.proofs.meeting.add_meeting_at.Goals as goal
 
 pub returns : goal.returns

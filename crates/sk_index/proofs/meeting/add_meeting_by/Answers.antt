@@ -3,7 +3,7 @@ use Rattle.sk_base.proofs.Searches.{on_ok}
 use Rattle.sk_ends.specs.Growing.{FromSome}
 use Rattle.sk_ends.proofs.Growing.{grows_same}
 use Rattle.sk_index.specs.Walked.{MeetAt, MeetBy}
-use Rattle.sk_index.proofs.Meeting.{met_same}
+use Rattle.sk_index.proofs.AtCorners.{met_same}
 use Rattle.sk_index.proofs.meeting.add_meeting_by.Goals as goal
 
 pub returns-in-Some : goal.returns-in-Some

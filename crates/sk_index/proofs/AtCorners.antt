@@ -21,7 +21,7 @@ module _ (ix : Index) (index : IsIndex ix) where
   pub corner_met : (third : Third) (x : Cluster) (a : Elem) (ends : List End) → ((e : End) → Contains ends e ↔ EndsBelow ix x.name a e) → (m : Merge)
       → FromSome (MeetAny third ix ends x.name a) x.elements m ↔ AtCorner third ix x a m
   corner_met third x a ends same m = (
-    (λ (d, d_x, (k, k_in, (k_below, (z, z_is, (b, b_z, ((a_b, makes), (e, e_in, e_b, (placed, m_is)))))))). (
+    (λ (d, d_x, (k, k_in, (k_below, (z, z_is, (b, b_z, ((a_b, makes), e, e_in, e_b, (placed, m_is))))))). (
         let (j, j_in, (j_below, (y, y_is, (b', b'_y, e_is)))) = (same e).0 e_in in
         let at : b' ≡ b = sym (ap (λ (w : End). w.elem) e_is) ∙ e_b in
         let named : e.name ≡ y.name = ap (λ (w : End). w.name) e_is in
@@ -51,7 +51,7 @@ module _ (ix : Index) (index : IsIndex ix) where
             (
               b,
               b_z,
-              ((a_b, makes), (end_of y.name a b, (same (end_of y.name a b)).1 (j, index.finds a j y y_is a_y, ((y, y_is, y_x), (y, y_is, (b, b_y, refl)))), refl, (placed, m_is))),
+              ((a_b, makes), end_of y.name a b, (same (end_of y.name a b)).1 (j, index.finds a j y y_is a_y, ((y, y_is, y_x), (y, y_is, (b, b_y, refl)))), refl, (placed, m_is)),
             ),
           ),
         ),
@@ -76,6 +76,6 @@ module _ (ix : Index) (ends : List End) (o : Corners) where
   pub met_at : (z : Name) (b : Elem) (here : List End) → ((e : End) → Contains here e ↔ (Contains ends e × (e.elem ≡ b))) → (o.a ≢ b) × IsThird ix o.a b o.d → (m : Merge)
       → FromSome (Meets o.third o.x z) here m ↔ MeetAt ix ends o z b m
   met_at z b here here_is corners m = (
-    (λ (e, e_here, meets). (let (e_in, at) = (here_is e).0 e_here in (corners, (e, e_in, at, meets)))),
-    (λ (are, (e, e_in, at, meets)). (e, (here_is e).1 (e_in, at), meets)),
+    (λ (e, e_here, meets). (let (e_in, at) = (here_is e).0 e_here in (corners, e, e_in, at, meets))),
+    (λ (are, e, e_in, at, meets). (e, (here_is e).1 (e_in, at), meets)),
   )
