@@ -45,7 +45,7 @@ pub same_on_ok : {T E X : Type 0} (P : T → X → Type 0) (R Q : X → Type 0) 
 same_on_ok P R Q (Ok t) same to = λ x. ((λ h. (to x).0 ((same x).0 h)), (λ h. (same x).1 ((to x).1 h)))
 same_on_ok P R Q (Err e) same to = tt
 
-module _ (lines : List Bool) (counts : List ℕ) (ends highs : List End) where
+module _ (lines : List Bool) (highs : List End) where
   -- the ends at an element are those that have it
   pub joined_same : (x y : End) (here : List End) → ((z : End) → Contains here z ↔ (Contains highs z × (z.elem ≡ y.elem))) → GoesOn lines x y → (m : Merge) → FromSome (Joins x.name y.name) here m ↔ LastBy lines highs x y m
   joined_same x y here here_is goes m = (
@@ -53,6 +53,7 @@ module _ (lines : List Bool) (counts : List ℕ) (ends highs : List End) where
     (λ (is, z, z_in, at, joins). (z, (here_is z).1 (z_in, at), joins)),
   )
 
+module _ (lines : List Bool) (counts : List ℕ) (ends highs : List End) where
   -- the ends from a corner are those that have it
   pub down_same : (x : End) (here : List End) → ((y : End) → Contains here y ↔ (Contains ends y × (y.corner ≡ x.elem))) → IsLower counts x.elem x.corner → (m : Merge) → FromSome (LastBy lines highs x) here m ↔ DownBy lines counts ends highs x m
   down_same x here here_is lower m = (

@@ -17,6 +17,6 @@ returns c =
     let seen = c.seen_from-seen.result.now in
     on_ok c.add_down_from.result c.add_down_from.ensures (λ grows.
     grows_same (FromSome (DownBy lines counts ends c.as_slice.result.now) seen) (AtCorner lines counts ends c.args.corner) c.args.all.now c.add_down_from.new.all
-    (seen_found lines counts ends seen c.as_slice.result.now c.args.corner c.seen_from-seen.ensures
+    (seen_found lines counts ends c.as_slice.result.now seen c.args.corner c.seen_from-seen.ensures
     (λ x. subst (λ (l : List End). Contains l x ↔ (Contains seen x × IsHigh counts x)) (sym c.as_slice.ensures.value) (c.in_ok-highs.ensures.same x)))
     grows)
