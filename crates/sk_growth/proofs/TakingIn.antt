@@ -28,6 +28,7 @@ use Rattle.sk_ends.specs.Marks.{IsMarked}
 use Rattle.sk_rules.specs.Merges.{CanTake}
 use Rattle.sk_index.specs.Indexed.{IsHeld, IsIndex, KeepsLines, IsThird, Represents}
 use Rattle.sk_index.proofs.Representing.{represents_left}
+use Rattle.sk_family.proofs.Parts.{parts, in_parts, from_parts, parts_left, parts_right, parts_cases}
 
 module _ (f : Clusters) (sound : IsSound f) where
   part_rises : (names : List Name) (b : Body) → Contains (parts f names) b → IsRisingBody b

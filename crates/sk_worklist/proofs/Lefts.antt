@@ -9,7 +9,7 @@ use Rattle.sk_base.specs.ClusterNames.{IsBelow, is_named}
 use Rattle.sk_family.specs.declared.Cluster.{Cluster}
 use Rattle.sk_family.specs.Clusters.{Clusters, IsNamed, IsSound, unnamed, whole_from, replaced, IsWithin}
 use Rattle.sk_base.proofs.Members.{contains_head, contains_later, contains_one, contains_filtered, filtered_from}
-use Rattle.sk_family.proofs.Naming.{below_irreflexive, below_asymmetric, below_chain, below_tells}
+use Rattle.sk_family.proofs.Naming.{below_irreflexive, below_asymmetric, below_chain, below_tells, below_others}
 use Rattle.sk_family.proofs.Soundness.{below_next}
 use Rattle.sk_base.proofs.Pairs.{pairs_filter}
 use Rattle.sk_family.specs.declared.Merge.{Merge}
@@ -17,6 +17,7 @@ use Rattle.sk_family.specs.declared.Merge.TheVariants.{Two, Three}
 use Rattle.sk_rules.specs.Merges.{Holds, CanTake}
 use Rattle.sk_worklist.specs.Choices.{ComesFirst}
 use Rattle.sk_worklist.specs.Known.{IsLeft, Avoids, names_one_of, avoiding, AreKept, NoPairBelow}
+use Rattle.sk_family.proofs.Lasting.{old_before, named_before, not_next, named_below_next}
 
 is_false : (b : Bool) → not b ≡ true → b ≡ false
 is_false true h = absurd (cc)

@@ -20,6 +20,7 @@ use Rattle.sk_worklist.specs.Choices.{ComesFirst, AreTriples}
 use Rattle.sk_worklist.specs.Known.{AreKept, NoPairBelow, Knows, avoiding, names_one_of}
 use Rattle.sk_worklist.proofs.Lefts.{mended, no_pair_after}
 use Rattle.sk_worklist.specs.Gather.{AreUncovered}
+use Rattle.sk_family.proofs.Lasting.{live_below_next, named_below_next}
 
 module _ (g : Graph) (f : Clusters) (sound : IsSound f) where
   -- where no pair may merge, all triples kept are the choices

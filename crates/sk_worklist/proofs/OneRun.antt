@@ -9,7 +9,7 @@ use Rattle.sk_base.proofs.Unions.{which}
 use Rattle.sk_base.proofs.Pairs.{pairs_same}
 use Rattle.std.proofs.lemmas.Option.{same_Some}
 use Rattle.sk_family.specs.Clusters.{Clusters}
-use Rattle.sk_family.proofs.Naming.{below_irreflexive, below_asymmetric}
+use Rattle.sk_family.proofs.Naming.{below_irreflexive, below_asymmetric, below_tells}
 use Rattle.sk_family.specs.declared.Merge.{Merge}
 use Rattle.sk_family.specs.declared.Merge.TheVariants.{Two}
 use Rattle.sk_family.specs.Merges.{names_of}

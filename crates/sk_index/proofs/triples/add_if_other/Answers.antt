@@ -9,8 +9,8 @@ returns-then-eq c =
     let same : c.args.a ≡ c.args.b = search rules in
     grows_none (WithOther c.args.third c.args.index.now c.args.x.now c.args.y.now c.args.a c.args.b) c.args.all.now (λ m (other, is). other same)
 
-pub returns-else-eq : goal.returns-else-eq
-returns-else-eq c =
+pub returns : goal.returns
+returns c =
     let ix = c.args.index.now in
     let x = c.args.x.now in
     let y = c.args.y.now in
