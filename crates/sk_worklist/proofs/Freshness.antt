@@ -161,7 +161,4 @@ module _ (ix : Index) (g : Graph) (f : Clusters) (sound : IsSound f) (r : Repres
 pub tells : (ix : Index) (g : Graph) (f : Clusters) → IsSound f → Represents ix g f.live → (covered : Name) (kept : List Merge) (gone : List Name) (heir : Option Heir) (fresh : List Elem)
     → IsHeirOf g f covered kept gone heir fresh → (x : Cluster) → Contains f.live x → TellsFresh ix heir fresh x
 tells ix g f sound r covered kept gone None fresh none x x_in = tt
-tells ix g f sound r covered kept gone (Some heir) fresh (is, apart) x x_in = λ named. (
-  (λ e e_in. (is.whole x (record { lives = x_in; has_name = named }) e).1 (inr e_in)),
-  partners_by_fresh ix g f sound r covered kept gone heir fresh is x (record { lives = x_in; has_name = named }),
-)
+tells ix g f sound r covered kept gone (Some heir) fresh (is, apart) x x_in = λ named. partners_by_fresh ix g f sound r covered kept gone heir fresh is x (record { lives = x_in; has_name = named })

@@ -57,11 +57,11 @@ abbrev pub IsHeirOf : Graph → Clusters → Name → List Merge → List Name �
 IsHeirOf g f covered kept gone None fresh = Unit {0}
 IsHeirOf g f covered kept gone (Some heir) fresh = IsHeir g f covered kept gone heir fresh × ¬ IsBelow heir.name covered
 
--- where the cluster is the heir, all its partners are found by its fresh elements, which it has
+-- where the cluster is the heir, all its partners are found by its fresh elements
 abbrev pub TellsFresh : Index → Option Heir → List Elem → Cluster → Type 0
 TellsFresh ix None fresh x = Unit {0}
 TellsFresh ix (Some heir) fresh x =
-    x.name ≡ heir.name → ((e : Elem) → Contains fresh e → Contains x.elements e) × ((n : Name) → Partner ix x n → (e : Elem) × Contains fresh e × PartnerOf ix x e n)
+    x.name ≡ heir.name → (n : Name) → Partner ix x n → (e : Elem) × Contains fresh e × PartnerOf ix x e n
 
 -- the triples of the cluster of a name with a fresh element as a corner
 abbrev pub IsOfFresh : Index → Clusters → Name → List Elem → Merge → Type 0

@@ -13,5 +13,5 @@ returns-then-is_same c =
     let fresh = c.args.fresh.now in
     let tells = subst (λ (o : Option Heir). TellsFresh ix o fresh x) c.in-Some.is c.requires.tells (c.is_same.ensures.0 c.if-is_same.true) in
     least_same (GivenBy (PartnerUnless None ix x) fresh) (Partner ix x)
-    (λ n. ((λ (e, e_in, (other, (y, held, e_y, below, two, named))). (y, held, below, two, named)), (λ h. (let (e, e_in, of) = tells.1 n h in (e, e_in, ((λ never. cc), of))))))
+    (λ n. ((λ (e, e_in, (other, (y, held, e_y, below, two, named))). (y, held, below, two, named)), (λ h. (let (e, e_in, of) = tells n h in (e, e_in, ((λ never. cc), of))))))
     c.least_partner_at.result c.least_partner_at.ensures
