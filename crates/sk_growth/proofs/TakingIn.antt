@@ -1,20 +1,20 @@
 -- A cluster that grows: what it takes in makes a step.
 use Rattle.std.proofs.Common.{◌≡◌, ◌≢◌, ◌∙◌, inl, inr, refl, ℕ, ◌<◌, Bool, true, List, [], ◌∷◌, ◌++◌, ap, sym, subst, length, length-append, append_assoc, arith}
-use Rattle.std.specs.Prelude.{◌↔◌, ◌⊎◌, Contains, map, not, slice_get, Some, Result, Ok, Err, OnOk}
-use Rattle.std.proofs.lemmas.List.Elements.{All-append, All-cons, All-nil, Contains-append_left, Contains-append_right, Contains-append_cases}
+use Rattle.std.specs.Prelude.{◌↔◌, ◌⊎◌, Contains, not, slice_get, Some}
+use Rattle.std.proofs.lemmas.List.Elements.{All-append, All-cons, All-nil}
 use Rattle.sk_base.specs.declared.Elem.{Elem}
 use Rattle.sk_base.specs.declared.Name.{Name}
 use Rattle.sk_base.specs.declared.Graph.{Graph}
 use Rattle.sk_base.specs.ClusterNames.{is_named}
 use Rattle.sk_base.proofs.Filters.{filter_keeps}
-use Rattle.sk_base.proofs.Members.{contains_none, contains_head, contains_later, contains_one, contains_cases, contains_mapped, mapped_from, contains_filtered, filtered_from}
+use Rattle.sk_base.proofs.Members.{contains_none, contains_head, contains_later, contains_one, contains_cases, contains_mapped, mapped_from, filtered_from}
 use Rattle.sk_base.proofs.Pairs.{pairs_none, pairs_push}
 use Rattle.sk_rules.proofs.Keeping.{reach_then}
 use Rattle.sk_family.specs.declared.Cluster.{Cluster}
 use Rattle.sk_family.specs.Body.{Body, IsRisingBody, join_all}
-use Rattle.sk_family.specs.Clusters.{Clusters, IsLive, IsNamed, IsSound, body_of, bodies, named, made_of, replaced, unnamed, HasElements}
+use Rattle.sk_family.specs.Clusters.{Clusters, IsLive, IsNamed, IsSound, body_of, bodies, made_of, replaced, unnamed, HasElements}
 use Rattle.sk_family.proofs.Bodies.{Within, each_within, whole_within, within_along, same_within, owner_of, holder_of, rising_whole}
-use Rattle.sk_family.proofs.Naming.{among_named, named_among, not_named, one_of_name, one_of_body}
+use Rattle.sk_family.proofs.Naming.{not_named, one_of_name, one_of_body}
 use Rattle.sk_family.proofs.Taking.{unnamed_more}
 use Rattle.sk_rules.specs.Reach.{AreAmong, CanMerge, Reach, Replaces, Step, goes, stays}
 use Rattle.sk_family.specs.declared.Merge.{Merge}

@@ -1,23 +1,12 @@
 -- Clusters that leave the index and enter it at a merge.
-use Rattle.std.proofs.Common.{◌≡◌, ◌⊎◌, inl, inr, ◌-◌, List, [], ◌∷◌, ◌++◌, length, sym, subst, ◌∙◌, ap, Bool, Vec, Global}
-use Rattle.std.specs.Prelude.{◌↔◌, Contains, Option, Some, slice_get, not}
-use Rattle.std.proofs.lemmas.Option.{same_Some}
-use Rattle.std.proofs.lemmas.List.Elements.{Contains-append_left, Contains-append_right, Contains-append_cases}
+use Rattle.std.proofs.Common.{◌≡◌, List, ◌++◌, sym, subst, Vec, Global}
+use Rattle.std.specs.Prelude.{Option}
 use Rattle.sk_base.specs.declared.Name.{Name}
-use Rattle.sk_base.specs.declared.Name.TheVariants.{Step}
 use Rattle.sk_base.specs.declared.Graph.{Graph}
-use Rattle.sk_base.specs.ClusterNames.{IsBelow, is_named}
-use Rattle.sk_base.proofs.Members.{contains_head, contains_one, contains_cases, contains_filtered, filtered_from}
-use Rattle.sk_base.proofs.Splits.{last_pushed}
-use Rattle.sk_family.specs.declared.Cluster.{Cluster}
-use Rattle.sk_family.specs.Clusters.{Clusters, IsNamed, IsSound, replaced, unnamed, whole_from, HasElements}
-use Rattle.sk_family.proofs.Naming.{one_of_name, unnamed_true, not_named}
+use Rattle.sk_family.specs.Clusters.{Clusters, IsSound}
 use Rattle.sk_family.specs.declared.Merge.{Merge}
-use Rattle.sk_family.specs.declared.Merge.TheVariants.{Two, Three}
-use Rattle.sk_rules.specs.Merges.{merged, CanTake}
+use Rattle.sk_rules.specs.Merges.{merged}
 use Rattle.sk_family.specs.Merges.{names_of}
-use Rattle.sk_index.specs.declared.Index.{Index}
-use Rattle.sk_index.specs.Indexed.{IsHeld, IsIndex, KeepsLines, IsLast, Represents}
 use Rattle.sk_worklist.specs.Known.{Knows}
 use Rattle.sk_base.specs.declared.Elem.{Elem}
 use Rattle.sk_worklist.specs.declared.heir.Heir.{Heir}
@@ -25,7 +14,6 @@ use Rattle.sk_worklist.specs.Heirs.{IsHeirOf}
 use Rattle.sk_worklist.specs.declared.worklist.Worklist.{Worklist}
 use Rattle.sk_worklist.specs.Turns.{IsSameButHeir, KnowsOf}
 use Rattle.sk_worklist.proofs.Mending.{knows_after}
-use Rattle.sk_family.proofs.Lasting.{live_below_next}
 
 pub knows_entered : (clear covered : Name) (kept : List Merge) (gone gone' : List Name) (g : Graph) (f : Clusters) → IsSound f → (m : Merge) (after : Clusters) → after ≡ merged f m
     → gone' ≡ gone ++ names_of m → Knows clear covered kept gone g f → Knows clear covered kept gone' g after

@@ -1,16 +1,15 @@
 -- The rules look at the named clusters alone, so a merge of others changes nothing of them.
-use Rattle.std.proofs.Common.{◌≡◌, ◌≢◌, ◌⊎◌, inl, inr, refl, zero, suc, List, [], ◌∷◌, Bool, true, false, ap, sym, subst, ◌∙◌, arith}
-use Rattle.std.specs.Prelude.{Contains, not, ◌||◌}
-use Rattle.std.proofs.lemmas.List.Elements.{Contains-append_left, Contains-append_cases}
+use Rattle.std.proofs.Common.{◌≡◌, ◌≢◌, refl, zero, suc, List, [], ◌∷◌, Bool, true, false, ap, sym, subst, arith}
+use Rattle.std.specs.Prelude.{not, ◌||◌}
+use Rattle.std.proofs.lemmas.List.Elements.{Contains-append_left}
 use Rattle.sk_base.specs.declared.Name.{Name}
 use Rattle.sk_base.specs.declared.Name.TheVariants.{Step}
 use Rattle.sk_base.specs.declared.Graph.{Graph}
 use Rattle.sk_base.specs.ClusterNames.{IsBelow, is_named}
 use Rattle.sk_family.specs.declared.Cluster.{Cluster}
 use Rattle.sk_family.specs.Clusters.{Clusters, IsNamed, IsSound, unnamed, whole_from, replaced, IsWithin}
-use Rattle.sk_base.proofs.Members.{contains_head, contains_later, contains_one, contains_filtered, filtered_from}
-use Rattle.sk_family.proofs.Naming.{below_irreflexive, below_asymmetric, below_chain, below_tells, below_others}
-use Rattle.sk_family.proofs.Soundness.{below_next}
+use Rattle.sk_base.proofs.Members.{contains_head, contains_later, contains_filtered, filtered_from}
+use Rattle.sk_family.proofs.Naming.{below_chain, below_others}
 use Rattle.sk_base.proofs.Pairs.{pairs_filter}
 use Rattle.sk_family.specs.declared.Merge.{Merge}
 use Rattle.sk_family.specs.declared.Merge.TheVariants.{Two, Three}

@@ -8,11 +8,10 @@ use Rattle.sk_base.specs.declared.Name.TheVariants.{Con, Step}
 use Rattle.sk_base.specs.declared.Graph.{Graph}
 use Rattle.sk_base.specs.ClusterNames.{IsBelow, is_named, name_eq}
 use Rattle.sk_family.specs.declared.Cluster.{Cluster}
-use Rattle.sk_family.specs.Clusters.{Clusters, IsNamed, IsSound, replaced, IsWithin}
+use Rattle.sk_family.specs.Clusters.{Clusters, IsSound, replaced, IsWithin}
 use Rattle.sk_base.proofs.Splits.{pairs_append}
 use Rattle.sk_base.proofs.Filters.{filter_both, neither}
 use Rattle.sk_family.proofs.Naming.{among_named, named_among, below_others, is_it_below}
-use Rattle.sk_family.proofs.Soundness.{below_next}
 use Rattle.sk_family.specs.declared.Merge.{Merge}
 use Rattle.sk_family.specs.declared.Merge.TheVariants.{Two, Three}
 use Rattle.sk_rules.specs.Merges.{CanTake, TakesFrom}

@@ -1,11 +1,9 @@
 -- A family has one list of choices, and a picker one run from it.
-use Rattle.std.proofs.Common.{◌≡◌, ◌⊎◌, inl, inr, refl, ℕ, List, [], ◌∷◌, ap, sym, subst, ◌∙◌, length}
+use Rattle.std.proofs.Common.{◌≡◌, inl, inr, refl, ℕ, List, [], ◌∷◌, ap, sym, subst, ◌∙◌, length}
 use Rattle.std.specs.Prelude.{slice_get, Some}
 use Rattle.sk_base.specs.declared.Name.{Name}
-use Rattle.sk_base.specs.declared.Name.TheVariants.{Con, Step}
 use Rattle.sk_base.specs.declared.Graph.{Graph}
 use Rattle.sk_base.specs.ClusterNames.{IsBelow}
-use Rattle.sk_base.proofs.Unions.{which}
 use Rattle.sk_base.proofs.Pairs.{pairs_same}
 use Rattle.std.proofs.lemmas.Option.{same_Some}
 use Rattle.sk_family.specs.Clusters.{Clusters}

@@ -1,18 +1,16 @@
 -- Runs that go on, and what the choices tell.
-use Rattle.std.proofs.Common.{◌≡◌, inl, inr, ℕ, ◌+◌, ◌<◌, ◌≤◌, List, [], ◌∷◌, ◌++◌, ap, sym, subst, ◌∙◌, length, arith, length-append}
+use Rattle.std.proofs.Common.{◌≡◌, inl, inr, ℕ, ◌+◌, ◌≤◌, List, [], ◌∷◌, ◌++◌, ap, sym, subst, ◌∙◌, length, arith}
 use Rattle.std.specs.Prelude.{Contains, map, slice_get, Some, Result, Ok, Err, OnErr}
 use Rattle.std.proofs.lemmas.List.{map-append}
-use Rattle.sk_base.specs.declared.Name.TheVariants.{Step as StepName}
 use Rattle.sk_base.specs.declared.Graph.{Graph}
-use Rattle.sk_family.specs.Body.{Body}
-use Rattle.sk_family.specs.Clusters.{Clusters, bodies, unnamed, whole_from, IsSound}
+use Rattle.sk_family.specs.Clusters.{Clusters, bodies, IsSound}
 use Rattle.sk_base.proofs.Members.{contains_none, contains_one}
 use Rattle.sk_family.specs.declared.Merge.{Merge}
 use Rattle.sk_rules.specs.declared.Taken.{Taken}
 use Rattle.sk_family.specs.Merges.{Falls, names_of}
 use Rattle.sk_rules.specs.Merges.{Holds, merged, CanTake}
 use Rattle.sk_rules.specs.Taking.{IsTaken, Leads}
-use Rattle.sk_rules.specs.Reach.{Reach, stays, goes, IsClosed}
+use Rattle.sk_rules.specs.Reach.{IsClosed}
 use Rattle.sk_rules.proofs.Merging.{merge_lessens, closed_by_merges, can_be_replaced}
 use Rattle.sk_family.proofs.Soundness.{sound_replaced}
 use Rattle.sk_worklist.specs.Choices.{AreChoices}

@@ -6,8 +6,8 @@ use Rattle.sk_base.specs.ClusterNames.{IsBelow}
 use Rattle.sk_family.specs.Clusters.{Clusters}
 use Rattle.sk_family.specs.declared.Merge.{Merge}
 use Rattle.sk_family.specs.declared.Merge.TheVariants.{Two}
-use Rattle.sk_family.specs.Merges.{Falls, names_of}
-use Rattle.sk_rules.specs.Merges.{Holds, CanTake}
+use Rattle.sk_family.specs.Merges.{names_of}
+use Rattle.sk_rules.specs.Merges.{CanTake}
 
 -- the one list of names comes before the other, compared place by place
 abbrev pub NamesBefore : List Name → List Name → Type 0

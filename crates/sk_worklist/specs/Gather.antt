@@ -7,10 +7,9 @@ use Rattle.sk_base.specs.ClusterNames.{IsBelow}
 use Rattle.sk_family.specs.declared.Cluster.{Cluster}
 use Rattle.sk_family.specs.Clusters.{Clusters, IsNamed}
 use Rattle.sk_family.specs.declared.Merge.{Merge}
-use Rattle.sk_family.specs.declared.Merge.TheVariants.{Three}
 use Rattle.sk_index.specs.declared.Index.{Index}
 use Rattle.sk_index.specs.Partners.{IsLeast, Partner}
-use Rattle.sk_rules.specs.Merges.{CanTake, TakesFrom}
+use Rattle.sk_rules.specs.Merges.{TakesFrom}
 use Rattle.sk_worklist.specs.Choices.{ComesFirst}
 
 -- the name is that of a cluster of the family that is below another and holds some of these elements

@@ -280,7 +280,10 @@ impl Worklist {
         ensures { IsTrue result → (self.now.covered ≡ Name.Con 0) }
     {
         is_same(self.covered, Name::Con(0))
-            && family.clusters().iter().all(|x| x.elements.len() <= MOST_AT_START)
+            && family
+                .clusters()
+                .iter()
+                .all(|x| x.elements.len() <= MOST_AT_START)
     }
 
     /// Adds the triples of the heir.
@@ -312,7 +315,16 @@ impl Worklist {
         ensures sound { IsSound family.now }
     {
         match family.cluster(name) {
-            Some(x) => { add_triples_at(self.alloc, &self.index, x, self.fresh.as_slice(), Third::Either, all) }
+            Some(x) => {
+                add_triples_at(
+                    self.alloc,
+                    &self.index,
+                    x,
+                    self.fresh.as_slice(),
+                    Third::Either,
+                    all,
+                )
+            }
             None => Ok(()),
         }
     }
