@@ -1,5 +1,5 @@
 // Some elements, as a mark at the place of each.
-ghost use Rattle.std.specs.Prelude.{◌≡◌, ◌≢◌, ◌↔◌, ◌⊎◌, IsTrue, OnOk};
+ghost use Rattle.std.specs.Prelude.{◌≡◌, ◌↔◌, ◌⊎◌, IsTrue, OnOk};
 ghost use Rattle.sk_base.specs.declared.Elem.{Elem as Element};
 ghost use Rattle.sk_ends.specs.Marks.{IsMarked, IsThird};
 

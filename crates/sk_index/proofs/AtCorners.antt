@@ -24,8 +24,7 @@ module _ (ix : Index) (index : IsIndex ix) where
     (λ (d, d_x, (k, k_in, (k_below, (z, z_is, (b, b_z, ((a_b, makes), e, e_in, e_b, (placed, m_is))))))). (
         let (j, j_in, (j_below, (y, y_is, (b', b'_y, e_is)))) = (same e).0 e_in in
         let at : b' ≡ b = sym (ap (λ (w : End). w.elem) e_is) ∙ e_b in
-        let named : e.name ≡ y.name = ap (λ (w : End). w.name) e_is in
-        (
+        let named : e.name ≡ y.name = ap (λ (w : End). w.name) e_is in (
           y,
           z,
           (j, y_is),

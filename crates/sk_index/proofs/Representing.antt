@@ -1,5 +1,5 @@
 -- Clusters that leave the index and enter it at a merge.
-use Rattle.std.proofs.Common.{◌≡◌, ◌⊎◌, inl, inr, ◌-◌, List, [], ◌∷◌, ◌++◌, length, sym, subst, ◌∙◌, ap, Bool, Vec, Global}
+use Rattle.std.proofs.Common.{◌≡◌, ◌⊎◌, inl, inr, ◌-◌, List, [], ◌∷◌, length, sym, subst, ◌∙◌, ap, Bool, Vec, Global}
 use Rattle.std.specs.Prelude.{◌↔◌, Contains, Some, slice_get, not}
 use Rattle.std.proofs.lemmas.Option.{same_Some}
 use Rattle.std.proofs.lemmas.List.Elements.{Contains-append_left, Contains-append_right, Contains-append_cases}

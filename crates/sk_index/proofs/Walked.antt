@@ -1,5 +1,5 @@
 -- Walks along keys, to partners and to triples.
-use Rattle.std.proofs.Common.{◌≡◌, ◌≢◌, ◌∙◌, inl, inr, ℕ, List, sym, subst}
+use Rattle.std.proofs.Common.{◌≡◌, ◌≢◌, ◌∙◌, inl, inr, ℕ, sym, subst}
 use Rattle.std.specs.Prelude.{◌↔◌, Contains, Some}
 use Rattle.std.proofs.lemmas.Option.{same_Some}
 use Rattle.sk_base.specs.declared.Elem.{Elem}

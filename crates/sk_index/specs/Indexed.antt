@@ -1,5 +1,5 @@
 -- What the index of a family holds.
-use Rattle.std.specs.Prelude.{◌≡◌, ◌≢◌, ◌↔◌, ◌⊎◌, ◌++◌, ℕ, Bool, List, [], ◌∷◌, Option, None, Some, Contains, AllPairs, length, ◌-◌, slice_get}
+use Rattle.std.specs.Prelude.{◌≡◌, ◌↔◌, ◌⊎◌, ◌++◌, ℕ, Bool, List, [], ◌∷◌, Option, None, Some, Contains, AllPairs, length, ◌-◌, slice_get}
 use Rattle.slab.specs.Slab.{Slab, get}
 use Rattle.sk_base.specs.declared.Name.{Name}
 use Rattle.sk_base.specs.declared.Elem.{Elem}
@@ -10,7 +10,6 @@ use Rattle.sk_base.specs.Numbering.{elem_number}
 use Rattle.sk_base.specs.Rising.{IsRising}
 use Rattle.sk_base.specs.SoundGraph.{HasNode}
 use Rattle.sk_family.specs.declared.Cluster.{Cluster}
-use Rattle.sk_family.specs.Clusters.{Clusters, IsNamed}
 use Rattle.sk_index.specs.declared.index.Index.{Index}
 use Rattle.sk_ends.specs.Marks.{IsMarked, IsThird as IsThirdOf}
 

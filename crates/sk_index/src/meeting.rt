@@ -56,12 +56,7 @@ fn add_ends_below(index: &Index, x: Name, a: Elem, ends: &mut List<End>) -> Resu
 }
 
 /// Adds those of the cluster of that key.
-fn add_ends_at(
-    index: &Index,
-    a: Elem,
-    key: usize,
-    ends: &mut List<End>,
-) -> Result<(), NoMemory>
+fn add_ends_at(index: &Index, a: Elem, key: usize, ends: &mut List<End>) -> Result<(), NoMemory>
     ensures { OnOk result (GrowsBy (EndsAt index.now a key) ends.old ends.new) }
 {
     match index.held(key) {

@@ -240,14 +240,7 @@ pub(crate) fn triple_of(x: Name, y: Name, z: Name) -> Merge
 }
 
 /// Whether z is another cluster than y, and some corner of z and x makes a triangle with a and b.
-fn is_third_cluster(
-    index: &Index,
-    x: &Cluster,
-    y: &Cluster,
-    z: &Cluster,
-    a: Elem,
-    b: Elem,
-) -> bool
+fn is_third_cluster(index: &Index, x: &Cluster, y: &Cluster, z: &Cluster, a: Elem, b: Elem) -> bool
     requires x_rises { IsRising elem_number x.now.elements }
     requires z_rises { IsRising elem_number z.now.elements }
     ensures { IsTrue result ↔ IsThirdCluster index.now x.now y.now z.now a b }

@@ -1,6 +1,6 @@
 -- What a merge that may be taken tells of its clusters.
-use Rattle.std.proofs.Common.{◌≡◌, ◌∙◌, inl, inr, refl, ◌+◌, ◌<◌, List, [], ◌∷◌, ap, sym, subst, length, length-append, arith}
-use Rattle.std.specs.Prelude.{◌↔◌, Contains}
+use Rattle.std.proofs.Common.{◌∙◌, inl, inr, refl, ◌<◌, List, [], ◌∷◌, ap, sym, subst, length, length-append, arith}
+use Rattle.std.specs.Prelude.{Contains}
 use Rattle.sk_base.specs.declared.Name.{Name}
 use Rattle.sk_base.specs.declared.Name.TheVariants.{Step as StepName}
 use Rattle.sk_base.specs.declared.Elem.{Elem}
@@ -15,7 +15,7 @@ use Rattle.sk_family.specs.Clusters.{Clusters, HasElements, IsNamed, IsSound, un
 use Rattle.sk_family.specs.Merges.{IsPairFrom, IsTripleFrom, names_of}
 use Rattle.sk_family.specs.Rules.{MeetsInThree, SharesTwo}
 use Rattle.sk_family.proofs.Naming.{one_of_name}
-use Rattle.sk_rules.specs.Merges.{CanTake, TakesFrom, merged}
+use Rattle.sk_rules.specs.Merges.{CanTake, TakesFrom}
 use Rattle.sk_rules.specs.Reach.{Reach, stays, goes}
 use Rattle.sk_rules.proofs.Merging.{meets_back, meets_on, merge_lessens}
 

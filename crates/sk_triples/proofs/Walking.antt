@@ -1,12 +1,11 @@
 -- The steps of the walk to all triples.
-use Rattle.std.proofs.Common.{◌≡◌, ◌∙◌, inl, inr, ℕ, ◌+◌, ◌-◌, ◌<◌, ◌≤◌, Bool, List, length, length-take, get_or, take, drop, refl, sym, subst, arith}
+use Rattle.std.proofs.Common.{◌≡◌, ◌∙◌, inl, inr, ℕ, ◌-◌, ◌<◌, ◌≤◌, Bool, List, length, length-take, get_or, take, refl, sym, subst, arith}
 use Rattle.std.specs.Prelude.{◌↔◌, ◌⊎◌, Contains, Result, Ok, Err, IfOk}
 use Rattle.std.specs.List.Sorted.{IsNonDecreasingBy, IsPartitionPoint}
 use Rattle.std.proofs.lemmas.Bool.{cases_lt}
 use Rattle.std.proofs.lemmas.List.{get_or-take, get_or_default}
 use Rattle.sk_base.specs.declared.Elem.{Elem}
 use Rattle.sk_base.specs.declared.Name.{Name}
-use Rattle.sk_base.specs.ClusterNames.{IsBelow}
 use Rattle.sk_base.specs.Numbering.{elem_exact}
 use Rattle.sk_base.proofs.Splits.{in_take, in_either, dropped_from, taken_from}
 use Rattle.sk_ends.specs.declared.End.{End}
@@ -14,7 +13,7 @@ use Rattle.sk_ends.specs.Ends.{corner_number}
 use Rattle.sk_ends.specs.Growing.{FromSome, GrowsBy}
 use Rattle.sk_family.specs.declared.Merge.{Merge}
 use Rattle.sk_triples.specs.Ranks.{IsHigh, IsHighOf, IsLower, IsTripleOfAny, IsWithThird}
-use Rattle.sk_triples.specs.Walk.{AtCorner, DownBy, Found, GoesOn, Joins, LastBy}
+use Rattle.sk_triples.specs.Walk.{AtCorner, DownBy, GoesOn, Joins, LastBy}
 
 -- three names have one triple, whichever is the greatest
 one_with_third : (high low z : Name) (m n : Merge) → IsWithThird high low z m → IsWithThird high low z n → m ≡ n

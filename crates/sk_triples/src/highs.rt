@@ -12,11 +12,7 @@ use sk_ends::{End, by_elem};
 use std::alloc::Global;
 
 /// Those of these ends that are at a higher element than their corner, sorted by elements.
-pub(crate) fn highs_of(
-    alloc: Global,
-    counts: &[usize],
-    ends: &[End],
-) -> Result<Vec<End>, NoMemory>
+pub(crate) fn highs_of(alloc: Global, counts: &[usize], ends: &[End]) -> Result<Vec<End>, NoMemory>
     ensures same { IfOk result (λ highs. (x : AnyEnd) → Contains highs.items x ↔ (Contains ends.now x × IsHigh counts.now x)) }
     ensures sorted { IfOk result (λ highs. IsNonDecreasingBy end_number highs.items) }
 {

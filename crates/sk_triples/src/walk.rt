@@ -2,7 +2,7 @@
 // one, and from there to a third, which it looks up among what the clusters at the first have beside it:
 // a lower corner is held by fewer clusters, or by as many. So a line that all clusters share is walked
 // along from few of them.
-ghost use Rattle.std.specs.Prelude.{◌≡◌, ◌≢◌, ◌↔◌, Contains, IsTrue, OnOk};
+ghost use Rattle.std.specs.Prelude.{◌≢◌, ◌↔◌, IsTrue, OnOk};
 ghost use Rattle.std.specs.List.Sorted.{IsNonDecreasingBy};
 ghost use Rattle.sk_ends.specs.Ends.{EndsAmong, corner_number, end_number};
 ghost use Rattle.sk_ends.specs.Growing.{FromSome, GrowsBy};

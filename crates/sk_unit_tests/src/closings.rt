@@ -8,8 +8,8 @@ use sk_base::{
     Um,
 };
 use sk_family::{Cluster, Family, Overlap, common, initial};
-use sk_rules::{Merge, Shared, applies, do_merge};
 use sk_growth::close_in_any_order;
+use sk_rules::{Merge, Shared, applies, do_merge};
 use sk_worklist::{Chosen, Order, Picker, close_family};
 use std::alloc::Global;
 use std::test::Fail;
