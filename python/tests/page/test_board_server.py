@@ -265,6 +265,14 @@ FLAT = "segment A 0 0 9 0\nsegment B A.end 4 3\nsegment C B.end A.start\nlength 
        "length B 4\nlength C 5\n"
 
 
+def test_of_many_pieces_it_is_told_how_many_more_there_are(client) -> None:
+    text = "".join(f"point P{number} {number} 0\n" for number in range(43))
+    lines = answer(client, "judge", text=text)["judgement"]["lines"]
+    for name, most, more in (("pieces", 40, 3), ("what to do", 20, 22)):
+        told = [each["text"] for each in lines if each.get("list") == name]
+        assert len(told) == most + 1 and told[-1] == f"and {more} more"
+
+
 def test_a_fault_is_told_where_and_by_how_much(client) -> None:
     judgement = answer(client, "judge", text=FLAT)["judgement"]
     failure = judgement["failure"]
