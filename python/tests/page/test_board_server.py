@@ -398,6 +398,18 @@ def test_a_sketch_of_the_language_becomes_a_drawing(client) -> None:
     assert judgement["verdict"] == "well"
 
 
+@pytest.mark.parametrize("word, drawn, left_out", [
+    ("outside", 30, []), ("inside", 3, []),
+    ("inside", 30, ["inside A B: drawn so, they would touch outside"]),
+    ("outside", 3, ["outside A B: drawn so, they would touch inside"])])
+def test_circles_that_are_drawn_otherwise_than_they_touch(client, word, drawn, left_out) -> None:
+    text = f"sketch 2\ncircle A 0 0 10\ncircle B {drawn} 0 5\n{word} A B\nend\n"
+    data = base64.b64encode(text.encode()).decode()
+    (found,) = answer(client, "open", name="belt.sketch", data=data)["sketches"]
+    assert found["left_out"] == left_out
+    assert ("tangent A B" in found["text"].splitlines()) is (not left_out)
+
+
 @pytest.mark.parametrize("name, data", [
     ("part.FCStd", b"PK no zip"), ("part.slvs", b"\x00\x01"), ("part.dxf", b"\xff\xff"),
     ("part.step", b""), ("../../etc/passwd", b"x"), ("", b""), ("part.sketch", b"sketch 9\n"),
