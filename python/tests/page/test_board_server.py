@@ -488,6 +488,13 @@ def test_a_client_that_says_nothing_is_let_go(program, monkeypatch, silent, more
                 assert client.recv(1) == b""
 
 
+@pytest.mark.parametrize("seconds", ["0", "-1", "nan", "inf", "1e9"])
+def test_seconds_that_no_call_can_have_are_told(program, monkeypatch, capsys, seconds) -> None:
+    monkeypatch.setenv("PERTXOGAI_SKETCH", program.path)
+    assert main(["page", "--no-browser", "--seconds", seconds]) == 2
+    assert "--seconds takes a number above 0 and up to 86400" in capsys.readouterr().err
+
+
 def test_a_port_that_is_taken_is_told(program, monkeypatch, capsys) -> None:
     monkeypatch.setenv("PERTXOGAI_SKETCH", program.path)
     with served(program) as found:
