@@ -17,8 +17,7 @@ export class Gestures {
   constructor(board, paper, selection, hand, tell) {
     Object.assign(this, { board, paper, selection, hand, tell });
     const { node } = board;
-    for (const what of ['down', 'move', 'up']) node.addEventListener(`pointer${what}`, (event) => this[what](event, this.at(event)));
-    node.addEventListener('pointercancel', () => this.cancel());
+    for (const what of ['down', 'move', 'up', 'cancel']) node.addEventListener(`pointer${what}`, (event) => { if (event.isPrimary) this[what](event, this.at(event)); });
     node.addEventListener('wheel', (event) => this.wheel(event), { passive: false });
   }
 

@@ -1,0 +1,61 @@
+"""The board in a real browser: a hand that is quicker than the answers, keys and fingers, the focus,
+and two tabs."""
+from __future__ import annotations
+
+import json
+from pathlib import Path
+
+import pytest
+
+pytest.importorskip("flask", reason="the board needs Debian's python3-flask")
+pytest.importorskip("selenium", reason="the browser is driven by Debian's python3-selenium")
+
+from boards import CHROMIUM, DRIVER, Served, wait_for  # noqa: E402
+from browsing import Page  # noqa: E402
+from selenium.webdriver.common.by import By  # noqa: E402
+from selenium.webdriver.common.keys import Keys  # noqa: E402
+
+if not (CHROMIUM and DRIVER):
+    pytest.skip("Debian's chromium and chromium-driver aren't there", allow_module_level=True)
+
+TRIANGLE = """segment A 0 0 40 0
+segment B A.end 20 30
+segment C B.end A.start
+length A 40
+length B 36
+length C 35
+"""
+OVER = TRIANGLE + "length A 41\n"
+FOCUSED = "return document.activeElement"
+
+
+def focus(page: Page, selector: str) -> None:
+    """Puts the focus on a button."""
+    page.driver.execute_script("document.querySelector(arguments[0]).focus()", selector)
+
+
+# By keys and fingers.
+
+def test_a_second_finger_leaves_the_drag(page: Page) -> None:
+    page.begin("point Q 0 0\npoint P 30 20\n", "open")
+    x, y = page.driver.execute_script(
+        "const b = document.querySelector('[data-name=P] .dothit').getBoundingClientRect();"
+        "return [b.x + b.width / 2, b.y + b.height / 2];")
+    page.driver.execute_cdp_cmd("Emulation.setTouchEmulationEnabled",
+                                {"enabled": True, "maxTouchPoints": 2})
+
+    def touch(kind: str, *places: tuple[float, float]) -> None:
+        points = [{"x": u, "y": v, "id": number} for number, (u, v) in enumerate(places)]
+        page.driver.execute_cdp_cmd("Input.dispatchTouchEvent",
+                                    {"type": kind, "touchPoints": points})
+
+    try:
+        touch("touchStart", (x, y))
+        touch("touchMove", (x - 40, y))
+        touch("touchMove", (x - 80, y))
+        touch("touchStart", (x - 80, y), (x - 200, y - 100))
+        touch("touchEnd", (x - 80, y))
+        touch("touchEnd")
+    finally:
+        page.driver.execute_cdp_cmd("Emulation.setTouchEmulationEnabled", {"enabled": False})
+    wait_for("another place", lambda: "point P 30 20" not in page.text())
