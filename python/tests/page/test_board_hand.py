@@ -34,6 +34,32 @@ def focus(page: Page, selector: str) -> None:
     page.driver.execute_script("document.querySelector(arguments[0]).focus()", selector)
 
 
+# Between two answers.
+
+def test_a_click_counts_where_it_was_clicked(page: Page) -> None:
+    page.keys("s")
+    with page.held("edit"):
+        page.press(300, 400)
+        page.press(400, 400)
+        page.press(400, 300)
+        page.keys("+", "+")
+    page.wait("two", "return document.querySelectorAll('.edges [data-name]').length === 2")
+    (x, y), (u, v) = page.at("S1.end"), page.at("S2.end")
+    assert abs(u - x) < 20 and abs(y - v - 100 * 1.25 ** 2) < 20
+
+
+def test_a_click_of_a_tool_that_was_laid_down_draws_nothing(page: Page) -> None:
+    page.keys("s")
+    with page.held("edit"):
+        page.press(300, 400)
+        page.press(400, 400)
+        page.press(500, 300)
+        page.keys("p")
+    page.press(600, 200)
+    wait_for("a point", lambda: "point" in page.text())
+    assert page.text().count("point") == 1
+
+
 # By keys and fingers.
 
 def test_a_second_finger_leaves_the_drag(page: Page) -> None:

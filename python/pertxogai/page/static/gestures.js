@@ -113,16 +113,17 @@ export class Gestures {
     else if (!more) this.selection.set([]);
   }
 
-  /** A click of a tool that draws counts once what was clicked before it is drawn. */
+  /** A click of a tool that draws counts once what was clicked before it is drawn, there where it was clicked; not where another tool is held by then. */
   press(pixels, shift) {
-    const next = () => this.draw(pixels, shift);
+    const { hand: { tool }, board: { plane } } = this;
+    const at = plane.toPlane(pixels);
+    const next = () => { if (this.hand.tool === tool) return this.draw(plane.toScreen(at), shift); };
     this.pressing = this.pressing.then(next, next);
   }
 
   /** Draws by a click. */
   async draw(pixels, shift) {
     const { hand, paper } = this;
-    if (!hand.draws) return;
     const { spot, at, near, level } = this.spot(pixels, shift);
     const isChain = hand.clicks.length === 1 && hand.tool === 'segment';
     const edit = hand.click(spot, at);
