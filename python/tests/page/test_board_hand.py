@@ -60,6 +60,16 @@ def test_a_click_of_a_tool_that_was_laid_down_draws_nothing(page: Page) -> None:
     assert page.text().count("point") == 1
 
 
+def test_places_that_make_no_figure_are_told(page: Page) -> None:
+    page.keys("a")
+    for x in (300, 500, 400):
+        page.press(x, 400)
+    page.wait("told", "return document.getElementById('hint').textContent"
+                      ".startsWith('Nothing is drawn')")
+    page.keys("s")
+    assert page.told("hint").startswith("Segment: click its start")
+
+
 # By keys and fingers.
 
 def test_a_second_finger_leaves_the_drag(page: Page) -> None:

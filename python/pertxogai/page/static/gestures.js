@@ -5,6 +5,7 @@ import { line, ring, bow } from './shapes.js';
 import { namesOf } from './selection.js';
 
 const SLACK = 4;
+const NOTHING_DRAWN = 'Nothing is drawn: its places are one, or lie on one line. Choose others.';
 const DATUM = ['Origin', 'XAxis', 'YAxis'];
 
 /** Turns what a hand does on the board into selections and edits. */
@@ -129,6 +130,7 @@ export class Gestures {
     const edit = hand.click(spot, at);
     const { clicks } = hand;
     this.showHand(pixels, shift);
+    if (!edit && !clicks.length) this.tell(NOTHING_DRAWN);
     if (!edit || !await paper.draw(edit, isChain && level) || hand.clicks !== clicks) return;
     if (isChain && !near) hand.click({ point: `${paper.answer.drawing.shapes.at(-1).name}.end` }, at);
     this.showHand(pixels, shift);
