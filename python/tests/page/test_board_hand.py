@@ -60,6 +60,22 @@ def test_a_click_of_a_tool_that_was_laid_down_draws_nothing(page: Page) -> None:
     assert page.text().count("point") == 1
 
 
+def test_what_is_over_is_weighed_one_after_the_other(page: Page) -> None:
+    asked = ("return performance.getEntriesByType('resource')"
+             ".filter((each) => each.name.endsWith('call/weigh')).length")
+    page.begin(OVER, "over")
+    page.tells("contradiction")
+    before = page.driver.execute_script(asked)
+    page.select("A")
+    with page.held("weigh"):
+        for _ in range(3):
+            text = page.text()
+            page.keys(Keys.ALT + Keys.ARROW_RIGHT)
+            wait_for("an edit", lambda: page.text() != text)  # noqa: B023
+        assert page.driver.execute_script(asked) <= before + 1
+    page.tells("contradiction")
+
+
 def test_places_that_make_no_figure_are_told(page: Page) -> None:
     page.keys("a")
     for x in (300, 500, 400):
