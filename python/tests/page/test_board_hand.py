@@ -60,6 +60,21 @@ def test_a_click_of_a_tool_that_was_laid_down_draws_nothing(page: Page) -> None:
     assert page.text().count("point") == 1
 
 
+def test_the_other_shape_is_drawn_of_its_own_text_alone(page: Page) -> None:
+    page.begin(TRIANGLE, "well")
+    page.click("#tab-steps")
+    page.wait("a step", "return document.getElementById('flip')?.hidden === false")
+    page.click("#flip")
+    page.wait("the other shape", "return document.getElementById('redraw').hidden === false")
+    page.select("B")
+    with page.held("edit"):
+        page.keys(Keys.ALT + Keys.ARROW_UP)
+        page.click("#redraw")
+    page.wait("told", "return document.getElementById('hint').textContent"
+                      " === 'the drawing has changed: choose again'")
+    page.click("#tab-text")
+
+
 def test_what_is_over_is_weighed_one_after_the_other(page: Page) -> None:
     asked = ("return performance.getEntriesByType('resource')"
              ".filter((each) => each.name.endsWith('call/weigh')).length")

@@ -93,9 +93,9 @@ export class Paper extends EventTarget {
     });
   }
 
-  /** The text is drawn as it is placed, or as it is with the choices of some steps turned over. */
-  redraw(steps) {
-    return this.change((text) => this.server.call('redraw', { text, steps }));
+  /** The text is drawn as it is placed, or as it is with the choices of some steps turned over; by steps only the text whose steps they are. */
+  redraw(steps, seen) {
+    return this.change((text) => (steps.length && text !== seen ? { trouble: this.refused ?? CHANGED } : this.server.call('redraw', { text, steps })));
   }
 
   /** Changes the text that stands by a call; where another was typed meanwhile, that one; where another drawing has begun, none. Gives whether it was taken. */

@@ -151,7 +151,7 @@ export class Steps {
 
   /** The drawing is drawn anew as the other shape lies. */
   redraw() {
-    this.paper.redraw([...this.flipped]);
+    this.paper.redraw([...this.flipped], this.text);
   }
 
   /** Has what is shown verified as a claim, and tells what is said of it. */
