@@ -60,6 +60,27 @@ def test_a_click_of_a_tool_that_was_laid_down_draws_nothing(page: Page) -> None:
     assert page.text().count("point") == 1
 
 
+def test_what_is_verified_is_told_of_its_own_drawing(page: Page) -> None:
+    page.begin(TRIANGLE, "well")
+    page.click("#tab-steps")
+    page.wait("a button", "return document.getElementById('verify')")
+    with page.held("verify"):
+        page.click("#verify")
+        page.click("#tab-text")
+    page.settled()
+    page.click("#tab-steps")
+    page.wait("a button", "return document.getElementById('verify')")
+    with page.held("verify"):
+        page.click("#verify")
+        page.driver.execute_script(
+            "const t = document.getElementById('text'); t.value = t.value.replace('35', '34');"
+            "t.dispatchEvent(new Event('input'));")
+    page.wait("the other", "return document.getElementById('verify') && "
+                           "document.getElementById('language').textContent.includes(' 34\\n')")
+    assert page.told("verified") == ""
+    page.click("#tab-text")
+
+
 def test_the_other_shape_is_drawn_of_its_own_text_alone(page: Page) -> None:
     page.begin(TRIANGLE, "well")
     page.click("#tab-steps")
