@@ -124,6 +124,15 @@ def test_places_that_make_no_figure_are_told(page: Page) -> None:
 
 # By keys and fingers.
 
+def test_enter_draws_also_where_a_dimension_is_selected(page: Page) -> None:
+    page.begin(TRIANGLE, "well")
+    page.click("#tab-asked")
+    page.click("[data-selects='1']")
+    page.keys("p", Keys.ARROW_UP, Keys.ENTER)
+    wait_for("a point", lambda: "point P1" in page.text())
+    page.click("#tab-text")
+
+
 def test_a_second_finger_leaves_the_drag(page: Page) -> None:
     page.begin("point Q 0 0\npoint P 30 20\n", "open")
     x, y = page.driver.execute_script(

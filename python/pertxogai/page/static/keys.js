@@ -41,11 +41,11 @@ export class Keys {
     return true;
   }
 
-  /** Changes the value of the dimension that is selected, else clicks at the cross. */
+  /** Changes the value of the dimension that is selected, unless a tool draws; else clicks at the cross. */
   enter(shift) {
-    const [number] = this.page.selection.numbers;
-    if (number) this.page.offers.change(number);
-    else this.page.gestures.enter(shift);
+    const { gestures, hand, offers, selection: { numbers: [number] } } = this.page;
+    if (number && !hand.draws) offers.change(number);
+    else gestures.enter(shift);
   }
 }
 
