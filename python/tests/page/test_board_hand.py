@@ -156,3 +156,13 @@ def test_a_second_finger_leaves_the_drag(page: Page) -> None:
     finally:
         page.driver.execute_cdp_cmd("Emulation.setTouchEmulationEnabled", {"enabled": False})
     wait_for("another place", lambda: "point P 30 20" not in page.text())
+
+
+# Files and tabs.
+
+def test_a_file_that_is_too_large_is_told_by_its_name(page: Page, tmp_path: Path) -> None:
+    large = tmp_path / "large.dxf"
+    large.write_bytes(bytes(900_000))
+    page.driver.find_element(By.ID, "file").send_keys(str(large))
+    page.wait("told", "return document.getElementById('hint').textContent"
+                      ".startsWith('large.dxf has over 750 KB')")
