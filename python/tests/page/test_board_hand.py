@@ -160,6 +160,15 @@ def test_a_second_finger_leaves_the_drag(page: Page) -> None:
 
 # Files and tabs.
 
+def test_a_name_that_is_being_typed_is_the_files(page: Page) -> None:
+    page.begin(TRIANGLE, "well")
+    name = page.driver.find_element(By.ID, "name")
+    name.send_keys(Keys.CONTROL, "a")
+    name.send_keys("bracket")
+    name.send_keys(Keys.CONTROL, "s")
+    assert page.downloaded("bracket.drawing").decode() == TRIANGLE
+
+
 def test_a_file_that_is_too_large_is_told_by_its_name(page: Page, tmp_path: Path) -> None:
     large = tmp_path / "large.dxf"
     large.write_bytes(bytes(900_000))

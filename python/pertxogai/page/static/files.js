@@ -71,8 +71,8 @@ export class Files {
   /** Exports what is shown. */
   async export(kind) {
     byId('export').open = false;
-    const { name } = this.paper;
     const text = this.paper.settle();
+    const { name } = this.paper;
     const call = { claim: 'verify' }[kind] ?? kind;
     const found = kind === 'sketch' ? await this.language(text) : await this.paper.ask(call, { text, name, release: 'R2010' });
     const content = found[{ 'program-dxf': 'dxf' }[kind] ?? kind];

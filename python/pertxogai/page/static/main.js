@@ -59,13 +59,22 @@ class Page {
     paper.addEventListener('begin', () => this.leave());
     paper.addEventListener('answer', (event) => this.show(event.detail));
     paper.addEventListener('trouble', (event) => hint(event.detail));
-    document.addEventListener('click', (event) => this.click(event.target.closest('button')));
-    byId('name').addEventListener('change', () => { paper.name = byId('name').value.trim() || 'drawing'; keeping.keep(); });
+    document.addEventListener('click', ({ target }) => {
+      if (!target.closest('#export')) byId('export').open = false;
+      this.click(target.closest('button'));
+    });
+    paper.addEventListener('settle', () => this.call());
+    byId('name').addEventListener('change', () => { this.call(); keeping.keep(); });
     byId('board').addEventListener('mouseup', (event) => this.pressed(event.detail));
     this.take('select');
     const { text = '', name = 'drawing', saved = '' } = keeping.kept() ?? {};
     byId('name').value = name;
     paper.begin(text, name, saved).then(() => this.board.fit());
+  }
+
+  /** The drawing is called as its field says. */
+  call() {
+    this.paper.name = byId('name').value.trim() || 'drawing';
   }
 
   /** A button is clicked. */
