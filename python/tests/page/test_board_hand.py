@@ -133,6 +133,18 @@ def test_enter_draws_also_where_a_dimension_is_selected(page: Page) -> None:
     page.click("#tab-text")
 
 
+def test_the_menu_goes_by_a_click_elsewhere_and_by_escape(page: Page) -> None:
+    is_open = "return document.getElementById('export').open"
+    page.click("#export summary")
+    assert page.driver.execute_script(is_open)
+    page.press(500, 400)
+    page.wait("closed", "return !document.getElementById('export').open")
+    page.click("#export summary")
+    page.driver.switch_to.active_element.send_keys(Keys.ESCAPE)
+    assert not page.driver.execute_script(is_open)
+    assert page.driver.execute_script(FOCUSED).tag_name == "summary"
+
+
 def test_a_second_finger_leaves_the_drag(page: Page) -> None:
     page.begin("point Q 0 0\npoint P 30 20\n", "open")
     x, y = page.driver.execute_script(

@@ -127,10 +127,14 @@ class Page {
     button.ariaPressed = String(this.hand.construction);
   }
 
-  /** Gives up, one thing after the other: the clicks, the tool, the cross, the selection. */
+  /** Gives up, one thing after the other: the menu, the clicks, the tool, the cross, the selection. */
   escape() {
     const { hand, board } = this;
-    if (hand.draws) this.take(hand.clicks.length ? hand.tool : 'select');
+    const menu = byId('export');
+    if (menu.open) {
+      if (menu.contains(document.activeElement)) menu.firstElementChild.focus();
+      menu.open = false;
+    } else if (hand.draws) this.take(hand.clicks.length ? hand.tool : 'select');
     else if (board.cross) board.cross = null;
     else this.selection.set([]);
     hint(hand.hint);
@@ -155,7 +159,7 @@ class Page {
 
 /** Shows a line at the foot of the board. */
 function hint(text) {
-  byId('hint').textContent = text;
+  byId('hint').textContent = byId('hint').title = text;
 }
 
 /** Shows a line of the server's, the tabs' or the keeping's over the whole page, or none. */
