@@ -187,3 +187,24 @@ def test_a_file_that_is_too_large_is_told_by_its_name(page: Page, tmp_path: Path
     page.driver.find_element(By.ID, "file").send_keys(str(large))
     page.wait("told", "return document.getElementById('hint').textContent"
                       ".startsWith('large.dxf has over 750 KB')")
+
+
+def test_of_two_tabs_the_one_that_was_changed_last_is_shown_anew(
+        page: Page, board: Served) -> None:
+    mine, theirs = "segment A 0 0 50 0\nlength A 50\n", "segment B 0 0 30 0\nlength B 30\n"
+    page.begin(mine, "well")
+    first = page.driver.current_window_handle
+    page.driver.switch_to.new_window("tab")
+    page.driver.get(board.guard.address)
+    page.verdict("well")
+    page.begin(theirs, "well")
+    page.driver.get("about:blank")
+    page.driver.close()
+    page.driver.switch_to.window(first)
+    page.driver.get("about:blank")
+    page.driver.get(board.guard.address)
+    page.verdict("well")
+    assert page.text() == theirs
+    aside = json.loads(page.driver.execute_script(
+        "return localStorage.getItem('pertxogai.aside')"))
+    assert [each["text"] for each in aside] == [mine]
