@@ -170,6 +170,35 @@ def test_a_second_finger_leaves_the_drag(page: Page) -> None:
     wait_for("another place", lambda: "point P 30 20" not in page.text())
 
 
+# The focus.
+
+def test_the_focus_stays_in_the_verdict(page: Page) -> None:
+    page.driver.execute_script(
+        "const { fetch } = window; window.fetch = (path, options) => path === 'call/weigh' ?"
+        " new Promise((done) => { window.weighs = () => { window.fetch = fetch;"
+        " done(fetch(path, options)); }; }) : fetch(path, options);")
+    page.begin(OVER, "over")
+    page.wait("a call", "return Boolean(window.weighs)")
+    focus(page, "#verdict [data-spare] button")
+    label = page.driver.execute_script(FOCUSED).get_attribute("aria-label")
+    page.driver.execute_script("window.weighs()")
+    page.tells("contradiction")
+    assert page.driver.execute_script(FOCUSED).get_attribute("aria-label") == label
+    page.driver.execute_script(FOCUSED).send_keys(Keys.ENTER)
+    page.verdict("well")
+    assert page.driver.execute_script(FOCUSED).get_attribute("id") == "verdict"
+
+
+def test_the_focus_stays_in_the_list_of_constraints(page: Page) -> None:
+    page.begin(TRIANGLE, "well")
+    page.click("#tab-asked")
+    for number, selects in ((3, "2"), (1, "1")):
+        focus(page, f"[data-takes='{number}']")
+        page.driver.execute_script(FOCUSED).send_keys(Keys.ENTER)
+        page.wait("the next", f"return document.activeElement.dataset.selects === '{selects}'")
+    page.click("#tab-text")
+
+
 # Files and tabs.
 
 def test_a_name_that_is_being_typed_is_the_files(page: Page) -> None:
