@@ -389,7 +389,8 @@ def test_a_drag_that_the_browser_ends_leaves_the_drawing(page: Page) -> None:
     page.begin("drawing 1\nsegment A 0 0 40 0\n", "open")
     x, y = _dragged(page, "A.end")
     page.driver.execute_script(
-        "document.getElementById('board').dispatchEvent(new PointerEvent('pointercancel'))")
+        "document.getElementById('board').dispatchEvent("
+        "new PointerEvent('pointercancel', { isPrimary: true }))")
     wait_for("as it was", lambda: page.at("A.end") == pytest.approx((x, y), abs=1))
     page.let_go()
     page.settled()
