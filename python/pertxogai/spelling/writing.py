@@ -364,7 +364,7 @@ class Writer:
         self.sheet.drafts.append(Draft(between, names[1], said, ratio=halves[1].ratio()))
 
     def _square_help(self, base: Track, track: Track) -> None:
-        """A line of help, square to two parallel ones, through a point of the first that has one."""
+        """A line of help, square to two parallels, through a point of the first that has one."""
         first, second = (base, track) if self._has_point(base) else (track, base)
         name = self._help(first)
         self.sheet.drafts.append(Draft(name, self.names[second], partial(

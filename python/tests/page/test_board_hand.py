@@ -1,5 +1,5 @@
-"""The board in a real browser: a hand that is quicker than the answers, keys and fingers, the focus,
-and two tabs."""
+"""The board in a real browser: a hand that is quicker than the answers, keys and fingers, the
+focus, and two tabs."""
 from __future__ import annotations
 
 import json
