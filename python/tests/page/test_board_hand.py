@@ -237,3 +237,14 @@ def test_of_two_tabs_the_one_that_was_changed_last_is_shown_anew(
     aside = json.loads(page.driver.execute_script(
         "return localStorage.getItem('pertxogai.aside')"))
     assert [each["text"] for each in aside] == [mine]
+
+
+def test_the_oldest_of_many_that_were_left_unsaved_is_told(page: Page) -> None:
+    page.driver.execute_script(
+        "localStorage.setItem('pertxogai.aside', JSON.stringify(Array.from({ length: 11 },"
+        " (_, place) => ({ name: `part ${place}, unsaved`, text: `point A ${place} 0` }))));")
+    for number, told in enumerate(("", "the oldest is no longer kept (part 10, unsaved)")):
+        page.begin(f"segment A 0 0 5{number} 0\nlength A 5{number}\n", "well")
+        page.click("#new")
+        page.verdict("empty")
+        assert told in page.told("banner") and bool(told) == bool(page.told("banner"))

@@ -46,6 +46,8 @@ export class Keeping {
   put({ text, name, saved, tab }) {
     if (!text.trim() || text === saved) return;
     const all = this.unsaved().filter((each) => each.text !== text && (!tab || each.tab !== tab));
+    const gone = all[MOST_ASIDE - 1];
+    if (gone) this.tell('keeping', `More than ${MOST_ASIDE} drawings are left unsaved: the oldest is no longer kept (${gone.name}).`);
     this.store(ASIDE, [{ text, name: `${name.replace(/, unsaved$/, '')}, unsaved`, tab }, ...all].slice(0, MOST_ASIDE));
   }
 
