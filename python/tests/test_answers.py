@@ -286,3 +286,12 @@ def test_json_tells_what_is_left_out_and_what_of_it_holds(program):
     found = drawing_json(JudgedDrawing("half", drawing, judge(drawing, program)))
     assert found["left_out"] == found["left_out_but_holds"] == ["Half"]
     assert found["exact"] is False and found["spelled"] == "values"
+
+
+@pytest.mark.parametrize("text, verdict", [
+    ("segment A 2 0 9 9\nx A.start 2\n", Verdict.OPEN),
+    ("point A 2 0\npoint B 5 5\ny A 2\n", Verdict.OPEN),
+    ("point A 2 0\nx A 2\nx A 3\n", Verdict.OVER),
+])
+def test_what_is_told_from_one_axis_alone_is_judged(program, text, verdict):
+    assert judge(read_drawing(text), program).verdict is verdict

@@ -223,3 +223,9 @@ def test_regular_polygons_are_placed(text, place, at, program):
     assert all(each.amount <= 2 for each in found.deviations if each.unit is Unit.NM)
     spot = found.solution.spot(ref_of(place))
     assert max(abs(spot[0] - at[0]), abs(spot[1] - at[1])) <= 2
+
+
+@pytest.mark.parametrize("style", ALL)
+def test_a_way_from_one_axis_alone_is_spelled_in_each_style(style):
+    told = spell(read_drawing("point A 2 0\nx A 2\n"), style).sketch.text()
+    assert "distance P1 Y 2\n" in told

@@ -364,10 +364,16 @@ class Writer:
         self.sheet.drafts.append(Draft(between, names[1], said, ratio=halves[1].ratio()))
 
     def _square_help(self, base: Track, track: Track) -> None:
-        """A line of help, square to two parallel ones, through a point of the first."""
-        name = self._help(base)
-        self.sheet.drafts.append(Draft(name, self.names[track], partial(
+        """A line of help, square to two parallels, through a point of the first that has one."""
+        first, second = (base, track) if self._has_point(base) else (track, base)
+        name = self._help(first)
+        self.sheet.drafts.append(Draft(name, self.names[second], partial(
             self._direction_owners, base, track), ratio=(1, 0)))
+
+    def _has_point(self, track: Track) -> bool:
+        """Whether a point of the sketch lies by a track: by the datum's there may be none."""
+        return not isinstance(track, Rail) or any(each.knot in self.points
+                                                  for each in self.rails.members[track])
 
     def _help(self, base: Track) -> str:
         name = f"N{self.names[base]}"

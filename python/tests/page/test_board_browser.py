@@ -9,8 +9,8 @@ import pytest
 pytest.importorskip("flask", reason="the board needs Debian's python3-flask")
 pytest.importorskip("selenium", reason="the browser is driven by Debian's python3-selenium")
 
-from boards import CHROMIUM, DRAWINGS, DRIVER, Served, drawing, served, wait_for  # noqa: E402
-from browsing import Page, browser  # noqa: E402
+from boards import CHROMIUM, DRAWINGS, DRIVER, Served, drawing, wait_for  # noqa: E402
+from browsing import Page  # noqa: E402
 from pertxogai.page.serving import leading_to  # noqa: E402
 from selenium.webdriver.common.by import By  # noqa: E402
 from selenium.webdriver.common.keys import Keys  # noqa: E402
@@ -32,26 +32,6 @@ length C 35
 TYPED = """const area = document.getElementById('text'); area.focus(); area.value = arguments[0];
 area.dispatchEvent(new Event('input'));
 """
-
-
-@pytest.fixture(scope="module")
-def board(program):
-    with served(program) as found:
-        yield found
-
-
-@pytest.fixture(scope="module")
-def window(tmp_path_factory):
-    with browser(tmp_path_factory.mktemp("downloads")) as found:
-        yield found
-
-
-@pytest.fixture
-def page(window: Page, board: Served):
-    window.open(board)
-    window.faults()
-    yield window
-    assert window.faults() == []
 
 
 def keep_picture(page: Page, name: str) -> None:
@@ -409,7 +389,8 @@ def test_a_drag_that_the_browser_ends_leaves_the_drawing(page: Page) -> None:
     page.begin("drawing 1\nsegment A 0 0 40 0\n", "open")
     x, y = _dragged(page, "A.end")
     page.driver.execute_script(
-        "document.getElementById('board').dispatchEvent(new PointerEvent('pointercancel'))")
+        "document.getElementById('board').dispatchEvent("
+        "new PointerEvent('pointercancel', { isPrimary: true }))")
     wait_for("as it was", lambda: page.at("A.end") == pytest.approx((x, y), abs=1))
     page.let_go()
     page.settled()
