@@ -29,12 +29,14 @@ class NotPlaced(Exception):
 @dataclass
 class Judged:
     """A drawing and the judgement on it, by a program that is asked for more. before: the drawing
-    that an edit has made this one from. sight: what the page was told of it last."""
+    that an edit has made this one from. sight, told: what the page was told of it last, and of the
+    judgement on it; None where that was trouble."""
 
     drawing: Drawing
     program: Asks
     before: Drawing = Drawing()
     sight: Sight | None = None
+    told: dict[str, object] | None = None
 
     @cached_property
     def judgement(self) -> Judgement:

@@ -15,6 +15,8 @@ from .panel import Untold, alone_of, excess_told, lines_shown
 from .parts_laid import LaidPart
 
 Json = dict[str, object]
+LONG = "placed", "laid", "colours", "language"
+"""What of a judgement isn't told again to a page that knows it."""
 
 
 def judgement_shown(judgement: Judgement, parts: Iterable[LaidPart]) -> Json:
@@ -33,6 +35,12 @@ def judgement_shown(judgement: Judgement, parts: Iterable[LaidPart]) -> Json:
         "failure": _failure(judgement),
         "language": judgement.asked.spelled.sketch.text(),
     }
+
+
+def without_known(judgement: Json, known: Json | None) -> Json:
+    """A judgement without what is long, and is as it was in one that the page knows."""
+    return {what: now for what, now in judgement.items()
+            if known is None or what not in LONG or now != known[what]}
 
 
 def excess_shown(judgement: Judgement, left: TooMuch | Untold) -> list[Json]:
