@@ -11,8 +11,9 @@ export class Layer {
   show(things) {
     const kept = new Map();
     for (const [key, ...made] of things) {
+      const state = JSON.stringify(made);
       const old = this.kept.get(key);
-      kept.set(key, old && isSame(old.made, made) ? old : { made, node: this.make(...made) });
+      kept.set(key, old?.state === state ? old : { state, node: this.make(...made) });
     }
     for (const [key, old] of this.kept) if (kept.get(key) !== old) old.node.remove();
     this.kept = kept;
@@ -22,12 +23,4 @@ export class Layer {
       else this.node.insertBefore(node, next);
     }
   }
-}
-
-/** Whether two things are made of the same. */
-function isSame(one, other) {
-  if (typeof one !== 'object' || typeof other !== 'object' || !one || !other) return one === other;
-  for (const key in one) if (!isSame(one[key], other[key])) return false;
-  for (const key in other) if (!(key in one)) return false;
-  return true;
 }
