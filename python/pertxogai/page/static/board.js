@@ -1,5 +1,5 @@
 /** The board: the drawing as SVG, faint as drawn beneath what is placed, with its marks. */
-import { svg } from './nodes.js';
+import { svg, byId } from './nodes.js';
 import { View } from './view.js';
 import { Marks, markMade } from './marks.js';
 import { Layer } from './layer.js';
@@ -28,6 +28,7 @@ export class Board {
     Object.assign(this, { node, selection, over: svg('g', { class: 'overlay' }) });
     this.layers = Object.fromEntries(LAYERS.map((kind) => [kind, new Layer(svg('g', { class: kind }), svg)]));
     node.replaceChildren(...Object.values(this.layers).map((layer) => layer.node), this.over);
+    byId('faint').append(this.layers.drawn.node);
     selection.addEventListener('change', () => this.draw());
     new ResizeObserver(() => this.draw()).observe(node);
   }
