@@ -44,8 +44,8 @@ def measure(drawing: Drawing, solution: Solution, before: Drawing = Drawing()) -
     Raises MissingPlace where a place that is spoken of wasn't printed."""
     placed, known = Placed(drawing, solution), _stays(drawing, solution, before)
     found = Measured(solution, tuple(
-        known.get((number, id(constraint))) or _each(number, constraint, amounts(placed, constraint))
-        for number, constraint in enumerate(drawing.constraints, start=1)), _all_implied(placed))
+        known.get((number, id(of))) or _each(number, of, amounts(placed, of))
+        for number, of in enumerate(drawing.constraints, start=1)), _all_implied(placed))
     _last(drawing)[:] = [found]
     return found.all()
 

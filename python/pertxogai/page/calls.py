@@ -114,7 +114,7 @@ def _whole(judged: Judged, before: Judged | None = None, is_known: bool = False)
     try:
         if judged.drawing.geometry:
             shown = judged.shown()
-            judged.told = judgement_shown(judged.judgement, judged.parts)
+            judged.told = judgement_shown(judged.judgement, judged.parts, judged.placed(before))
             known = before.told if before and is_known else None
             answer["judgement"] = without_known(judged.told, known)
     except DrawingRefused as error:

@@ -19,10 +19,10 @@ LONG = "placed", "laid", "colours", "language"
 """What of a judgement isn't told again to a page that knows it."""
 
 
-def judgement_shown(judgement: Judgement, parts: Iterable[LaidPart]) -> Json:
-    """What is judged, and where it is shown. What is left out of what is over isn't told yet."""
-    drawing, solution = judgement.names.drawing, judgement.solution
-    placed = None if solution is None else places_shown(Whereabouts(drawing, solution))
+def judgement_shown(judgement: Judgement, parts: Iterable[LaidPart],
+                    placed: Json | None) -> Json:
+    """What is judged, and where it is shown, as it is placed and by its parts. What is left out of
+    what is over isn't told yet."""
     return {
         "verdict": judgement.verdict.value,
         "lines": lines_shown(judgement),

@@ -224,18 +224,19 @@ class Writer:
         """Draws a point on the other side of its rail where the dimensions put it there."""
         for rail in [*self.names, *self.bars]:
             if isinstance(rail, Rail):
-                for coordinate, offset in self.rails.members[rail].items():
-                    self._settle_way(rail, coordinate, offset - self.rails.offset(rail))
+                self._settle_rail(rail)
 
-    def _settle_way(self, rail: Rail, coordinate: Coordinate, height: Number) -> None:
+    def _settle_rail(self, rail: Rail) -> None:
         a, b = _unit(self._frame(rail).way)
         if rail.upwards:
             a, b = -b, a
-        x, y = self.ways[coordinate.knot]
-        off = a * x + b * y - self._rail_at(rail)
-        if height and (off > 0) != (height > 0):
-            shift = height - off
-            self.ways[coordinate.knot] = (x + a * shift, y + b * shift)
+        at, least = self._rail_at(rail), self.rails.offset(rail)
+        for coordinate, offset in self.rails.members[rail].items():
+            x, y = self.ways[coordinate.knot]
+            height, off = offset - least, a * x + b * y - at
+            if height and (off > 0) != (height > 0):
+                shift = height - off
+                self.ways[coordinate.knot] = (x + a * shift, y + b * shift)
 
     def _rail_at(self, rail: Rail) -> Number:
         """Where a rail is drawn, along the axis that it fixes."""
