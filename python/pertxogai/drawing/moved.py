@@ -2,6 +2,8 @@
 
 from __future__ import annotations
 
+from weakref import ref
+
 from pertxogai.drawing.constraints import (
     Coincident, Concentric, Constraint, Perpendicular, PointOn, Tangent)
 from pertxogai.drawing.geometry import Shape
@@ -19,14 +21,14 @@ def moved(drawing: Drawing, before: Drawing) -> frozenset[str] | None:
     of them or one that is told to be one with theirs; None where the shapes are others, or where
     other points are told to be one."""
     known = _known(drawing)
-    if not known or known[0][0] is not before:
-        known[:] = [(before, _moved(drawing, before))]
+    if not known or known[0][0]() is not before:
+        known[:] = [(ref(before), _moved(drawing, before))]
     return known[0][1]
 
 
 @kept
-def _known(drawing: Drawing) -> list[tuple[Drawing, frozenset[str] | None]]:
-    """What was found against the drawing that was asked for last."""
+def _known(drawing: Drawing) -> list[tuple[ref[Drawing], frozenset[str] | None]]:
+    """What was found against the drawing that was asked for last, which isn't kept by that."""
     return []
 
 
@@ -42,7 +44,7 @@ def _moved(drawing: Drawing, before: Drawing) -> frozenset[str] | None:
         elif any(spot is not None and spot.shape in found for spot in _shared(shape)):
             found.add(shape.name)
     drawing.meets_as(before)
-    found |= {ref.shape for ref, leader in drawing.meetings.led() if leader.shape in found}
+    found |= {led.shape for led, leader in drawing.meetings.led() if leader.shape in found}
     return frozenset(found)
 
 
@@ -59,5 +61,5 @@ def _structure(shape: Shape) -> tuple[object, ...]:
 @kept
 def _shared(shape: Shape) -> tuple[PointRef | None, ...]:
     """The points of others that a shape has for its own, each at its place."""
-    spots = (spot_of(shape, ref.which) for ref in points_of(shape))
+    spots = (spot_of(shape, each.which) for each in points_of(shape))
     return tuple(spot if isinstance(spot, PointRef) else None for spot in spots)

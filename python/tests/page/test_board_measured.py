@@ -2,7 +2,9 @@
 whatever of the drawing before is taken over."""
 from __future__ import annotations
 
+from gc import collect
 from pathlib import Path
+from weakref import ref
 
 import pytest
 from test_board_sight import PATHS, as_drawn, edited
@@ -51,3 +53,13 @@ def test_in_another_frame_all_is_measured_anew() -> None:
     turned = Solution(places.points, places.radii, Frame((0, 0), (0, 1)))
     assert [each.amount for each in measure(drawing, places)][:2] == [0, 0]
     assert [each.amount for each in measure(drawing, turned, drawing)][:2] == [0, 20_000_000]
+
+
+def test_a_drawing_before_is_not_kept() -> None:
+    before = read_drawing(TWO)
+    new = apart(before)
+    assert moved(new, before) == frozenset()
+    gone = ref(before)
+    del before
+    collect()
+    assert gone() is None
