@@ -6,7 +6,6 @@ from collections import Counter
 from collections.abc import Hashable
 from copy import copy
 from dataclasses import dataclass, replace
-from fractions import Fraction
 from typing import NamedTuple, Protocol
 
 from pertxogai.drawing import X_AXIS
