@@ -145,6 +145,7 @@ def test_one_too_many_is_taken_away_again(page: Page) -> None:
 
 def test_of_two_taken_away_before_the_answer_one_goes(page: Page) -> None:
     page.begin(TRIANGLE + "length A 41\n", "over")
+    page.tells("contradiction by 1 mm")
     with page.held("edit"):
         page.click("#verdict [data-spare] button")
         page.click("#verdict [data-spare]:last-child button")
