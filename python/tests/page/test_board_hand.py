@@ -81,6 +81,19 @@ def test_what_is_verified_is_told_of_its_own_drawing(page: Page) -> None:
     page.click("#tab-text")
 
 
+def test_the_steps_are_shown_anew_while_the_claim_is_verified(page: Page) -> None:
+    page.begin(TRIANGLE, "well")
+    page.click("#tab-steps")
+    page.wait("a button", "return document.getElementById('verify')")
+    with page.held("verify"):
+        page.click("#verify")
+        page.click("#tab-text")
+        page.click("#tab-steps")
+    page.wait("a button", "return document.getElementById('verify')")
+    assert page.told("verified") == "" and page.faults() == []
+    page.click("#tab-text")
+
+
 def test_the_other_shape_is_drawn_of_its_own_text_alone(page: Page) -> None:
     page.begin(TRIANGLE, "well")
     page.click("#tab-steps")

@@ -156,9 +156,9 @@ export class Steps {
 
   /** Has what is shown verified as a claim, and tells what is said of it. */
   async verify() {
-    const { text } = this;
-    const found = await this.paper.ask('verify', { text });
-    if (this.text === text) byId('verified').textContent = found.said ?? found.trouble?.message ?? '';
+    const told = byId('verified');
+    const found = await this.paper.ask('verify', { text: this.text });
+    told.textContent = found.said ?? found.trouble?.message ?? '';
   }
 
   /** A step of the tree of merges, with all that it joins below it. */
