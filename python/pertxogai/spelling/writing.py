@@ -17,6 +17,7 @@ from pertxogai.spelling.style import Style
 from pertxogai.values import Form, Number, Told
 
 LEVEL = Lean()
+HALF_SQUARE = Lean(Fraction(45))
 Track = Rail | Line
 """What becomes a line of the sketch: a rail, or a line that leans."""
 
@@ -223,18 +224,19 @@ class Writer:
         """Draws a point on the other side of its rail where the dimensions put it there."""
         for rail in [*self.names, *self.bars]:
             if isinstance(rail, Rail):
-                for coordinate, offset in self.rails.members[rail].items():
-                    self._settle_way(rail, coordinate, offset - self.rails.offset(rail))
+                self._settle_rail(rail)
 
-    def _settle_way(self, rail: Rail, coordinate: Coordinate, height: Number) -> None:
+    def _settle_rail(self, rail: Rail) -> None:
         a, b = _unit(self._frame(rail).way)
         if rail.upwards:
             a, b = -b, a
-        x, y = self.ways[coordinate.knot]
-        off = a * x + b * y - self._rail_at(rail)
-        if height and (off > 0) != (height > 0):
-            shift = height - off
-            self.ways[coordinate.knot] = (x + a * shift, y + b * shift)
+        at, least = self._rail_at(rail), self.rails.offset(rail)
+        for coordinate, offset in self.rails.members[rail].items():
+            x, y = self.ways[coordinate.knot]
+            height, off = offset - least, a * x + b * y - at
+            if height and (off > 0) != (height > 0):
+                shift = height - off
+                self.ways[coordinate.knot] = (x + a * shift, y + b * shift)
 
     def _rail_at(self, rail: Rail) -> Number:
         """Where a rail is drawn, along the axis that it fixes."""
@@ -494,16 +496,20 @@ class Writer:
                 self._told_size(number, equation, told, circuit)
 
     def _told_angle(self, leans: Leans) -> None:
-        """An angle that isn't as others say: as two that are told of two lines of its own."""
+        """An angle that isn't as others say: as theirs and its own, of two lines of help. Where
+        one of these is that of parallels, which is no angle of the language, both are turned."""
         known = self.axes.directions.between(leans.first, leans.second)
-        lean = leans.lean if known is None or known.level() else known
+        assert known is not None
+        turn = next(each for each in (LEVEL, SQUARE, HALF_SQUARE)
+                    if not (known + each).level() and not (leans.lean + each).level())
         names = f"V{len(self.sheet.lines)}", f"W{len(self.sheet.lines)}"
-        zero, ahead = (0, 0), (1000, 0)
-        self.sheet.lines[names[0]] = (zero, ahead)
-        self.sheet.lines[names[1]] = (zero, (Fraction(cos(lean.radians())) * 1000,
-                                             Fraction(sin(lean.radians())) * 1000))
-        for owners in (self.axes.directions.owners(leans.first, leans.second), {leans.owner}):
-            self.sheet.drafts.append(Draft(*names, said_by(owners), ratio=lean.ratio()))
+        radians = (known + turn).radians()
+        self.sheet.lines[names[0]] = ((0, 0), (1000, 0))
+        self.sheet.lines[names[1]] = ((0, 0), (Fraction(cos(radians)) * 1000,
+                                               Fraction(sin(radians)) * 1000))
+        owners = self.axes.directions.owners(leans.first, leans.second)
+        for lean, said in ((known, owners), (leans.lean, {leans.owner})):
+            self.sheet.drafts.append(Draft(*names, said_by(said), ratio=(lean + turn).ratio()))
 
     def _told_height(self, equation: Equation, told: Told, circuit: frozenset[Owner]) -> bool:
         for key, factor in equation.form.terms.items():

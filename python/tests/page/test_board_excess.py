@@ -433,6 +433,17 @@ def test_of_a_plate_that_contradicts_itself(program) -> None:
     assert (found.name, found.conflicts, found.off_um) == ("Top width", True, -1000)
 
 
+def test_of_an_angle_that_contradicts_two_others(program) -> None:
+    """Sides of 50, 30 and 40 mm: the tangent of A and C is 3/4. Where 3000/4001 is told, the end
+    of C is 24/5001 mm off."""
+    text = ("segment A 0 0 50 0\nsegment B A.end 32 24\nsegment C B.end A.start\nlength A 50\n"
+            "angle A B 4/3\nperpendicular B C\nangle A C 3000/4001\n")
+    (found,) = left_out(text, program).dimensions
+    assert (found.number, found.conflicts) == (4, True)
+    (line,) = listed(panel(text, program), "left out")
+    assert line["text"].endswith("a contradiction by 0.0048\u00a0mm")
+
+
 def test_of_a_row_that_repeats_itself(program) -> None:
     row = drawing("over-hole-row")
     found = left_out(row, program)

@@ -200,9 +200,10 @@ function ended(error) {
   return false;
 }
 
-/** An answer with all that it leaves out since it is as it was: lists, and things of a list. */
+/** An answer with all that it leaves out since it is as it was: what is long of the judgement, lists, and things of a list. */
 function completed(answer, known) {
-  const { drawing } = answer;
+  const { drawing, judgement } = answer;
+  if (judgement) answer.judgement = { ...known.judgement, ...judgement };
   for (const [what, old] of Object.entries(drawing ? known.drawing : {})) drawing[what] = drawing[what]?.map((each, place) => each ?? old[place]) ?? old;
   return answer;
 }
