@@ -145,10 +145,15 @@ class _Lowering:
             self._size(Form.of(RadiusOf(shape.name)), shape.radius_um, owner)
 
     def _lean_of(self, arc: Arc) -> Lean:
-        """How an arc's drawn last radius leans against the x axis."""
+        """How an arc's drawn last radius leans against the x axis: where what is joined to it draws
+        its end at its centre, as the arc itself is drawn, of which the centre lies elsewhere."""
         centre, end = self._centre(ShapeRef(arc.name)), self._ends(arc.name)[1]
         line = self._through(centre, end)
         a, b = self.facts.direction(line)
+        if not a and not b:
+            own, tip = (self.drawing.drawn(PointRef(arc.name, each))
+                        for each in (Which.CENTRE, Which.END))
+            a, b = small(tip.x_um - own.x_um), small(tip.y_um - own.y_um)
         denominator = a.denominator * b.denominator
         return Lean.of(Slope(int(b * denominator), int(a * denominator), False))
 
