@@ -71,13 +71,19 @@ class Settling:
             if not self.axes.has_rails(frame, upwards):
                 continue
             across = self._run(frame, not upwards, fact)
-            sign = self.axes.sign(frame, upwards, fact.first, fact.second)
-            along = self._run(frame, upwards, fact) - value.times(sign)
+            along = self._run(frame, upwards, fact)
+            along = along - value.times(self._sign(frame, upwards, fact, reduced(along)))
             for is_so, follows in ((across, along), (along, across)):
                 if reduced(is_so) == Form():
                     self.axes.tell(follows, owners)
                     return True
         return False
+
+    def _sign(self, frame: Frame, upwards: bool, fact: Apart, way: Form) -> int:
+        """Which way along an axis a distance runs: as it is told, else as it is drawn."""
+        if way.terms or not way.number:
+            return self.axes.sign(frame, upwards, fact.first, fact.second)
+        return 1 if way.number > 0 else -1
 
     def _length(self, number: int) -> Form:
         """A distance, which is no less than 0: turned where it is known to come out so, as that of
