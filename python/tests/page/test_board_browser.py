@@ -462,12 +462,12 @@ def test_a_dialog_waits_until_the_one_before_it_is_closed(page: Page) -> None:
     with page.held("open"):
         page.driver.find_element(By.ID, "file").send_keys(str(FILES / "body.FCStd"))
         page.keys("g")
-        page.wait("the gallery", f"{title} === 'Begin from'")
-    page.driver.execute_async_script("setTimeout(arguments[0], 100)")
-    assert page.driver.execute_script(title) == "Begin from"
-    page.driver.switch_to.active_element.send_keys(Keys.ESCAPE)
     page.wait("the file's sketches", f"{title} === 'body.FCStd'")
+    page.driver.execute_async_script("setTimeout(arguments[0], 1000)")
+    assert page.driver.execute_script(title) == "body.FCStd"
     page.driver.switch_to.active_element.send_keys(Keys.ENTER)
+    page.wait("the gallery", f"{title} === 'Begin from'")
+    page.driver.switch_to.active_element.send_keys(Keys.ESCAPE)
     page.wait("a sketch is taken", "return document.getElementById('text').value !== ''")
     assert page.driver.execute_script("return document.getElementById('name').value") == "Sketch"
 
