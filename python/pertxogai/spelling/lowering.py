@@ -8,7 +8,7 @@ from math import atan2, cos, hypot, pi, sin, sqrt
 from pertxogai.drawing import (
     X_AXIS, Y_AXIS, AngleBetween, Arc, Axis, Circle, Coincident, Collinear, Concentric, Constraint,
     Degrees, Diameter, Distance, Drawing, Equal, Fixed, Horizontal, Length, Midpoint, Origin, Pair,
-    Parallel, ParallelDistance, Perpendicular, Place, PointLineDistance, PointOn, PointRef, Radius,
+    Parallel, ParallelDistance, Perpendicular, PointLineDistance, PointOn, PointRef, Radius,
     Segment, Sense, Shape, ShapeRef, Slope, Symmetric, Tangent, Touch, Vertical, Which, XDistance,
     YDistance, moved, points_of, run_um, touch, turn)
 from pertxogai.drawing.spoken import named
