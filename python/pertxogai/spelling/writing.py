@@ -47,13 +47,22 @@ class Care:
 
 
 @dataclass(frozen=True)
+class Behind:
+    """A line of help from which a height is told: so many micrometres of the drawing behind the
+    line of a rail, and as much longer is the height told."""
+
+    rail: str
+    back_um: int
+
+
+@dataclass(frozen=True)
 class Spelled:
     """A drawing in the language. The sketch is `scale` times as large as the drawing.
 
     said: who says each constraint, in their order. points: the name of each knot's point.
     tracks: what each line stands for. left_out: who says something that isn't in the sketch.
     headings: which way each line runs. rounded: values that had to be rounded. coarse: whether an
-    angle is told by the ratio that is next to it."""
+    angle is told by the ratio that is next to it. behind: the lines of help behind a rail."""
 
     style: Style
     sketch: language.Sketch
@@ -65,6 +74,7 @@ class Spelled:
     left_out: frozenset[Owner]
     rounded: tuple[Rounded, ...]
     coarse: bool
+    behind: dict[str, Behind]
 
     @cached_property
     def owners(self) -> tuple[frozenset[Owner], ...]:
@@ -96,6 +106,7 @@ class Writer:
         self.sheet = Sheet()
         self.names: dict[Track, str] = {}
         self.helps: dict[str, Lean] = {}
+        self.behind: dict[str, Behind] = {}
         self.points: dict[Knot, str] = {}
         self.ways: dict[Knot, Spot] = dict(axes.facts.drawn)
         self.left_out: set[Owner] = set()
@@ -151,7 +162,7 @@ class Writer:
         said = tuple(draft.said for draft in self.sheet.drafts)
         left_out = frozenset(self.left_out) | self.rails.lost
         return Spelled(self.style, sketch, scale, said, dict(self.points), tracks, headings,
-                       left_out, rounded, self.coarse)
+                       left_out, rounded, self.coarse, dict(self.behind))
 
     def _heading(self, name: str, track: Track) -> Heading:
         frame = self._frame(track)
@@ -465,8 +476,9 @@ class Writer:
         drawn, name = self._height(rail, knot), self.names[rail]
         if _is_behind(drawn, height):
             back = abs(int(drawn)) + abs(int(height)) + 1000
-            name = self._line_behind(knot, rail, -back if height > 0 else back)
-            height = abs(height) + back
+            behind = self._line_behind(knot, rail, -back if height > 0 else back)
+            self.behind[behind] = Behind(name, back)
+            name, height = behind, abs(height) + back
         self._say(self.points[knot], name, said, height)
 
     def _line_behind(self, knot: Knot, rail: Rail, shift: int) -> str:
