@@ -8,7 +8,7 @@ from math import atan2, cos, hypot, pi, sin, sqrt
 from pertxogai.drawing import (
     X_AXIS, Y_AXIS, AngleBetween, Arc, Axis, Circle, Coincident, Collinear, Concentric, Constraint,
     Degrees, Diameter, Distance, Drawing, Equal, Fixed, Horizontal, Length, Midpoint, Origin, Pair,
-    Parallel, ParallelDistance, Perpendicular, Place, PointLineDistance, PointOn, PointRef, Radius,
+    Parallel, ParallelDistance, Perpendicular, PointLineDistance, PointOn, PointRef, Radius,
     Segment, Sense, Shape, ShapeRef, Slope, Symmetric, Tangent, Touch, Vertical, Which, XDistance,
     YDistance, moved, points_of, run_um, touch, turn)
 from pertxogai.drawing.spoken import named
@@ -135,20 +135,18 @@ class _Lowering:
         refs = points_of(shape)
         if isinstance(shape, Arc):
             refs = refs[:2]
-            self._say(Leans(X_AXIS,
-                            Between(self._centre(ShapeRef(shape.name)), self._ends(shape.name)[1]),
-                            self._lean_of(shape), owner))
-        for ref in dict.fromkeys(map(self._knot, refs)):
-            x, y = self.facts.drawn[ref]
-            self._say(Stays(ref, Place(Fraction(x), Fraction(y)), owner))
+            line = self._through(self._centre(ShapeRef(shape.name)), self._ends(shape.name)[1])
+            self._say(Leans(X_AXIS, line, self._lean_of(shape), owner))
+        for ref in refs:
+            self._stays_at(ref, owner)
         if isinstance(shape, Circle):
             self._size(Form.of(RadiusOf(shape.name)), shape.radius_um, owner)
 
     def _lean_of(self, arc: Arc) -> Lean:
         """How an arc's drawn last radius leans against the x axis."""
-        centre, end = self._centre(ShapeRef(arc.name)), self._ends(arc.name)[1]
-        line = self._through(centre, end)
-        a, b = self.facts.direction(line)
+        centre, end = (self.drawing.drawn(PointRef(arc.name, each))
+                       for each in (Which.CENTRE, Which.END))
+        a, b = end.x_um - centre.x_um, end.y_um - centre.y_um
         denominator = a.denominator * b.denominator
         return Lean.of(Slope(int(b * denominator), int(a * denominator), False))
 
@@ -352,5 +350,8 @@ class _Lowering:
             if not isinstance(shape, (Origin, Axis)):
                 self._stays(shape, owner)
             return
-        x, y = self.facts.drawn[self._knot(what)]
-        self._say(Stays(self._knot(what), Place(Fraction(x), Fraction(y)), owner))
+        self._stays_at(what, owner)
+
+    def _stays_at(self, ref: PointRef, owner: Owner) -> None:
+        """A point stays where it is drawn itself, whatever is joined to it."""
+        self._say(Stays(self._knot(ref), self.drawing.drawn(ref), owner))

@@ -9,7 +9,7 @@ import pytest
 pytest.importorskip("flask", reason="the board needs Debian's python3-flask")
 pytest.importorskip("selenium", reason="the browser is driven by Debian's python3-selenium")
 
-from boards import CHROMIUM, DRAWINGS, DRIVER, Served, drawing, wait_for  # noqa: E402
+from boards import CHROMIUM, DRAWINGS, DRIVER, FILES, Served, drawing, wait_for  # noqa: E402
 from browsing import Page  # noqa: E402
 from pertxogai.page.serving import leading_to  # noqa: E402
 from selenium.webdriver.common.by import By  # noqa: E402
@@ -456,6 +456,21 @@ def test_behind_a_dialog_nothing_is_drawn_or_opened(page: Page) -> None:
     page.verdict("empty")
     page.driver.execute_script(drops)
     page.wait("the file", "return document.getElementById('text').value.includes('point P')")
+
+
+def test_a_dialog_waits_until_the_one_before_it_is_closed(page: Page) -> None:
+    title = "return document.getElementById('dialog-title').textContent"
+    with page.held("open"):
+        page.driver.find_element(By.ID, "file").send_keys(str(FILES / "body.FCStd"))
+        page.keys("g")
+    page.wait("the file's sketches", f"{title} === 'body.FCStd'")
+    page.driver.execute_async_script("setTimeout(arguments[0], 1000)")
+    assert page.driver.execute_script(title) == "body.FCStd"
+    page.driver.switch_to.active_element.send_keys(Keys.ENTER)
+    page.wait("the gallery", f"{title} === 'Begin from'")
+    page.driver.switch_to.active_element.send_keys(Keys.ESCAPE)
+    page.wait("a sketch is taken", "return document.getElementById('text').value !== ''")
+    assert page.driver.execute_script("return document.getElementById('name').value") == "Sketch"
 
 
 def test_panning_by_the_keyboard(page: Page) -> None:
