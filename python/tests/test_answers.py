@@ -121,6 +121,16 @@ def test_what_is_told_on_the_other_side_contradicts(program, text, off_mm):
     assert last.off.amount == off_mm * 1_000_000 and last.repeats() is (off_mm == 0)
 
 
+def test_what_is_spare_then_goes_only_where_it_is_not_needed_in_part(program):
+    """Without the symmetry the segment is vertical twice, and all that may go of it is that it is
+    told to be so: as fixed it is needed for its places."""
+    text = ("segment L 10 0 10 20\nvertical L\nfixed L\n"
+            "symmetric L.start L.end about XAxis\n")
+    found = judge(read_drawing(text), program)
+    assert [(each.number, each.off.amount) for each in found.surplus] == [
+        (1, 0), (3, 20_000_000)]  # The image of (10, 0) is itself, 20 mm from (10, 20).
+
+
 @pytest.mark.parametrize("text, place, at", [
     ("point A 5 0\nx A 5\ny A -20\n", "A", (5, -20)),
     ("point A 0 5\nx A -20\ny A 5\n", "A", (-20, 5)),

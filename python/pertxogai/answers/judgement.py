@@ -25,6 +25,8 @@ HOLDS_NM = 1
 """What was left out holds where it is off by no more."""
 TRIED = 12
 """So many dimensions at most are left out by turns."""
+NEXT_TRIED = 4
+"""So many at most are tried as the next that goes too."""
 
 
 @dataclass(frozen=True)
@@ -227,17 +229,24 @@ def _rest_without(drawing: Drawing, number: int, program: Asks,
     """What is well of a drawing without a constraint, and without more of what is spare then,
     where the rest is still over; None where the rest is open, so that the constraint can't go."""
     gone = [number]
+    rest, kept = _without(drawing, gone)
+    asked = ask_styles(rest, program, False)
     for _ in range(depth):
-        rest, kept = _without(drawing, gone)
-        asked = ask_styles(rest, program, False)
         if asked.verdict is not Verdict.OVER:
-            return (rest, asked) if asked.verdict is Verdict.WELL else None
+            break
         spare = _spare(Judgement(Verdict.OVER, asked,
                                  Names(rest, asked.spelled, asked.axes.facts.refs)), program)
-        if not spare:
+        # The last one that isn't needed in part.
+        for each in spare[:-NEXT_TRIED - 1:-1]:
+            without = [*gone, kept[each - 1]]
+            less, fewer = _without(drawing, without)
+            asked = ask_styles(less, program, False)
+            if asked.verdict is not Verdict.OPEN:
+                gone, rest, kept = without, less, fewer
+                break
+        else:
             return None
-        gone.append(kept[spare[-1] - 1])
-    return None
+    return (rest, asked) if asked.verdict is Verdict.WELL else None
 
 
 def _off(drawing: Drawing, number: int, rest: Drawing, asked: Asked) -> Deviation | None:
