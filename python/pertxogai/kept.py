@@ -12,7 +12,7 @@ Value = TypeVar("Value")
 def kept(of: Callable[[Thing], Value]) -> Callable[[Thing], Value]:
     """A function of one frozen dataclass, which keeps its answer beside the fields of the thing:
     so what an edit leaves as it was isn't worked out again."""
-    name = f"_{of.__name__}"
+    name = f"{of.__module__}.{of.__name__}"
 
     @wraps(of)
     def found(thing: Thing) -> Value:

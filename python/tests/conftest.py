@@ -1,13 +1,19 @@
-"""What several tests need: the program under test, and the worked rows."""
+"""What several tests need: the program under test, the worked rows, and a board in a browser."""
 from __future__ import annotations
 
 import re
+from collections.abc import Iterator
 from dataclasses import dataclass
 from pathlib import Path
+from typing import TYPE_CHECKING
 
 import pytest
 
 from pertxogai.program import Answer, Program, Status
+
+if TYPE_CHECKING:
+    from boards import Served
+    from browsing import Page
 
 TESTS = Path(__file__).resolve().parent
 TOP = TESTS.parents[1]
@@ -58,3 +64,28 @@ EXAMPLES = sorted((TOP / "examples").rglob("*.sketch"))
 def program() -> Program:
     """The program under test: that of PERTXOGAI_SKETCH, or the repository's build."""
     return Program.find()
+
+
+@pytest.fixture(scope="module")
+def board(program: Program) -> Iterator[Served]:
+    """A board that is served."""
+    from boards import served
+    with served(program) as found:
+        yield found
+
+
+@pytest.fixture(scope="module")
+def window(tmp_path_factory: pytest.TempPathFactory) -> Iterator[Page]:
+    """A browser."""
+    from browsing import browser
+    with browser(tmp_path_factory.mktemp("downloads")) as found:
+        yield found
+
+
+@pytest.fixture
+def page(window: Page, board: Served) -> Iterator[Page]:
+    """The board, opened anew with nothing kept; the browser may complain of nothing."""
+    window.open(board)
+    window.faults()
+    yield window
+    assert window.faults() == []

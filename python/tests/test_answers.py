@@ -12,7 +12,7 @@ from pertxogai.answers.faults import Unit as Measure
 from pertxogai.answers.warnings import warnings
 from pertxogai.drawing import PointRef, Which, read_drawing
 from pertxogai.measure import Solution, Unit
-from pertxogai.reports import Verdict
+from pertxogai.reports import Verdict, read_excess
 from pertxogai.spelling import Style
 from pertxogai.told import JudgedDrawing, drawing_json, told
 
@@ -21,6 +21,11 @@ coincident PlateBottom.start Origin
 Width: length PlateTop 60
 Height: length PlateLeft 40
 """
+
+
+def ref_of(word: str) -> PointRef:
+    name, _, which = word.partition(".")
+    return PointRef(name, Which(which or "at"))
 
 
 def test_a_plate_is_well_and_placed_in_the_datums_frame(program):
@@ -81,6 +86,78 @@ def test_a_dimension_that_contradicts_is_off_by_the_difference(program):
     names = {each.name: each for each in found.surplus}
     assert names["Again"].repeats() is False and names["Again"].off.amount == 5000
     assert names["Width"].off.amount == 5000
+
+
+ROW = "point A 0 0\npoint B 20 0\npoint C 40 0\nfixed A\ny B 0\ny C 0\nx A B +20\nx B C +20\n"
+RIMS = "circle C 0 0 10\nfixed C.centre\nradius C 10\ncircle D 5 0 20\nradius D 5\ntangent C D\n"
+PAIR = "point A 10 5\npoint B 20 5\nfixed A\nfixed B\n"
+
+
+@pytest.mark.parametrize("text, off_mm", [
+    ("point A 20 0\nfixed A\nx A -20\n", 40),  # At 20, and told at -20.
+    ("point A 20 0\ny A 0\nx A 20\nx A -20\n", 40),
+    ("point A 20 0\ny A 0\nx A -20\nx A -20\n", 0),
+    ("point A 5 7\nx A 5\ny A -7\ny A 8\n", 15),
+    ("segment L 0 0 40 30\nfixed L\npoint A -3 4\nx A -3\ny A 4\ny A -4\n", 8),
+    (ROW + "x A C -40\n", 80),  # C lies at 40.
+    (ROW + "x A C +40\n", 0),
+    (PAIR + "symmetric A B about YAxis\n", 30),  # The image of B is at -20, and A at 10.
+    (PAIR + "coincident B A\n", 10),
+    (RIMS + "fixed D.centre\n", 0),  # The centres are 10 - 5 apart, whatever is drawn.
+    ("point P 10 0\ny P 0\nx P -20\ndistance Origin P 20\n", 0),  # A distance has no side.
+    ("point P 10 0\ny P 0\nx P -20\ndistance Origin P 30\n", 10),
+    ("point P 10 0\ny P 0\nx P -20\ncircle C 0 0 5\ncoincident C.centre Origin\non P C\n"
+     "radius C 18\n", 2),
+])
+def test_what_is_told_on_the_other_side_contradicts(program, text, off_mm):
+    """By the whole way across, as the program measures it on what it places."""
+    found = judge(read_drawing(text), program)
+    assert found.verdict is Verdict.OVER
+    answer = program.ask(("excess", "within=1000"), found.asked.spelled.sketch.text())
+    left_out = [each for part in read_excess(answer.text).parts for each in part.left_out]
+    scale = found.asked.spelled.scale
+    assert max(abs(each.off.amount) for each in left_out) == off_mm * 1_000_000 * scale
+    last = found.surplus[-1]
+    assert last.off.amount == off_mm * 1_000_000 and last.repeats() is (off_mm == 0)
+
+
+def test_what_is_spare_then_goes_only_where_it_is_not_needed_in_part(program):
+    """Without the symmetry the segment is vertical twice, and all that may go of it is that it is
+    told to be so: as fixed it is needed for its places."""
+    text = ("segment L 10 0 10 20\nvertical L\nfixed L\n"
+            "symmetric L.start L.end about XAxis\n")
+    found = judge(read_drawing(text), program)
+    assert [(each.number, each.off.amount) for each in found.surplus] == [
+        (1, 0), (3, 20_000_000)]  # The image of (10, 0) is itself, 20 mm from (10, 20).
+
+
+@pytest.mark.parametrize("text, place, at", [
+    ("point A 5 0\nx A 5\ny A -20\n", "A", (5, -20)),
+    ("point A 0 5\nx A -20\ny A 5\n", "A", (-20, 5)),
+    ("point A 0 5\nx A 20\ny A 5\n", "A", (20, 5)),
+    ("point P 10 0\ny P 0\nx P -20\ncircle C 0 0 5\ncoincident C.centre Origin\non P C\n",
+     "P", (-20, 0)),
+    ("circle C 0 0 10\nfixed C.centre\nradius C 10\ncircle D 5 0 20\ny D.centre 0\nradius D 5\n"
+     "tangent C D\n", "D.centre", (5, 0)),
+])
+def test_a_point_lies_where_it_is_told_whatever_side_is_drawn(program, text, place, at):
+    """Also where it is drawn on the line from which it is told."""
+    found = judge(read_drawing(text), program)
+    assert found.verdict is Verdict.WELL
+    spot = found.solution.spot(ref_of(place))
+    assert spot == (at[0] * 1_000_000, at[1] * 1_000_000)
+    assert not any(each.amount for each in found.deviations)
+
+
+def test_an_arc_whose_end_is_drawn_at_its_centre_by_what_is_joined_to_it(program):
+    """The last radius leans as the arc itself is drawn: 12 mm to the left and 3 mm down."""
+    text = "point P 0 0\narc A 12 3 10 3 0 0\nfixed A\ncoincident P A.centre\n"
+    found = judge(read_drawing(text), program)
+    assert found.verdict is Verdict.WELL
+    assert found.solution.spot(ref_of("A.centre")) == (12_000_000, 3_000_000)
+    assert found.solution.spot(ref_of("A.start")) == (10_000_000, 3_000_000)
+    x, y = found.solution.spot(ref_of("A.end"))  # 2 mm from the centre, of which 8/√17 to the left.
+    assert (x, y) == pytest.approx((12_000_000 - 1_940_285, 3_000_000 - 485_071), abs=2)
 
 
 def test_a_surplus_that_is_no_line_of_x_or_y_is_the_programs_too(program):
@@ -286,3 +363,12 @@ def test_json_tells_what_is_left_out_and_what_of_it_holds(program):
     found = drawing_json(JudgedDrawing("half", drawing, judge(drawing, program)))
     assert found["left_out"] == found["left_out_but_holds"] == ["Half"]
     assert found["exact"] is False and found["spelled"] == "values"
+
+
+@pytest.mark.parametrize("text, verdict", [
+    ("segment A 2 0 9 9\nx A.start 2\n", Verdict.OPEN),
+    ("point A 2 0\npoint B 5 5\ny A 2\n", Verdict.OPEN),
+    ("point A 2 0\nx A 2\nx A 3\n", Verdict.OVER),
+])
+def test_what_is_told_from_one_axis_alone_is_judged(program, text, verdict):
+    assert judge(read_drawing(text), program).verdict is verdict

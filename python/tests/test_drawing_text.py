@@ -245,6 +245,7 @@ REFUSED = [
      "write Fillet.centre or Fillet.start or Fillet.end"),
     ("distance Bottom Bottom.end 4", "Bottom.end", "a point of Bottom itself"),
     ("angle Bottom Right 60", "60", "write 60deg, or a ratio as 1/2"),
+    ("angle Bottom Right 60mm", "60mm", "write degrees, as 60deg"),
     ("angle Bottom Right 0deg", "0deg", "write `parallel` instead"),
     ("angle Bottom Right 0/3", "0/3", "write `parallel` instead"),
     ("angle Bottom Right +180deg", "+180deg", "write `parallel` instead"),

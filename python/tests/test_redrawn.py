@@ -117,12 +117,13 @@ def test_what_shares_a_point_that_is_drawn_elsewhere() -> None:
     assert spelled(larger, drawing) == spelled(read_drawing(write_drawing(larger)))
 
 
-@pytest.mark.parametrize("text", [
-    "segment A 0 0 40 0\nouter segment B A.end 40 30\n",
-    "segment A 0 0 40 0\nouter segment B 40 0 40 30\ncoincident A.end B.start\n",
+@pytest.mark.parametrize("text, x_um", [
+    ("segment A 0 0 40 0\nouter segment B A.end 40 30\n", 50_000),
+    ("segment A 0 0 40 0\nouter segment B 40 0 40 30\ncoincident A.end B.start\n", 40_000),
 ], ids=["shared", "coincident"])
-def test_what_is_given_from_outside_stays_where_it_is_drawn_then(text: str) -> None:
-    """Its point is drawn where the end of another is, which moves."""
+def test_what_is_given_from_outside_stays_where_it_is_drawn_then(text: str, x_um: int) -> None:
+    """The end of another moves, where its point is drawn; a point that is drawn by itself and
+    joined to that end stays."""
     drawing = read_drawing(text)
     spelled(drawing)
     there = Place(Fraction(50_000), Fraction(0))
@@ -130,7 +131,8 @@ def test_what_is_given_from_outside_stays_where_it_is_drawn_then(text: str) -> N
     found = lowered(longer, drawing)
     start = found.refs[PointRef("B", Which.START)]
     assert [fact.place for fact in found.facts
-            if isinstance(fact, Stays) and fact.point == start] == [there]
+            if isinstance(fact, Stays) and fact.point == start] == [
+                Place(Fraction(x_um), Fraction(0))]
     assert found == lowered(read_drawing(write_drawing(longer)))
     assert spelled(longer, drawing) == spelled(read_drawing(write_drawing(longer)))
 

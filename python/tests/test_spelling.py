@@ -17,7 +17,8 @@ from pertxogai.drawing import Degrees, PointRef, Slope, Which, read_drawing, um_
 from pertxogai.language import Angle
 from pertxogai.measure import Unit, measure
 from pertxogai.reports import Solved, Verdict
-from pertxogai.spelling import Style, axes_of, spell
+from pertxogai.spelling import Care, Rails, Style, axes_of, spell, written
+from pertxogai.spelling.facts import Owner
 from pertxogai.spelling.lean import SQUARE, Lean
 
 VALUES, NEAR, GRID, FEET = Style.VALUES, Style.VALUES_NEAR, Style.GRID, Style.FEET
@@ -173,6 +174,8 @@ def test_leans_add_up_exactly():
     assert (Lean.of(Slope(3, 4, False)) + Lean.of(Slope(4, 3, False))).upright()
     assert Lean.of(Slope(1, 1, False)).degrees == 45
     assert (Lean.of(Slope(3, 4, True)) + -Lean.of(Slope(3, 4, False))).level()
+    assert SQUARE + Lean.of(Slope(-4, 3, False)) == Lean.of(Slope(3, 4, False))
+    assert Lean.of(Degrees(Fraction(45))) + Lean.of(Slope(3, 4, False)) == Lean.of(Slope(7, 1, False))
 
 
 @pytest.mark.parametrize("degrees, ratio",
@@ -193,6 +196,37 @@ def test_two_ratios_are_finer_than_one():
     first, second = lean.halves()
     assert abs(first.radians() + second.radians() - lean.radians()) % pi < 1e-9
     assert Angle("A", "B", *first.ratio()) and Angle("A", "B", *second.ratio())
+
+
+THREE_FOUR_FIVE = """segment A 0 0 50 0
+segment B A.end 32 24
+segment C B.end A.start
+length A 50
+angle A B 4/3
+perpendicular B C
+"""
+PARALLELS = "segment A 0 0 50 0\nsegment B 0 20 50 21\nlength A 50\nparallel A B\n"
+
+
+@pytest.mark.parametrize("text, follows, told", [
+    (THREE_FOUR_FIVE + "angle A C 3000/4001", (3, 4), (3000, 4001)),
+    (THREE_FOUR_FIVE + "perpendicular A C", (3, 4), (1, 0)),
+    (THREE_FOUR_FIVE + "parallel A C", (-4, 3), (1, 0)),
+    (PARALLELS + "angle A B 1/100", (1, 0), (-100, 1)),
+    (PARALLELS + "perpendicular A B", (1, 1), (-1, 1)),
+])
+def test_a_contradicting_angle_is_spelled_as_it_is_told(text, follows, told):
+    """Beside what follows from the others; with parallels both are turned, by 90 or 45 degrees."""
+    axes = axes_of(read_drawing(text))
+    spelled = written(axes, Rails(axes, VALUES), VALUES, Care(insist=True))
+    *_, first, second = spelled.sketch.constraints
+    assert (first, second) == (Angle("V3", "W3", *follows), Angle("V3", "W3", *told))
+    assert spelled.owners[-1] == {Owner(len(read_drawing(text).constraints))}
+
+
+def test_an_angle_that_follows_is_no_contradiction():
+    axes = axes_of(read_drawing(THREE_FOUR_FIVE + "angle A C 3/4"))
+    assert not axes.conflicts() and axes.repeats() == {Owner(4)}
 
 
 def polygon(count: int, start: str, asked: str) -> str:
@@ -223,3 +257,9 @@ def test_regular_polygons_are_placed(text, place, at, program):
     assert all(each.amount <= 2 for each in found.deviations if each.unit is Unit.NM)
     spot = found.solution.spot(ref_of(place))
     assert max(abs(spot[0] - at[0]), abs(spot[1] - at[1])) <= 2
+
+
+@pytest.mark.parametrize("style", ALL)
+def test_a_way_from_one_axis_alone_is_spelled_in_each_style(style):
+    told = spell(read_drawing("point A 2 0\nx A 2\n"), style).sketch.text()
+    assert "distance P1 Y 2\n" in told

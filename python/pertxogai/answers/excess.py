@@ -10,7 +10,7 @@ from fractions import Fraction
 from pertxogai import language
 from pertxogai.answers.asking import Place, written_by
 from pertxogai.answers.naming import Names
-from pertxogai.answers.own_lines import times_said
+from pertxogai.answers.own_lines import off_um
 from pertxogai.program import Asks
 from pertxogai.reports import Excessive, OverPart, read_excess
 from pertxogai.spelling.facts import Owner
@@ -166,11 +166,6 @@ def _excess(names: Names, number: int, each: Excessive, owners: frozenset[Owner]
     name, off = names.drawing.called(number), each.off
     if off is None:
         return Excess(number, name)
-    off_um = None
-    if isinstance(each.constraint, language.Distance) and owners == {Owner(number)}:
-        said_nm = 1000 * each.constraint.length_um
-        times = times_said(names, number, each.constraint)
-        # A height that the others turn over is below zero; what a dimension says has no side.
-        off_nm = Fraction(abs(said_nm + off.amount) - said_nm, names.spelled.scale)
-        off_um = times * off_nm / 1000 if times else None
-    return Excess(number, name, off.conflicts, off_um)
+    own = isinstance(each.constraint, language.Distance) and owners == {Owner(number)}
+    return Excess(number, name, off.conflicts,
+                  off_um(names, number, each.constraint, off.amount) if own else None)

@@ -12,7 +12,7 @@ from pertxogai.answers.missing import Missing, missing
 from pertxogai.answers.naming import Names
 from pertxogai.answers.solution import solution_of
 from pertxogai.answers.warnings import Warning, warnings
-from pertxogai.drawing import Circle, Drawing
+from pertxogai.drawing import Circle, Drawing, moved
 from pertxogai.measure import Deviation, Solution, Unit, greatest, measure
 from pertxogai.program import Asks
 from pertxogai.reports import Solved, Verdict, read_plan, read_spare
@@ -25,6 +25,8 @@ HOLDS_NM = 1
 """What was left out holds where it is off by no more."""
 TRIED = 12
 """So many dimensions at most are left out by turns."""
+NEXT_TRIED = 4
+"""So many at most are tried as the next that goes too."""
 
 
 @dataclass(frozen=True)
@@ -149,12 +151,13 @@ def judge_at_once(drawing: Drawing, program: Asks, freeze: bool = False,
     drawing has more points or constraints than the program takes, or makes both ends of a shape
     one; Refusal where the program refuses the spelled sketch; NotHeld where a place or length is
     larger than the language holds."""
+    moved(drawing, before)  # From then on the drawing has the meetings of the one before.
     check_fits(drawing)
     asked = ask_styles(drawing, program, freeze, before)
     names = Names(drawing, asked.spelled, asked.axes.facts.refs)
     judged = Judgement(asked.verdict, asked, names)
     if asked.check is None:
-        return _placed(judged, drawing, program)
+        return _placed(judged, before, program)
     if asked.verdict is Verdict.OPEN:
         return replace(judged, missing=missing(names, asked.check))
     return replace(judged, surplus=tuple(Surplus(number, drawing.called(number), None)
@@ -167,17 +170,17 @@ def with_counts(judged: Judgement, program: Asks) -> Judgement:
     return replace(judged, asked=counted(judged.asked, program))
 
 
-def _placed(judged: Judgement, drawing: Drawing, program: Asks) -> Judgement:
+def _placed(judged: Judgement, before: Drawing, program: Asks) -> Judgement:
     solved = judged.asked.solved
     if isinstance(solved, Solved):
-        judged = _measured(judged, drawing)
+        judged = _measured(judged, before)
         if not any(each.amount > FINE_NM for each in judged.deviations):
             return judged
         asked = finer(judged.asked, program)
         if asked is judged.asked:
             return judged
         fine = _measured(replace(judged, asked=asked,
-                                 names=replace(judged.names, spelled=asked.spelled)), drawing)
+                                 names=replace(judged.names, spelled=asked.spelled)), before)
         return min((judged, fine), key=_greatest)
     if solved is None:
         return judged
@@ -185,12 +188,13 @@ def _placed(judged: Judgement, drawing: Drawing, program: Asks) -> Judgement:
     return replace(judged, failure=failure(judged.names, solved, plan))
 
 
-def _measured(judged: Judgement, drawing: Drawing) -> Judgement:
+def _measured(judged: Judgement, before: Drawing) -> Judgement:
     """With the places in the datum's frame, and all that is measured on them."""
     if not isinstance(judged.asked.solved, Solved):
         return judged
+    drawing = judged.names.drawing
     solution = solution_of(drawing, judged.asked, judged.asked.solved)
-    return replace(judged, solution=solution, deviations=measure(drawing, solution),
+    return replace(judged, solution=solution, deviations=measure(drawing, solution, before),
                    warnings=warnings(drawing, solution, not judged.asked.spelled.tied()))
 
 
@@ -225,17 +229,24 @@ def _rest_without(drawing: Drawing, number: int, program: Asks,
     """What is well of a drawing without a constraint, and without more of what is spare then,
     where the rest is still over; None where the rest is open, so that the constraint can't go."""
     gone = [number]
+    rest, kept = _without(drawing, gone)
+    asked = ask_styles(rest, program, False)
     for _ in range(depth):
-        rest, kept = _without(drawing, gone)
-        asked = ask_styles(rest, program, False)
         if asked.verdict is not Verdict.OVER:
-            return (rest, asked) if asked.verdict is Verdict.WELL else None
+            break
         spare = _spare(Judgement(Verdict.OVER, asked,
                                  Names(rest, asked.spelled, asked.axes.facts.refs)), program)
-        if not spare:
+        # The last one that isn't needed in part.
+        for each in spare[:-NEXT_TRIED - 1:-1]:
+            without = [*gone, kept[each - 1]]
+            less, fewer = _without(drawing, without)
+            asked = ask_styles(less, program, False)
+            if asked.verdict is not Verdict.OPEN:
+                gone, rest, kept = without, less, fewer
+                break
+        else:
             return None
-        gone.append(kept[spare[-1] - 1])
-    return None
+    return (rest, asked) if asked.verdict is Verdict.WELL else None
 
 
 def _off(drawing: Drawing, number: int, rest: Drawing, asked: Asked) -> Deviation | None:

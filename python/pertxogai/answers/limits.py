@@ -2,7 +2,7 @@
 or since no sketch can say them."""
 from __future__ import annotations
 
-from pertxogai.drawing import ORIGIN, Drawing, ends_made_one
+from pertxogai.drawing import Drawing, ends_made_one
 from pertxogai.drawing.reading import MOST_CONSTRAINTS
 
 MOST_ELEMENTS = 2_000
@@ -17,9 +17,9 @@ def check_fits(drawing: Drawing) -> None:
     """Raises DrawingRefused where a drawing has more points, or more constraints, than the
     program takes, or a segment or arc of which both ends are told to be one point. Each point
     that isn't the origin is an element of the sketch."""
-    leaders = {drawing.meetings.leader(ref) for ref in drawing.points()} - {ORIGIN}
-    if len(leaders) > MOST_ELEMENTS:
-        raise DrawingRefused(f"{len(leaders)} points are drawn, and the program takes "
+    points = drawing.meetings.count()
+    if points > MOST_ELEMENTS:
+        raise DrawingRefused(f"{points} points are drawn, and the program takes "
                              f"{MOST_ELEMENTS} points and lines: split the drawing")
     if len(drawing.constraints) > MOST_CONSTRAINTS:
         raise DrawingRefused(f"{len(drawing.constraints)} constraints are asked for, and the "

@@ -32,14 +32,14 @@ def solution_of(drawing: Drawing, asked: Asked, solved: Solved) -> Solution:
 def _radius(drawing: Drawing, asked: Asked, points: dict[PointRef, Spot],
             shape: Circle | Arc) -> Number:
     """A radius that is told; else by a placed point on the rim; else as it is drawn."""
-    form = Form.of(RadiusOf(shape.name))
-    told = asked.rails.number(form)
+    size = RadiusOf(shape.name)
+    told = asked.rails.size(size)
     if told is not None:
         return _whole(told * 1000)
     spots = {knot: points[ref] for ref, knot in asked.axes.facts.refs.items() if ref != ORIGIN}
     spots[ORIGIN_KNOT] = (0, 0)
     for fact in asked.axes.facts.facts:
-        if isinstance(fact, Apart) and fact.value == form:
+        if isinstance(fact, Apart) and fact.value == Form.of(size):
             return _apart(spots[fact.first], spots[fact.second])
     return _whole(drawing.drawn_radius_um(shape.name) * 1000)
 

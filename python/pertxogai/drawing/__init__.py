@@ -9,6 +9,7 @@ from pertxogai.drawing.geometry import (
     Arc, Axis, Circle, Datum, Origin, Point, Segment, Shape, Spot)
 from pertxogai.drawing.conveniences import Said, polyline, rectangle
 from pertxogai.drawing.meetings import Meetings
+from pertxogai.drawing.moved import moved
 from pertxogai.drawing.reading import read_drawing
 from pertxogai.drawing.refusal import DrawingRefusal, DrawingUnsound, WordFault
 from pertxogai.drawing.places import Place, place_mm, um_of_mm
@@ -29,7 +30,7 @@ __all__ = [
     "Perpendicular", "Place", "Point", "PointLineDistance", "PointOn", "PointRef", "Radius",
     "Ratio", "Said", "Scene", "Segment", "Sense", "Shape", "ShapeRef", "Slope", "Spot",
     "Symmetric", "Tangent", "Touch", "Turn", "Vertical", "Which", "WordFault", "XDistance",
-    "X_AXIS", "YDistance", "Y_AXIS", "checked", "ends_made_one", "faults", "line_of", "place_mm",
-    "points_of", "polyline", "read_drawing", "rectangle", "run_um", "spot_of", "touch", "turn", "um_of_mm",
+    "X_AXIS", "YDistance", "Y_AXIS", "checked", "ends_made_one", "faults", "line_of", "moved",
+    "place_mm", "points_of", "polyline", "read_drawing", "rectangle", "run_um", "spot_of", "touch", "turn", "um_of_mm",
     "way", "words_of", "write_drawing",
 ]

@@ -3,6 +3,7 @@
 from __future__ import annotations
 
 from collections.abc import Iterator
+from copy import copy
 from typing import TYPE_CHECKING
 
 from pertxogai.drawing.constraints import (
@@ -29,6 +30,20 @@ class Meetings:
             self._join(pair)
         self._on = {(self.leader(each.point), each.curve) for each in drawing.constraints
                     if isinstance(each, PointOn)}
+
+    def redrawn(self, drawing: Drawing) -> Meetings:
+        """Those of a drawing in which the same points are one, drawn elsewhere."""
+        other = copy(self)
+        other._drawing, other._ahead = drawing, {}
+        return other
+
+    def count(self) -> int:
+        """How many points there are beside the origin, where those that are one count once."""
+        return len(self._rank) - 1 - len(self._leader)
+
+    def led(self) -> Iterator[tuple[PointRef, PointRef]]:
+        """Each point that is one with an earlier one, with the first of these."""
+        return ((point, self.leader(point)) for point in self._leader)
 
     def leader(self, point: PointRef) -> PointRef:
         """The first of the points that are one with this one; the origin comes before all."""

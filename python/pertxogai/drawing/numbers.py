@@ -59,7 +59,7 @@ def read_angle(word: str) -> AngleValue:
         return Degrees(-value if degrees[1] == "-" else value)
     if ratio is not None:
         return _ratio(word, -1 if ratio[1] == "-" else 1, int(ratio[2]), int(ratio[3]))
-    if _NUMBER.match(word):
+    if _NUMBER.match(word) and word[-1].isdigit():
         raise WordFault(word, f"is no angle: write {word}deg, or a ratio as 1/2")
     raise WordFault(word, "is no angle: write degrees, as 60deg, or a ratio, as 1/2")
 

@@ -12,8 +12,9 @@ from pertxogai.drawing.geometry import Datum, Shape
 from pertxogai.drawing.meetings import Meetings
 from pertxogai.drawing.places import Place
 from pertxogai.drawing.references import Pair, PointRef
-from pertxogai.drawing.scene import Scene, points_of, spot_of
+from pertxogai.drawing.scene import Scene, points_of, shares, spot_of
 from pertxogai.drawing.wording import words_of
+from pertxogai.kept import kept
 
 
 @dataclass(frozen=True)
@@ -53,6 +54,10 @@ class Drawing:
         """Which points are one."""
         return Meetings(self)
 
+    def meets_as(self, before: Drawing) -> None:
+        """Takes over which points are one from a drawing in which the same are."""
+        vars(self).setdefault("meetings", before.meetings.redrawn(self))
+
     @cached_property
     def wordings(self) -> tuple[str, ...]:
         """The words of each constraint, without its name, in their order."""
@@ -85,9 +90,9 @@ class Drawing:
         for shape in self.geometry:
             yield from points_of(shape)
 
-    def shared(self) -> Iterator[Pair]:
+    @kept
+    def shared(self) -> tuple[Pair, ...]:
         """Each point that a shape shares with an earlier one, with the earlier one's point."""
-        for ref in self.points():
-            spot = spot_of(self.shape(ref.shape), ref.which)
-            if isinstance(spot, PointRef):
-                yield Pair(ref, spot)
+        spots = ((ref, spot_of(shape, ref.which)) for shape in self.geometry if shares(shape)
+                 for ref in points_of(shape))
+        return tuple(Pair(ref, spot) for ref, spot in spots if isinstance(spot, PointRef))

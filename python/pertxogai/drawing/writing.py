@@ -13,6 +13,8 @@ def write_drawing(drawing: Drawing) -> str:
     """The text of a sound drawing, which reads as the same drawing: all shapes, then all
     constraints, a line each, with the notes where they stood."""
     items = (*drawing.geometry, *drawing.constraints)
+    if not drawing.notes:
+        return "\n".join([HEADER, *map(line_of, items), ""])
     above: dict[int, list[Note]] = {}
     for note in drawing.notes:
         above.setdefault(min(note.before, len(items)), []).append(note)

@@ -45,3 +45,9 @@ class Solution:
         if name not in self.radii:
             raise MissingPlace(f"no radius of {name} was printed")
         return self.radii[name]
+
+    def elsewhere(self, other: Solution) -> frozenset[str]:
+        """The shapes of which a point or the radius is placed otherwise than in another."""
+        points = {ref.shape for ref, spot in self.points.items() if other.points.get(ref) != spot}
+        return frozenset(points.union(name for name, radius in self.radii.items()
+                                      if other.radii.get(name) != radius))

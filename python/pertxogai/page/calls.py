@@ -29,8 +29,8 @@ from .judging import Judged, NotPlaced
 from .offers import offers
 from .opening import opened
 from .panel import Untold, lines_shown
-from .shown import excess_shown, judgement_shown, places_shown
-from .sight import Sight, sight_of
+from .shown import excess_shown, judgement_shown, places_shown, without_known
+from .sight import sight_of
 
 Json: TypeAlias = dict[str, object]
 KEPT = 4
@@ -90,7 +90,7 @@ class Desk:
         what that reads as. Raises DrawingUnsound."""
         judged = Judged(checked(drawing, known.drawing), self.attending, known.drawing)
         text = self.attending.meanwhile(lambda: write_document(drawing))
-        found = _whole(judged, known.sight, is_known)
+        found = _whole(judged, known, is_known)
         self.keep(text.value, judged)
         return {"text": text.value, **found}
 
@@ -106,24 +106,26 @@ def _judge(desk: Desk, given: Fields) -> Json:
     return {"text": text, **_whole(desk.judged(text))}
 
 
-def _whole(judged: Judged, before: Sight | None = None, is_known: bool = False) -> Json:
+def _whole(judged: Judged, before: Judged | None = None, is_known: bool = False) -> Json:
     """The judgement, and what is drawn, by what was drawn before; where that `is_known` on the
     page, without what is as it was."""
     answer: Json = {"judgement": None}
-    shown = None
+    shown, sight = None, before.sight if before else None
     try:
         if judged.drawing.geometry:
             shown = judged.shown()
-            answer["judgement"] = judgement_shown(judged.judgement, judged.parts)
+            judged.told = judgement_shown(judged.judgement, judged.parts, judged.placed(before))
+            known = before.told if before and is_known else None
+            answer["judgement"] = without_known(judged.told, known)
     except DrawingRefused as error:
         answer |= trouble("language", str(error))
     except ProgramError as error:
         answer |= trouble("program", str(error))
     except (Refusal, NotHeld) as error:
         answer |= trouble("language", f"the program takes no such sketch: {error}")
-    sight = sight_of(judged.drawing, shown, before)
-    judged.sight = None if "trouble" in answer else sight
-    return {**answer, "drawing": sight.told(before if is_known else None)}
+    found = sight_of(judged.drawing, shown, sight)
+    judged.sight = None if "trouble" in answer else found
+    return {**answer, "drawing": found.told(sight if is_known else None)}
 
 
 def _edit(desk: Desk, given: Fields) -> Json:

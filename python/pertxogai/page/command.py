@@ -13,6 +13,7 @@ if TYPE_CHECKING:
 
 Commands: TypeAlias = "argparse._SubParsersAction[argparse.ArgumentParser]"
 WHAT = "opens a drawing board in the browser, on this machine alone"
+MOST_SECONDS = 86_400
 SECONDS = "how long a call of the board may take (default: %(default)g)"
 
 
@@ -37,8 +38,8 @@ def _page(options: argparse.Namespace) -> Exit:
     except ImportError as error:
         raise MissingLibrary(f"the board needs {error.name or 'flask'}: install Debian's "
                              "python3-flask, or start it with a Python that has it") from None
-    if not options.seconds > 0:
-        raise CommandError("--seconds takes a number above 0")
+    if not 0 < options.seconds <= MOST_SECONDS:
+        raise CommandError(f"--seconds takes a number above 0 and up to {MOST_SECONDS}")
     program = replace(Program.find(options.program), seconds=options.seconds)
     try:
         with suppress(KeyboardInterrupt):

@@ -89,10 +89,21 @@ class _Taking:
             case language.Angle(first, second, p, q):
                 yield said.AngleBetween(ShapeRef(first), ShapeRef(second), said.Ratio(p, q),
                                         said.Sense.SIGNED)
-            case language.Outside(first, second) | language.Inside(first, second):
-                yield said.Tangent(ShapeRef(first), ShapeRef(second))
+            case language.Outside() | language.Inside():
+                yield from self._touching(each)
             case language.Block():
                 self.left_out.append(f"{each.text()}: a block is no word of a drawing")
+
+    def _touching(self, each: language.Outside | language.Inside) -> Iterator[said.Constraint]:
+        """A tangency, of which a drawing tells by its drawn circles how they touch."""
+        tangent = said.Tangent(ShapeRef(each.first), ShapeRef(each.second))
+        circles = Drawing(tuple(self._round(it) for it in self.sketch.elements
+                                if isinstance(it, language.Circle)))
+        touch = said.touch(circles, tangent)
+        if (touch is said.Touch.INSIDE) is isinstance(each, language.Inside):
+            yield tangent
+        else:
+            self.left_out.append(f"{each.text()}: drawn so, they would touch {touch.value}")
 
     def _distance(self, first: str, second: str, um: Fraction) -> said.Constraint:
         if self._is_line(first):

@@ -11,6 +11,7 @@ from ..language import Refusal
 from ..language.claim import Claim
 from ..language.flips import Flip, Flips
 from ..measure import Solution
+from ..picture.designed import Whereabouts
 from ..program import Asks, ProgramError, Status
 from ..reports import (
     ClaimFails, Flipped, Plan, Refused, Shape, Solved, Verdict, Verified, read_answer, read_flips,
@@ -19,6 +20,7 @@ from .construction import Construction
 from .frame import elements_placed
 from .panel import Untold
 from .parts_laid import LaidPart, parts_laid, shown_between
+from .shown import places_shown
 from .sight import Sight
 
 
@@ -29,12 +31,14 @@ class NotPlaced(Exception):
 @dataclass
 class Judged:
     """A drawing and the judgement on it, by a program that is asked for more. before: the drawing
-    that an edit has made this one from. sight: what the page was told of it last."""
+    that an edit has made this one from. sight, told: what the page was told of it last, and of the
+    judgement on it; None where that was trouble."""
 
     drawing: Drawing
     program: Asks
     before: Drawing = Drawing()
     sight: Sight | None = None
+    told: dict[str, object] | None = None
 
     @cached_property
     def judgement(self) -> Judgement:
@@ -89,6 +93,15 @@ class Judged:
         if self.judgement.solution is None and self.parts:
             return shown_between(self.drawing, self.parts)
         return self.judgement.solution
+
+    def placed(self, before: Judged | None) -> dict[str, object] | None:
+        """Where all lies as it is placed, as the page is told it; as it was told of a drawing
+        before, where all of that is placed so."""
+        solution = self.judgement.solution
+        if before and before.told and solution == before.judgement.solution:
+            known = before.told["placed"]
+            return known if isinstance(known, dict) else None
+        return None if solution is None else places_shown(Whereabouts(self.drawing, solution))
 
     def solved(self) -> Solved:
         """The places. Raises NotPlaced."""

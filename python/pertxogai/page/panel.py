@@ -90,10 +90,18 @@ def _open(judgement: Judgement) -> Iterator[Line]:
     for piece in found.pieces[:MOST_PIECES]:
         yield Line(f"piece {piece.number}: {' '.join(piece.elements)}", list="pieces",
                    selects=piece.elements, part=piece.number)
+    yield from _more(len(found.pieces) - MOST_PIECES, "pieces")
     for joint in found.joints[:MOST_JOINTS]:
         shared = f" share {' '.join(joint.shared)}" if joint.shared else ""
         yield Line(f"pieces {joint.first.number} and {joint.second.number}{shared}: "
                    f"{joint.tie.value}", list="what to do", selects=joint.shared)
+    yield from _more(len(found.joints) - MOST_JOINTS, "what to do")
+
+
+def _more(count: int, which: str) -> Iterator[Line]:
+    """That a list has so many lines more, which aren't told."""
+    if count > 0:
+        yield Line(f"and {count} more", "quiet", list=which)
 
 
 def _over(judgement: Judgement, left: TooMuch | Untold,

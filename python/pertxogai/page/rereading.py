@@ -29,7 +29,10 @@ def valued(drawing: Drawing, constraint: Constraint, value: str) -> Constraint:
     if not hasattr(constraint, "value_um") and not hasattr(constraint, "value"):
         raise WordFault(words_of(constraint), "has no value that could be changed")
     words = words_of(constraint).split()[:-1]
-    return replace(asked(drawing, [*words, *value.split()])[0], name=constraint.name)
+    found = asked(drawing, [*words, *value.split()])
+    if len(found) != 1:
+        raise WordFault(value, "is more than a value")
+    return replace(found[0], name=constraint.name)
 
 
 def drawn(shapes: tuple[Shape, ...], words: list[str]) -> Said:

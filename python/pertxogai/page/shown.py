@@ -15,12 +15,14 @@ from .panel import Untold, alone_of, excess_told, lines_shown
 from .parts_laid import LaidPart
 
 Json = dict[str, object]
+LONG = "placed", "laid", "colours", "language"
+"""What of a judgement isn't told again to a page that knows it."""
 
 
-def judgement_shown(judgement: Judgement, parts: Iterable[LaidPart]) -> Json:
-    """What is judged, and where it is shown. What is left out of what is over isn't told yet."""
-    drawing, solution = judgement.names.drawing, judgement.solution
-    placed = None if solution is None else places_shown(Whereabouts(drawing, solution))
+def judgement_shown(judgement: Judgement, parts: Iterable[LaidPart],
+                    placed: Json | None) -> Json:
+    """What is judged, and where it is shown, as it is placed and by its parts. What is left out of
+    what is over isn't told yet."""
     return {
         "verdict": judgement.verdict.value,
         "lines": lines_shown(judgement),
@@ -33,6 +35,12 @@ def judgement_shown(judgement: Judgement, parts: Iterable[LaidPart]) -> Json:
         "failure": _failure(judgement),
         "language": judgement.asked.spelled.sketch.text(),
     }
+
+
+def without_known(judgement: Json, known: Json | None) -> Json:
+    """A judgement without what is long, and is as it was in one that the page knows."""
+    return {what: now for what, now in judgement.items()
+            if known is None or what not in LONG or now != known[what]}
 
 
 def excess_shown(judgement: Judgement, left: TooMuch | Untold) -> list[Json]:

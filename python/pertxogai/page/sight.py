@@ -67,21 +67,20 @@ def sight_of(drawing: Drawing, solution: Solution | None, before: Sight | None =
     return Sight(drawing, solution, shapes, constraints, shown)
 
 
-def _elsewhere(drawing: Drawing, solution: Solution | None, before: Sight | None) -> set[str]:
+def _elsewhere(drawing: Drawing, solution: Solution | None, before: Sight | None) -> frozenset[str]:
     """The shapes that are shown otherwise than before."""
-    lies = {shape.name: _lies(drawing, solution, shape) for shape in drawing.geometry}
-    if before is None or (solution is None) is not (before.solution is None):
-        return set(lies)
-    lay = {shape.name: _lies(before.drawing, before.solution, shape)
-           for shape in before.drawing.geometry}
-    return {name for name, spots in lies.items() if lay.get(name) != spots}
+    if solution is not None and before is not None and before.solution is not None:
+        return solution.elsewhere(before.solution)
+    lies = {shape.name: _drawn(drawing, shape) for shape in drawing.geometry}
+    if before is None or solution is not None or before.solution is not None:
+        return frozenset(lies)
+    lay = {shape.name: _drawn(before.drawing, shape) for shape in before.drawing.geometry}
+    return frozenset(name for name, spots in lies.items() if lay.get(name) != spots)
 
 
-def _lies(drawing: Drawing, solution: Solution | None, shape: Shape) -> list[object]:
-    """Where the points of a shape are shown, and how large it is."""
-    if solution is None:
-        return [*map(drawing.drawn, points_of(shape)), getattr(shape, "radius_um", None)]
-    return [*map(solution.points.get, points_of(shape)), solution.radii.get(shape.name)]
+def _drawn(drawing: Drawing, shape: Shape) -> list[object]:
+    """Where the points of a shape are drawn, and how large it is."""
+    return [*map(drawing.drawn, points_of(shape)), getattr(shape, "radius_um", None)]
 
 
 def _shape(where: Whereabouts, shape: Shape) -> Json:

@@ -7,6 +7,7 @@ from __future__ import annotations
 import gc
 import json
 import resource
+import select
 import sys
 from collections.abc import Sequence
 from dataclasses import dataclass, field, replace
@@ -16,6 +17,10 @@ from ..program import Answer, Program, ProgramTimedOut
 from .calls import Desk, trouble
 
 MEBIBYTE = 1 << 20
+PAUSE = 0.5
+"""Seconds without a call in which rubbish is collected."""
+MOST_RUBBISH = 100_000
+"""So many more things than when it was collected last, and it is collected behind the call."""
 
 
 @dataclass
@@ -53,17 +58,19 @@ class Hasty:
 
 
 def main(words: Sequence[str]) -> None:
-    """Answers calls from standard input on standard output. Rubbish is collected once an answer is
-    given, while none waits."""
+    """Answers calls from standard input on standard output. Rubbish is collected while no call
+    comes, since that takes longer than a call may."""
     path, seconds, memory_mib = words
     limit_memory(int(memory_mib))
     program = Hasty(Program(path, memory_mib=int(memory_mib) or None), float(seconds))
     desk = Desk(program)
     gc.disable()
-    for line in sys.stdin:
+    gc.freeze()
+    while line := sys.stdin.readline():
         program.begin()
         print(json.dumps(_answer(desk, line)), flush=True)
-        gc.collect()
+        if gc.get_count()[0] > MOST_RUBBISH or not select.select([sys.stdin], [], [], PAUSE)[0]:
+            gc.collect()
 
 
 def _answer(desk: Desk, line: str) -> dict[str, object]:

@@ -6,7 +6,6 @@ from collections import Counter
 from collections.abc import Hashable
 from copy import copy
 from dataclasses import dataclass, replace
-from fractions import Fraction
 from typing import NamedTuple, Protocol
 
 from pertxogai.drawing import X_AXIS
@@ -14,7 +13,7 @@ from pertxogai.spelling.directions import Directions
 from pertxogai.spelling.facts import (
     DATUM, ORIGIN_KNOT, Apart, Fact, Facts, HalfOf, Knot, Leans, LengthOf, Line, Middle, Mirror,
     Off, Owner, RadiusOf, Shift, Sized, Stays)
-from pertxogai.spelling.lean import Lean
+from pertxogai.spelling.lean import SQUARE, Lean
 from pertxogai.spelling.lines import Lines
 from pertxogai.spelling.settling import Settling
 from pertxogai.values import Form, LinearSystem, Number, Told
@@ -173,7 +172,7 @@ class Axes:
     def _chief(self, members: list[Line]) -> Line:
         """The line with the most that are parallel or square to it, the first of several."""
         leans = [self.directions.bearing(line).lean for line in members]
-        counted = Counter((lean.degrees % 90, lean.ahead, lean.left) for lean in leans)
+        counted = Counter(map(_cross, leans))
         return max(members, key=lambda line: counted[_cross(self.directions.bearing(line).lean)])
 
     def frame(self, line: Line) -> Frame:
@@ -343,5 +342,5 @@ def _join(group: dict[Knot, Knot], first: Knot, second: Knot) -> bool:
     return first != second
 
 
-def _cross(lean: Lean) -> tuple[Fraction, int, int]:
-    return lean.degrees % 90, lean.ahead, lean.left
+def _cross(lean: Lean) -> frozenset[Lean]:
+    return frozenset({lean, lean + SQUARE})

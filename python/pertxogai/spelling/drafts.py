@@ -5,6 +5,7 @@ from __future__ import annotations
 from collections.abc import Callable, Iterable, Sequence
 from dataclasses import dataclass, field
 from fractions import Fraction
+from functools import lru_cache
 from math import lcm
 
 from pertxogai import language
@@ -82,10 +83,10 @@ class Sheet:
         """The sketch as values of the language, so many times larger, and the values that had to
         be rounded."""
         elements: list[language.Element] = [
-            language.Point(name, *(_whole(each * scale)
-                                   for each in spot)) for name, spot in self.points.items()]
+            _point(name, _whole(x * scale), _whole(y * scale))
+            for name, (x, y) in self.points.items()]
         for name, ends in self.lines.items():
-            elements.append(_line(name, ends, scale))
+            elements.append(_line(name, *(_whole(each * scale) for spot in ends for each in spot)))
         if scale not in self.told:
             self.told[scale] = _told(self.drafts, scale)
         constraints, rounded = self.told[scale]
@@ -110,11 +111,16 @@ def _constraint(draft: Draft, scale: int) -> language.Constraint:
     return language.Distance(draft.first, draft.second, max(1, _whole(draft.value_um * scale)))
 
 
-def _line(name: str, ends: tuple[Spot, Spot], scale: int) -> language.Line:
-    (x1, y1), (x2, y2) = (tuple(_whole(each * scale) for each in spot) for spot in ends)
-    if (x1, y1) == (x2, y2):
-        x2 += 1
-    return language.Line(name, x1, y1, x2, y2)
+@lru_cache(maxsize=8192)
+def _point(name: str, x: int, y: int) -> language.Point:
+    """A point, with its text where it was written before."""
+    return language.Point(name, x, y)
+
+
+@lru_cache(maxsize=8192)
+def _line(name: str, x1: int, y1: int, x2: int, y2: int) -> language.Line:
+    """A line through two places; through a place a micrometre aside where they are one."""
+    return language.Line(name, x1, y1, x2 + ((x1, y1) == (x2, y2)), y2)
 
 
 def _whole(value: Number) -> int:

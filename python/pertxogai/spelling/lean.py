@@ -15,7 +15,9 @@ MOST_RATIO = 10_000
 @dataclass(frozen=True)
 class Lean:
     """The turn from one line to another, up to half turns: `degrees` from 0 to below 180, and then
-    the turn of the direction (`ahead`, `left`), two whole numbers without a common divisor."""
+    the turn of the direction (`ahead`, `left`), two whole numbers without a common divisor. Leans
+    that are the same are equal: a direction that is no turn of 45 degrees has all of these in
+    itself, so that `degrees` is below 45."""
 
     degrees: Fraction = Fraction(0)
     ahead: int = 1
@@ -74,9 +76,7 @@ class Lean:
         """The direction (ahead, left) in whole numbers; None where it has none."""
         if self.degrees % 45:
             return None
-        ahead, left = self.ahead, self.left
-        for _ in range(int(self.degrees // 45)):
-            ahead, left = ahead - left, ahead + left
+        ahead, left = _turned(self.ahead, self.left, self.degrees)
         divisor = gcd(ahead, left)
         return ahead // divisor, left // divisor
 
@@ -121,4 +121,14 @@ def _made(degrees: Fraction, ahead: int, left: int) -> Lean:
             degrees, ahead, left = degrees + 45, 1, 0
         case (1, -1):
             degrees, ahead, left = degrees - 45, 1, 0
-    return Lean(degrees % 180, ahead, left)
+    degrees %= 180
+    if left and degrees >= 45:
+        return _made(degrees % 45, *_turned(ahead, left, degrees))
+    return Lean(degrees, ahead, left)
+
+
+def _turned(ahead: int, left: int, degrees: Fraction) -> tuple[int, int]:
+    """A direction turned by the whole 45 degrees in these degrees; it comes out longer."""
+    for _ in range(int(degrees // 45)):
+        ahead, left = ahead - left, ahead + left
+    return ahead, left

@@ -8,10 +8,9 @@ from math import atan2, cos, hypot, pi, sin, sqrt
 from pertxogai.drawing import (
     X_AXIS, Y_AXIS, AngleBetween, Arc, Axis, Circle, Coincident, Collinear, Concentric, Constraint,
     Degrees, Diameter, Distance, Drawing, Equal, Fixed, Horizontal, Length, Midpoint, Origin, Pair,
-    Parallel, ParallelDistance, Perpendicular, Place, PointLineDistance, PointOn, PointRef, Radius,
+    Parallel, ParallelDistance, Perpendicular, PointLineDistance, PointOn, PointRef, Radius,
     Segment, Sense, Shape, ShapeRef, Slope, Symmetric, Tangent, Touch, Vertical, Which, XDistance,
-    YDistance, points_of, run_um, touch, turn)
-from pertxogai.drawing.scene import spot_of
+    YDistance, moved, points_of, run_um, touch, turn)
 from pertxogai.drawing.spoken import named
 from pertxogai.kept import kept
 from pertxogai.spelling.facts import (
@@ -62,54 +61,24 @@ def _places(drawing: Drawing, refs: dict[PointRef, Knot]) -> dict[Knot, tuple[Nu
 
 def _redrawn(drawing: Drawing, before: Drawing, facts: Facts) -> Facts | None:
     """The facts of a drawing that differs from the one before by where some shapes are drawn; None
-    where it differs otherwise, or something says another thing than there."""
-    moved = _moved(drawing, before)
-    if moved is None or any(isinstance(each, AngleBetween) and each.sense is Sense.SIGNED
-                            for each in drawing.constraints):
+    where it differs otherwise, or something says another thing than there, as a shape that is
+    given from outside."""
+    elsewhere = moved(drawing, before)
+    if elsewhere is None or drawing.constraints != before.constraints or any(
+            shape.outer and shape.name in elsewhere for shape in drawing.geometry) or any(
+            isinstance(each, AngleBetween) and each.sense is Sense.SIGNED
+            for each in drawing.constraints):
         return None
-    found = replace(facts, drawn=_places(drawing, facts.refs))
+    there = {knot for ref, knot in facts.refs.items() if ref.shape in elsewhere}
+    refs = {ref: knot for ref, knot in facts.refs.items() if knot in there}
+    found = replace(facts, drawn={**facts.drawn, **_places(drawing, refs)})
     for number, constraint in enumerate(drawing.constraints, 1):
-        if isinstance(constraint, DRAWN) and not moved.isdisjoint(named(constraint)):
+        if isinstance(constraint, DRAWN) and not elsewhere.isdisjoint(named(constraint)):
             now, then = (_Lowering(each, replace(said, own=dict(said.own), facts=[])).one(number)
                          for each, said in ((drawing, found), (before, facts)))
             if now != then:
                 return None
     return found
-
-
-def _moved(drawing: Drawing, before: Drawing) -> set[str] | None:
-    """The shapes that are drawn elsewhere than before, and those that have a point of them or one
-    that is told to be one with theirs; None where the drawings differ otherwise, or one of these
-    is given from outside, which lies where it is drawn."""
-    pairs = zip(drawing.constraints, before.constraints)
-    if len(drawing.constraints) != len(before.constraints) or len(drawing.geometry) != len(
-            before.geometry) or not all(one is other for one, other in pairs):
-        return None
-    moved = set()
-    for shape, old in zip(drawing.geometry, before.geometry):
-        if shape is not old:
-            if _structure(shape) != _structure(old):
-                return None
-            moved.add(shape.name)
-    for shape in drawing.geometry:
-        if any(spot is not None and spot.shape in moved for spot in _shared(shape)):
-            moved.add(shape.name)
-    leader = drawing.meetings.leader
-    moved |= {ref.shape for ref in drawing.points() if leader(ref).shape in moved}
-    if any(shape.outer and shape.name in moved for shape in drawing.geometry):
-        return None
-    return moved
-
-
-def _structure(shape: Shape) -> tuple[object, ...]:
-    """What of a shape isn't where it is drawn."""
-    return type(shape), shape.name, shape.outer, _shared(shape)
-
-
-def _shared(shape: Shape) -> tuple[PointRef | None, ...]:
-    """The points of others that a shape has for its own, each at its place."""
-    spots = (spot_of(shape, ref.which) for ref in points_of(shape))
-    return tuple(spot if isinstance(spot, PointRef) else None for spot in spots)
 
 
 class _Lowering:
@@ -166,20 +135,18 @@ class _Lowering:
         refs = points_of(shape)
         if isinstance(shape, Arc):
             refs = refs[:2]
-            self._say(Leans(X_AXIS,
-                            Between(self._centre(ShapeRef(shape.name)), self._ends(shape.name)[1]),
-                            self._lean_of(shape), owner))
-        for ref in dict.fromkeys(map(self._knot, refs)):
-            x, y = self.facts.drawn[ref]
-            self._say(Stays(ref, Place(Fraction(x), Fraction(y)), owner))
+            line = self._through(self._centre(ShapeRef(shape.name)), self._ends(shape.name)[1])
+            self._say(Leans(X_AXIS, line, self._lean_of(shape), owner))
+        for ref in refs:
+            self._stays_at(ref, owner)
         if isinstance(shape, Circle):
             self._size(Form.of(RadiusOf(shape.name)), shape.radius_um, owner)
 
     def _lean_of(self, arc: Arc) -> Lean:
         """How an arc's drawn last radius leans against the x axis."""
-        centre, end = self._centre(ShapeRef(arc.name)), self._ends(arc.name)[1]
-        line = self._through(centre, end)
-        a, b = self.facts.direction(line)
+        centre, end = (self.drawing.drawn(PointRef(arc.name, each))
+                       for each in (Which.CENTRE, Which.END))
+        a, b = end.x_um - centre.x_um, end.y_um - centre.y_um
         denominator = a.denominator * b.denominator
         return Lean.of(Slope(int(b * denominator), int(a * denominator), False))
 
@@ -383,5 +350,8 @@ class _Lowering:
             if not isinstance(shape, (Origin, Axis)):
                 self._stays(shape, owner)
             return
-        x, y = self.facts.drawn[self._knot(what)]
-        self._say(Stays(self._knot(what), Place(Fraction(x), Fraction(y)), owner))
+        self._stays_at(what, owner)
+
+    def _stays_at(self, ref: PointRef, owner: Owner) -> None:
+        """A point stays where it is drawn itself, whatever is joined to it."""
+        self._say(Stays(self._knot(ref), self.drawing.drawn(ref), owner))

@@ -143,6 +143,11 @@ class Rails:
         rest = self.axes.system.reduced(form)
         return None if rest.terms else rest.number
 
+    def size(self, unknown: Hashable) -> Number | None:
+        """The value of a size, in micrometres; None where it isn't known."""
+        value = self.axes.system.value(unknown)
+        return None if value.terms else value.number
+
     def symbols(self, form: Form) -> Form:
         """A form of coordinates and sizes in rails, each taken for itself, and what is unknown in
         sizes."""

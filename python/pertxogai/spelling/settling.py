@@ -65,19 +65,31 @@ class Settling:
         they are level."""
         if not self._is_news(in_datum, (number,)):
             return False
-        fact = self._facts[number]
+        fact, value = self._facts[number], self._length(number)
         reduced, owners = self.axes.system.reduced, frozenset({fact.owner})
         for frame, upwards in self._axes_of(in_datum, {fact.first, fact.second}):
             if not self.axes.has_rails(frame, upwards):
                 continue
             across = self._run(frame, not upwards, fact)
-            sign = self.axes.sign(frame, upwards, fact.first, fact.second)
-            along = self._run(frame, upwards, fact) - fact.value.times(sign)
+            along = self._run(frame, upwards, fact)
+            along = along - value.times(self._sign(frame, upwards, fact, reduced(along)))
             for is_so, follows in ((across, along), (along, across)):
                 if reduced(is_so) == Form():
                     self.axes.tell(follows, owners)
                     return True
         return False
+
+    def _sign(self, frame: Frame, upwards: bool, fact: Apart, way: Form) -> int:
+        """Which way along an axis a distance runs: as it is told, else as it is drawn."""
+        if way.terms or not way.number:
+            return self.axes.sign(frame, upwards, fact.first, fact.second)
+        return 1 if way.number > 0 else -1
+
+    def _length(self, number: int) -> Form:
+        """A distance, which is no less than 0: turned where it is known to come out so, as that of
+        two rims of which the other is greater than drawn."""
+        value, known = self._facts[number].value, self._value(number)
+        return value.times(-1) if not known.terms and known.number < 0 else value
 
     def _axes_of(self, in_datum: bool, knots: set[Knot]) -> Iterator[tuple[Frame, bool]]:
         """The axes of the datum's frame, or of the others in which something is said of all these

@@ -65,11 +65,10 @@ class Spellings:
 
     def spelled(self, style: Style) -> Spelled:
         """The drawing, spelled in a style."""
-        writer = Writer(self.axes, self.rails(style), style)
         before = self._before.get(style)
-        if before is not None and before.has_no_help():
-            writer.write_as(before)
-        else:
+        writer = Writer(self.axes, self.rails(style), style)
+        if before is None or not writer.write_as(before):
+            writer = Writer(self.axes, self.rails(style), style)
             writer.write()
         self._writers[style] = writer
         return writer.spelled()

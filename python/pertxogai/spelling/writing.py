@@ -17,6 +17,9 @@ from pertxogai.spelling.style import Style
 from pertxogai.values import Form, Number, Told
 
 LEVEL = Lean()
+HALF_SQUARE = Lean(Fraction(45))
+REACH_UM = 100_000
+"""How far a line is drawn from its first place to its second."""
 Track = Rail | Line
 """What becomes a line of the sketch: a rail, or a line that leans."""
 
@@ -44,13 +47,22 @@ class Care:
 
 
 @dataclass(frozen=True)
+class Behind:
+    """A line of help from which a height is told: so many micrometres of the drawing behind the
+    line of a rail, and as much longer is the height told."""
+
+    rail: str
+    back_um: int
+
+
+@dataclass(frozen=True)
 class Spelled:
     """A drawing in the language. The sketch is `scale` times as large as the drawing.
 
     said: who says each constraint, in their order. points: the name of each knot's point.
     tracks: what each line stands for. left_out: who says something that isn't in the sketch.
     headings: which way each line runs. rounded: values that had to be rounded. coarse: whether an
-    angle is told by the ratio that is next to it."""
+    angle is told by the ratio that is next to it. behind: the lines of help behind a rail."""
 
     style: Style
     sketch: language.Sketch
@@ -62,6 +74,7 @@ class Spelled:
     left_out: frozenset[Owner]
     rounded: tuple[Rounded, ...]
     coarse: bool
+    behind: dict[str, Behind]
 
     @cached_property
     def owners(self) -> tuple[frozenset[Owner], ...]:
@@ -93,6 +106,7 @@ class Writer:
         self.sheet = Sheet()
         self.names: dict[Track, str] = {}
         self.helps: dict[str, Lean] = {}
+        self.behind: dict[str, Behind] = {}
         self.points: dict[Knot, str] = {}
         self.ways: dict[Knot, Spot] = dict(axes.facts.drawn)
         self.left_out: set[Owner] = set()
@@ -115,18 +129,22 @@ class Writer:
         self._loose()
         self._drop_idle()
 
-    def write_as(self, other: Writer) -> None:
-        """Fills the sheet as another was filled that has no help, of axes that differ by where
-        things are drawn alone."""
+    def write_as(self, other: Writer) -> bool:
+        """Fills the sheet as another was filled, of axes that differ by where things are drawn
+        alone; False where that has help, or a dimension runs another way than is drawn now, which
+        asks for help."""
         self.names, self.points, self.bars = other.names, other.points, other.bars
+        self._settle_ways()
+        if not other._has_no_help() or any(map(self._runs_back, self.rails.runs)):
+            return False
         self.left_out, self.coarse = other.left_out, other.coarse
         self.sheet.drafts, self.sheet.told = other.sheet.drafts, other.sheet.told
-        self._settle_ways()
         for track, name in self.names.items():
             if name in other.sheet.lines:
                 self._draw(track)
+        return True
 
-    def has_no_help(self) -> bool:
+    def _has_no_help(self) -> bool:
         """Whether no line and no point was written that only helps."""
         return (self.sheet.lines.keys() <= set(self.names.values())
                 and self.sheet.points.keys() <= set(self.points.values()))
@@ -144,7 +162,7 @@ class Writer:
         said = tuple(draft.said for draft in self.sheet.drafts)
         left_out = frozenset(self.left_out) | self.rails.lost
         return Spelled(self.style, sketch, scale, said, dict(self.points), tracks, headings,
-                       left_out, rounded, self.coarse)
+                       left_out, rounded, self.coarse, dict(self.behind))
 
     def _heading(self, name: str, track: Track) -> Heading:
         frame = self._frame(track)
@@ -223,30 +241,35 @@ class Writer:
         """Draws a point on the other side of its rail where the dimensions put it there."""
         for rail in [*self.names, *self.bars]:
             if isinstance(rail, Rail):
-                for coordinate, offset in self.rails.members[rail].items():
-                    self._settle_way(rail, coordinate, offset - self.rails.offset(rail))
+                self._settle_rail(rail)
 
-    def _settle_way(self, rail: Rail, coordinate: Coordinate, height: Number) -> None:
+    def _settle_rail(self, rail: Rail) -> None:
+        (a, b), least = self._upright(rail), self.rails.offset(rail)
+        for coordinate, offset in self.rails.members[rail].items():
+            x, y = self.ways[coordinate.knot]
+            height, off = offset - least, self._height(rail, coordinate.knot)
+            if _is_behind(off, height):
+                shift = height - off
+                self.ways[coordinate.knot] = (x + a * shift, y + b * shift)
+
+    def _upright(self, rail: Rail) -> Spot:
+        """The direction of the axis along which heights over a rail are told."""
         a, b = _unit(self._frame(rail).way)
-        if rail.upwards:
-            a, b = -b, a
-        x, y = self.ways[coordinate.knot]
-        off = a * x + b * y - self._rail_at(rail)
-        if height and (off > 0) != (height > 0):
-            shift = height - off
-            self.ways[coordinate.knot] = (x + a * shift, y + b * shift)
+        return (-b, a) if rail.upwards else (a, b)
+
+    def _height(self, rail: Rail, knot: Knot) -> Number:
+        """How high over a rail a point is drawn."""
+        (a, b), (x, y) = self._upright(rail), self.ways[knot]
+        return a * x + b * y - self._rail_at(rail)
 
     def _rail_at(self, rail: Rail) -> Number:
         """Where a rail is drawn, along the axis that it fixes."""
         if rail.datum():
             return 0
-        a, b = _unit(self._frame(rail).way)
-        if rail.upwards:
-            a, b = -b, a
         offset = self.rails.offset(rail)
         knot = next(each.knot for each, value in self.rails.members[rail].items()
                     if value == offset)
-        x, y = self.axes.facts.drawn[knot]
+        (a, b), (x, y) = self._upright(rail), self.axes.facts.drawn[knot]
         return a * x + b * y
 
     def _draw(self, track: Track) -> None:
@@ -261,8 +284,7 @@ class Writer:
             a, b = -b, a
         at = self._rail_at(track)
         x, y = (-b * at, a * at) if track.upwards else (b * at, -a * at)
-        reach = 100_000
-        self.sheet.lines[self.names[track]] = ((x, y), (x + a * reach, y + b * reach))
+        self.sheet.lines[self.names[track]] = ((x, y), (x + a * REACH_UM, y + b * REACH_UM))
 
     # -- constraints
 
@@ -364,10 +386,16 @@ class Writer:
         self.sheet.drafts.append(Draft(between, names[1], said, ratio=halves[1].ratio()))
 
     def _square_help(self, base: Track, track: Track) -> None:
-        """A line of help, square to two parallel ones, through a point of the first."""
-        name = self._help(base)
-        self.sheet.drafts.append(Draft(name, self.names[track], partial(
+        """A line of help, square to two parallels, through a point of the first that has one."""
+        first, second = (base, track) if self._has_point(base) else (track, base)
+        name = self._help(first)
+        self.sheet.drafts.append(Draft(name, self.names[second], partial(
             self._direction_owners, base, track), ratio=(1, 0)))
+
+    def _has_point(self, track: Track) -> bool:
+        """Whether a point of the sketch lies by a track: by the datum's there may be none."""
+        return not isinstance(track, Rail) or any(each.knot in self.points
+                                                  for each in self.rails.members[track])
 
     def _help(self, base: Track) -> str:
         name = f"N{self.names[base]}"
@@ -424,13 +452,51 @@ class Writer:
         rails = self._run_rails(run)
         if self.style is Style.FEET and len(set(rails)) == 2 and self._feet(run, rails):
             return
+        rail, end, from_line = self._over_rail(run)
+        if end in self.points:
+            self._say_height(end, rail, said_by(run.owners), from_line)
+
+    def _over_rail(self, run: Run) -> tuple[Rail, Knot, Number]:
+        """A run as the height of one of its ends over the rail of the other."""
+        rail = self._run_rails(run)[0]
         first, second, sign = run.first, run.second, 1
-        rail = rails[0]
         if self.rails.rail(first) != rail:
             first, second, sign = second, first, -1
         from_line = sign * run.run_um + self.rails.members[rail][first] - self.rails.offset(rail)
-        if second.knot in self.points:
-            self._say(self.points[second.knot], self.names[rail], said_by(run.owners), from_line)
+        return rail, second.knot, from_line
+
+    def _runs_back(self, run: Run) -> bool:
+        """Whether a run goes another way than its ends are drawn."""
+        rail, end, from_line = self._over_rail(run)
+        return _is_behind(self._height(rail, end), from_line)
+
+    def _say_height(self, knot: Knot, rail: Rail, said: Said, height: Number) -> None:
+        """Says how high over a rail a point is. A height has the side on which the point is drawn;
+        where that is the other one, it is told from a line of help that both are before."""
+        drawn, name = self._height(rail, knot), self.names[rail]
+        if _is_behind(drawn, height):
+            back = abs(int(drawn)) + abs(int(height)) + 1000
+            behind = self._line_behind(knot, rail, -back if height > 0 else back)
+            self.behind[behind] = Behind(name, back)
+            name, height = behind, abs(height) + back
+        self._say(self.points[knot], name, said, height)
+
+    def _line_behind(self, knot: Knot, rail: Rail, shift: int) -> str:
+        """A line of help that runs along a rail, so far from it: square to one through the
+        point, on which a point of help is that far from the rail."""
+        number, (a, b), (x, y) = len(self.sheet.lines), self._upright(rail), self.ways[knot]
+        across, line, point = f"N{number}", f"Z{number}", f"E{number}"
+        rise = shift - self._height(rail, knot)
+        u, v = self.sheet.points[point] = x + a * rise, y + b * rise
+        self.sheet.lines[across] = (x, y), (x + a * REACH_UM, y + b * REACH_UM)
+        self.sheet.lines[line] = (u, v), (u + b * REACH_UM, v - a * REACH_UM)
+        nobody = said_by(())
+        for each, carrier in ((self.points[knot], across), (point, across), (point, line)):
+            self._say(each, carrier, nobody)
+        self._say(point, self.names[rail], nobody, shift)
+        for first, second in ((self.names[rail], across), (across, line)):
+            self.sheet.drafts.append(Draft(first, second, nobody, ratio=(1, 0)))
+        return line
 
     def _feet(self, run: Run, rails: list[Rail]) -> bool:
         """The dimension between the feet of two rails on the first rail across; False where there
@@ -441,7 +507,8 @@ class Writer:
         ends = [self.rails.members[rail][end] - self.rails.offset(rail)
                 for rail, end in zip(rails, (run.first, run.second))]
         apart = run.run_um + ends[0] - ends[1]
-        if across is None or not apart:
+        drawn = self._rail_at(rails[1]) - self._rail_at(rails[0])
+        if across is None or not apart or _is_behind(drawn, apart):
             return False
         feet = [self._foot(rail, across, run) for rail in rails]
         self._say(feet[0], feet[1], said_by(run.owners), apart)
@@ -488,16 +555,20 @@ class Writer:
                 self._told_size(number, equation, told, circuit)
 
     def _told_angle(self, leans: Leans) -> None:
-        """An angle that isn't as others say: as two that are told of two lines of its own."""
+        """An angle that isn't as others say: as theirs and its own, of two lines of help. Where
+        one of these is that of parallels, which is no angle of the language, both are turned."""
         known = self.axes.directions.between(leans.first, leans.second)
-        lean = leans.lean if known is None or known.level() else known
+        assert known is not None
+        turn = next(each for each in (LEVEL, SQUARE, HALF_SQUARE)
+                    if not (known + each).level() and not (leans.lean + each).level())
         names = f"V{len(self.sheet.lines)}", f"W{len(self.sheet.lines)}"
-        zero, ahead = (0, 0), (1000, 0)
-        self.sheet.lines[names[0]] = (zero, ahead)
-        self.sheet.lines[names[1]] = (zero, (Fraction(cos(lean.radians())) * 1000,
-                                             Fraction(sin(lean.radians())) * 1000))
-        for owners in (self.axes.directions.owners(leans.first, leans.second), {leans.owner}):
-            self.sheet.drafts.append(Draft(*names, said_by(owners), ratio=lean.ratio()))
+        radians = (known + turn).radians()
+        self.sheet.lines[names[0]] = ((0, 0), (1000, 0))
+        self.sheet.lines[names[1]] = ((0, 0), (Fraction(cos(radians)) * 1000,
+                                               Fraction(sin(radians)) * 1000))
+        owners = self.axes.directions.owners(leans.first, leans.second)
+        for lean, said in ((known, owners), (leans.lean, {leans.owner})):
+            self.sheet.drafts.append(Draft(*names, said_by(said), ratio=(lean + turn).ratio()))
 
     def _told_height(self, equation: Equation, told: Told, circuit: frozenset[Owner]) -> bool:
         for key, factor in equation.form.terms.items():
@@ -510,25 +581,27 @@ class Writer:
             if place is not None:
                 height = self.rails.members[rail][key] - self.rails.offset(rail)
                 self.sheet.drafts[place] = replace(self.sheet.drafts[place],
-                                                   said=said_by(circuit))
-                self._say(*pair, said_by(equation.owners), height - Fraction(told.amount) / factor)
+                                                   said=said_by(circuit - equation.owners))
+                self._say_height(key.knot, rail, said_by(equation.owners),
+                                 height - Fraction(told.amount) / factor)
                 return True
         return False
 
     def _told_size(self, number: int, equation: Equation, told: Told,
                    circuit: frozenset[Owner]) -> None:
         """A length or radius that is told twice, as a distance of two points of its own, told
-        twice."""
+        twice; as much longer both times as is needed where one of them is no length."""
         size = next((key for key in equation.form.terms), None)
         if size is None:
             return
         value = self.rails.number(Form.of(size)) or 1000
-        names = f"T{number}", f"U{number}"
-        for name, x in zip(names, (0, value)):
-            self.sheet.points[name] = x, 0
-        self._say(*names, said_by(circuit), value)
         again = value - Fraction(told.amount) / equation.form.terms[size]
-        self._say(*names, said_by(equation.owners), again if again > 0 else value)
+        more = max(0, 1000 - int(min(value, again))) if min(value, again) <= 0 else 0
+        names = f"T{number}", f"U{number}"
+        for name, x in zip(names, (0, value + more)):
+            self.sheet.points[name] = x, 0
+        self._say(*names, said_by(circuit), value + more)
+        self._say(*names, said_by(equation.owners), again + more)
 
     def _drop_idle(self) -> None:
         """Takes away lines that hold nothing: with two constraints at most, of which one at most
@@ -560,6 +633,12 @@ def _leader(group: dict[Track, Track], track: Track) -> Track:
     while group[track] != track:
         track = group[track]
     return track
+
+
+def _is_behind(drawn: Number, height: Number) -> bool:
+    """Whether a height is told on another side than the one on which a point is drawn; a point
+    that is drawn on its line, within a micrometre, has neither side."""
+    return bool(height) and (drawn if height > 0 else -drawn) < 1
 
 
 def _unit(way: Spot) -> Spot:

@@ -15,6 +15,7 @@ from pertxogai.page.workers import Bounds, Workers
 from pertxogai.program import Program
 
 DRAWINGS = Path(__file__).resolve().parents[1] / "drawings"
+FILES = DRAWINGS.parent / "files"
 CHROMIUM = shutil.which("chromium")
 DRIVER = shutil.which("chromedriver")
 SECONDS = 60.0

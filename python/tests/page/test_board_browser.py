@@ -9,8 +9,8 @@ import pytest
 pytest.importorskip("flask", reason="the board needs Debian's python3-flask")
 pytest.importorskip("selenium", reason="the browser is driven by Debian's python3-selenium")
 
-from boards import CHROMIUM, DRAWINGS, DRIVER, Served, drawing, served, wait_for  # noqa: E402
-from browsing import Page, browser  # noqa: E402
+from boards import CHROMIUM, DRAWINGS, DRIVER, FILES, Served, drawing, wait_for  # noqa: E402
+from browsing import Page  # noqa: E402
 from pertxogai.page.serving import leading_to  # noqa: E402
 from selenium.webdriver.common.by import By  # noqa: E402
 from selenium.webdriver.common.keys import Keys  # noqa: E402
@@ -32,26 +32,6 @@ length C 35
 TYPED = """const area = document.getElementById('text'); area.focus(); area.value = arguments[0];
 area.dispatchEvent(new Event('input'));
 """
-
-
-@pytest.fixture(scope="module")
-def board(program):
-    with served(program) as found:
-        yield found
-
-
-@pytest.fixture(scope="module")
-def window(tmp_path_factory):
-    with browser(tmp_path_factory.mktemp("downloads")) as found:
-        yield found
-
-
-@pytest.fixture
-def page(window: Page, board: Served):
-    window.open(board)
-    window.faults()
-    yield window
-    assert window.faults() == []
 
 
 def keep_picture(page: Page, name: str) -> None:
@@ -165,6 +145,7 @@ def test_one_too_many_is_taken_away_again(page: Page) -> None:
 
 def test_of_two_taken_away_before_the_answer_one_goes(page: Page) -> None:
     page.begin(TRIANGLE + "length A 41\n", "over")
+    page.tells("contradiction by 1 mm")
     with page.held("edit"):
         page.click("#verdict [data-spare] button")
         page.click("#verdict [data-spare]:last-child button")
@@ -409,7 +390,8 @@ def test_a_drag_that_the_browser_ends_leaves_the_drawing(page: Page) -> None:
     page.begin("drawing 1\nsegment A 0 0 40 0\n", "open")
     x, y = _dragged(page, "A.end")
     page.driver.execute_script(
-        "document.getElementById('board').dispatchEvent(new PointerEvent('pointercancel'))")
+        "document.getElementById('board').dispatchEvent("
+        "new PointerEvent('pointercancel', { isPrimary: true }))")
     wait_for("as it was", lambda: page.at("A.end") == pytest.approx((x, y), abs=1))
     page.let_go()
     page.settled()
@@ -474,6 +456,21 @@ def test_behind_a_dialog_nothing_is_drawn_or_opened(page: Page) -> None:
     page.verdict("empty")
     page.driver.execute_script(drops)
     page.wait("the file", "return document.getElementById('text').value.includes('point P')")
+
+
+def test_a_dialog_waits_until_the_one_before_it_is_closed(page: Page) -> None:
+    title = "return document.getElementById('dialog-title').textContent"
+    with page.held("open"):
+        page.driver.find_element(By.ID, "file").send_keys(str(FILES / "body.FCStd"))
+        page.keys("g")
+    page.wait("the file's sketches", f"{title} === 'body.FCStd'")
+    page.driver.execute_async_script("setTimeout(arguments[0], 1000)")
+    assert page.driver.execute_script(title) == "body.FCStd"
+    page.driver.switch_to.active_element.send_keys(Keys.ENTER)
+    page.wait("the gallery", f"{title} === 'Begin from'")
+    page.driver.switch_to.active_element.send_keys(Keys.ESCAPE)
+    page.wait("a sketch is taken", "return document.getElementById('text').value !== ''")
+    assert page.driver.execute_script("return document.getElementById('name').value") == "Sketch"
 
 
 def test_panning_by_the_keyboard(page: Page) -> None:

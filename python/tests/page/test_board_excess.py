@@ -205,11 +205,12 @@ def test_a_way_to_a_line_is_off_by_what_is_measured_of_it(program) -> None:
 
 def test_of_several_none_is_told_as_if_it_went_alone(program) -> None:
     """What the line is off, as one that may go, is measured where the point's other x is taken
-    away too; and without one of the two that are left out there is still one too many."""
+    away too; and without one of the two that are left out there is still one too many. Of the x it
+    is measured beside the line."""
     lines = panel(WAY + "x P 42\n", program)
     assert [(each["text"], each["takes"]) for each in listed(lines, "left out")] == [
         ("constraint 8 (distance P B 45): a contradiction", 8),
-        ("constraint 9 (x P 42): a contradiction", 9)]
+        ("constraint 9 (x P 42): a contradiction by 2\u00a0mm, the others make it less", 9)]
     assert "Or one of these may go instead of one of them:" in [each["text"] for each in lines]
 
 
@@ -431,6 +432,52 @@ def test_the_program_leaves_the_last_one_out(program) -> None:
 def test_of_a_plate_that_contradicts_itself(program) -> None:
     (found,) = left_out(drawing("over-plate-contradiction"), program).dimensions
     assert (found.name, found.conflicts, found.off_um) == ("Top width", True, -1000)
+
+
+def test_of_an_angle_that_contradicts_two_others(program) -> None:
+    """Sides of 50, 30 and 40 mm: the tangent of A and C is 3/4. Where 3000/4001 is told, the end
+    of C is 24/5001 mm off."""
+    text = ("segment A 0 0 50 0\nsegment B A.end 32 24\nsegment C B.end A.start\nlength A 50\n"
+            "angle A B 4/3\nperpendicular B C\nangle A C 3000/4001\n")
+    (found,) = left_out(text, program).dimensions
+    assert (found.number, found.conflicts) == (4, True)
+    (line,) = listed(panel(text, program), "left out")
+    assert line["text"].endswith("a contradiction by 0.0048\u00a0mm")
+
+
+BEHIND = "point P 10 0\ny P 0\nx P -20\n"
+"""P is drawn at x 10, and told at -20: a length to it is told from a line of help."""
+HOOP = "circle C 10 0 5\ny C.centre 0\nx C.centre -20\nradius C 5\n"
+
+
+@pytest.mark.parametrize("text, off_mm", [
+    ("point A 0 20\nfixed A\ny A -20\n", [40]),  # At 20, and told at -20.
+    ("point A 0 -20\nfixed A\ny A +20\n", [-40]),
+    ("point A 20 0\ny A 0\nx A 20\nx A -25\n", [45]),
+    ("point A 20 0\ny A 0\nx A 20\nx A 25\n", [-5]),
+    ("point A 20 0\ny A 0\nx A 20\nx A -25\nx A 21.5\n", [45, -1.5]),
+    ("point A -20 0\ny A 0\nx A 20\nx A 25\n", [-5]),  # At -20, and told 25 to the left.
+    ("point A -20 0\ny A 0\nx A -20\nx A -25\n", [5]),
+    ("point A 0.03175in 0\ny A 0\nx A 0.0625in\nx A -0.125in\n", [4.7625]),
+    (BEHIND + "distance Origin P 30\n", [-10]),  # A length has no side.
+    (BEHIND + "distance Origin P 12.5\n", [7.5]),
+    (BEHIND + "distance Origin P 30\ndistance P Origin 20\nx P +20\n", [-10, 0, -40]),
+    ("segment S 0 0 10 0\nfixed S.start\ny S.end 0\nx S.end -20\nlength S 30\n", [-10]),
+    (HOOP + "x Origin C.centre -25\n", [5]),
+    (HOOP + "x C.centre Origin +25\n", [-5]),
+])
+def test_of_what_is_told_on_the_other_side(program, text: str, off_mm: list[float]) -> None:
+    """What is measured, less what is told, where both are told from a line of help: of x and y
+    with their signs."""
+    found = left_out(text, program)
+    assert [each.off_um for each in found.dimensions] == [1000 * each for each in off_mm]
+    assert [each.conflicts for each in found.dimensions] == [each != 0 for each in off_mm]
+
+
+def test_a_row_on_the_other_side_is_told_by_how_much(program) -> None:
+    (line,) = listed(panel("point A 0 20\nfixed A\ny A -20\n", program), "left out")
+    assert line["text"] == ("constraint 2 (y A -20): a contradiction by 40\u00a0mm, "
+                            "the others make it more")
 
 
 def test_of_a_row_that_repeats_itself(program) -> None:

@@ -265,6 +265,14 @@ FLAT = "segment A 0 0 9 0\nsegment B A.end 4 3\nsegment C B.end A.start\nlength 
        "length B 4\nlength C 5\n"
 
 
+def test_of_many_pieces_it_is_told_how_many_more_there_are(client) -> None:
+    text = "".join(f"point P{number} {number} 0\n" for number in range(43))
+    lines = answer(client, "judge", text=text)["judgement"]["lines"]
+    for name, most, more in (("pieces", 40, 3), ("what to do", 20, 22)):
+        told = [each["text"] for each in lines if each.get("list") == name]
+        assert len(told) == most + 1 and told[-1] == f"and {more} more"
+
+
 def test_a_fault_is_told_where_and_by_how_much(client) -> None:
     judgement = answer(client, "judge", text=FLAT)["judgement"]
     failure = judgement["failure"]
@@ -390,6 +398,18 @@ def test_a_sketch_of_the_language_becomes_a_drawing(client) -> None:
     assert judgement["verdict"] == "well"
 
 
+@pytest.mark.parametrize("word, drawn, left_out", [
+    ("outside", 30, []), ("inside", 3, []),
+    ("inside", 30, ["inside A B: drawn so, they would touch outside"]),
+    ("outside", 3, ["outside A B: drawn so, they would touch inside"])])
+def test_circles_that_are_drawn_otherwise_than_they_touch(client, word, drawn, left_out) -> None:
+    text = f"sketch 2\ncircle A 0 0 10\ncircle B {drawn} 0 5\n{word} A B\nend\n"
+    data = base64.b64encode(text.encode()).decode()
+    (found,) = answer(client, "open", name="belt.sketch", data=data)["sketches"]
+    assert found["left_out"] == left_out
+    assert ("tangent A B" in found["text"].splitlines()) is (not left_out)
+
+
 @pytest.mark.parametrize("name, data", [
     ("part.FCStd", b"PK no zip"), ("part.slvs", b"\x00\x01"), ("part.dxf", b"\xff\xff"),
     ("part.step", b""), ("../../etc/passwd", b"x"), ("", b""), ("part.sketch", b"sketch 9\n"),
@@ -466,6 +486,13 @@ def test_a_client_that_says_nothing_is_let_go(program, monkeypatch, silent, more
             with socket.create_connection(("127.0.0.1", there.guard.port), timeout=10) as client:
                 client.sendall(said)
                 assert client.recv(1) == b""
+
+
+@pytest.mark.parametrize("seconds", ["0", "-1", "nan", "inf", "1e9"])
+def test_seconds_that_no_call_can_have_are_told(program, monkeypatch, capsys, seconds) -> None:
+    monkeypatch.setenv("PERTXOGAI_SKETCH", program.path)
+    assert main(["page", "--no-browser", "--seconds", seconds]) == 2
+    assert "--seconds takes a number above 0 and up to 86400" in capsys.readouterr().err
 
 
 def test_a_port_that_is_taken_is_told(program, monkeypatch, capsys) -> None:

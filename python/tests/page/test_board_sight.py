@@ -16,7 +16,7 @@ from pertxogai.page.edits import (
     Ask, Call, Construction, Draw, Edit, Erase, Move, Rename, Shift, Value)
 from pertxogai.page.freenames import Figure
 from pertxogai.page.sight import Sight, sight_of
-from pertxogai.program import Answer, ProgramError
+from pertxogai.program import Answer, Program, ProgramError
 
 PATHS = sorted(DRAWINGS.glob("*.drawing"))
 THERE = Place(Fraction(12_500), Fraction(-700))
@@ -110,3 +110,15 @@ def test_behind_trouble_all_is_told() -> None:
     found = desk.answer("edit", {"text": text, "edit": edit, "knows": True})
     assert all(all(things) for things in found["drawing"].values())
     assert [each["name"] for each in found["drawing"]["shapes"]] == ["A", "C"]
+
+
+def test_of_a_judgement_what_is_long_is_told_once(program: Program) -> None:
+    text = "segment A 0 0 40 0\ncoincident A.start Origin\nhorizontal A\nlength A 40\n"
+    given = {"text": text, "edit": {"do": "move", "points": [{"of": "A.end", "x": 41, "y": 1}]}}
+    desk = Desk(program)
+    known = desk.answer("judge", {"text": text})["judgement"]
+    told = desk.answer("edit", {**given, "knows": True})["judgement"]
+    whole = Desk(program).answer("edit", given)["judgement"]
+    assert known["verdict"] == "well" and known["language"] != told["language"]
+    assert known.keys() - told.keys() == {"placed", "laid", "colours"}
+    assert {**known, **told} == whole

@@ -28,6 +28,7 @@ export class Asked {
   /** Shows the constraints that stand. */
   show() {
     if (!this.isOpen) return;
+    const { selects, takes } = this.layer.node.contains(document.activeElement) ? document.activeElement.dataset : {};
     const { drawing, judgement } = this.paper.answer ?? {};
     const spare = new Set(judgement?.spare?.map((each) => each.number));
     const excess = new Map((judgement?.excess ?? []).map((each) => [each.number, `: ${each.told}`]));
@@ -37,5 +38,12 @@ export class Asked {
         ['button', { 'aria-label': `take away ${called}`, title: 'take it away', 'data-takes': number }, '×']];
     });
     this.layer.show(rows.length ? rows : [['none', 'li', { class: 'quiet' }, 'Nothing is asked for yet: select something on the board.']]);
+    if ((selects ?? takes) && document.activeElement === document.body) this.focus(Number(selects ?? takes));
+  }
+
+  /** The focus goes to the constraint of a number, or to the last where there are fewer. */
+  focus(number) {
+    const buttons = [...this.layer.node.querySelectorAll('[data-selects]')];
+    buttons[Math.min(number, buttons.length) - 1]?.focus();
   }
 }

@@ -1,10 +1,10 @@
 /** The board: the drawing as SVG, faint as drawn beneath what is placed, with its marks. */
-import { svg } from './nodes.js';
+import { svg, byId } from './nodes.js';
 import { View } from './view.js';
 import { Marks, markMade } from './marks.js';
 import { Layer } from './layer.js';
 import { Shown } from './shown.js';
-import { pathOf, shapeMade, pointMade, stillMade, middleOf, line, ring } from './shapes.js';
+import { kindOf, pathOf, shapeMade, pointMade, stillMade, middleOf, line, ring } from './shapes.js';
 
 const LAYERS = ['grid', 'drawn', 'edges', 'other', 'marks', 'dots', 'names', 'joints', 'faults'];
 export const NOTHING = { drawing: { shapes: [], constraints: [], marks: [] }, judgement: null };
@@ -19,13 +19,16 @@ export class Board {
   cross = null;
   overlay = null;
   other = null;
-  placed = { marks: [] };
+  placed = [];
+  /** What was last made of what. */
+  from = {};
   waits = false;
 
   constructor(node, selection) {
     Object.assign(this, { node, selection, over: svg('g', { class: 'overlay' }) });
     this.layers = Object.fromEntries(LAYERS.map((kind) => [kind, new Layer(svg('g', { class: kind }), svg)]));
     node.replaceChildren(...Object.values(this.layers).map((layer) => layer.node), this.over);
+    byId('faint').append(this.layers.drawn.node);
     selection.addEventListener('change', () => this.draw());
     new ResizeObserver(() => this.draw()).observe(node);
   }
@@ -47,13 +50,14 @@ export class Board {
   drawNow() {
     this.waits = false;
     const { drawing: { shapes, marks }, judgement } = this.overlay ? NOTHING : this.answer;
+    const isStill = this.isStill(shapes, judgement);
     const made = {
       grid: this.grid(this.size()),
       drawn: this.shown.views.length ? stillMade(shapes, this.shown.drawn, this.plane) : [],
-      edges: shapes.map((shape) => this.edge(shape)),
+      edges: isStill ? null : shapes.map((shape) => this.edge(shape)),
       other: this.other ? stillMade(shapes, this.other, this.plane) : [],
       marks: this.marks(marks, judgement),
-      dots: this.overlay ? [] : this.dots(shapes),
+      dots: isStill ? null : this.overlay ? [] : this.dots(shapes),
       names: this.overlay ? [] : this.names(shapes),
       joints: this.around((judgement?.missing?.joints ?? []).flatMap((joint) => joint.shared), (name, [cx, cy]) => [name, 'circle', { class: 'joint', cx, cy, r: 9 }]),
       faults: this.around(judgement?.failure?.at ?? [], (name, at) => [name, 'path', { class: 'fault', d: ring(at, 13) }]),
@@ -82,6 +86,20 @@ export class Board {
       ['path', { class: `axis ${this.selection.names.has(name) ? 'selected' : ''}`, d: path }], ['path', { class: 'hit', d: path }]];
     return [['lines', 'path', { class: 'gridlines', d }],
       axis('XAxis', line([0, this.plane.y], [width, this.plane.y])), axis('YAxis', line([this.plane.x, 0], [this.plane.x, height]))];
+  }
+
+  /** Whether all shapes and points are shown as they were: of what is placed it doesn't count where it is drawn. */
+  isStill(shapes, judgement) {
+    const { selection: { names }, plane: { scale, x, y } } = this;
+    const what = judgement?.placed ? shapes.map((shape) => `${shape.name} ${kindOf(shape)} ${shape.shares}`) : shapes;
+    return this.isSame('shapes', [scale, x, y, names, this.overlay, judgement?.colours, ...this.shown.views, ...what]);
+  }
+
+  /** Whether something is made of the same as last time. */
+  isSame(made, from) {
+    const old = this.from[made];
+    this.from[made] = from;
+    return from.length === old?.length && from.every((each, place) => each === old[place]);
   }
 
   /** A shape as it is shown. */
@@ -113,17 +131,16 @@ export class Board {
     const blamed = new Set(judgement?.failure?.dimensions ?? []);
     const excess = new Map((judgement?.excess ?? []).map((each) => [each.number, each]));
     const { scale, x, y } = this.plane;
-    const from = [scale, x, y, marks, numbers, [...spare].join(), [...blamed].join(), JSON.stringify(judgement?.excess ?? [])];
-    const isSame = (count) => from.slice(0, count).every((each, place) => each === this.placed.from?.[place]);
-    if (isSame(from.length)) return null;
-    this.placed = { from, marks: isSame(4) ? this.placed.marks : new Marks(this.plane).all(marks) };
+    const from = [scale, x, y, marks];
+    if (!this.isSame('places', from)) this.placed = new Marks(this.plane).all(marks);
+    if (this.isSame('marks', [...from, numbers, [...spare].join(), [...blamed].join(), JSON.stringify(judgement?.excess ?? [])])) return null;
     const kinds = this.answer.drawing.constraints.map(({ number, called }) => `markgroup ${spare.has(number) || excess.has(number) ? 'spare' : ''} ${excess.has(number) ? 'excess' : ''} ${blamed.has(called) ? 'blamed' : ''} ${numbers.has(number) ? 'selectedmark' : ''}`);
-    return this.placed.marks.map((mark, place) => markMade(mark, place, kinds[mark.number - 1], excess.get(mark.number)?.told));
+    return this.placed.map((mark, place) => markMade(mark, place, kinds[mark.number - 1], excess.get(mark.number)?.told));
   }
 
   /** Where the first mark of a constraint stands, in pixels. */
   markPlace(number) {
-    return this.placed.marks.find((each) => each.number === number)?.at;
+    return this.placed.find((each) => each.number === number)?.at;
   }
 
   /** Where a point or the middle of a shape is shown, in pixels. */

@@ -1,30 +1,42 @@
 /** Dialogs over the page: each gives the value of the button that closed it, once one has. */
 import { byId } from './nodes.js';
 
-/** Shows a dialog of the page's. */
-export function closed(dialog) {
-  dialog.returnValue = '';
-  dialog.showModal();
-  return new Promise((done) => { dialog.addEventListener('close', () => done(dialog.returnValue), { once: true }); });
+/** Is done once no dialog is open that was asked for. */
+let last = Promise.resolve();
+
+/** Shows a dialog of the page's, by `show`, once those that were asked for before it are closed. */
+export function closed(dialog, show = () => dialog.showModal()) {
+  const answer = last.then(() => {
+    dialog.returnValue = '';
+    show();
+    return new Promise((done) => { dialog.addEventListener('close', () => done(dialog.returnValue), { once: true }); });
+  });
+  last = answer.catch(() => {});
+  return answer;
 }
 
 /** Shows a title, and something below it. */
 export function told(title, content) {
-  byId('dialog-title').textContent = title;
-  byId('dialog').querySelector('div').replaceChildren(content);
-  return closed(byId('dialog'));
+  const dialog = byId('dialog');
+  return closed(dialog, () => {
+    byId('dialog-title').textContent = title;
+    dialog.querySelector('div').replaceChildren(content);
+    dialog.showModal();
+  });
 }
 
 /** The value that is typed at a place of the board, in pixels; null where it is given up. */
 export async function typed(label, value, [x, y]) {
   const dialog = byId('value');
   const input = dialog.querySelector('input');
-  const board = byId('board').getBoundingClientRect();
-  dialog.querySelector('span').textContent = label;
-  dialog.style.setProperty('--x', `${board.left + x}px`);
-  dialog.style.setProperty('--y', `${board.top + y + 14}px`);
-  input.value = value;
-  const answer = closed(dialog);
-  input.select();
-  return await answer ? input.value.trim() || null : null;
+  const answer = await closed(dialog, () => {
+    const board = byId('board').getBoundingClientRect();
+    dialog.querySelector('span').textContent = label;
+    dialog.style.setProperty('--x', `${board.left + x}px`);
+    dialog.style.setProperty('--y', `${board.top + y + 14}px`);
+    input.value = value;
+    dialog.showModal();
+    input.select();
+  });
+  return answer ? input.value.trim() || null : null;
 }

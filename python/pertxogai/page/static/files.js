@@ -2,6 +2,8 @@
 import { html, byId } from './nodes.js';
 import { told } from './dialogs.js';
 
+/** So many bytes at most a file may have: with what they are sent in, a call holds no more. */
+const MOST_BYTES = 750 * 1024;
 const ENDINGS = { dxf: '.dxf', 'program-dxf': '-program.dxf', svg: '.svg', sketch: '.sketch', claim: '.claim' };
 
 /** What goes in and out of the page. */
@@ -35,8 +37,9 @@ export class Files {
   async open(file) {
     this.input.value = '';
     if (!file) return;
-    const data = await base64(file);
-    const found = data === undefined ? { trouble: { message: `${file.name} can’t be read` } } : await this.paper.ask('open', { name: file.name, data });
+    const data = file.size > MOST_BYTES ? null : await base64(file);
+    const why = data === null ? 'has over 750 KB: judge it by ./pertxogai judge' : data === undefined ? 'can’t be read' : null;
+    const found = why ? { trouble: { message: `${file.name} ${why}` } } : await this.paper.ask('open', { name: file.name, data });
     if (found.sketches) {
       const sketch = found.sketches.length === 1 ? found.sketches[0] : await chosen(file.name, found.sketches);
       if (sketch) await this.take(sketch);
@@ -68,8 +71,8 @@ export class Files {
   /** Exports what is shown. */
   async export(kind) {
     byId('export').open = false;
-    const { name } = this.paper;
     const text = this.paper.settle();
+    const { name } = this.paper;
     const call = { claim: 'verify' }[kind] ?? kind;
     const found = kind === 'sketch' ? await this.language(text) : await this.paper.ask(call, { text, name, release: 'R2010' });
     const content = found[{ 'program-dxf': 'dxf' }[kind] ?? kind];

@@ -5,6 +5,7 @@ import { line, ring, bow } from './shapes.js';
 import { namesOf } from './selection.js';
 
 const SLACK = 4;
+const NOTHING_DRAWN = 'Nothing is drawn: its places are one, or lie on one line. Choose others.';
 const DATUM = ['Origin', 'XAxis', 'YAxis'];
 
 /** Turns what a hand does on the board into selections and edits. */
@@ -17,8 +18,7 @@ export class Gestures {
   constructor(board, paper, selection, hand, tell) {
     Object.assign(this, { board, paper, selection, hand, tell });
     const { node } = board;
-    for (const what of ['down', 'move', 'up']) node.addEventListener(`pointer${what}`, (event) => this[what](event, this.at(event)));
-    node.addEventListener('pointercancel', () => this.cancel());
+    for (const what of ['down', 'move', 'up', 'cancel']) node.addEventListener(`pointer${what}`, (event) => { if (event.isPrimary) this[what](event, this.at(event)); });
     node.addEventListener('wheel', (event) => this.wheel(event), { passive: false });
   }
 
@@ -114,21 +114,23 @@ export class Gestures {
     else if (!more) this.selection.set([]);
   }
 
-  /** A click of a tool that draws counts once what was clicked before it is drawn. */
+  /** A click of a tool that draws counts once what was clicked before it is drawn, there where it was clicked; not where another tool is held by then. */
   press(pixels, shift) {
-    const next = () => this.draw(pixels, shift);
+    const { hand: { tool }, board: { plane } } = this;
+    const at = plane.toPlane(pixels);
+    const next = () => { if (this.hand.tool === tool) return this.draw(plane.toScreen(at), shift); };
     this.pressing = this.pressing.then(next, next);
   }
 
   /** Draws by a click. */
   async draw(pixels, shift) {
     const { hand, paper } = this;
-    if (!hand.draws) return;
     const { spot, at, near, level } = this.spot(pixels, shift);
     const isChain = hand.clicks.length === 1 && hand.tool === 'segment';
     const edit = hand.click(spot, at);
     const { clicks } = hand;
     this.showHand(pixels, shift);
+    if (!edit && !clicks.length) this.tell(NOTHING_DRAWN);
     if (!edit || !await paper.draw(edit, isChain && level) || hand.clicks !== clicks) return;
     if (isChain && !near) hand.click({ point: `${paper.answer.drawing.shapes.at(-1).name}.end` }, at);
     this.showHand(pixels, shift);

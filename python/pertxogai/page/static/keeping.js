@@ -9,6 +9,8 @@ export class Keeping {
   tab = `${Date.now()}.${Math.random()}`;
   channel = new BroadcastChannel('pertxogai');
   others = new Set();
+  /** What this tab kept last. */
+  mine = null;
 
   constructor(paper, tell) {
     Object.assign(this, { paper, tell });
@@ -22,12 +24,17 @@ export class Keeping {
     window.addEventListener('pagehide', () => this.channel.postMessage({ gone: this.tab }));
   }
 
-  /** Keeps the text that stands; what another tab kept there goes aside. */
+  /** Keeps the drawing that stands; of it and what another tab has kept since, the one that was changed first goes aside. */
   keep() {
     const { text, name, saved } = this.paper;
+    const mine = { text, name, saved, tab: this.tab };
     const last = this.kept();
-    if (last && last.tab !== this.tab && last.text !== text) this.put(last);
-    this.store(KEY, { text, name, saved, tab: this.tab });
+    const isOthers = last && last.tab !== this.tab;
+    const hasChanged = JSON.stringify(mine) !== this.mine;
+    if (isOthers && last.text !== text) this.put(hasChanged ? last : mine);
+    if (isOthers && !hasChanged) return;
+    this.mine = JSON.stringify(mine);
+    this.store(KEY, mine);
   }
 
   /** What was kept, or null. */
@@ -39,6 +46,8 @@ export class Keeping {
   put({ text, name, saved, tab }) {
     if (!text.trim() || text === saved) return;
     const all = this.unsaved().filter((each) => each.text !== text && (!tab || each.tab !== tab));
+    const gone = all[MOST_ASIDE - 1];
+    if (gone) this.tell('keeping', `More than ${MOST_ASIDE} drawings are left unsaved: the oldest is no longer kept (${gone.name}).`);
     this.store(ASIDE, [{ text, name: `${name.replace(/, unsaved$/, '')}, unsaved`, tab }, ...all].slice(0, MOST_ASIDE));
   }
 

@@ -1,4 +1,6 @@
 /** The keyboard: a key that a button has is that button; what else a key does is told here. */
+import { byId } from './nodes.js';
+
 const ARROWS = { ArrowLeft: [-1, 0], ArrowRight: [1, 0], ArrowUp: [0, 1], ArrowDown: [0, -1] };
 /** Many keyboards have these by AltGr or by Option alone, or by Shift. */
 const BRACKETS = { '[': -1, '{': -1, ']': 1, '}': 1 };
@@ -41,11 +43,11 @@ export class Keys {
     return true;
   }
 
-  /** Changes the value of the dimension that is selected, else clicks at the cross. */
+  /** Changes the value of the dimension that is selected, unless a tool draws; else clicks at the cross. */
   enter(shift) {
-    const [number] = this.page.selection.numbers;
-    if (number) this.page.offers.change(number);
-    else this.page.gestures.enter(shift);
+    const { gestures, hand, offers, selection: { numbers: [number] } } = this.page;
+    if (number && !hand.draws) offers.change(number);
+    else gestures.enter(shift);
   }
 }
 
@@ -56,7 +58,7 @@ function pressed(key) {
   return Boolean(button);
 }
 
-/** Whether a key is pressed on the board, or nowhere else. */
+/** Whether a key is pressed on the board, or on nothing that takes keys. */
 function onBoard(event) {
-  return event.target.closest('#board') || event.target === document.body;
+  return event.target.closest('#board') || [document.body, byId('verdict')].includes(event.target);
 }

@@ -59,13 +59,22 @@ class Page {
     paper.addEventListener('begin', () => this.leave());
     paper.addEventListener('answer', (event) => this.show(event.detail));
     paper.addEventListener('trouble', (event) => hint(event.detail));
-    document.addEventListener('click', (event) => this.click(event.target.closest('button')));
-    byId('name').addEventListener('change', () => { paper.name = byId('name').value.trim() || 'drawing'; keeping.keep(); });
+    document.addEventListener('click', ({ target }) => {
+      if (!target.closest('#export')) byId('export').open = false;
+      this.click(target.closest('button'));
+    });
+    paper.addEventListener('settle', () => this.call());
+    byId('name').addEventListener('change', () => { this.call(); keeping.keep(); });
     byId('board').addEventListener('mouseup', (event) => this.pressed(event.detail));
     this.take('select');
     const { text = '', name = 'drawing', saved = '' } = keeping.kept() ?? {};
     byId('name').value = name;
     paper.begin(text, name, saved).then(() => this.board.fit());
+  }
+
+  /** The drawing is called as its field says. */
+  call() {
+    this.paper.name = byId('name').value.trim() || 'drawing';
   }
 
   /** A button is clicked. */
@@ -118,10 +127,14 @@ class Page {
     button.ariaPressed = String(this.hand.construction);
   }
 
-  /** Gives up, one thing after the other: the clicks, the tool, the cross, the selection. */
+  /** Gives up, one thing after the other: the menu, the clicks, the tool, the cross, the selection. */
   escape() {
     const { hand, board } = this;
-    if (hand.draws) this.take(hand.clicks.length ? hand.tool : 'select');
+    const menu = byId('export');
+    if (menu.open) {
+      if (menu.contains(document.activeElement)) menu.firstElementChild.focus();
+      menu.open = false;
+    } else if (hand.draws) this.take(hand.clicks.length ? hand.tool : 'select');
     else if (board.cross) board.cross = null;
     else this.selection.set([]);
     hint(hand.hint);
@@ -146,7 +159,7 @@ class Page {
 
 /** Shows a line at the foot of the board. */
 function hint(text) {
-  byId('hint').textContent = text;
+  byId('hint').textContent = byId('hint').title = text;
 }
 
 /** Shows a line of the server's, the tabs' or the keeping's over the whole page, or none. */

@@ -25,6 +25,8 @@ export class Offers {
     const names = [...selection.names];
     if (String(names) !== this.fitted) this.fill([]);
     this.fitted = String(names);
+    await shown();
+    if (turn !== this.turn) return;
     const found = names.length && !paper.refused ? await paper.ask('offers', { text: paper.text, names }) : null;
     if (turn !== this.turn) return;
     this.fill(found?.offers ?? []);
@@ -113,4 +115,9 @@ export class Offers {
     const { width, height } = this.board.size();
     return this.board.markPlace(number) ?? middleOf(places.length ? places : [[width / 2, height / 2]]);
   }
+}
+
+/** Waits until the next frame is shown: the drawing goes before. */
+function shown() {
+  return new Promise((done) => { requestAnimationFrame(() => setTimeout(done)); });
 }

@@ -16,6 +16,7 @@ export class Paper extends EventTarget {
   said = null;
   /** What is being done; the edit that a hand makes while it moves, and the last that was shown, of which text. */
   waiting = Promise.resolve();
+  weighed = Promise.resolve();
   live = null;
   seen = null;
   asked = 0;
@@ -92,9 +93,9 @@ export class Paper extends EventTarget {
     });
   }
 
-  /** The text is drawn as it is placed, or as it is with the choices of some steps turned over. */
-  redraw(steps) {
-    return this.change((text) => this.server.call('redraw', { text, steps }));
+  /** The text is drawn as it is placed, or as it is with the choices of some steps turned over; by steps only the text whose steps they are. */
+  redraw(steps, seen) {
+    return this.change((text) => (steps.length && text !== seen ? { trouble: this.refused ?? CHANGED } : this.server.call('redraw', { text, steps })));
   }
 
   /** Changes the text that stands by a call; where another was typed meanwhile, that one; where another drawing has begun, none. Gives whether it was taken. */
@@ -162,13 +163,20 @@ export class Paper extends EventTarget {
     if (!this.refused) this.answer = answer;
     this.said = this.refused ? { ...this.answer, ...answer, judgement: null } : answer;
     this.tell('answer', this.said);
-    if (answer.judgement?.verdict === 'over') this.weigh(text, answer);
+    if (answer.judgement?.verdict === 'over') this.weighLater(text, answer);
+  }
+
+  /** What is over is weighed one after the other, so that there is room for all else. */
+  weighLater(text, answer) {
+    const weigh = () => this.weigh(text, answer);
+    this.weighed = this.weighed.then(weigh, weigh);
   }
 
   /** Has told and measured, beside all else, what is left out of a drawing that is over, and what may go. */
   async weigh(text, answer) {
-    const found = await this.server.call('weigh', { text }).catch(ended);
-    if (!found?.spare || this.answer !== answer || this.refused) return;
+    const stands = () => this.answer === answer && !this.refused;
+    const found = stands() && await this.server.call('weigh', { text }).catch(ended);
+    if (!found?.spare || !stands()) return;
     Object.assign(answer.judgement, found);
     if (!this.live) this.tell('answer', answer);
   }
@@ -192,9 +200,10 @@ function ended(error) {
   return false;
 }
 
-/** An answer with all that it leaves out since it is as it was: lists, and things of a list. */
+/** An answer with all that it leaves out since it is as it was: what is long of the judgement, lists, and things of a list. */
 function completed(answer, known) {
-  const { drawing } = answer;
+  const { drawing, judgement } = answer;
+  if (judgement) answer.judgement = { ...known.judgement, ...judgement };
   for (const [what, old] of Object.entries(drawing ? known.drawing : {})) drawing[what] = drawing[what]?.map((each, place) => each ?? old[place]) ?? old;
   return answer;
 }

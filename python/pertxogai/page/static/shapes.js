@@ -58,6 +58,6 @@ export function stillMade(shapes, view, plane) {
 }
 
 /** The classes of a shape. */
-function kindOf(shape) {
+export function kindOf(shape) {
   return `shape ${shape.construction ? 'construction' : ''} ${shape.outer ? 'outer' : ''}`;
 }

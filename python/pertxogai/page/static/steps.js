@@ -151,13 +151,14 @@ export class Steps {
 
   /** The drawing is drawn anew as the other shape lies. */
   redraw() {
-    this.paper.redraw([...this.flipped]);
+    this.paper.redraw([...this.flipped], this.text);
   }
 
   /** Has what is shown verified as a claim, and tells what is said of it. */
   async verify() {
-    const found = await this.paper.ask('verify', { text: this.paper.text });
-    byId('verified').textContent = found.said ?? found.trouble?.message ?? '';
+    const told = byId('verified');
+    const found = await this.paper.ask('verify', { text: this.text });
+    told.textContent = found.said ?? found.trouble?.message ?? '';
   }
 
   /** A step of the tree of merges, with all that it joins below it. */

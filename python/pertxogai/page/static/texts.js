@@ -2,7 +2,7 @@
 import { html, byId } from './nodes.js';
 
 /** So many milliseconds pass between a change and the text. */
-const MOMENT = 120;
+const MOMENT = 300;
 
 /** The panel of texts. */
 export class Texts {

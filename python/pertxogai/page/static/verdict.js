@@ -12,10 +12,18 @@ export class Verdict {
     const [kind, title, lines] = told(answer);
     this.node.className = kind;
     this.node.dataset.verdict = kind;
+    const focused = this.node.contains(document.activeElement) ? document.activeElement : null;
     const time = answer.ms && html('span', { class: 'time', title: 'the time that the server took' }, `${answer.ms} ms`);
     const lists = new Map();
     const nodes = lines.map((line) => this.line(line, lists));
     this.node.replaceChildren(...[time, html('h2', {}, title), ...nodes].filter(Boolean));
+    if (focused) this.focus(focused);
+  }
+
+  /** The focus stays on the button that does the same as the one that had it, or else here. */
+  focus(old) {
+    const isSame = (each) => each.ariaLabel === old.ariaLabel && each.textContent === old.textContent;
+    ([...this.node.querySelectorAll('button')].find(isSame) ?? this.node).focus();
   }
 
   /** A line, or the list that it begins; null of a line in a list that another has begun. */

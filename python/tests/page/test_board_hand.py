@@ -1,0 +1,263 @@
+"""The board in a real browser: a hand that is quicker than the answers, keys and fingers, the
+focus, and two tabs."""
+from __future__ import annotations
+
+import json
+from pathlib import Path
+
+import pytest
+
+pytest.importorskip("flask", reason="the board needs Debian's python3-flask")
+pytest.importorskip("selenium", reason="the browser is driven by Debian's python3-selenium")
+
+from boards import CHROMIUM, DRIVER, Served, wait_for  # noqa: E402
+from browsing import Page  # noqa: E402
+from selenium.webdriver.common.by import By  # noqa: E402
+from selenium.webdriver.common.keys import Keys  # noqa: E402
+
+if not (CHROMIUM and DRIVER):
+    pytest.skip("Debian's chromium and chromium-driver aren't there", allow_module_level=True)
+
+TRIANGLE = """segment A 0 0 40 0
+segment B A.end 20 30
+segment C B.end A.start
+length A 40
+length B 36
+length C 35
+"""
+OVER = TRIANGLE + "length A 41\n"
+FOCUSED = "return document.activeElement"
+
+
+def focus(page: Page, selector: str) -> None:
+    """Puts the focus on a button."""
+    page.driver.execute_script("document.querySelector(arguments[0]).focus()", selector)
+
+
+# Between two answers.
+
+def test_a_click_counts_where_it_was_clicked(page: Page) -> None:
+    page.keys("s")
+    with page.held("edit"):
+        page.press(300, 400)
+        page.press(400, 400)
+        page.press(400, 300)
+        page.keys("+", "+")
+    page.wait("two", "return document.querySelectorAll('.edges [data-name]').length === 2")
+    (x, y), (u, v) = page.at("S1.end"), page.at("S2.end")
+    assert abs(u - x) < 20 and abs(y - v - 100 * 1.25 ** 2) < 20
+
+
+def test_a_click_of_a_tool_that_was_laid_down_draws_nothing(page: Page) -> None:
+    page.keys("s")
+    with page.held("edit"):
+        page.press(300, 400)
+        page.press(400, 400)
+        page.press(500, 300)
+        page.keys("p")
+    page.press(600, 200)
+    wait_for("a point", lambda: "point" in page.text())
+    assert page.text().count("point") == 1
+
+
+def test_what_is_verified_is_told_of_its_own_drawing(page: Page) -> None:
+    page.begin(TRIANGLE, "well")
+    page.click("#tab-steps")
+    page.wait("a button", "return document.getElementById('verify')")
+    with page.held("verify"):
+        page.click("#verify")
+        page.click("#tab-text")
+    page.settled()
+    page.click("#tab-steps")
+    page.wait("a button", "return document.getElementById('verify')")
+    with page.held("verify"):
+        page.click("#verify")
+        page.driver.execute_script(
+            "const t = document.getElementById('text'); t.value = t.value.replace('35', '34');"
+            "t.dispatchEvent(new Event('input'));")
+    page.wait("the other", "return document.getElementById('verify') && "
+                           "document.getElementById('language').textContent.includes(' 34\\n')")
+    assert page.told("verified") == ""
+    page.click("#tab-text")
+
+
+def test_the_steps_are_shown_anew_while_the_claim_is_verified(page: Page) -> None:
+    page.begin(TRIANGLE, "well")
+    page.click("#tab-steps")
+    page.wait("a button", "return document.getElementById('verify')")
+    with page.held("verify"):
+        page.click("#verify")
+        page.click("#tab-text")
+        page.click("#tab-steps")
+    page.wait("a button", "return document.getElementById('verify')")
+    assert page.told("verified") == "" and page.faults() == []
+    page.click("#tab-text")
+
+
+def test_the_other_shape_is_drawn_of_its_own_text_alone(page: Page) -> None:
+    page.begin(TRIANGLE, "well")
+    page.click("#tab-steps")
+    page.wait("a step", "return document.getElementById('flip')?.hidden === false")
+    page.click("#flip")
+    page.wait("the other shape", "return document.getElementById('redraw').hidden === false")
+    page.select("B")
+    with page.held("edit"):
+        page.keys(Keys.ALT + Keys.ARROW_UP)
+        page.click("#redraw")
+    page.wait("told", "return document.getElementById('hint').textContent"
+                      " === 'the drawing has changed: choose again'")
+    page.click("#tab-text")
+
+
+def test_what_is_over_is_weighed_one_after_the_other(page: Page) -> None:
+    asked = ("return performance.getEntriesByType('resource')"
+             ".filter((each) => each.name.endsWith('call/weigh')).length")
+    page.begin(OVER, "over")
+    page.tells("contradiction")
+    before = page.driver.execute_script(asked)
+    page.select("A")
+    with page.held("weigh"):
+        for _ in range(3):
+            text = page.text()
+            page.keys(Keys.ALT + Keys.ARROW_RIGHT)
+            wait_for("an edit", lambda: page.text() != text)  # noqa: B023
+        assert page.driver.execute_script(asked) <= before + 1
+    page.tells("contradiction")
+
+
+def test_places_that_make_no_figure_are_told(page: Page) -> None:
+    page.keys("a")
+    for x in (300, 500, 400):
+        page.press(x, 400)
+    page.wait("told", "return document.getElementById('hint').textContent"
+                      ".startsWith('Nothing is drawn')")
+    page.keys("s")
+    assert page.told("hint").startswith("Segment: click its start")
+
+
+# By keys and fingers.
+
+def test_enter_draws_also_where_a_dimension_is_selected(page: Page) -> None:
+    page.begin(TRIANGLE, "well")
+    page.click("#tab-asked")
+    page.click("[data-selects='1']")
+    page.keys("p", Keys.ARROW_UP, Keys.ENTER)
+    wait_for("a point", lambda: "point P1" in page.text())
+    page.click("#tab-text")
+
+
+def test_the_menu_goes_by_a_click_elsewhere_and_by_escape(page: Page) -> None:
+    is_open = "return document.getElementById('export').open"
+    page.click("#export summary")
+    assert page.driver.execute_script(is_open)
+    page.press(500, 400)
+    page.wait("closed", "return !document.getElementById('export').open")
+    page.click("#export summary")
+    page.driver.switch_to.active_element.send_keys(Keys.ESCAPE)
+    assert not page.driver.execute_script(is_open)
+    assert page.driver.execute_script(FOCUSED).tag_name == "summary"
+
+
+def test_a_second_finger_leaves_the_drag(page: Page) -> None:
+    page.begin("point Q 0 0\npoint P 30 20\n", "open")
+    x, y = page.driver.execute_script(
+        "const b = document.querySelector('[data-name=P] .dothit').getBoundingClientRect();"
+        "return [b.x + b.width / 2, b.y + b.height / 2];")
+    page.driver.execute_cdp_cmd("Emulation.setTouchEmulationEnabled",
+                                {"enabled": True, "maxTouchPoints": 2})
+
+    def touch(kind: str, *places: tuple[float, float]) -> None:
+        points = [{"x": u, "y": v, "id": number} for number, (u, v) in enumerate(places)]
+        page.driver.execute_cdp_cmd("Input.dispatchTouchEvent",
+                                    {"type": kind, "touchPoints": points})
+
+    try:
+        touch("touchStart", (x, y))
+        touch("touchMove", (x - 40, y))
+        touch("touchMove", (x - 80, y))
+        touch("touchStart", (x - 80, y), (x - 200, y - 100))
+        touch("touchEnd", (x - 80, y))
+        touch("touchEnd")
+    finally:
+        page.driver.execute_cdp_cmd("Emulation.setTouchEmulationEnabled", {"enabled": False})
+    wait_for("another place", lambda: "point P 30 20" not in page.text())
+
+
+# The focus.
+
+def test_the_focus_stays_in_the_verdict(page: Page) -> None:
+    page.driver.execute_script(
+        "const { fetch } = window; window.fetch = (path, options) => path === 'call/weigh' ?"
+        " new Promise((done) => { window.weighs = () => { window.fetch = fetch;"
+        " done(fetch(path, options)); }; }) : fetch(path, options);")
+    page.begin(OVER, "over")
+    page.wait("a call", "return Boolean(window.weighs)")
+    focus(page, "#verdict [data-spare] button")
+    label = page.driver.execute_script(FOCUSED).get_attribute("aria-label")
+    page.driver.execute_script("window.weighs()")
+    page.tells("contradiction")
+    assert page.driver.execute_script(FOCUSED).get_attribute("aria-label") == label
+    page.driver.execute_script(FOCUSED).send_keys(Keys.ENTER)
+    page.verdict("well")
+    assert page.driver.execute_script(FOCUSED).get_attribute("id") == "verdict"
+
+
+def test_the_focus_stays_in_the_list_of_constraints(page: Page) -> None:
+    page.begin(TRIANGLE, "well")
+    page.click("#tab-asked")
+    for number, selects in ((3, "2"), (1, "1")):
+        focus(page, f"[data-takes='{number}']")
+        page.driver.execute_script(FOCUSED).send_keys(Keys.ENTER)
+        page.wait("the next", f"return document.activeElement.dataset.selects === '{selects}'")
+    page.click("#tab-text")
+
+
+# Files and tabs.
+
+def test_a_name_that_is_being_typed_is_the_files(page: Page) -> None:
+    page.begin(TRIANGLE, "well")
+    name = page.driver.find_element(By.ID, "name")
+    name.send_keys(Keys.CONTROL, "a")
+    name.send_keys("bracket")
+    name.send_keys(Keys.CONTROL, "s")
+    assert page.downloaded("bracket.drawing").decode() == TRIANGLE
+
+
+def test_a_file_that_is_too_large_is_told_by_its_name(page: Page, tmp_path: Path) -> None:
+    large = tmp_path / "large.dxf"
+    large.write_bytes(bytes(900_000))
+    page.driver.find_element(By.ID, "file").send_keys(str(large))
+    page.wait("told", "return document.getElementById('hint').textContent"
+                      ".startsWith('large.dxf has over 750 KB')")
+
+
+def test_of_two_tabs_the_one_that_was_changed_last_is_shown_anew(
+        page: Page, board: Served) -> None:
+    mine, theirs = "segment A 0 0 50 0\nlength A 50\n", "segment B 0 0 30 0\nlength B 30\n"
+    page.begin(mine, "well")
+    first = page.driver.current_window_handle
+    page.driver.switch_to.new_window("tab")
+    page.driver.get(board.guard.address)
+    page.verdict("well")
+    page.begin(theirs, "well")
+    page.driver.get("about:blank")
+    page.driver.close()
+    page.driver.switch_to.window(first)
+    page.driver.get("about:blank")
+    page.driver.get(board.guard.address)
+    page.verdict("well")
+    assert page.text() == theirs
+    aside = json.loads(page.driver.execute_script(
+        "return localStorage.getItem('pertxogai.aside')"))
+    assert [each["text"] for each in aside] == [mine]
+
+
+def test_the_oldest_of_many_that_were_left_unsaved_is_told(page: Page) -> None:
+    page.driver.execute_script(
+        "localStorage.setItem('pertxogai.aside', JSON.stringify(Array.from({ length: 11 },"
+        " (_, place) => ({ name: `part ${place}, unsaved`, text: `point A ${place} 0` }))));")
+    for number, told in enumerate(("", "the oldest is no longer kept (part 10, unsaved)")):
+        page.begin(f"segment A 0 0 5{number} 0\nlength A 5{number}\n", "well")
+        page.click("#new")
+        page.verdict("empty")
+        assert told in page.told("banner") and bool(told) == bool(page.told("banner"))
