@@ -11,3 +11,6 @@ pub mod Rows
 pub mod Naming
 pub mod Halving
 pub mod Taking
+pub mod Once
+pub mod SideBySide
+pub mod Gathering

@@ -3,7 +3,9 @@
 
 mod cluster;
 mod family;
+mod joining;
 mod law;
+mod order;
 mod row;
 mod search;
 mod start;
