@@ -15,3 +15,6 @@ mod Ordering
 pub mod Lasting
 pub mod Parts
 pub mod Outcomes
+pub mod Once
+pub mod SideBySide
+pub mod Gathering

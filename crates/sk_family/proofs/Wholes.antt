@@ -1,8 +1,8 @@
 -- What the clusters of some names make, one name after another.
-use Rattle.std.proofs.Common.{◌≡◌, inl, inr, ℕ, ◌+◌, ◌<◌, ◌≤◌, List, [], ◌∷◌, ◌++◌, length, get_or, take, ap, sym, subst, ◌∙◌, arith}
+use Rattle.std.proofs.Common.{◌≡◌, inl, inr, ℕ, ◌+◌, ◌<◌, ◌≤◌, List, [], ◌∷◌, length, get_or, take, ap, sym, subst, ◌∙◌, arith}
 use Rattle.std.specs.Prelude.{All, AllPairs, Contains, map}
 use Rattle.std.proofs.lemmas.List.{take_all, take_more}
-use Rattle.std.proofs.lemmas.List.Elements.{All-contains, Contains-append_cases, Contains-append_left, Contains-append_right, Contains-get_or}
+use Rattle.std.proofs.lemmas.List.Elements.{All-contains, Contains-append_cases, Contains-get_or}
 use Rattle.sk_base.specs.declared.Name.{Name}
 use Rattle.sk_base.specs.ClusterNames.{is_named}
 use Rattle.sk_base.specs.Numbering.{elem_number, con_number}
@@ -71,33 +71,3 @@ module _ (names : List Name) (clusters : List Cluster) (by_name : AllPairs ByNam
           let (c, c_in, is) = mapped_from body_of (named names clusters) x x_in in
           let (was, is_one) = filtered_from (λ (d : Cluster). is_named names d.name) clusters c c_in in
           subst (λ b. Within b (body_of whole)) is (all.has c was (among_named names c.name is_one)))))
-
--- what each half of the names makes, joined
-pub made_by_halves : (names front back : List Name) (clusters : List Cluster) → names ≡ front ++ back → All (λ c. IsRisingBody (body_of c)) clusters
-    → join (made_of front clusters) (made_of back clusters) ≡ made_of names clusters
-made_by_halves names front back clusters split rise =
-    same_within (join (made_of front clusters) (made_of back clusters)) (made_of names clusters)
-    (rising_join (made_of front clusters) (made_of back clusters) (made_rises back clusters rise)) (made_rises names clusters rise)
-    (join_within (made_of front clusters) (made_of back clusters)
-    (within_more front (λ n n_in. subst (λ l. Contains l n) (sym split) (Contains-append_left front back n n_in)))
-    (within_more back (λ n n_in. subst (λ l. Contains l n) (sym split) (Contains-append_right front back n n_in))))
-    (whole_within (map body_of (named names clusters)) (λ x x_in. (
-    let (c, c_in, is) = mapped_from body_of (named names clusters) x x_in in
-    let (was, is_one) = filtered_from (λ (d : Cluster). is_named names d.name) clusters c c_in in
-    subst (λ b. Within b (join (made_of front clusters) (made_of back clusters))) is
-    (elim (Contains-append_cases front back c.name (subst (λ l. Contains l c.name) split (among_named names c.name is_one))) [
-      | inl before ↦ within_along (within_made front c was before) (left_within (made_of front clusters) (made_of back clusters))
-      | inr after ↦ within_along (within_made back c was after) (right_within (made_of front clusters) (made_of back clusters))
-    ]))))
-  where
-    within_made : (ns : List Name) (c : Cluster) → Contains clusters c → Contains ns c.name → Within (body_of c) (made_of ns clusters)
-    within_made ns c c_in named_in =
-        each_within (map body_of (named ns clusters)) (body_of c)
-        (contains_mapped body_of (named ns clusters) c (contains_filtered (λ (d : Cluster). is_named ns d.name) clusters c c_in (named_among ns c.name named_in)))
-
-    within_more : (ns : List Name) → ((n : Name) → Contains ns n → Contains names n) → Within (made_of ns clusters) (made_of names clusters)
-    within_more ns more =
-        whole_within (map body_of (named ns clusters)) (λ x x_in. (
-        let (c, c_in, is) = mapped_from body_of (named ns clusters) x x_in in
-        let (was, is_one) = filtered_from (λ (d : Cluster). is_named ns d.name) clusters c c_in in
-        subst (λ b. Within b (made_of names clusters)) is (within_made names c was (more c.name (among_named ns c.name is_one)))))

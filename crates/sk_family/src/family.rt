@@ -12,6 +12,7 @@ ghost use Rattle.sk_family.specs.Starting.{starts_but};
 ghost use Rattle.sk_family.specs.Starts.{IsFree, HasStart, CanBeDissolved, IsDissolved};
 
 use crate::cluster::{Cluster, copy_all};
+use crate::joining::join_many;
 use crate::row::Row;
 use crate::search::count_below;
 use crate::start::{all_starts, block_cluster, edge_cluster, exchange, starts_of};
@@ -146,8 +147,7 @@ impl Family {
         ensures sound { IsSound self.new }
     {
         let name = Name::Step(self.next);
-        let whole = whole_by_halves(self.alloc, self.clusters.as_slice(), name, from)?;
-        put_in_place(self.alloc, &mut self.clusters, from, whole)?;
+        join_named(self.alloc, &mut self.clusters, from, name)?;
         self.next += 1;
         Ok(name)
     }
@@ -244,6 +244,47 @@ fn has_name(cluster: &Cluster, name: Name) -> bool
     cluster.name == name
 }
 
+/// Takes the clusters of these names out, and puts the one that they make in at the end. After
+/// `NoMemory` the clusters are unchanged.
+fn join_named(
+    alloc: Global,
+    clusters: &mut Row<Cluster>,
+    from: &[Name],
+    name: Name,
+) -> Result<(), NoMemory>
+    requires by_name { AllPairs ByName clusters.old }
+    requires rise { All (λ c. IsRisingBody (body_of c)) clusters.old }
+    requires last { (c : AnyCluster) → Contains clusters.old c → IsBelow c.name name }
+    requires apart { is_named from.now name ≡ false }
+    requires live { All (λ n. (c : AnyCluster) × Contains clusters.old c × (c.name ≡ n)) from.now }
+    ensures ok { OnOk result (clusters.new ≡ unnamed from.now clusters.old ++ whole_from name from.now clusters.old ∷ []) }
+    ensures err { OnErr result (clusters.new ≡ clusters.old) }
+{
+    if from.len() <= 3 {
+        join_few(alloc, clusters, from, name)
+    } else {
+        join_many(alloc, clusters, from, name)
+    }
+}
+
+/// The same of a few, each found by itself.
+fn join_few(
+    alloc: Global,
+    clusters: &mut Row<Cluster>,
+    from: &[Name],
+    name: Name,
+) -> Result<(), NoMemory>
+    requires by_name { AllPairs ByName clusters.old }
+    requires rise { All (λ c. IsRisingBody (body_of c)) clusters.old }
+    requires last { (c : AnyCluster) → Contains clusters.old c → IsBelow c.name name }
+    requires apart { is_named from.now name ≡ false }
+    ensures ok { OnOk result (clusters.new ≡ unnamed from.now clusters.old ++ whole_from name from.now clusters.old ∷ []) }
+    ensures err { OnErr result (clusters.new ≡ clusters.old) }
+{
+    let whole = whole_of(alloc, clusters.as_slice(), name, from)?;
+    put_in_place(alloc, clusters, from, whole)
+}
+
 /// The cluster that those of these names make.
 fn whole_of(
     alloc: Global,
@@ -259,27 +300,6 @@ fn whole_of(
     for part in from {
         add_named(alloc, &mut whole, clusters, *part)?;
     }
-    Ok(whole)
-}
-
-/// The same, made of the two that each half of the names makes, so that many small ones cost little.
-fn whole_by_halves(
-    alloc: Global,
-    clusters: &[Cluster],
-    name: Name,
-    from: &[Name],
-) -> Result<Cluster, NoMemory>
-    requires by_name { AllPairs ByName clusters.now }
-    requires rise { All (λ c. IsRisingBody (body_of c)) clusters.now }
-    ensures { IfOk result (λ whole. whole ≡ whole_from name from.now clusters.now) }
-{
-    if from.len() <= 3 {
-        return whole_of(alloc, clusters, name, from);
-    }
-    let half = from.len() / 2;
-    let front = whole_by_halves(alloc, clusters, name, &from[..half])?;
-    let mut whole = whole_by_halves(alloc, clusters, name, &from[half..])?;
-    add(alloc, &mut whole, &front)?;
     Ok(whole)
 }
 

@@ -3,8 +3,10 @@
 
 mod cluster;
 mod family;
+mod joining;
 mod law;
 mod merge;
+mod order;
 mod row;
 mod search;
 mod start;

@@ -1,5 +1,6 @@
 // Items in a row, of which one near either end is taken out at little cost.
-ghost use Rattle.std.specs.Prelude.{◌≡◌, ◌<◌, ◌≤◌, ◌+◌, ◌∷◌, ◌++◌, [], length, drop, OnOk, OnErr, insert, remove};
+ghost use Rattle.std.specs.Prelude.{◌≡◌, ◌<◌, ◌≤◌, ◌+◌, ◌∷◌, ◌++◌, [], length, drop, take, OnOk, OnErr, insert, remove};
+ghost use Rattle.std.specs.List.{swap};
 
 use sk_base::NoMemory;
 use std::alloc::Global;
@@ -43,6 +44,21 @@ impl<T> Row<T> {
     {
         &self.items.as_slice()[self.free..]
     }
+
+    pub fn len(&self) -> usize
+        ensures { result ≡ length self.now }
+    {
+        self.items.len() - self.free
+    }
+
+    /// Puts the items at these places in each other's place.
+    pub fn swap(&mut self, i: usize, j: usize)
+        requires i { i < length self.old }
+        requires j { j < length self.old }
+        ensures { self.new ≡ swap self.old i j }
+    {
+        self.items.swap(self.free + i, self.free + j);
+    }
 }
 
 impl<T: Drop> Row<T> {
@@ -80,6 +96,14 @@ impl<T: Drop> Row<T> {
         } else {
             self.items.remove(self.free + place);
         }
+    }
+
+    /// Drops the items from the place on.
+    pub fn truncate(&mut self, place: usize)
+        requires { place ≤ length self.old }
+        ensures { self.new ≡ take place self.old }
+    {
+        self.items.truncate(self.free + place);
     }
 
     /// Moves all items behind these others. After `NoMemory` both stay as they are.

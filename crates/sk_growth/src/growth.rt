@@ -151,9 +151,9 @@ impl Growth {
         ensures names { OnOk result (self.new.names ≡ self.old.names ++ name ∷ []) }
         ensures grown { OnOk result (HasGrown index.new graph.now family.now self.new.names self.new.marks.items) }
     {
-        index.take_out_all(family, &[name]);
         match family.cluster(name) {
             Some(cluster) => {
+                index.take_out(cluster);
                 self.names.push(name)?;
                 self.add_all(cluster.elements.as_slice())
             }

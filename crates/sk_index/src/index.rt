@@ -139,7 +139,7 @@ impl Index {
     }
 
     /// Takes a cluster out that has a name of its own and an element.
-    fn take_out(&mut self, cluster: &Cluster)
+    pub fn take_out(&mut self, cluster: &Cluster)
         requires index { IsIndex self.old }
         requires alone { (c : AnyCluster) → IsHeld self.old c → c.name ≡ cluster.now.name → c ≡ cluster.now }
         requires some { (e : Element) × Contains cluster.now.elements e }

@@ -3,6 +3,7 @@ ghost use Rattle.std.specs.Prelude.{◌≡◌, ◌≢◌, ◌↔◌, ◌+◌, �
 ghost use Rattle.sk_base.specs.declared.Constraint.{Constraint as AConstraint};
 ghost use Rattle.sk_base.specs.declared.Sketch.{Sketch as ASketch};
 ghost use Rattle.sk_base.specs.Rising.{IsRising};
+ghost use Rattle.sk_base.specs.SoundGraph.{IsSoundGraph};
 ghost use Rattle.sk_base.specs.SoundSketch.{IsSoundSketch, IsSoundRule};
 ghost use Rattle.sk_family.specs.declared.Cluster.{Cluster as ACluster};
 ghost use Rattle.sk_family.specs.Clusters.{IsSound, IsNamed};
@@ -10,6 +11,7 @@ ghost use Rattle.sk_family.specs.Starts.{HasStart};
 ghost use Rattle.sk_graph.specs.SketchGraph.{graph_of};
 ghost use Rattle.sk_edits.specs.Changes.{HasItem};
 ghost use Rattle.sk_edits.specs.Edits.{applied, constraint_number, with_length, with_ratio};
+ghost use Rattle.sk_session.specs.Drawings.{IsItsGraph};
 ghost use Rattle.sk_session.specs.Past.{edit_of, Stood, LeadsTo};
 ghost use Rattle.sk_plan.specs.ConstraintStarts.{constraint_start};
 ghost use Rattle.sk_edits.specs.Making.{CanMake, HasConstraint};
@@ -18,7 +20,7 @@ ghost use Rattle.sk_edits.specs.declared.Edit.TheVariants as an_edit;
 
 use crate::done::Done;
 use crate::origin::{adopt, origin_of};
-use sk_base::{ConId, Constraint, Name, NoMemory, Ratio, Rule, Sketch, Um, copy_constraint};
+use sk_base::{ConId, Constraint, Graph, Name, NoMemory, Ratio, Rule, Sketch, Um, copy_constraint};
 use sk_edits::{put, remove, replace};
 use sk_family::{Cluster, Family};
 use sk_graph::reduce;
@@ -63,10 +65,12 @@ pub(crate) fn add_constraint(
 pub(crate) fn remove_constraint(
     alloc: Global,
     sketch: &mut Sketch,
+    known: Option<Graph>,
     family: &mut Family,
     number: ConId,
 ) -> Result<(), NoMemory>
     requires sound { IsSoundSketch sketch.old }
+    requires known { IfSome known (IsItsGraph sketch.old) }
     requires some { HasConstraint sketch.old number }
     requires reached { IsReachedIn sketch.old family.old }
     requires room { length family.old.live ≤ 4294963297 }
@@ -78,11 +82,28 @@ pub(crate) fn remove_constraint(
     ensures family_err { OnErr result (family.new ≡ family.old) }
     ensures family_sound { IsSound family.new }
 {
-    let graph = reduce(alloc, sketch)?;
+    let graph = reduced(alloc, sketch, known)?;
     let name = owner(family, number);
     family.dissolve(name, number, &graph)?;
     remove(&mut sketch.constraints, number.0);
     Ok(())
+}
+
+/// The graph of the sketch: the known one, or made.
+pub(crate) fn reduced(
+    alloc: Global,
+    sketch: &Sketch,
+    known: Option<Graph>,
+) -> Result<Graph, NoMemory>
+    requires sound { IsSoundSketch sketch.now }
+    requires known { IfSome known (IsItsGraph sketch.now) }
+    ensures graph { IfOk result (λ g. g ≡ graph_of sketch.now) }
+    ensures sound { IfOk result IsSoundGraph }
+{
+    match known {
+        Some(graph) => Ok(graph),
+        None => reduce(alloc, sketch),
+    }
 }
 
 /// The name of the cluster that owns the constraint.
@@ -169,9 +190,11 @@ fn with_ratio(rule: Rule, ratio: Ratio) -> Rule
 pub(crate) fn change(
     alloc: Global,
     sketch: &mut Sketch,
+    known: Option<Graph>,
     family: &mut Family,
     done: &Done,
 ) -> Result<(), NoMemory>
+    requires known { IfSome known (IsItsGraph sketch.old) }
     requires can { CanMake (edit_of done.now) sketch.old }
     requires stood { Stood done.now sketch.old }
     requires reached { IsReachedIn sketch.old family.old }
@@ -187,7 +210,13 @@ pub(crate) fn change(
     match done {
         Done::Element(element) => put(&mut sketch.elements, *element),
         Done::Constraint(constraint) => add_constraint(alloc, sketch, family, constraint),
-        Done::Dropped(constraint) => remove_constraint(alloc, sketch, family, constraint.number),
+        Done::Dropped(constraint) => remove_constraint(
+            alloc,
+            sketch,
+            known,
+            family,
+            constraint.number,
+        ),
         Done::Length(len, constraint) => set_length(alloc, sketch, constraint, *len),
         Done::Turned(ratio, constraint) => set_ratio(alloc, sketch, constraint, *ratio),
         Done::Erased(element) => {
@@ -201,9 +230,11 @@ pub(crate) fn change(
 pub(crate) fn change_back(
     alloc: Global,
     sketch: &mut Sketch,
+    known: Option<Graph>,
     family: &mut Family,
     done: &Done,
 ) -> Result<(), NoMemory>
+    requires known { IfSome known (IsItsGraph sketch.old) }
     requires led { (before : ASketch) × LeadsTo done.now before sketch.old }
     requires reached { IsReachedIn sketch.old family.old }
     requires room { length family.old.live ≤ 4294963297 }
@@ -219,7 +250,7 @@ pub(crate) fn change_back(
             remove(&mut sketch.elements, element.number.0);
         }
         Done::Constraint(constraint) => {
-            remove_constraint(alloc, sketch, family, constraint.number)?;
+            remove_constraint(alloc, sketch, known, family, constraint.number)?;
         }
         Done::Dropped(constraint) => add_constraint(alloc, sketch, family, constraint)?,
         Done::Length(_, constraint) | Done::Turned(_, constraint) => {

@@ -4,6 +4,7 @@
 mod change;
 mod closing;
 mod done;
+mod drawing;
 mod law;
 mod lines;
 mod origin;

@@ -13,9 +13,9 @@ ghost use Rattle.sk_session.specs.Standing.{Gives};
 ghost use Rattle.sk_session.specs.State.{sketch_in, Accepts, TakesBack, IsHeldUp};
 ghost use Rattle.sk_session.specs.Replies.{Checks, Plans};
 
-use crate::change::{change, change_back};
 use crate::closing::{Closing, close};
 use crate::done::Done;
+use crate::drawing::Drawing;
 use crate::reply::Reply;
 use sk_base::{List, NoMemory, Sketch};
 use sk_edits::Edit;
@@ -36,7 +36,7 @@ pub struct Session {
     order: Order,
     closing: Closing,
     done: List<Done>,
-    sketch: Sketch,
+    drawing: Drawing,
     next_elem: u32,
     next_con: u32,
     count: u32,
@@ -52,7 +52,7 @@ impl Model for Session {
 
     ghost view = { λ s. record { order = s.order; closing = s.closing; edits = edits_of s.done; count = s.count; family = s.family } };
 
-    ghost invariant = { λ s. IsConsistent s.done s.sketch s.next_elem s.next_con s.count s.family };
+    ghost invariant = { λ s. IsConsistent s.done s.drawing s.next_elem s.next_con s.count s.family };
 }
 
 impl Session {
@@ -68,7 +68,7 @@ impl Session {
             order,
             closing,
             done: List::new(alloc),
-            sketch,
+            drawing: Drawing::of(sketch),
             next_elem: 1,
             next_con: 1,
             count: 0,
@@ -81,7 +81,7 @@ impl Session {
         ensures sketch { result.now ≡ sketch_in self.now }
         ensures sound { IsSoundSketch result.now }
     {
-        &self.sketch
+        self.drawing.sketch()
     }
 
     /// The kept family, one that merges of the sketch's initial family lead to.
@@ -133,9 +133,10 @@ impl Session {
         ensures err { OnErr result (self.new ≡ self.old) }
     {
         let place = self.done.len();
-        self.done.push(Done::of(self.alloc, &self.sketch, edit)?)?;
+        self.done
+            .push(Done::of(self.alloc, self.drawing.sketch(), edit)?)?;
         let done = &self.done.as_slice()[place];
-        match change(self.alloc, &mut self.sketch, &mut self.family, done) {
+        match self.drawing.change(self.alloc, &mut self.family, done) {
             Ok(()) => {
                 self.next_elem = done.element_after(self.next_elem);
                 self.next_con = done.constraint_after(self.next_con);
@@ -158,7 +159,8 @@ impl Session {
     {
         let last = self.done.len() - 1;
         let done = &self.done.as_slice()[last];
-        change_back(self.alloc, &mut self.sketch, &mut self.family, done)?;
+        self.drawing
+            .change_back(self.alloc, &mut self.family, done)?;
         self.next_elem = done.element_before(self.next_elem);
         self.next_con = done.constraint_before(self.next_con);
         self.count += 1;
@@ -172,7 +174,7 @@ impl Session {
         ensures ok { IfOk result (λ answer. Checks self.old answer self.new) }
         ensures err { OnErr result (IsHeldUp self.old self.new) }
     {
-        let graph = reduce(self.alloc, &self.sketch)?;
+        let graph = self.drawing.take_graph(self.alloc)?;
         close(
             self.alloc,
             &mut self.family,
@@ -181,6 +183,7 @@ impl Session {
             self.closing,
         )?;
         let judgement = judge(self.alloc, &self.family, &graph)?;
+        self.drawing.keep_graph(graph);
         Ok(Reply::Checked(judgement))
     }
 
@@ -189,7 +192,7 @@ impl Session {
         requires { 0 < length (sketch_in self.now).elements }
         ensures { IfOk result (Plans self.now) }
     {
-        match planned_by(self.alloc, self.order, &self.sketch) {
+        match planned_by(self.alloc, self.order, self.drawing.sketch()) {
             Ok(planned) => Ok(Reply::Planned(planned.plan)),
             Err(PlanError::NotWell(judgement)) => Ok(Reply::NotWell(judgement)),
             Err(PlanError::NoMemory) => Err(NoMemory),

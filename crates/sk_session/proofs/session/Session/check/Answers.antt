@@ -22,29 +22,37 @@ close-requires-clause-begun c =
     subst (λ (g : Graph). Reach g (initial_bodies g) (bodies c.self.inside.family)) (sym c.in_ok-graph.ensures.graph) c.self.invariant.reached
 
 pub invariant_of-self : goal.invariant_of-self
-invariant_of-self c =
+invariant_of-self c = rw c.take_graph.ensures.same c.self.invariant
+
+pub invariant_of-self-in_err-close : goal.invariant_of-self-in_err-close
+invariant_of-self-in_err-close c =
     let k = c.self.invariant in
-    consistent_merged c.self.inside.done c.self.inside.sketch c.self.inside.next_elem c.self.inside.next_con c.self.inside.count c.self.inside.family c.close.new.family k
+    rw c.take_graph.ensures.same
+    (consistent_merged c.self.inside.done c.self.inside.drawing c.self.inside.next_elem c.self.inside.next_con c.self.inside.count c.self.inside.family c.close.new.family k
     c.close.ensures.sound c.close.ensures.room
-    (subst (λ (g : Graph). Reach g (bodies c.self.inside.family) (bodies c.close.new.family)) c.in_ok-graph.ensures.graph c.close.ensures.reached)
+    (subst (λ (g : Graph). Reach g (bodies c.self.inside.family) (bodies c.close.new.family)) c.in_ok-graph.ensures.graph c.close.ensures.reached))
 
 pub invariant_of-self-in_err-judgement : goal.invariant_of-self-in_err-judgement
 invariant_of-self-in_err-judgement c =
     let k = c.self.invariant in
-    consistent_merged c.self.inside.done c.self.inside.sketch c.self.inside.next_elem c.self.inside.next_con c.self.inside.count c.self.inside.family c.close.new.family k
+    rw c.take_graph.ensures.same
+    (consistent_merged c.self.inside.done c.self.inside.drawing c.self.inside.next_elem c.self.inside.next_con c.self.inside.count c.self.inside.family c.close.new.family k
     c.close.ensures.sound c.close.ensures.room
-    (subst (λ (g : Graph). Reach g (bodies c.self.inside.family) (bodies c.close.new.family)) c.in_ok-graph.ensures.graph c.close.ensures.reached)
+    (subst (λ (g : Graph). Reach g (bodies c.self.inside.family) (bodies c.close.new.family)) c.in_ok-graph.ensures.graph c.close.ensures.reached))
 
 pub invariant_of-self-2 : goal.invariant_of-self-2
 invariant_of-self-2 c =
     let k = c.self.invariant in
-    consistent_merged c.self.inside.done c.self.inside.sketch c.self.inside.next_elem c.self.inside.next_con c.self.inside.count c.self.inside.family c.close.new.family k
+    rw (c.keep_graph.ensures, c.take_graph.ensures.same)
+    (consistent_merged c.self.inside.done c.self.inside.drawing c.self.inside.next_elem c.self.inside.next_con c.self.inside.count c.self.inside.family c.close.new.family k
     c.close.ensures.sound c.close.ensures.room
-    (subst (λ (g : Graph). Reach g (bodies c.self.inside.family) (bodies c.close.new.family)) c.in_ok-graph.ensures.graph c.close.ensures.reached)
+    (subst (λ (g : Graph). Reach g (bodies c.self.inside.family) (bodies c.close.new.family)) c.in_ok-graph.ensures.graph c.close.ensures.reached))
 
 pub returns-in_err-graph-clause-err : goal.returns-in_err-graph-clause-err
 returns-in_err-graph-clause-err c =
-    on_err c.from_residual.result (record { else_same = record { order = refl; edits = refl; count = refl }; closing = refl; begun = begun_there _ _ _ _ })
+    on_err c.from_residual.result
+    (subst (λ (x : State). IsHeldUp x (record { order = c.self.inside.order; closing = c.self.inside.closing; edits = edits_of c.self.inside.done; count = c.self.inside.count; family = c.self.inside.family })) c.self.view_is
+    (record { else_same = record { order = refl; edits = refl; count = refl }; closing = refl; begun = begun_there _ _ _ _ }))
 
 pub returns-in_err-close-clause-err : goal.returns-in_err-close-clause-err
 returns-in_err-close-clause-err c =

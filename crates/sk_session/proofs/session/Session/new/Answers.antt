@@ -9,4 +9,4 @@ pub invariant_of-result : goal.invariant_of-result
 invariant_of-result c =
     let family : c.in_ok-family.family ≡ initial_clusters (graph_of empty_sketch) =
     c.in_ok-family.ensures.clusters ∙ ap initial_clusters (c.in_ok-reduce.ensures.graph ∙ ap graph_of c.empty_sketch-sketch.ensures) in
-    rw (c.new.ensures, c.empty_sketch-sketch.ensures) (consistent_new c.in_ok-family.family family)
+    rw (c.new.ensures, c.of.ensures, c.empty_sketch-sketch.ensures) (consistent_new c.in_ok-family.family family)
