@@ -16,13 +16,13 @@ use sk_base::{Graph, NoMemory, Sketch, Text};
 use sk_derive::{derive, derive_text};
 use sk_family::initial;
 use sk_graph::reduce;
+use sk_growth::close_in_any_order;
 use sk_lang::{read_sketch, write_sketch_2};
 use sk_lines::ReadError;
 use sk_report::check_text;
 use sk_request::Request;
 use sk_spare::{spare, spare_text};
 use sk_verdict::{Judgement, judge};
-use sk_growth::close_in_any_order;
 use sk_worklist::{Chosen, Order};
 use std::alloc::Global;
 

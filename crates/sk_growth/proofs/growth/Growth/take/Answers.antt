@@ -29,8 +29,11 @@ held_without : (c : After-take_out) → ((x : Cluster) → IsHeld c.args.index.n
 held_without c one x =
     let taken = c.take_out.ensures.held x in (
       (λ h. ((taken.0 h).0, (λ among. (taken.0 h).1 (one x (taken.0 h).0 (sym (contains_one c.args.name x.name among)))))),
-      (λ (was, other). taken.1 (was, (λ same.
-      other (subst (λ n. Contains (c.args.name ∷ []) n) (sym (ap (λ (y : Cluster). y.name) same ∙ c.in-Some.ensures.some.has_name)) (contains_head c.args.name []))))),
+      (λ (was, other). taken.1 (
+        was,
+        (λ same.
+            other (subst (λ n. Contains (c.args.name ∷ []) n) (sym (ap (λ (y : Cluster). y.name) same ∙ c.in-Some.ensures.some.has_name)) (contains_head c.args.name []))),
+      )),
     )
 
 pub returns-clause-grown : goal.returns-clause-grown
