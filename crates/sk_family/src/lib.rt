@@ -16,4 +16,5 @@ pub use cluster::{Cluster, Overlap, common};
 pub use family::{Family, initial};
 pub use law::every_start;
 pub use merge::Merge;
+pub use order::names_in_order;
 pub use row::Row;

@@ -9,7 +9,7 @@ use sk_base::{List, Name, NoMemory, Numbered};
 use std::alloc::Global;
 
 /// These names in order, each once.
-pub(crate) fn names_in_order(alloc: Global, names: &[Name]) -> Result<Vec<Name>, NoMemory>
+pub fn names_in_order(alloc: Global, names: &[Name]) -> Result<Vec<Name>, NoMemory>
     ensures same { IfOk result (λ ordered. (n : AnyName) → Contains ordered.items n ↔ Contains names.now n) }
     ensures in_order { IfOk result (λ ordered. AllPairs IsBelow ordered.items) }
 {
