@@ -18,8 +18,7 @@ use Rattle.sk_family.specs.declared.Merge.TheVariants.{Two, Three}
 use Rattle.sk_family.specs.Merges.{Falls, names_of}
 use Rattle.sk_rules.specs.Merges.{merged, CanTake}
 use Rattle.sk_family.specs.Rules.{SharesTwo, MeetsInThree}
-use Rattle.sk_rules.proofs.Merging.{meets_on, shares_back}
-use Rattle.sk_rules.proofs.Takable.{meets_swapped}
+use Rattle.sk_family.proofs.Meeting.{meets_on, meets_swapped, shares_back}
 use Rattle.sk_worklist.specs.declared.heir.Heir.{Heir}
 use Rattle.sk_worklist.specs.Known.{AreKept, Knows, NoPairBelow, avoiding}
 use Rattle.sk_worklist.specs.Heirs.{IsBeside, IsKeptWith, IsNoHeir, IsHeir, IsHeirOf, IsFreshOn}
