@@ -227,6 +227,7 @@ pub(crate) fn grown_row(
     requires right { (m : AnyMerge) → Contains found.now m → IsTripleOf name m }
     ensures { IfOk result (λ row. (was : AnyRow) → slice_get rows.now key ≡ Some was → IsGrownRow name was.lessers.items found.now row) }
 {
+    // What the row has stands in order already, and the sort merges such a run with the rest.
     let mut all = List::new(alloc);
     all.extend(rows[key].lessers.as_slice())?;
     add_lessers_of(found, &mut all)?;
