@@ -13,11 +13,10 @@ use Rattle.sk_family.specs.declared.Merge.TheVariants.{Two, Three}
 use Rattle.sk_family.specs.Merges.{names_of}
 use Rattle.sk_ends.specs.Growing.{FromSome}
 use Rattle.sk_kept.specs.declared.heir.Heir.{Heir}
-use Rattle.sk_kept.specs.declared.mentions.Mentions.{Mentions}
 use Rattle.sk_kept.specs.declared.row.KeptRow.{KeptRow}
 use Rattle.sk_kept.specs.declared.lessers.Lessers.{Lessers}
 use Rattle.sk_kept.specs.Inherited.{Inherits, IsBeside}
-use Rattle.sk_kept.specs.KeptRows.{AreRows, InheritsAt, InheritsFrom, keys_of, merges_at, merges_in, merges_of, triple_of}
+use Rattle.sk_kept.specs.KeptRows.{InheritsFrom, merges_at, merges_in, merges_of, triple_of}
 
 pub flat_contains : {X : Type 0} (f : ℕ → List X) (ks : List ℕ) (k : ℕ) (x : X) → Contains ks k → Contains (f k) x → Contains (flat_map f ks) x
 flat_contains f [] k x k_in x_in = absurd (contains_none k k_in)

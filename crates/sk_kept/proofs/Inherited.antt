@@ -4,7 +4,6 @@ use Rattle.std.specs.Prelude.{Contains}
 use Rattle.sk_base.specs.declared.Name.{Name}
 use Rattle.sk_family.specs.declared.Merge.{Merge}
 use Rattle.sk_family.specs.declared.Merge.TheVariants.{Two, Three}
-use Rattle.sk_ends.specs.Growing.{GrowsBy}
 use Rattle.sk_kept.specs.declared.heir.Heir.{Heir}
 use Rattle.sk_kept.specs.Inherited.{Inherits, IsBeside}
 
