@@ -11,7 +11,7 @@ pub mod Rows
 pub mod Naming
 pub mod Halving
 pub mod Taking
-mod Ordering
+pub mod Ordering
 pub mod Lasting
 pub mod Parts
 pub mod Outcomes

@@ -7,7 +7,7 @@ ghost use Rattle.sk_base.specs.Rising.{IsRising};
 ghost use Rattle.sk_family.specs.Clusters.{IsLive, IsSound, HasElements};
 ghost use Rattle.sk_rules.specs.Merges.{CanTake};
 ghost use Rattle.sk_ends.specs.Marks.{IsMarked};
-ghost use Rattle.sk_growth.specs.Grown.{IsMarkedIn, MarksTwo, MakesThird, MeetsAt, Joins, HasGrown, IsGrown};
+ghost use Rattle.sk_growth.specs.Grown.{IsMarkedIn, MakesThird, MeetsAt, Joins, HasGrown, IsGrown};
 ghost use Rattle.sk_index.specs.Indexed.{IsHeld, IsIndex, IsThird, Represents};
 
 use sk_base::{Elem, Graph, List, Name, NoMemory};

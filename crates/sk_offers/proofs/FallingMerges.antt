@@ -10,7 +10,7 @@ use Rattle.sk_family.proofs.Naming.{below_irreflexive, below_asymmetric, below_c
 use Rattle.sk_family.specs.declared.Merge.{Merge}
 use Rattle.sk_family.specs.declared.Merge.TheVariants.{Two, Three}
 use Rattle.sk_family.specs.Merges.{names_of, Falls, IsMergeOf}
-use Rattle.sk_rules.proofs.Ordering.{AreInOrder, merge_of_three}
+use Rattle.sk_family.proofs.Ordering.{AreInOrder, merge_of_three}
 use Rattle.sk_offers.specs.OfferLines.{has_twins}
 
 -- each name is above all that follow

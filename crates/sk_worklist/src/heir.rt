@@ -2,7 +2,6 @@
 // a covered cluster that is gone, its core, and fresh ones. It has the core's triples, and those that
 // a walk from its fresh elements finds.
 ghost use Rattle.std.specs.Prelude.{◌≡◌, ◌↔◌, ◌⊎◌, ◌∷◌, [], All, Contains, IfSome, IsTrue, OnOk};
-ghost use Rattle.sk_base.specs.declared.Elem.{Elem as Element};
 ghost use Rattle.sk_base.specs.Numbering.{elem_number};
 ghost use Rattle.sk_base.specs.Rising.{IsRising};
 ghost use Rattle.sk_family.specs.Clusters.{IsLive, IsNamed, IsSound};

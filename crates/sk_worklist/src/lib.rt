@@ -1,5 +1,4 @@
-//! Closing a family: merges are taken until none holds, in the order that a picker answers or in any
-//! order.
+//! Closing a family: merges are taken until none holds, in the order that a picker answers.
 #![tactic(auto)]
 
 mod chosen;

@@ -10,7 +10,7 @@ ghost use Rattle.sk_family.specs.Merges.{names_of};
 ghost use Rattle.sk_family.specs.declared.Merge.{Merge as AnyMerge};
 ghost use Rattle.sk_worklist.specs.Choices.{AreTriples, IsFirstPair};
 ghost use Rattle.sk_worklist.specs.Gather.{HoldsSome, IsUncovered};
-ghost use Rattle.sk_index.specs.Indexed.{IsIndex, Represents};
+ghost use Rattle.sk_index.specs.Indexed.{IsIndex};
 ghost use Rattle.sk_worklist.specs.Turns.{Answers, Follows, HasLeft, HasNoPair, IsSameButHeir};
 ghost use Rattle.sk_worklist.specs.Heirs.{IsFound, IsHeir, IsHeirOf, IsOfFresh};
 ghost use Rattle.sk_ends.specs.Growing.{GrowsBy};
@@ -110,7 +110,7 @@ impl Worklist {
         }
     }
 
-    /// Notes how the cluster that the merge makes comes about.
+    /// Notes how the cluster that the merge makes comes about, and what it has more than its core.
     fn note(&mut self, family: &Family, merge: Merge)
         ensures same { IsSameButHeir self.old self.new }
         ensures heirs { (g : AnyGraph) → Follows self.old g family.now → IsHeirOf g (merged family.now merge) self.new.covered self.new.kept (self.new.gone ++ names_of merge) self.new.heir self.new.fresh }
@@ -134,8 +134,9 @@ impl Worklist {
         }
     }
 
-    /// The heir, if the merge names it, or where all triples are kept and no pair may merge the
-    /// biggest of its clusters as one of itself.
+    /// The heir of which the merge makes a greater one: the one that is known, if the merge names it.
+    /// Where none is known, all triples are kept, and no pair may merge, it is the biggest cluster of the
+    /// merge, as its own core.
     fn heir_in(&mut self, family: &Family, merge: Merge) -> Option<Heir>
         ensures same { IsSameButHeir self.old self.new }
         ensures named { IfSome result (λ heir. Contains (names_of merge) heir.name) }
