@@ -1,4 +1,5 @@
 use Rattle.std.proofs.Common.{List, sym, subst, ◌∙◌}
+use Rattle.sk_base.proofs.Searches.{refused}
 use Rattle.sk_family.specs.Clusters.{initial_clusters}
 use Rattle.sk_rules.specs.declared.Taken.{Taken}
 use Rattle.sk_rules.specs.Taking.{Leads}
@@ -8,11 +9,22 @@ use Rattle.sk_tree.specs.LegalPlan.{IsLegalPlan}
 use Rattle.sk_plan.specs.Leaves.{HasLeaves}
 use Rattle.sk_plan.proofs.PlanTells.{plan_sparse, plan_few_angles}
 use Rattle.sk_plan.proofs.PlanTrees.{tree_leaves}
+use Rattle.sk_plan.proofs.SomePlans.{not_due}
 use Rattle.sk_plan.proofs.WellRuns.{sound_of, ends_well, run_told, steps_count, nodes_count}
 use Rattle.sk_plan.proofs.making.plan_of.Goals as goal
 
 pub numbers_of-requires : goal.numbers_of-requires
 numbers_of-requires g c = sound_of c.args.s.now c.args.g.now c.requires.sound c.requires.graph
+
+pub holds_what_is_due-requires-clause-sound : goal.holds_what_is_due-requires-clause-sound
+holds_what_is_due-requires-clause-sound g c = sound_of c.args.s.now c.args.g.now c.requires.sound c.requires.graph
+
+pub judgement_of-requires-clause-sound : goal.judgement_of-requires-clause-sound
+judgement_of-requires-clause-sound g c = sound_of c.args.s.now c.args.g.now c.requires.sound c.requires.graph
+
+pub returns-then-not-holds_what_is_due-clause-not_well : goal.returns-then-not-holds_what_is_due-clause-not_well
+returns-then-not-holds_what_is_due-clause-not_well g c =
+    not_due c.args.s.now c.args.g.now c.requires.graph c.requires.sound c.requires.some (refused c.if-not-holds_what_is_due.ensures.1) _ c.in_ok-judgement_of.ensures
 
 pub initial-requires : goal.initial-requires
 initial-requires g c = sound_of c.args.s.now c.args.g.now c.requires.sound c.requires.graph
