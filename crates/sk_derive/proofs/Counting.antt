@@ -14,7 +14,7 @@ use Rattle.sk_family.specs.Clusters.{Clusters, IsSound}
 use Rattle.sk_family.specs.declared.Merge.{Merge}
 use Rattle.sk_family.specs.declared.Merge.TheVariants.{Two, Three}
 use Rattle.sk_family.specs.Merges.{names_of}
-use Rattle.sk_worklist.specs.Choices.{ComesFirst}
+use Rattle.sk_kept.specs.MergeOrder.{ComesFirst}
 use Rattle.sk_worklist.proofs.OneRun.{names_irreflexive}
 use Rattle.sk_derive.specs.WideChoices.{CanTakeByTie, AreTieMerges}
 

@@ -29,7 +29,7 @@ use Rattle.sk_family.specs.Body.{Body}
 use Rattle.sk_family.specs.Clusters.{Clusters, ByName, IsSound}
 use Rattle.sk_family.specs.declared.Merge.{Merge}
 use Rattle.sk_family.specs.declared.Merge.TheVariants.{Two, Three}
-use Rattle.sk_worklist.specs.Choices.{ComesFirst}
+use Rattle.sk_kept.specs.MergeOrder.{ComesFirst}
 use Rattle.sk_index.proofs.Fronts.{front_more, front_all, front_before}
 use Rattle.sk_derive.specs.Ties.{AreTied, itself, further, HaveTiedLines}
 use Rattle.sk_derive.specs.Classes.{class_of, AreClasses, IsClassAmong}

@@ -21,8 +21,8 @@ use Rattle.sk_rules.specs.Merges.{merged}
 use Rattle.sk_rules.specs.Reach.{stays, goes}
 use Rattle.sk_rules.proofs.Merging.{replaced_replaces}
 use Rattle.sk_rules.proofs.NormalForm.{IsCovered, covers_by}
-use Rattle.sk_worklist.specs.Choices.{ComesFirst}
-use Rattle.sk_worklist.specs.Known.{names_one_of, avoiding}
+use Rattle.sk_kept.specs.MergeOrder.{ComesFirst}
+use Rattle.sk_kept.specs.Avoiding.{names_one_of, avoiding}
 use Rattle.sk_family.proofs.Lasting.{live_below_next}
 use Rattle.sk_derive.specs.Ties.{AreTied, itself, HaveTiedLines, SharesPoint, MeetsByTie, wide_rule}
 use Rattle.sk_derive.specs.Classes.{class_of, AreClasses}

@@ -5,7 +5,7 @@ use Rattle.sk_base.proofs.Pairs.{pairs_same}
 use Rattle.sk_family.specs.Clusters.{Clusters}
 use Rattle.sk_family.specs.declared.Merge.{Merge}
 use Rattle.sk_family.specs.Merges.{names_of}
-use Rattle.sk_worklist.specs.Choices.{ComesFirst}
+use Rattle.sk_kept.specs.MergeOrder.{ComesFirst}
 use Rattle.sk_worklist.proofs.OneRun.{choices_are_one, names_irreflexive, names_asymmetric}
 use Rattle.sk_derive.specs.WideChoices.{AreTieMerges, AreWideChoices}
 

@@ -17,8 +17,8 @@ use Rattle.sk_family.proofs.Naming.{below_irreflexive, below_differs, unnamed_tr
 use Rattle.sk_index.proofs.Holding.{in_list}
 use Rattle.sk_family.specs.declared.Merge.{Merge}
 use Rattle.sk_family.specs.declared.Merge.TheVariants.{Two}
-use Rattle.sk_worklist.specs.Choices.{ComesFirst}
-use Rattle.sk_worklist.specs.Known.{names_one_of, avoiding}
+use Rattle.sk_kept.specs.MergeOrder.{ComesFirst}
+use Rattle.sk_kept.specs.Avoiding.{names_one_of, avoiding}
 use Rattle.sk_derive.specs.declared.pairs.Partners.{Partners}
 use Rattle.sk_derive.specs.MergeRows.{merges_of, merges_with, names_but, without}
 

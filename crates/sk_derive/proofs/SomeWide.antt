@@ -20,7 +20,8 @@ use Rattle.sk_rules.specs.Merges.{merged}
 use Rattle.sk_rules.specs.Reach.{stays, goes}
 use Rattle.sk_family.specs.Rules.{IsLine}
 use Rattle.sk_rules.proofs.Merging.{can_be_replaced, merge_lessens, merge_steps}
-use Rattle.sk_worklist.specs.Choices.{AreChoices, ComesFirst}
+use Rattle.sk_kept.specs.MergeOrder.{ComesFirst}
+use Rattle.sk_worklist.specs.Choices.{AreChoices}
 use Rattle.sk_worklist.proofs.Runs.{choice_can, none_closes}
 use Rattle.sk_derive.specs.Ties.{AreTied, itself, further, SharesPoint, HaveTiedLines, MeetsByTie, wide_rule}
 use Rattle.sk_derive.specs.WideChoices.{CanTakeByTie}

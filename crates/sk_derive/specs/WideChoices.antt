@@ -6,7 +6,8 @@ use Rattle.sk_family.specs.Clusters.{Clusters, IsNamed, bodies}
 use Rattle.sk_family.specs.declared.Merge.{Merge}
 use Rattle.sk_family.specs.declared.Merge.TheVariants.{Two, Three}
 use Rattle.sk_family.specs.Merges.{Falls}
-use Rattle.sk_worklist.specs.Choices.{ComesFirst, AreChoices}
+use Rattle.sk_kept.specs.MergeOrder.{ComesFirst}
+use Rattle.sk_worklist.specs.Choices.{AreChoices}
 use Rattle.sk_derive.specs.Ties.{MeetsByTie}
 
 -- two clusters of these names live, and the tie rule holds of them

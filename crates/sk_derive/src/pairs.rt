@@ -2,8 +2,8 @@
 ghost use Rattle.std.specs.Prelude.{◌≡◌, ◌++◌, ◌∷◌, ◌<◌, ◌^◌, [], All, AllPairs, OnOk, Some, filter, length, map, not, slice_get};
 ghost use Rattle.std.specs.List.{flat_map};
 ghost use Rattle.sk_base.specs.ClusterNames.{IsBelow, is_named};
-ghost use Rattle.sk_worklist.specs.Choices.{ComesFirst};
-ghost use Rattle.sk_worklist.specs.Known.{avoiding};
+ghost use Rattle.sk_kept.specs.MergeOrder.{ComesFirst};
+ghost use Rattle.sk_kept.specs.Avoiding.{avoiding};
 ghost use Rattle.sk_derive.specs.MergeRows.{merges_of, merges_with, names_but, without};
 
 use sk_base::{Name, NoMemory};

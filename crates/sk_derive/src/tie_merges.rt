@@ -8,7 +8,7 @@ ghost use Rattle.sk_base.specs.ClusterNames.{IsBelow};
 ghost use Rattle.sk_base.specs.SoundGraph.{HasNode, HasRisingNodes};
 ghost use Rattle.sk_family.specs.Body.{Body};
 ghost use Rattle.sk_family.specs.Clusters.{bodies, IsSound};
-ghost use Rattle.sk_worklist.specs.Choices.{ComesFirst};
+ghost use Rattle.sk_kept.specs.MergeOrder.{ComesFirst};
 ghost use Rattle.sk_worklist.specs.Turns.{Follows};
 ghost use Rattle.sk_derive.specs.Ties.{HaveTiedLines};
 ghost use Rattle.sk_derive.specs.Classes.{AreClasses};

@@ -18,3 +18,4 @@ pub mod Outcomes
 pub mod Once
 pub mod SideBySide
 pub mod Gathering
+pub mod Meeting

@@ -1,5 +1,5 @@
 // Many clusters made one, by a pass along the clusters and the names side by side.
-ghost use Rattle.std.specs.Prelude.{◌≡◌, ◌↔◌, ◌++◌, ◌∷◌, [], ◌<◌, All, AllPairs, Contains, IfOk, IsTrue, OnOk, OnErr, Some, false, length, slice_get};
+ghost use Rattle.std.specs.Prelude.{◌≡◌, ◌↔◌, ◌++◌, ◌∷◌, [], All, AllPairs, Contains, IfOk, IsTrue, OnOk, OnErr, Some, false, slice_get};
 ghost use Rattle.std.specs.List.{flat_map};
 ghost use Rattle.sk_base.specs.ClusterNames.{IsBelow, is_named};
 ghost use Rattle.sk_family.specs.declared.cluster.Cluster.{Cluster as AnyCluster};

@@ -52,7 +52,7 @@ impl<T> Row<T> {
     }
 
     /// Puts the items at these places in each other's place.
-    pub fn swap(&mut self, i: usize, j: usize)
+    pub(crate) fn swap(&mut self, i: usize, j: usize)
         requires i { i < length self.old }
         requires j { j < length self.old }
         ensures { self.new ≡ swap self.old i j }

@@ -10,6 +10,7 @@ use Rattle.sk_family.specs.declared.Cluster.{Cluster}
 use Rattle.sk_family.specs.declared.Merge.{Merge}
 use Rattle.sk_family.specs.Merges.{IsPairFrom, IsTripleFrom}
 use Rattle.sk_family.specs.Rules.{IsTriangle, MeetsInThree}
+use Rattle.sk_family.proofs.Meeting.{meets_turned}
 use Rattle.sk_family.proofs.Naming.{below_chain}
 use Rattle.sk_index.specs.declared.index.Index.{Index}
 use Rattle.sk_index.specs.Indexed.{Represents, lines_in}
@@ -17,21 +18,6 @@ use Rattle.sk_index.specs.declared.triples.Third.{Third}
 use Rattle.sk_index.specs.declared.triples.Third.TheVariants.{Below}
 use Rattle.sk_index.specs.Partners.{Partner}
 use Rattle.sk_index.specs.Triples.{AtCorner, IsPlaced, IsTripleOf, TriplesOf}
-
--- a triangle with its last two clusters exchanged
-pub turned : (g : Graph) (xs ys zs : List Elem) → MeetsInThree g xs ys zs → MeetsInThree g xs zs ys
-turned g xs ys zs (a, b, c, t) = (
-  c,
-  b,
-  a,
-  record {
-    a_shared = (t.c_shared.1, t.c_shared.0);
-    b_shared = (t.b_shared.1, t.b_shared.0);
-    c_shared = (t.a_shared.1, t.a_shared.0);
-    differ = ((λ e. t.differ.1 (sym e)), (λ e. t.differ.0 (sym e)), (λ e. t.differ.2 (sym e)));
-    not_all_lines = λ (lc, lb, la). t.not_all_lines (la, lb, lc);
-  },
-)
 
 module _ (ix : Index) (g : Graph) (live : List Cluster) (r : Represents ix g live) where
   -- the third corner by the marks is that by the graph
@@ -58,7 +44,7 @@ module _ (ix : Index) (g : Graph) (live : List Cluster) (r : Represents ix g liv
 
         told : IsTripleOf x.name y.name z.name m → IsTripleFrom g live x m
         told (inl (z_y, m_is)) = (y, z, (r.held y).0 y_held, (r.held z).0 z_held, y_x, z_y, meets, m_is)
-        told (inr (y_z, m_is)) = (z, y, (r.held z).0 z_held, (r.held y).0 y_held, z_x, y_z, turned g x.elements y.elements z.elements meets, m_is)
+        told (inr (y_z, m_is)) = (z, y, (r.held z).0 z_held, (r.held y).0 y_held, z_x, y_z, meets_turned g x.elements y.elements z.elements meets, m_is)
 
     -- and a triangle with a as its corner is found from there
     pub at_corner : (third : Third) (y z : Cluster) → Contains live y → Contains live z → IsBelow y.name x.name → IsBelow z.name x.name → IsPlaced third y.name z.name → (a b c : Elem)

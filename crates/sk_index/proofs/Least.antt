@@ -9,7 +9,8 @@ use Rattle.sk_base.proofs.Members.{contains_none, contains_head, contains_one}
 use Rattle.sk_family.proofs.Naming.{below_chain}
 use Rattle.sk_base.proofs.Unions.{which}
 use Rattle.sk_base.specs.declared.Name.TheVariants.{Con, Step}
-use Rattle.sk_index.specs.Partners.{GivenBy, IsLeast, IsLesser}
+use Rattle.sk_ends.specs.Growing.{FromSome}
+use Rattle.sk_index.specs.Partners.{IsLeast, IsLesser}
 
 -- what is not below m is, where m is above n, not below n
 pub not_below_lower : (k m n : Name) → ¬ IsBelow k m → IsBelow n m → ¬ IsBelow k n
@@ -50,14 +51,14 @@ least_both kind other (Some m) (Some l) r (m_is, m_least) (l_is, l_least) (inr (
     (inl m_is, (λ n h. elim h [ inl k ↦ m_least n k | inr o ↦ below_or_not n l m above (l_least n o) ]))
 
 module _ {X : Type 0} (kind : X → Name → Type 0) (xs : List X) where
-  pub least_start : IsLeast (GivenBy kind (take 0 xs)) None
+  pub least_start : IsLeast (FromSome kind (take 0 xs)) None
   least_start n (x, x_in, is) = contains_none x x_in
 
-  pub least_step : (i : ℕ) (d : X) → i < length xs → (one two r : Option Name) → IsLeast (GivenBy kind (take i xs)) one → IsLeast (kind (get_or xs i d)) two → IsLesser one two r
-      → IsLeast (GivenBy kind (take (i + 1) xs)) r
+  pub least_step : (i : ℕ) (d : X) → i < length xs → (one two r : Option Name) → IsLeast (FromSome kind (take i xs)) one → IsLeast (kind (get_or xs i d)) two → IsLesser one two r
+      → IsLeast (FromSome kind (take (i + 1) xs)) r
   least_step i d i_in one two r so_far here is =
       let split : take (i + 1) xs ≡ take i xs ++ get_or xs i d ∷ [] = take_more xs i d i_in in
-      least_same (λ n. GivenBy kind (take i xs) n ⊎ kind (get_or xs i d) n) (GivenBy kind (take (i + 1) xs))
+      least_same (λ n. FromSome kind (take i xs) n ⊎ kind (get_or xs i d) n) (FromSome kind (take (i + 1) xs))
       (λ n. (
         (λ h. elim h [
           | inl (x, x_in, x_is) ↦ (x, subst (λ l. Contains l x) (sym split) (Contains-append_left (take i xs) (get_or xs i d ∷ []) x x_in), x_is)
@@ -68,7 +69,7 @@ module _ {X : Type 0} (kind : X → Name → Type 0) (xs : List X) where
           | inr at ↦ inr (subst (λ y. kind y n) (sym (contains_one (get_or xs i d) x at)) x_is)
         ]),
       ))
-      r (least_both (GivenBy kind (take i xs)) (kind (get_or xs i d)) one two r so_far here is)
+      r (least_both (FromSome kind (take i xs)) (kind (get_or xs i d)) one two r so_far here is)
 
-  pub least_end : (i : ℕ) → length xs ≤ i → (r : Option Name) → IsLeast (GivenBy kind (take i xs)) r → IsLeast (GivenBy kind xs) r
-  least_end i over r so_far = subst (λ l. IsLeast (GivenBy kind l) r) (take_all i xs over) so_far
+  pub least_end : (i : ℕ) → length xs ≤ i → (r : Option Name) → IsLeast (FromSome kind (take i xs)) r → IsLeast (FromSome kind xs) r
+  least_end i over r so_far = subst (λ l. IsLeast (FromSome kind l) r) (take_all i xs over) so_far

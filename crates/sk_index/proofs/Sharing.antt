@@ -10,7 +10,8 @@ use Rattle.sk_family.specs.declared.Cluster.{Cluster}
 use Rattle.sk_family.specs.Rules.{SharesTwo}
 use Rattle.sk_index.specs.declared.index.Index.{Index}
 use Rattle.sk_index.specs.Indexed.{IsIndex}
-use Rattle.sk_index.specs.Partners.{GivenBy, IsOther, Partner, PartnerBy, PartnerOf, PartnerUnless}
+use Rattle.sk_ends.specs.Growing.{FromSome}
+use Rattle.sk_index.specs.Partners.{IsOther, Partner, PartnerBy, PartnerOf, PartnerUnless}
 use Rattle.sk_index.proofs.Walked.{below_named, holds}
 
 pub two_of_other : (xs ys : List Elem) (a : Elem) → Contains xs a → Contains ys a → (e : Elem) × Contains xs e × IsOther ys a e → SharesTwo xs ys
@@ -25,7 +26,7 @@ other_of_two xs ys a (p, q, pair) =
 
 -- of two shared elements one isn't that one
 module _ (ix : Index) (x : Cluster) where
-  pub unless_hub : (hub : Option Elem) (n : Name) → GivenBy (PartnerUnless hub ix x) x.elements n ↔ Partner ix x n
+  pub unless_hub : (hub : Option Elem) (n : Name) → FromSome (PartnerUnless hub ix x) x.elements n ↔ Partner ix x n
   unless_hub hub n = ((λ (e, e_x, (other, (y, held, e_y, below, two, named))). (y, held, below, two, named)), found)
     where
       other_than : (hub : Option Elem) (a b : Elem) → a ≢ b → (hub ≢ Some a) ⊎ (hub ≢ Some b)
@@ -36,7 +37,7 @@ module _ (ix : Index) (x : Cluster) where
             | inr other ↦ inl (λ e. other (ap (λ (o : Elem). o.0) (same_Some _ _ e)))
           ]
 
-      found : Partner ix x n → GivenBy (PartnerUnless hub ix x) x.elements n
+      found : Partner ix x n → FromSome (PartnerUnless hub ix x) x.elements n
       found (y, held, below, (a, b, pair), named) =
           elim (other_than hub a b pair.differ) [
             | inl first ↦ (a, pair.a_shared.0, (first, (y, held, pair.a_shared.1, below, (a, b, pair), named)))
@@ -52,7 +53,7 @@ module _ (ix : Index) (x : Cluster) where
 
 -- what the walk along the front gives is what those of that kind give
 module _ (front all : List ℕ) (P : ℕ → Type 0) (front_is : (k : ℕ) → Contains front k ↔ (Contains all k × P k)) where
-  pub given_below : (kind : ℕ → Name → Type 0) (n : Name) → GivenBy kind front n ↔ GivenBy (λ k l. P k × kind k l) all n
+  pub given_below : (kind : ℕ → Name → Type 0) (n : Name) → FromSome kind front n ↔ FromSome (λ k l. P k × kind k l) all n
   given_below kind n = (
     (λ (k, k_in, is). (let (k_all, below) = (front_is k).0 k_in in (k, k_all, (below, is)))),
     (λ (k, k_all, (below, is)). (k, (front_is k).1 (k_all, below), is)),

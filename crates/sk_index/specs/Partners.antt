@@ -3,6 +3,7 @@ use Rattle.std.specs.Prelude.{◌≡◌, ◌≢◌, ◌⊎◌, ℕ, List, Option
 use Rattle.sk_base.specs.declared.Elem.{Elem}
 use Rattle.sk_base.specs.declared.Name.{Name}
 use Rattle.sk_base.specs.ClusterNames.{IsBelow}
+use Rattle.sk_ends.specs.Growing.{FromSome}
 use Rattle.sk_family.specs.declared.Cluster.{Cluster}
 use Rattle.sk_family.specs.Rules.{SharesTwo}
 use Rattle.sk_index.specs.declared.index.Index.{Index}
@@ -28,13 +29,9 @@ PartnerUnless hub ix x e n = (hub ≢ Some e) × PartnerOf ix x e n
 abbrev pub PartnerAt : Index → Cluster → ℕ → Name → Type 0
 PartnerAt ix x k n = (y : Cluster) × (cluster_at ix k ≡ Some y) × SharesTwo x.elements y.elements × (y.name ≡ n)
 
--- what some item of the list gives
-abbrev pub GivenBy : {X : Type 0} → (X → Name → Type 0) → List X → Name → Type 0
-GivenBy kind xs n = (x : _) × Contains xs x × kind x n
-
 -- what some key of a cluster that holds e and is below x gives
 abbrev pub PartnerBy : Index → Cluster → Elem → Name → Type 0
-PartnerBy ix x e = GivenBy (λ k n. IsBelowAt ix x.name k × PartnerAt ix x k n) (holders_of ix e)
+PartnerBy ix x e = FromSome (λ k n. IsBelowAt ix x.name k × PartnerAt ix x k n) (holders_of ix e)
 
 -- the least name of that kind, if there is one
 abbrev pub IsLeast : (Name → Type 0) → Option Name → Type 0

@@ -4,7 +4,8 @@ ghost use Rattle.sk_base.specs.Numbering.{elem_number};
 ghost use Rattle.sk_base.specs.Rising.{IsRising};
 ghost use Rattle.sk_family.specs.Rules.{SharesTwo};
 ghost use Rattle.sk_index.specs.Indexed.{IsIndex};
-ghost use Rattle.sk_index.specs.Partners.{GivenBy, IsLeast, IsLesser, Partner, PartnerAt, PartnerOf, PartnerUnless};
+ghost use Rattle.sk_ends.specs.Growing.{FromSome};
+ghost use Rattle.sk_index.specs.Partners.{IsLeast, IsLesser, Partner, PartnerAt, PartnerOf, PartnerUnless};
 
 use crate::index::Index;
 use crate::meets::shares_two;
@@ -46,7 +47,7 @@ pub fn least_partner_at(
 ) -> Option<Name>
     requires index { IsIndex index.now }
     requires rises { IsRising elem_number x.now.elements }
-    ensures { IsLeast (GivenBy (PartnerUnless hub index.now x.now) elements.now) result }
+    ensures { IsLeast (FromSome (PartnerUnless hub index.now x.now) elements.now) result }
 {
     let mut least = None;
     for elem in elements {

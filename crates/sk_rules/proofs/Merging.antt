@@ -13,54 +13,20 @@ use Rattle.sk_family.specs.Body.{Body}
 use Rattle.sk_family.specs.Clusters.{Clusters, body_of, bodies, named, unnamed, whole_from, replaced, CanBeReplaced, IsNamed, IsLive, IsSound}
 use Rattle.sk_base.proofs.Members.{contains_none, contains_head, contains_later, contains_one, contains_cases, contains_mapped, mapped_from, contains_filtered, filtered_from}
 use Rattle.sk_base.proofs.Pairs.{pairs_none, pairs_cons, pairs_tell}
+use Rattle.sk_family.proofs.Meeting.{meets_back, meets_on, shares_back}
 use Rattle.sk_family.proofs.Naming.{ByName, below_chain, below_differs, one_of_name, one_of_body, named_are}
 use Rattle.sk_family.specs.declared.Merge.{Merge}
 use Rattle.sk_family.specs.declared.Merge.TheVariants.{Two, Three}
-use Rattle.sk_family.specs.Rules.{IsShared, SharesTwo, MeetsInThree}
+use Rattle.sk_family.specs.Rules.{SharesTwo, MeetsInThree}
 use Rattle.sk_rules.specs.Reach.{CanMerge, AreAmong, Replaces, Step, IsClosed}
 use Rattle.sk_family.specs.Merges.{Falls, names_of}
 use Rattle.sk_rules.specs.Merges.{Holds, merged}
-
-shared_back : (xs ys : List Elem) (e : Elem) → IsShared xs ys e → IsShared ys xs e
-shared_back xs ys e h = (h.1, h.0)
-
-pub shares_back : (xs ys : List Elem) → SharesTwo xs ys → SharesTwo ys xs
-shares_back xs ys (a, b, p) = (a, b, record { differ = p.differ; a_shared = shared_back xs ys a p.a_shared; b_shared = shared_back xs ys b p.b_shared })
 
 above_differs : (x y : Name) → IsBelow y x → x ≢ y
 above_differs x y h e = below_differs y x h (sym e)
 
 apart_one : (n : Name) → AllPairs (λ (l m : Name). l ≢ m) (n ∷ [])
 apart_one n = pairs_cons (λ (l m : Name). l ≢ m) n [] (pairs_none (λ (l m : Name). l ≢ m)) (λ m h. absurd (contains_none m h))
-
--- the triangle in the other direction, and begun at the next corner
-pub meets_back : (g : Graph) (xs ys zs : List Elem) → MeetsInThree g xs ys zs → MeetsInThree g zs ys xs
-meets_back g xs ys zs (a, b, c, t) = (
-  b,
-  a,
-  c,
-  record {
-    a_shared = shared_back ys zs b t.b_shared;
-    b_shared = shared_back xs ys a t.a_shared;
-    c_shared = shared_back zs xs c t.c_shared;
-    differ = (λ e. t.differ.0 (sym e), λ e. t.differ.2 (sym e), λ e. t.differ.1 (sym e));
-    not_all_lines = λ h. t.not_all_lines (h.1, h.0, h.2);
-  },
-)
-
-pub meets_on : (g : Graph) (xs ys zs : List Elem) → MeetsInThree g xs ys zs → MeetsInThree g ys zs xs
-meets_on g xs ys zs (a, b, c, t) = (
-  b,
-  c,
-  a,
-  record {
-    a_shared = t.b_shared;
-    b_shared = t.c_shared;
-    c_shared = t.a_shared;
-    differ = (t.differ.1, t.differ.2, t.differ.0);
-    not_all_lines = λ h. t.not_all_lines (h.2, h.0, h.1);
-  },
-)
 
 -- what a merge names may be replaced
 pub can_be_replaced : (g : Graph) (f : Clusters) (m : Merge) → Falls m → Holds g f m → CanBeReplaced f (names_of m)

@@ -17,19 +17,11 @@ use Rattle.sk_family.specs.Rules.{MeetsInThree, SharesTwo}
 use Rattle.sk_family.proofs.Naming.{one_of_name}
 use Rattle.sk_rules.specs.Merges.{CanTake, TakesFrom}
 use Rattle.sk_rules.specs.Reach.{Reach, stays, goes}
-use Rattle.sk_rules.proofs.Merging.{meets_back, meets_on, merge_lessens}
+use Rattle.sk_rules.proofs.Merging.{merge_lessens}
 
 pub reach_on : (g : Graph) (f m n : List Body) → Reach g f m → Reach g m n → Reach g f n
 reach_on g f m n stays rest = rest
 reach_on g f m n (goes {mid = mid} first more) rest = goes first (reach_on g mid m n more rest)
-
--- the triangle with two clusters exchanged
-pub meets_turned : (g : Graph) (xs ys zs : List Elem) → MeetsInThree g xs ys zs → MeetsInThree g xs zs ys
-meets_turned g xs ys zs h = meets_on g ys xs zs (meets_on g zs ys xs (meets_back g xs ys zs h))
-
--- the first two exchanged
-pub meets_swapped : (g : Graph) (xs ys zs : List Elem) → MeetsInThree g xs ys zs → MeetsInThree g ys xs zs
-meets_swapped g xs ys zs h = meets_on g zs ys xs (meets_back g xs ys zs h)
 
 -- a merge that may be taken has two clusters
 pub two_live : (g : Graph) (f : Clusters) → IsSound f → (m : Merge) → CanTake g f m → 1 < length f.live

@@ -1,5 +1,5 @@
 -- Clusters that leave the index and enter it at a merge.
-use Rattle.std.proofs.Common.{◌≡◌, List, ◌++◌, sym, subst, Vec, Global}
+use Rattle.std.proofs.Common.{◌≡◌, List, ◌++◌, sym, subst}
 use Rattle.std.specs.Prelude.{Option}
 use Rattle.sk_base.specs.declared.Name.{Name}
 use Rattle.sk_base.specs.declared.Graph.{Graph}
@@ -9,7 +9,7 @@ use Rattle.sk_rules.specs.Merges.{merged}
 use Rattle.sk_family.specs.Merges.{names_of}
 use Rattle.sk_worklist.specs.Known.{Knows}
 use Rattle.sk_base.specs.declared.Elem.{Elem}
-use Rattle.sk_worklist.specs.declared.heir.Heir.{Heir}
+use Rattle.sk_kept.specs.declared.Heir.{Heir}
 use Rattle.sk_worklist.specs.Heirs.{IsHeirOf}
 use Rattle.sk_worklist.specs.declared.worklist.Worklist.{Worklist}
 use Rattle.sk_worklist.specs.Turns.{IsSameButHeir, KnowsOf}
@@ -30,7 +30,7 @@ heirs_entered covered kept gone gone' heir fresh g f m after after_is gone_is he
 module _ (old new : Worklist) (same : IsSameButHeir old new) where
   pub same_knows : (g : Graph) (f : Clusters) → KnowsOf old g f → KnowsOf new g f
   same_knows g f knows =
-      subst (λ n. Knows n new.covered new.kept.items new.gone g f) (sym same.clear)
-      (subst (λ n. Knows old.clear n new.kept.items new.gone g f) (sym same.covered)
-      (subst (λ (v : Vec Merge Global). Knows old.clear old.covered v.items new.gone g f) (sym same.kept)
-      (subst (λ ns. Knows old.clear old.covered old.kept.items ns g f) (sym same.gone) knows)))
+      subst (λ n. Knows n new.covered new.kept new.gone g f) (sym same.clear)
+      (subst (λ n. Knows old.clear n new.kept new.gone g f) (sym same.covered)
+      (subst (λ (ms : List Merge). Knows old.clear old.covered ms new.gone g f) (sym same.kept)
+      (subst (λ ns. Knows old.clear old.covered old.kept ns g f) (sym same.gone) knows)))

@@ -14,18 +14,19 @@ use Rattle.sk_family.specs.Rules.{MeetsInThree}
 use Rattle.sk_index.specs.declared.Index.{Index}
 use Rattle.sk_index.specs.Indexed.{Represents}
 use Rattle.sk_ends.specs.Growing.{FromSome}
-use Rattle.sk_worklist.specs.declared.heir.Heir.{Heir}
+use Rattle.sk_kept.specs.declared.Heir.{Heir}
 use Rattle.sk_index.specs.declared.Third.TheVariants.{Either}
 use Rattle.sk_rules.specs.Merges.{CanTake, TakesFrom}
 use Rattle.sk_index.specs.Partners.{Partner, PartnerOf}
 use Rattle.sk_index.specs.Triples.{AtCorner}
 use Rattle.sk_worklist.specs.Gather.{IsUncovered}
-use Rattle.sk_worklist.specs.Heirs.{Inherits, IsBeside, IsHeir, IsHeirOf, IsNoHeir, IsOfHeir, TellsFresh}
+use Rattle.sk_kept.specs.Inherited.{Inherits, IsBeside}
+use Rattle.sk_worklist.specs.Heirs.{IsHeir, IsHeirOf, IsNoHeir, IsOfHeir, TellsFresh}
 use Rattle.sk_index.proofs.Gathered.{at_corner, found_at}
 use Rattle.sk_rules.proofs.Takable.{can_triple, triple_can}
 
 -- a name is another or the same
-one_or_other : (m n : Name) → (m ≡ n) ⊎ (m ≢ n)
+pub one_or_other : (m n : Name) → (m ≡ n) ⊎ (m ≢ n)
 one_or_other m n =
     elim (below_tells m n) [
       | inl below ↦ inr (below_differs m n below)
@@ -161,4 +162,4 @@ module _ (ix : Index) (g : Graph) (f : Clusters) (sound : IsSound f) (r : Repres
 pub tells : (ix : Index) (g : Graph) (f : Clusters) → IsSound f → Represents ix g f.live → (covered : Name) (kept : List Merge) (gone : List Name) (heir : Option Heir) (fresh : List Elem)
     → IsHeirOf g f covered kept gone heir fresh → (x : Cluster) → Contains f.live x → TellsFresh ix heir fresh x
 tells ix g f sound r covered kept gone None fresh none x x_in = tt
-tells ix g f sound r covered kept gone (Some heir) fresh (is, apart) x x_in = λ named. partners_by_fresh ix g f sound r covered kept gone heir fresh is x (record { lives = x_in; has_name = named })
+tells ix g f sound r covered kept gone (Some heir) fresh (is, _, _) x x_in = λ named. partners_by_fresh ix g f sound r covered kept gone heir fresh is x (record { lives = x_in; has_name = named })

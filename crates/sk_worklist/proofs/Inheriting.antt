@@ -18,11 +18,12 @@ use Rattle.sk_family.specs.declared.Merge.TheVariants.{Two, Three}
 use Rattle.sk_family.specs.Merges.{Falls, names_of}
 use Rattle.sk_rules.specs.Merges.{merged, CanTake}
 use Rattle.sk_family.specs.Rules.{SharesTwo, MeetsInThree}
-use Rattle.sk_rules.proofs.Merging.{meets_on, shares_back}
-use Rattle.sk_rules.proofs.Takable.{meets_swapped}
-use Rattle.sk_worklist.specs.declared.heir.Heir.{Heir}
-use Rattle.sk_worklist.specs.Known.{AreKept, Knows, NoPairBelow, avoiding}
-use Rattle.sk_worklist.specs.Heirs.{IsBeside, IsKeptWith, IsNoHeir, IsHeir, IsHeirOf, IsFreshOn}
+use Rattle.sk_family.proofs.Meeting.{meets_on, meets_swapped, shares_back}
+use Rattle.sk_kept.specs.declared.Heir.{Heir}
+use Rattle.sk_kept.specs.Avoiding.{avoiding}
+use Rattle.sk_worklist.specs.Known.{AreKept, Knows, NoPairBelow}
+use Rattle.sk_kept.specs.Inherited.{IsBeside}
+use Rattle.sk_worklist.specs.Heirs.{IsKeptWith, IsNoHeir, IsHeir, IsHeirOf, IsFreshOn}
 use Rattle.sk_worklist.proofs.Mending.{avoiding_none, no_pair_at_all}
 use Rattle.sk_family.proofs.Lasting.{live_below_next}
 use Rattle.sk_family.proofs.Parts.{parts, in_parts, from_parts}
@@ -263,8 +264,8 @@ heir_of_all g f sound clear covered kept gone fresh n a a_is gone_is clear_is co
 
 -- what a merge that names the heir makes of it, which isn't covered
 pub heir_of_merge : (g : Graph) (f : Clusters) → IsSound f → (covered : Name) → IsWithin f covered → (kept : List Merge) (gone : List Name) (heir : Heir) (fresh more : List Elem) → IsHeir g f covered kept gone heir fresh
-    → (m : Merge) → All (λ n. IsLive f n) (names_of m) → Contains (names_of m) heir.name → IsFreshOn f (names_of m) heir.name fresh more → (step : ℕ) → step ≡ f.next_step
-    → IsHeirOf g (merged f m) covered kept (gone ++ names_of m) (Some (record { core = heir.core; name = Step step })) more
-heir_of_merge g f sound covered within kept gone heir fresh more is m all_live named on step step_is =
+    → (m : Merge) → All (λ n. IsLive f n) (names_of m) → Contains (names_of m) heir.name → IsFreshOn f (names_of m) heir.name fresh more → Contains (gone ++ names_of m) heir.core
+    → (step : ℕ) → step ≡ f.next_step → IsHeirOf g (merged f m) covered kept (gone ++ names_of m) (Some (record { core = heir.core; name = Step step })) more
+heir_of_merge g f sound covered within kept gone heir fresh more is m all_live named on core step step_is =
     subst (λ k. IsHeirOf g (merged f m) covered kept (gone ++ names_of m) (Some (record { core = heir.core; name = Step k })) more) (sym step_is)
-    (heir_grows g f sound covered within kept gone heir fresh more is (names_of m) all_live named on, within)
+    (heir_grows g f sound covered within kept gone heir fresh more is (names_of m) all_live named on, within, core)

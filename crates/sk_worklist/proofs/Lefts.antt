@@ -14,8 +14,9 @@ use Rattle.sk_base.proofs.Pairs.{pairs_filter}
 use Rattle.sk_family.specs.declared.Merge.{Merge}
 use Rattle.sk_family.specs.declared.Merge.TheVariants.{Two, Three}
 use Rattle.sk_rules.specs.Merges.{Holds, CanTake}
-use Rattle.sk_worklist.specs.Choices.{ComesFirst}
-use Rattle.sk_worklist.specs.Known.{IsLeft, Avoids, names_one_of, avoiding, AreKept, NoPairBelow}
+use Rattle.sk_kept.specs.MergeOrder.{ComesFirst}
+use Rattle.sk_kept.specs.Avoiding.{names_one_of, avoiding}
+use Rattle.sk_worklist.specs.Known.{IsLeft, Avoids, AreKept, NoPairBelow}
 use Rattle.sk_family.proofs.Lasting.{old_before, named_before, not_next, named_below_next}
 
 is_false : (b : Bool) → not b ≡ true → b ≡ false

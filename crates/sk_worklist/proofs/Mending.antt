@@ -15,8 +15,10 @@ use Rattle.sk_family.proofs.Naming.{among_named, named_among, below_others, is_i
 use Rattle.sk_family.specs.declared.Merge.{Merge}
 use Rattle.sk_family.specs.declared.Merge.TheVariants.{Two, Three}
 use Rattle.sk_rules.specs.Merges.{CanTake, TakesFrom}
-use Rattle.sk_worklist.specs.Choices.{ComesFirst, AreTriples}
-use Rattle.sk_worklist.specs.Known.{AreKept, NoPairBelow, Knows, avoiding, names_one_of}
+use Rattle.sk_kept.specs.MergeOrder.{ComesFirst}
+use Rattle.sk_worklist.specs.Choices.{AreTriples}
+use Rattle.sk_kept.specs.Avoiding.{avoiding, names_one_of}
+use Rattle.sk_worklist.specs.Known.{AreKept, NoPairBelow, Knows}
 use Rattle.sk_worklist.proofs.Lefts.{mended, no_pair_after}
 use Rattle.sk_worklist.specs.Gather.{AreUncovered}
 use Rattle.sk_family.proofs.Lasting.{live_below_next, named_below_next}

@@ -12,7 +12,8 @@ use Rattle.sk_family.specs.declared.Merge.{Merge}
 use Rattle.sk_family.specs.declared.Merge.TheVariants.{Two}
 use Rattle.sk_family.specs.Merges.{names_of}
 use Rattle.sk_rules.specs.Merges.{merged, CanTake}
-use Rattle.sk_worklist.specs.Choices.{NamesBefore, ComesFirst, IsFirstPair, AreTriples, AreChoices}
+use Rattle.sk_kept.specs.MergeOrder.{NamesBefore, ComesFirst}
+use Rattle.sk_worklist.specs.Choices.{IsFirstPair, AreTriples, AreChoices}
 use Rattle.sk_worklist.specs.Run.{PicksLeadBy}
 
 pub names_irreflexive : (ns : List Name) → ¬ NamesBefore ns ns

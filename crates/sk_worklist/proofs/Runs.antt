@@ -18,10 +18,6 @@ use Rattle.sk_worklist.specs.Run.{PicksLead, merge_of}
 use Rattle.sk_worklist.specs.Turns.{Answers}
 use Rattle.sk_index.proofs.Holding.{in_list}
 
-pub on_err : {T E P : Type 0} (r : Result T E) → P → OnErr r P
-on_err (Ok x) h = tt
-on_err (Err e) h = h
-
 pub choice_can : (g : Graph) (f : Clusters) (choices : List Merge) → AreChoices g f choices → (m : Merge) → Contains choices m → CanTake g f m
 choice_can g f choices (inl (first, is, h)) m m_in =
     subst (λ n. CanTake g f n) (contains_one first m (subst (λ cs. Contains cs m) is m_in)) h.can_take

@@ -13,7 +13,8 @@ use Rattle.sk_family.specs.declared.Merge.{Merge}
 use Rattle.sk_family.specs.declared.Merge.TheVariants.{Two, Three}
 use Rattle.sk_family.specs.Merges.{names_of}
 use Rattle.sk_rules.proofs.SettledRules.{holds_decided, falls_decided}
-use Rattle.sk_worklist.specs.Choices.{NamesBefore, ComesFirst, AreTriples, AreChoices}
+use Rattle.sk_kept.specs.MergeOrder.{NamesBefore, ComesFirst}
+use Rattle.sk_worklist.specs.Choices.{AreTriples, AreChoices}
 use Rattle.sk_rules.specs.Merges.{CanTake}
 use Rattle.sk_worklist.proofs.OneRun.{names_irreflexive, names_asymmetric}
 use Rattle.sk_base.proofs.Deciding.{Decided, both}

@@ -13,12 +13,14 @@ use Rattle.sk_family.specs.declared.Merge.{Merge}
 use Rattle.sk_family.specs.declared.Merge.TheVariants.{Two}
 use Rattle.sk_index.specs.declared.Index.{Index}
 use Rattle.sk_rules.specs.Merges.{CanTake}
-use Rattle.sk_worklist.specs.Choices.{ComesFirst, IsFirstPair, AreTriples}
+use Rattle.sk_kept.specs.MergeOrder.{ComesFirst}
+use Rattle.sk_worklist.specs.Choices.{IsFirstPair, AreTriples}
 use Rattle.sk_ends.specs.Growing.{GrowsBy, FromSome}
 use Rattle.sk_index.specs.Partners.{Partner}
 use Rattle.sk_index.specs.Triples.{TriplesOf}
 use Rattle.sk_worklist.specs.Gather.{IsPartner, IsUncovered, AreUncovered}
-use Rattle.sk_worklist.specs.Known.{AreKept, IsTriple, Knows, NoPairBelow, avoiding}
+use Rattle.sk_kept.specs.Avoiding.{IsTriple, avoiding}
+use Rattle.sk_worklist.specs.Known.{AreKept, Knows, NoPairBelow}
 use Rattle.sk_index.specs.Indexed.{Represents, lines_in}
 use Rattle.sk_triples.specs.Triples.{IsTripleAmong}
 use Rattle.sk_worklist.specs.Turns.{HasNoPair}
@@ -26,10 +28,6 @@ use Rattle.sk_index.proofs.Gathered.{partners_found, third_of, triangle_of, trip
 use Rattle.sk_rules.proofs.Takable.{can_pair, can_triple, pair_can, triple_can}
 use Rattle.sk_worklist.proofs.Mending.{kept_more, kept_are_choices, avoiding_none}
 use Rattle.sk_family.proofs.Lasting.{live_below_next}
-
-pub both_ok : {T E : Type 0} (P Q R : T → Type 0) (r : Result T E) → IfOk r P → IfOk r Q → ((x : T) → P x → Q x → R x) → IfOk r R
-both_ok P Q R (Ok x) p q to = to x p q
-both_ok P Q R (Err e) p q to = tt
 
 module _ (ix : Index) (g : Graph) (f : Clusters) (sound : IsSound f) (r : Represents ix g f.live) (bound : Name) (rest : List Cluster)
     (rest_is : (c : Cluster) → Contains rest c ↔ (Contains f.live c × ¬ IsBelow c.name bound)) where
@@ -85,23 +83,6 @@ module _ (ix : Index) (g : Graph) (f : Clusters) (sound : IsSound f) (r : Repres
       none_below : (n : Name) → ¬ IsBelow n (Con 0)
       none_below (Con k) below = absurd (omega arith)
       none_below (Step k) below = below
-
--- what is found, once it is put in order
-pub uncovered : (g : Graph) (f : Clusters) (bound : Name) (list found : List Merge) → GrowsBy (IsUncovered g f bound) [] list → ((m : Merge) → Contains found m ↔ Contains list m)
-    → (((m : Merge) → Contains list m → IsTriple m) → AllPairs ComesFirst found) → AreUncovered g f bound found
-uncovered g f bound list found grows same order = record {
-  in_order = order (λ m m_in. triple m (from_list m m_in));
-  exactly = λ m. (
-    (λ h. from_list m ((same m).0 h)),
-    (λ is. (same m).1 ((grows m).1 (inr is))),
-  );
-}
-  where
-    from_list : (m : Merge) → Contains list m → IsUncovered g f bound m
-    from_list m m_in = elim ((grows m).0 m_in) [ inl none ↦ absurd (contains_none m none) | inr is ↦ is ]
-
-    triple : (m : Merge) → IsUncovered g f bound m → IsTriple m
-    triple m (x, x_in, (can, (y, z, is))) = (x.name, y, z, is)
 
 -- once all triples are kept
 module _ (g : Graph) (f : Clusters) (sound : IsSound f) (clear covered : Name) (kept found all : List Merge) (gone none : List Name) (knows : Knows clear covered kept gone g f)

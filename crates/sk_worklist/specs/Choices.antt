@@ -1,23 +1,12 @@
--- Which merges may be taken next, and in which order they stand.
+-- Which merges may be taken next.
 use Rattle.std.specs.Prelude.{◌≡◌, ◌↔◌, ◌⊎◌, List, [], ◌∷◌, Contains, AllPairs}
 use Rattle.sk_base.specs.declared.Name.{Name}
 use Rattle.sk_base.specs.declared.Graph.{Graph}
-use Rattle.sk_base.specs.ClusterNames.{IsBelow}
 use Rattle.sk_family.specs.Clusters.{Clusters}
 use Rattle.sk_family.specs.declared.Merge.{Merge}
 use Rattle.sk_family.specs.declared.Merge.TheVariants.{Two}
-use Rattle.sk_family.specs.Merges.{names_of}
+use Rattle.sk_kept.specs.MergeOrder.{ComesFirst}
 use Rattle.sk_rules.specs.Merges.{CanTake}
-
--- the one list of names comes before the other, compared place by place
-abbrev pub NamesBefore : List Name → List Name → Type 0
-NamesBefore [] [] = ⊥
-NamesBefore [] (n ∷ ns) = Unit {0}
-NamesBefore (m ∷ ms) [] = ⊥
-NamesBefore (m ∷ ms) (n ∷ ns) = IsBelow m n ⊎ ((m ≡ n) × NamesBefore ms ns)
-
-abbrev pub ComesFirst : Merge → Merge → Type 0
-ComesFirst m n = NamesBefore (names_of m) (names_of n)
 
 -- the first of the pairs that may merge
 pub record IsFirstPair (g : Graph) (f : Clusters) (m : Merge) : Type 0 where

@@ -10,7 +10,7 @@ use Rattle.sk_family.specs.declared.Merge.{Merge}
 use Rattle.sk_index.specs.declared.Index.{Index}
 use Rattle.sk_index.specs.Partners.{IsLeast, Partner}
 use Rattle.sk_rules.specs.Merges.{TakesFrom}
-use Rattle.sk_worklist.specs.Choices.{ComesFirst}
+use Rattle.sk_kept.specs.MergeOrder.{ComesFirst}
 
 -- the name is that of a cluster of the family that is below another and holds some of these elements
 abbrev pub HoldsSome : Clusters → List Elem → Name → Name → Type 0

@@ -8,24 +8,15 @@ use Rattle.sk_base.specs.ClusterNames.{IsBelow}
 use Rattle.sk_family.specs.declared.Cluster.{Cluster}
 use Rattle.sk_family.specs.Clusters.{Clusters, IsLive, IsNamed}
 use Rattle.sk_family.specs.declared.Merge.{Merge}
-use Rattle.sk_family.specs.declared.Merge.TheVariants.{Two, Three}
 use Rattle.sk_family.specs.Rules.{SharesTwo, MeetsInThree}
 use Rattle.sk_index.specs.declared.Index.{Index}
-use Rattle.sk_worklist.specs.declared.heir.Heir.{Heir}
+use Rattle.sk_kept.specs.declared.Heir.{Heir}
+use Rattle.sk_kept.specs.Inherited.{Inherits, IsBeside}
 use Rattle.sk_ends.specs.Growing.{FromSome}
 use Rattle.sk_index.specs.declared.Third.TheVariants.{Either}
 use Rattle.sk_index.specs.Partners.{Partner, PartnerOf}
 use Rattle.sk_index.specs.Triples.{AtCorner}
-
--- p and q are the other two names of a triple that has the name
-abbrev pub IsBeside : Merge → Name → Name → Name → Type 0
-IsBeside (Two x y) n p q = ⊥
-IsBeside (Three x y z) n p q =
-    ((x ≡ n) × (y ≡ p) × (z ≡ q)) ⊎ (((x ≢ n) × (y ≡ n) × (x ≡ p) × (z ≡ q)) ⊎ ((x ≢ n) × (y ≢ n) × (z ≡ n) × (x ≡ p) × (y ≡ q)))
-
--- what the heir has instead of a triple of its core
-abbrev pub Inherits : Heir → List Name → Merge → Merge → Type 0
-Inherits heir gone t m = (p : Name) × (q : Name) × IsBeside t heir.core p q × ¬ Contains gone p × ¬ Contains gone q × (m ≡ Three heir.name p q)
+use Rattle.sk_worklist.specs.Gather.{IsUncovered}
 
 -- the element is that one, and not among these
 abbrev pub MissesSome : List Elem → Elem → Elem → Type 0
@@ -52,10 +43,10 @@ pub record IsHeir (g : Graph) (f : Clusters) (covered : Name) (kept : List Merge
   pub known : (p q : Name) → IsKeptWith kept heir.core p q → IsBelow q p × IsNoHeir f gone heir.name p × IsNoHeir f gone heir.name q
   pub dead : (n : Name) → Contains gone n → IsBelow n (Step f.next_step) × ¬ IsLive f n
 
--- the same of the heir that is there, if any, which isn't covered
+-- the same of the heir that is there, if any, which isn't covered, and whose core is gone
 abbrev pub IsHeirOf : Graph → Clusters → Name → List Merge → List Name → Option Heir → List Elem → Type 0
 IsHeirOf g f covered kept gone None fresh = Unit {0}
-IsHeirOf g f covered kept gone (Some heir) fresh = IsHeir g f covered kept gone heir fresh × ¬ IsBelow heir.name covered
+IsHeirOf g f covered kept gone (Some heir) fresh = IsHeir g f covered kept gone heir fresh × ¬ IsBelow heir.name covered × Contains gone heir.core
 
 -- where the cluster is the heir, all its partners are found by its fresh elements
 abbrev pub TellsFresh : Index → Option Heir → List Elem → Cluster → Type 0
@@ -76,3 +67,8 @@ pub record IsFreshOn (f : Clusters) (names : List Name) (name : Name) (old new :
   pub grows : (e : Elem) → Contains old e → Contains new e
   pub right : (e : Elem) → Contains new e → Contains old e ⊎ ((c : Cluster) × Contains f.live c × Contains names c.name × Contains c.elements e)
   pub all : (c : Cluster) (e : Elem) → Contains f.live c → Contains names c.name → Contains c.elements e → Contains new e ⊎ ((w : Cluster) × IsNamed f name w × Contains w.elements e)
+
+-- what is found of what isn't covered: of the heir, if there is one, what a walk from its fresh elements finds, else all of it
+abbrev pub IsFound : Index → Graph → Clusters → Name → Option Heir → List Elem → Merge → Type 0
+IsFound ix g f covered None fresh m = IsUncovered g f covered m
+IsFound ix g f covered (Some heir) fresh m = IsOfFresh ix f heir.name fresh m

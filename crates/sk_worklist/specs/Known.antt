@@ -1,5 +1,5 @@
 -- What is known of the merges of a family, and which triples are kept.
-use Rattle.std.specs.Prelude.{◌≡◌, ◌≢◌, Bool, false, not, ◌||◌, List, Contains, AllPairs, filter}
+use Rattle.std.specs.Prelude.{◌≡◌, ◌≢◌, false, List, Contains, AllPairs}
 use Rattle.sk_base.specs.declared.Name.{Name}
 use Rattle.sk_base.specs.declared.Name.TheVariants.{Step}
 use Rattle.sk_base.specs.declared.Graph.{Graph}
@@ -7,11 +7,12 @@ use Rattle.sk_base.specs.ClusterNames.{IsBelow, is_named}
 use Rattle.sk_family.specs.declared.Cluster.{Cluster}
 use Rattle.sk_family.specs.Clusters.{Clusters, IsWithin}
 use Rattle.sk_family.specs.declared.Merge.{Merge}
-use Rattle.sk_family.specs.declared.Merge.TheVariants.{Two, Three}
+use Rattle.sk_family.specs.declared.Merge.TheVariants.{Three}
 use Rattle.sk_family.specs.Rules.{SharesTwo}
 use Rattle.sk_family.specs.Merges.{names_of}
 use Rattle.sk_rules.specs.Merges.{CanTake}
-use Rattle.sk_worklist.specs.Choices.{ComesFirst}
+use Rattle.sk_kept.specs.Avoiding.{avoiding}
+use Rattle.sk_kept.specs.MergeOrder.{ComesFirst}
 
 -- the name is that of a cluster that a merge of those leaves as it is
 pub record IsLeft (f : Clusters) (gone : List Name) (n : Name) : Type 0 where
@@ -21,18 +22,6 @@ pub record IsLeft (f : Clusters) (gone : List Name) (n : Name) : Type 0 where
 -- each name of the merge is
 abbrev pub Avoids : Clusters → List Name → Merge → Type 0
 Avoids f gone m = (n : Name) → Contains (names_of m) n → IsLeft f gone n
-
--- whether the merge names one of these
-abbrev pub names_one_of : List Name → Merge → Bool
-names_one_of gone (Two x y) = is_named gone x || is_named gone y
-names_one_of gone (Three x y z) = is_named gone x || (is_named gone y || is_named gone z)
-
--- the merges that name none of these
-abbrev pub avoiding : List Name → List Merge → List Merge
-avoiding gone merges = filter (λ (m : Merge). not (names_one_of gone m)) merges
-
-abbrev pub IsTriple : Merge → Type 0
-IsTriple m = (x : Name) × (y : Name) × (z : Name) × (m ≡ Three x y z)
 
 -- just the triples that may merge and whose greatest cluster is of that kind, in order
 pub record AreKept (g : Graph) (f : Clusters) (kind : Name → Type 0) (kept : List Merge) : Type 0 where

@@ -15,19 +15,19 @@ use Rattle.sk_worklist.specs.Heirs.{IsHeirOf}
 
 -- what the worklist knows of the merges of the family
 abbrev pub KnowsOf : Worklist → Graph → Clusters → Type 0
-KnowsOf w g f = Knows w.clear w.covered w.kept.items w.gone g f
+KnowsOf w g f = Knows w.clear w.covered w.kept w.gone g f
 
 -- the index stands for the family, and what the worklist knows is so
 pub record Follows (w : Worklist) (g : Graph) (f : Clusters) : Type 0 where
   pub represents : Represents w.index g f.live
   pub knows : KnowsOf w g f
-  pub heirs : IsHeirOf g f w.covered w.kept.items w.gone w.heir w.fresh
+  pub heirs : IsHeirOf g f w.covered w.kept w.gone w.heir w.fresh
 
 -- the same, with the clusters of the merge taken out of the index, and what it makes of the heir
 pub record HasLeft (w : Worklist) (g : Graph) (f : Clusters) (m : Merge) : Type 0 where
   pub represents : Represents w.index g (unnamed (names_of m) f.live)
   pub knows : KnowsOf w g f
-  pub heirs : IsHeirOf g (merged f m) w.covered w.kept.items (w.gone ++ names_of m) w.heir w.fresh
+  pub heirs : IsHeirOf g (merged f m) w.covered w.kept (w.gone ++ names_of m) w.heir w.fresh
 
 -- all but the heir and its fresh elements is the same
 pub record IsSameButHeir (old new : Worklist) : Type 0 where

@@ -1,94 +1,20 @@
 // The one cluster that isn't covered yet, where it is known how it came about: it has the elements of
 // a covered cluster that is gone, its core, and fresh ones. It has the core's triples, and those that
 // a walk from its fresh elements finds.
-ghost use Rattle.std.specs.Prelude.{◌≡◌, ◌↔◌, ◌⊎◌, ◌∷◌, [], All, AllPairs, Contains, IfNone, IfSome, IsTrue, OnOk};
+ghost use Rattle.std.specs.Prelude.{◌≡◌, ◌↔◌, ◌⊎◌, ◌∷◌, [], All, Contains, IfSome, IsTrue, OnOk};
 ghost use Rattle.sk_base.specs.declared.Elem.{Elem as Element};
-ghost use Rattle.sk_base.specs.declared.Name.{Name as ClusterName};
-ghost use Rattle.sk_base.specs.ClusterNames.{IsBelow};
 ghost use Rattle.sk_base.specs.Numbering.{elem_number};
 ghost use Rattle.sk_base.specs.Rising.{IsRising};
 ghost use Rattle.sk_family.specs.Clusters.{IsLive, IsNamed, IsSound};
 ghost use Rattle.sk_ends.specs.Growing.{FromSome, GrowsBy};
 ghost use Rattle.sk_family.specs.Merges.{names_of};
-ghost use Rattle.sk_worklist.specs.Heirs.{Inherits, IsBeside, IsFreshOn, MissesSome};
+ghost use Rattle.sk_worklist.specs.Heirs.{IsFreshOn, MissesSome};
 
-use crate::kept::is_among;
 use sk_base::{Elem, List, Name, NoMemory};
 use sk_family::{Cluster, Family};
 use sk_index::is_in_rising;
+use sk_kept::is_same;
 use sk_rules::Merge;
-
-/// The names of the core and of the cluster that has grown out of it.
-#[derive(Clone, Copy)]
-pub(crate) struct Heir {
-    pub core: Name,
-    pub name: Name,
-}
-
-/// Adds what the heir has instead of these triples of its core, but for those that name one of the
-/// gone.
-pub(crate) fn add_inherited(
-    kept: &[Merge],
-    heir: Heir,
-    gone: &[Name],
-    all: &mut List<Merge>,
-) -> Result<(), NoMemory>
-    requires { AllPairs IsBelow gone.now }
-    ensures { OnOk result (GrowsBy (FromSome (Inherits heir gone.now) kept.now) all.old all.new) }
-{
-    for merge in kept {
-        add_if_inherited(*merge, heir, gone, all)?;
-    }
-    Ok(())
-}
-
-/// Adds what it has instead of that one.
-fn add_if_inherited(
-    merge: Merge,
-    heir: Heir,
-    gone: &[Name],
-    all: &mut List<Merge>,
-) -> Result<(), NoMemory>
-    requires { AllPairs IsBelow gone.now }
-    ensures { OnOk result (GrowsBy (Inherits heir gone.now merge) all.old all.new) }
-{
-    match beside(merge, heir.core) {
-        Some((p, q)) => {
-            if is_among(p, gone) || is_among(q, gone) {
-                return Ok(());
-            }
-            all.push(Merge::Three(heir.name, p, q))
-        }
-        None => Ok(()),
-    }
-}
-
-/// The other two names of a triple that has the name.
-fn beside(merge: Merge, name: Name) -> Option<(Name, Name)>
-    ensures none { IfNone result ((p q : ClusterName) → ¬ IsBeside merge name p q) }
-    ensures some { IfSome result (λ others. IsBeside merge name others.0 others.1) }
-{
-    match merge {
-        Merge::Two(_, _) => None,
-        Merge::Three(x, y, z) => {
-            if is_same(x, name) {
-                Some((y, z))
-            } else if is_same(y, name) {
-                Some((x, z))
-            } else if is_same(z, name) {
-                Some((x, y))
-            } else {
-                None
-            }
-        }
-    }
-}
-
-pub(crate) fn is_same(one: Name, other: Name) -> bool
-    ensures { IsTrue result ↔ (one ≡ other) }
-{
-    one == other
-}
 
 /// Adds those of the elements that aren't among the many.
 pub(crate) fn add_missing(

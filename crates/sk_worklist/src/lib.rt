@@ -5,7 +5,6 @@
 mod chosen;
 mod close;
 mod heir;
-mod kept;
 mod law;
 mod partner;
 mod picker;

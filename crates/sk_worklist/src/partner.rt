@@ -10,10 +10,10 @@ ghost use Rattle.sk_index.specs.Partners.{IsLeast, Partner};
 ghost use Rattle.sk_worklist.specs.Gather.{IsPartner};
 ghost use Rattle.sk_worklist.specs.Heirs.{TellsFresh};
 
-use crate::heir::{Heir, is_same};
 use sk_base::{Elem, Name};
 use sk_family::Cluster;
 use sk_index::{Index, least_partner, least_partner_at};
+use sk_kept::{Heir, is_same};
 
 /// The first of these clusters that has a partner, and the least one.
 pub(crate) fn first_with_partner(

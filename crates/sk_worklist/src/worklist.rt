@@ -7,20 +7,21 @@ ghost use Rattle.sk_base.specs.ClusterNames.{IsBelow};
 ghost use Rattle.sk_family.specs.Clusters.{Clusters, IsSound, HasElements};
 ghost use Rattle.sk_rules.specs.Merges.{merged};
 ghost use Rattle.sk_family.specs.Merges.{names_of};
+ghost use Rattle.sk_family.specs.declared.Merge.{Merge as AnyMerge};
 ghost use Rattle.sk_worklist.specs.Choices.{AreTriples, IsFirstPair};
-ghost use Rattle.sk_worklist.specs.Gather.{AreUncovered, HoldsSome, IsUncovered};
+ghost use Rattle.sk_worklist.specs.Gather.{HoldsSome, IsUncovered};
 ghost use Rattle.sk_index.specs.Indexed.{IsIndex, Represents};
 ghost use Rattle.sk_worklist.specs.Turns.{Answers, Follows, HasLeft, HasNoPair, IsSameButHeir};
-ghost use Rattle.sk_worklist.specs.Heirs.{IsHeir, IsHeirOf, IsOfFresh, IsOfHeir};
+ghost use Rattle.sk_worklist.specs.Heirs.{IsFound, IsHeir, IsHeirOf, IsOfFresh};
 ghost use Rattle.sk_ends.specs.Growing.{GrowsBy};
 
-use crate::heir::{Heir, add_fresh, add_inherited, biggest, has_name, is_same};
-use crate::kept::{drop_naming, in_order, names_in_order};
+use crate::heir::{add_fresh, biggest, has_name};
 use crate::partner::first_with_partner;
 use crate::picker::Picker;
 use sk_base::{Elem, Graph, List, Name, NoMemory};
-use sk_family::Family;
+use sk_family::{Family, names_in_order};
 use sk_index::{Index, Third, add_holders_of_all, add_triples_at, add_triples_of_all};
+use sk_kept::{Heir, Kept, is_same};
 use sk_rules::Merge;
 use sk_triples::add_all_triples;
 use std::alloc::Global;
@@ -37,7 +38,7 @@ pub struct Worklist {
     clear: Name,
     /// The triples whose greatest cluster is below this name are kept, in order.
     covered: Name,
-    kept: Vec<Merge>,
+    kept: Kept,
     /// The merged clusters that kept triples may still name.
     gone: List<Name>,
     /// The one cluster that isn't covered, where it is known how it came about, and what it has more
@@ -56,7 +57,7 @@ impl Worklist {
             index: Index::of(alloc, family, graph)?,
             clear: Name::Con(0),
             covered: Name::Con(0),
-            kept: Vec::new(alloc),
+            kept: Kept::new(alloc),
             gone: List::new(alloc),
             heir: None,
             fresh: List::new(alloc),
@@ -78,20 +79,21 @@ impl Worklist {
             Some(pair) => Ok(Some(pick_alone(pair, picker))),
             None => {
                 self.keep_all(family)?;
-                Ok(self.pick_kept(picker))
+                self.pick_kept(picker)
             }
         }
     }
 
     /// One of the kept merges.
-    fn pick_kept<P: Picker>(&self, picker: &mut P) -> Option<Merge>
-        ensures { (g : AnyGraph) (f : Clusters) → AreTriples g f self.now.kept.items → Answers P.answer P.after g f picker.old result picker.new }
+    fn pick_kept<P: Picker>(&self, picker: &mut P) -> Result<Option<Merge>, NoMemory>
+        ensures { IfOk result (λ choice. (g : AnyGraph) (f : Clusters) → AreTriples g f self.now.kept → Answers P.answer P.after g f picker.old choice picker.new) }
     {
-        if self.kept.is_empty() {
-            return None;
+        let count = self.kept.len()?;
+        if count == 0 {
+            return Ok(None);
         }
-        let place = picker.pick(self.kept.len() as u64);
-        Some(self.kept[place as usize])
+        let place = picker.pick(count as u64);
+        Ok(Some(self.kept.get(place as usize)))
     }
 
     /// Takes the clusters of a merge out, whatever the rules say of it. It is to be done then, and its
@@ -111,7 +113,7 @@ impl Worklist {
     /// Notes how the cluster that the merge makes comes about.
     fn note(&mut self, family: &Family, merge: Merge)
         ensures same { IsSameButHeir self.old self.new }
-        ensures heirs { (g : AnyGraph) → Follows self.old g family.now → IsHeirOf g (merged family.now merge) self.new.covered self.new.kept.items (self.new.gone ++ names_of merge) self.new.heir self.new.fresh }
+        ensures heirs { (g : AnyGraph) → Follows self.old g family.now → IsHeirOf g (merged family.now merge) self.new.covered self.new.kept (self.new.gone ++ names_of merge) self.new.heir self.new.fresh }
     {
         self.heir = self.grown(family, merge);
     }
@@ -119,7 +121,7 @@ impl Worklist {
     /// The heir that the merge makes, if it is known how that comes about.
     fn grown(&mut self, family: &Family, merge: Merge) -> Option<Heir>
         ensures same { IsSameButHeir self.old self.new }
-        ensures heir { (g : AnyGraph) → Follows self.old g family.now → IsHeirOf g (merged family.now merge) self.new.covered self.new.kept.items (self.new.gone ++ names_of merge) result self.new.fresh }
+        ensures heir { (g : AnyGraph) → Follows self.old g family.now → IsHeirOf g (merged family.now merge) self.new.covered self.new.kept (self.new.gone ++ names_of merge) result self.new.fresh }
     {
         let base = self.heir_in(family, merge)?;
         if add_fresh(family, merge, base.name, &mut self.fresh) {
@@ -137,7 +139,8 @@ impl Worklist {
     fn heir_in(&mut self, family: &Family, merge: Merge) -> Option<Heir>
         ensures same { IsSameButHeir self.old self.new }
         ensures named { IfSome result (λ heir. Contains (names_of merge) heir.name) }
-        ensures heir { IfSome result (λ heir. (g : AnyGraph) → Follows self.old g family.now → IsHeir g family.now self.new.covered self.new.kept.items self.new.gone heir self.new.fresh) }
+        ensures heir { IfSome result (λ heir. (g : AnyGraph) → Follows self.old g family.now → IsHeir g family.now self.new.covered self.new.kept self.new.gone heir self.new.fresh) }
+        ensures core { IfSome result (λ heir. (g : AnyGraph) → Follows self.old g family.now → Contains (self.new.gone ++ names_of merge) heir.core) }
     {
         match self.heir {
             Some(heir) => {
@@ -218,46 +221,36 @@ impl Worklist {
     /// Keeps all triples.
     fn keep_all(&mut self, family: &Family) -> Result<(), NoMemory>
         requires { (g : AnyGraph) × Follows self.old g family.now }
-        ensures { OnOk result ((g : AnyGraph) → Follows self.old g family.now → HasNoPair g family.now → Follows self.new g family.now × AreTriples g family.now self.new.kept.items) }
+        ensures { OnOk result ((g : AnyGraph) → Follows self.old g family.now → HasNoPair g family.now → Follows self.new g family.now × AreTriples g family.now self.new.kept) }
     {
         let gone = names_in_order(self.alloc, self.gone.as_slice())?;
-        let found = self.uncovered(family, gone.as_slice())?;
-        drop_naming(&mut self.kept, gone.as_slice());
+        let found = self.found(family)?;
+        self.kept.take_in(self.heir, gone.as_slice(), found)?;
         self.gone = List::new(self.alloc);
         self.heir = None;
-        self.kept.extend_from_slice(found.as_slice())?;
         self.covered = Name::Step(family.next_step());
         Ok(())
     }
 
-    /// The triples of the clusters that aren't covered, in order.
-    fn uncovered(&self, family: &Family, gone: &[Name]) -> Result<Vec<Merge>, NoMemory>
-        requires follows { (g : AnyGraph) × Follows self.now g family.now }
-        requires in_order { AllPairs IsBelow gone.now }
-        requires same { (n : ClusterName) → Contains gone.now n ↔ Contains self.now.gone n }
-        ensures found { IfOk result (λ found. (g : AnyGraph) → Follows self.now g family.now → AreUncovered g family.now self.now.covered found.items) }
+    /// The triples of the clusters that aren't covered, but for those that an heir has from its core.
+    fn found(&self, family: &Family) -> Result<List<Merge>, NoMemory>
+        requires { (g : AnyGraph) × Follows self.now g family.now }
+        ensures found { IfOk result (λ found. (g : AnyGraph) → Follows self.now g family.now → (m : AnyMerge) → Contains found m ↔ IsFound self.now.index g family.now self.now.covered self.now.heir self.now.fresh m) }
         ensures sound { IsSound family.now }
     {
         let mut found = List::new(self.alloc);
-        self.add_uncovered(family, gone, &mut found)?;
-        in_order(self.alloc, found.as_slice())
+        self.add_uncovered(family, &mut found)?;
+        Ok(found)
     }
 
-    /// Adds the triples of the clusters that aren't covered.
-    fn add_uncovered(
-        &self,
-        family: &Family,
-        gone: &[Name],
-        all: &mut List<Merge>,
-    ) -> Result<(), NoMemory>
-        requires follows { (g : AnyGraph) × Follows self.now g family.now }
-        requires in_order { AllPairs IsBelow gone.now }
-        requires same { (n : ClusterName) → Contains gone.now n ↔ Contains self.now.gone n }
-        ensures grows { OnOk result ((g : AnyGraph) → Follows self.now g family.now → GrowsBy (IsUncovered g family.now self.now.covered) all.old all.new) }
+    /// Adds the triples of the clusters that aren't covered, but for those that an heir has from its core.
+    fn add_uncovered(&self, family: &Family, all: &mut List<Merge>) -> Result<(), NoMemory>
+        requires { (g : AnyGraph) × Follows self.now g family.now }
+        ensures grows { OnOk result ((g : AnyGraph) → Follows self.now g family.now → GrowsBy (IsFound self.now.index g family.now self.now.covered self.now.heir self.now.fresh) all.old all.new) }
         ensures sound { IsSound family.now }
     {
         match self.heir {
-            Some(heir) => self.add_triples_of_heir(family, heir, gone, all),
+            Some(heir) => self.add_fresh_triples(family, heir.name, all),
             None => self.add_triples_anew(family, all),
         }
     }
@@ -284,23 +277,6 @@ impl Worklist {
                 .clusters()
                 .iter()
                 .all(|x| x.elements.len() <= MOST_AT_START)
-    }
-
-    /// Adds the triples of the heir.
-    fn add_triples_of_heir(
-        &self,
-        family: &Family,
-        heir: Heir,
-        gone: &[Name],
-        all: &mut List<Merge>,
-    ) -> Result<(), NoMemory>
-        requires index { IsIndex self.now.index }
-        requires in_order { AllPairs IsBelow gone.now }
-        ensures grows { OnOk result (GrowsBy (IsOfHeir self.now.index family.now self.now.kept.items heir gone.now self.now.fresh) all.old all.new) }
-        ensures sound { IsSound family.now }
-    {
-        self.add_fresh_triples(family, heir.name, all)?;
-        add_inherited(self.kept.as_slice(), heir, gone, all)
     }
 
     /// Adds those of the cluster of that name with a fresh element as a corner.

@@ -4,7 +4,7 @@ use Rattle.std.proofs.lemmas.Option.{slice_get-get_or}
 use Rattle.sk_base.specs.declared.Name.{Name}
 use Rattle.sk_base.specs.ClusterNames.{IsBelow, is_named}
 use Rattle.sk_base.proofs.NameOrder.{same_name}
-use Rattle.sk_worklist.proofs.Sorting.{found_among}
+use Rattle.sk_kept.proofs.Sorting.{found_among}
 use Rattle.sk_derive.proofs.Pairing.{name_taken, name_absent}
 use Rattle.sk_derive.proofs.pairs.drop_name.Goals as goal
 

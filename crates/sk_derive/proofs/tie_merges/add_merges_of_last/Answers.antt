@@ -2,7 +2,7 @@ use Rattle.std.proofs.Common.{◌≡◌, ◌-◌, ◌∙◌, List, length, subst
 use Rattle.std.specs.Prelude.{AllPairs, Some, slice_get}
 use Rattle.std.proofs.lemmas.Option.{same_Some}
 use Rattle.sk_family.specs.declared.Cluster.{Cluster}
-use Rattle.sk_worklist.specs.Choices.{ComesFirst}
+use Rattle.sk_kept.specs.MergeOrder.{ComesFirst}
 use Rattle.sk_family.proofs.Outcomes.{both_on_ok}
 use Rattle.sk_derive.specs.TieMerges.{AreBelow, FindsOf}
 use Rattle.sk_derive.proofs.tie_merges.add_merges_of_last.Goals as goal

@@ -2,7 +2,7 @@ use Rattle.std.proofs.Common.{take}
 use Rattle.std.specs.Prelude.{◌↔◌, Contains, AllPairs}
 use Rattle.sk_family.specs.declared.Cluster.{Cluster}
 use Rattle.sk_family.specs.declared.Merge.{Merge}
-use Rattle.sk_worklist.specs.Choices.{ComesFirst}
+use Rattle.sk_kept.specs.MergeOrder.{ComesFirst}
 use Rattle.sk_derive.specs.TieMerges.{IsTieMergeOf}
 use Rattle.sk_derive.proofs.tie_merges.tie_merges.Given as goal
 

@@ -1,6 +1,7 @@
 use Rattle.std.proofs.Common.{subst, List}
 use Rattle.sk_base.specs.declared.Elem.{Elem}
-use Rattle.sk_index.specs.Partners.{GivenBy, IsLeast, Partner, PartnerUnless}
+use Rattle.sk_ends.specs.Growing.{FromSome}
+use Rattle.sk_index.specs.Partners.{IsLeast, Partner, PartnerUnless}
 use Rattle.sk_index.proofs.Least.{least_same}
 use Rattle.sk_index.proofs.Sharing.{unless_hub}
 use Rattle.sk_index.proofs.partner.least_partner.Goals as goal
@@ -10,5 +11,5 @@ returns c =
     let ix = c.args.index.now in
     let x = c.args.x.now in
     let hub = c.hub_of.result in
-    least_same (GivenBy (PartnerUnless hub ix x) x.elements) (Partner ix x) (unless_hub ix x hub) c.least_partner_at.result
-    (subst (λ (xs : List Elem). IsLeast (GivenBy (PartnerUnless hub ix x) xs) c.least_partner_at.result) c.as_slice-elements.ensures c.least_partner_at.ensures)
+    least_same (FromSome (PartnerUnless hub ix x) x.elements) (Partner ix x) (unless_hub ix x hub) c.least_partner_at.result
+    (subst (λ (xs : List Elem). IsLeast (FromSome (PartnerUnless hub ix x) xs) c.least_partner_at.result) c.as_slice-elements.ensures c.least_partner_at.ensures)

@@ -1,5 +1,6 @@
 use Rattle.sk_index.specs.Indexed.{IsBelowAt, holders_of}
-use Rattle.sk_index.specs.Partners.{GivenBy, PartnerAt, PartnerBy, PartnerOf}
+use Rattle.sk_ends.specs.Growing.{FromSome}
+use Rattle.sk_index.specs.Partners.{PartnerAt, PartnerBy, PartnerOf}
 use Rattle.sk_index.proofs.Least.{least_same, least_start, least_step, least_end}
 use Rattle.sk_index.proofs.Sharing.{given_below, partner_walked}
 use Rattle.sk_index.proofs.partner.partner_of.Goals as goal
@@ -17,6 +18,6 @@ returns c =
     let ix = c.args.index.now in
     let keys = c.below-key-items.result.now in
     least_same (PartnerBy ix x c.args.elem) (PartnerOf ix x c.args.elem) (partner_walked ix x c.requires.index c.args.elem) c.loop-key.least
-    (least_same (GivenBy (PartnerAt ix x) keys) (PartnerBy ix x c.args.elem)
+    (least_same (FromSome (PartnerAt ix x) keys) (PartnerBy ix x c.args.elem)
     (given_below keys (holders_of ix c.args.elem) (IsBelowAt ix x.name) c.below-key-items.ensures (PartnerAt ix x)) c.loop-key.least
     (least_end (PartnerAt ix x) keys c.loop-key.key-index c.loop-key-test.false c.loop-key.least c.loop-key.invariant))

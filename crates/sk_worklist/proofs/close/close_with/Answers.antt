@@ -11,7 +11,8 @@ use Rattle.sk_rules.specs.Taking.{Leads}
 use Rattle.sk_worklist.specs.Run.{PicksLead, merge_of}
 use Rattle.sk_worklist.specs.Turns.{Answers}
 use Rattle.sk_rules.proofs.Takable.{have_elements, reach_on, two_live}
-use Rattle.sk_worklist.proofs.Runs.{on_err, none_closes, answer_can, picks_turn, picks_taken, leads_more}
+use Rattle.sk_kept.proofs.Outcomes.{on_err}
+use Rattle.sk_worklist.proofs.Runs.{none_closes, answer_can, picks_turn, picks_taken, leads_more}
 use Rattle.sk_rules.proofs.NormalForm.{normal_same}
 use Rattle.sk_worklist.proofs.close.close_with.Goals as goal
 

@@ -1,6 +1,6 @@
 use Rattle.std.proofs.Common.{subst}
 use Rattle.std.specs.Prelude.{Option, None}
-use Rattle.sk_worklist.specs.declared.heir.Heir.{Heir}
+use Rattle.sk_kept.specs.declared.Heir.{Heir}
 use Rattle.sk_index.specs.Partners.{GivenBy, Partner, PartnerUnless}
 use Rattle.sk_worklist.specs.Heirs.{TellsFresh}
 use Rattle.sk_index.proofs.Least.{least_same}

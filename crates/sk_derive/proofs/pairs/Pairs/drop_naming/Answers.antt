@@ -4,8 +4,8 @@ use Rattle.std.specs.List.{flat_map}
 use Rattle.std.proofs.lemmas.List.Elements.{All-filter}
 use Rattle.sk_base.specs.ClusterNames.{IsBelow, is_named}
 use Rattle.sk_family.specs.declared.Merge.{Merge}
-use Rattle.sk_worklist.specs.Choices.{ComesFirst}
-use Rattle.sk_worklist.specs.Known.{avoiding}
+use Rattle.sk_kept.specs.MergeOrder.{ComesFirst}
+use Rattle.sk_kept.specs.Avoiding.{avoiding}
 use Rattle.sk_derive.specs.declared.pairs.Partners.{Partners}
 use Rattle.sk_derive.specs.MergeRows.{merges_of, without}
 use Rattle.sk_derive.proofs.Classing.{all_written}

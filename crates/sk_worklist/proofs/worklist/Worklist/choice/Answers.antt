@@ -1,5 +1,6 @@
 use Rattle.std.proofs.Common.{◌∙◌, ◌∷◌, [], sym, ap, inl, refl}
 use Rattle.std.specs.Prelude.{Some, slice_get}
+use Rattle.sk_kept.proofs.Outcomes.{both_ok, if_ok}
 use Rattle.sk_worklist.proofs.worklist.Worklist.choice.Goals as goal
 
 pub returns-in-Some-clause-follows : goal.returns-in-Some-clause-follows
@@ -15,10 +16,11 @@ returns-in-Some-clause-answer g c graph follows =
     )
 
 pub returns-in_ok-keep_all-in-None-clause-follows : goal.returns-in_ok-keep_all-in-None-clause-follows
-returns-in_ok-keep_all-in-None-clause-follows g c graph follows =
-    let first = c.in-None.ensures.none graph follows in (c.in_ok-keep_all-in-None.ensures graph first.0 first.1).0
+returns-in_ok-keep_all-in-None-clause-follows g c =
+    if_ok c.pick_kept.result (λ graph follows. (let first = c.in-None.ensures.none graph follows in (c.in_ok-keep_all-in-None.ensures graph first.0 first.1).0))
 
 pub returns-in_ok-keep_all-in-None-clause-answer : goal.returns-in_ok-keep_all-in-None-clause-answer
-returns-in_ok-keep_all-in-None-clause-answer g c graph follows =
+returns-in_ok-keep_all-in-None-clause-answer g c =
+    both_ok _ _ _ c.pick_kept.result c.pick_kept.ensures c.pick_kept.ensures (λ choice answers again graph follows.
     let first = c.in-None.ensures.none graph follows in
-    c.pick_kept.ensures graph c.args.family.now (c.in_ok-keep_all-in-None.ensures graph first.0 first.1).1
+    answers graph c.args.family.now (c.in_ok-keep_all-in-None.ensures graph first.0 first.1).1)

@@ -25,9 +25,9 @@ returns-in-Two c =
             (λ h. elim ((c.in_ok-put_last.ensures.held x).0 h) [ inl was ↦ inl was | inr last ↦ inr (subst (λ (l : List Cluster). IsLast l x) c.clusters.ensures.live last) ]),
             (λ h. (c.in_ok-put_last.ensures.held x).1 (elim h [ inl was ↦ inl was | inr last ↦ inr (subst (λ (l : List Cluster). IsLast l x) (sym c.clusters.ensures.live) last) ])),
           )) c.in_ok-put_last.ensures.lines;
-      knows = knows_entered c.args.self.now.clear c.args.self.now.covered c.args.self.now.kept.items c.args.self.now.gone c.extend.new.self g f sound c.args.merge c.args.family.now after_is
+      knows = knows_entered c.args.self.now.clear c.args.self.now.covered c.args.self.now.kept c.args.self.now.gone c.extend.new.self g f sound c.args.merge c.args.family.now after_is
           (gone ∙ ap (λ (m : Merge). c.args.self.now.gone ++ names_of m) (sym c.in-Two.is)) left.knows;
-      heirs = heirs_entered c.args.self.now.covered c.args.self.now.kept.items c.args.self.now.gone c.extend.new.self c.args.self.now.heir c.args.self.now.fresh g f c.args.merge c.args.family.now after_is
+      heirs = heirs_entered c.args.self.now.covered c.args.self.now.kept c.args.self.now.gone c.extend.new.self c.args.self.now.heir c.args.self.now.fresh g f c.args.merge c.args.family.now after_is
           (gone ∙ ap (λ (m : Merge). c.args.self.now.gone ++ names_of m) (sym c.in-Two.is)) left.heirs;
     })
 
@@ -39,8 +39,8 @@ returns-in-Three c =
             (λ h. elim ((c.in_ok-put_last.ensures.held x).0 h) [ inl was ↦ inl was | inr last ↦ inr (subst (λ (l : List Cluster). IsLast l x) c.clusters.ensures.live last) ]),
             (λ h. (c.in_ok-put_last.ensures.held x).1 (elim h [ inl was ↦ inl was | inr last ↦ inr (subst (λ (l : List Cluster). IsLast l x) (sym c.clusters.ensures.live) last) ])),
           )) c.in_ok-put_last.ensures.lines;
-      knows = knows_entered c.args.self.now.clear c.args.self.now.covered c.args.self.now.kept.items c.args.self.now.gone c.extend-in-Three.new.self g f sound c.args.merge c.args.family.now after_is
+      knows = knows_entered c.args.self.now.clear c.args.self.now.covered c.args.self.now.kept c.args.self.now.gone c.extend-in-Three.new.self g f sound c.args.merge c.args.family.now after_is
           (gone ∙ ap (λ (m : Merge). c.args.self.now.gone ++ names_of m) (sym c.in-Three.is)) left.knows;
-      heirs = heirs_entered c.args.self.now.covered c.args.self.now.kept.items c.args.self.now.gone c.extend-in-Three.new.self c.args.self.now.heir c.args.self.now.fresh g f c.args.merge c.args.family.now after_is
+      heirs = heirs_entered c.args.self.now.covered c.args.self.now.kept c.args.self.now.gone c.extend-in-Three.new.self c.args.self.now.heir c.args.self.now.fresh g f c.args.merge c.args.family.now after_is
           (gone ∙ ap (λ (m : Merge). c.args.self.now.gone ++ names_of m) (sym c.in-Three.is)) left.heirs;
     })

@@ -21,7 +21,7 @@ first_with_partner-requires-clause-tells c x x_in =
     let (g, follows) = c.requires in
     let w = c.args.self.now in
     subst (λ (es : List Elem). TellsFresh w.index w.heir es x) (sym c.as_slice.ensures)
-    (tells w.index g c.args.family.now c.not_below.ensures.sound follows.represents w.covered w.kept.items w.gone w.heir w.fresh follows.heirs x ((c.not_below.ensures.live x).0 x_in).0)
+    (tells w.index g c.args.family.now c.not_below.ensures.sound follows.represents w.covered w.kept w.gone w.heir w.fresh follows.heirs x ((c.not_below.ensures.live x).0 x_in).0)
 
 pub returns-in-Some-clause-some : goal.returns-in-Some-clause-some
 returns-in-Some-clause-some c g follows =

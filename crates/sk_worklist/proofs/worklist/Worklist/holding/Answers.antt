@@ -1,5 +1,5 @@
 use Rattle.sk_worklist.proofs.NamesBelow.{names_told}
-use Rattle.sk_worklist.proofs.Turning.{both_ok}
+use Rattle.sk_kept.proofs.Outcomes.{both_ok}
 use Rattle.sk_worklist.proofs.worklist.Worklist.holding.Goals as goal
 
 pub add_holders_of_all-requires : goal.add_holders_of_all-requires

@@ -1,0 +1,24 @@
+use Rattle.std.proofs.Common.{List, get_or, subst, sym}
+use Rattle.std.proofs.lemmas.List.Elements.{Contains-get_or}
+use Rattle.sk_ends.specs.Growing.{GrowsBy}
+use Rattle.sk_ends.proofs.Growing.{grows_start, grows_step, grows_end, grows_one}
+use Rattle.sk_kept.specs.KeptRows.{HasLessers}
+use Rattle.sk_kept.specs.declared.lessers.Lessers.{Lessers}
+use Rattle.sk_kept.proofs.Handing.{one_lessers}
+use Rattle.sk_kept.proofs.lessers.add_lessers_of.Goals as goal
+
+pub loop-merge-init : goal.loop-merge-init
+loop-merge-init c = grows_start HasLessers c.args.found.now c.args.all.now
+
+pub lessers_of-requires : goal.lessers_of-requires
+lessers_of-requires c = c.requires (get_or c.args.found.now c.loop-merge.merge-index _) (Contains-get_or c.args.found.now c.loop-merge.merge-index _ c.loop-merge-test.true)
+
+pub loop-merge-preserved : goal.loop-merge-preserved
+loop-merge-preserved c =
+    let m = get_or c.args.found.now c.loop-merge.merge-index _ in
+    grows_step HasLessers c.args.found.now c.args.all.now c.loop-merge.all c.push.new.self c.loop-merge.merge-index _ c.loop-merge-test.true c.loop-merge.invariant
+    (subst (λ (l : List Lessers). GrowsBy (HasLessers m) c.loop-merge.all l) (sym c.in_ok-push.ensures.ok)
+    (grows_one (HasLessers m) c.loop-merge.all c.lessers_of.result c.lessers_of.ensures (λ p has. one_lessers m p c.lessers_of.result has c.lessers_of.ensures)))
+
+pub returns : goal.returns
+returns c = grows_end HasLessers c.args.found.now c.args.all.now c.loop-merge.all c.loop-merge.merge-index c.loop-merge-test.false c.loop-merge.invariant

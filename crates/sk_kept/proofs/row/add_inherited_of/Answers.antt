@@ -1,0 +1,20 @@
+use Rattle.std.proofs.Common.{subst}
+use Rattle.sk_family.specs.declared.Merge.{Merge}
+use Rattle.sk_ends.specs.Growing.{GrowsBy}
+use Rattle.sk_ends.proofs.Growing.{grows_start, grows_step, grows_end}
+use Rattle.sk_kept.specs.Inherited.{Inherits}
+use Rattle.sk_kept.specs.KeptRows.{InheritsFrom}
+use Rattle.sk_kept.proofs.row.add_inherited_of.Goals as goal
+
+pub loop-lessers-init : goal.loop-lessers-init
+loop-lessers-init c = grows_start (InheritsFrom c.args.heir c.args.gone.now c.args.greatest) c.args.rest.now c.args.all.now
+
+pub loop-lessers-preserved : goal.loop-lessers-preserved
+loop-lessers-preserved c =
+    grows_step (InheritsFrom c.args.heir c.args.gone.now c.args.greatest) c.args.rest.now c.args.all.now c.loop-lessers.all c.add_if_inherited.new.all c.loop-lessers.lessers-index _ c.loop-lessers-test.true
+    c.loop-lessers.invariant
+    (subst (λ (t : Merge). GrowsBy (Inherits c.args.heir c.args.gone.now t) c.loop-lessers.all c.add_if_inherited.new.all) c.below.ensures c.in_ok-add_if_inherited.ensures)
+
+pub returns : goal.returns
+returns c =
+    grows_end (InheritsFrom c.args.heir c.args.gone.now c.args.greatest) c.args.rest.now c.args.all.now c.loop-lessers.all c.loop-lessers.lessers-index c.loop-lessers-test.false c.loop-lessers.invariant

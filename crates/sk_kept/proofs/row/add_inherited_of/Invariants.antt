@@ -1,0 +1,7 @@
+use Rattle.std.proofs.Common.{take}
+use Rattle.sk_ends.specs.Growing.{GrowsBy, FromSome}
+use Rattle.sk_kept.specs.KeptRows.{InheritsFrom}
+use Rattle.sk_kept.proofs.row.add_inherited_of.Given as goal
+
+abbrev pub invariant-loop-lessers : goal.invariant-loop-lessers
+invariant-loop-lessers l = GrowsBy (FromSome (InheritsFrom l.heir l.gone l.greatest) (take l.lessers-index l.rest)) l.fn.all l.all

@@ -1,0 +1,5 @@
+pub mod MergeOrder
+pub mod Avoiding
+pub mod Inherited
+pub mod KeptRows
+pub mod HandedOn
