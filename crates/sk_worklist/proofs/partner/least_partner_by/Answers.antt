@@ -1,7 +1,8 @@
 use Rattle.std.proofs.Common.{subst}
 use Rattle.std.specs.Prelude.{Option, None}
 use Rattle.sk_kept.specs.declared.Heir.{Heir}
-use Rattle.sk_index.specs.Partners.{GivenBy, Partner, PartnerUnless}
+use Rattle.sk_ends.specs.Growing.{FromSome}
+use Rattle.sk_index.specs.Partners.{Partner, PartnerUnless}
 use Rattle.sk_worklist.specs.Heirs.{TellsFresh}
 use Rattle.sk_index.proofs.Least.{least_same}
 use Rattle.sk_worklist.proofs.partner.least_partner_by.Goals as goal
@@ -12,6 +13,6 @@ returns-then-is_same c =
     let x = c.args.x.now in
     let fresh = c.args.fresh.now in
     let tells = subst (λ (o : Option Heir). TellsFresh ix o fresh x) c.in-Some.is c.requires.tells (c.is_same.ensures.0 c.if-is_same.true) in
-    least_same (GivenBy (PartnerUnless None ix x) fresh) (Partner ix x)
+    least_same (FromSome (PartnerUnless None ix x) fresh) (Partner ix x)
     (λ n. ((λ (e, e_in, (other, (y, held, e_y, below, two, named))). (y, held, below, two, named)), (λ h. (let (e, e_in, of) = tells n h in (e, e_in, ((λ never. cc), of))))))
     c.least_partner_at.result c.least_partner_at.ensures
