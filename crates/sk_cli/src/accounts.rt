@@ -2,8 +2,6 @@
 // `parts` and `excess`.
 ghost use Rattle.std.specs.Prelude.{◌<◌, length, IfOk};
 ghost use Rattle.sk_base.specs.SoundSketch.{IsSoundSketch};
-ghost use Rattle.sk_base.specs.SoundGraph.{IsSoundGraph};
-ghost use Rattle.sk_plan.specs.Judged.{IsTheJudgement};
 ghost use Rattle.sk_cli.specs.declared.accounts.Account.TheVariants as accounts;
 ghost use Rattle.sk_cli.specs.Accounts.{IsAccount};
 ghost use Rattle.sk_cli.specs.Outcome.{IsAccountAnswer};
@@ -12,17 +10,15 @@ use crate::answer::{Answer, refused};
 use crate::excess::excesses;
 use crate::parts::shapes;
 use crate::status::Status;
-use sk_base::{Graph, NoMemory, Sketch, Text};
+use sk_base::{NoMemory, Sketch, Text};
 use sk_derive::{derive, derive_text};
-use sk_family::initial;
 use sk_graph::reduce;
-use sk_growth::close_in_any_order;
 use sk_lang::{read_sketch, write_sketch_2};
 use sk_lines::ReadError;
+use sk_plan::judgement_of;
 use sk_report::check_text;
 use sk_request::Request;
 use sk_spare::{spare, spare_text};
-use sk_verdict::{Judgement, judge};
 use sk_worklist::{Chosen, Order};
 use std::alloc::Global;
 
@@ -92,17 +88,6 @@ fn judged(alloc: Global, sketch: &Sketch) -> Result<Text, NoMemory>
     let graph = reduce(alloc, sketch)?;
     let judgement = judgement_of(alloc, &graph)?;
     check_text(alloc, sketch, &judgement)
-}
-
-/// The judgement on a normal family, and so on every one.
-pub(crate) fn judgement_of(alloc: Global, graph: &Graph) -> Result<Judgement, NoMemory>
-    requires sound { IsSoundGraph graph.now }
-    requires some { 0 < length graph.now.nodes }
-    ensures { IfOk result (IsTheJudgement graph.now) }
-{
-    let mut family = initial(alloc, graph)?;
-    close_in_any_order(alloc, &mut family, graph)?;
-    judge(alloc, &family, graph)
 }
 
 /// The report of the sketch's spare constraints.

@@ -15,7 +15,6 @@ ghost use Rattle.sk_cli.specs.Solving.{LiesWithinBounds};
 ghost use Rattle.sk_excess.specs.KeptSketch.{kept_sketch};
 ghost use Rattle.sk_cli.specs.ExcessReport.{IsOffThere, AreOffsTold, IsMeasuredLeft, IsFaultyLeft, IsExcess, IsPartExcess, IsExcessReport};
 
-use crate::accounts::judgement_of;
 use crate::placing::placed;
 use crate::planning::{Planning, plan_or_report};
 use crate::solving::{Report, placement_text};
@@ -25,6 +24,7 @@ use sk_excess::{left_out, sketch_of_kept};
 use sk_flips::Placement;
 use sk_graph::reduce;
 use sk_parts::sketch_of_part;
+use sk_plan::judgement_of;
 use sk_report::{part_text, put_left, put_off};
 use sk_request::Request;
 use sk_residual::off;

@@ -7,11 +7,11 @@ ghost use Rattle.sk_plan.specs.Judged.{IsTheJudgement};
 ghost use Rattle.sk_report.specs.CheckReport.{part_line};
 ghost use Rattle.sk_cli.specs.PartsReport.{ArePartsTold, IsBelowPart, IsPartsReport};
 
-use crate::accounts::judgement_of;
 use crate::solving::{Report, solved};
 use sk_base::{NoMemory, Sketch, Text};
 use sk_graph::reduce;
 use sk_parts::sketch_of_part;
+use sk_plan::judgement_of;
 use sk_report::{part_text, parts_head_text};
 use sk_request::Request;
 use sk_verdict::Part;

@@ -1,6 +1,6 @@
 -- What a legal plan tells of its graph: how many steps it has, that no constraint is too many anywhere,
 -- and that the leaves of its tree are all constraints.
-use Rattle.std.proofs.Common.{◌≡◌, ◌≢◌, inl, inr, ℕ, ◌+◌, ◌*◌, ◌<◌, ◌≤◌, List, [], ◌∷◌, ◌++◌, length, ap, sym, subst, ◌∙◌, refl, arith}
+use Rattle.std.proofs.Common.{◌≡◌, ◌≢◌, inl, inr, ℕ, ◌+◌, ◌-◌, ◌*◌, ◌<◌, ◌≤◌, List, [], ◌∷◌, ◌++◌, length, ap, sym, subst, ◌∙◌, refl, arith}
 use Rattle.std.specs.Prelude.{Contains, map}
 use Rattle.std.proofs.lemmas.List.{length-map}
 use Rattle.std.proofs.lemmas.List.Elements.{Contains-push, All-contains}
@@ -22,13 +22,13 @@ use Rattle.sk_family.specs.declared.Cluster.{Cluster}
 use Rattle.sk_family.specs.Body.{Body, Start, starts, IsRisingBody, starting, initial_bodies}
 use Rattle.sk_family.specs.Clusters.{Clusters, body_of, bodies, start_of, initial_clusters, unnamed, whole_from}
 use Rattle.sk_family.proofs.Bodies.{Within, whole_within, same_within}
-use Rattle.sk_family.proofs.GraphStarts.{start_comes, starts_rise, no_starts, from_start}
+use Rattle.sk_family.proofs.GraphStarts.{start_comes, starts_rise, starts_many, no_starts, from_start}
 use Rattle.sk_family.proofs.Soundness.{sound_initial}
 use Rattle.sk_rules.specs.declared.Taken.{Taken}
 use Rattle.sk_family.specs.Merges.{names_of}
 use Rattle.sk_rules.specs.Merges.{merged}
 use Rattle.sk_rules.specs.Reach.{AreAmong, Step, Reach, IsClosed, IsNormal}
-use Rattle.sk_rules.specs.Excess.{weight_of, is_inside, held, OwnsEnough}
+use Rattle.sk_rules.specs.Excess.{weight_of, weight_where, is_inside, is_owned, held, OwnsEnough, AreConstraints}
 use Rattle.sk_rules.proofs.SummedWeights.{found_inside}
 use Rattle.sk_rules.proofs.WeighedGraphs.{sound_two_each, owned_count}
 use Rattle.sk_rules.specs.Taking.{Leads}
@@ -42,6 +42,7 @@ use Rattle.sk_tree.specs.Trees.{IsTreeOf}
 use Rattle.sk_tree.specs.LegalPlan.{numbers_of, HasNodes}
 use Rattle.sk_verdict.specs.Parts.{elem_of}
 use Rattle.sk_plan.specs.Sparse.{weight_within, weight_among, EachMeetsOnce, IsSparse, HasFewAngles, AreDistinct}
+use Rattle.sk_plan.specs.Judged.{HoldsWhatIsDue}
 use Rattle.sk_plan.specs.Runs.{EachTakesOnce}
 use Rattle.sk_plan.specs.Leaves.{HasLeaves}
 use Rattle.sk_plan.proofs.Counts.{count_all, whole_weight}
@@ -63,6 +64,13 @@ module _ (g : Graph) (sound : IsSoundGraph g) where
   everything_rises = record {
     elements = pairs_map (λ (x y : Elem). x.0 < y.0) elem_of g.nodes sound.nodes_rise;
     owned = pairs_map (λ (j k : ConId). j.0 < k.0) (λ (s : Start). s.number) (starts g) (starts_rise g sound.edges_rise);
+  }
+
+  pub numbers_are_constraints : AreConstraints g (numbers_of g)
+  numbers_are_constraints = record {
+    rise = everything_rises.owned;
+    few = (let count = length-map (starts g) (λ (s : Start). s.number) in let all = starts_many g sound in let few = sound.few_constraints in omega arith);
+    there = λ k h. mapped_from (λ (s : Start). s.number) (starts g) k h;
   }
 
   ends_are_nodes : (e : Edge) (m : Measure) → Measures g e.u e.v m → Contains (map elem_of g.nodes) e.u × Contains (map elem_of g.nodes) e.v
@@ -225,6 +233,15 @@ module _ (g : Graph) (sound : IsSoundGraph g) (ts : List Taken) (end : Clusters)
           sizes : (steps last edges owned n nodes : ℕ) → last + 2 * steps ≡ edges → last ≡ 1 → owned ≡ edges → owned + 3 ≡ 2 * n → n ≡ nodes → steps + 2 ≡ nodes
           sizes steps last edges owned n nodes p q r s t = omega arith
 
+      -- all constraints weigh what is due for all nodes
+      pub one_due : HoldsWhatIsDue g
+      one_due =
+          let nodes_are = ap (λ (x : Body). length x.elements) is_everything ∙ length-map g.nodes elem_of in
+          due (weight_of g c.owned) (length c.elements) (length g.nodes) (weight_of g (numbers_of g)) just_enough nodes_are (ap (λ ks. weight_of g ks) owned_are_numbers)
+        where
+          due : (owned n nodes all : ℕ) → owned + 3 ≡ 2 * n → n ≡ nodes → owned ≡ all → all ≡ 2 * nodes - 3
+          due owned n nodes all p q r = omega arith
+
       -- the leaves of the last step's tree are all constraints
       pub last_leaves : (before : List Taken) (last : Taken) → ts ≡ before ++ last ∷ [] → (t : Tree) → IsTreeOf ts last.step t → HasLeaves t (numbers_of g)
       last_leaves before last is t tree =
@@ -233,6 +250,12 @@ module _ (g : Graph) (sound : IsSoundGraph g) (ts : List Taken) (end : Clusters)
           let name : last.step ≡ c.name = sym lives.2 ∙ ap (λ (d : Cluster). d.name) (sym same) in
           subst (λ ks. HasLeaves t ks) owned_are_numbers
           (grown.leaves c (subst (λ cs. Contains cs c) (sym alone) (contains_head c [])) t (subst (λ n. IsTreeOf ts n t) name tree))
+
+-- where there is no constraint, nothing is due for one node
+pub none_due : (g : Graph) → length g.nodes ≡ 1 → g.edges ≡ [] → g.blocks ≡ [] → HoldsWhatIsDue g
+none_due g one none no_blocks =
+    let nothing : weight_of g (numbers_of g) ≡ 0 = ap (λ (ss : List Start). weight_where (is_owned (numbers_of g)) ss) (no_starts g none no_blocks) in
+    omega arith
 
 -- where there is no constraint there is no step
 pub no_steps : (g : Graph) (sound : IsSoundGraph g) (ts : List Taken) (end : Clusters) → Leads g (initial_clusters g) ts end → EachTakesOnce g (initial_clusters g) ts → g.edges ≡ [] → g.blocks ≡ [] → ts ≡ []

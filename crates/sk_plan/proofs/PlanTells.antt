@@ -14,9 +14,10 @@ use Rattle.sk_rules.specs.Excess.{has_ends_in}
 use Rattle.sk_tree.specs.declared.Plan.{Plan}
 use Rattle.sk_tree.specs.declared.PlanStep.{PlanStep}
 use Rattle.sk_tree.specs.LegalPlan.{taken_told, IsLegalPlan}
+use Rattle.sk_plan.specs.Judged.{HoldsWhatIsDue}
 use Rattle.sk_plan.specs.Sparse.{weight_within, IsSparse, HasFewAngles}
 use Rattle.sk_plan.proofs.Legal.{Arrives, arrives}
-use Rattle.sk_plan.proofs.Finished.{clusters_left, one_steps, one_sparse, one_few_angles, no_steps}
+use Rattle.sk_plan.proofs.Finished.{clusters_left, one_steps, one_due, one_sparse, one_few_angles, none_due, no_steps}
 
 taken_length : (ss : List PlanStep) → length (map taken_told ss) ≡ length ss
 taken_length ss = length-map ss taken_told
@@ -41,6 +42,13 @@ module _ (g : Graph) (p : Plan) (sound : IsSoundGraph g) (legal : IsLegalPlan g 
     | inl (c, alone, nodes) ↦ (let two = one_steps g sound (map taken_told p.steps) way.end way.leads way.once c alone nodes blockless in omega arith)
     | inr (one, none, no_blocks) ↦ (let no = ap (λ (ts : List Taken). length ts) (no_steps g sound (map taken_told p.steps) way.end way.leads way.once none no_blocks) in omega arith)
   ])
+
+  -- all constraints weigh what is due for all nodes
+  pub plan_due : HoldsWhatIsDue g
+  plan_due = elim way.whole [
+    | inl (c, alone, nodes) ↦ one_due g sound (map taken_told p.steps) way.end way.leads way.once c alone nodes
+    | inr (one, none, no_blocks) ↦ none_due g one none no_blocks
+  ]
 
   pub plan_sparse : IsSparse g
   plan_sparse xs distinct two = elim way.whole [

@@ -24,6 +24,7 @@ use Rattle.sk_rules.specs.Merges.{merged}
 use Rattle.sk_rules.specs.Reach.{Reach, IsNormal, IsClosed, stays}
 use Rattle.sk_rules.specs.Taking.{Leads}
 use Rattle.sk_worklist.specs.declared.Order.{Order}
+use Rattle.sk_worklist.specs.declared.Order.TheVariants.{First}
 use Rattle.sk_worklist.specs.Orders.{place_of, next_call, place_below}
 use Rattle.sk_worklist.specs.Run.{IsRun, merge_of}
 use Rattle.sk_worklist.proofs.Runs.{none_closes}
@@ -36,8 +37,10 @@ use Rattle.sk_tree.specs.DrawnChoice.{drawn_choice, shapes_of, HasDrawnChoice}
 use Rattle.sk_tree.proofs.DrawnKinds.{Draws, graph_draws}
 use Rattle.sk_verdict.specs.declared.Judgement.{Judgement}
 use Rattle.sk_plan.specs.Runs.{TakesOnce, EachTakesOnce}
-use Rattle.sk_plan.specs.Judged.{IsTheJudgement, IsWell}
+use Rattle.sk_plan.specs.declared.error.PlanError.TheVariants.{NotWell}
+use Rattle.sk_plan.specs.Judged.{HoldsWhatIsDue, IsTheJudgement, IsWell, TellsWhy}
 use Rattle.sk_plan.specs.PlanBy.{fresh, IsPlanOf, IsPlanBy}
+use Rattle.sk_plan.proofs.PlanTells.{plan_due}
 use Rattle.sk_plan.proofs.TheJudgement.{the_judgement}
 use Rattle.sk_plan.proofs.Joined.{sound_taken, sound_end, reach_more, run_normal}
 use Rattle.sk_plan.proofs.Stepping.{legal_step}
@@ -208,3 +211,15 @@ module _ {P : Type 0} (answer : P → ℕ → ℕ) (after : P → ℕ → P) (be
 -- and so has each order
 pub some_plan_by : (order : Order) (s : Sketch) → IsSoundSketch s → 0 < length s.elements → IsWell (graph_of s) → (plan : Plan) × IsPlanBy order s plan
 some_plan_by order = some_plan place_of next_call place_below (fresh order)
+
+-- so all constraints weigh what is due for all elements; where they don't, the judgement tells why there is no plan
+pub well_due : (s : Sketch) → IsSoundSketch s → 0 < length s.elements → IsWell (graph_of s) → HoldsWhatIsDue (graph_of s)
+well_due s sketch some well =
+    let found = some_plan_by First s sketch some well in
+    plan_due (graph_of s) found.0 (graph_is_sound s sketch) found.1.legal
+
+pub not_due : (s : Sketch) (g : Graph) → g ≡ graph_of s → IsSoundSketch s → 0 < length s.elements → ¬ HoldsWhatIsDue g → (j : Judgement) → IsTheJudgement g j → TellsWhy g (NotWell j)
+not_due s g is sketch some other j judged = (
+  judged,
+  λ well. other (subst (λ (h : Graph). HoldsWhatIsDue h) (sym is) (well_due s sketch some (subst (λ (h : Graph). IsWell h) is (j, judged, well)))),
+)

@@ -19,7 +19,7 @@ ghost use Rattle.sk_tree.specs.Trees.{AreJoins};
 ghost use Rattle.sk_tree.specs.LegalPlan.{IsLegalPlan, merge_told};
 ghost use Rattle.sk_verdict.specs.Parts.{elem_of};
 ghost use Rattle.sk_tree.specs.DrawnChoice.{HasDrawnChoice};
-ghost use Rattle.sk_plan.specs.Judged.{IsWell};
+ghost use Rattle.sk_plan.specs.Judged.{HoldsWhatIsDue, IsWell};
 ghost use Rattle.sk_plan.specs.Leaves.{HasLeaves};
 ghost use Rattle.sk_tree.specs.PlanTree.{IsPlanTree};
 ghost use Rattle.sk_plan.specs.PlanBy.{IsPlanBy};
@@ -29,8 +29,9 @@ ghost use Rattle.sk_plan.specs.Sparse.{weight_among, angles_among, pins_weight, 
 /// Only a graph with the verdict well has a legal plan. The plan has half as many steps as the graph has
 /// constraints but one, which without blocks is two fewer than it has nodes, or none for one node; each
 /// step is at three of the nodes, and the leaves of its tree are all constraints, each once, and it has a
-/// tree unless it has no leaf. Of the graph, among no k ≥ 2 different elements do the constraints weigh
-/// more than 2k - 3, and no k ≥ 1 different lines have more than k - 1 angles.
+/// tree unless it has no leaf. Of the graph, all constraints together weigh just 2n - 3 for the n nodes,
+/// or nothing for one node; among no k ≥ 2 different elements do they weigh more than 2k - 3, and no k ≥ 1
+/// different lines have more than k - 1 angles.
 pub fn legal_plan()
     ensures well { (g : Graph) (p : Plan) → IsSoundGraph g → IsLegalPlan g p → IsWell g }
     ensures steps { (g : Graph) (p : Plan) → IsSoundGraph g → IsLegalPlan g p → 2 * length p.steps ≡ length g.edges + length g.blocks - 1 }
@@ -38,6 +39,7 @@ pub fn legal_plan()
     ensures corners { (g : Graph) (p : Plan) → IsLegalPlan g p → (s : PlanStep) (e : Elem) → Contains p.steps s → Contains (s.a ∷ s.b ∷ s.c ∷ []) e → Contains (map elem_of g.nodes) e }
     ensures tree { (g : Graph) (p : Plan) → IsSoundGraph g → IsLegalPlan g p → p.leaves ≢ [] → (t : Tree) × IsPlanTree p t }
     ensures leaves { (g : Graph) (p : Plan) → IsSoundGraph g → IsLegalPlan g p → (t : Tree) → IsPlanTree p t → HasLeaves t p.leaves }
+    ensures due { (g : Graph) (p : Plan) → IsSoundGraph g → IsLegalPlan g p → HoldsWhatIsDue g }
     ensures elements { (g : Graph) (p : Plan) → IsSoundGraph g → IsLegalPlan g p → IsSparse g }
     ensures lines { (g : Graph) (p : Plan) → IsSoundGraph g → IsLegalPlan g p → HasFewAngles g }
 {}

@@ -3,6 +3,7 @@
 
 mod by_order;
 mod error;
+mod judging;
 mod law;
 mod making;
 mod planned_tree;
@@ -10,6 +11,7 @@ mod step;
 
 pub use by_order::{Planned, planned_by};
 pub use error::PlanError;
+pub use judging::judgement_of;
 pub use law::{exact, joined_once, legal_plan, one_plan, sparse_parts, weights_among};
 pub use making::plan_of;
 pub use planned_tree::plan_tree;

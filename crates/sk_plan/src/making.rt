@@ -16,6 +16,7 @@ ghost use Rattle.sk_plan.specs.Runs.{EachTakesOnce};
 ghost use Rattle.sk_plan.specs.Sparse.{IsSparse, HasFewAngles};
 
 use crate::error::PlanError;
+use crate::judging::{holds_what_is_due, judgement_of};
 use crate::step::plan_step;
 use sk_base::{Graph, List, NoMemory, Sketch};
 use sk_family::initial;
@@ -49,8 +50,11 @@ pub fn plan_of<P: Picker>(
     ensures well { OnOk result (IsWell g.now) }
     ensures not_well { IfErr result (λ error. TellsWhy g.now error) }
 {
-    let mut family = initial(alloc, g)?;
     let leaves = numbers_of(alloc, g)?;
+    if !holds_what_is_due(g, leaves.as_slice()) {
+        return Err(PlanError::NotWell(judgement_of(alloc, g)?));
+    }
+    let mut family = initial(alloc, g)?;
     let taken = close_family(alloc, &mut family, g, p)?;
     let judgement = judge(alloc, &family, g)?;
     match judgement.verdict {
