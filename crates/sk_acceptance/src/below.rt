@@ -6,7 +6,7 @@ use crate::claims::claim_told;
 use crate::flips::{flips_told, off_told, turned_told};
 use crate::merges::{board_told, merges_told};
 use crate::placements::places_told;
-use crate::row::{lines_are_refused, parts_of, same};
+use crate::row::{lines_are_refused, parts_of, rows_of, same};
 use crate::texts::{datum_told, list_told, numbers_told, pieces_told};
 use crate::tolerances::{held, judged};
 use crate::trees::{leaf_told, tree_told};
@@ -17,7 +17,7 @@ use std::alloc::Global;
 use std::process::Abort;
 
 /// What a call tells of the text.
-fn told(rt: &impl Abort, alloc: Global, asked: &str, with: &str, text: &str) -> Text {
+fn told(rt: &impl Abort, alloc: Global, asked: &str, text: &str) -> Text {
     match asked {
         "edges" => edges_told(rt, alloc, text),
         "written" => written(rt, alloc, text),
@@ -25,14 +25,9 @@ fn told(rt: &impl Abort, alloc: Global, asked: &str, with: &str, text: &str) -> 
         "list" => list_told(rt, alloc),
         "pieces" => pieces_told(rt, alloc),
         "numbers" => numbers_told(rt, alloc, text),
-        "merges" => merges_told(rt, alloc, text, order_of(with)),
-        "planned" => planned_told(rt, alloc, text, order_of(with)),
         "board" => board_told(rt, alloc, text),
-        "places" => places_told(rt, alloc, text, with),
         "leaf" => leaf_told(rt, alloc),
         "tree" => tree_told(rt, alloc, text),
-        "judged" => judged(rt, alloc, text, with),
-        "held" => held(rt, alloc, text, with),
         "claim" => claim_told(rt, alloc, text),
         "flips" => flips_told(rt, alloc, text),
         "off" => off_told(rt, alloc, text),
@@ -41,20 +36,35 @@ fn told(rt: &impl Abort, alloc: Global, asked: &str, with: &str, text: &str) -> 
     }
 }
 
-fn order_of(word: &str) -> Order {
+/// What a call that wants words of its own tells of the text.
+fn told_with(rt: &impl Abort, alloc: Global, (asked, with): (&str, &str), text: &str) -> Text {
+    match asked {
+        "merges" => merges_told(rt, alloc, text, order_of(rt, with)),
+        "planned" => planned_told(rt, alloc, text, order_of(rt, with)),
+        "places" => places_told(rt, alloc, text, with),
+        "judged" => judged(rt, alloc, text, with),
+        "held" => held(rt, alloc, text, with),
+        _ => panic!(rt; "a call with words"),
+    }
+}
+
+fn order_of(rt: &impl Abort, word: &str) -> Order {
     match word {
         "first" => Order::First,
         "last" => Order::Last,
-        _ => Order::Stride(7),
+        "7" => Order::Stride(7),
+        _ => panic!(rt; "an order"),
     }
 }
 
 /// The call of the row tells its text.
 fn is_told(rt: &impl Abort, alloc: Global, row: &str) {
     let (line, text, wanted) = parts_of(rt, row);
-    let (_, asked) = line.split_once(' ').expect(rt, "a call");
-    let (asked, with) = asked.split_once(' ').unwrap_or((asked, ""));
-    let told = told(rt, alloc, asked, with, text);
+    let asked = line.strip_prefix(' ').expect(rt, "a call");
+    let told = match asked.split_once(' ') {
+        Some(asked) => told_with(rt, alloc, asked, text),
+        None => told(rt, alloc, asked, text),
+    };
     same(rt, line, told.as_bytes(), wanted.as_bytes());
 }
 
@@ -76,7 +86,7 @@ fn calls_below_the_top_call_tell_their_texts(rt: HostRuntime) {
         flips::TURNED,
     ];
     for table in tables {
-        for row in table.split('$').skip(1) {
+        for row in rows_of(&rt, table, '$').split('$') {
             is_told(&rt, rt.alloc(), row);
         }
     }

@@ -1,5 +1,5 @@
 // Reads and writes that fail. The tables of readers and of others are run by `halting`, in which each call in turn fails.
-use crate::row::{answer_over, ending_of, ends, parts_of, status_of};
+use crate::row::{answer_over, ending_of, ends, parts_of, rows_of, status_of};
 use sk_io::{StdSink, StdSource};
 use std::alloc::Global;
 use std::io::{self, Read};
@@ -273,14 +273,14 @@ $ check check
 usage: sketch check|plan|solve|dxf|offers|session|grow|migrate|verify|spare|flips|derive|parts|live|excess [order=first|last|0..65535] [bits=16|27|38] [within=1..1000000] [place=boxes|points] [frame=base|drawn] [n=3..1000]
 ";
 
-/// Whole pieces a call, over devices in memory: before its words a row has which read fails, how much room there is, and
-/// which write fails.
+/// Whole pieces a call, over devices in memory: before `:` and its words a row has which read fails, how much room there is,
+/// and which write fails.
 ///
 /// The first read, the first write, no room at all, a room of five bytes, calls that never come. A session writes whole
 /// replies: a read that fails, even the one behind the last line, leaves nothing written, and a write that fails leaves the
 /// replies before it.
 const FAULTS: &str = "
-$1 1000 0 check
+$1 1000 0: check
 sketch 1
 point A 0 0
 point B 4 0
@@ -290,7 +290,7 @@ distance A C 5
 distance B C 3
 end
 > 3
-$0 1000 1 check
+$0 1000 1: check
 sketch 1
 point A 0 0
 point B 4 0
@@ -300,7 +300,7 @@ distance A C 5
 distance B C 3
 end
 > 4
-$0 0 0 check
+$0 0 0: check
 sketch 1
 point A 0 0
 point B 4 0
@@ -310,7 +310,7 @@ distance A C 5
 distance B C 3
 end
 > 4
-$0 5 0 check
+$0 5 0: check
 sketch 1
 point A 0 0
 point B 4 0
@@ -320,22 +320,12 @@ distance A C 5
 distance B C 3
 end
 > 4
-verdi$0 0 0 check
+verdi$0 0 0: check
 sketch 1
 point A 7 7
 end
 > 4
-$9 1000 9 check
-sketch 1
-point A 7 7
-end
-> 0
-verdict well
-elements 1
-constraints 0
-parts 1
-part 1 sound elements 1 held 0 due 0 : A
-$0 1000 0 check
+$9 1000 9: check
 sketch 1
 point A 7 7
 end
@@ -345,33 +335,43 @@ elements 1
 constraints 0
 parts 1
 part 1 sound elements 1 held 0 due 0 : A
-$2 1000 0 session
+$0 1000 0: check
+sketch 1
+point A 7 7
+end
+> 0
+verdict well
+elements 1
+constraints 0
+parts 1
+part 1 sound elements 1 held 0 due 0 : A
+$2 1000 0: session
 point A 0 0
 
 point B 1 0
 write
 > 3
-$0 0 0 session
+$0 0 0: session
 point A 0 0
 
 point B 1 0
 write
 > 4
-$0 7 0 session
-point A 0 0
-
-point B 1 0
-write
-> 4
-ok A
-ok$0 1000 2 session
+$0 7 0: session
 point A 0 0
 
 point B 1 0
 write
 > 4
 ok A
-$0 1000 3 session
+ok$0 1000 2: session
+point A 0 0
+
+point B 1 0
+write
+> 4
+ok A
+$0 1000 3: session
 point A 0 0
 
 point B 1 0
@@ -379,7 +379,7 @@ write
 > 4
 ok A
 ok B
-$0 1000 3 session
+$0 1000 3: session
 point A 0 0
 point B 4 0
 point C 4 3
@@ -404,19 +404,25 @@ ok B
 /// Over its devices the call of the row ends so.
 fn is_faulty(rt: &impl Abort, alloc: Global, row: &str) {
     let (line, input, wanted) = parts_of(rt, row);
-    let (read, line) = line.split_once(' ').expect(rt, "a read");
-    let (room, line) = line.split_once(' ').expect(rt, "a room");
-    let (write, _) = line.split_once(' ').expect(rt, "a write");
+    let (numbers, words) = line.split_once(':').expect(rt, "numbers");
+    let (read, numbers) = numbers.split_once(' ').expect(rt, "a read");
+    let (room, write) = numbers.split_once(' ').expect(rt, "a room");
     let reads = [read.parse::<u64>().expect(rt, "a read")];
     let room = room.parse::<u32>().expect(rt, "a room");
     let writes = [write.parse::<u64>().expect(rt, "a write")];
-    let (status, sink) = answer_over(rt, alloc, line, (input.as_bytes(), &reads), (room, &writes));
+    let (status, sink) = answer_over(
+        rt,
+        alloc,
+        words,
+        (input.as_bytes(), &reads),
+        (room, &writes),
+    );
     ends(rt, line, (status, sink.written()), ending_of(rt, wanted));
 }
 
 #[test]
 fn faults_have_their_statuses(rt: HostRuntime) {
-    for row in FAULTS.split('$').skip(1) {
+    for row in rows_of(&rt, FAULTS, '$').split('$') {
         is_faulty(&rt, rt.alloc(), row);
     }
 }

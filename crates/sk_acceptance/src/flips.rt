@@ -365,7 +365,7 @@ refused line 0 E18 empty
 ";
 
 /// Lines of flips with their codes, each alone or in front of a later one of the same line.
-pub const REFUSED_LINES: &str = "\
+pub const REFUSED_LINES: &str = "
 E15 line-too-long: xxxxxxxxxxxxxxxxxxxxxxxxxxxxxxxxxxxxxxxxxxxxxxxxxxxxxxxxxxxxxxxxxxxxxxxxxxxxxxxxxxxxxxxxxxxxxxxxxxxxxxxxxxxxxxxxxxxxxxxxxxxxxxxxxxxxxxxxxxxxxxxxxxxxxxxxxxxxxxxxxxxxxxxxxxxxxxxxxxxxxxxxxxxxxxxxxxxxxxxxx
 E15 line-too-long: \x7fxxxxxxxxxxxxxxxxxxxxxxxxxxxxxxxxxxxxxxxxxxxxxxxxxxxxxxxxxxxxxxxxxxxxxxxxxxxxxxxxxxxxxxxxxxxxxxxxxxxxxxxxxxxxxxxxxxxxxxxxxxxxxxxxxxxxxxxxxxxxxxxxxxxxxxxxxxxxxxxxxxxxxxxxxxxxxxxxxxxxxxxxxxxxxxxxxxxxxxxx
 E19 not-ascii: \x7f
@@ -392,7 +392,7 @@ E10 same: flip s1 s1
 E10 same: flip s2 s1 s2";
 
 /// Lines behind 64 lines of flips.
-pub const ONE_TOO_MANY: &str = "\
+pub const ONE_TOO_MANY: &str = "
 E15 line-too-long: xxxxxxxxxxxxxxxxxxxxxxxxxxxxxxxxxxxxxxxxxxxxxxxxxxxxxxxxxxxxxxxxxxxxxxxxxxxxxxxxxxxxxxxxxxxxxxxxxxxxxxxxxxxxxxxxxxxxxxxxxxxxxxxxxxxxxxxxxxxxxxxxxxxxxxxxxxxxxxxxxxxxxxxxxxxxxxxxxxxxxxxxxxxxxxxxxxxxxxxxx
 E19 not-ascii: flip\x7f
 E2 word: flop
@@ -469,6 +469,7 @@ fn alternatives_told(rt: &impl Abort, alloc: Global, lists: &List<List<Name>>) -
     };
     let found = alternatives::<G38>(alloc, placing, &sketch, &graph, &plan, lists, 1000);
     let found = found.expect(rt, "memory");
+    assert!(rt; found.len() == lists.len(), "an alternative for each list");
     let mut told = Text::new(alloc);
     for (names, alternative) in lists.as_slice().iter().zip(found.as_slice()) {
         put_each(rt, alloc, &mut told, names.as_slice());

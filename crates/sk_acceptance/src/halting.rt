@@ -1,6 +1,6 @@
 // The adapters over a reader and a writer of std's kind, of which a call fails.
 use crate::faults::{OTHERS, READERS};
-use crate::row::{ending_of, ends, parts_of, status_of};
+use crate::row::{ending_of, ends, parts_of, rows_of, status_of};
 use sk_io::{StdSink, StdSource};
 use std::alloc::Global;
 use std::io::{self, ErrorKind, Read, Write};
@@ -131,14 +131,14 @@ fn each_write_fails(
 /// fails at its first call is no fault of a call that reads nothing.
 #[test]
 fn the_adapters_tell_failures(rt: HostRuntime) {
-    for row in READERS.split('$').skip(1) {
+    for row in rows_of(&rt, READERS, '$').split('$') {
         let (line, input, wanted) = parts_of(&rt, row);
         let whole = ending_of(&rt, wanted);
         each_read_fails(&rt, rt.alloc(), (line, input), whole);
         each_write_fails(&rt, rt.alloc(), (line, input), 0, false, whole);
         each_write_fails(&rt, rt.alloc(), (line, input), 0, true, whole);
     }
-    for row in OTHERS.split('$').skip(1) {
+    for row in rows_of(&rt, OTHERS, '$').split('$') {
         let (line, input, wanted) = parts_of(&rt, row);
         let whole = ending_of(&rt, wanted);
         each_write_fails(&rt, rt.alloc(), (line, input), 1, false, whole);

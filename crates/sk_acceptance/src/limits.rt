@@ -1,7 +1,7 @@
 // Drawings at the limits of the language, and one element, constraint or byte beyond them.
 //
 // A long text is told by its parts, between lines of two points: every second part is put once for each number from 3 on.
-use crate::row::{answer, ending_of, ends, joined, parts_of};
+use crate::row::{answer, ending_of, ends, joined, parts_of, rows_of};
 use std::alloc::Global;
 use std::process::Abort;
 
@@ -49,8 +49,8 @@ fn fingerprint(bytes: &[u8]) -> u32 {
     print
 }
 
-/// Calls with a last number before their words, on a text by its parts, that come to a text by its parts; or behind `0 print`
-/// to one of status 0 with that fingerprint.
+/// Calls with a last number and `:` before their words, on a text by its parts, that come to a text by its parts; or to the
+/// status before ` print ` and a text with the fingerprint behind it.
 ///
 /// A strip of triangles, points in a zigzag, each at a distance of 1 from the next two, is one part, and is placed by points.
 /// No two of 2,000 points have a constraint. Each two of three points have 1,333 distances. An element too many and a
@@ -59,7 +59,7 @@ fn fingerprint(bytes: &[u8]) -> u32 {
 /// As many line feeds as a sketch may have bytes are no sketch, and a session without replies. As many spaces are one
 /// line, which is too long, and which a session answers. A byte more is too long a text, whatever its first line is.
 const LONG: &str = "
-$2000 check order=first
+$2000: check order=first
 sketch 2
 point P1 1 0
 point P2 2 1
@@ -82,7 +82,7 @@ parts 1
 part 1 sound elements 2000 held 3997 due 3997 : P1 P2..
  P#..
 
-$2000 solve order=first place=points
+$2000: solve order=first place=points
 sketch 2
 point P1 1 0
 point P2 2 1
@@ -98,7 +98,7 @@ distance P= P# 1
 ..
 end
 > 0 print 1063990
-$2000 check order=last
+$2000: check order=last
 sketch 2
 point P1 1 0
 point P2 2 1
@@ -121,7 +121,7 @@ parts 1
 part 1 sound elements 2000 held 3997 due 3997 : P1 P2..
  P#..
 
-$2000 solve order=last place=points
+$2000: solve order=last place=points
 sketch 2
 point P1 1 0
 point P2 2 1
@@ -137,7 +137,7 @@ distance P= P# 1
 ..
 end
 > 0 print 5437873
-$2000 check order=7
+$2000: check order=7
 sketch 2
 point P1 1 0
 point P2 2 1
@@ -160,7 +160,7 @@ parts 1
 part 1 sound elements 2000 held 3997 due 3997 : P1 P2..
  P#..
 
-$2000 solve order=7 place=points
+$2000: solve order=7 place=points
 sketch 2
 point P1 1 0
 point P2 2 1
@@ -176,7 +176,7 @@ distance P= P# 1
 ..
 end
 > 0 print 9434737
-$2000 check
+$2000: check
 sketch 1
 point P1 1 0
 point P2 2 1
@@ -194,7 +194,7 @@ part 2 sound elements 1 held 0 due 0 : P2
 ..
 part # sound elements 1 held 0 due 0 : P#
 ..
-$1335 check
+$1335: check
 sketch 1
 point A 0 0
 point B 1 0
@@ -215,7 +215,7 @@ elements 3
 constraints 3999
 parts 1
 part 1 over elements 3 held 3999 due 3 : A B C
-$2001 check
+$2001: check
 sketch 1
 point P1 1 0
 point P2 2 1
@@ -224,7 +224,7 @@ point P# # ~
 ..
 > 1
 refused line 2002 E13 too-many-elements
-$4003 check
+$4003: check
 sketch 1
 point A 0 0
 point B 1 0
@@ -233,7 +233,7 @@ distance A B 1
 ..
 > 1
 refused line 4004 E14 too-many-constraints
-$4002 check
+$4002: check
 sketch 2
 point A 0 0
 point B 1 0
@@ -243,61 +243,61 @@ distance A B 1
 block A 0 0 B 1 0
 > 1
 refused line 4004 E14 too-many-constraints
-$1048578 check
+$1048578: check
 ..
 
 ..
 > 1
 refused line 0 E18 empty
-$1048578 session
+$1048578: session
 ..
 
 ..
 > 0
-$1048578 check
+$1048578: check
 ..
 
 ..
 
 > 1
 refused line 0 E20 too-long
-$1048578 offers
+$1048578: offers
 ..
 
 ..
 
 > 1
 refused line 0 E20 too-long
-$1048578 verify
+$1048578: verify
 ..
 
 ..
 
 > 1
 refused line 0 E20 too-long
-$1048578 flips
+$1048578: flips
 ..
 
 ..
 
 > 1
 refused line 0 E20 too-long
-$1048578 check
+$1048578: check
 ..
  ..
 > 1
 refused line 1 E15 line-too-long
-$1048578 session
+$1048578: session
 ..
  ..
 > 0
 refused E15 line-too-long
-$1048578 check
+$1048578: check
 ..
  ..
  > 1
 refused line 0 E20 too-long
-$1048578 session
+$1048578: session
 ..
  ..
  > 1
@@ -307,15 +307,16 @@ refused line 0 E20 too-long
 /// The call of the row comes to its text.
 fn is_answered(rt: &impl Abort, alloc: Global, row: &str) {
     let (line, input, wanted) = parts_of(rt, row);
-    let (last, _) = line.split_once(' ').expect(rt, "a number");
+    let (last, words) = line.split_once(':').expect(rt, "a number");
     let last = last.parse::<u32>().expect(rt, "a number");
     let input = long_text(rt, alloc, input, last);
-    let (status, sink) = answer(rt, alloc, line, input.as_bytes());
+    let (status, sink) = answer(rt, alloc, words, input.as_bytes());
     match wanted.split_once(" print ") {
-        Some((_, print)) => {
+        Some((wanted_status, print)) => {
+            let wanted_status = wanted_status.parse::<u8>().expect(rt, "a status");
             let print = print.trim().parse::<u32>().expect(rt, "a fingerprint");
             assert!(rt;
-                status == 0 && fingerprint(sink.written()) == print,
+                status == wanted_status && fingerprint(sink.written()) == print,
                 "{line}"
             );
         }
@@ -329,7 +330,7 @@ fn is_answered(rt: &impl Abort, alloc: Global, row: &str) {
 
 #[test]
 fn long_texts_are_answered(rt: HostRuntime) {
-    for row in LONG.split('$').skip(1) {
+    for row in rows_of(&rt, LONG, '$').split('$') {
         is_answered(&rt, rt.alloc(), row);
     }
 }
@@ -438,7 +439,7 @@ fn is_placed(rt: &impl Abort, alloc: Global, within: &str, parts: &str, last: u3
 
 #[test]
 fn long_chains_are_placed(rt: HostRuntime) {
-    for row in CHAINS.split('$').skip(1) {
+    for row in rows_of(&rt, CHAINS, '$').split('$') {
         let (numbers, parts) = row.split_once('\n').expect(&rt, "parts");
         let (within, lengths) = numbers.split_once(' ').expect(&rt, "lengths");
         for length in lengths.split(' ') {

@@ -1,6 +1,6 @@
 // Sessions that answer as they are asked, over sources that give their input in pieces.
 use crate::halting::{HaltingReader, halts};
-use crate::row::{ending_of, ends, joined, parts_of, status_of};
+use crate::row::{ending_of, ends, joined, parts_of, rows_of, status_of};
 use crate::sessions::SESSIONS;
 use sk_io::{MemSink, StdSource};
 use std::alloc::Global;
@@ -73,11 +73,11 @@ fn any_pieces_serve(rt: &impl Abort, alloc: Global, call: (&str, &str), wanted: 
 /// Each session of the table is answered by `live` as by `session`.
 #[test]
 fn live_answers_in_pieces(rt: HostRuntime) {
-    for row in ENDS.split('$').skip(1) {
+    for row in rows_of(&rt, ENDS, '$').split('$') {
         let (line, input, wanted) = parts_of(&rt, row);
         any_pieces_serve(&rt, rt.alloc(), (line, input), wanted);
     }
-    for row in SESSIONS.split('$').skip(1) {
+    for row in rows_of(&rt, SESSIONS, '$').split('$') {
         let (line, input, wanted) = parts_of(&rt, row);
         let words = line.strip_prefix(" session").expect(&rt, "a session");
         let line = joined(&rt, rt.alloc(), &[" live", words]);

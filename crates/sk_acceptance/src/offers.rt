@@ -1,5 +1,5 @@
 // Offered merges, orders of merges, and what both come to.
-use crate::row::{answers, joined};
+use crate::row::{answers, joined, rows_of};
 
 pub const OFFERS: &str = "
 $ offers
@@ -138,7 +138,7 @@ offer 1 c1 c2
 refused line 5 E17 after-end
 ";
 
-/// A triangle with one side twice.
+/// A triangle with one side twice, without its last line feed.
 const DOUBLED: &str = "\
 sketch 1
 point A 0 0
@@ -148,8 +148,7 @@ distance A B 4
 distance A C 5
 distance B C 3
 distance B A 4
-end
-";
+end";
 
 const DOUBLED_REPORT: &str = "\
 verdict over
@@ -159,7 +158,7 @@ parts 1
 part 1 over elements 3 held 4 due 3 : A B C
 ";
 
-/// Offers of its clusters, and their answers.
+/// Offers of its clusters, behind the line feed that ends it, and their answers.
 const OFFERED: &str = "
 $
 >
@@ -232,7 +231,7 @@ offer 6 stale s1
 #[test]
 fn every_offer_comes_to_the_same_report(rt: HostRuntime) {
     let alloc = rt.alloc();
-    for row in OFFERED.split("$\n").skip(1) {
+    for row in rows_of(&rt, OFFERED, '$').split('$') {
         let (offers, lines) = row.split_once(">\n").expect(&rt, "answers");
         let input = joined(&rt, alloc, &[DOUBLED, offers, "end\n"]);
         let wanted = joined(&rt, alloc, &["0\n", lines, DOUBLED_REPORT]);

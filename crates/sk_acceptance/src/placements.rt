@@ -17,12 +17,16 @@ pub(crate) fn places_told(rt: &impl Abort, alloc: Global, text: &str, bits: &str
     let sketch = sketch_of(rt, alloc, text);
     let graph = reduce(alloc, &sketch).expect(rt, "memory");
     let plan = planned(rt, alloc, &sketch);
-    if bits == "16" {
-        let boxes = place::<G16>(alloc, PlaceBy::Boxes, &plan, &graph);
-        placed_told(rt, alloc, &sketch, boxes)
-    } else {
-        let boxes = place::<G38>(alloc, PlaceBy::Boxes, &plan, &graph);
-        placed_told(rt, alloc, &sketch, boxes)
+    match bits {
+        "16" => {
+            let boxes = place::<G16>(alloc, PlaceBy::Boxes, &plan, &graph);
+            placed_told(rt, alloc, &sketch, boxes)
+        }
+        "38" => {
+            let boxes = place::<G38>(alloc, PlaceBy::Boxes, &plan, &graph);
+            placed_told(rt, alloc, &sketch, boxes)
+        }
+        _ => panic!(rt; "a grid"),
     }
 }
 

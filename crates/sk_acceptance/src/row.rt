@@ -15,7 +15,7 @@ use std::process::Abort;
 /// Room for every text of these tests.
 const ROOM: u32 = 300_000;
 
-/// The status of a call over the source and the sink. What stands before the first blank of the line is no word.
+/// The status of a call over the source and the sink. A line of no word is empty; any other begins with a blank.
 pub fn status_of<R: Abort, S: Source, K: Sink>(
     rt: &R,
     alloc: Global,
@@ -23,6 +23,10 @@ pub fn status_of<R: Abort, S: Source, K: Sink>(
     source: &mut S,
     sink: &mut K,
 ) -> u8 {
+    assert!(rt;
+        line.is_empty() || line.starts_with(' '),
+        "no blank before {line}"
+    );
     let mut words = Vec::new(alloc);
     for word in line.split(' ').skip(1) {
         let word = String::from_str(alloc, word).expect(rt, "memory");
@@ -86,6 +90,13 @@ pub fn answers(rt: &impl Abort, alloc: Global, line: &str, input: &[u8], wanted:
     ends(rt, line, (status, sink.written()), ending_of(rt, wanted));
 }
 
+/// The rows of a table, each of which stands behind the mark: what is behind the first one. No table is without a row.
+pub fn rows_of<'a>(rt: &impl Abort, table: &'a str, mark: char) -> &'a str {
+    let (before, rows) = table.split_once(mark).expect(rt, "a row");
+    assert!(rt; before.trim().is_empty(), "no mark before {before}");
+    rows
+}
+
 /// The words, the input and the wanted text of a row, which stands behind its `$`.
 pub fn parts_of<'a>(rt: &impl Abort, row: &'a str) -> (&'a str, &'a str, &'a str) {
     let (line, rest) = row.split_once('\n').expect(rt, "an input");
@@ -108,7 +119,7 @@ fn is_done_by_boxes(line: &str, wanted: &str) -> bool {
 
 /// Each row of the table passes; one that is done by boxes comes to the same by points.
 pub fn rows_pass(rt: &impl Abort, alloc: Global, table: &str) {
-    for row in table.split('$').skip(1) {
+    for row in rows_of(rt, table, '$').split('$') {
         let (line, input, wanted) = parts_of(rt, row);
         answers(rt, alloc, line, input.as_bytes(), wanted);
         if is_done_by_boxes(line, wanted) {
@@ -118,11 +129,11 @@ pub fn rows_pass(rt: &impl Abort, alloc: Global, table: &str) {
     }
 }
 
-/// Behind the sketch, each line of the table is refused: it stands behind `: `, and its code before that.
+/// Behind the sketch, each line of the table is refused: it stands behind a line feed, its code and `: `.
 pub fn lines_are_refused(rt: &impl Abort, alloc: Global, command: &str, sketch: &str, table: &str) {
     let number = sketch.lines().count().saturating_add(1);
     let refused = format!(in alloc; "1\nrefused line {number} ").expect(rt, "memory");
-    for row in table.split('\n') {
+    for row in rows_of(rt, table, '\n').split('\n') {
         let (code, line) = row.split_once(": ").expect(rt, "a code");
         let text = joined(rt, alloc, &[sketch, line, "\n"]);
         let wanted = joined(rt, alloc, &[refused.as_str(), code, "\n"]);

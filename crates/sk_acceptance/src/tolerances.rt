@@ -638,32 +638,32 @@ pub(crate) fn judged(rt: &impl Abort, alloc: Global, text: &str, limit: &str) ->
     told
 }
 
-/// Whether the edge, or behind all of them the block, at a place of the graph holds within a tolerance: both are told.
+/// Whether the edge, or behind all of them the block, at a place of the graph holds within a tolerance: if it doesn't,
+/// nothing is told.
 pub(crate) fn held(rt: &impl Abort, alloc: Global, text: &str, numbers: &str) -> Text {
     let laid = lay(rt, alloc, text);
     let (place, tolerance) = numbers.split_once(' ').expect(rt, "a tolerance");
     let place = place.parse::<usize>().expect(rt, "a place");
     let tolerance = tolerance.parse::<u64>().expect(rt, "a tolerance");
     let mut told = Text::new(alloc);
-    if holds_at(&laid.at, &laid.graph, place, tolerance) {
+    if holds_at(rt, &laid.at, &laid.graph, place, tolerance) {
         told.put(b"holds\n").expect(rt, "memory");
     }
     told
 }
 
-/// Whether what stands at place `i` holds within `t`.
-fn holds_at(at: &Placed, graph: &Graph, i: usize, t: u64) -> bool
+/// Whether what stands at place `i` holds within `t`. Nothing stands behind the last block.
+fn holds_at(rt: &impl Abort, at: &Placed, graph: &Graph, i: usize, t: u64) -> bool
     requires sound { IsSoundGraph graph.now }
     requires placed { PlacesExactly graph.now at.now }
 {
     let edges = graph.edges.len();
-    if t > MOST {
-        return false;
-    }
+    assert!(rt; t <= MOST, "a tolerance");
     if i < edges {
         return edge_meets(at, graph, i, t);
     }
-    i - edges < graph.blocks.len() && block_meets(at, graph, i - edges, t)
+    assert!(rt; i - edges < graph.blocks.len(), "a place of the graph");
+    block_meets(at, graph, i - edges, t)
 }
 
 /// The most that a tolerance may be.

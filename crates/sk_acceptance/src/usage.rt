@@ -1,11 +1,13 @@
 // Words that aren't of the form: no byte is read.
-use crate::row::{answer_over, ending_of, ends};
+use crate::row::{answer_over, ending_of, ends, rows_of};
 
 const USAGE: &str =
     "2\nusage: sketch check|plan|solve|dxf|offers|session|grow|migrate|verify|spare|flips|derive|parts|live|excess [order=first|last|0..65535] [bits=16|27|38] [within=1..1000000] [place=boxes|points] [frame=base|drawn] [n=3..1000]\n";
 
-/// The words of a call on each line, each behind a blank; the first line has none, and the second one empty word.
+/// The words of a call behind each line feed, each word behind a blank; the first row has none, and the second one empty
+/// word.
 const NO_FORMS: &str = "
+
 \x20
  --help
  --version
@@ -87,7 +89,7 @@ const NO_FORMS: &str = "
 #[test]
 fn other_words_get_the_usage_line(rt: HostRuntime) {
     let failing = (b"end\n".as_slice(), [1].as_slice());
-    for line in NO_FORMS.split('\n') {
+    for line in rows_of(&rt, NO_FORMS, '\n').split('\n') {
         let (status, sink) = answer_over(&rt, rt.alloc(), line, failing, (1000, &[]));
         ends(&rt, line, (status, sink.written()), ending_of(&rt, USAGE));
     }
