@@ -3,6 +3,7 @@
 use crate::by_order::planned_told;
 use crate::calls::{edges_told, written};
 use crate::claims::claim_told;
+use crate::derived::derived_told;
 use crate::flips::{flips_told, off_told, turned_told};
 use crate::merges::{board_told, merges_told};
 use crate::placements::places_told;
@@ -10,7 +11,9 @@ use crate::row::{lines_are_refused, parts_of, rows_of, same};
 use crate::texts::{datum_told, list_told, numbers_told, pieces_told};
 use crate::tolerances::{held, judged};
 use crate::trees::{leaf_told, tree_told};
-use crate::{blocks, by_order, calls, claims, flips, merges, placements, texts, tolerances, trees};
+use crate::{
+    blocks, by_order, calls, claims, derived, flips, merges, placements, texts, tolerances, trees,
+};
 use sk_base::Text;
 use sk_worklist::Order;
 use std::alloc::Global;
@@ -40,6 +43,7 @@ fn told(rt: &impl Abort, alloc: Global, asked: &str, text: &str) -> Text {
 fn told_with(rt: &impl Abort, alloc: Global, (asked, with): (&str, &str), text: &str) -> Text {
     match asked {
         "merges" => merges_told(rt, alloc, text, order_of(rt, with)),
+        "derived" => derived_told(rt, alloc, text, order_of(rt, with)),
         "planned" => planned_told(rt, alloc, text, order_of(rt, with)),
         "places" => places_told(rt, alloc, text, with),
         "judged" => judged(rt, alloc, text, with),
@@ -75,6 +79,7 @@ fn calls_below_the_top_call_tell_their_texts(rt: HostRuntime) {
         texts::TEXTS,
         merges::MERGES,
         by_order::BY_ORDER,
+        derived::BY_PICKS,
         placements::PLACEMENTS,
         trees::TREES,
         tolerances::POINTS,

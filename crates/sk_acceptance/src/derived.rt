@@ -1,4 +1,104 @@
-// Closing by the three rules.
+// Closing by the three rules, by the command and by a picker.
+use crate::calls::sketch_of;
+use sk_base::Text;
+use sk_derive::{derive, derive_text};
+use sk_graph::reduce;
+use sk_worklist::{Chosen, Order};
+use std::alloc::Global;
+use std::process::Abort;
+
+/// The derived clusters to which the order's picks lead.
+pub(crate) fn derived_told(rt: &impl Abort, alloc: Global, text: &str, order: Order) -> Text {
+    let sketch = sketch_of(rt, alloc, text);
+    let graph = reduce(alloc, &sketch).expect(rt, "memory");
+    let family = derive(alloc, &graph, &mut Chosen::new(order)).expect(rt, "memory");
+    derive_text(alloc, &sketch, &family).expect(rt, "memory")
+}
+
+/// The first of the drawings below by picks in three orders; by the last pick two triangles that meet in a point, and a
+/// drawing with two merges by the angles to pick from, behind one of which a triangle closes.
+pub const BY_PICKS: &str = "
+$ derived first
+sketch 1
+line X 0 0 1 0
+line Y 0 0 1 1
+line Z 0 0 0 1
+point P 0 0
+angle X Y 1/1
+angle Y Z 1/1
+on P X
+on P Z
+end
+> clusters 3
+cluster 1 : X Y
+cluster 2 : X Z P
+cluster 3 : Y Z
+$ derived last
+sketch 1
+line X 0 0 1 0
+line Y 0 0 1 1
+line Z 0 0 0 1
+point P 0 0
+angle X Y 1/1
+angle Y Z 1/1
+on P X
+on P Z
+end
+> clusters 3
+cluster 1 : X Y
+cluster 2 : X Z P
+cluster 3 : Y Z
+$ derived 7
+sketch 1
+line X 0 0 1 0
+line Y 0 0 1 1
+line Z 0 0 0 1
+point P 0 0
+angle X Y 1/1
+angle Y Z 1/1
+on P X
+on P Z
+end
+> clusters 3
+cluster 1 : X Y
+cluster 2 : X Z P
+cluster 3 : Y Z
+$ derived last
+sketch 1
+point A 0 0
+point B 1 0
+point C 0 1
+point D 1 1
+point E 2 0
+distance A B 1
+distance A C 1
+distance B C 1
+distance A D 1
+distance A E 1
+distance D E 1
+end
+> clusters 2
+cluster 1 : A B C
+cluster 2 : A D E
+$ derived last
+sketch 1
+line X 0 0 1 0
+line Y 0 0 1 1
+line Z 0 0 0 1
+point P 0 0
+point Q 0 5
+angle X Y 1/1
+angle Y Z 1/1
+on P X
+on P Z
+on Q X
+on Q Z
+end
+> clusters 3
+cluster 1 : X Y
+cluster 2 : X Z P Q
+cluster 3 : Y Z
+";
 
 /// Two angles add up, so a point on the outer lines pins them together, in every order; by the first two rules alone
 /// there are four clusters. No point is shared by two clusters with tied lines in two triangles that meet in a point,

@@ -11,7 +11,7 @@ use crate::excess::excesses;
 use crate::parts::shapes;
 use crate::status::Status;
 use sk_base::{NoMemory, Sketch, Text};
-use sk_derive::{derive, derive_text};
+use sk_derive::{derive_in_any_order, derive_text};
 use sk_graph::reduce;
 use sk_lang::{read_sketch, write_sketch_2};
 use sk_lines::ReadError;
@@ -19,7 +19,6 @@ use sk_plan::judgement_of;
 use sk_report::check_text;
 use sk_request::Request;
 use sk_spare::{spare, spare_text};
-use sk_worklist::{Chosen, Order};
 use std::alloc::Global;
 
 /// What is told of a sketch that is read, whatever its verdict.
@@ -39,32 +38,22 @@ pub enum Account {
     Excesses(Request),
 }
 
-/// The answer to an input whose sketch is given this account of. The order of merges changes nothing
-/// in it but for shapes and excesses, whose request gives it.
-pub fn account_of(
-    alloc: Global,
-    account: Account,
-    order: Order,
-    bytes: &[u8],
-) -> Result<Answer, NoMemory>
+/// The answer to an input whose sketch is given this account of. An order of merges changes something in
+/// shapes and excesses alone, whose request gives it.
+pub fn account_of(alloc: Global, account: Account, bytes: &[u8]) -> Result<Answer, NoMemory>
     ensures { IfOk result (λ answer. IsAccountAnswer account bytes.now answer.status answer.text) }
 {
     match read_sketch(alloc, bytes) {
         Ok(sketch) => Ok(Answer {
             status: Status::Done,
-            text: account_text(alloc, account, order, &sketch)?,
+            text: account_text(alloc, account, &sketch)?,
         }),
         Err(ReadError::Refused(refusal)) => refused(alloc, &refusal),
         Err(ReadError::NoMemory) => Err(NoMemory),
     }
 }
 
-fn account_text(
-    alloc: Global,
-    account: Account,
-    order: Order,
-    sketch: &Sketch,
-) -> Result<Text, NoMemory>
+fn account_text(alloc: Global, account: Account, sketch: &Sketch) -> Result<Text, NoMemory>
     requires sound { IsSoundSketch sketch.now }
     requires some { 0 < length sketch.now.elements }
     ensures { IfOk result (IsAccount account sketch.now) }
@@ -72,7 +61,7 @@ fn account_text(
     match account {
         Account::Judged => judged(alloc, sketch),
         Account::Spares => spares(alloc, sketch),
-        Account::Derived => derived(alloc, order, sketch),
+        Account::Derived => derived(alloc, sketch),
         Account::Migrated => write_sketch_2(alloc, sketch),
         Account::Shapes(request) => shapes(alloc, request, sketch),
         Account::Excesses(request) => excesses(alloc, request, sketch),
@@ -100,12 +89,12 @@ fn spares(alloc: Global, sketch: &Sketch) -> Result<Text, NoMemory>
     spare_text(alloc, sketch, &spares)
 }
 
-/// The clusters that merges by the three rules, in this order and so in every one, lead to.
-fn derived(alloc: Global, order: Order, sketch: &Sketch) -> Result<Text, NoMemory>
+/// The clusters that merges by the three rules, in whatever order, lead to.
+fn derived(alloc: Global, sketch: &Sketch) -> Result<Text, NoMemory>
     requires { IsSoundSketch sketch.now }
     ensures { IfOk result (IsAccount accounts.Derived sketch.now) }
 {
     let graph = reduce(alloc, sketch)?;
-    let family = derive(alloc, &graph, &mut Chosen::new(order))?;
+    let family = derive_in_any_order(alloc, &graph)?;
     derive_text(alloc, sketch, &family)
 }

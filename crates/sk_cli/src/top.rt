@@ -135,20 +135,20 @@ fn answer(alloc: Global, request: Request, bytes: &[u8]) -> Result<Answer, NoMem
     ensures { IfOk result (λ answer. IsAnswer request bytes.now answer.status answer.text) }
 {
     match request.command {
-        Command::Check => account_of(alloc, Account::Judged, request.order, bytes),
+        Command::Check => account_of(alloc, Account::Judged, bytes),
         Command::Plan => plan(alloc, request.order, bytes),
         Command::Solve => solve(alloc, request, Report::Places, bytes),
         Command::Dxf => solve(alloc, request, Report::Drawing, bytes),
         Command::Offers => offers(alloc, request.order, bytes),
         Command::Session | Command::Live => refused(alloc, &TOO_LONG),
         Command::Grow => grow(alloc, request),
-        Command::Migrate => account_of(alloc, Account::Migrated, request.order, bytes),
+        Command::Migrate => account_of(alloc, Account::Migrated, bytes),
         Command::Verify => claimed(alloc, bytes),
-        Command::Spare => account_of(alloc, Account::Spares, request.order, bytes),
+        Command::Spare => account_of(alloc, Account::Spares, bytes),
         Command::Flips => flips(alloc, request, bytes),
-        Command::Derive => account_of(alloc, Account::Derived, request.order, bytes),
-        Command::Parts => account_of(alloc, Account::Shapes(request), request.order, bytes),
-        Command::Excess => account_of(alloc, Account::Excesses(request), request.order, bytes),
+        Command::Derive => account_of(alloc, Account::Derived, bytes),
+        Command::Parts => account_of(alloc, Account::Shapes(request), bytes),
+        Command::Excess => account_of(alloc, Account::Excesses(request), bytes),
     }
 }
 

@@ -1,10 +1,12 @@
 // Closing by the three rules.
-ghost use Rattle.std.specs.Prelude.{◌≡◌, ◌<◌, IfOk, OnOk, List as Items, Some, length, slice_get};
+ghost use Rattle.std.specs.Prelude.{◌≡◌, ◌+◌, ◌<◌, ◌≤◌, IfOk, OnOk, List as Items, length};
 ghost use Rattle.sk_base.specs.declared.Graph.{Graph as AnyGraph};
 ghost use Rattle.sk_base.specs.SoundGraph.{IsSoundGraph};
+ghost use Rattle.sk_family.specs.Body.{initial_bodies};
 ghost use Rattle.sk_family.specs.Clusters.{bodies, initial_clusters, IsSound};
 ghost use Rattle.sk_family.specs.declared.Merge.{Merge as AnyMerge};
 ghost use Rattle.sk_rules.specs.Merges.{merged};
+ghost use Rattle.sk_rules.specs.Reach.{Reach};
 ghost use Rattle.sk_derive.specs.WideReach.{IsWideNormal, IsTheOnlyWideNormal};
 ghost use Rattle.sk_derive.specs.WideChoices.{CanTakeByTie};
 ghost use Rattle.sk_derive.specs.WideRun.{IsWideRun};
@@ -12,8 +14,9 @@ ghost use Rattle.sk_derive.specs.WideRun.{IsWideRun};
 use crate::ties::Ties;
 use sk_base::{Graph, Name, NoMemory};
 use sk_family::{Family, initial};
+use sk_growth::close_in_any_order;
 use sk_rules::Merge;
-use sk_worklist::{Picker, Worklist, close_with};
+use sk_worklist::{Chosen, Order, Picker, Worklist, close_with};
 use std::alloc::Global;
 
 /// The family where no choice is left by any of the three rules.
@@ -24,7 +27,39 @@ pub fn derive<P: Picker>(alloc: Global, graph: &Graph, picker: &mut P) -> Result
     ensures normal { IfOk result (λ f. IsWideNormal graph.now (bodies f)) }
     ensures only { IfOk result (λ f. IsTheOnlyWideNormal graph.now (bodies f)) }
 {
+    let family = initial(alloc, graph)?;
+    derive_from(alloc, graph, family, picker)
+}
+
+/// The same for a caller that asks for no order: the first two rules close the family in an order of their own before
+/// the ties are looked at.
+pub fn derive_in_any_order(alloc: Global, graph: &Graph) -> Result<Family, NoMemory>
+    requires { IsSoundGraph graph.now }
+    ensures sound { IfOk result (λ f. IsSound f) }
+    ensures normal { IfOk result (λ f. IsWideNormal graph.now (bodies f)) }
+    ensures only { IfOk result (λ f. IsTheOnlyWideNormal graph.now (bodies f)) }
+{
     let mut family = initial(alloc, graph)?;
+    close_in_any_order(alloc, &mut family, graph)?;
+    derive_from(alloc, graph, family, &mut Chosen::new(Order::First))
+}
+
+/// The family to which merges by the three rules lead, from one that the first two led to, until no choice is left.
+fn derive_from<P: Picker>(
+    alloc: Global,
+    graph: &Graph,
+    family: Family,
+    picker: &mut P,
+) -> Result<Family, NoMemory>
+    requires graph { IsSoundGraph graph.now }
+    requires room { family.next_step + length family.live ≤ 4294967296 }
+    requires reached { Reach graph.now (initial_bodies graph.now) (bodies family) }
+    ensures run { IfOk result (λ f. (ms : Items AnyMerge) × IsWideRun P.answer P.after graph.now family picker.old ms f picker.new) }
+    ensures sound { IfOk result (λ f. IsSound f) }
+    ensures normal { IfOk result (λ f. IsWideNormal graph.now (bodies f)) }
+    ensures only { IfOk result (λ f. IsTheOnlyWideNormal graph.now (bodies f)) }
+{
+    let mut family = family;
     let mut work = Worklist::of(alloc, &family, graph)?;
     let _taken = close_with(alloc, &mut work, &mut family, graph, picker)?;
     let mut ties = Ties::of(alloc, &family, graph, &work)?;

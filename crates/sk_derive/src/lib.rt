@@ -10,7 +10,7 @@ mod text;
 mod tie_merges;
 mod ties;
 
-pub use closing::derive;
+pub use closing::{derive, derive_in_any_order};
 pub use law::{
     derived_lists_rise, normal_lies_in_wide, one_derived_text, one_list_of_wide_choices,
     one_wide_normal_form, one_wide_run,

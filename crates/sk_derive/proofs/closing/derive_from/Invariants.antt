@@ -1,6 +1,6 @@
 use Rattle.std.proofs.Common.{◌+◌, ◌≤◌, length, List, []}
 use Rattle.sk_family.specs.Body.{initial_bodies}
-use Rattle.sk_family.specs.Clusters.{IsSound, bodies, initial_clusters}
+use Rattle.sk_family.specs.Clusters.{IsSound, bodies}
 use Rattle.sk_family.specs.declared.Merge.{Merge}
 use Rattle.sk_rules.specs.Reach.{IsClosed}
 use Rattle.sk_worklist.specs.Choices.{AreChoices}
@@ -8,7 +8,7 @@ use Rattle.sk_worklist.specs.Turns.{Follows}
 use Rattle.sk_derive.specs.FollowedTies.{AreTies}
 use Rattle.sk_derive.specs.WideReach.{WideReach}
 use Rattle.sk_derive.specs.WideRun.{WidePicksLead}
-use Rattle.sk_derive.proofs.closing.derive.Given as goal
+use Rattle.sk_derive.proofs.closing.derive_from.Given as goal
 
 -- the family is closed by the first two rules
 abbrev pub invariant-loop-merge : goal.invariant-loop-merge
@@ -16,7 +16,7 @@ invariant-loop-merge g l = record {
   room : l.family.next_step + length l.family.live ≤ 4294967296;
   reached : WideReach l.graph (initial_bodies l.graph) (bodies l.family);
   follows : Follows l.work l.graph l.family;
-  picks : (ms : List Merge) × WidePicksLead g.P.Picker.answer g.P.Picker.after l.graph (initial_clusters l.graph) l.fn.picker ms l.family l.picker;
+  picks : (ms : List Merge) × WidePicksLead g.P.Picker.answer g.P.Picker.after l.graph l.fn.family l.fn.picker ms l.family l.picker;
   none : AreChoices l.graph l.family [];
   closed : IsClosed l.graph (bodies l.family);
   sound : IsSound l.family;
