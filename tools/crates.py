@@ -1,13 +1,67 @@
 """The crates of crates.txt, and what each stands on."""
+import contextlib
+import fcntl
+import os
 import pathlib
+import sys
+import tempfile
 
 TOP = pathlib.Path(__file__).resolve().parent.parent
+PROGRAM = "sketch"
+
+
+def program():
+    """Where the program stands once it is built."""
+    return TOP / "crates" / PROGRAM / "out" / PROGRAM
+
+
+def file_time():
+    """The time now, in nanoseconds, as files of this folder are dated, less the least step: what is changed from now on is
+    newer, though the dates of files go by a clock that lags and stands still for some thousandths of a second."""
+    with tempfile.TemporaryFile(dir=TOP) as file:
+        return os.fstat(file.fileno()).st_mtime_ns - 1
+
+
+def date_program(began):
+    """Dates the program by when its proof began, so that each source that is changed since is newer."""
+    os.utime(program(), ns=(began, began))
+
+
+def say(text):
+    """A line of a tool about its work."""
+    print("sketch: " + text, file=sys.stderr, flush=True)
+
+
+def lock(path):
+    """Waits until no other run has the file or folder. What is answered keeps others out until it is closed."""
+    held = os.open(path, os.O_RDONLY if path.is_dir() else os.O_RDWR | os.O_CREAT)
+    try:
+        fcntl.flock(held, fcntl.LOCK_EX | fcntl.LOCK_NB)
+    except BlockingIOError:
+        say("waiting for another run to end, which is at work in %s" % path)
+        fcntl.flock(held, fcntl.LOCK_EX)
+    return held
+
+
+@contextlib.contextmanager
+def alone(names):
+    """Keeps the gate, and other runs that prove one of these crates, out meanwhile: in the order in which the kit does."""
+    gate = [TOP / ".git" / "rt-ci.lock"] if (TOP / ".git").is_dir() else []
+    with contextlib.ExitStack() as held:
+        for path in [*gate, *sorted(TOP / "crates" / name for name in names)]:
+            held.callback(os.close, lock(path))
+        yield
 
 
 def name_of(line):
     """The crate that a line of crates.txt is about; the empty text where it is about none."""
     head, colon, _ = line.partition(":")
     return head.split()[0] if colon and not line.startswith("#") else ""
+
+
+def is_static(name):
+    """Whether a crate is made a static library."""
+    return " staticlib" in lines([name]).partition(":")[0]
 
 
 def direct():
