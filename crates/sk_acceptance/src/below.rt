@@ -4,17 +4,17 @@ use crate::by_order::planned_told;
 use crate::calls::{edges_told, written};
 use crate::claims::claim_told;
 use crate::derived::derived_told;
-use crate::flips::{flips_told, off_told, turned_told};
+use crate::flips::{flips_told, many_lines_stand, off_told, turned_told};
 use crate::merges::{board_told, merges_told};
 use crate::placements::places_told;
 use crate::row::{lines_are_refused, parts_of, rows_of, same};
 use crate::texts::{datum_told, list_told, numbers_told, pieces_told};
 use crate::tolerances::{held, judged};
 use crate::trees::{leaf_told, tree_told};
-use crate::{
+use sk_base::Text;
+use sk_tables::{
     blocks, by_order, calls, claims, derived, flips, merges, placements, texts, tolerances, trees,
 };
-use sk_base::Text;
 use sk_worklist::Order;
 use std::alloc::Global;
 use std::process::Abort;
@@ -107,5 +107,5 @@ fn refused_lines_have_their_codes(rt: HostRuntime) {
         claims::THREE_SHAPES,
         claims::REFUSED_LINES,
     );
-    flips::many_lines_stand(&rt, rt.alloc());
+    many_lines_stand(&rt, rt.alloc());
 }

@@ -188,23 +188,3 @@ fn each_damaged_text_has_its_answer(rt: HostRuntime) {
     mask_passes(&rt, rt.alloc(), Some(0xc3), OTHER);
     mask_passes(&rt, rt.alloc(), Some(0xff), OTHER);
 }
-
-/// Lines at the limit of their length, and one byte beyond it.
-pub const LONG_LINES: &str = "
-$ check
-sketch 1
-point A 7 7
-end                                                                                                                                                                                                     
-> 0
-verdict well
-elements 1
-constraints 0
-parts 1
-part 1 sound elements 1 held 0 due 0 : A
-$ check
-sketch 1
-point A 7 7
-end                                                                                                                                                                                                      
-> 1
-refused line 3 E15 line-too-long
-";

@@ -5,13 +5,9 @@
 #[cfg(test)]
 mod below;
 #[cfg(test)]
-mod blocks;
-#[cfg(test)]
 mod by_order;
 #[cfg(test)]
 mod calls;
-#[cfg(test)]
-mod checks;
 #[cfg(test)]
 mod claims;
 #[cfg(test)]
@@ -19,17 +15,9 @@ mod damaged;
 #[cfg(test)]
 mod derived;
 #[cfg(test)]
-mod drawn;
-#[cfg(test)]
-mod excess;
-#[cfg(test)]
 mod faults;
 #[cfg(test)]
 mod flips;
-#[cfg(test)]
-mod framed;
-#[cfg(test)]
-mod grown;
 #[cfg(test)]
 mod halting;
 #[cfg(test)]
@@ -41,27 +29,13 @@ mod merges;
 #[cfg(test)]
 mod offers;
 #[cfg(test)]
-mod parts;
-#[cfg(test)]
 mod placements;
-#[cfg(test)]
-mod plans;
-#[cfg(test)]
-mod refusals;
-#[cfg(test)]
-mod refused_claims;
 #[cfg(test)]
 mod row;
 #[cfg(test)]
 mod scripts;
 #[cfg(test)]
 mod sessions;
-#[cfg(test)]
-mod settled;
-#[cfg(test)]
-mod solves;
-#[cfg(test)]
-mod spares;
 #[cfg(test)]
 mod tables;
 #[cfg(test)]
@@ -72,9 +46,3 @@ mod tolerances;
 mod trees;
 #[cfg(test)]
 mod usage;
-#[cfg(test)]
-mod verified;
-#[cfg(test)]
-mod verified_signs;
-#[cfg(test)]
-mod versions;

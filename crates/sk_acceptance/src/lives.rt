@@ -1,8 +1,8 @@
 // Sessions that answer as they are asked, over sources that give their input in pieces.
 use crate::halting::{HaltingReader, halts};
 use crate::row::{ending_of, ends, joined, parts_of, rows_of, status_of};
-use crate::sessions::SESSIONS;
 use sk_io::{MemSink, StdSource};
+use sk_tables::sessions::SESSIONS;
 use std::alloc::Global;
 use std::process::Abort;
 

@@ -1,9 +1,8 @@
-// The tables of calls, each of which stands in the module of its subject.
+// Runs the tables of calls.
 use crate::row::rows_pass;
-use crate::{
-    blocks, checks, damaged, derived, drawn, excess, flips, framed, grown, offers, parts, plans,
-    refusals, refused_claims, sessions, settled, solves, spares, verified, verified_signs,
-    versions,
+use sk_tables::{
+    blocks, checks, derived, drawn, excess, flips, framed, grown, offers, parts, plans, refusals,
+    refused_claims, sessions, settled, solves, spares, verified, verified_signs, versions,
 };
 
 #[test]
@@ -14,7 +13,7 @@ fn texts_get_their_answers(rt: HostRuntime) {
         offers::OFFERS,
         sessions::SESSIONS,
         refusals::REFUSALS,
-        damaged::LONG_LINES,
+        refusals::LONG_LINES,
         spares::SPARES,
         flips::REFUSED,
         derived::DERIVED,

@@ -1,5 +1,6 @@
-// Drawings and their reports.
+//! Drawings and their reports.
 
+/// Drawings of each verdict; one that is over in three orders.
 pub const REPORTS: &str = "
 $ check
 sketch 1

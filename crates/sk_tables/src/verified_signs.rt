@@ -1,4 +1,4 @@
-// Claims through the command, of drawings with angles and rigid blocks.
+//! Claims through the command, of drawings with angles and rigid blocks.
 
 /// An angle may be off by so much as the tolerance, and no sign may be turned over, also that of a block.
 pub const SIGNS: &str = "

@@ -1,4 +1,4 @@
-// By how much a drawing says too much.
+//! By how much a drawing says too much.
 
 /// Four points with all distances, the last of them right and half a millimetre too long; a length twice and two lengths of
 /// one pair; a length a million times too long; six points with a length more than is due; two lengths too many within the limit,

@@ -1,4 +1,4 @@
-// Parts, each with its shape.
+//! Parts, each with its shape.
 
 /// The two halves of a hinge; a triangle beside a lone point, in two orders and on two grids; a part that is over
 /// beside a sound one; a triangle that doesn't meet beside a rod; a rod above its limit beside another; a sketch that

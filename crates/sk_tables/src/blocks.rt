@@ -1,4 +1,5 @@
-// Rigid blocks: judged, planned and placed; and what holds of them, and of an edge, at places made by hand.
+//! Rigid blocks: judged, planned and placed; and what holds of them, and of an edge, at places made by hand.
+
 /// A corner of three points, which weighs 3, braced by two distances; a distance within it, which is one constraint too
 /// many; two points alone, whose distance isn't whole and lies between the two roots; and two corners that share a
 /// point, the second of which is carried. In the first a block and a distance are dropped in turn: what they held together

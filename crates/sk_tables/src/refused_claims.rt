@@ -1,4 +1,4 @@
-// Claims through the command that are refused.
+//! Claims through the command that are refused.
 
 /// What is refused: the sketch before the claim, the first line that has a code, a line behind the tolerances, and an end
 /// without them.

@@ -1,4 +1,4 @@
-// Drawings told in their own frame.
+//! Drawings told in their own frame.
 
 /// A block, two lines that cross and two that are drawn parallel, a drawing far away, a session, elements alone, a point and
 /// a line, a triangle that is drawn upright, also on 27 digits and with its choice turned over, one triangle that is drawn in

@@ -1,4 +1,4 @@
-// The text's second version: blocks and comments.
+//! The text's second version: blocks and comments.
 
 /// Comments are passed over. Version 1 has no block, and no text a third version. A block needs two names, and places
 /// that differ. In a session blocks and comments stand without a header.

@@ -1,5 +1,6 @@
-// The drawing of two datum lines, grown to a size.
+//! The drawing of two datum lines, grown to a size.
 
+/// The least one, and one of 1,000 elements.
 pub const GROWN: &str = "
 $ grow n=3
 > 0

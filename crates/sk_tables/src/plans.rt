@@ -1,5 +1,6 @@
-// Drawings and their construction plans.
+//! Drawings and their construction plans.
 
+/// Plans of sketches that are well, and the report of one that is open.
 pub const PLANS: &str = "
 $ plan
 sketch 1

@@ -1,4 +1,4 @@
-// Constraints that may go.
+//! Constraints that may go.
 
 /// In a braced square any constraint may go, in a triangle none. A pair that is told twice may lose either of the two,
 /// and nothing else may go, though all is one cluster; of three any may go. Of a braced square with triangles at its side

@@ -1,4 +1,4 @@
-// Claims through the command.
+//! Claims through the command.
 
 /// The steps have the names, the kept cluster and the choice of the plan, each element has a place and a circle its radius. A
 /// length and a line's normal may be off by so much as the tolerance. Of several failures the first in that order is told. Lines

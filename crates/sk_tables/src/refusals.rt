@@ -1,5 +1,6 @@
-// Texts that aren't sketches, and the first faulty line with its first code.
+//! Texts that aren't sketches, and the first faulty line with its first code.
 
+/// A text for each code of a sketch's line.
 pub const REFUSALS: &str = "
 $ check
 sketch 3
@@ -117,4 +118,24 @@ refused line 2 E18 empty
 $ check
 > 1
 refused line 0 E18 empty
+";
+
+/// Lines at the limit of their length, and one byte beyond it.
+pub const LONG_LINES: &str = "
+$ check
+sketch 1
+point A 7 7
+end                                                                                                                                                                                                     
+> 0
+verdict well
+elements 1
+constraints 0
+parts 1
+part 1 sound elements 1 held 0 due 0 : A
+$ check
+sketch 1
+point A 7 7
+end                                                                                                                                                                                                      
+> 1
+refused line 3 E15 line-too-long
 ";

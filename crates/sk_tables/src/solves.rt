@@ -1,5 +1,6 @@
-// Drawings and where their elements lie, or the first fault.
+//! Drawings and where their elements lie, or the first fault.
 
+/// Drawings of points and circles, lone ones among them.
 pub const POINTS: &str = "
 $ solve
 sketch 1
@@ -116,6 +117,7 @@ length tolerance 0 nm at c1
 angle tolerance 0 ppb at none
 ";
 
+/// Drawings with lines and angles.
 pub const LINES: &str = "
 $ solve
 sketch 1

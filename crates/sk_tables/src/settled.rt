@@ -1,4 +1,4 @@
-// Drawings whose places are points of the grid, beside the same with boxes.
+//! Drawings whose places are points of the grid, beside the same with boxes.
 
 /// A line is at 45° and steeper to others; a triangle that is flat, or has a gap, has it within ends that are as wide
 /// as one join makes them; a fan of thin triangles is placed, whose boxes grow too wide, and with a choice turned over;

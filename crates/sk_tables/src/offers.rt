@@ -1,0 +1,139 @@
+//! Offered merges, with their answers and refusals.
+
+/// Offers that are taken, refused by the board and stale, and lines of offers that are refused.
+pub const OFFERS: &str = "
+$ offers
+sketch 1
+point A 0 0
+point B 4 0
+point C 4 3
+point D 0 3
+distance A B 4
+distance A C 5
+distance B C 3
+distance B D 5
+distance C D 4
+end
+offer 1 c3 c2 c1
+offer 2 c5 c4 c3
+offer 3 c5 c4
+end
+> 0
+offer 1 taken s1
+offer 2 stale c3
+offer 3 idle
+verdict well
+elements 4
+constraints 5
+parts 1
+part 1 sound elements 4 held 5 due 5 : A B C D
+$ offers
+sketch 1
+point A 0 0
+point B 4 0
+point C 4 3
+point D 0 3
+distance A B 4
+distance A C 5
+distance B C 3
+distance B D 5
+distance C D 4
+end
+offer 0 c3 c2 c1
+offer 2 c5 c4 c3
+offer 3 c5 c4
+end
+> 1
+refused line 12 E8 number
+$ offers
+sketch 1
+point A 0 0
+point B 4 0
+point C 4 3
+point D 0 3
+distance A B 4
+distance A C 5
+distance B C 3
+distance B D 5
+distance C D 4
+end
+offer 1 c3 c3
+offer 2 c5 c4 c3
+offer 3 c5 c4
+end
+> 1
+refused line 12 E10 same
+$ offers
+sketch 1
+point A 0 0
+point B 4 0
+point C 4 3
+point D 0 3
+distance A B 4
+distance A C 5
+distance B C 3
+distance B D 5
+distance C D 4
+end
+offer 1 c3 c2 c1
+offer 2 c5 c4 c3
+offer 3 c5 c4
+> 1
+refused line 15 E16 no-end
+$ offers
+sketch 1
+point A 0 0
+end
+offer 65 c1 c2
+end
+> 1
+refused line 4 E8 number
+$ offers
+sketch 1
+point A 0 0
+end
+offer 01 c1 c2
+end
+> 1
+refused line 4 E8 number
+$ offers
+sketch 1
+point A 0 0
+end
+offer 1 c1
+end
+> 1
+refused line 4 E3 shape
+$ offers
+sketch 1
+point A 0 0
+end
+offer 1 c0 c2
+end
+> 1
+refused line 4 E4 name
+$ offers
+sketch 1
+point A 0 0
+end
+offer 65 c1 A
+end
+> 1
+refused line 4 E8 number
+$ offers
+sketch 1
+point A 0 0
+end
+offers 1 c1 c2
+end
+> 1
+refused line 4 E2 word
+$ offers
+sketch 1
+point A 0 0
+end
+end
+offer 1 c1 c2
+> 1
+refused line 5 E17 after-end
+";
