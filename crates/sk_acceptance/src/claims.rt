@@ -1,4 +1,4 @@
-// Claims by the calls below the command, and each code of their lines.
+// What claims are read as, and a check of them, by the calls below the command.
 ghost use Rattle.sk_base.specs.SoundSketch.{IsSoundSketch};
 ghost use Rattle.sk_graph.specs.SketchGraph.{graph_of};
 ghost use Rattle.sk_claims.specs.Claims.{IsFitting};
@@ -10,20 +10,10 @@ use sk_claims::{Claim, read_claim};
 use sk_graph::reduce;
 use sk_lines::ReadError;
 use sk_report::refused_text;
+use sk_tables::claims::WHEEL;
 use sk_verify::{VerifyError, failure_text, verified_text, verify};
 use std::alloc::Global;
 use std::process::Abort;
-
-const WHEEL: &str = "\
-sketch 1
-circle A 0 0 1
-point B 4 0
-point C 4 3
-distance A B 4
-distance A C 5
-distance B C 3
-end
-";
 
 /// What the lines are read as behind the eight of the wheel, and what a check of that tells, or the refusal of a line.
 #[tactic(auto, using(sk_lines::proofs::LineCounts::few_lines))]

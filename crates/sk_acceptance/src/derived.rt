@@ -1,4 +1,4 @@
-// Closing by the three rules, by the command and by a picker.
+// Closing by the three rules, by a picker.
 use crate::calls::sketch_of;
 use sk_base::Text;
 use sk_derive::{derive, derive_text};

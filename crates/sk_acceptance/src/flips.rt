@@ -11,22 +11,9 @@ use sk_lines::ReadError;
 use sk_place::{FrameBy, Layout, PlaceBy};
 use sk_report::{refused_text, turned_text};
 use sk_residual::Turned;
-use sk_tables::flips::{ONE_TOO_MANY, REFUSED_LINES};
+use sk_tables::flips::{LONE_POINT, ONE_TOO_MANY, REFUSED_LINES, TRIANGLE};
 use std::alloc::Global;
 use std::process::Abort;
-
-const TRIANGLE: &str = "\
-sketch 1
-point A 0 0
-point B 4 0
-point C 4 3
-distance A B 4
-distance A C 5
-distance B C 3
-end
-";
-
-const LONE_POINT: &str = "sketch 1\npoint A 7 7\nend\n";
 
 /// The lone point, with so many lines of flips that name no step, and then a line.
 fn with_flips(rt: &impl Abort, alloc: Global, count: usize, line: &str) -> String {

@@ -1,5 +1,4 @@
-// Sketches that are placed by the calls below the top call, at places and with a fault that were worked out by
-// hand. The worked sketches as drawings, on each grid, are among the tables of `solve`.
+// Sketches that are placed by the calls below the top call. Drawings on each grid are in `solves` of `sk_tables`.
 use crate::calls::{planned, sketch_of};
 use crate::row::put_each;
 use sk_base::{Sketch, Text};

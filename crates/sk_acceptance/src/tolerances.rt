@@ -1,5 +1,4 @@
 // Drawings whose elements lie at places that were made by hand: their tolerances, what is beyond a limit, and turned signs.
-// The numbers were worked out by hand.
 //
 // A row has a sketch, `at`, and a place for each of its elements.
 ghost use Rattle.std.specs.Prelude.{◌<◌, ◌≤◌, ◌^◌, length, IsTrue};

@@ -1,4 +1,4 @@
-// Trees: of no merge, of a constraint alone, of plans without a step, and of a rectangle.
+// Trees of drawings' plans, of a constraint alone, and of no merge.
 ghost use Rattle.std.specs.Prelude.{◌<◌, ◌^◌};
 ghost use Rattle.sk_tree.specs.Trees.{step_count};
 

@@ -1,6 +1,6 @@
 //! Drawings and their reports.
 
-/// Drawings of each verdict; one that is over in three orders.
+/// Drawings of each verdict; a braced square that is over, also by each kind of `order=`.
 pub const REPORTS: &str = "
 $ check
 sketch 1

@@ -1,4 +1,16 @@
-//! What claims are read as, and lines of claims that are refused.
+//! What claims are read as, what a check of them tells, and lines of claims that are refused.
+
+/// What the claims below are about.
+pub const WHEEL: &str = "\
+sketch 1
+circle A 0 0 1
+point B 4 0
+point C 4 3
+distance A B 4
+distance A C 5
+distance B C 3
+end
+";
 
 /// Mirrored, C is on the other side of A and B than it is drawn. A step that turns the other way is found wrong before that.
 pub const CLAIMS: &str = "
@@ -45,7 +57,7 @@ $ claim
 > refused line 9 E16 no-end
 ";
 
-/// The sketch in front of them.
+/// The sketch that the refused lines below stand behind.
 pub const THREE_SHAPES: &str = "\
 sketch 1
 point A 0 0

@@ -1,6 +1,6 @@
 //! Drawings and their DXF texts.
 
-/// A plate with a wheel; a triangle that has a gap, and a sketch that is open, are drawn nowhere.
+/// A plate with a wheel; a triangle that has a gap, and a sketch that is open, aren't drawn.
 pub const DRAWN: &str = "
 $ dxf
 sketch 1

@@ -1,5 +1,20 @@
 //! Other drawings by turned choices.
 
+/// What the lists of `TURNED` are tried on.
+pub const TRIANGLE: &str = "\
+sketch 1
+point A 0 0
+point B 4 0
+point C 4 3
+distance A B 4
+distance A C 5
+distance B C 3
+end
+";
+
+/// What the refused lines below stand behind.
+pub const LONE_POINT: &str = "sketch 1\npoint A 7 7\nend\n";
+
 /// A triangle turns over and back, and has no second step. Three points on one line have no height on
 /// either side. The keys are those of `solve`. No line of flips need stand, and one may name no step. Of a
 /// list the first name without a choice is told, as it is written; where two lines cross nothing is open.

@@ -1,6 +1,6 @@
 //! Offered merges, with their answers and refusals.
 
-/// Offers that are taken, refused by the board and stale, and lines of offers that are refused.
+/// Offers that are taken, stale and idle, and lines of offers that are refused.
 pub const OFFERS: &str = "
 $ offers
 sketch 1

@@ -1,4 +1,4 @@
-//! Places and DXF texts, on each grid.
+//! A plate's places and its DXF text, and the fault of an impossible triangle.
 
 /// A plate on the finest grid, and an impossible triangle on the coarsest.
 pub const PLACEMENTS: &str = "

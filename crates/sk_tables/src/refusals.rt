@@ -1,6 +1,6 @@
-//! Texts that aren't sketches, and the first faulty line with its first code.
+//! Texts that aren't sketches, with the first faulty line and its first code; and lines at the limit of their length.
 
-/// A text for each code of a sketch's line.
+/// A text for each code of a sketch from E1 to E19, but for E13 and E14, which stand in `limits` of `sk_acceptance`.
 pub const REFUSALS: &str = "
 $ check
 sketch 3

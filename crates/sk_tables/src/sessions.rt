@@ -1,6 +1,7 @@
 //! Sessions with their replies.
 
-/// Edits, their refusals, what a drop and an undo leave, and the questions that the commands answer on the sketch as it stands.
+/// Edits and their refusals, what a drop and an undo leave, and the replies to `check`, `plan`, `solve` and `write` on the sketch as
+/// it stands.
 pub const SESSIONS: &str = "
 $ session
 point A 0 0

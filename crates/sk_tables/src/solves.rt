@@ -1,6 +1,6 @@
 //! Drawings and where their elements lie, or the first fault.
 
-/// Drawings of points and circles, lone ones among them.
+/// Triangles, as drawn, mirrored, drawn flat and even; a lone point, two points apart, and a text with tabs and carriage returns.
 pub const POINTS: &str = "
 $ solve
 sketch 1
@@ -117,7 +117,7 @@ length tolerance 0 nm at c1
 angle tolerance 0 ppb at none
 ";
 
-/// Drawings with lines and angles.
+/// A rectangle, a plate with a wheel, a belt line, and a line alone, drawn at two places.
 pub const LINES: &str = "
 $ solve
 sketch 1

@@ -125,7 +125,7 @@ length tolerance 2 nm at c1
 angle tolerance 0 ppb at none
 ";
 
-/// As asked.
+/// Drawings with lines, each placed just as it asks.
 pub const LINES: &str = "
 $ judged 1000
 sketch 1
