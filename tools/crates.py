@@ -15,16 +15,37 @@ def program():
     return TOP / "crates" / PROGRAM / "out" / PROGRAM
 
 
-def file_time():
-    """The time now, in nanoseconds, as files of this folder are dated, less the least step: what is changed from now on is
-    newer, though the dates of files go by a clock that lags and stands still for some thousandths of a second."""
+def before_changes():
+    """The time now by the clock that dates the files of this folder, less a nanosecond: nanoseconds since 1970. What is
+    changed from now on is newer. That clock lags behind time.time() and stands still for some milliseconds, so a change may
+    get the very date of the file that is made here. Raises OSError where no file can be made in the folder."""
     with tempfile.TemporaryFile(dir=TOP) as file:
         return os.fstat(file.fileno()).st_mtime_ns - 1
 
 
+def date(path, began):
+    """Dates a file by when its proof began, as `before_changes` told it, so that each source that is changed since is newer."""
+    os.utime(path, ns=(began, began))
+
+
+def first_newer():
+    """A source of the crates that is newer than the program, by which ./sketch calls the program stale; or nothing."""
+    limit = program().stat().st_mtime_ns
+    for folder, inner, files in os.walk(TOP / "crates"):
+        inner[:] = [name for name in inner if name != "out"]
+        sources = [pathlib.Path(folder, name) for name in files if name.endswith((".rt", ".antt"))]
+        for path in [TOP / "crates.txt", *sources]:
+            if path.stat().st_mtime_ns > limit:
+                return path
+    return None
+
+
 def date_program(began):
-    """Dates the program by when its proof began, so that each source that is changed since is newer."""
-    os.utime(program(), ns=(began, began))
+    """Dates the program, which is proved, by when its proof began, and tells of a source that is newer all the same."""
+    date(program(), began)
+    newer = first_newer()
+    if newer:
+        say("%s was changed meanwhile, or is dated in the future: the program counts as older" % newer.relative_to(TOP))
 
 
 def say(text):

@@ -230,17 +230,17 @@ def test_files_that_are_not_there_and_outputs_that_cannot_be(capsys, tmp_path) -
 
 def test_programs_that_give_no_answer(capsys, tmp_path) -> None:
     sketch = str(EXAMPLES / "triangle.sketch")
-    for body, inside in [
-        ("exec sleep 9", "0.2 s"),
-        ("kill -SEGV $$", "signal 11"),
-        ("echo rubbish", "no report of check"),
-        ("exit 5", "memory ran out"),
-        ("exit 3", "input"),
-        ("exit 77", "status 77"),
+    for body, seconds, inside in [
+        ("exec sleep 9", "0.2", "0.2 s"),
+        ("kill -SEGV $$", "20", "signal 11"),
+        ("echo rubbish", "20", "no report of check"),
+        ("exit 5", "20", "memory ran out"),
+        ("exit 3", "20", "input"),
+        ("exit 77", "20", "status 77"),
     ]:
         script = write(tmp_path, "sketch", b"#!/bin/sh\n" + body.encode() + b"\n")
         os.chmod(script, 0o755)
-        status, out, err = judged(capsys, "judge", "--program", script, "--seconds", "0.2", sketch)
+        status, out, err = judged(capsys, "judge", "--program", script, "--seconds", seconds, sketch)
         assert (status, out, err.count("\n")) == (3, "", 1) and inside in err, err
     status, _, err = judged(capsys, "judge", "--program", str(tmp_path / "gone"), sketch)
     assert status == 3 and "gone" in err

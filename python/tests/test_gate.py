@@ -81,6 +81,20 @@ def test_a_half_that_ends_badly_or_does_nothing_fails(
     assert not (repository / RECORD).exists()
 
 
+def test_a_program_that_the_gate_made_is_older_than_what_was_changed_meanwhile(repository: Path) -> None:
+    source, program = repository / "crates/lib.rt", repository / "crates/sketch/out/sketch"
+    put(repository.parent / "bin/rt", f'sleep 0.05; touch {source}; sleep 0.05; touch {program}; echo "$HALF_1"\n')
+    gate(repository, "30 passed, 1 failed", "12 passed, 0 failed")
+    assert program.stat().st_mtime_ns < source.stat().st_mtime_ns
+
+
+def test_a_program_that_the_gate_did_not_make_keeps_its_date(repository: Path) -> None:
+    program = repository / "crates/sketch/out/sketch"
+    os.utime(program, (1, 1))
+    gate(repository, "Killed", "12 passed, 0 failed", "137 0")
+    assert program.stat().st_mtime == 1
+
+
 def test_of_a_changed_tree_nothing_is_recorded(repository: Path) -> None:
     git(repository, "config", "status.showUntrackedFiles", "no")
     (repository / "new").touch()

@@ -5,6 +5,7 @@ import os
 import re
 import shutil
 import subprocess
+import time
 from pathlib import Path
 
 import pytest
@@ -79,7 +80,14 @@ def calls(top: Path) -> list[list[str]]:
     return [line.split() for line in said.read_text().splitlines()] if said.exists() else []
 
 
+def is_stale(top: Path) -> bool:
+    """Whether the source of the lowest crate is newer than the program, as ./sketch sees it."""
+    line = ["find", top / "crates/sk_base/src/lib.rt", "-newer", top / "crates/sketch/out/sketch"]
+    return subprocess.run(line, capture_output=True, text=True, check=True).stdout != ""
+
+
 STANDS = "sketch: the program is proved, and no source differs"
+OLDER = "sketch: crates/sk_base/src/lib.rt was changed meanwhile, or is dated in the future: the program counts as older"
 ALL = [
     "sketch: proving 3 crates, 2 at once",
     "sketch: 1 of 3: sk_base",
@@ -124,12 +132,36 @@ def test_a_library_that_is_gone_is_proved_again_with_those_above(repository: Pat
 
 def test_what_was_changed_in_its_own_proof_is_proved_again_and_the_program_is_stale_till_then(repository: Path) -> None:
     edit = f'[ $name != sk_base ] || echo "// more" >>{repository}/crates/sk_base/src/lib.rt'
-    assert prove(repository, meanwhile=edit)[0] == 0
-    built, source = repository / "crates/sketch/out/sketch", repository / "crates/sk_base/src/lib.rt"
-    assert built.stat().st_mtime < source.stat().st_mtime
+    assert prove(repository, "--jobs", "2", meanwhile=edit) == (0, [*ALL, OLDER])
+    assert is_stale(repository)
     assert prove(repository, "--jobs", "2") == (0, ALL)
+    assert not is_stale(repository)
     assert [call[2] for call in calls(repository)] == ["sk_base", "sk_cli", "sketch"] * 2
     assert prove(repository) == (0, [STANDS])
+
+
+def test_a_source_that_is_dated_as_the_very_beginning_is_newer(repository: Path) -> None:
+    prove(repository)
+    began = (repository / "crates/sketch/out/sketch").stat().st_mtime_ns
+    os.utime(repository / "crates/sk_base/src/lib.rt", ns=(began + 1, began + 1))
+    assert is_stale(repository)
+
+
+def test_a_source_that_is_dated_in_the_future_is_told(repository: Path) -> None:
+    source, later = repository / "crates/sk_base/src/lib.rt", time.time() + 3600
+    os.utime(source, (later, later))
+    assert prove(repository, "--jobs", "2") == (0, [*ALL, OLDER])
+    assert prove(repository) == (0, [STANDS, OLDER])
+
+
+def test_where_linking_fails_the_program_that_stood_stays(repository: Path) -> None:
+    prove(repository)
+    built = repository / "crates/sketch/out/sketch"
+    stood = built.stat().st_mtime_ns
+    (repository / "crates/sketch/src/lib.rt").write_text("// other code\n")
+    put(repository.parent / "kit/bin/rattle-link", "exit 1\n")
+    assert prove(repository)[0] == 1
+    assert built.stat().st_mtime_ns == stood and built.read_text() == "sketch\n"
 
 
 def test_another_kit_a_file_that_went_and_one_with_an_older_date_are_seen(repository: Path) -> None:

@@ -5,8 +5,6 @@ from pathlib import Path
 from .refusal import Refused
 from .running import said
 
-SOURCES = (".rt", ".antt")
-
 
 @dataclass(frozen=True)
 class Tree:
@@ -36,10 +34,3 @@ class Tree:
         room.mkdir()
         said("tar", "-xf", packed, "-C", room)
         packed.unlink()
-
-
-def first_newer(top: Path, built: Path) -> Path | None:
-    """A source of the crates that is newer than a file that was built of them, or nothing."""
-    limit = built.stat().st_mtime
-    sources = [top / "crates.txt", *(each for each in (top / "crates").rglob("*") if each.suffix in SOURCES)]
-    return next((each for each in sources if each.stat().st_mtime > limit), None)

@@ -2,6 +2,7 @@
 from __future__ import annotations
 
 import base64
+import contextlib
 import json
 import os
 import signal
@@ -19,7 +20,7 @@ import pytest
 
 flask = pytest.importorskip("flask", reason="the board needs Debian's python3-flask")
 
-from boards import DRAWINGS, SECONDS, drawing, served  # noqa: E402
+from boards import DRAWINGS, SECONDS, drawing, served, wait_for  # noqa: E402
 from flask.testing import FlaskClient  # noqa: E402
 
 from pertxogai.commands import main  # noqa: E402
@@ -171,10 +172,14 @@ SEGMENT = {"text": "segment A 0 0 1 0\nlength A 2\n"}
 
 
 def test_of_ten_calls_at_once_four_are_answered(tmp_path, workers) -> None:
-    slow = workers(script(tmp_path / "slow", "sleep 1; exit 1\n"), Bounds(20, 0))
+    go = tmp_path / "go"
+    slow = workers(script(tmp_path / "slow", f"until [ -e {go} ]; do sleep 0.05; done; exit 1\n"), Bounds(SECONDS, 0))
     client = board(GUARD, slow).test_client
     with ThreadPoolExecutor(10) as pool:
-        found = list(pool.map(lambda _: post(client(), "judge", SEGMENT).status_code, range(10)))
+        calls = [pool.submit(lambda: post(client(), "judge", SEGMENT).status_code) for _ in range(10)]
+        wait_for("six answers", lambda: sum(call.done() for call in calls) >= 6)
+        go.touch()
+        found = [call.result() for call in calls]
     assert sorted(found) == [200] * 4 + [503] * 6
     assert post(client(), "judge", {"text": ""}).status_code == 200
 
@@ -195,7 +200,7 @@ def test_a_program_that_takes_too_long_is_stopped(tmp_path, workers) -> None:
     began = time.monotonic()
     found = json.loads(slow.text("judge", SEGMENT))
     assert "took over 0.5 s" in found["trouble"]["message"]
-    assert time.monotonic() - began < 5
+    assert time.monotonic() - began < 30
 
 
 def test_a_worker_that_hangs_is_stopped_and_another_starts(tmp_path, workers) -> None:
@@ -448,7 +453,7 @@ def test_the_command_serves_until_it_is_interrupted(program) -> None:
         with urllib.request.urlopen(address) as page:
             assert b"Pertxogai" in page.read()
         started.send_signal(signal.SIGINT)
-        rest, _ = started.communicate(timeout=10)
+        rest, _ = started.communicate(timeout=SECONDS)
     assert started.returncode == 0 and "the board is stopped" in rest
 
 
@@ -484,8 +489,10 @@ def test_a_client_that_says_nothing_is_let_go(program, monkeypatch, silent, more
     with served(program) as there:
         for said in (b"", b"POST /x/call/judge HTTP/1.1\r\nHost: "):
             with socket.create_connection(("127.0.0.1", there.guard.port), timeout=10) as client:
-                client.sendall(said)
-                assert client.recv(1) == b""
+                # one that is late to say it meets a closed connection
+                with contextlib.suppress(BrokenPipeError, ConnectionResetError):
+                    client.sendall(said)
+                    assert client.recv(1) == b""
 
 
 @pytest.mark.parametrize("seconds", ["0", "-1", "nan", "inf", "1e9"])
