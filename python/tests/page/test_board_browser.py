@@ -174,6 +174,7 @@ def test_an_edit_stays_with_its_drawing(page: Page) -> None:
     page.select("A")
     with page.held("edit"):
         page.keys(Keys.ALT + Keys.ARROW_RIGHT)
+        page.wait("an answer", "return window.isHeld")
         page.click("#new")
         page.wait("an empty board", "return !document.querySelector('.edges [data-name]')")
     page.verdict("empty")
