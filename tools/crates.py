@@ -3,6 +3,7 @@ import contextlib
 import fcntl
 import os
 import pathlib
+import subprocess
 import sys
 import tempfile
 
@@ -29,15 +30,11 @@ def date(path, began):
 
 
 def first_newer():
-    """A source of the crates that is newer than the program, by which ./sketch calls the program stale; or nothing."""
-    limit = program().stat().st_mtime_ns
-    for folder, inner, files in os.walk(TOP / "crates"):
-        inner[:] = [name for name in inner if name != "out"]
-        sources = [pathlib.Path(folder, name) for name in files if name.endswith((".rt", ".antt"))]
-        for path in [TOP / "crates.txt", *sources]:
-            if path.stat().st_mtime_ns > limit:
-                return path
-    return None
+    """A source of the crates that is newer than the program, or nothing: as ./sketch looks for it."""
+    kinds = ["(", "-name", "*.rt", "-o", "-name", "*.antt", "-o", "-name", "crates.txt", ")"]
+    line = ["find", TOP / "crates", TOP / "crates.txt", "-name", "out", "-prune", "-o", *kinds, "-newer", program(), "-print", "-quit"]
+    found = subprocess.run(line, stdout=subprocess.PIPE, text=True).stdout.splitlines()
+    return pathlib.Path(found[0]) if found else None
 
 
 def date_program(began):

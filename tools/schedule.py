@@ -21,7 +21,7 @@ MOST_FOR_ONE = 8
 
 def code_size(name):
     """The bytes of a crate's code, by which the time of its proof goes."""
-    return sum(file.stat().st_size for file in (crates.TOP / "crates" / name / "src").rglob("*.rt"))
+    return sum(file.stat().st_size for file in (crates.TOP / "crates" / name / "src").rglob("*.rt") if file.is_file())
 
 
 def heights(needed):

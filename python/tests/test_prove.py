@@ -154,6 +154,12 @@ def test_a_source_that_is_dated_in_the_future_is_told(repository: Path) -> None:
     assert prove(repository) == (0, [STANDS, OLDER])
 
 
+def test_a_lock_that_an_editor_leaves_stops_nothing(repository: Path) -> None:
+    (repository / "crates/sk_base/src/.#lib.rt").symlink_to("someone@nowhere.4711")
+    assert prove(repository, "--jobs", "2")[0] == 0
+    assert (repository / "crates/sketch/out/sketch").exists()
+
+
 def test_where_linking_fails_the_program_that_stood_stays(repository: Path) -> None:
     prove(repository)
     built = repository / "crates/sketch/out/sketch"
