@@ -10,7 +10,8 @@ from pertxogai.answers.faults import Failure, failure
 from pertxogai.answers.limits import check_fits
 from pertxogai.answers.missing import Missing, missing
 from pertxogai.answers.naming import Names
-from pertxogai.answers.solution import solution_of
+from pertxogai.answers.placing import is_tied
+from pertxogai.answers.solution import settled, solution_of
 from pertxogai.answers.warnings import Warning, warnings
 from pertxogai.drawing import Circle, Drawing, moved
 from pertxogai.measure import Deviation, Solution, Unit, greatest, measure
@@ -68,7 +69,8 @@ class Judgement:
     of each constraint on those places. left_out: constraints that couldn't be spelled. frozen:
     those left to their drawn values, to be measured. rounded: those of which the value had to be
     rounded. grown: those told by a value that was read off a placed part. repeats: those that tell
-    of one point that it is itself."""
+    of one point that it is itself. unsized: where it is placed, the circles of which neither a
+    dimension nor the places tell the size."""
 
     verdict: Verdict
     asked: Asked
@@ -79,6 +81,7 @@ class Judgement:
     failure: Failure | None = None
     deviations: tuple[Deviation, ...] = ()
     warnings: tuple[Warning, ...] = ()
+    unsized: tuple[str, ...] = ()
 
     @property
     def style(self) -> Style:
@@ -128,7 +131,10 @@ class Judgement:
 
     @property
     def undimensioned(self) -> tuple[str, ...]:
-        """The circles of which nothing says the radius; they are shown as they are drawn."""
+        """The circles of which nothing tells the radius, where it is placed; else those of which
+        nothing speaks. They are shown as they are drawn."""
+        if self.solution is not None:
+            return self.unsized
         axes = self.asked.axes
         said = {key for equation in axes.equations for key in equation.form.terms}
         said |= {key for fact in axes.loose for key in fact.value.terms}
@@ -193,9 +199,10 @@ def _measured(judged: Judgement, before: Drawing) -> Judgement:
     if not isinstance(judged.asked.solved, Solved):
         return judged
     drawing = judged.names.drawing
-    solution = solution_of(drawing, judged.asked, judged.asked.solved)
+    found = settled(drawing, judged.asked, judged.asked.solved)
+    solution, is_free = found.solution, not is_tied(judged.asked.axes, judged.asked.spelled)
     return replace(judged, solution=solution, deviations=measure(drawing, solution, before),
-                   warnings=warnings(drawing, solution, not judged.asked.spelled.tied()))
+                   warnings=warnings(drawing, solution, is_free), unsized=found.unsized)
 
 
 def _greatest(judged: Judgement) -> int:

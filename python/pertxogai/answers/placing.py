@@ -2,12 +2,14 @@
 nanometres."""
 from __future__ import annotations
 
-from collections.abc import Mapping, Sequence
+from collections.abc import Sequence
 from dataclasses import dataclass
 from fractions import Fraction
 from math import cos, isqrt, sin
 
+from pertxogai.answers.turning import axis_of, known_at
 from pertxogai.language import Placed, PlacedLine, PlacedPoint
+from pertxogai.spelling.axes import Axes
 from pertxogai.spelling.facts import DATUM
 from pertxogai.spelling.writing import Heading, Spelled
 from pertxogai.values import Number
@@ -86,15 +88,17 @@ def along(axis: Spot, upwards: bool, spot: Spot) -> Number:
     return a * y - b * x if upwards else a * x + b * y
 
 
-def in_datum(spelled: Spelled, plate: Plate,
-             drawn: Mapping[str, tuple[Number, Number]]) -> dict[str, tuple[int, int]]:
+def in_datum(axes: Axes, spelled: Spelled, plate: Plate) -> dict[str, tuple[int, int]]:
     """Each point in the datum's frame, in whole nanometres. Where the drawing isn't tied to an
     axis, the first point has its drawn coordinate there; where it has no direction, the printed
     one stays."""
+    spots = {knot: plate.points[name] for knot, name in spelled.points.items()
+             if name in plate.points}
     axis = plate.axis(spelled.headings, DATUM)
     if axis is None:
-        axis = (1, 0)
-    shift = [_shift(spelled, plate, axis, upwards, drawn) for upwards in (False, True)]
+        told = axis_of(axes, spots)
+        axis = (1, 0) if told is None else _of_length_one(*map(Fraction, told))
+    shift = [_shift(axes, spelled, plate, axis, upwards) for upwards in (False, True)]
     found = {}
     for name, spot in plate.points.items():
         x, y = (along(axis, upwards, spot) + shift[upwards] for upwards in (False, True))
@@ -102,14 +106,25 @@ def in_datum(spelled: Spelled, plate: Plate,
     return found
 
 
-def _shift(spelled: Spelled, plate: Plate, axis: Spot, upwards: bool,
-           drawn: Mapping[str, tuple[Number, Number]]) -> Number:
+def is_tied(axes: Axes, spelled: Spelled) -> bool:
+    """Whether the drawing says which way it lies to the datum's axes; else all of it may turn."""
+    spots = {knot: (Fraction(x), Fraction(y)) for knot, (x, y) in axes.facts.drawn.items()
+             if knot in spelled.points}
+    return spelled.tied() or axis_of(axes, spots) is not None
+
+
+def _shift(axes: Axes, spelled: Spelled, plate: Plate, axis: Spot, upwards: bool) -> Number:
+    """How far the printed places are moved along an axis: by a line that is the datum's, a point
+    of which the coordinate is told, or the first point, which stays where it is drawn."""
     for each in spelled.headings:
         rail = each.rail
         if rail and rail.datum() and rail.upwards == upwards and each.name in plate.lines:
             return -along(axis, upwards, plate.foot(each.name))
-    name = next(each for each in plate.points if each in drawn)
-    return drawn[name][upwards] - along(axis, upwards, plate.points[name])
+    knots = {knot: name for knot, name in spelled.points.items() if name in plate.points}
+    told = known_at(axes, upwards, knots)
+    knot = next(iter(knots)) if told is None else told[0]
+    at = axes.facts.drawn[knot][upwards] if told is None else told[1]
+    return at - along(axis, upwards, plate.points[knots[knot]])
 
 
 def _whole(value: Number) -> int:

@@ -2,52 +2,67 @@
 frame."""
 from __future__ import annotations
 
-from fractions import Fraction
-from math import isqrt
+from dataclasses import dataclass
 
 from pertxogai.answers.asking import Asked
 from pertxogai.answers.placing import Plate, in_datum
+from pertxogai.answers.sizes import Sizes
 from pertxogai.drawing import ORIGIN, Arc, Circle, Drawing, PointRef
-from pertxogai.measure import Number, Solution, Spot
+from pertxogai.measure import Solution, Spot
 from pertxogai.reports import Solved
-from pertxogai.spelling.facts import ORIGIN_KNOT, Apart, RadiusOf
-from pertxogai.values import Form
+from pertxogai.spelling.facts import ORIGIN_KNOT, RadiusOf
+from pertxogai.values import Number
+
+
+@dataclass(frozen=True)
+class Settled:
+    """The places of a drawing, and the circles of which nothing tells the size, which are as they
+    are drawn."""
+
+    solution: Solution
+    unsized: tuple[str, ...]
+
+
+def settled(drawing: Drawing, asked: Asked, solved: Solved) -> Settled:
+    """What was printed for a drawing, carried to the datum's frame and rounded there."""
+    points = _points(asked, solved)
+    radii: dict[str, int] = {}
+    unsized = []
+    sizes = _sizes(asked, points)
+    for shape in drawing.geometry:
+        if isinstance(shape, (Circle, Arc)):
+            radius = _radius(asked, sizes, shape.name)
+            if radius is None:
+                unsized.append(shape.name)
+                radius = _whole(drawing.drawn_radius_um(shape.name) * 1000)
+            radii[shape.name] = radius
+    return Settled(Solution(points, radii), tuple(unsized))
 
 
 def solution_of(drawing: Drawing, asked: Asked, solved: Solved) -> Solution:
-    """What was printed for a drawing, carried to the datum's frame and rounded there."""
-    spelled, facts = asked.spelled, asked.axes.facts
-    plate = Plate.of(solved.places, spelled.scale)
-    drawn = {name: facts.drawn[knot] for knot, name in spelled.points.items()}
-    at = in_datum(spelled, plate, drawn)
-    points: dict[PointRef, Spot] = {}
-    for ref, knot in facts.refs.items():
-        if ref != ORIGIN:
-            points[ref] = at[spelled.points[knot]] if knot in spelled.points else (0, 0)
-    radii = {shape.name: _radius(drawing, asked, points, shape)
-             for shape in drawing.geometry if isinstance(shape, (Circle, Arc))}
-    return Solution(points, radii)
+    """The places alone."""
+    return settled(drawing, asked, solved).solution
 
 
-def _radius(drawing: Drawing, asked: Asked, points: dict[PointRef, Spot],
-            shape: Circle | Arc) -> Number:
-    """A radius that is told; else by a placed point on the rim; else as it is drawn."""
-    size = RadiusOf(shape.name)
-    told = asked.rails.size(size)
-    if told is not None:
-        return _whole(told * 1000)
-    spots = {knot: points[ref] for ref, knot in asked.axes.facts.refs.items() if ref != ORIGIN}
-    spots[ORIGIN_KNOT] = (0, 0)
-    for fact in asked.axes.facts.facts:
-        if isinstance(fact, Apart) and fact.value == Form.of(size):
-            return _apart(spots[fact.first], spots[fact.second])
-    return _whole(drawing.drawn_radius_um(shape.name) * 1000)
+def _points(asked: Asked, solved: Solved) -> dict[PointRef, Spot]:
+    """Where each of the designer's points lies."""
+    spelled = asked.spelled
+    at = in_datum(asked.axes, spelled, Plate.of(solved.places, spelled.scale))
+    return {ref: at[spelled.points[knot]] if knot in spelled.points else (0, 0)
+            for ref, knot in asked.axes.facts.refs.items() if ref != ORIGIN}
 
 
-def _apart(first: Spot, second: Spot) -> int:
-    square = Fraction((first[0] - second[0]) ** 2 + (first[1] - second[1]) ** 2)
-    floor = isqrt(int(square))
-    return floor if (2 * floor + 1) ** 2 > 4 * square else floor + 1
+def _sizes(asked: Asked, points: dict[PointRef, Spot]) -> Sizes:
+    """What the placed points tell of sizes."""
+    facts = asked.axes.facts
+    spots = {knot: points[ref] for ref, knot in facts.refs.items() if ref != ORIGIN}
+    return Sizes(facts, {**spots, ORIGIN_KNOT: (0, 0)})
+
+
+def _radius(asked: Asked, sizes: Sizes, name: str) -> int | None:
+    """A radius that is told; else the one that the places tell; else None."""
+    told = asked.rails.size(RadiusOf(name))
+    return sizes.radius_nm(name) if told is None else _whole(told * 1000)
 
 
 def _whole(value: Number) -> int:

@@ -32,10 +32,9 @@ Element = ElementPoint | ElementLine
 
 def elements_placed(judgement: Judgement, shape: Shape) -> Mapping[str, Element]:
     """Each element of the sketch where it is placed, in the datum's frame."""
-    spelled, facts = judgement.asked.spelled, judgement.asked.axes.facts
+    spelled = judgement.asked.spelled
     plate = Plate.of(shape.places, spelled.scale)
-    drawn = {name: facts.drawn[knot] for knot, name in spelled.points.items()}
-    level = in_datum(spelled, plate, drawn)
+    level = in_datum(judgement.asked.axes, spelled, plate)
     per = 1e6 * spelled.scale
     motion = _motion(plate, level, judgement)
     found: dict[str, Element] = {}
