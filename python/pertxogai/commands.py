@@ -17,36 +17,42 @@ from .answers import DrawingRefused, Judgement, judge
 from .drawing_sheet import DrawingSheet, NoPlaces
 from .dxf import MissingLibrary, Release
 from .found import FileRefusal
+from .good import GoodJudgement, good_of, reasons_against
 from .inputs import DesignerDrawing, Input, InputRefused, SketchText, kind_of, read_inputs
 from .judged import JudgedSketch, TextRefused, judge_sketch
+from .judged_drawing import JudgedDrawing
 from .language import NotHeld, Refusal
+from .measure import Limit
+from .measure.limit import MOST as MOST_LIMIT
 from .page.command import add_page
 from .program import Asks, Program, ProgramError
 from .saving import saving
 from .sketch_sheet import SketchSheet
 from .sketch_told import sketch_json, sketch_told
-from .told import JudgedDrawing, drawing_json, told
+from .told import drawing_json, told
 
-EPILOG = """exit status: 0 where all is well and placed, or drawn; 1 where a sketch isn't well, has
-no places, or isn't judged whole; 2 where the words or a file can't be read, or nothing can be
-written; 3 where the program gave no answer. The program is found by --program, the variable
-PERTXOGAI_SKETCH, the repository's build, or the path."""
+EPILOG = """exit status: 0 where all is good (the program says well and places it, every constraint is
+met within --within as it is measured, nothing is left out, every size is told), or is drawn as it
+was asked for; 1 where something isn't, and a line says what; 2 where the words or a file can't be
+read, or nothing can be written; 3 where the program gave no answer. The program is found by
+--program, the variable PERTXOGAI_SKETCH, the repository's build, or the path."""
 FILE = "a sketch: .sketch, .drawing, .FCStd, .slvs, .dxf"
 FREEZE = "take lengths and radii that nothing tells as they are drawn"
 OUTPUT = "OUT.svg or OUT.dxf"
 RELEASE = "the version of DXF (default: %(default)s)"
 SECONDS = "how long a call may take (default: %(default)g)"
-WRITE = "copy a .FCStd or .slvs to OUT, with its sketches where they are placed"
+WITHIN = "what is met within N nm, or an angle within N ppb, holds (default: %(default)s)"
+WRITE = "copy a .FCStd or .slvs to OUT, with those of its sketches placed that are good"
 Commands: TypeAlias = "argparse._SubParsersAction[argparse.ArgumentParser]"
 
 
 class Exit(IntEnum):
     """The exit statuses of ./pertxogai."""
 
-    WELL = 0
-    NOT_WELL = 1
-    BAD_INPUT = 2
-    NO_ANSWER = 3
+    GOOD = 0  #: all is good, as `pertxogai.good` says it, or is drawn as it was asked for
+    NOT_GOOD = 1  #: something isn't, and a line says what
+    BAD_INPUT = 2  #: the words or a file can't be read, or nothing can be written
+    NO_ANSWER = 3  #: the program gave no answer
 
 
 class CommandError(Exception):
@@ -67,7 +73,6 @@ def main(words: Sequence[str] | None = None) -> int:
         CommandError,
         MissingLibrary,
         FileRefusal,
-        NoPlaces,
     ) as error:
         return _complain(error, Exit.BAD_INPUT)
     except ProgramError as error:
@@ -124,9 +129,19 @@ def _command(commands: Commands, name: str, what: str) -> argparse.ArgumentParse
     )
     parser.add_argument("file", type=Path, metavar="FILE", help=FILE)
     parser.add_argument("--freeze", action="store_true", help=FREEZE)
+    parser.add_argument("--within", type=_limit, default="1000", metavar="N", help=WITHIN)
     parser.add_argument("--program", metavar="PATH", help="the program `sketch`")
     parser.add_argument("--seconds", type=float, default=60.0, help=SECONDS)
     return parser
+
+
+def _limit(word: str) -> Limit:
+    """The limit that a word tells. Raises ArgumentTypeError."""
+    try:
+        return Limit(int(word))
+    except ValueError:
+        raise argparse.ArgumentTypeError(
+            f"{word!r} is no whole number from 1 to {MOST_LIMIT}") from None
 
 
 def _program(options: argparse.Namespace) -> Asks:
@@ -138,7 +153,7 @@ def _program(options: argparse.Namespace) -> Asks:
 def _judge(options: argparse.Namespace) -> Exit:
     found = read_inputs(options.file)
     program = _program(options)
-    judged = [_judged(it, program, options.freeze) for it in found]
+    judged = [_judged(it, program, options) for it in found]
     if options.write is not None:
         _write_placed(options.file, options.write, found, judged)
     if options.json:
@@ -150,22 +165,27 @@ def _judge(options: argparse.Namespace) -> Exit:
     else:
         for it in judged:
             print("\n".join(sketch_told(it) if isinstance(it, JudgedSketch) else told(it)))
-    return Exit.WELL if all(it.is_placed() for it in judged) else Exit.NOT_WELL
+    return Exit.NOT_GOOD if any(map(reasons_against, judged)) else Exit.GOOD
 
 
-def _judged(found: Input, program: Asks, freeze: bool) -> JudgedSketch | JudgedDrawing:
+def _judged(
+    found: Input, program: Asks, options: argparse.Namespace
+) -> JudgedSketch | JudgedDrawing:
     if isinstance(found, SketchText):
-        return judge_sketch(found.name, found.text, program)
-    return _judged_drawing(found, program, freeze)
+        return judge_sketch(found.name, found.text, program, options.within)
+    return _judged_drawing(found, program, options)
 
 
-def _judged_drawing(found: DesignerDrawing, program: Asks, freeze: bool) -> JudgedDrawing:
+def _judged_drawing(
+    found: DesignerDrawing, program: Asks, options: argparse.Namespace
+) -> JudgedDrawing:
     return JudgedDrawing(
         found.name,
         found.drawing,
-        _judgement(found, program, freeze),
+        _judgement(found, program, options.freeze),
         found.left_out,
         found.aside,
+        options.within,
     )
 
 
@@ -190,23 +210,22 @@ def _json(judged: JudgedSketch | JudgedDrawing) -> dict[str, object]:
 def _write_placed(
     path: Path, out: Path, found: Sequence[Input], judged: Sequence[JudgedSketch | JudgedDrawing]
 ) -> None:
-    """Copies a file with its sketches where they are placed. Raises CommandError and
+    """Copies a file with those of its sketches placed that are good. Raises CommandError and
     FileRefusal."""
     kind = kind_of(path)
     if kind is None or kind.write is None:
         raise CommandError(f"{path}: only .FCStd and .slvs are written back")
-    solutions = {
-        each.key: it.judgement.solution
+    known = {
+        each.key: good_of(it)
         for each, it in zip(found, judged)
-        if isinstance(each, DesignerDrawing)
-        and isinstance(it, JudgedDrawing)
-        and it.judgement.solution is not None
+        if isinstance(each, DesignerDrawing) and isinstance(it, JudgedDrawing)
     }
-    if not solutions:
+    good = {key: it for key, it in known.items() if isinstance(it, GoodJudgement)}
+    if not good:
         raise CommandError(
-            f"{path}: no sketch of it has places, so {out} isn't written: see ./pertxogai judge"
+            f"{path}: no sketch of it is good, so {out} isn't written: see ./pertxogai judge"
         )
-    kind.write(path, out, solutions)
+    kind.write(path, out, good)
 
 
 def _draw(options: argparse.Namespace) -> Exit:
@@ -215,10 +234,19 @@ def _draw(options: argparse.Namespace) -> Exit:
         raise CommandError(f"{options.output}: the output's name ends in .svg or .dxf")
     found = _chosen(read_inputs(options.file), options.sketch)
     sheet = _sheet(found, options)
-    text = sheet.picture().svg if suffix == ".svg" else sheet.dxf(Release(options.release))
+    text = sheet.picture().svg if suffix == ".svg" else _dxf(sheet, Release(options.release))
     with saving(options.output, options.file) as file:
         file.write(text.encode("utf-8", "replace"))
-    return Exit.WELL
+    return Exit.GOOD if sheet.is_good() else Exit.NOT_GOOD
+
+
+def _dxf(sheet: SketchSheet | DrawingSheet, release: Release) -> str:
+    """The sheet as DXF. Raises CommandError where it isn't good."""
+    try:
+        return sheet.dxf(release)
+    except NoPlaces as error:
+        hint = "; --as-drawn draws it all the same" if isinstance(sheet, DrawingSheet) else ""
+        raise CommandError(f"{error}{hint}") from None
 
 
 def _chosen(found: Sequence[Input], name: str | None) -> Input:
@@ -234,6 +262,6 @@ def _sheet(found: Input, options: argparse.Namespace) -> SketchSheet | DrawingSh
     program = _program(options)
     if isinstance(found, SketchText):
         return SketchSheet(
-            judge_sketch(found.name, found.text, program), program, options.as_drawn
+            judge_sketch(found.name, found.text, program, options.within), program, options.as_drawn
         )
-    return DrawingSheet(_judged_drawing(found, program, options.freeze), options.as_drawn)
+    return DrawingSheet(_judged_drawing(found, program, options), options.as_drawn)

@@ -6,9 +6,11 @@ from collections.abc import Iterator
 from dataclasses import dataclass
 
 from pertxogai.dxf import Release, dxf_text
+from pertxogai.good import GoodJudgement, good_of
+from pertxogai.judged_drawing import JudgedDrawing
 from pertxogai.picture import Ink, Marking, Picture, Scene, picture_of, scene_of_designed
 from pertxogai.shape_parts import parts_of_shapes
-from pertxogai.told import JudgedDrawing, told
+from pertxogai.told import told
 
 
 MOST_SHOWN = 8
@@ -16,7 +18,7 @@ MOST_SHOWN = 8
 
 
 class NoPlaces(Exception):
-    """A drawing that has no places can't be drawn as placed. The message is one line."""
+    """What isn't good can't be written as placed. The message is one line, and says why."""
 
 
 @dataclass(frozen=True)
@@ -27,22 +29,28 @@ class DrawingSheet:
     as_drawn: bool
 
     def picture(self) -> Picture:
-        """As placed, else as drawn with what was judged below it."""
+        """As placed where that is good, else as drawn with what was judged below it."""
         return picture_of(self._scene())
 
     def dxf(self, release: Release) -> str:
-        """The shapes as placed, or as drawn where that was asked for. Raises NoPlaces."""
-        if self.judged.judgement.solution is None and not self.as_drawn:
-            raise NoPlaces(f"{self.judged.name} has no places, so no DXF is written: see "
-                           "./pertxogai judge, or take --as-drawn")
+        """The shapes as placed where that is good, or as drawn where that was asked for. Raises
+        NoPlaces."""
+        found = good_of(self.judged)
+        if not self.as_drawn and not isinstance(found, GoodJudgement):
+            raise NoPlaces(f"{self.judged.name}: no DXF is written of what isn't good: {found}")
         return dxf_text(self._scene().marks, release)
 
+    def is_good(self) -> bool:
+        """Whether it is drawn as it is good, or as it was asked for."""
+        return self.as_drawn or isinstance(good_of(self.judged), GoodJudgement)
+
     def _scene(self) -> Scene:
-        judged, judgement = self.judged, self.judged.judgement
-        if self.as_drawn or judgement.solution is not None:
-            solution = None if self.as_drawn else judgement.solution
+        judged, judgement, found = self.judged, self.judged.judgement, good_of(self.judged)
+        if self.as_drawn:
             marking = Marking(legend=tuple((line, Ink()) for line in self._left_out()))
-            return scene_of_designed(judged.drawing, solution, judged.name, marking)
+            return scene_of_designed(judged.drawing, None, judged.name, marking)
+        if isinstance(found, GoodJudgement):
+            return scene_of_designed(judged.drawing, found.solution, judged.name, Marking())
         spare = frozenset(each.number for each in judgement.surplus)
         marking = Marking(parts_of_shapes(judgement), spare, tuple(self._legend()))
         return scene_of_designed(judged.drawing, None, judged.name, marking)

@@ -7,7 +7,7 @@ from pathlib import Path
 
 from .drawing import Drawing, DrawingRefusal, read_drawing
 from .found import FileRefusal, FoundSketch
-from .measure import Solution
+from .good import GoodJudgement
 
 MOST_BYTES = 64 << 20
 
@@ -43,13 +43,13 @@ Input = SketchText | DesignerDrawing
 @dataclass(frozen=True)
 class Kind:
     """A kind of file: the ending of its name, what it is, what reads it, what copies it with
-    placed sketches, and the most bytes that it may have (None where only some of it is read, and
+    good sketches, and the most bytes that it may have (None where only some of it is read, and
     what reads it has limits of its own)."""
 
     suffix: str
     what: str
     read: Callable[[Path], tuple[Input, ...]]
-    write: Callable[[Path, Path, Mapping[str, Solution]], None] | None = None
+    write: Callable[[Path, Path, Mapping[str, GoodJudgement]], None] | None = None
     most_bytes: int | None = MOST_BYTES
 
 
@@ -127,16 +127,16 @@ def _printable(text: str) -> str:
     return "".join(letter if letter.isprintable() else "\ufffd" for letter in text)
 
 
-def _write_freecad(path: Path, out: Path, solutions: Mapping[str, Solution]) -> None:
+def _write_freecad(path: Path, out: Path, good: Mapping[str, GoodJudgement]) -> None:
     from .freecad import write_freecad
 
-    write_freecad(path, out, solutions)
+    write_freecad(path, out, good)
 
 
-def _write_solvespace(path: Path, out: Path, solutions: Mapping[str, Solution]) -> None:
+def _write_solvespace(path: Path, out: Path, good: Mapping[str, GoodJudgement]) -> None:
     from .solvespace import write_solvespace
 
-    write_solvespace(path, out, solutions)
+    write_solvespace(path, out, good)
 
 
 KINDS = (

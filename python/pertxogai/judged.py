@@ -5,6 +5,7 @@ from collections.abc import Iterator
 from dataclasses import dataclass
 
 from .language import ClusterName, Constraint, Refusal, Sketch
+from .measure import Limit
 from .picture import Picture, picture_of_drawing, picture_of_parts, picture_of_shape
 from .program import Answer, Asks, Status
 from .reports import (
@@ -61,7 +62,9 @@ class TextRefused(Exception):
 class JudgedSketch:
     """A sketch and what the program answers to it: parts and verdict; places or a fault where
     it is well; the spare constraints where it is over, and what is left out of each part that is,
-    with how far that is off; and the parts, each by itself, where it isn't well."""
+    with how far that is off; and the parts, each by itself, where it isn't well. limit: within
+    what each constraint has to hold, as the program was asked. Whether it is good is for
+    `pertxogai.good` to say."""
 
     name: str
     sketch: Sketch
@@ -72,10 +75,7 @@ class JudgedSketch:
     spare: tuple[Spare, ...] = ()
     excess: ExcessReport | None = None
     parts: PartsReport | None = None
-
-    def is_placed(self) -> bool:
-        """Whether it is well, and has places within the limit."""
-        return self.solved is not None
+    limit: Limit = Limit()
 
     def picture(self, as_drawn: bool = False) -> Picture:
         """As it is placed; part by part where it isn't well; and as it is drawn where it has no
@@ -97,7 +97,9 @@ class JudgedSketch:
         return self.picture().svg
 
 
-def judge_sketch(name: str, given: Sketch | str, asks: Asks) -> JudgedSketch:
+def judge_sketch(
+    name: str, given: Sketch | str, asks: Asks, limit: Limit = Limit()
+) -> JudgedSketch:
     """Asks the program what there is to say of a sketch, or of a text. Raises TextRefused and
     ProgramError."""
     text = given if isinstance(given, str) else given.text()
@@ -109,26 +111,31 @@ def judge_sketch(name: str, given: Sketch | str, asks: Asks) -> JudgedSketch:
             f"the program reads what pertxogai doesn't ({refusal}): they are of different versions"
         ) from None
     if check.verdict is Verdict.WELL:
-        return _placed(name, sketch, check, text, asks)
-    parts = read_parts(_written(name, "parts", text, asks))
+        return _placed(name, sketch, check, text, asks, limit)
+    within = f"within={limit.amount}"
+    parts = read_parts(_written(name, "parts", text, asks, within))
     if check.verdict is Verdict.OPEN:
-        return JudgedSketch(name, sketch, check, parts=parts)
+        return JudgedSketch(name, sketch, check, parts=parts, limit=limit)
     spare = read_spare(_written(name, "spare", text, asks))
-    excess = read_excess(_written(name, "excess", text, asks))
-    return JudgedSketch(name, sketch, check, spare=spare, excess=excess, parts=parts)
+    excess = read_excess(_written(name, "excess", text, asks, within))
+    return JudgedSketch(name, sketch, check, None, None, None, spare, excess, parts, limit)
 
 
-def _written(name: str, command: str, text: str, asks: Asks) -> str:
+def _written(name: str, command: str, text: str, asks: Asks, *keys: str) -> str:
     """What a command writes, where it does its work. Raises TextRefused and NotAReport."""
-    return _done(name, asks.ask([command], text), text).text
+    return _done(name, asks.ask([command, *keys], text), text).text
 
 
-def _placed(name: str, sketch: Sketch, check: CheckReport, text: str, asks: Asks) -> JudgedSketch:
-    answer = asks.ask(["solve"], text)
+def _placed(
+    name: str, sketch: Sketch, check: CheckReport, text: str, asks: Asks, limit: Limit
+) -> JudgedSketch:
+    answer = asks.ask(["solve", f"within={limit.amount}"], text)
     if answer.status in (Status.FAULT, Status.TOLERANCE):
         plan = read_plan(_written(name, "plan", text, asks))
-        return JudgedSketch(name, sketch, check, fault=read_fault(answer.text), plan=plan)
-    return JudgedSketch(name, sketch, check, solved=read_solve(_done(name, answer, text).text))
+        fault = read_fault(answer.text)
+        return JudgedSketch(name, sketch, check, fault=fault, plan=plan, limit=limit)
+    solved = read_solve(_done(name, answer, text).text)
+    return JudgedSketch(name, sketch, check, solved, limit=limit)
 
 
 def _done(name: str, answer: Answer, text: str) -> Answer:

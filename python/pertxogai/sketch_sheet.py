@@ -5,6 +5,7 @@ from dataclasses import dataclass
 
 from .drawing_sheet import NoPlaces
 from .dxf import Release, dxf_text, marks_of
+from .good import GoodSketch, good_sketch_of
 from .judged import JudgedSketch
 from .picture import Picture
 from .program import Asks, Status
@@ -23,15 +24,20 @@ class SketchSheet:
         """As placed, or part by part, or as drawn."""
         return self.judged.picture(self.as_drawn)
 
+    def is_good(self) -> bool:
+        """Whether it is drawn as it is good, or as it was asked for."""
+        return self.as_drawn or isinstance(good_sketch_of(self.judged), GoodSketch)
+
     def dxf(self, release: Release) -> str:
         """The program's own points, circles, and lines with their ends. Raises NoPlaces and
         ProgramError."""
-        if not self.judged.is_placed() or self.as_drawn:
-            raise NoPlaces(
-                f"{self.judged.name}: only a sketch that is placed is written as DXF: see"
-                f" ./pertxogai judge"
-            )
-        answer = self.program.ask(["dxf"], self.judged.sketch.text())
+        found = good_sketch_of(self.judged)
+        if self.as_drawn:
+            raise NoPlaces(f"{self.judged.name}: no DXF is written of a sketch as it is drawn")
+        if not isinstance(found, GoodSketch):
+            raise NoPlaces(f"{self.judged.name}: no DXF is written of what isn't good: {found}")
+        words = "dxf", f"within={self.judged.limit.amount}"
+        answer = self.program.ask(words, self.judged.sketch.text())
         if answer.status is not Status.DONE:
             raise NotAReport(
                 f"the program has places by solve and none by dxf (status {answer.status.value})"

@@ -3,6 +3,7 @@ from __future__ import annotations
 
 from collections.abc import Iterator, Sequence
 
+from .good import reasons_json
 from .judged import JudgedSketch, concerned, what_to_do
 from .language import Placed, PlacedCircle, PlacedLine
 from .reports import AtConstraint, Excessive, FrameFault, LineFault, OverPart, Part, Solved
@@ -51,6 +52,7 @@ def sketch_json(judged: JudgedSketch) -> dict[str, object]:
     return {
         "name": judged.name,
         "verdict": judged.check.verdict.value,
+        **reasons_json(judged),
         "parts": _parts(judged),
         "spelled": "as written",
         "exact": True,

@@ -3,43 +3,20 @@
 from __future__ import annotations
 
 from collections.abc import Iterator
-from dataclasses import dataclass
 
 from pertxogai.answers import Judgement, Surplus
 from pertxogai.drawing import Circle, Drawing, PointRef
 from pertxogai.drawing.geometry import Arc
-from pertxogai.measure import Deviation, Solution, Unit, greatest
+from pertxogai.good import Lack, reasons_against, reasons_json
+from pertxogai.judged_drawing import JudgedDrawing
+from pertxogai.measure import Deviation, Solution
 from pertxogai.reports import CheckReport, Part, Solved
 from pertxogai.upright import upright
 
+__all__ = ["JudgedDrawing", "drawing_json", "spare_json", "spelled_json", "told", "within_json"]
+
 MOST_ADVICE = 5
 """So many pairs of pieces at most are told what to do with."""
-
-
-@dataclass(frozen=True)
-class JudgedDrawing:
-    """A drawing, the judgement on it, what of its file the drawing can't say, and which of the
-    file's constraints only measure or are switched off."""
-
-    name: str
-    drawing: Drawing
-    judgement: Judgement
-    not_drawn: tuple[str, ...] = ()
-    aside: tuple[str, ...] = ()
-
-    def is_placed(self) -> bool:
-        """Whether it is well and has places, something is drawn, and nothing is left out."""
-        return (self.judgement.solution is not None and bool(self.drawing.geometry)
-                and not self.left_out())
-
-    def left_out(self) -> tuple[str, ...]:
-        """What the file has and the drawing can't say, and what of the drawing can't be spelled."""
-        return self.not_drawn + self.judgement.left_out
-
-    def worst(self) -> tuple[Deviation, ...]:
-        """The greatest deviation in nm and that in ppb, where something was measured so."""
-        found = (greatest(self.judgement.deviations, unit) for unit in Unit)
-        return tuple(each for each in found if each is not None)
 
 
 def drawing_json(judged: JudgedDrawing) -> dict[str, object]:
@@ -49,6 +26,7 @@ def drawing_json(judged: JudgedDrawing) -> dict[str, object]:
     return {
         "name": judged.name,
         "verdict": judgement.verdict.value,
+        **reasons_json(judged),
         "parts": [_part(judgement, part) for part in _check(judgement).parts],
         **spelled_json(judged),
         "lacks": judgement.missing.count if judgement.missing else 0,
@@ -108,6 +86,8 @@ def told(judged: JudgedDrawing) -> Iterator[str]:
            f"{check.elements}, constraints {check.constraints}, parts {len(check.parts)}")
     if not judged.drawing.geometry:
         yield "  nothing is drawn in it that could be judged"
+    yield from (f"  not met: {reason.text}" for reason in reasons_against(judged)
+                if reason.lack in (Lack.OFF, Lack.UNMEASURED))
     yield from (f"  left out: {what}" for what in judged.not_drawn)
     yield from _left_out_lines(judgement)
     yield from (f"  not asked for: {what}" for what in judged.aside)

@@ -75,6 +75,8 @@ def test_json_of_a_sketch_that_is_well(capsys) -> None:
     assert list(sketch) == [
         "name",
         "verdict",
+        "good",
+        "why_not",
         "parts",
         "spelled",
         "exact",
@@ -94,6 +96,7 @@ def test_json_of_a_sketch_that_is_well(capsys) -> None:
         True,
         None,
     )
+    assert (sketch["good"], sketch["why_not"]) == (True, [])
     assert sketch["places"]["Top"] == {"x_nm": 60000000, "y_nm": 34641015}
     assert sketch["places"]["Back"] == {"a_ppb": -1000000000, "b_ppb": 0, "c_nm": -60000000}
     assert (sketch["length_tolerance_nm"], sketch["angle_tolerance_ppb"]) == (1, 1)
@@ -107,7 +110,8 @@ def test_json_of_what_is_not_well(capsys) -> None:
     (sketch,) = json.loads(
         judged(capsys, "judge", "--json", str(EXAMPLES / "hole-row.sketch"))[1]
     )["sketches"]
-    assert (sketch["verdict"], sketch["places"]) == ("over", None)
+    assert (sketch["verdict"], sketch["places"], sketch["good"]) == ("over", None, False)
+    assert [each["why"] for each in sketch["why_not"]] == ["verdict"]
     assert sketch["spare"][5] == {"number": 6, "name": "distance A C 70"}
     (over,) = sketch["excess"]
     assert (over["part"], over["fault"], over["stays_over"]) == (1, None, False)
@@ -137,6 +141,8 @@ def test_json_of_a_drawing_has_the_same_members(capsys, tmp_path) -> None:
     assert {
         "name",
         "verdict",
+        "good",
+        "why_not",
         "parts",
         "spelled",
         "exact",
@@ -151,10 +157,13 @@ def test_json_of_a_drawing_has_the_same_members(capsys, tmp_path) -> None:
     } <= set(sketch)
 
 
-@pytest.mark.parametrize("name", ["bracket", "hinge", "hole-row", "no-triangle"])
-def test_draw_svg(name: str, capsys, tmp_path) -> None:
+@pytest.mark.parametrize("name, status", [("bracket", 0), ("hinge", 1), ("hole-row", 1),
+                                          ("no-triangle", 1)])
+def test_draw_svg(name: str, status: int, capsys, tmp_path) -> None:
+    """What isn't good is drawn too, and the status says so."""
     out = tmp_path / "out.svg"
-    assert judged(capsys, "draw", str(EXAMPLES / f"{name}.sketch"), "-o", str(out)) == (0, "", "")
+    words = "draw", str(EXAMPLES / f"{name}.sketch"), "-o", str(out)
+    assert judged(capsys, *words) == (status, "", "")
     assert ElementTree.parse(out).getroot().tag.endswith("svg")
     assert [it.name for it in tmp_path.iterdir()] == ["out.svg"]
 
@@ -219,7 +228,7 @@ def test_files_that_are_not_there_and_outputs_that_cannot_be(capsys, tmp_path) -
         (["judge", str(tmp_path)], "ending"),
         (["draw", sketch, "-o", str(tmp_path / "no" / "out.svg")], "can't be written"),
         (["draw", sketch, "-o", str(tmp_path / "out.png")], ".svg or .dxf"),
-        (["draw", str(EXAMPLES / "hinge.sketch"), "-o", str(tmp_path / "out.dxf")], "placed"),
+        (["draw", str(EXAMPLES / "hinge.sketch"), "-o", str(tmp_path / "out.dxf")], "it is open"),
         (["draw", sketch, "--sketch", "other", "-o", str(tmp_path / "out.svg")], "--sketch"),
         (["judge", "--seconds", "0", sketch], "--seconds"),
     ]:
@@ -255,6 +264,9 @@ def test_programs_that_give_no_answer(capsys, tmp_path) -> None:
         ["draw", "a.sketch"],
         ["judge", "a", "b"],
         ["judge", "--seconds", "x", "a"],
+        ["judge", "--within", "0", "a"],
+        ["judge", "--within", "1000001", "a"],
+        ["draw", "--within", "x", "a", "-o", "b.svg"],
     ],
 )
 def test_words_that_are_not_of_the_form(words: list[str], capsys) -> None:
@@ -347,8 +359,8 @@ def test_names_that_are_no_text(tmp_path) -> None:
 def test_a_picture_tells_what_is_left_out(capsys, tmp_path) -> None:
     out = tmp_path / "out.svg"
     file = Path(__file__).parent / "files" / "ellipse.FCStd"
-    for words in (["draw", str(file)], ["draw", "--as-drawn", str(file)]):
-        assert judged(capsys, *words, "-o", str(out))[0] == 0
+    for status, words in ((1, ["draw", str(file)]), (0, ["draw", "--as-drawn", str(file)])):
+        assert judged(capsys, *words, "-o", str(out))[0] == status
         assert "left out: Ellipse" in out.read_text()
 
 

@@ -2,7 +2,8 @@
 
 A drawing says in notes what was worked out by hand: its verdict (`expect`), where points lie
 (`place A 10 20`), how far apart two are (`span A B 5`), how large rims are (`radius Hole 2.5`),
-all in millimetres and within 2 nm, or as many as `within` says."""
+all in millimetres and within 2 nm, or as many as `within` says. One that is well is good, but for
+what its note says is off, or without a size."""
 
 from __future__ import annotations
 
@@ -16,6 +17,8 @@ import pytest
 from pertxogai.answers import judge
 from pertxogai.drawing import (
     Coincident, Drawing, PointRef, Which, constraints, read_drawing, um_of_mm, write_drawing)
+from pertxogai.good import Lack, reasons_against
+from pertxogai.judged_drawing import JudgedDrawing
 from pertxogai.measure import Unit
 from pertxogai.reports import Verdict
 
@@ -64,15 +67,29 @@ def test_drawing_is_judged_as_expected(drawing, program):
     found = judge(drawing, program)
     assert found.verdict is Verdict(expected.words[0])
     match expected.words:
+        case ("well", "off", *names):
+            assert lacks(drawing, found, Lack.OFF) == [" ".join(names)]
         case ("well", *rest):
             assert_placed(drawing, found)
             assert_told(found, tuple(rest))
+            assert bool(reasons(drawing, found)) == ("undimensioned" in rest)
         case ("open", "missing", count):
             assert found.missing.count == int(count)
         case ("over", "spare", *spare):
             assert names_of(tuple(spare)) <= {each.name for each in found.surplus}
         case _:
             pytest.fail(f"no expectation: {expected.words}")
+
+
+def reasons(drawing, found):
+    """Why a drawing isn't good."""
+    return reasons_against(JudgedDrawing("it", drawing, found))
+
+
+def lacks(drawing, found, lack):
+    """What is off, by the names of the constraints."""
+    return [drawing.called(each.constraint) for each in reasons(drawing, found)
+            if each.lack is lack]
 
 
 def assert_told(found, words):

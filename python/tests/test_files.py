@@ -114,7 +114,7 @@ def test_nothing_is_written_where_there_are_no_places(capsys: pytest.CaptureFixt
                                                       tmp_path: Path) -> None:
     for name in ("hinge.FCStd", "loose.slvs"):
         status, _, err = called(capsys, "judge", FILES / name, "--write", tmp_path / "out")
-        assert status == 2 and "no sketch of it has places" in err and err.count("\n") == 1
+        assert status == 2 and "no sketch of it is good" in err and err.count("\n") == 1
     status, _, err = called(capsys, "judge", FILES / "plate.FCStd", "--write",
                             FILES / "plate.FCStd")
     assert status == 2 and "isn't written over" in err and err.count("\n") == 1
@@ -122,12 +122,12 @@ def test_nothing_is_written_where_there_are_no_places(capsys: pytest.CaptureFixt
 
 
 def test_pictures(capsys: pytest.CaptureFixture[str], tmp_path: Path) -> None:
-    for name in ("link.FCStd", "twice.FCStd", "slot.slvs"):
+    for name, is_well in (("link.FCStd", True), ("twice.FCStd", False), ("slot.slvs", True)):
         out = tmp_path / f"{name}.svg"
-        assert called(capsys, "draw", FILES / name, "-o", out)[0] == 0
+        assert called(capsys, "draw", FILES / name, "-o", out)[0] == (0 if is_well else 1)
         assert "<svg" in out.read_text()
     status, _, err = called(capsys, "draw", FILES / "twice.FCStd", "-o", tmp_path / "a.dxf")
-    assert status == 2 and "has no places" in err
+    assert status == 2 and "no DXF is written of what isn't good: it is over" in err
     assert called(capsys, "draw", FILES / "twice.FCStd", "-o", tmp_path / "a.dxf",
                   "--as-drawn")[0] == 0
     status, _, err = called(capsys, "draw", FILES / "body.FCStd", "-o", tmp_path / "b.svg")

@@ -11,7 +11,8 @@ import pytest
 
 from pertxogai.drawing import Arc, Circle, PointRef, Which
 from pertxogai.found import FileRefusal
-from pertxogai.freecad import read_freecad, write_freecad
+from pertxogai.freecad import read_freecad
+from pertxogai.freecad.writing import write_places
 from pertxogai.measure import Frame, Solution
 
 FILES = Path(__file__).parent / "files"
@@ -41,7 +42,7 @@ def moved(path: Path) -> dict[str, Solution]:
 def test_places_are_written_and_all_else_is_kept(tmp_path: Path, name: str) -> None:
     given, out = FILES / f"{name}.FCStd", tmp_path / "out.FCStd"
     before, solutions = given.read_bytes(), moved(given)
-    write_freecad(given, out, solutions)
+    write_places(given, out, solutions)
     assert given.read_bytes() == before
     with zipfile.ZipFile(given) as old, zipfile.ZipFile(out) as new:
         assert old.namelist() == new.namelist() and old.comment == new.comment
@@ -67,7 +68,7 @@ def test_a_frame_that_is_turned(tmp_path: Path) -> None:
     points = {PointRef("Line1", Which.START): (5 * mm, 17 * mm),
               PointRef("Line1", Which.END): (-15 * mm, 7 * mm)}
     turned = Solution(points, {}, Frame((5 * mm, 7 * mm), (0, 999_999_999)))
-    write_freecad(FILES / "plate.FCStd", tmp_path / "out.FCStd", {"Sketch": turned})
+    write_places(FILES / "plate.FCStd", tmp_path / "out.FCStd", {"Sketch": turned})
     drawing = read_freecad(tmp_path / "out.FCStd")[0].drawing
     start, end = (drawing.drawn(PointRef("Line1", which)) for which in (Which.START, Which.END))
     assert (start.x_um, start.y_um) == (10000, 0)
@@ -79,7 +80,7 @@ def test_a_frame_that_is_turned(tmp_path: Path) -> None:
 def test_a_third_of_a_nanometre_is_written_in_sixteen_digits(tmp_path: Path) -> None:
     points = {PointRef("Line1", Which.START): (Fraction(1, 3), 0),
               PointRef("Line1", Which.END): (-1, 10 ** 12)}
-    write_freecad(FILES / "plate.FCStd", tmp_path / "out.FCStd", {"Sketch": Solution(points)})
+    write_places(FILES / "plate.FCStd", tmp_path / "out.FCStd", {"Sketch": Solution(points)})
     with zipfile.ZipFile(tmp_path / "out.FCStd") as archive:
         text = archive.read("Document.xml").decode()
     assert ('<LineSegment StartX="0.0000003333333333" StartY="0.0000000000000000" '
@@ -96,14 +97,14 @@ def test_the_given_file_is_never_written(tmp_path: Path) -> None:
     os.link(given, hard)
     for out in (given, link, hard, tmp_path / "." / "given.FCStd"):
         with pytest.raises(FileRefusal, match="isn't written over"):
-            write_freecad(given, out, moved(given))
+            write_places(given, out, moved(given))
     assert given.read_bytes() == before
 
 
 def test_nothing_is_left_where_it_cannot_be_written(tmp_path: Path) -> None:
     given = FILES / "plate.FCStd"
     with pytest.raises(FileRefusal, match="can't be written"):
-        write_freecad(given, tmp_path / "none" / "out.FCStd", moved(given))
+        write_places(given, tmp_path / "none" / "out.FCStd", moved(given))
     damaged = tmp_path / "damaged.FCStd"
     damaged.write_bytes(given.read_bytes())
     with zipfile.ZipFile(damaged) as archive:
@@ -112,5 +113,5 @@ def test_nothing_is_left_where_it_cannot_be_written(tmp_path: Path) -> None:
     whole[shape + 80] ^= 0x5a
     damaged.write_bytes(bytes(whole))
     with pytest.raises(FileRefusal):
-        write_freecad(damaged, tmp_path / "out.FCStd", moved(given))
+        write_places(damaged, tmp_path / "out.FCStd", moved(given))
     assert [path.name for path in tmp_path.iterdir()] == ["damaged.FCStd"]

@@ -12,6 +12,7 @@ from pertxogai.drawing.soundness import faults
 from pertxogai.found import Apart, FileRefusal, FoundSketch
 from pertxogai.measure import Solution, Unit, greatest, measure
 from pertxogai.solvespace import read_solvespace, write_solvespace
+from pertxogai.solvespace.writing import write_places
 
 FILES = Path(__file__).parent / "files"
 NAMES = sorted(path.stem for path in FILES.glob("*.slvs"))
@@ -98,7 +99,7 @@ def test_places_are_written_and_all_else_is_kept(tmp_path: Path) -> None:
     given, out = FILES / "plate.slvs", tmp_path / "out.slvs"
     points = {PointRef("Line4", Which.START): (0, 1_500_000),
               PointRef("Line4", Which.END): (61_000_001, 0)}
-    write_solvespace(given, out, {"g002": Solution(points, {"Circle8": 6_000_000})})
+    write_places(given, out, {"g002": Solution(points, {"Circle8": 6_000_000})})
     drawing = read_solvespace(out)[0].drawing
     start, end = (drawing.drawn(PointRef("Line4", which)) for which in (Which.START, Which.END))
     assert (start.x_um, start.y_um) == (0, 1500)

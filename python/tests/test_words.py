@@ -134,7 +134,7 @@ COMPLETED = [
     ("sketch live", "f", ["frame=base", "frame=drawn"]),
     ("sketch grow", "n", ["n="]),
     ("pertxogai", "", ["judge", "draw", "page", "--help", "--version"]),
-    ("pertxogai judge", "--w", ["--write"]),
+    ("pertxogai judge", "--w", ["--within", "--write"]),
     ("pertxogai page", "--p", ["--port", "--program"]),
 ]
 BASH_COMPLETION = Path("/usr/share/bash-completion/bash_completion")

@@ -22,6 +22,7 @@ from pertxogai.freecad.archive import DOCUMENT, open_archive, pieces_of, read_me
 from pertxogai.freecad.markup import Kept, Node
 from pertxogai.freecad.reading import SKETCH, objects_of
 from pertxogai.freecad.shapes import body_of, params_of, read_shapes
+from pertxogai.good import GoodJudgement
 from pertxogai.measure import Solution
 from pertxogai.saving import saving
 from pertxogai.upright import upright
@@ -37,7 +38,13 @@ Written = dict[str, str]
 """New values of attributes by their names."""
 
 
-def write_freecad(path: Path, out: Path, solutions: Mapping[str, Solution]) -> None:
+def write_freecad(path: Path, out: Path, good: Mapping[str, GoodJudgement]) -> None:
+    """Copies a file to `out` with the shapes of each sketch that is named where its judgement,
+    which is good, has them. Raises FileRefusal as `write_places`."""
+    write_places(path, out, {name: each.solution for name, each in good.items()})
+
+
+def write_places(path: Path, out: Path, solutions: Mapping[str, Solution]) -> None:
     """Copies a file to `out` with the shapes of each sketch that is named where its solution has
     them. A shape of which a point or the radius wasn't placed stays as it is.
 

@@ -50,6 +50,13 @@ def measure(drawing: Drawing, solution: Solution, before: Drawing = Drawing()) -
     return found.all()
 
 
+def measured(drawing: Drawing, solution: Solution) -> Deviations:
+    """As `measure`; where these are the places on which the drawing was measured last, what was
+    found then. Raises MissingPlace."""
+    last = _last(drawing)
+    return last[0].all() if last and last[0].solution == solution else measure(drawing, solution)
+
+
 @kept
 def _last(drawing: Drawing) -> list[Measured]:
     """What was measured of a drawing last."""

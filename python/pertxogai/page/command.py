@@ -48,4 +48,4 @@ def _page(options: argparse.Namespace) -> Exit:
         raise CommandError(f"the board can't have port {options.port}: {error}; choose another "
                            "by --port, or none") from None
     print("the board is stopped")
-    return Exit.WELL
+    return Exit.GOOD

@@ -12,6 +12,7 @@ from fractions import Fraction
 from pathlib import Path
 
 from pertxogai.found import Unsaid
+from pertxogai.good import GoodJudgement
 from pertxogai.measure import Number, Solution
 from pertxogai.saving import saving
 from pertxogai.solvespace.reading import (
@@ -25,7 +26,13 @@ _DIGITS = 20
 _VALUE = b"Param.val="
 
 
-def write_solvespace(path: Path, out: Path, solutions: Mapping[str, Solution]) -> None:
+def write_solvespace(path: Path, out: Path, good: Mapping[str, GoodJudgement]) -> None:
+    """Copies a file to `out` with the numbers of each sketch that is named where its judgement,
+    which is good, has them. Raises FileRefusal as `write_places`."""
+    write_places(path, out, {name: each.solution for name, each in good.items()})
+
+
+def write_places(path: Path, out: Path, solutions: Mapping[str, Solution]) -> None:
     """Copies a file to `out` with the numbers of each sketch that is named where its solution
     has them; what wasn't placed stays as it is.
 

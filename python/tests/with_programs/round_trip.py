@@ -151,7 +151,8 @@ def check_rough(directory: Path) -> Iterator[tuple[str, bool]]:
     a millimetre: whether it is placed where FreeCAD solved it, as FreeCAD itself has it."""
     sys.path.insert(0, str(TOP / "python"))
     from pertxogai.drawing import Arc, Circle
-    from pertxogai.freecad import read_freecad, write_freecad
+    from pertxogai.freecad import read_freecad
+    from pertxogai.freecad.writing import write_places
     from pertxogai.measure import Solution
 
     chance = random.Random(1)
@@ -167,7 +168,7 @@ def check_rough(directory: Path) -> Iterator[tuple[str, bool]]:
             radii = {shape.name: round(drawing.drawn_radius_um(shape.name) * 1000)
                      for shape in drawing.geometry if isinstance(shape, (Circle, Arc))}
             solutions[found.name] = Solution(points, radii)
-        write_freecad(path, directory / path.name, solutions)
+        write_places(path, directory / path.name, solutions)
     given = reopened(paths, directory)
     verdicts = {path: judged(directory / path.name, directory / f"placed-{path.name}")
                 for path in paths}

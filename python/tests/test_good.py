@@ -1,0 +1,204 @@
+"""What is good, and that nothing else can be made good."""
+from __future__ import annotations
+
+import json
+import re
+from dataclasses import FrozenInstanceError, replace
+from pathlib import Path
+
+import pytest
+from conftest import TOP
+
+from pertxogai.answers import judge
+from pertxogai.commands import Exit, main
+from pertxogai.drawing import Drawing, PointRef, Which, read_drawing
+from pertxogai.drawing_sheet import DrawingSheet, NoPlaces
+from pertxogai.dxf import Release
+from pertxogai.good import (
+    GoodJudgement, GoodSketch, Lack, NotGood, good_of, good_sketch_of, reasons_against)
+from pertxogai.judged import judge_sketch
+from pertxogai.judged_drawing import JudgedDrawing
+from pertxogai.measure import Deviation, Limit, Solution, Unit, amount_text
+from pertxogai.measure.limit import is_direction
+
+FILES = Path(__file__).parent / "files"
+PLATE = ("rectangle Plate 0 0 61 39\ncircle Hole 30 20 5\ncoincident PlateBottom.start Origin\n"
+         "length PlateBottom 60\nlength PlateRight 40\nx Hole 30\ny Hole 20\nradius Hole 5\n")
+WIDE = ("segment A 0 0 40 0\nsegment B A.end 20 30\nsegment C B.end A.start\nlength B 38\n"
+        "length C 36\nangle A B 120deg\nangle C 60deg\ncoincident A.start Origin\n")
+"""A triangle that can't be: over against a corner of 120 degrees lies the longest side."""
+
+
+def judged(text: str, program, **more) -> JudgedDrawing:
+    drawing = read_drawing(text)
+    return JudgedDrawing("it", drawing, judge(drawing, program), **more)
+
+
+def moved(judged: JudgedDrawing, point: PointRef, x_nm: int) -> JudgedDrawing:
+    """The same with a point placed further to the right."""
+    solution = judged.judgement.solution
+    x, y = solution.points[point]
+    points = {**solution.points, point: (x + x_nm, y)}
+    other = replace(judged.judgement, solution=Solution(points, solution.radii))
+    return replace(judged, judgement=other)
+
+
+def lacks(judged) -> list[Lack]:
+    return [each.lack for each in reasons_against(judged)]
+
+
+def test_a_plate_is_good(program):
+    found = good_of(judged(PLATE, program))
+    assert isinstance(found, GoodJudgement)
+    assert found.solution.spot(PointRef("Hole", Which.CENTRE)) == (30_000_000, 20_000_000)
+    with pytest.raises(FrozenInstanceError):
+        found.judged = None
+
+
+@pytest.mark.parametrize("text, lack", [
+    (PLATE.replace("length PlateRight 40\n", ""), Lack.VERDICT),
+    (PLATE + "x PlateBottom.end 61\n", Lack.VERDICT),
+    (PLATE.replace("radius Hole 5\n", ""), Lack.NO_SIZE),
+    ("segment A 0 0 40 0\nsegment B A.end 20 30\nsegment C B.end A.start\nlength A 40\n"
+     "length B 10\nlength C 10\n", Lack.NO_PLACES),
+    (WIDE, Lack.OFF),
+])
+def test_what_is_not_good_can_not_be_made_good(text, lack, program):
+    found = judged(text, program)
+    assert lacks(found) == [lack]
+    with pytest.raises(NotGood) as why:
+        GoodJudgement(found)
+    assert [each.lack for each in why.value.reasons] == [lack] and str(why.value)
+    good = good_of(judged(PLATE, program))
+    with pytest.raises(NotGood):
+        replace(good, judged=found)
+
+
+def test_nothing_is_not_good(program):
+    found = JudgedDrawing("it", Drawing(), judge(Drawing(), program))
+    assert Lack.EMPTY in lacks(found) and isinstance(good_of(found), NotGood)
+
+
+def test_what_the_file_has_beside_the_drawing_is_lacking(program):
+    found = judged(PLATE, program, not_drawn=("Ellipse9: a drawing has no ellipse",))
+    assert lacks(found) == [Lack.LEFT_OUT]
+
+
+def test_the_places_are_measured_and_not_believed(program):
+    """A judgement whose places were changed behind its back: 1,001 nm is beyond the limit, 1,000
+    isn't; a wrong list of deviations doesn't matter."""
+    found = judged(PLATE, program)
+    hole = PointRef("Hole", Which.CENTRE)
+    assert isinstance(good_of(moved(found, hole, 1000)), GoodJudgement)
+    why, = reasons_against(moved(found, hole, 1001))
+    assert (why.lack, why.constraint, why.off.amount) == (Lack.OFF, 8, 1001)
+    assert why.text == "constraint 8 (x Hole.centre 30) is off by 0.001001 mm"
+    lost = replace(found, judgement=replace(found.judgement, solution=Solution({}, {})))
+    assert lacks(lost) == [Lack.UNMEASURED]
+    silent = replace(found.judgement, deviations=())
+    assert lacks(moved(replace(found, judgement=silent), hole, 1001)) == [Lack.OFF]
+
+
+def test_the_limit_is_told(program):
+    hole = PointRef("Hole", Which.CENTRE)
+    strict = moved(judged(PLATE, program, limit=Limit(10)), hole, 11)
+    assert lacks(strict) == [Lack.OFF]
+    wide = moved(judged(PLATE, program, limit=Limit(2000)), hole, 2000)
+    assert isinstance(good_of(wide), GoodJudgement)
+    for amount in (0, 1_000_001):
+        with pytest.raises(ValueError):
+            Limit(amount)
+
+
+def one(words: str, *amounts: tuple[int, Unit]) -> list[Deviation]:
+    """The deviations of a constraint of two segments."""
+    drawing = read_drawing(f"segment A 0 0 9 0\nsegment B 0 5 9 5\n{words}\n")
+    return [Deviation(1, drawing.constraints[0], amount, unit) for amount, unit in amounts]
+
+
+@pytest.mark.parametrize("words, nm, ppb, holds", [
+    ("parallel A B", 5, 1000, True),
+    ("parallel A B", 5, 1001, False),
+    ("parallel A B", 4, 100_000, True),  # A line so short that a nanometre turns it so far.
+    ("parallel A B", 4, 10_000_001, False),  # None is so short.
+    ("parallel A B", 0, 1_000_000_000, False),  # Both ends are one place.
+    ("parallel A B", 5000, 900, True),  # A long line.
+    ("perpendicular A B", 5000, 900, True),
+    ("perpendicular A.end B.start", 1001, 900, False),  # The ends are apart.
+    ("collinear A B", 1001, 900, False),
+    ("horizontal A", 5000, 900, True),
+    ("angle A B 30deg", 5, 1_999_999_999, False),
+])
+def test_a_direction_holds_by_its_ppb_and_all_else_by_its_length(words, nm, ppb, holds):
+    off = one(words, (nm, Unit.NM), (ppb, Unit.PPB))
+    assert (list(Limit().beyond(off)) == []) is holds
+    assert len(list(Limit().beyond(off))) <= 1
+
+
+def test_what_is_no_direction():
+    drawing = read_drawing("point P 0 0\npoint Q 1 0\nsegment A 0 0 9 0\nhorizontal P Q\n"
+                           "length A 9\nhorizontal A\n")
+    assert [is_direction(each) for each in drawing.constraints] == [False, False, True]
+
+
+@pytest.mark.parametrize("amount, unit, text", [
+    (999, Unit.NM, "999 nm"), (1000, Unit.NM, "0.001 mm"), (8_810_960, Unit.NM, "8.81096 mm"),
+    (123_456_789_012, Unit.NM, "123457 mm"), (999, Unit.PPB, "999 ppb"),
+    (500_000_000, Unit.PPB, "30 degrees"), (1_000_000_000, Unit.PPB, "90 degrees"),
+    (1_500_000_000, Unit.PPB, "150 degrees"), (2_000_000_000, Unit.PPB, "180 degrees"),
+])
+def test_amounts_are_told_in_millimetres_and_degrees(amount, unit, text):
+    assert amount_text(Deviation(None, None, amount, unit)) == text
+
+
+def test_no_dxf_is_written_and_no_picture_placed_of_what_is_not_good(program):
+    sheet = DrawingSheet(judged(WIDE, program), False)
+    with pytest.raises(NoPlaces, match="isn't good: constraint 3 .* is off by 180 degrees"):
+        sheet.dxf(Release.R2010)
+    assert "not met: constraint 3 (angle A B 120deg)" in re.sub("<[^>]*>", "", sheet.picture().svg)
+    assert not sheet.is_good() and DrawingSheet(judged(WIDE, program), True).is_good()
+
+
+def called(program, monkeypatch, capsys, *words: object) -> tuple[int, str, str]:
+    monkeypatch.setenv("PERTXOGAI_SKETCH", program.path)
+    return main(list(map(str, words))), *capsys.readouterr()
+
+
+def test_the_status_and_a_line_say_what_is_off(program, monkeypatch, capsys, tmp_path):
+    path = tmp_path / "wide.drawing"
+    path.write_text(WIDE)
+    status, out, _ = called(program, monkeypatch, capsys, "judge", path)
+    assert status == Exit.NOT_GOOD == 1
+    assert out.splitlines()[1] == "  not met: constraint 3 (angle A B 120deg) is off by 180 degrees"
+    status, out, _ = called(program, monkeypatch, capsys, "judge", "--json", path)
+    sketch, = json.loads(out)["sketches"]
+    assert (status, sketch["verdict"], sketch["good"]) == (1, "well", False)
+    why, = sketch["why_not"]
+    assert (why["why"], why["constraint"], why["unit"]) == ("off", 3, "ppb")
+    path.write_text(PLATE)
+    assert called(program, monkeypatch, capsys, "judge", path)[0] == Exit.GOOD == 0
+    path.write_text(PLATE.replace("radius Hole 5\n", ""))
+    status, out, _ = called(program, monkeypatch, capsys, "judge", path)
+    assert status == 1 and "  its size is told by nothing: Hole, as drawn" in out.splitlines()
+
+
+def test_a_file_is_written_with_what_is_good_alone(program, monkeypatch, capsys, tmp_path):
+    """The ellipse of the file is left out of the drawing, so the rest isn't moved."""
+    out = tmp_path / "out.FCStd"
+    status, _, err = called(program, monkeypatch, capsys, "judge", FILES / "ellipse.FCStd",
+                            "--write", out)
+    assert status == 2 and "no sketch of it is good" in err and not out.exists()
+
+
+def test_a_sketch_of_the_language(program):
+    def told(name: str, limit: Limit = Limit()):
+        text = (TOP / "examples" / f"{name}.sketch").read_text()
+        return judge_sketch(name, text, program, limit)
+
+    assert isinstance(good_sketch_of(told("wedge")), GoodSketch)
+    assert lacks(told("hinge")) == lacks(told("hole-row")) == [Lack.VERDICT]
+    assert lacks(told("no-triangle")) == [Lack.NO_PLACES]
+    wedge = told("wedge")  # Placed within 1 nm and 1 ppb.
+    assert isinstance(good_sketch_of(told("wedge", Limit(1))), GoodSketch)
+    worse = replace(wedge.solved, tolerances=replace(wedge.solved.tolerances, length_nm=1001))
+    assert lacks(replace(wedge, solved=worse)) == [Lack.OFF]
