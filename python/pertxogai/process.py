@@ -71,11 +71,15 @@ def stop(process: subprocess.Popen[bytes]) -> None:
 
 
 def limit_memory(process: subprocess.Popen[bytes], limits: Limits) -> None:
-    """Takes effect before the program has read its text, since that is handed on after this."""
-    if limits.memory_mib is not None:
-        most = limits.memory_mib * MEBIBYTE
-        with suppress(ProcessLookupError):
-            resource.prlimit(process.pid, resource.RLIMIT_AS, (most, most))
+    """Takes effect before the program has read its text, since that is handed on after this. A
+    lower limit that stands already, as by `ulimit -v`, is kept."""
+    if limits.memory_mib is None:
+        return
+    with suppress(ProcessLookupError):
+        standing = resource.prlimit(process.pid, resource.RLIMIT_AS)
+        lower = [each for each in standing if each != resource.RLIM_INFINITY]
+        most = min([limits.memory_mib * MEBIBYTE, *lower])
+        resource.prlimit(process.pid, resource.RLIMIT_AS, (most, most))
 
 
 class _Talk:

@@ -209,6 +209,17 @@ def test_a_program_that_wants_much_memory(tmp_path) -> None:
         Program(greedy, seconds=20, memory_mib=64).ask(["check"], TRIANGLE)
 
 
+def test_a_lower_limit_of_memory_is_kept(tmp_path) -> None:
+    """A shell that allows less than the package asks for: `ulimit -v`, which no call may raise."""
+    telling = script(tmp_path, "ulimit -v")
+    limited = ("ulimit -v 1000000; exec /usr/bin/python3 -c 'from pertxogai.process import *;"
+               "print(run_process([\"%s\"], b\"\", Limits(20, %s)).written.decode(), end=\"\")'")
+    here = {**os.environ, "PYTHONPATH": str(PROGRAM.parents[3] / "python")}
+    for mib, kib in (4096, 1_000_000), (64, 65_536):
+        line = limited % (telling, mib)
+        assert subprocess.run(["sh", "-c", line], capture_output=True, text=True, env=here).stdout == f"{kib}\n"
+
+
 def test_a_program_that_is_missing(tmp_path, monkeypatch) -> None:
     monkeypatch.setenv("PERTXOGAI_SKETCH", str(tmp_path / "nothing"))
     with pytest.raises(MissingProgram, match="nothing"):
