@@ -27,6 +27,7 @@ from .measure.limit import MOST as MOST_LIMIT
 from .page.command import add_page
 from .program import Asks, Program, ProgramError
 from .saving import saving
+from .shown import shown
 from .sketch_sheet import SketchSheet
 from .sketch_told import sketch_json, sketch_told
 from .told import drawing_json, told
@@ -67,9 +68,10 @@ def main(words: Sequence[str] | None = None) -> int:
     act: Callable[[argparse.Namespace], Exit] = options.act
     try:
         return act(options)
+    except TextRefused as refused:
+        return _complain(f"{options.file}: {refused.told}", Exit.BAD_INPUT)
     except (
         InputRefused,
-        TextRefused,
         CommandError,
         MissingLibrary,
         FileRefusal,
@@ -84,8 +86,8 @@ def main(words: Sequence[str] | None = None) -> int:
         return 130
 
 
-def _complain(error: Exception, status: Exit) -> Exit:
-    print(f"pertxogai: {' '.join(str(error).split())}", file=sys.stderr)
+def _complain(error: Exception | str, status: Exit) -> Exit:
+    print(f"pertxogai: {shown(' '.join(str(error).split()))}", file=sys.stderr)
     return status
 
 

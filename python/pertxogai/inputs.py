@@ -8,8 +8,8 @@ from pathlib import Path
 from .drawing import Drawing, DrawingRefusal, read_drawing
 from .found import FileRefusal, FoundSketch
 from .good import GoodJudgement
-
-MOST_BYTES = 64 << 20
+from .limits import TEXT_BYTES, read_bytes
+from .shown import shown
 
 
 class InputRefused(Exception):
@@ -42,15 +42,13 @@ Input = SketchText | DesignerDrawing
 
 @dataclass(frozen=True)
 class Kind:
-    """A kind of file: the ending of its name, what it is, what reads it, what copies it with
-    good sketches, and the most bytes that it may have (None where only some of it is read, and
-    what reads it has limits of its own)."""
+    """A kind of file: the ending of its name, what it is, what reads it, and what copies it with
+    good sketches. What reads it has the limits of `limits`."""
 
     suffix: str
     what: str
     read: Callable[[Path], tuple[Input, ...]]
     write: Callable[[Path, Path, Mapping[str, GoodJudgement]], None] | None = None
-    most_bytes: int | None = MOST_BYTES
 
 
 def kind_of(path: Path) -> Kind | None:
@@ -68,11 +66,6 @@ def read_inputs(path: Path) -> tuple[Input, ...]:
             f" {known}"
         )
     try:
-        if kind.most_bytes is not None and path.stat().st_size > kind.most_bytes:
-            raise InputRefused(
-                f"{path}: over {kind.most_bytes >> 20} MiB, which no sketch needs: look whether it is"
-                " the right file"
-            )
         return kind.read(path)
     except OSError as error:
         raise InputRefused(f"{path}: can't be read: {error.strerror or error}") from None
@@ -85,12 +78,14 @@ def _named(path: Path, refusal: str) -> str:
 
 
 def _read_sketch(path: Path) -> tuple[Input, ...]:
-    return (SketchText(path.stem, path.read_bytes().decode("utf-8", "surrogateescape")),)
+    with open(path, "rb") as source:
+        data = source.read(TEXT_BYTES + 1)  # One more than the program takes: it refuses that.
+    return (SketchText(shown(path.stem), data.decode("utf-8", "surrogateescape")),)
 
 
 def _read_drawing(path: Path) -> tuple[Input, ...]:
-    text = path.read_bytes().decode("utf-8", "surrogateescape")
-    return (DesignerDrawing(path.stem, read_drawing(text)),)
+    text = read_bytes(path, TEXT_BYTES).decode("utf-8", "surrogateescape")
+    return (DesignerDrawing(shown(path.stem), read_drawing(text)),)
 
 
 def _read_freecad(path: Path) -> tuple[Input, ...]:
@@ -112,19 +107,14 @@ def _read_outline(path: Path) -> tuple[Input, ...]:
 
 
 def _found(found: FoundSketch) -> DesignerDrawing:
-    aside = tuple(_printable(f"{each.name} ({each.why.value})") for each in found.aside)
+    aside = tuple(shown(f"{each.name} ({each.why.value})") for each in found.aside)
     return DesignerDrawing(
-        _printable(found.label or found.name),
+        shown(found.label or found.name),
         found.drawing,
-        tuple(_printable(str(each)) for each in found.left_out),
+        tuple(shown(str(each)) for each in found.left_out),
         found.name,
         aside,
     )
-
-
-def _printable(text: str) -> str:
-    """A text of a file without what would steer a terminal or break a picture."""
-    return "".join(letter if letter.isprintable() else "\ufffd" for letter in text)
 
 
 def _write_freecad(path: Path, out: Path, good: Mapping[str, GoodJudgement]) -> None:
@@ -142,7 +132,7 @@ def _write_solvespace(path: Path, out: Path, good: Mapping[str, GoodJudgement]) 
 KINDS = (
     Kind(".sketch", "the sketch language", _read_sketch),
     Kind(".drawing", "a designer's drawing", _read_drawing),
-    Kind(".FCStd", "FreeCAD", _read_freecad, _write_freecad, None),
+    Kind(".FCStd", "FreeCAD", _read_freecad, _write_freecad),
     Kind(".slvs", "SolveSpace", _read_solvespace, _write_solvespace),
     Kind(".dxf", "a DXF drawing", _read_outline),
 )

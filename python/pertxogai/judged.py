@@ -42,19 +42,20 @@ MOST_SHOWN = 8
 
 
 class TextRefused(Exception):
-    """The program refuses a text. The message is one line: the name of the sketch, where, the
-    code, the line itself, and what to do."""
+    """The program refuses a text. The message is one line: the name of the sketch, and `told`:
+    where, the code, the line itself, and what to do."""
 
     def __init__(self, name: str, refused: Refused, text: str) -> None:
         lines = text.split("\n")
         shown = (
             f": {lines[refused.line - 1].strip()[:60]!r}" if 0 < refused.line <= len(lines) else ""
         )
-        super().__init__(
-            f"{name}: refused line {refused.line} {refused.code.name}"
+        self.told = (
+            f"refused line {refused.line} {refused.code.name}"
             f" {refused.code.word}{shown}: {refused.code.advice}; see 'How a text is refused' in"
             " docs/LANGUAGE.md"
         )
+        super().__init__(f"{name}: {self.told}")
         self.refused = refused
 
 

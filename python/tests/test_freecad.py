@@ -385,7 +385,7 @@ Ed
     ("0", "1 1e999 0 0 1 0 0", "a number of it is too large"),
     ("1 2 1", "1 0 0 0 1 0 0", "its shape isn't stored as FreeCAD stores it"),
     ("1\n1 1 0 0", "1 0 0 0 1 0 0", "its shape isn't stored as FreeCAD stores it"),
-    ("0", "\n" * (33 << 20), "have more than 32 MiB"),
+    ("0", "\n" * (33 << 20), "has more than 16777216 bytes in its stored shapes"),
 ], ids=["nested", "negative count", "negative degree", "infinite", "cut locations", "short matrix", "large"])
 def test_a_hostile_shape_is_left_out(tmp_path: Path, locations: str, curve: str, what: str
                                      ) -> None:

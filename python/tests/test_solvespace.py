@@ -137,7 +137,7 @@ def test_other_files_are_refused(tmp_path: Path) -> None:
     path.write_bytes(magic + b"Param.h.v.=00040010\nParam.val=inf\nAddParam\n")
     assert "a Param is none" in refused(path)
     path.write_bytes(magic + b"Constraint.type=20\nAddConstraint\n" * 8001)
-    assert "more than 8000 groups, shapes or constraints" in refused(path)
+    assert "has more than 8000 constraints" in refused(path)
     assert "No such file" in refused(tmp_path / "none.slvs")
 
 

@@ -12,18 +12,13 @@ from pathlib import Path, PurePosixPath
 from zipfile import ZipFile, ZipInfo
 
 from pertxogai.found import FileRefusal
+from pertxogai.limits import DOCUMENT_BYTES, ZIP_LIST_BYTES, told_bytes
 
 DOCUMENT = "Document.xml"
 """The member that has the sketches."""
 
-MOST_BYTES = 64 << 20
-"""The most bytes, unpacked, of a member that is read whole; others may be of any size."""
-
 PIECE = 1 << 20
 """How many bytes are unpacked at once."""
-
-_MOST_LISTED = 4 << 20
-"""The most bytes of the zip's list of members: some 50,000 of them."""
 
 _DAMAGED = (zipfile.BadZipFile, zlib.error, struct.error, EOFError, ValueError, OverflowError,
             NotImplementedError, RuntimeError)
@@ -34,7 +29,7 @@ class _Guarded(FileIO):
 
     def read(self, size: int | None = -1, /) -> bytes:
         """The next bytes. Raises BadZipFile where too many are asked for."""
-        if size is not None and size > _MOST_LISTED:
+        if size is not None and size > ZIP_LIST_BYTES:
             raise zipfile.BadZipFile("too long a list of members")
         return super().read(-1 if size is None else size) or b""
 
@@ -52,13 +47,13 @@ def open_archive(path: Path) -> Iterator[ZipFile]:
 
 def read_member(path: Path, archive: ZipFile, name: str) -> bytes:
     """The bytes of a member. Raises FileRefusal where there is none of the name, it is packed
-    otherwise than FreeCAD does, or has more than `MOST_BYTES` unpacked, which is counted while it
+    otherwise than FreeCAD does, or has more than `DOCUMENT_BYTES` unpacked, which is counted while it
     is read."""
     data = bytearray()
     for piece in read_pieces(path, archive, name):
         data += piece
-        if len(data) > MOST_BYTES:
-            raise FileRefusal(f"{path}: {name} has more than {MOST_BYTES >> 20} MiB: save the"
+        if len(data) > DOCUMENT_BYTES:
+            raise FileRefusal(f"{path}: {name} has more than {told_bytes(DOCUMENT_BYTES)}: save the"
                               " sketch in a file of its own")
     return bytes(data)
 

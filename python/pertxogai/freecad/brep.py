@@ -9,8 +9,9 @@ from __future__ import annotations
 
 import math
 from collections.abc import Iterator
-from dataclasses import dataclass
+from dataclasses import dataclass, field
 
+from pertxogai.limits import SOLIDS_LINES, SOLIDS_PARTS, Count
 from pertxogai.freecad.space import Motion, Vector, add, scaled
 
 _SECTIONS = ("Locations", "Curve2ds", "Curves", "Polygon3D", "PolygonOnTriangulations", "Surfaces",
@@ -19,7 +20,6 @@ _PARTS = frozenset({"Ve", "Ed", "Wi", "Fa", "Sh", "So", "CS", "Co"})
 _TRIMMED, _TRIMMED_LENGTH = "8", 3
 _AROUND = {_TRIMMED: _TRIMMED_LENGTH, "9": 5}
 _FIXED = {1: 7, 2: 14, 3: 15, 4: 14, 5: 15}
-_MOST_VISITS = 200_000
 _MOST_DEPTH = 50
 
 
@@ -77,13 +77,23 @@ class _Part:
     children: tuple[_Child, ...]
 
 
-def read_solid(text: str) -> Solid:
-    """The vertices and edges of a shape's text. Raises BadShape."""
+@dataclass
+class Budget:
+    """What may still be read of the shapes of a file: lines, and parts that are met."""
+
+    lines: Count = field(default_factory=lambda: Count("lines in its stored shapes", SOLIDS_LINES))
+    parts: Count = field(default_factory=lambda: Count("parts in its stored shapes", SOLIDS_PARTS))
+
+
+def read_solid(text: str, budget: Budget) -> Solid:
+    """The vertices and edges of a shape's text. Raises BadShape, and TooMuch where the budget is
+    spent."""
+    budget.lines.add(text.count("\n"))
     try:
         sections = _sections(text)
         motions = _motions(sections["Locations"])
         curves = tuple(_curves(" ".join(sections["Curves"]).split()))
-        return _Walk(motions, curves, sections["TShapes"]).solid()
+        return _Walk(motions, curves, sections["TShapes"], budget.parts).solid()
     except (LookupError, ValueError, ArithmeticError, StopIteration):
         raise BadShape("its shape isn't stored as FreeCAD stores it") from None
 
@@ -162,13 +172,13 @@ class _Walk:
     """A walk through the parts of a shape."""
 
     def __init__(self, motions: list[Motion], curves: tuple[tuple[int, list[float]], ...],
-                 lines: list[str]) -> None:
+                 lines: list[str], met: Count) -> None:
         self._motions = motions
         self._curves = curves
         self._parts = list(_parts(lines))
         self._root = _children(lines[-1])[0] if lines[-1].strip() else _children(lines[-2])[0]
         self._met: dict[tuple[int, Motion], str] = {}
-        self._visits = 0
+        self._count = met
 
     def solid(self) -> Solid:
         """All that the walk meets."""
@@ -180,9 +190,9 @@ class _Walk:
         return Solid(vertices, edges)
 
     def _visit(self, child: _Child, above: Motion, depth: int) -> None:
-        self._visits += 1
-        if self._visits > _MOST_VISITS or depth > _MOST_DEPTH:
-            raise BadShape("its shape has too many parts")
+        self._count.add()
+        if depth > _MOST_DEPTH:
+            raise BadShape("its shape has parts within each other that are too many")
         part = self._part(child.part)
         motion = above.after(self._motions[child.motion]) if child.motion else above
         if part.word in ("Ve", "Ed"):

@@ -9,8 +9,9 @@ from __future__ import annotations
 from dataclasses import dataclass, field
 from xml.parsers import expat
 
-MOST_NODES = 300_000
-"""The most elements that are kept of a document."""
+from pertxogai.limits import (
+    DOCUMENT_DEPTH, DOCUMENT_ELEMENTS, DOCUMENT_ENTRIES, DOCUMENT_OBJECTS, TAG_BYTES, Count,
+    TooMuch)
 
 _KEPT = frozenset({"Geometry", "Constraints", "ExternalGeometry", "ExternalGeo", "Label", "Shape",
                    "Placement"})
@@ -59,11 +60,14 @@ def read_markup(data: bytes) -> list[Kept]:
     """The objects of a document, in its order. Raises BadMarkup."""
     gathering = _Gathering()
     try:
-        gathering.parser.Parse(data, True)
+        gathering.read(data)
     except expat.ExpatError as error:
-        raise BadMarkup(f"it is no XML: {error}") from None
-    except (UnicodeError, LookupError):
-        raise BadMarkup("its text has a wrong encoding") from None
+        raise BadMarkup(f"it is no XML ({error}): save it by FreeCAD again") from None
+    except TooMuch as much:
+        raise BadMarkup(f"it {much}") from None
+    except (LookupError, ValueError):
+        raise BadMarkup("its text has an encoding that isn't read: save it by FreeCAD again"
+                        ) from None
     return list(gathering.objects.values())
 
 
@@ -79,19 +83,34 @@ class _Gathering:
         self._path: list[str] = []
         self._open: list[Node] = []
         self._owner: Kept | None = None
-        self._count = 0
+        self._elements = Count("XML elements", DOCUMENT_ELEMENTS)
+        self._objects = Count("objects", DOCUMENT_OBJECTS)
+        self._entries = Count("entries in its sketches", DOCUMENT_ENTRIES)
+
+    def read(self, data: bytes) -> None:
+        """Reads a document, some bytes at a time, so that no tag is longer than may be. Raises
+        ExpatError, TooMuch, BadMarkup, and what expat raises at encodings."""
+        for begin in range(0, len(data), TAG_BYTES):
+            self.parser.Parse(data[begin:begin + TAG_BYTES], False)
+            if begin - self.parser.CurrentByteIndex > TAG_BYTES:
+                raise TooMuch(f"has a tag of more than {TAG_BYTES} bytes: save it by FreeCAD again")
+        self.parser.Parse(b"", True)
 
     def _refuse_type(self, *_: object) -> None:
         raise BadMarkup("it declares a document type, which FreeCAD never does")
 
     def _start(self, tag: str, attributes: dict[str, str]) -> None:
+        self._elements.add()
         self._path.append(tag)
+        if len(self._path) > DOCUMENT_DEPTH:
+            raise TooMuch(f"nests more than {DOCUMENT_DEPTH} elements: save it by FreeCAD again")
         if self._open:
             self._open[-1].children.append(self._node(tag, attributes))
             self._open.append(self._open[-1].children[-1])
             return
         path, name = tuple(self._path), attributes.get("name", "")
         if path == _LISTED:
+            self._objects.add()
             self.objects[name] = Kept(name, attributes.get("type", ""))
         elif path == _OWNED:
             self._owner = self.objects.get(name)
@@ -105,7 +124,5 @@ class _Gathering:
             self._open.pop()
 
     def _node(self, tag: str, attributes: dict[str, str]) -> Node:
-        self._count += 1
-        if self._count > MOST_NODES:
-            raise BadMarkup(f"its sketches have more than {MOST_NODES} entries")
+        self._entries.add()
         return Node(tag, attributes, self.parser.CurrentByteIndex)

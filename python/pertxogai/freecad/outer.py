@@ -10,14 +10,12 @@ from collections.abc import Callable, Iterator, Mapping
 
 from pertxogai.drawing import Arc, Circle, Place, Point, Segment, Shape
 from pertxogai.found import FileRefusal, LeftOut, Unsaid
-from pertxogai.freecad.brep import BadShape, Edge, Round, Solid, Straight, read_solid
+from pertxogai.freecad.brep import BadShape, Budget, Edge, Round, Solid, Straight, read_solid
 from pertxogai.freecad.markup import Kept, Node
 from pertxogai.freecad.shapes import FIRST_OUTER, Numbered
 from pertxogai.freecad.space import Motion, Vector, turned
 from pertxogai.freecad.values import length_um, number, place
-
-MOST_BYTES = 32 << 20
-"""The most bytes, unpacked, that are read of all the shapes of a file."""
+from pertxogai.limits import SOLIDS_BYTES, Count, TooMuch
 
 _NEAR_MM = 1e-7
 _LEVEL = 1 - 1e-12
@@ -32,7 +30,8 @@ class Shelf:
         FileRefusal."""
         self._objects = objects
         self._read = read
-        self._left = MOST_BYTES
+        self._bytes = Count("bytes in its stored shapes", SOLIDS_BYTES)
+        self._budget = Budget()
         self._solids: dict[str, Solid | Unsaid] = {}
 
     def solid(self, name: str) -> Solid:
@@ -55,20 +54,17 @@ class Shelf:
         if not member.endswith(".brp"):
             raise Unsaid(f"the shape of {name} isn't stored in the file as text")
         try:
-            return read_solid(self._text(member))
-        except BadShape as bad:
+            return read_solid(self._text(member), self._budget)
+        except (BadShape, TooMuch) as bad:
             raise Unsaid(f"{name}: {bad}") from None
         except FileRefusal:
             raise Unsaid(f"the shape of {name} can't be read from the file") from None
 
     def _text(self, member: str) -> str:
-        """The text of a member; raises BadShape where too much would be read."""
+        """The text of a member; raises TooMuch where too much would be read."""
         data = bytearray()
         for piece in self._read(member):
-            self._left -= len(piece)
-            if self._left < 0:
-                raise BadShape(f"its shape, and others of the file, have more than "
-                               f"{MOST_BYTES >> 20} MiB")
+            self._bytes.add(len(piece))
             data += piece
         return data.decode("ascii", "replace")
 

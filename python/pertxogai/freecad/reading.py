@@ -13,9 +13,7 @@ from pertxogai.freecad.outer import Shelf, outer_shapes
 from pertxogai.freecad.shapes import Numbered, read_outer, read_shapes
 from pertxogai.freecad.ties import Shapes, name_of, part_of_a_curve, read_entry, say
 from pertxogai.gathering import Gathering
-
-MOST_ENTRIES = 8_000
-"""The most shapes, or constraints, of a sketch that is read: some times what the program takes."""
+from pertxogai.limits import SKETCH_ENTRIES
 
 SKETCH = "Sketcher::SketchObject"
 """FreeCAD's word for the kind of object that a sketch is."""
@@ -38,11 +36,11 @@ def read_freecad(path: Path) -> tuple[FoundSketch, ...]:
 
 
 def _check_size(path: Path, objects: list[Kept]) -> None:
-    """Refuses a file with a sketch of more than `MOST_ENTRIES`."""
+    """Refuses a file with a sketch of more than `SKETCH_ENTRIES`."""
     for kept in objects:
         for word in ("Geometry", "Constraints", "ExternalGeometry", "ExternalGeo"):
-            if len(kept.list_of(word)) > MOST_ENTRIES:
-                raise FileRefusal(f"{path}: {_label(kept)} has more than {MOST_ENTRIES} entries in "
+            if len(kept.list_of(word)) > SKETCH_ENTRIES:
+                raise FileRefusal(f"{path}: {_label(kept)} has more than {SKETCH_ENTRIES} entries in "
                                   f"its list {word}: take a part of it")
 
 

@@ -13,7 +13,7 @@ from dataclasses import dataclass
 from pertxogai.drawing import Arc, Circle, Point, Segment, Shape
 from pertxogai.found import LeftOut, Unsaid
 from pertxogai.freecad.markup import Node
-from pertxogai.freecad.values import length_um, number, place
+from pertxogai.freecad.values import check_finite, length_um, number, place
 
 FIRST_OUTER = -3
 """FreeCAD's number of the first outer shape; -1 and -2 are the axes."""
@@ -118,9 +118,11 @@ def _arc(body: Node, dress: _Dress) -> Shape:
 
 def angles_of(body: Node) -> tuple[float, float]:
     """The angles of an arc's ends to the x axis, counter-clockwise from the first to the second.
-    FreeCAD tells them from an axis turned by AngleXU; an arc seen from behind starts at its end."""
+    FreeCAD tells them from an axis turned by AngleXU; an arc seen from behind starts at its end.
+    Raises Unsaid where they are no numbers."""
     turn = number(body, "AngleXU", "0")
     start, end = (number(body, name) + turn for name in ("StartAngle", "EndAngle"))
+    check_finite(start + end)
     if number(body, "NormalZ", "1") < 0:
         return math.pi - end, math.pi - start
     return start, end

@@ -8,6 +8,7 @@ FreeCAD stores what its solver found, to sixteen digits, so a length of 60 may s
 from __future__ import annotations
 
 import math
+import re
 from decimal import Decimal
 from fractions import Fraction
 
@@ -15,6 +16,7 @@ from pertxogai.drawing import Place, um_of_mm
 from pertxogai.found import Unsaid
 from pertxogai.freecad.markup import Node
 
+_WHOLE = re.compile(r"-?[0-9]{1,11}")
 _LENGTH_DIGITS = 9
 _ANGLE_DIGITS = 10
 
@@ -34,21 +36,21 @@ def number(node: Node, name: str, default: str | None = None) -> float:
 def whole(node: Node, name: str, default: str) -> int:
     """A whole number among the attributes. Raises Unsaid where it is none."""
     text = node.get(name, default)
-    if not text.lstrip("-").isdecimal() or len(text) > 12:
+    if not _WHOLE.fullmatch(text):
         raise Unsaid(f"its {name} is no whole number")
     return int(text)
 
 
 def length_um(millimetres: float) -> Fraction:
     """Micrometres of a stored length. Raises Unsaid where it is no finite number."""
-    _check_finite(millimetres)
+    check_finite(millimetres)
     return um_of_mm(Decimal(repr(round(millimetres, _LENGTH_DIGITS))))
 
 
 def degrees(radians: float) -> Fraction:
     """Degrees of a stored angle. Raises Unsaid where they are no finite number."""
     turned = math.degrees(radians)
-    _check_finite(turned)
+    check_finite(turned)
     return Fraction(Decimal(repr(round(turned, _ANGLE_DIGITS))))
 
 
@@ -57,7 +59,7 @@ def place(x: float, y: float) -> Place:
     return Place(length_um(x), length_um(y))
 
 
-def _check_finite(value: float) -> None:
+def check_finite(value: float) -> None:
     """Raises Unsaid where sums or products of stored numbers went beyond all numbers."""
     if not math.isfinite(value):
         raise Unsaid("a number of it is too large")

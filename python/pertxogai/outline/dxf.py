@@ -7,7 +7,7 @@ from __future__ import annotations
 
 import logging
 import math
-from collections.abc import Iterator
+from collections.abc import Iterable, Iterator
 from dataclasses import dataclass
 from fractions import Fraction
 from pathlib import Path
@@ -15,16 +15,14 @@ from typing import Any
 
 from pertxogai.drawing import Arc, Circle, Place, Point, Segment, Shape, um_of_mm
 from pertxogai.found import FileRefusal, Unsaid
-
-MOST_BYTES = 16 << 20
-"""The most bytes of a file that is read."""
+from pertxogai.limits import (
+    BINARY_DXF_BYTES, DXF_BYTES, DXF_TAGS, SKETCH_ENTRIES, Count, TooMuch, read_bytes)
 
 _DIGITS = 9
 _MM_OF_UNIT = {0: Fraction(1), 1: Fraction(254, 10), 2: Fraction(3048, 10), 4: Fraction(1),
                5: Fraction(10), 6: Fraction(1000), 13: Fraction(1, 1000), 14: Fraction(100)}
 _NO_DXF = "it is no DXF file: save it as DXF"
-_UNSOUND = (ValueError, LookupError, TypeError, AttributeError, ArithmeticError, AssertionError)
-"""What ezdxf raises, beside its own errors, at numbers and words that it doesn't expect."""
+_BINARY = b"AutoCAD Binary DXF"
 _POLYLINES = frozenset({"LWPOLYLINE", "POLYLINE"})
 
 
@@ -40,35 +38,55 @@ class Entity:
 def read_entities(path: Path) -> list[Entity]:
     """The entities of a file's model space, in order. Raises FileRefusal."""
     try:
-        from ezdxf.lldxf.const import DXFError
+        import ezdxf  # noqa: F401
     except ImportError:
         raise FileRefusal("a DXF file is read by ezdxf: install Debian's python3-ezdxf") from None
     try:
         return list(_entities(path))
     except OSError as error:
         raise FileRefusal(f"{path}: can't be read: {error.strerror or _NO_DXF}") from None
-    except (DXFError, *_UNSOUND):
+    except TooMuch as much:
+        raise FileRefusal(f"{path}: {much}") from None
+    except FileRefusal:
+        raise
+    except Exception:  # At numbers and words that it doesn't expect, ezdxf raises whatever comes.
         raise FileRefusal(f"{path}: no sound DXF file: save it as DXF again") from None
 
 
 def _entities(path: Path) -> Iterator[Entity]:
-    """The entities as ezdxf reads them."""
+    """The entities as ezdxf reads them. Raises FileRefusal, TooMuch, and what ezdxf raises."""
     import ezdxf
 
     _hush()
-    if path.stat().st_size > MOST_BYTES:
-        raise FileRefusal(f"{path}: has more than {MOST_BYTES >> 20} MB")
+    data = _sized(path)
     document = ezdxf.readfile(path)  # type: ignore[attr-defined]
-    unit = int(document.header.get("$INSUNITS", 0)) if _tells_unit(path) else 0
+    unit = int(document.header.get("$INSUNITS", 0)) if b"$INSUNITS" in data else 0
     if unit not in _MM_OF_UNIT:
         raise FileRefusal(f"{path}: its unit, number {unit} of DXF, isn't known here: save it in "
                           "millimetres")
-    reader = _Reader(_MM_OF_UNIT[unit])
+    reader, count = _Reader(_MM_OF_UNIT[unit]), Count("shapes", SKETCH_ENTRIES)
     for entity in document.modelspace():
-        if entity.dxftype() in _POLYLINES and _is_flat(entity):
-            yield from (reader.read(piece) for piece in entity.virtual_entities())
-        else:
-            yield reader.read(entity)
+        for piece in _pieces(entity):
+            count.add()
+            yield reader.read(piece)
+
+
+def _sized(path: Path) -> bytes:
+    """The bytes of a file that isn't too long for ezdxf, which reads it once more. A file that
+    doesn't tell its unit is one of millimetres, where ezdxf takes metres."""
+    data = read_bytes(path, DXF_BYTES)
+    if data.startswith(_BINARY):
+        Count("bytes", BINARY_DXF_BYTES).add(len(data))
+    else:
+        Count("pairs of lines", DXF_TAGS).add(max(data.count(b"\n"), data.count(b"\r")) // 2)
+    return data
+
+
+def _pieces(entity: Any) -> Iterable[Any]:
+    """What an entity is drawn of: a polyline of a plane of lines and arcs, others of themselves."""
+    if entity.dxftype() in _POLYLINES and _is_flat(entity):
+        return entity.virtual_entities()  # type: ignore[no-any-return]
+    return (entity,)
 
 
 def _hush() -> None:
@@ -76,11 +94,6 @@ def _hush() -> None:
     notes = logging.getLogger("ezdxf")
     if not notes.handlers:
         notes.addHandler(logging.NullHandler())
-
-
-def _tells_unit(path: Path) -> bool:
-    """Whether a file tells its unit; where it doesn't, ezdxf takes metres, and we millimetres."""
-    return b"$INSUNITS" in path.read_bytes()
 
 
 def _is_flat(entity: Any) -> bool:

@@ -15,9 +15,6 @@ from pertxogai.outline.joining import End, Outline, ends_of, joints, level, meet
 TOLERANCE_UM = Fraction(10)
 """How near ends lie that meet, where no other tolerance is asked for: 0.01 mm."""
 
-MOST_SHAPES = 8_000
-"""The most shapes of a file that is read: four times what the program takes."""
-
 
 def read_outline(path: Path, tolerance_um: Fraction = TOLERANCE_UM) -> Outline:
     """The outline of a DXF file's model space; ends nearer than the tolerance, in micrometres
@@ -32,8 +29,6 @@ def read_outline(path: Path, tolerance_um: Fraction = TOLERANCE_UM) -> Outline:
             gathering.leave_out(entity.name, entity.why)
         elif gathering.add_shape(entity.shape):
             shapes.append(entity.shape)
-        if len(shapes) > MOST_SHAPES:
-            raise FileRefusal(f"{path}: has more than {MOST_SHAPES} shapes: take a part of it")
     if not shapes:
         raise FileRefusal(f"{path}: nothing to draw in it: its model space has no LINE, ARC, "
                           "CIRCLE, LWPOLYLINE or POINT")

@@ -7,18 +7,16 @@ from pathlib import Path
 
 from pertxogai.found import Apart, Aside, FileRefusal, FoundSketch, Unsaid
 from pertxogai.gathering import Gathering
+from pertxogai.limits import SKETCH_ENTRIES, Count, TooMuch
 from pertxogai.solvespace.records import Record, read_lines, records
 from pertxogai.solvespace.shapes import Drawn, drawn, shape
 from pertxogai.solvespace.ties import COMMENT, Plane, Touch, name_of, say
 from pertxogai.solvespace.touches import Entry, said, settled
 
-MOST_RECORDS = 8_000
-"""The most groups, requests or constraints of a file that is read: some times what the program
-takes."""
-
 _PLANE_GROUPS = (5000, 5001)
 _REFERENCES = 1
 _GROUND = 0x00010001
+_COUNTED = {"Group": "groups", "Request": "shapes", "Constraint": "constraints"}
 
 
 @dataclass
@@ -31,10 +29,17 @@ class Contents:
     constraints: dict[int, list[Record]] = field(default_factory=dict)
     numbers: dict[int, float] = field(default_factory=dict)
 
-    def most(self) -> int:
-        """How many there are of the kind of record of which there are most, numbers aside."""
-        inner = (sum(map(len, kind.values())) for kind in (self.requests, self.constraints))
-        return max(len(self.groups), *inner)
+    def take(self, record: Record) -> None:
+        """Takes a record. Raises Unsaid where a number of it is none."""
+        match record.word:
+            case "Group":
+                self.groups.append(record)
+            case "Request":
+                self.requests.setdefault(record.handle("group.v"), []).append(record)
+            case "Constraint":
+                self.constraints.setdefault(record.handle("group.v"), []).append(record)
+            case "Param":
+                self.numbers[record.handle("h.v")] = record.number("val")
 
 
 def read_solvespace(path: Path) -> tuple[FoundSketch, ...]:
@@ -50,24 +55,19 @@ def read_solvespace(path: Path) -> tuple[FoundSketch, ...]:
 
 
 def contents_of(path: Path, lines: list[bytes]) -> Contents:
-    """The records of the lines; raises FileRefusal where a number among them is none."""
+    """The records of the lines; raises FileRefusal where a number among them is none, or there
+    are more of a kind than a sketch may have."""
     contents = Contents()
+    counts = {word: Count(what, SKETCH_ENTRIES) for word, what in _COUNTED.items()}
     try:
         for record in records(lines):
-            match record.word:
-                case "Group":
-                    contents.groups.append(record)
-                case "Request":
-                    contents.requests.setdefault(record.handle("group.v"), []).append(record)
-                case "Constraint":
-                    contents.constraints.setdefault(record.handle("group.v"), []).append(record)
-                case "Param":
-                    contents.numbers[record.handle("h.v")] = record.number("val")
+            if record.word in counts:
+                counts[record.word].add()
+            contents.take(record)
     except Unsaid as unsaid:
         raise FileRefusal(f"{path}: no sound SolveSpace file: a Param is none: {unsaid}") from None
-    if contents.most() > MOST_RECORDS:
-        raise FileRefusal(f"{path}: has more than {MOST_RECORDS} groups, shapes or constraints: "
-                          "take a part of it")
+    except TooMuch as much:
+        raise FileRefusal(f"{path}: {much}") from None
     return contents
 
 

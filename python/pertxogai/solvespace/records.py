@@ -10,12 +10,10 @@ from pathlib import Path
 
 from pertxogai.drawing import um_of_mm
 from pertxogai.found import FileRefusal, Unsaid
+from pertxogai.limits import SOLVESPACE_BYTES, SOLVESPACE_LINES, read_bytes
 
 MAGIC = b"\xb1\xb2\xb3SolveSpaceREVa"
 """The first line of a file."""
-
-MOST_BYTES = 64 << 20
-"""The most bytes of a file that is read."""
 
 _DIGITS = 9
 
@@ -54,14 +52,13 @@ def read_lines(path: Path) -> list[bytes]:
     """The lines of a file, without their line feeds. Raises FileRefusal where it can't be read,
     is too long, or is none of SolveSpace's."""
     try:
-        with open(path, "rb") as source:
-            data = source.read(MOST_BYTES + 1)
+        data = read_bytes(path, SOLVESPACE_BYTES)
     except OSError as error:
         raise FileRefusal(f"{path}: can't be read: {error.strerror or error}") from None
     if not data.startswith(MAGIC):
         raise FileRefusal(f"{path}: no SolveSpace file: save it by SolveSpace 3 as .slvs")
-    if len(data) > MOST_BYTES:
-        raise FileRefusal(f"{path}: has more than {MOST_BYTES >> 20} MB")
+    if data.count(b"\n") > SOLVESPACE_LINES:
+        raise FileRefusal(f"{path}: has more than {SOLVESPACE_LINES} lines: take a part of it")
     return data.split(b"\n")
 
 
