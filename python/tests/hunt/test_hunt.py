@@ -1,0 +1,138 @@
+"""That the hunt knows what is true of a drawing, and finds what isn't so."""
+from __future__ import annotations
+
+import os
+
+import pytest
+
+pytest.importorskip("numpy", reason="the hunt takes Debian's python3-numpy")
+
+from hunt.asking import Answer  # noqa: E402
+from hunt.making import Kind, Made, made  # noqa: E402
+from hunt.reading import read  # noqa: E402
+from hunt.shrinking import shrunk  # noqa: E402
+from hunt.truth import Model, truth  # noqa: E402
+from hunt.wrongs import Cause, offs, wrongs  # noqa: E402
+
+os.environ.setdefault("OPENBLAS_NUM_THREADS", "1")
+PLATE = """rectangle Plate 0 0 118 79
+circle Hole 47 28 5
+coincident PlateBottom.start Origin
+length PlateBottom 120
+length PlateRight 80
+x Hole 45
+y Hole 30
+diameter Hole 12
+"""
+CORNERS = {"PlateBottom": ((0, 0), (120, 0)), "PlateRight": ((120, 0), (120, 80)),
+           "PlateTop": ((120, 80), (0, 80)), "PlateLeft": ((0, 80), (0, 0))}
+
+
+def plate_of(text: str = PLATE, kind: Kind = Kind.COMPLETE) -> Made:
+    """A plate, with what is true of it."""
+    model = Model.of(read(text))
+    at = model.solved(model.index.vector(model.sheet.drawn, model.sheet.radii))
+    assert at is not None
+    return Made(kind, 0, text, at, truth(model, at))
+
+
+def placed(moved_nm: int = 0) -> dict[str, object]:
+    """The plate's places as an answer has them, with its hole moved to the right."""
+    places: dict[str, object] = {
+        name: {end: {"x_nm": x * 10 ** 6, "y_nm": y * 10 ** 6} for end, (x, y) in zip(("start", "end"), ends)}
+        for name, ends in CORNERS.items()}
+    places["Hole"] = {"centre": {"x_nm": 45 * 10 ** 6 + moved_nm, "y_nm": 30 * 10 ** 6}, "radius_nm": 6 * 10 ** 6}
+    return places
+
+
+def causes(made_: Made, status: int = 0, **said: object) -> set[Cause]:
+    """In what ways an answer is wrong."""
+    answer = Answer(status, {"verdict": "well", "places": placed(), **said})
+    return {found.cause for found in wrongs(made_, answer)}
+
+
+def test_what_is_true_of_a_plate() -> None:
+    plate = plate_of().truth
+    assert (plate.lacks, plate.excess, plate.sizeless) == (0, 0, frozenset())
+    loose = plate_of(PLATE.replace("x Hole 45\n", "").replace("diameter Hole 12\n", "")).truth
+    assert (loose.lacks, loose.sizeless) == (2, frozenset({"Hole"}))
+    twice = plate_of(PLATE + "length PlateTop 120\n").truth
+    assert (twice.lacks, twice.excess) == (0, 1)
+    # Constraints 2 and 4 are the rectangle's two verticals, 6 and 11 the two widths.
+    assert twice.alone == {2, 4, 6, 11}
+
+
+def test_what_moves_the_whole_is_no_dimension_that_is_missing() -> None:
+    free = plate_of(PLATE.replace("coincident PlateBottom.start Origin\n", "")).truth
+    assert (free.lacks, free.excess) == (2, 0)
+    alone = plate_of("segment A 0 0 40 0\nlength A 50\n").truth
+    assert (alone.lacks, alone.excess) == (0, 0)
+
+
+def test_an_answer_that_is_so() -> None:
+    assert causes(plate_of()) == set()
+    assert causes(plate_of(PLATE.replace("x Hole 45\n", "")), 1, verdict="open", lacks=1) == set()
+
+
+def test_a_word_that_is_off_is_found() -> None:
+    assert max(each.nm for each in offs(PLATE, placed(999))) == pytest.approx(999)
+    assert causes(plate_of(), places=placed(999)) == set()
+    assert causes(plate_of(), places=placed(2500)) == {Cause.GOOD_BUT_OFF}
+    tilted = "segment A 0 0 40 0\nangle A 30deg\n"
+    at = {"A": {"start": {"x_nm": 0, "y_nm": 0}, "end": {"x_nm": 40 * 10 ** 6, "y_nm": 0}}}
+    assert offs(tilted, at)[0].ppb == pytest.approx(0.5e9)
+
+
+def test_a_verdict_that_is_not_so_is_found() -> None:
+    whole, loose = plate_of(), plate_of(PLATE.replace("x Hole 45\n", ""))
+    twice = plate_of(PLATE + "length PlateTop 120\n", Kind.REPEATED)
+    assert causes(whole, 1, verdict="over", spare=[]) == {Cause.OVER_INDEPENDENT}
+    assert causes(whole, 1, verdict="open", lacks=1) == {Cause.LACKS_UNTRUE}
+    assert causes(loose) == {Cause.WELL_LACKS, Cause.GOOD_BUT_LACKS}
+    assert causes(loose, 1, verdict="open", lacks=2) == {Cause.LACKS_UNTRUE}
+    assert causes(twice) == {Cause.REPEAT_SILENT}
+    assert causes(twice, repeats=["constraint 11 (length PlateTop 120)"]) == set()
+    assert causes(twice, 1, verdict="over", spare=[]) == {Cause.OVER_UNLISTED}
+
+
+def listed(number: int, repeats: bool | None) -> dict[str, object]:
+    return {"number": number, "name": str(number), "repeats": repeats, "off": 1, "unit": "nm"}
+
+
+def test_what_is_listed_wrongly_is_found() -> None:
+    twice = plate_of(PLATE + "length PlateTop 120\n", Kind.REPEATED)
+    assert causes(twice, 1, verdict="over", spare=[listed(11, True)]) == set()
+    assert causes(twice, 1, verdict="over", spare=[listed(11, True), listed(7, None)]) == {Cause.NEEDED_LISTED}
+    assert causes(twice, 1, verdict="over", spare=[listed(11, False)]) == {Cause.REPEAT_CALLED_CONFLICT}
+    against = Made(Kind.CONTRADICTING, 0, twice.text.replace("Top 120", "Top 130"), twice.exact, twice.truth,
+                   frozenset({"length PlateTop 130"}))
+    assert causes(against, 1, verdict="over", spare=[listed(11, True)]) == {Cause.CONFLICT_CALLED_REPEAT}
+    assert causes(against, 1, verdict="open", lacks=0) == {Cause.CONFLICT_SILENT}
+    assert causes(against, 1) == {Cause.WELL_CONTRADICTS}
+
+
+def test_what_is_no_answer_is_found() -> None:
+    plate = plate_of()
+    assert [found.cause for found in wrongs(plate, Answer(None, late=True))] == [Cause.LATE]
+    assert [found.cause for found in wrongs(plate, Answer(None, crash="KeyError: 1\n"))] == [Cause.TRACEBACK]
+    assert [found.cause for found in wrongs(plate, Answer(2, complaint="refused"))] == [Cause.REFUSED]
+
+
+def test_every_kind_is_made() -> None:
+    found = [made(seed, kind) for kind in Kind for seed in range(4)]
+    assert {each.kind for each in found} == set(Kind)
+    assert any(each.contradicts() for each in found) and any(each.is_impossible() for each in found)
+    assert any(each.truth.lacks for each in found) and any(each.truth.excess for each in found)
+
+
+def test_a_seed_makes_one_drawing() -> None:
+    assert made(17).text == made(17).text != made(18).text
+
+
+def test_a_drawing_is_made_smaller(monkeypatch: pytest.MonkeyPatch) -> None:
+    """An answer that calls everything over where there is a hole: what is left is the hole."""
+    def lie(text: str) -> Answer:
+        return Answer(1, {"verdict": "over", "spare": []} if "circle" in text else {"verdict": "open"})
+
+    monkeypatch.setattr("hunt.shrinking.asked", lie)
+    assert shrunk(plate_of(), Cause.OVER_INDEPENDENT).text == "circle Hole 47 28 5\n"

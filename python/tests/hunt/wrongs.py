@@ -1,0 +1,232 @@
+"""Whether an answer is so: what was said of a drawing beside what is true of it."""
+from __future__ import annotations
+
+from collections.abc import Iterator
+from dataclasses import dataclass
+from enum import Enum
+from typing import Any
+
+import numpy as np
+
+from .asking import Answer
+from .making import Made
+from .plane import Plane, Vector, real
+from .reading import Spot, Word, read
+from .rows import Row
+from .truth import Model
+
+LIMIT_NM = LIMIT_PPB = 1000.0
+SLACK = 2.0
+"""Floats, and places that were rounded to whole nanometres, may be off by so much more."""
+NM = 1e6
+
+
+class Cause(Enum):
+    """In what way an answer is wrong."""
+
+    GOOD_BUT_OFF = "good, and a word is off"
+    GOOD_BUT_SIZELESS = "good, and a circle's size follows from nothing"
+    GOOD_BUT_LEFT_OUT = "good, and something was left out"
+    GOOD_BUT_LACKS = "good, and dimensions are missing"
+    WELL_LACKS = "well, and dimensions are missing"
+    WELL_CONTRADICTS = "well, and its words contradict each other"
+    REPEAT_SILENT = "well, and a repeat is passed over in silence"
+    OVER_INDEPENDENT = "over, and nothing is said twice"
+    OVER_UNLISTED = "over, and nothing is listed that may go"
+    NEEDED_LISTED = "what is needed is listed as what may go"
+    LACKS_UNTRUE = "lacks so many, which isn't so"
+    REPEAT_CALLED_CONFLICT = "a repeat is called a contradiction"
+    CONFLICT_CALLED_REPEAT = "a contradiction is called a repeat"
+    CONFLICT_SILENT = "a contradiction is passed over in silence"
+    TRACEBACK = "a traceback"
+    LATE = "no answer in a minute"
+    REFUSED = "a sound drawing is refused"
+
+
+class Reach(Enum):
+    """How far an answer that is right reaches."""
+
+    GOOD = "good"
+    JUDGED = "judged rightly"
+    NO_PLACES = "out of reach: well, and no places are found"
+    NOT_RIGID = "out of reach: open, and rigid in truth"
+    NOT_GOOD = "out of reach: well, and not told good"
+
+
+@dataclass(frozen=True)
+class Found:
+    """What is wrong, and with what."""
+
+    cause: Cause
+    detail: str = ""
+
+
+def wrongs(made: Made, answer: Answer) -> list[Found]:
+    """All that is wrong about an answer."""
+    if answer.late:
+        return [Found(Cause.LATE)]
+    if answer.crash:
+        return [Found(Cause.TRACEBACK, answer.crash.strip().splitlines()[-1])]
+    if not answer.said:
+        return [Found(Cause.REFUSED, answer.complaint)]
+    found = list(_good(made, answer)) if answer.is_good() else []
+    check = {"well": _well, "open": _open, "over": _over}[answer.verdict]
+    return found + list(check(made, answer))
+
+
+def reach(made: Made, answer: Answer) -> Reach:
+    """How far a right answer reaches."""
+    truth = made.truth
+    if answer.is_good():
+        return Reach.GOOD
+    if truth.lacks or truth.excess or made.is_impossible():
+        return Reach.JUDGED
+    if answer.verdict == "open":
+        return Reach.NOT_RIGID
+    return Reach.NOT_GOOD if answer.said.get("places") else Reach.NO_PLACES
+
+
+def _good(made: Made, answer: Answer) -> Iterator[Found]:
+    """What is wrong about an answer that is good."""
+    worst = offs(made.text, answer.said.get("places") or {})
+    if worst and worst[0].beyond > SLACK:
+        yield Found(Cause.GOOD_BUT_OFF, str(worst[0]))
+    sizeless = set(answer.names("undimensioned")) | made.truth.sizeless
+    if sizeless:
+        yield Found(Cause.GOOD_BUT_SIZELESS, " ".join(sorted(sizeless)))
+    elif made.truth.lacks:
+        yield Found(Cause.GOOD_BUT_LACKS, f"{made.truth.lacks}")
+    if answer.names("left_out"):
+        yield Found(Cause.GOOD_BUT_LEFT_OUT, str(answer.names("left_out")))
+
+
+def _well(made: Made, answer: Answer) -> Iterator[Found]:
+    """What is wrong about a verdict `well`."""
+    truth = made.truth
+    told = len(set(answer.names("undimensioned")) & truth.sizeless)
+    if truth.lacks > told:
+        yield Found(Cause.WELL_LACKS, f"lacks {truth.lacks}, told {told}")
+    if made.contradicts():
+        yield Found(Cause.WELL_CONTRADICTS, str(answer.names("left_out")))
+    elif truth.excess and answer.is_good() and not _speaks(answer):
+        yield Found(Cause.REPEAT_SILENT, _listed(made, truth.spare))
+
+
+def _open(made: Made, answer: Answer) -> Iterator[Found]:
+    """What is wrong about a verdict `open`."""
+    lacks = answer.said.get("lacks")
+    if lacks and lacks != made.truth.lacks:
+        yield Found(Cause.LACKS_UNTRUE, f"told {lacks}, true {made.truth.lacks}")
+    if made.contradicts() and not _speaks(answer):
+        yield Found(Cause.CONFLICT_SILENT, _listed(made, made.truth.spare))
+
+
+def _over(made: Made, answer: Answer) -> Iterator[Found]:
+    """What is wrong about a verdict `over`."""
+    truth, spare = made.truth, answer.names("spare")
+    if not truth.excess:
+        yield Found(Cause.OVER_INDEPENDENT)
+        return
+    if not spare:
+        yield Found(Cause.OVER_UNLISTED)
+    may = truth.alone or truth.spare
+    needed = [each["name"] for each in spare if each["number"] not in may]
+    if needed:
+        yield Found(Cause.NEEDED_LISTED, "; ".join(needed))
+    if truth.excess == 1 and not needed:
+        yield from _called(made, spare)
+
+
+def _called(made: Made, spare: list[dict[str, Any]]) -> Iterator[Found]:
+    """What is called a repeat or a contradiction, where there is one too many."""
+    for each in spare:
+        if made.contradicts() and each.get("repeats") is True:
+            yield Found(Cause.CONFLICT_CALLED_REPEAT, each["name"])
+        if not made.contradicts() and each.get("repeats") is False:
+            yield Found(Cause.REPEAT_CALLED_CONFLICT, f"{each['name']}: off by {each.get('off')} {each.get('unit')}")
+
+
+def _speaks(answer: Answer) -> bool:
+    """Whether something is said to be too much, or left out."""
+    return any(answer.names(key) for key in ("repeats", "left_out", "spare", "conflicts", "excess"))
+
+
+def _listed(made: Made, numbers: frozenset[int]) -> str:
+    sheet = read(made.text)
+    return "; ".join(sheet.lines[sheet.words[number - 1].line] for number in sorted(numbers))
+
+
+def missed(made: Made, answer: Answer) -> int:
+    """How many words that may go by themselves aren't listed, where a verdict is `over`."""
+    numbers = {each["number"] for each in answer.names("spare")}
+    return len(made.truth.alone - numbers) if answer.verdict == "over" else 0
+
+
+@dataclass(frozen=True)
+class Off:
+    """How far a word is off: in nm, in ppb where it is a direction, and how many times the limit
+    that is."""
+
+    line: str
+    nm: float
+    ppb: float | None
+    beyond: float
+
+    def __str__(self) -> str:
+        ppb = "" if self.ppb is None else f", {self.ppb:.0f} ppb"
+        return f"{self.line}: off by {self.nm:.0f} nm{ppb}"
+
+
+def offs(text: str, places: dict[str, Any]) -> list[Off]:
+    """How far each word, and what the shapes imply, is off at the places of an answer; the worst
+    first."""
+    model = Model.of(read(text))
+    at = _vector(model, places)
+    plane = model.plane(at)
+    found = [_off(f"the shapes of {text[:20]}..", row) for row in model.ruler.implied(plane)]
+    found += _shared(model, places)
+    for word in model.sheet.words:
+        found += [_off(_told(model, word), row) for row in model.ruler.rows(plane, word)]
+    return sorted(found, key=lambda each: -each.beyond)
+
+
+def _told(model: Model, word: Word) -> str:
+    return f"{model.sheet.lines[word.line]} ({' '.join((word.kind, *word.names))})"
+
+
+def _off(line: str, row: Row) -> Off:
+    off = abs(real(row.off))
+    if row.arm is None:
+        return Off(line, off * NM, None, off * NM / LIMIT_NM)
+    sine = 2 - off if row.backward else off
+    # A direction of a short line is as exact as its ends are.
+    arm = row.arm if np.isfinite(row.arm) else 1e3
+    return Off(line, sine * arm * NM, sine * 1e9, min(sine * arm * NM / LIMIT_NM, sine * 1e9 / LIMIT_PPB))
+
+
+def _vector(model: Model, places: dict[str, Any]) -> Vector:
+    """The vector of the answer's places, in mm."""
+    spots = {name: _spot(places, name) for name in model.index.points}
+    radii = {name: float(places[name]["radius_nm"]) / NM for name in model.index.radii}
+    return model.index.vector(spots, radii)
+
+
+def _spot(places: dict[str, Any], name: str) -> Spot:
+    shape, _, which = name.partition(".")
+    at = places[shape][which or "at"]
+    return at["x_nm"] / NM, at["y_nm"] / NM
+
+
+def _shared(model: Model, places: dict[str, Any]) -> list[Off]:
+    """How far the points of shapes that share one are apart."""
+    found = []
+    for name, unknown in model.sheet.unknown.items():
+        if name not in (unknown, "Origin"):
+            here = _spot(places, name)
+            there = (0.0, 0.0) if unknown == "Origin" else _spot(places, unknown)
+            far = float(np.hypot(here[0] - there[0], here[1] - there[1])) * NM
+            found.append(Off(f"{name} is {unknown}", far, None, far / LIMIT_NM))
+    return found
+
+
+__all__ = ["Cause", "Found", "Off", "Plane", "Reach", "missed", "offs", "reach", "wrongs"]
