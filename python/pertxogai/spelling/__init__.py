@@ -8,6 +8,7 @@ from dataclasses import dataclass, replace
 from pertxogai.drawing import Drawing
 from pertxogai.kept import kept
 from pertxogai.spelling.axes import Axes
+from pertxogai.spelling.crossings import with_crossings
 from pertxogai.spelling.facts import Facts
 from pertxogai.spelling.lowering import lowered
 from pertxogai.spelling.middles import with_ways
@@ -45,14 +46,19 @@ def axes_of(drawing: Drawing, reading: Reading = READINGS[0]) -> Axes:
     return Spellings.of(_read(lowered(drawing), reading)).axes
 
 
+def said(drawing: Drawing) -> Facts:
+    """What a drawing says, before a reading takes some of it otherwise."""
+    return with_crossings(lowered(drawing))
+
+
 def readings(drawing: Drawing, before: Drawing = Drawing()) -> Iterator[Spellings]:
     """How a drawing is spelled by each reading that takes it otherwise than those before. What an
     edit has left of the drawing before is taken over."""
-    said = lowered(drawing, before)
+    heard = lowered(drawing, before)
     seen: list[Facts] = []
     _made(drawing)[:] = []
     for reading in READINGS:
-        facts = _read(said, reading)
+        facts = _read(heard, reading)
         if facts not in seen:
             seen.append(facts)
             known = (each.redrawn(facts) for each in _made(before))
@@ -67,13 +73,14 @@ def _made(drawing: Drawing) -> list[Spellings]:
     return []
 
 
-def _read(said: Facts, reading: Reading) -> Facts:
+def _read(heard: Facts, reading: Reading) -> Facts:
     """The facts as a reading takes them."""
-    facts = with_polygons(replace(said, own=dict(said.own)), reading.middles)
+    facts = with_crossings(replace(heard, own=dict(heard.own)))
+    facts = with_polygons(facts, reading.middles)
     if reading.ways:
         facts = with_ways(facts)
     return with_slots(facts) if reading.slots else facts
 
 
 __all__ = ["Axes", "Care", "READINGS", "Rails", "Reading", "Spelled", "Spellings", "Style",
-           "axes_of", "readings", "spell", "written"]
+           "axes_of", "readings", "said", "spell", "written"]
