@@ -150,8 +150,9 @@ def _missing_lines(judgement: Judgement) -> Iterator[str]:
     if lacks is None:
         return
     if lacks.count:
-        without = ", without what is left out" if judgement.left_out else ""
-        yield f"  lacks {lacks.count} dimension{'s' if lacks.count > 1 else ''} at least{without}"
+        yield f"  lacks {lacks.count} dimension{'s' if lacks.count > 1 else ''} at least"
+    if lacks.whole is not None and lacks.whole.ways:
+        yield f"  not tied to the datum: the whole may still be {lacks.whole.text()}"
     for piece in lacks.pieces:
         yield f"  piece {piece.number}: {' '.join(piece.elements)}"
     for joint in lacks.joints[:MOST_ADVICE]:

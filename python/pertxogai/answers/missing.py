@@ -5,8 +5,11 @@ from __future__ import annotations
 from dataclasses import dataclass
 from enum import Enum
 
+from pertxogai.answers.freedoms import Whole, freedoms
 from pertxogai.answers.naming import Names
+from pertxogai.drawing import Arc, Circle
 from pertxogai.reports import CheckReport, Part
+from pertxogai.spelling import said
 
 
 class Tie(Enum):
@@ -39,22 +42,30 @@ class Joint:
 
 @dataclass(frozen=True)
 class Missing:
-    """At least `count` dimensions are missing, by counting; 0 where the drawing is rigid in a way
+    """At least `count` dimensions are missing, by the rank of what the drawing says, sizes of
+    circles among them; 0 where it isn't known that one is, as where the drawing is rigid in a way
     that merging doesn't find. `joints`: each piece but the first, with one before it that it hangs
-    at, where there is one."""
+    at, where there is one. `whole`: how all of it may still be moved against the datum, which
+    isn't counted; None where that isn't known."""
 
     count: int
     pieces: tuple[Piece, ...]
     joints: tuple[Joint, ...]
+    whole: Whole | None = None
 
 
 def missing(names: Names, check: CheckReport) -> Missing:
-    """What is missing by the program's parts: n elements that are well hold 2n - 3 constraints."""
-    count = max(0, 2 * check.elements - 3 - check.constraints)
+    """What is missing: how much, by the rank of what the drawing says; and between which of the
+    program's parts."""
+    rims = [each.name for each in names.drawing.geometry if isinstance(each, (Circle, Arc))]
+    free = freedoms(said(names.drawing), rims)
     pieces = tuple(Piece(part.number, names.elements(part.elements)) for part in check.parts)
     shown = [place for place, piece in enumerate(pieces) if piece.elements]
     joints = tuple(_joint(names, check.parts, pieces, shown, place) for place in shown[1:])
-    return Missing(count, tuple(pieces[place] for place in shown), joints)
+    shown_pieces = tuple(pieces[place] for place in shown)
+    if free is None:
+        return Missing(0, shown_pieces, joints)
+    return Missing(free.lacks, shown_pieces, joints, free.whole)
 
 
 def _joint(names: Names, parts: tuple[Part, ...], pieces: tuple[Piece, ...], shown: list[int],
