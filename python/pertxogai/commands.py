@@ -184,18 +184,20 @@ def _judged_drawing(
     return JudgedDrawing(
         found.name,
         found.drawing,
-        _judgement(found, program, options.freeze),
+        _judgement(found, program, options),
         found.left_out,
         found.aside,
         options.within,
     )
 
 
-def _judgement(found: DesignerDrawing, program: Asks, freeze: bool) -> Judgement:
+def _judgement(
+    found: DesignerDrawing, program: Asks, options: argparse.Namespace
+) -> Judgement:
     """The judgement on a drawing. Raises CommandError where no sketch can be made of it, or the
     program refuses the one that was made."""
     try:
-        return judge(found.drawing, program, freeze)
+        return judge(found.drawing, program, options.freeze, options.within)
     except (DrawingRefused, NotHeld) as refused:
         raise CommandError(f"{found.name}: {refused}") from None
     except Refusal as refused:

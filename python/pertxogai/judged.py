@@ -4,6 +4,7 @@ from __future__ import annotations
 from collections.abc import Iterator
 from dataclasses import dataclass
 
+from .choices import Tried, beneath, tried, tried_lines
 from .language import ClusterName, Constraint, Refusal, Sketch
 from .measure import Limit
 from .picture import Picture, picture_of_drawing, picture_of_parts, picture_of_shape
@@ -64,8 +65,9 @@ class JudgedSketch:
     """A sketch and what the program answers to it: parts and verdict; places or a fault where
     it is well; the spare constraints where it is over, and what is left out of each part that is,
     with how far that is off; and the parts, each by itself, where it isn't well. limit: within
-    what each constraint has to hold, as the program was asked. Whether it is good is for
-    `pertxogai.good` to say."""
+    what each constraint has to hold, as the program was asked. tried: where a step fails, what
+    came of other choices of the steps beneath. Whether it is good is for `pertxogai.good` to
+    say."""
 
     name: str
     sketch: Sketch
@@ -77,6 +79,7 @@ class JudgedSketch:
     excess: ExcessReport | None = None
     parts: PartsReport | None = None
     limit: Limit = Limit()
+    tried: Tried | None = None
 
     def picture(self, as_drawn: bool = False) -> Picture:
         """As it is placed; part by part where it isn't well; and as it is drawn where it has no
@@ -92,7 +95,8 @@ class JudgedSketch:
         if self.fault and not as_drawn:
             yield f"as drawn, has no places: {self.fault.text().strip()}"
             yield from (f"of {constraint.text()}" for constraint in concerned(self)[:MOST_SHOWN])
-            yield f"what to do: {what_to_do(self.fault)}"
+            yield from tried_lines(self.sketch, self.tried)
+            yield f"what to do: {what_to_do(self.fault, self.tried)}"
 
     def _repr_svg_(self) -> str:
         return self.picture().svg
@@ -130,11 +134,13 @@ def _written(name: str, command: str, text: str, asks: Asks, *keys: str) -> str:
 def _placed(
     name: str, sketch: Sketch, check: CheckReport, text: str, asks: Asks, limit: Limit
 ) -> JudgedSketch:
-    answer = asks.ask(["solve", f"within={limit.amount}"], text)
+    within = f"within={limit.amount}"
+    answer = asks.ask(["solve", within], text)
     if answer.status in (Status.FAULT, Status.TOLERANCE):
         plan = read_plan(_written(name, "plan", text, asks))
         fault = read_fault(answer.text)
-        return JudgedSketch(name, sketch, check, fault=fault, plan=plan, limit=limit)
+        turned = tried(sketch, beneath(plan, fault), asks, [within])
+        return JudgedSketch(name, sketch, check, None, fault, plan, limit=limit, tried=turned)
     solved = read_solve(_done(name, answer, text).text)
     return JudgedSketch(name, sketch, check, solved, limit=limit)
 
@@ -175,10 +181,15 @@ def _joined(plan: Plan | None, step: int) -> tuple[Constraint, ...]:
     )
 
 
-def what_to_do(fault: Fault) -> str:
-    """What helps against a fault, in a sentence."""
+def what_to_do(fault: Fault, turned: Tried | None = None) -> str:
+    """What helps against a fault, in a sentence. turned: what came of other choices."""
+    if turned and turned.found:
+        return "draw it so, or change a length: with the drawn choices it has no places"
     if isinstance(fault, NumberFault) and fault.cause is Cause.GAP:
-        return "no shape has these dimensions: change a length of them"
+        return (
+            "with these choices of steps no shape has these dimensions, on any grid: change a"
+            " length of them"
+        )
     if isinstance(fault, NumberFault):
         return (
             "two places can't be told apart, or lines are parallel: change a length, or"

@@ -3,6 +3,7 @@ from __future__ import annotations
 
 from collections.abc import Iterator, Sequence
 
+from .choices import tried_json, tried_lines
 from .good import reasons_json
 from .judged import JudgedSketch, concerned, what_to_do
 from .language import Placed, PlacedCircle, PlacedLine
@@ -26,7 +27,8 @@ def sketch_told(judged: JudgedSketch) -> Iterator[str]:
     if judged.fault:
         yield f"  {judged.fault.text().strip()}"
         yield from (f"    of {constraint.text()}" for constraint in concerned(judged))
-        yield f"  what to do: {what_to_do(judged.fault)}"
+        yield from (f"  {line}" for line in tried_lines(judged.sketch, judged.tried))
+        yield f"  what to do: {what_to_do(judged.fault, judged.tried)}"
     if judged.parts:
         yield from (f"  {part.text().strip()}" for part in check.parts)
     if judged.excess:
@@ -41,8 +43,17 @@ def sketch_told(judged: JudgedSketch) -> Iterator[str]:
 
 def _over(over: OverPart) -> Iterator[str]:
     """What is left out of a part, from the last constraint on, and how far off each is then."""
-    yield f"  left out of part {over.part.number}, so that the others can be placed:"
+    yield f"  left out of part {over.part.number}, {_rest(over)}:"
     yield from (f"    {line}" for line in over.text().splitlines()[1:])
+
+
+def _rest(over: OverPart) -> str:
+    """What becomes of the constraints of a part that are kept."""
+    if over.stays_over():
+        return "and the others are too many still"
+    if over.fault:
+        return "and the others aren't placed"
+    return "so that the others can be placed"
 
 
 def sketch_json(judged: JudgedSketch) -> dict[str, object]:
@@ -64,6 +75,7 @@ def sketch_json(judged: JudgedSketch) -> dict[str, object]:
         "length_tolerance_nm": solved.length_tolerance_nm if solved else None,
         "angle_tolerance_ppb": solved.angle_tolerance_ppb if solved else None,
         "fault": _fault(judged),
+        "other_choice": tried_json(judged.sketch, judged.tried),
         "deviations": list(_deviations(judged)),
     }
 
@@ -138,7 +150,7 @@ def _fault(judged: JudgedSketch) -> dict[str, object] | None:
         "text": fault.text().strip(),
         "constraints": [it.text() for it in concerned(judged)],
         "at": at,
-        "what_to_do": what_to_do(fault),
+        "what_to_do": what_to_do(fault, judged.tried),
     }
 
 

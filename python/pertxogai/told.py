@@ -7,6 +7,7 @@ from collections.abc import Iterator
 from pertxogai.answers import Judgement, Surplus
 from pertxogai.drawing import Circle, Drawing, PointRef
 from pertxogai.drawing.geometry import Arc
+from pertxogai.choices import tried_json, tried_lines
 from pertxogai.good import Lack, reasons_against, reasons_json
 from pertxogai.judged_drawing import JudgedDrawing
 from pertxogai.measure import Deviation, Solution
@@ -64,6 +65,8 @@ def _placed_json(judged: JudgedDrawing) -> dict[str, object]:
         "places": _places(judged.drawing, judgement.solution) if judgement.solution else None,
         **within_json(judged),
         "fault": None if placed else _fault(judgement),
+        "other_choice": tried_json(judgement.asked.spelled.sketch, judgement.tried,
+                                   judgement.names.element),
     }
 
 
@@ -88,6 +91,7 @@ def told(judged: JudgedDrawing) -> Iterator[str]:
         yield "  nothing is drawn in it that could be judged"
     yield from (f"  not met: {reason.text}" for reason in reasons_against(judged)
                 if reason.lack in (Lack.OFF, Lack.UNMEASURED))
+    yield from _tried_lines(judgement)
     yield from (f"  left out: {what}" for what in judged.not_drawn)
     yield from _left_out_lines(judgement)
     yield from (f"  not asked for: {what}" for what in judged.aside)
@@ -101,6 +105,14 @@ def told(judged: JudgedDrawing) -> Iterator[str]:
     yield from _missing_lines(judgement)
     yield from _surplus_lines(judgement)
     yield from (f"  look: {warning.text()}" for warning in judgement.warnings)
+
+
+def _tried_lines(judgement: Judgement) -> Iterator[str]:
+    """What came of other choices, where the drawing is placed and a constraint isn't met."""
+    if judgement.solution is not None:
+        sketch, named = judgement.asked.spelled.sketch, judgement.names.element
+        yield from (f"  {line}" for line in tried_lines(
+            sketch, judgement.tried, named, "no other choice of its steps meets all of it"))
 
 
 def _left_out_lines(judgement: Judgement) -> Iterator[str]:
@@ -140,6 +152,8 @@ def _failure_lines(judgement: Judgement) -> Iterator[str]:
     if failure.at:
         at = ", ".join(failure.at)
         yield f"    where {at} meet" if len(failure.at) > 1 else f"    at {at}"
+    sketch, named = judgement.asked.spelled.sketch, judgement.names.element
+    yield from (f"  {line}" for line in tried_lines(sketch, judgement.tried, named))
     if failure.dimensions:
         yield f"  what to do: look at {', '.join(failure.dimensions)}"
 

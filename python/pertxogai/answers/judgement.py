@@ -13,10 +13,11 @@ from pertxogai.answers.naming import Names
 from pertxogai.answers.placing import is_tied
 from pertxogai.answers.solution import settled, solution_of
 from pertxogai.answers.warnings import Warning, warnings
+from pertxogai.choices import Tried, beneath, tried
 from pertxogai.drawing import Circle, Drawing, moved
-from pertxogai.measure import Deviation, Solution, Unit, greatest, measure
+from pertxogai.measure import Deviation, Limit, Solution, Unit, greatest, measure
 from pertxogai.program import Asks
-from pertxogai.reports import Solved, Verdict, read_plan, read_spare
+from pertxogai.reports import Shape, Solved, Verdict, read_plan, read_spare
 from pertxogai.spelling.facts import RadiusOf
 from pertxogai.spelling.style import Style
 
@@ -70,7 +71,8 @@ class Judgement:
     those left to their drawn values, to be measured. rounded: those of which the value had to be
     rounded. grown: those told by a value that was read off a placed part. repeats: those that tell
     of one point that it is itself. unsized: where it is placed, the circles of which neither a
-    dimension nor the places tell the size."""
+    dimension nor the places tell the size. tried: where it is well and has no places, or some that
+    don't meet a constraint, what came of other choices of the steps of its construction."""
 
     verdict: Verdict
     asked: Asked
@@ -82,6 +84,7 @@ class Judgement:
     deviations: tuple[Deviation, ...] = ()
     warnings: tuple[Warning, ...] = ()
     unsized: tuple[str, ...] = ()
+    tried: Tried | None = None
 
     @property
     def style(self) -> Style:
@@ -142,11 +145,14 @@ class Judgement:
                      if isinstance(shape, Circle) and RadiusOf(shape.name) not in said)
 
 
-def judge(drawing: Drawing, program: Asks, freeze: bool = False) -> Judgement:
-    """What the program says of a drawing, with the counts of what is well, and how far each
-    dimension is off that may go. `freeze`: whether lengths and radii that nothing tells may be
-    taken as they are drawn. Raises as `judge_at_once`."""
-    return weighed(with_counts(judge_at_once(drawing, program, freeze), program), program)
+def judge(drawing: Drawing, program: Asks, freeze: bool = False,
+          limit: Limit = Limit()) -> Judgement:
+    """What the program says of a drawing, with the counts of what is well, how far each dimension
+    is off that may go, and which other choices meet what isn't met within the limit. `freeze`:
+    whether lengths and radii that nothing tells may be taken as they are drawn. Raises as
+    `judge_at_once`."""
+    judged = with_counts(judge_at_once(drawing, program, freeze), program)
+    return with_choices(weighed(judged, program), program, limit)
 
 
 def judge_at_once(drawing: Drawing, program: Asks, freeze: bool = False,
@@ -168,6 +174,28 @@ def judge_at_once(drawing: Drawing, program: Asks, freeze: bool = False,
         return replace(judged, missing=missing(names, asked.check))
     return replace(judged, surplus=tuple(Surplus(number, drawing.called(number), None)
                                          for number in _spare(judged, program)))
+
+
+def with_choices(judged: Judgement, program: Asks, limit: Limit = Limit()) -> Judgement:
+    """The judgement with what comes of other choices of its steps: of those beneath a step that
+    fails, and of all where a constraint isn't met. Raises ProgramError."""
+    if judged.verdict is not Verdict.WELL or judged.asked.solved is None:
+        return judged
+    if judged.solution is not None and not any(limit.beyond(judged.deviations)):
+        return judged
+    text = judged.asked.spelled.sketch.text()
+    plan = read_plan(written_by(program, "plan", text))
+    steps = plan.steps if judged.failure is None else beneath(plan, judged.failure.fault)
+    keys = [f"place={judged.place.value}"]
+    return replace(judged, tried=tried(judged.asked.spelled.sketch, steps, program, keys,
+                                       lambda shape: _is_met(judged, shape, limit)))
+
+
+def _is_met(judged: Judgement, shape: Shape, limit: Limit) -> bool:
+    """Whether each constraint of a drawing is met where a shape of its sketch lies."""
+    drawing = judged.names.drawing
+    solution = solution_of(drawing, judged.asked, shape)
+    return not any(limit.beyond(measure(drawing, solution)))
 
 
 def with_counts(judged: Judgement, program: Asks) -> Judgement:
@@ -277,4 +305,5 @@ def _worst(deviations: Iterable[Deviation], number: int) -> Deviation | None:
     return greatest(lengths, Unit.NM) or greatest(mine, Unit.PPB)
 
 
-__all__ = ["Judgement", "Surplus", "judge", "judge_at_once", "weighed", "with_counts"]
+__all__ = ["Judgement", "Surplus", "judge", "judge_at_once", "weighed", "with_choices",
+           "with_counts"]

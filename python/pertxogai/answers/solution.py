@@ -9,7 +9,7 @@ from pertxogai.answers.placing import Plate, in_datum
 from pertxogai.answers.sizes import Sizes
 from pertxogai.drawing import ORIGIN, Arc, Circle, Drawing, PointRef
 from pertxogai.measure import Solution, Spot
-from pertxogai.reports import Solved
+from pertxogai.reports import Shape
 from pertxogai.spelling.facts import ORIGIN_KNOT, RadiusOf
 from pertxogai.values import Number
 
@@ -23,31 +23,31 @@ class Settled:
     unsized: tuple[str, ...]
 
 
-def settled(drawing: Drawing, asked: Asked, solved: Solved) -> Settled:
+def settled(drawing: Drawing, asked: Asked, shape: Shape) -> Settled:
     """What was printed for a drawing, carried to the datum's frame and rounded there."""
-    points = _points(asked, solved)
+    points = _points(asked, shape)
     radii: dict[str, int] = {}
     unsized = []
     sizes = _sizes(asked, points)
-    for shape in drawing.geometry:
-        if isinstance(shape, (Circle, Arc)):
-            radius = _radius(asked, sizes, shape.name)
+    for rim in drawing.geometry:
+        if isinstance(rim, (Circle, Arc)):
+            radius = _radius(asked, sizes, rim.name)
             if radius is None:
-                unsized.append(shape.name)
-                radius = _whole(drawing.drawn_radius_um(shape.name) * 1000)
-            radii[shape.name] = radius
+                unsized.append(rim.name)
+                radius = _whole(drawing.drawn_radius_um(rim.name) * 1000)
+            radii[rim.name] = radius
     return Settled(Solution(points, radii), tuple(unsized))
 
 
-def solution_of(drawing: Drawing, asked: Asked, solved: Solved) -> Solution:
+def solution_of(drawing: Drawing, asked: Asked, shape: Shape) -> Solution:
     """The places alone."""
-    return settled(drawing, asked, solved).solution
+    return settled(drawing, asked, shape).solution
 
 
-def _points(asked: Asked, solved: Solved) -> dict[PointRef, Spot]:
+def _points(asked: Asked, shape: Shape) -> dict[PointRef, Spot]:
     """Where each of the designer's points lies."""
     spelled = asked.spelled
-    at = in_datum(asked.axes, spelled, Plate.of(solved.places, spelled.scale))
+    at = in_datum(asked.axes, spelled, Plate.of(shape.places, spelled.scale))
     return {ref: at[spelled.points[knot]] if knot in spelled.points else (0, 0)
             for ref, knot in asked.axes.facts.refs.items() if ref != ORIGIN}
 

@@ -33,7 +33,8 @@ class Phase(Enum):
 
 
 class Cause(Enum):
-    """Why a number has no root or quotient: it can't be told from 0, or no shape has it."""
+    """Why a number has no root or quotient: it can't be told from 0, or no shape has it with the
+    choices of steps that the drawing makes."""
 
     FLAT = "flat"
     GAP = "gap"
@@ -64,7 +65,8 @@ class StepAt:
 @dataclass(frozen=True)
 class NumberFault:
     """A number under a root or of a divisor lies between `low` and `high`, in units of 2^-bits:
-    `flat` where it can't be told from 0, `gap` where no shape has it."""
+    `flat` where it can't be told from 0, `gap` where no shape has it with these choices of steps:
+    by boxes on no grid, by points on this one."""
 
     at: StepAt
     cause: Cause
