@@ -31,10 +31,21 @@ def drawing_json(judged: JudgedDrawing) -> dict[str, object]:
         "parts": [_part(judgement, part) for part in _check(judgement).parts],
         **spelled_json(judged),
         "lacks": judgement.missing.count if judgement.missing else 0,
+        "by_rank": _by_rank(judgement),
         "spare": [spare_json(each) for each in judgement.surplus],
         **_placed_json(judged),
         "warnings": [each.text() for each in judgement.warnings],
     }
+
+
+def _by_rank(judgement: Judgement) -> dict[str, object]:
+    """What is counted by the rank of what the drawing says, and not by the program: how many
+    dimensions are lacking at least, how the whole may be moved, and what is loose though the
+    drawing is over."""
+    found = judgement.missing
+    return {"lacks": found.count if found else 0,
+            "whole": found.whole.text() if found and found.whole else "",
+            "loose": list(judgement.loose)}
 
 
 def spelled_json(judged: JudgedDrawing) -> dict[str, object]:
@@ -164,9 +175,11 @@ def _missing_lines(judgement: Judgement) -> Iterator[str]:
     if lacks is None:
         return
     if lacks.count:
-        yield f"  lacks {lacks.count} dimension{'s' if lacks.count > 1 else ''} at least"
+        plural = "s" if lacks.count > 1 else ""
+        yield f"  lacks {lacks.count} dimension{plural} at least (by rank)"
     if lacks.whole is not None and lacks.whole.ways:
-        yield f"  not tied to the datum: the whole may still be {lacks.whole.text()}"
+        yield (f"  not tied to the datum: the whole may still be {lacks.whole.text()} "
+               "(by rank)")
     for piece in lacks.pieces:
         yield f"  piece {piece.number}: {' '.join(piece.elements)}"
     for joint in lacks.joints[:MOST_ADVICE]:
@@ -178,13 +191,14 @@ def _missing_lines(judgement: Judgement) -> Iterator[str]:
 
 
 def _surplus_lines(judgement: Judgement) -> Iterator[str]:
-    """What may go."""
+    """What may go, how far it is off, and what the rest is then."""
     if judgement.surplus:
         yield "  what to do: take one of these away, and ask again"
     for each in judgement.surplus:
-        off = each.off
-        told_off = "" if off is None else f": off by {off.amount} {off.unit.value} without it"
-        yield f"    {each.name}{told_off}"
+        off = "" if each.off is None else f": off by {each.off.amount} {each.off.unit.value}"
+        then = "" if each.then is None else f"; the rest is {each.then.value} without it"
+        yield f"    {each.name}{off}{then}"
+    yield from (f"  lacks a dimension all the same: {what} (by rank)" for what in judgement.loose)
 
 
 def _check(judgement: Judgement) -> CheckReport:
@@ -204,7 +218,8 @@ def spare_json(each: Surplus) -> dict[str, object]:
     """A dimension that may go."""
     return {"number": each.number, "name": each.name, "repeats": each.repeats(),
             "off": each.off.amount if each.off is not None else None,
-            "unit": each.off.unit.value if each.off is not None else None}
+            "unit": each.off.unit.value if each.off is not None else None,
+            "rest": each.then.value if each.then is not None else None}
 
 
 def _places(drawing: Drawing, solution: Solution) -> dict[str, object]:

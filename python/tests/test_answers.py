@@ -117,7 +117,7 @@ def test_what_is_told_on_the_other_side_contradicts(program, text, off_mm):
     left_out = [each for part in read_excess(answer.text).parts for each in part.left_out]
     scale = found.asked.spelled.scale
     assert max(abs(each.off.amount) for each in left_out) == off_mm * 1_000_000 * scale
-    last = found.surplus[-1]
+    last = max(found.surplus, key=lambda each: each.number)
     assert last.off.amount == off_mm * 1_000_000 and last.repeats() is (off_mm == 0)
 
 
@@ -128,7 +128,7 @@ def test_what_is_spare_then_goes_only_where_it_is_not_needed_in_part(program):
             "symmetric L.start L.end about XAxis\n")
     found = judge(read_drawing(text), program)
     assert [(each.number, each.off.amount) for each in found.surplus] == [
-        (1, 0), (3, 20_000_000)]  # The image of (10, 0) is itself, 20 mm from (10, 20).
+        (3, 20_000_000), (1, 0)]  # The image of (10, 0) is itself, 20 mm from (10, 20).
 
 
 @pytest.mark.parametrize("text, place, at", [

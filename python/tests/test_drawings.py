@@ -3,7 +3,9 @@
 A drawing says in notes what was worked out by hand: its verdict (`expect`), where points lie
 (`place A 10 20`), how far apart two are (`span A B 5`), how large rims are (`radius Hole 2.5`),
 all in millimetres and within 2 nm, or as many as `within` says. One that is well is good, but for
-what its note says is off, or without a size."""
+what its note says is off, or without a size. Of one that is over a note says what may go (`spare`),
+how far it is off in millimetres and what the rest is then (`goes A by 5 then open`), and what may
+not (`stays`)."""
 
 from __future__ import annotations
 
@@ -14,7 +16,7 @@ from pathlib import Path
 
 import pytest
 
-from pertxogai.answers import judge
+from pertxogai.answers import Then, judge
 from pertxogai.drawing import (
     Coincident, Drawing, PointRef, Which, constraints, read_drawing, um_of_mm, write_drawing)
 from pertxogai.good import Lack, reasons_against
@@ -77,6 +79,7 @@ def test_drawing_is_judged_as_expected(drawing, program):
             assert found.missing.count == int(count)
         case ("over", "spare", *spare):
             assert names_of(tuple(spare)) <= {each.name for each in found.surplus}
+            assert_goes(drawing, found)
         case _:
             pytest.fail(f"no expectation: {expected.words}")
 
@@ -90,6 +93,18 @@ def lacks(drawing, found, lack):
     """What is off, by the names of the constraints."""
     return [drawing.called(each.constraint) for each in reasons(drawing, found)
             if each.lack is lack]
+
+
+def assert_goes(drawing, found):
+    """What may go, by how much it is off, and what may not go."""
+    surplus = {each.name: each for each in found.surplus}
+    for each in said(drawing, "goes"):
+        place = each.words.index("by")
+        gone = surplus[" ".join(each.words[:place])]
+        assert abs(gone.off.amount - each.nm(place + 1)) <= each.within_nm, each.words
+        assert gone.then is Then(" ".join(each.words[place + 3:])), each.words
+    for each in said(drawing, "stays"):
+        assert not names_of(each.words) & surplus.keys()
 
 
 def assert_told(found, words):

@@ -68,7 +68,7 @@ def test_two_eyes_and_their_common_tangent(capsys: pytest.CaptureFixture[str]) -
 def test_too_much_is_told_by_name(capsys: pytest.CaptureFixture[str]) -> None:
     status, out, _ = called(capsys, "judge", FILES / "twice.FCStd")
     assert status == 1 and out.startswith("Sketch: over")
-    assert "    above: off by 0 nm without it" in out.splitlines()
+    assert "    above: off by 0 nm; the rest is well without it" in out.splitlines()
     spare = sketch_of(capsys, FILES / "contradiction.FCStd")["spare"]
     above = next(each for each in spare if each["name"] == "above")
     assert (above["off"], above["unit"], above["repeats"]) == (5 * MM, "nm", False)
@@ -77,7 +77,7 @@ def test_too_much_is_told_by_name(capsys: pytest.CaptureFixture[str]) -> None:
 def test_too_little_is_told_by_pieces(capsys: pytest.CaptureFixture[str]) -> None:
     status, out, _ = called(capsys, "judge", FILES / "hinge.FCStd")
     assert status == 1 and out.startswith("Sketch: open")
-    assert "  lacks 1 dimension at least" in out.splitlines()
+    assert "  lacks 1 dimension at least (by rank)" in out.splitlines()
 
 
 def test_each_sketch_of_a_file_is_judged(capsys: pytest.CaptureFixture[str]) -> None:

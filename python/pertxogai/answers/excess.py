@@ -166,6 +166,7 @@ def _excess(names: Names, number: int, each: Excessive, owners: frozenset[Owner]
     name, off = names.drawing.called(number), each.off
     if off is None:
         return Excess(number, name)
-    own = isinstance(each.constraint, language.Distance) and owners == {Owner(number)}
+    if not isinstance(each.constraint, language.Distance) or owners != {Owner(number)}:
+        return Excess(number, name, off.conflicts)
     return Excess(number, name, off.conflicts,
-                  off_um(names, number, each.constraint, off.amount) if own else None)
+                  off_um(names, number, each.constraint, off.amount))

@@ -1,21 +1,25 @@
 """How many dimensions a drawing lacks at least, by the rank of its equations.
 
-Each fact is one equation or two in the places of the points, the lengths and the radii. The rank
-at places without any pattern is the greatest that there is; so wherever the facts are met, as many
+Each fact is one equation or two in the places of the points, the lengths and the radii. Those that
+are linear are met by the places at which the rank is reckoned, and beside that these places have
+no pattern, so that the rank is the greatest that there is. So wherever the facts are met, as many
 freedoms are left as there are unknowns more than that rank, or more where facts repeat each other.
-The rank is reckoned in whole numbers modulo a prime, without rounding, at places that are drawn by
-lot. It comes out too small by a chance of less than one in 10^14. """
+It is reckoned in whole numbers modulo a prime, without rounding, at places that are drawn by lot,
+and comes out too small by a chance of less than one in 10^14. """
 from __future__ import annotations
 
-from collections.abc import Hashable, Iterable, Iterator, Mapping
+from collections.abc import Hashable, Iterable, Iterator, Mapping, Sequence
 from dataclasses import dataclass
+from itertools import combinations
 from random import Random
 
 from pertxogai.answers.jets import PRIME, Jet, Rows, TooMany
-from pertxogai.drawing import X_AXIS, Y_AXIS
+from pertxogai.drawing import X_AXIS, Y_AXIS, Arc, Circle, Drawing
+from pertxogai.spelling import axes_said
+from pertxogai.spelling.axes import Axes, Coordinate
 from pertxogai.spelling.directions import Directions
 from pertxogai.spelling.facts import (
-    ORIGIN_KNOT, Apart, Fact, Facts, Knot, Leans, Lies, Line, Middle, Mirror, Off, OneLine,
+    DATUM, ORIGIN_KNOT, Apart, Fact, Knot, Leans, Lies, Line, Middle, Mirror, Off, OneLine,
     RadiusOf, Shift, Sized, Stays)
 from pertxogai.spelling.lean import Lean
 from pertxogai.values import Form, Number
@@ -23,14 +27,6 @@ from pertxogai.values import Form, Number
 Way = tuple[Jet, Jet]
 ZERO, ONE = Jet(0), Jet(1)
 WAYS: dict[Line, Way] = {X_AXIS: (ONE, ZERO), Y_AXIS: (ZERO, ONE)}
-
-
-@dataclass(frozen=True)
-class Along:
-    """A point's x, or its y where `upwards`, as an unknown."""
-
-    knot: Knot
-    upwards: bool
 
 
 @dataclass(frozen=True)
@@ -54,48 +50,79 @@ class Whole:
 
 
 @dataclass(frozen=True)
+class Loose:
+    """A point that its own dimensions leave free, wherever all others are: along x, along y, both,
+    or another way."""
+
+    knot: Knot
+    along_x: bool
+    along_y: bool
+
+    def text(self, name: str) -> str:
+        """What it lacks, as one says it of the point of that name."""
+        if self.along_x and self.along_y:
+            return f"nothing tells where {name} is"
+        if self.along_x or self.along_y:
+            return f"nothing tells the {'x' if self.along_x else 'height'} of {name}"
+        return f"{name} lacks a dimension"
+
+
+@dataclass(frozen=True)
 class Freedoms:
-    """lacks: how many freedoms are left at least beside those of the whole."""
+    """lacks: how many freedoms are left at least beside those of the whole. loose: the points that
+    are free by themselves."""
 
     lacks: int
     whole: Whole
+    loose: tuple[Loose, ...]
 
 
-def freedoms(facts: Facts, rims: Iterable[str]) -> Freedoms | None:
-    """The freedoms of the points of some facts, and of the radii of these circles and arcs; None
+def freedoms(drawing: Drawing) -> Freedoms | None:
+    """The freedoms of the points of a drawing, and of the radii of its circles and arcs; None
     where they take too long to count."""
-    places = _Places(facts)
-    rows = Rows()
+    places = _Places(axes_said(drawing))
+    rims = (each.name for each in drawing.geometry if isinstance(each, (Circle, Arc)))
     slopes = [jet.slope for jet in places.equations()]
     unknowns = {*places.unknowns(), *map(RadiusOf, rims)}
+    rows = Rows()
     try:
         for slope in slopes:
             rows.add(slope)
     except TooMany:
         return None
     whole = places.whole(slopes)
-    return Freedoms(max(0, len(unknowns) - len(rows) - whole.ways), whole)
+    loose = tuple(places.loose(slopes))
+    return Freedoms(max(0, len(unknowns) - len(rows) - whole.ways), whole, loose)
 
 
 class _Places:
-    """The points of some facts at places drawn by lot."""
+    """The points of a drawing at places drawn by lot that meet what is linear."""
 
-    def __init__(self, facts: Facts) -> None:
-        self.facts = facts
+    def __init__(self, axes: Axes) -> None:
+        self.axes, self.facts = axes, axes.facts
         self._chance = Random(1)
+        self._drawn: dict[Hashable, int] = {}
         self._sizes: dict[Hashable, Jet] = {}
         self._spots: dict[Knot, Way] = {ORIGIN_KNOT: (ZERO, ZERO)}
-        for knot in facts.refs.values():
+        for knot in self.facts.refs.values():
             if knot not in self._spots:
-                self._spots[knot] = self._jet(Along(knot, False)), self._jet(Along(knot, True))
+                x, y = (Coordinate(DATUM, upwards, knot) for upwards in (False, True))
+                self._spots[knot] = self._jet(x), self._jet(y)
 
     def _jet(self, unknown: Hashable) -> Jet:
-        return Jet.of(unknown, self._chance.randrange(1, PRIME))
+        """An unknown at its value by what is linear."""
+        form = self.axes.system.value(unknown)
+        value = _modulo(form.number)
+        for key, factor in form.terms.items():
+            if key not in self._drawn:
+                self._drawn[key] = self._chance.randrange(1, PRIME)
+            value += self._drawn[key] * _modulo(factor)
+        return Jet.of(unknown, value)
 
     def unknowns(self) -> Iterator[Hashable]:
         """All unknowns that were spoken of, and those of each point."""
         for knot in self._spots.keys() - {ORIGIN_KNOT}:
-            yield from (Along(knot, upwards) for upwards in (False, True))
+            yield from (Coordinate(DATUM, upwards, knot) for upwards in (False, True))
         yield from self._sizes
 
     # -- equations
@@ -107,6 +134,14 @@ class _Places:
         for fact in self.facts.facts:
             if not isinstance(fact, Leans) or directions.tell(fact):
                 yield from self._equations(fact)
+        yield from self._told()
+
+    def _told(self) -> Iterator[Jet]:
+        """What follows to be linear."""
+        for equation in self.axes.equations:
+            keys = [key for key in equation.form.terms if isinstance(key, Coordinate)]
+            if all(key.frame == DATUM for key in keys):
+                yield self._size(equation.form)
 
     def _equations(self, fact: Fact) -> Iterator[Jet]:
         match fact:
@@ -156,13 +191,33 @@ class _Places:
         return _cross(self._way(line), self._between(self.facts.own[line][0], point))
 
     def _size(self, form: Form) -> Jet:
-        """The value of a sum of sizes."""
+        """The value of a sum of sizes and coordinates."""
         total = Jet(_modulo(form.number))
         for key, factor in form.terms.items():
-            if key not in self._sizes:
-                self._sizes[key] = self._jet(key)
-            total += self._sizes[key] * Jet(_modulo(factor))
+            total += self._of(key) * Jet(_modulo(factor))
         return total
+
+    def _of(self, key: Hashable) -> Jet:
+        """A coordinate, or a size."""
+        if isinstance(key, Coordinate):
+            return self._spots[key.knot][key.upwards]
+        if key not in self._sizes:
+            self._sizes[key] = self._jet(key)
+        return self._sizes[key]
+
+    # -- single points
+
+    def loose(self, slopes: Iterable[Mapping[Hashable, int]]) -> Iterator[Loose]:
+        """The points that are free while all others stay."""
+        told: dict[Knot, list[tuple[int, int]]] = {knot: [] for knot in self._spots}
+        for slope in slopes:
+            for knot in {key.knot for key in slope if isinstance(key, Coordinate)}:
+                x, y = (slope.get(Coordinate(DATUM, each, knot), 0) for each in (False, True))
+                told[knot].append((x, y))
+        for knot in told.keys() - {ORIGIN_KNOT}:
+            if not _spans(told[knot]):
+                yield Loose(knot, not any(x for x, _ in told[knot]),
+                            not any(y for _, y in told[knot]))
 
     # -- the whole
 
@@ -177,18 +232,24 @@ class _Places:
         return Whole(x, y, 3 - len(rows))
 
     def _shift(self, upwards: bool) -> dict[Hashable, int]:
-        return {Along(knot, upwards): 1 for knot in self._spots}
+        return {Coordinate(DATUM, upwards, knot): 1 for knot in self._spots}
 
     def _turn(self) -> dict[Hashable, int]:
         """A turn about the origin."""
         motion: dict[Hashable, int] = {}
         for knot, (x, y) in self._spots.items():
-            motion[Along(knot, False)], motion[Along(knot, True)] = -y.value, x.value
+            motion[Coordinate(DATUM, False, knot)] = -y.value
+            motion[Coordinate(DATUM, True, knot)] = x.value
         return motion
 
 
 def _change(slope: Mapping[Hashable, int], motion: Mapping[Hashable, int]) -> int:
     return sum(value * motion.get(key, 0) for key, value in slope.items()) % PRIME
+
+
+def _spans(ways: Sequence[tuple[int, int]]) -> bool:
+    """Whether ways go in two directions."""
+    return any((x * v - y * u) % PRIME for (x, y), (u, v) in combinations(ways, 2))
 
 
 def _square(jet: Jet) -> Jet:

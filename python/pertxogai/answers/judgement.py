@@ -1,23 +1,22 @@
 """What becomes of a drawing: the program's verdict with its reasons, in the designer's words."""
 from __future__ import annotations
 
-from collections.abc import Iterable, Sequence
 from dataclasses import dataclass, replace
 
 from pertxogai.answers.asking import Asked, Place, ask_styles, counted, finer, written_by
-from pertxogai.answers.excess import REPEATS_NM, REPEATS_PPB
 from pertxogai.answers.faults import Failure, failure
 from pertxogai.answers.limits import check_fits
-from pertxogai.answers.missing import Missing, missing
+from pertxogai.answers.missing import Missing, loose, missing
 from pertxogai.answers.naming import Names
 from pertxogai.answers.placing import is_tied
 from pertxogai.answers.solution import settled, solution_of
+from pertxogai.answers.surplus import Surplus, spare_at_once, what_may_go, worst
 from pertxogai.answers.warnings import Warning, warnings
 from pertxogai.choices import Tried, beneath, tried
 from pertxogai.drawing import Circle, Drawing, moved
-from pertxogai.measure import Deviation, Limit, Solution, Unit, greatest, measure
+from pertxogai.measure import Deviation, Limit, Solution, Unit, measure
 from pertxogai.program import Asks
-from pertxogai.reports import Shape, Solved, Verdict, read_plan, read_spare
+from pertxogai.reports import Shape, Solved, Verdict, read_plan
 from pertxogai.spelling.facts import RadiusOf
 from pertxogai.spelling.style import Style
 
@@ -25,26 +24,6 @@ FINE_NM = 2
 """What is off by more is asked for again with finer angles."""
 HOLDS_NM = 1
 """What was left out holds where it is off by no more."""
-TRIED = 12
-"""So many dimensions at most are left out by turns."""
-NEXT_TRIED = 4
-"""So many at most are tried as the next that goes too."""
-
-
-@dataclass(frozen=True)
-class Surplus:
-    """A dimension that may go, and how far it is off once the rest is placed without it: a repeat
-    where `amount` is within the limit that `too_much` has. None where the rest has no places."""
-
-    number: int
-    name: str
-    off: Deviation | None
-
-    def repeats(self) -> bool | None:
-        """Whether it says the same as the others; None where that can't be told."""
-        if self.off is None:
-            return None
-        return self.off.amount <= (REPEATS_NM if self.off.unit is Unit.NM else REPEATS_PPB)
 
 
 @dataclass(frozen=True)
@@ -65,7 +44,7 @@ class Judgement:
     """The program's verdict on a drawing and all that goes with it.
 
     style: how it was spelled. pieces and missing: where it is open. surplus: where it is over,
-    each dimension that may go. solution: where it is placed, in the datum's frame, in whole
+    each dimension that may go; loose: what is lacking all the same. solution: where it is placed, in the datum's frame, in whole
     nanometres; place: by boxes or by points. failure: why it isn't, though it is well. deviations:
     of each constraint on those places. left_out: constraints that couldn't be spelled. frozen:
     those left to their drawn values, to be measured. rounded: those of which the value had to be
@@ -79,6 +58,7 @@ class Judgement:
     names: Names
     missing: Missing | None = None
     surplus: tuple[Surplus, ...] = ()
+    loose: tuple[str, ...] = ()
     solution: Solution | None = None
     failure: Failure | None = None
     deviations: tuple[Deviation, ...] = ()
@@ -106,7 +86,7 @@ class Judgement:
         """What couldn't be spelled, as it was measured all the same."""
         owners = sorted(each for each in self.asked.spelled.left_out if each.number)
         return tuple(LeftOut(self.names.owner(each),
-                             None if each.shape else _worst(self.deviations, each.number))
+                             None if each.shape else worst(self.deviations, each.number))
                      for each in owners)
 
     @property
@@ -173,7 +153,7 @@ def judge_at_once(drawing: Drawing, program: Asks, freeze: bool = False,
     if asked.verdict is Verdict.OPEN:
         return replace(judged, missing=missing(names, asked.check))
     return replace(judged, surplus=tuple(Surplus(number, drawing.called(number), None)
-                                         for number in _spare(judged, program)))
+                                         for number in spare_at_once(asked, program)))
 
 
 def with_choices(judged: Judgement, program: Asks, limit: Limit = Limit()) -> Judgement:
@@ -238,71 +218,13 @@ def _greatest(judged: Judgement) -> int:
 
 
 def weighed(judged: Judgement, program: Asks) -> Judgement:
-    """The judgement with each dimension that may go, and without which the rest isn't open,
-    measured on the rest. Raises as `judge_at_once`."""
-    numbers, drawing = [each.number for each in judged.surplus], judged.names.drawing
-    found = []
-    for number in numbers[:TRIED]:
-        rest = _rest_without(drawing, number, program, len(numbers))
-        if rest is not None:
-            off = _off(drawing, number, *rest) if isinstance(rest[1].solved, Solved) else None
-            found.append(Surplus(number, drawing.called(number), off))
-    found += [Surplus(number, drawing.called(number), None) for number in numbers[TRIED:]]
-    return replace(judged, surplus=tuple(found))
-
-
-def _spare(judged: Judgement, program: Asks) -> list[int]:
-    """The places of the designer's constraints that the program calls spare, by number."""
-    spelled = judged.asked.spelled
-    spare = read_spare(written_by(program, "spare", spelled.sketch.text()))
-    owners = {owner for each in spare for owner in spelled.owners[each.number - 1]}
-    return sorted(owner.number for owner in owners if owner.number and not owner.shape)
-
-
-def _rest_without(drawing: Drawing, number: int, program: Asks,
-                  depth: int) -> tuple[Drawing, Asked] | None:
-    """What is well of a drawing without a constraint, and without more of what is spare then,
-    where the rest is still over; None where the rest is open, so that the constraint can't go."""
-    gone = [number]
-    rest, kept = _without(drawing, gone)
-    asked = ask_styles(rest, program, False)
-    for _ in range(depth):
-        if asked.verdict is not Verdict.OVER:
-            break
-        spare = _spare(Judgement(Verdict.OVER, asked,
-                                 Names(rest, asked.spelled, asked.axes.facts.refs)), program)
-        # The last one that isn't needed in part.
-        for each in spare[:-NEXT_TRIED - 1:-1]:
-            without = [*gone, kept[each - 1]]
-            less, fewer = _without(drawing, without)
-            asked = ask_styles(less, program, False)
-            if asked.verdict is not Verdict.OPEN:
-                gone, rest, kept = without, less, fewer
-                break
-        else:
-            return None
-    return (rest, asked) if asked.verdict is Verdict.WELL else None
-
-
-def _off(drawing: Drawing, number: int, rest: Drawing, asked: Asked) -> Deviation | None:
-    """How far a constraint is off on the places of the rest."""
-    if not isinstance(asked.solved, Solved):
-        return None
-    return _worst(measure(drawing, solution_of(rest, asked, asked.solved)), number)
-
-
-def _without(drawing: Drawing, gone: Sequence[int]) -> tuple[Drawing, list[int]]:
-    """The drawing without some constraints, and the places, from 1, of those that are kept."""
-    kept = [number for number in range(1, len(drawing.constraints) + 1) if number not in gone]
-    return Drawing(drawing.geometry,
-                   tuple(drawing.constraints[number - 1] for number in kept)), kept
-
-
-def _worst(deviations: Iterable[Deviation], number: int) -> Deviation | None:
-    """The deviation of a constraint that counts: in nanometres, before that of an angle."""
-    mine = [each for each in deviations if each.number == number]
-    lengths = [each for each in mine if each.unit is Unit.NM]
-    return greatest(lengths, Unit.NM) or greatest(mine, Unit.PPB)
+    """The judgement with each dimension that may go tried, and measured on the rest. Raises as
+    `judge_at_once`."""
+    if judged.verdict is not Verdict.OVER:
+        return judged
+    drawing, asked = judged.names.drawing, judged.asked
+    return replace(judged, surplus=what_may_go(drawing, asked, program),
+                   loose=loose(judged.names))
 
 
 __all__ = ["Judgement", "Surplus", "judge", "judge_at_once", "weighed", "with_choices",

@@ -7,9 +7,7 @@ from enum import Enum
 
 from pertxogai.answers.freedoms import Whole, freedoms
 from pertxogai.answers.naming import Names
-from pertxogai.drawing import Arc, Circle
 from pertxogai.reports import CheckReport, Part
-from pertxogai.spelling import said
 
 
 class Tie(Enum):
@@ -57,8 +55,7 @@ class Missing:
 def missing(names: Names, check: CheckReport) -> Missing:
     """What is missing: how much, by the rank of what the drawing says; and between which of the
     program's parts."""
-    rims = [each.name for each in names.drawing.geometry if isinstance(each, (Circle, Arc))]
-    free = freedoms(said(names.drawing), rims)
+    free = freedoms(names.drawing)
     pieces = tuple(Piece(part.number, names.elements(part.elements)) for part in check.parts)
     shown = [place for place, piece in enumerate(pieces) if piece.elements]
     joints = tuple(_joint(names, check.parts, pieces, shown, place) for place in shown[1:])
@@ -66,6 +63,16 @@ def missing(names: Names, check: CheckReport) -> Missing:
     if free is None:
         return Missing(0, shown_pieces, joints)
     return Missing(free.lacks, shown_pieces, joints, free.whole)
+
+
+def loose(names: Names) -> tuple[str, ...]:
+    """What is lacking of single points, though the drawing is over."""
+    free = freedoms(names.drawing)
+    if free is None or len(names.spelled.points) < 3:
+        return ()
+    firsts = {knot: ref for ref, knot in reversed(names.refs.items())}
+    return tuple(each.text(str(firsts[each.knot])) for each in free.loose
+                 if each.knot in firsts)
 
 
 def _joint(names: Names, parts: tuple[Part, ...], pieces: tuple[Piece, ...], shown: list[int],

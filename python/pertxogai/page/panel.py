@@ -85,7 +85,7 @@ def _open(judgement: Judgement) -> Iterator[Line]:
     found = judgement.missing
     assert found is not None
     plural = "s" if found.count > 1 else ""
-    yield Line(f"Lacks {found.count} dimension{plural} at least." if found.count
+    yield Line(f"Lacks {found.count} dimension{plural} at least, by rank." if found.count
                else "It doesn’t hold together by triangles.")
     for piece in found.pieces[:MOST_PIECES]:
         yield Line(f"piece {piece.number}: {' '.join(piece.elements)}", list="pieces",

@@ -10,6 +10,7 @@ from pertxogai.kept import kept
 from pertxogai.spelling.axes import Axes
 from pertxogai.spelling.crossings import with_crossings
 from pertxogai.spelling.facts import Facts
+from pertxogai.spelling.lines import Lines
 from pertxogai.spelling.lowering import lowered
 from pertxogai.spelling.middles import with_ways
 from pertxogai.spelling.polygons import with_polygons
@@ -46,9 +47,10 @@ def axes_of(drawing: Drawing, reading: Reading = READINGS[0]) -> Axes:
     return Spellings.of(_read(lowered(drawing), reading)).axes
 
 
-def said(drawing: Drawing) -> Facts:
-    """What a drawing says, before a reading takes some of it otherwise."""
-    return with_crossings(lowered(drawing))
+def axes_said(drawing: Drawing) -> Axes:
+    """What a drawing says of x and y, before a reading takes some of it otherwise."""
+    facts = with_crossings(lowered(drawing))
+    return Axes(facts, Lines(facts))
 
 
 def readings(drawing: Drawing, before: Drawing = Drawing()) -> Iterator[Spellings]:
@@ -83,4 +85,4 @@ def _read(heard: Facts, reading: Reading) -> Facts:
 
 
 __all__ = ["Axes", "Care", "READINGS", "Rails", "Reading", "Spelled", "Spellings", "Style",
-           "axes_of", "readings", "said", "spell", "written"]
+           "axes_of", "axes_said", "readings", "spell", "written"]

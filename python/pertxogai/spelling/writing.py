@@ -478,7 +478,7 @@ class Writer:
             back = abs(int(drawn)) + abs(int(height)) + 1000
             behind = self._line_behind(knot, rail, -back if height > 0 else back)
             self.behind[behind] = Behind(name, back)
-            name, height = behind, abs(height) + back
+            name, height = behind, max(height, -height) + back
         self._say(self.points[knot], name, said, height)
 
     def _line_behind(self, knot: Knot, rail: Rail, shift: int) -> str:

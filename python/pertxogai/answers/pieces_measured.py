@@ -1,0 +1,82 @@
+"""How far a constraint is off on one placed piece of a drawing that is open."""
+from __future__ import annotations
+
+from collections.abc import Mapping
+from contextlib import suppress
+
+from pertxogai.answers.asking import Asked, written_by
+from pertxogai.answers.placing import Plate, Spot
+from pertxogai.drawing import (
+    ORIGIN, X_AXIS, Y_AXIS, Arc, Circle, Constraint, Drawing, Fixed, Horizontal, PointRef,
+    Vertical, XDistance, YDistance)
+from pertxogai.drawing.spoken import named
+from pertxogai.measure import Deviation, Frame, MissingPlace, Solution, Unit
+from pertxogai.measure.amounts import amounts
+from pertxogai.measure.placed import Placed
+from pertxogai.program import Asks
+from pertxogai.reports import Solved, read_parts
+from pertxogai.spelling.facts import DATUM, RadiusOf
+from pertxogai.values import Number
+
+UPRIGHT = Horizontal, Vertical, XDistance, YDistance
+"""What speaks of the datum's directions."""
+DATUM_NAMES = {ORIGIN.shape, X_AXIS.name, Y_AXIS.name}
+
+
+def off_in_pieces(drawing: Drawing, number: int, asked: Asked, program: Asks) -> Deviation | None:
+    """How far a constraint is off on the first placed piece that has all that it speaks of, where
+    `asked` is of the drawing without it; None where none has. Raises ProgramError."""
+    constraint = drawing.constraints[number - 1]
+    report = read_parts(written_by(program, "parts", asked.spelled.sketch.text()))
+    for part in report.parts:
+        if isinstance(part.shape, Solved):
+            piece = _Piece(drawing, asked, Plate.of(part.shape.places, asked.spelled.scale))
+            with suppress(MissingPlace):
+                if piece.lies_as_needed(constraint):
+                    placed = Placed(drawing, piece.solution())
+                    return Deviation(number, constraint, amounts(placed, constraint)[0], Unit.NM)
+    return None
+
+
+class _Piece:
+    """A placed piece of a drawing, in micrometres, in a frame of its own."""
+
+    def __init__(self, drawing: Drawing, asked: Asked, plate: Plate) -> None:
+        self.drawing, self.asked, self.plate = drawing, asked, plate
+        self.right = plate.axis(asked.spelled.headings, DATUM)
+
+    def lies_as_needed(self, constraint: Constraint) -> bool:
+        """Whether the piece lies to the datum as a constraint needs it."""
+        if isinstance(constraint, Fixed) or DATUM_NAMES.intersection(named(constraint)):
+            return self.right is not None and len(self._axes()) == 2
+        return self.right is not None or not isinstance(constraint, UPRIGHT)
+
+    def _axes(self) -> list[str]:
+        """The lines of the datum's axes in the piece."""
+        return [each.name for each in self.asked.spelled.headings
+                if each.rail is not None and each.rail.datum() and each.name in self.plate.lines]
+
+    def solution(self) -> Solution:
+        """The places of the piece, in nanometres of the drawing."""
+        return Solution(dict(self._points()), dict(self._radii()),
+                        Frame(self._origin(), self.right or (1, 0)))
+
+    def _origin(self) -> Spot:
+        """Where the datum's axes meet: they are square to each other."""
+        feet = [self.plate.foot(name) for name in self._axes()]
+        return sum(x for x, _ in feet) * 1000, sum(y for _, y in feet) * 1000
+
+    def _points(self) -> Mapping[PointRef, Spot]:
+        found = {}
+        for ref, knot in self.asked.axes.facts.refs.items():
+            name = self.asked.spelled.points.get(knot)
+            if name in self.plate.points and name is not None:
+                x, y = self.plate.points[name]
+                found[ref] = x * 1000, y * 1000
+        return found
+
+    def _radii(self) -> Mapping[str, Number]:
+        """The radii that are told."""
+        rims = [each.name for each in self.drawing.geometry if isinstance(each, (Circle, Arc))]
+        sizes = {name: self.asked.rails.size(RadiusOf(name)) for name in rims}
+        return {name: size * 1000 for name, size in sizes.items() if size is not None}

@@ -1,0 +1,233 @@
+"""What may go of a drawing that is over: what the designer may take away so that the rest isn't
+over. Each is tried: the program is asked what the rest is then, and how far the one is off is
+measured where the rest is placed. """
+from __future__ import annotations
+
+from collections.abc import Iterable, Sequence
+from contextlib import suppress
+from dataclasses import dataclass
+from enum import Enum
+from fractions import Fraction
+
+from pertxogai.answers.asking import Asked, ask_styles, written_by
+from pertxogai.answers.excess import REPEATS_NM, REPEATS_PPB
+from pertxogai.answers.freedoms import freedoms
+from pertxogai.answers.pieces_measured import off_in_pieces
+from pertxogai.answers.solution import solution_of
+from pertxogai.drawing import Coincident, Concentric, Drawing
+from pertxogai.measure import Deviation, Unit, greatest, measure
+from pertxogai.measure.exact import whole_up
+from pertxogai.program import Asks
+from pertxogai.reports import Solved, Verdict, read_spare
+from pertxogai.spelling import Axes, Spelled, Style, axes_said, readings
+from pertxogai.spelling.facts import Owner
+
+TRIED = 60
+"""So many dimensions at most are tried."""
+ASKED = 150
+"""So many drawings at most are asked of the program for it."""
+
+
+class Then(Enum):
+    """What the rest is without a dimension."""
+
+    WELL = "well"
+    NO_PLACES = "well, but it has no places"
+    OPEN = "open"
+    OVER = "over still"
+    """Another dimension has to go too."""
+
+
+@dataclass(frozen=True)
+class Surplus:
+    """A dimension that may go, what the rest is then, and how far the dimension is off where the
+    rest is placed: a repeat where `amount` is within the limit that `too_much` has. off: None
+    where the rest has no places. then: None where it wasn't tried."""
+
+    number: int
+    name: str
+    off: Deviation | None
+    then: Then | None = None
+
+    def repeats(self) -> bool | None:
+        """Whether it says the same as the others; None where that can't be told."""
+        if self.off is None:
+            return None
+        return self.off.amount <= (REPEATS_NM if self.off.unit is Unit.NM else REPEATS_PPB)
+
+
+def suspects(drawing: Drawing, asked: Asked, program: Asks) -> list[int]:
+    """The places of the constraints that may be too much, by any spelling: what the program calls
+    spare there, what tells a value or a direction again, and what that follows from; and what
+    makes points one. Raises ProgramError."""
+    found = _spare(asked.spelled, program)
+    seen = {asked.spelled.sketch.text()}
+    for spellings in readings(drawing):
+        found |= _circuits(spellings.axes)
+        for style in Style:
+            spelled = spellings.spelled(style)
+            if spelled.sketch.text() not in seen:
+                seen.add(spelled.sketch.text())
+                found |= _spare(spelled, program)
+    numbers = {owner.number for owner in found if owner.number and not owner.shape}
+    if numbers:
+        numbers |= {number for number, each in enumerate(drawing.constraints, 1)
+                    if isinstance(each, (Coincident, Concentric))}
+    return sorted(numbers)
+
+
+def what_may_go(drawing: Drawing, asked: Asked, program: Asks) -> tuple[Surplus, ...]:
+    """What may go of a drawing that is over by what was asked of it: contradictions first, those
+    that are off by least before others. Raises ProgramError."""
+    trials = _Trials(drawing, program)
+    numbers = suspects(drawing, asked, program)
+    with suppress(_Enough):
+        trials.try_all(numbers)
+    return tuple(sorted(trials.found.values(), key=_order))
+
+
+def _order(each: Surplus) -> tuple[int, int, int]:
+    """Contradictions, by how far they are off; then what isn't measured; then repeats."""
+    kind = {False: 0, None: 1, True: 2}[each.repeats()]
+    return kind, each.off.amount if each.off is not None and not kind else 0, each.number
+
+
+def spare_at_once(asked: Asked, program: Asks) -> list[int]:
+    """The places of the constraints that the program calls spare in one spelling."""
+    found = _spare(asked.spelled, program) | _circuits(asked.axes)
+    return sorted({owner.number for owner in found if owner.number and not owner.shape})
+
+
+def _spare(spelled: Spelled, program: Asks) -> set[Owner]:
+    spare = read_spare(written_by(program, "spare", spelled.sketch.text()))
+    return {owner for each in spare for owner in spelled.owners[each.number - 1]}
+
+
+def _circuits(axes: Axes) -> set[Owner]:
+    """Who tells again what others tell, and these others."""
+    found: set[Owner] = set()
+    for equation, told in axes.surplus():
+        found |= equation.owners
+        found.update(*(axes.equations[mark].owners for mark in told.marks))
+    for leans in axes.conflicts():
+        found |= {leans.owner} | axes.directions.owners(leans.first, leans.second)
+    return found
+
+
+class _Enough(Exception):
+    """So many drawings were asked of the program as may be."""
+
+
+class _Trials:
+    """A drawing that is over, tried without some of its constraints. found: what may go, by its
+    place."""
+
+    def __init__(self, drawing: Drawing, program: Asks) -> None:
+        self.drawing, self.program = drawing, program
+        self.found: dict[int, Surplus] = {}
+        self._known: dict[frozenset[int], Asked] = {}
+
+    def try_all(self, numbers: Sequence[int]) -> None:
+        """Tries each of some constraints alone; where the rest is over still without any of them,
+        each in the place of one of those that are enough together. Raises _Enough."""
+        for number in numbers[:TRIED]:
+            self._take(number, frozenset())
+        if self.found or not numbers:
+            return
+        gone = self._enough(numbers[:TRIED])
+        for number in numbers[:TRIED]:
+            nearest = sorted(gone, key=lambda other: abs(other - number))
+            next((other for other in nearest if self._take(number, gone - {other})), None)
+
+    def _take(self, number: int, others: frozenset[int]) -> bool:
+        """Whether a constraint may go beside others; then it is found."""
+        if number in others:
+            return False
+        gone = others | {number}
+        asked = self._without(gone)
+        if asked.verdict is Verdict.OVER:
+            return False
+        off = self._off(number, gone, asked)
+        if asked.verdict is Verdict.OPEN and off is None and self._is_needed(number, others):
+            return False
+        then = Then.OVER if others else self._then(asked)
+        self.found[number] = Surplus(number, self.drawing.called(number), off, then)
+        return True
+
+    def _then(self, asked: Asked) -> Then:
+        if asked.verdict is Verdict.OPEN:
+            return Then.OPEN
+        return Then.WELL if isinstance(asked.solved, Solved) else Then.NO_PLACES
+
+    def _enough(self, numbers: Sequence[int]) -> frozenset[int]:
+        """The last constraints without which the rest isn't over, each of which makes it less
+        so, and leaves nothing more free."""
+        gone: frozenset[int] = frozenset()
+        excess = _excess(self._without(gone))
+        for number in reversed(numbers):
+            less = _excess(self._without(gone | {number}))
+            if less < excess and not self._is_needed(number, gone):
+                gone, excess = gone | {number}, less
+            if not excess:
+                break
+        return gone
+
+    def _without(self, gone: frozenset[int]) -> Asked:
+        """What the program says of the drawing without some constraints. Raises _Enough."""
+        if gone not in self._known:
+            if len(self._known) >= ASKED:
+                raise _Enough
+            self._known[gone] = ask_styles(without(self.drawing, gone), self.program, False)
+        return self._known[gone]
+
+    def _off(self, number: int, gone: frozenset[int], asked: Asked) -> Deviation | None:
+        """How far a constraint is off on the places of the rest, or of a piece of it."""
+        if asked.verdict is Verdict.OPEN:
+            return (off_in_pieces(self.drawing, number, asked, self.program)
+                    or self._off_by_sums(number, gone))
+        if not isinstance(asked.solved, Solved):
+            return None
+        places = solution_of(without(self.drawing, gone), asked, asked.solved)
+        return worst(measure(self.drawing, places), number)
+
+    def _off_by_sums(self, number: int, gone: frozenset[int]) -> Deviation | None:
+        """How far a constraint is off what the rest says of x and y; None where it says nothing
+        of that."""
+        others = gone - {number}
+        owner = Owner(number - sum(other < number for other in others))
+        rest = axes_said(without(self.drawing, gone)).system
+        said = axes_said(without(self.drawing, others)).equations
+        values = [rest.reduced(each.form) for each in said if owner in each.owners]
+        off = [Fraction(max(each.number, -each.number)) for each in values if not each.terms]
+        return Deviation(number, self.drawing.constraints[number - 1], whole_up(max(off) * 1000),
+                         Unit.NM) if off else None
+
+    def _is_needed(self, number: int, others: frozenset[int]) -> bool:
+        """Whether more is free without a constraint."""
+        return _free(without(self.drawing, others | {number})) > _free(
+            without(self.drawing, others))
+
+
+def _excess(asked: Asked) -> int:
+    """How many constraints the parts hold that are too many."""
+    return sum(part.held - part.due for part in asked.parts if part.over)
+
+
+def _free(drawing: Drawing) -> int:
+    """The freedoms of a drawing, those of the whole among them; 0 where they aren't known."""
+    found = freedoms(drawing)
+    return 0 if found is None else found.lacks + found.whole.ways
+
+
+def without(drawing: Drawing, gone: Iterable[int]) -> Drawing:
+    """The drawing without the constraints of these places, from 1."""
+    left = set(gone)
+    return Drawing(drawing.geometry, tuple(
+        each for number, each in enumerate(drawing.constraints, 1) if number not in left))
+
+
+def worst(deviations: Iterable[Deviation], number: int) -> Deviation | None:
+    """The deviation of a constraint that counts: in nanometres, before that of an angle."""
+    mine = [each for each in deviations if each.number == number]
+    lengths = [each for each in mine if each.unit is Unit.NM]
+    return greatest(lengths, Unit.NM) or greatest(mine, Unit.PPB)
