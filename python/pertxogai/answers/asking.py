@@ -8,6 +8,7 @@ from collections.abc import Iterator, Sequence
 from dataclasses import dataclass, replace
 from enum import Enum
 
+from pertxogai.answers.contradicting import contradictions
 from pertxogai.answers.freezing import frozen_choices
 from pertxogai.answers.growing import grown
 from pertxogai.drawing import Drawing
@@ -105,7 +106,9 @@ def _best_style(spellings: Spellings, program: Asks) -> Asked:
             return asked
         if best is None or _worth(asked) > _worth(best):
             best = asked
-    return best or placed(ask(axes, Style.VALUES, program, Care(insist=True)), program)
+    if best is not None and (best.verdict is Verdict.OVER or not twice):
+        return best
+    return placed(ask(axes, Style.VALUES, program, Care(insist=True)), program)
 
 
 def _styles(spellings: Spellings, styles: Sequence[Style]) -> Iterator[tuple[Rails, Spelled]]:
@@ -144,10 +147,23 @@ def _ask(rails: Rails, spelled: Spelled, program: Asks, care: Care) -> Asked:
             parts = read_parts(written_by(program, "parts", spelled.sketch.text()))
             more = grown(rails.axes, rails, spelled, parts)
         if more is None:
-            return asked
+            return _contradicted(asked, program, care)
         equations.append(more.equation)
         rails = Rails(more.axes, spelled.style)
         spelled = written(more.axes, rails, spelled.style, care)
+
+
+def _contradicted(asked: Asked, program: Asks, care: Care) -> Asked:
+    """The same; where something couldn't be spelled, and contradicts what is placed, with that
+    told so."""
+    if not asked.spelled.left_out or asked.verdict is Verdict.OVER:
+        return asked
+    parts = read_parts(written_by(program, "parts", asked.spelled.sketch.text()))
+    off = contradictions(asked.rails, asked.spelled, parts)
+    if not off:
+        return asked
+    spelled = written(asked.axes, asked.rails, asked.spelled.style, replace(care, off=off))
+    return replace(_answered(asked.rails, spelled, program), grown=asked.grown)
 
 
 def written_by(program: Asks, command: str, text: str, *keys: str) -> str:

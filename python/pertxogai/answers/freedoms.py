@@ -16,13 +16,13 @@ from random import Random
 from pertxogai.answers.jets import PRIME, Jet, Rows, TooMany
 from pertxogai.drawing import X_AXIS, Y_AXIS, Arc, Circle, Drawing
 from pertxogai.spelling import axes_said
-from pertxogai.spelling.axes import Axes, Coordinate
+from pertxogai.spelling.axes import Axes, Coordinate, rank
 from pertxogai.spelling.directions import Directions
 from pertxogai.spelling.facts import (
     DATUM, ORIGIN_KNOT, Apart, Fact, Knot, Leans, Lies, Line, Middle, Mirror, Off, OneLine,
-    RadiusOf, Shift, Sized, Stays)
+    RadiusOf, Sized)
 from pertxogai.spelling.lean import Lean
-from pertxogai.values import Form, Number
+from pertxogai.values import Form, LinearSystem, Number
 
 Way = tuple[Jet, Jet]
 ZERO, ONE = Jet(0), Jet(1)
@@ -100,6 +100,9 @@ class _Places:
 
     def __init__(self, axes: Axes) -> None:
         self.axes, self.facts = axes, axes.facts
+        self._linear = LinearSystem(rank)
+        for form in self._told():
+            self._linear.add(form, 0)
         self._chance = Random(1)
         self._drawn: dict[Hashable, int] = {}
         self._sizes: dict[Hashable, Jet] = {}
@@ -111,7 +114,7 @@ class _Places:
 
     def _jet(self, unknown: Hashable) -> Jet:
         """An unknown at its value by what is linear."""
-        form = self.axes.system.value(unknown)
+        form = self._linear.value(unknown)
         value = _modulo(form.number)
         for key, factor in form.terms.items():
             if key not in self._drawn:
@@ -134,14 +137,20 @@ class _Places:
         for fact in self.facts.facts:
             if not isinstance(fact, Leans) or directions.tell(fact):
                 yield from self._equations(fact)
-        yield from self._told()
+        yield from map(self._size, self._told())
 
-    def _told(self) -> Iterator[Jet]:
-        """What follows to be linear."""
+    def _told(self) -> Iterator[Form]:
+        """What follows to be linear in the datum's frame, as forms that are 0."""
         for equation in self.axes.equations:
             keys = [key for key in equation.form.terms if isinstance(key, Coordinate)]
             if all(key.frame == DATUM for key in keys):
-                yield self._size(equation.form)
+                yield equation.form
+        for fact in self.facts.facts:
+            if isinstance(fact, Middle):
+                for upwards in (False, True):
+                    middle, first, second = (Coordinate(DATUM, upwards, knot) for knot in (
+                        fact.middle, fact.first, fact.second))
+                    yield Form.of(first) + Form.of(second) - Form.of(middle).times(2)
 
     def _equations(self, fact: Fact) -> Iterator[Jet]:
         match fact:
@@ -158,18 +167,6 @@ class _Places:
                 yield self._aside(first_knot, line) + self._aside(second_knot, line)
             case Sized(form):
                 yield self._size(form)
-            case Shift() | Middle() | Stays():
-                yield from self._linear(fact)
-
-    def _linear(self, fact: Shift | Middle | Stays) -> Iterator[Jet]:
-        match fact:
-            case Shift(first, second, upwards):
-                yield self._spots[second][upwards] - self._spots[first][upwards]
-            case Middle(middle, first, second):
-                for at, one, other in zip(*(self._spots[each] for each in (middle, first, second))):
-                    yield one + other - at - at
-            case Stays(point):
-                yield from self._spots[point]
 
     def _distance(self, fact: Apart | Off) -> Jet:
         """The square of a distance."""

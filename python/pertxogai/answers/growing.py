@@ -28,7 +28,7 @@ class Grown:
 def grown(axes: Axes, rails: Rails, spelled: Spelled, report: PartsReport) -> Grown | None:
     """The first thing that becomes a value by the placed parts; None where nothing does."""
     known = LinearSystem()
-    for number, form in enumerate(_measured(rails, spelled, report)):
+    for number, form in enumerate(measured(rails, spelled, report)):
         known.add(form, number)
     for pending in rails.pending:
         rest = known.reduced(pending.form)
@@ -54,7 +54,8 @@ def _told(form: Form) -> bool:
     return len(keys) == len(rails) == 2 and len(axes) == 1 and not sum(form.terms.values())
 
 
-def _measured(rails: Rails, spelled: Spelled, report: PartsReport) -> Iterator[Form]:
+def measured(rails: Rails, spelled: Spelled, report: PartsReport) -> Iterator[Form]:
+    """What the placed parts tell of rails and untold distances, as forms that are 0."""
     for part in report.parts:
         if isinstance(part.shape, Solved) and len(part.part.elements) > 1:
             plate = Plate.of(part.shape.places, spelled.scale)

@@ -14,7 +14,9 @@ from pertxogai.answers.excess import REPEATS_NM, REPEATS_PPB
 from pertxogai.answers.freedoms import freedoms
 from pertxogai.answers.pieces_measured import off_in_pieces
 from pertxogai.answers.solution import solution_of
-from pertxogai.drawing import Coincident, Concentric, Drawing
+from pertxogai.drawing import (
+    Arc, Circle, Coincident, Collinear, Concentric, Drawing, Fixed, Midpoint, Pair, Perpendicular,
+    ShapeRef, Symmetric, Tangent)
 from pertxogai.measure import Deviation, Unit, greatest, measure
 from pertxogai.measure.exact import whole_up
 from pertxogai.program import Asks
@@ -203,9 +205,25 @@ class _Trials:
                          Unit.NM) if off else None
 
     def _is_needed(self, number: int, others: frozenset[int]) -> bool:
-        """Whether more is free without a constraint."""
-        return _free(without(self.drawing, others | {number})) > _free(
+        """Whether without a constraint as much more is free as it says."""
+        more = _free(without(self.drawing, others | {number})) - _free(
             without(self.drawing, others))
+        return more >= equations(self.drawing, number)
+
+
+def equations(drawing: Drawing, number: int) -> int:
+    """How many equations a constraint says, by its place."""
+    match drawing.constraints[number - 1]:
+        case Coincident() | Concentric() | Collinear() | Symmetric() | Midpoint():
+            return 2
+        case Tangent(at=Pair()) | Perpendicular(at=Pair()):
+            return 3
+        case Fixed(ShapeRef(name)):
+            shape = drawing.shape(name)
+            return 3 if isinstance(shape, Circle) else 5 if isinstance(shape, Arc) else 4
+        case Fixed():
+            return 2
+    return 1
 
 
 def _excess(asked: Asked) -> int:

@@ -38,12 +38,24 @@ class Heading:
 
 
 @dataclass(frozen=True)
+class Contradiction:
+    """What can't be spelled and isn't so where the rest is placed: by how much it is off, in
+    micrometres, who says it, and who says the rest."""
+
+    amount_um: Number
+    owners: frozenset[Owner]
+    others: frozenset[Owner]
+
+
+@dataclass(frozen=True)
 class Care:
     """What else is asked of a spelling. insist: what is linear and told twice is spelled twice.
-    fine: an angle that is no ratio is told by two that add up to it, with a line of help."""
+    fine: an angle that is no ratio is told by two that add up to it, with a line of help. off:
+    what is told twice by points of its own."""
 
     insist: bool = False
     fine: bool = False
+    off: tuple[Contradiction, ...] = ()
 
 
 @dataclass(frozen=True)
@@ -92,6 +104,7 @@ def written(axes: Axes, rails: Rails, style: Style, care: Care = Care()) -> Spel
     writer.write()
     if care.insist:
         writer.write_told()
+    writer.write_off()
     return writer.spelled()
 
 
@@ -553,6 +566,17 @@ class Writer:
                                 for owner in self.axes.equations[mark].owners)
             if not self._told_height(equation, told, circuit):
                 self._told_size(number, equation, told, circuit)
+
+    def write_off(self) -> None:
+        """Spells each contradiction as a distance of two points of its own, told twice: as it
+        would be, and as much off."""
+        for number, each in enumerate(self.care.off):
+            names = f"A{number}", f"B{number}"
+            value = 1000 + max(each.amount_um, -each.amount_um)
+            for name, x in zip(names, (0, value)):
+                self.sheet.points[name] = x, 0
+            self._say(*names, said_by(each.others), value)
+            self._say(*names, said_by(each.owners), value + each.amount_um)
 
     def _told_angle(self, leans: Leans) -> None:
         """An angle that isn't as others say: as theirs and its own, of two lines of help. Where
