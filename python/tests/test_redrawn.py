@@ -175,17 +175,29 @@ class Says:
         return Answer(Status.DONE, self.text)
 
 
+SOLVE = "solve", "place=boxes", "within=1000"
+
+
+def test_the_limit_grows_with_the_sketch(program) -> None:
+    """60.0005 mm is told twice as large, 60.0000625 mm 16 times: so is what has to be met."""
+    for value, key in (("60.0005", "within=2000"), ("60.0000625", "within=16000")):
+        counts = Counts(program)
+        judged = judge_at_once(read_drawing(PLATE.replace("60", value)), counts)
+        assert f"within={1000 * judged.asked.spelled.scale}" == key
+        assert counts.asked == [("solve", "place=boxes", key)]
+
+
 def test_of_what_is_well_the_program_is_asked_once(program) -> None:
     counts = Counts(program)
     judged = judge_at_once(read_drawing(PLATE), counts)
-    assert judged.verdict is Verdict.WELL and counts.asked == [("solve", "place=boxes")]
+    assert judged.verdict is Verdict.WELL and counts.asked == [SOLVE]
     assert judged.asked.check is None and judged.asked.parts == ()
 
 
 def test_its_counts_are_the_programs(program) -> None:
     counts = Counts(program)
     judged = judge(read_drawing(PLATE), counts)
-    assert counts.asked == [("solve", "place=boxes"), ("check",)]
+    assert counts.asked == [SOLVE, ("check",)]
     text = judged.asked.spelled.sketch.text()
     assert judged.asked.check == read_check(program.ask(["check"], text).text)
 

@@ -21,6 +21,10 @@ from pertxogai.spelling import Axes, Care, Rails, Spelled, Spellings, Style, rea
 from pertxogai.spelling.axes import Equation
 from pertxogai.spelling.facts import Owner
 
+LIMIT_NM = 1000
+"""The language's own limit, of the drawing."""
+MOST_LIMIT = 1_000_000
+"""The greatest limit that the program takes."""
 ROUNDS = 80
 """So many values at most are read off placed parts."""
 FREEZES = 4
@@ -144,7 +148,8 @@ def _ask(rails: Rails, spelled: Spelled, program: Asks, care: Care) -> Asked:
         asked = replace(_answered(rails, spelled, program), grown=tuple(equations))
         more = None
         if asked.verdict is Verdict.OPEN and len(equations) < ROUNDS:
-            parts = read_parts(written_by(program, "parts", spelled.sketch.text()))
+            text = spelled.sketch.text()
+            parts = read_parts(written_by(program, "parts", text, within(spelled)))
             more = grown(rails.axes, rails, spelled, parts)
         if more is None:
             return _contradicted(asked, program, care)
@@ -178,12 +183,18 @@ def written_by(program: Asks, command: str, text: str, *keys: str) -> str:
     return answer.text
 
 
-def _told(program: Asks, text: str, place: Place) -> CheckReport | Solved | Fault:
+def within(spelled: Spelled) -> str:
+    """The key that asks for places within a micrometre of the drawing: so many times of it as the
+    sketch is larger. How far each constraint is off is measured on the places."""
+    return f"within={min(MOST_LIMIT, LIMIT_NM * spelled.scale)}"
+
+
+def _told(program: Asks, spelled: Spelled, place: Place) -> CheckReport | Solved | Fault:
     """What `solve` says: the places of what is well, or its fault; of what isn't well, what
     `check` says of it. Raises Refusal where the program refuses the text, as one that is too
     large."""
-    words = "solve", f"place={place.value}"
-    answer = program.ask(words, text)
+    words = "solve", f"place={place.value}", within(spelled)
+    answer = program.ask(words, spelled.sketch.text())
     if answer.status in (Status.FAULT, Status.TOLERANCE):
         return read_fault(answer.text)
     report = read_answer(words, answer)
@@ -198,7 +209,7 @@ def _told(program: Asks, text: str, place: Place) -> CheckReport | Solved | Faul
 
 def _answered(rails: Rails, spelled: Spelled, program: Asks) -> Asked:
     """One spelling, and what the program says of it: asked once, by boxes."""
-    told = _told(program, spelled.sketch.text(), Place.BOXES)
+    told = _told(program, spelled, Place.BOXES)
     if isinstance(told, CheckReport):
         return Asked(spelled, rails.axes, rails, told)
     return Asked(spelled, rails.axes, rails, solved=told)
@@ -208,7 +219,7 @@ def placed(asked: Asked, program: Asks) -> Asked:
     """The places of what is well: where there are none by boxes, by points."""
     if asked.solved is None or isinstance(asked.solved, Solved):
         return asked
-    told = _told(program, asked.spelled.sketch.text(), Place.POINTS)
+    told = _told(program, asked.spelled, Place.POINTS)
     if isinstance(told, CheckReport):
         raise NotAReport("the program faults by boxes what it doesn't call well by points")
     return replace(asked, place=Place.POINTS, solved=told)
