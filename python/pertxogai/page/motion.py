@@ -31,13 +31,19 @@ class Motion:
 STILL = Motion()
 
 
-def laid(pairs: Sequence[tuple[Spot, Spot]], turn: Motion | None = None) -> Motion:
+Pair = tuple[Spot, Spot]
+"""Where something lies, and where it is to lie."""
+
+
+def laid(pairs: Sequence[Pair], turn: Motion | None = None, about: Pair | None = None) -> Motion:
     """The motion that brings the first of each pair nearest to the second, by the squares of
-    the distances; a shift alone where they have no direction. `turn`: how it has to turn."""
-    if not pairs:
+    the distances; a shift alone where they have no direction. `turn`: how it has to turn.
+    `about`: what it has to bring just where it is to lie, and turns about."""
+    if not pairs and about is None:
         return turn or STILL
-    (ax, ay), (bx, by) = _middle([first for first, _ in pairs]), _middle([it for _, it in pairs])
-    cos, sin = (turn.cos, turn.sin) if turn else _turn(pairs, (ax, ay), (bx, by))
+    first, second = about or (_middle([it for it, _ in pairs]), _middle([it for _, it in pairs]))
+    cos, sin = (turn.cos, turn.sin) if turn else _turn(pairs, first, second)
+    (ax, ay), (bx, by) = first, second
     return Motion(cos, sin, bx - cos * ax + sin * ay, by - sin * ax - cos * ay)
 
 
@@ -45,8 +51,8 @@ def _middle(spots: Sequence[Spot]) -> Spot:
     return sum(x for x, _ in spots) / len(spots), sum(y for _, y in spots) / len(spots)
 
 
-def _turn(pairs: Sequence[tuple[Spot, Spot]], first: Spot, second: Spot) -> Spot:
-    """The cosine and sine of the best turn about the two middles."""
+def _turn(pairs: Sequence[Pair], first: Spot, second: Spot) -> Spot:
+    """The cosine and sine of the best turn of the first about the second."""
     (ax, ay), (bx, by) = first, second
     dot = cross = 0.0
     for (x, y), (u, v) in pairs:

@@ -1,20 +1,21 @@
 """Each part of a drawing as the program places it by itself, laid on the drawing."""
 from __future__ import annotations
 
-from collections.abc import Iterator, Sequence
+from collections.abc import Iterator, Mapping, Sequence
 from dataclasses import dataclass
 
 from ..answers import Judgement
-from ..answers.placing import Plate
+from ..answers.placing import Plate, along
 from ..drawing import ORIGIN, Circle, Drawing, PointRef, points_of
 from ..drawing.geometry import Arc
-from ..language import PlacedPoint
 from ..measure import Solution
 from ..program import Asks
 from ..reports import PlacedPart, Solved, read_parts
 from ..spelling.facts import DATUM, RadiusOf
-from ..values import Form
-from .motion import Motion, Spot, laid
+from ..spelling.writing import Spelled
+from ..values import Form, Number
+from .laying import Piece, in_turn
+from .motion import Motion, Spot
 
 
 @dataclass(frozen=True)
@@ -54,11 +55,15 @@ def _nm(spot: Spot) -> tuple[int, int]:
 
 def _laid_parts(judgement: Judgement, parts: tuple[PlacedPart, ...]) -> Iterator[LaidPart]:
     refs = _refs(judgement)
-    for part in parts:
-        if isinstance(part.shape, Solved):
-            points = _points(judgement, part.shape, refs)
-            if points:
-                yield LaidPart(part.part.number, points, _radii(judgement, points))
+    spots = {name: drawn(judgement, mine[0]) for name, mine in refs.items()}
+    fixed = {name: (0.0, 0.0) for name, mine in refs.items() if ORIGIN in mine}
+    pieces = (_piece(judgement, part.part.number, part.shape, spots) for part in parts
+              if isinstance(part.shape, Solved))
+    found = in_turn([piece for piece in pieces if piece.points], spots, fixed)
+    for piece, motion in sorted(found, key=lambda each: each[0].number):
+        points = {ref: motion.of(spot)
+                  for name, spot in piece.points.items() for ref in refs[name]}
+        yield LaidPart(piece.number, points, _radii(judgement, points))
 
 
 def _refs(judgement: Judgement) -> dict[str, list[PointRef]]:
@@ -71,30 +76,28 @@ def _refs(judgement: Judgement) -> dict[str, list[PointRef]]:
     return found
 
 
-def _points(judgement: Judgement, shape: Solved,
-            refs: dict[str, list[PointRef]]) -> dict[PointRef, Spot]:
-    scale = judgement.asked.spelled.scale * 1e6
-    placed = {ref: (each.x_nm / scale, each.y_nm / scale) for each in shape.places
-              if isinstance(each, PlacedPoint) for ref in refs.get(each.name, ())}
-    motion = laid(_pairs(judgement, placed), _level(judgement, shape))
-    return {ref: motion.of(spot) for ref, spot in placed.items()}
-
-
-def _pairs(judgement: Judgement, placed: dict[PointRef, Spot]) -> list[tuple[Spot, Spot]]:
-    """What is laid on what: the origin on the datum's where it is there, else each point, as
-    placed, on where it is drawn."""
-    if ORIGIN in placed:
-        return [(placed[ORIGIN], (0.0, 0.0))]
-    meetings = judgement.names.drawing.meetings
-    return [(spot, drawn(judgement, ref)) for ref, spot in placed.items()
-            if meetings.leader(ref) == ref]
-
-
-def _level(judgement: Judgement, shape: Solved) -> Motion | None:
-    """How a part turns whose lines are told from the datum's axes; None where none is."""
+def _piece(judgement: Judgement, number: int, shape: Solved, known: Mapping[str, Spot]) -> Piece:
+    """A part as it is placed by itself, and what of it the datum's axes fix."""
     spelled = judgement.asked.spelled
-    axis = Plate.of(shape.places, spelled.scale).axis(spelled.headings, DATUM)
-    return Motion(float(axis[0]), -float(axis[1])) if axis else None
+    plate = Plate.of(shape.places, spelled.scale)
+    points = {name: (float(x) / 1e3, float(y) / 1e3)
+              for name, (x, y) in plate.points.items() if name in known}
+    axis = plate.axis(spelled.headings, DATUM)
+    if axis is None:
+        return Piece(number, points)
+    dx, dy = (_shift(spelled, plate, axis, upwards) for upwards in (False, True))
+    return Piece(number, points, Motion(float(axis[0]), -float(axis[1])), dx, dy)
+
+
+def _shift(spelled: Spelled, plate: Plate, axis: tuple[Number, Number],
+           upwards: bool) -> float | None:
+    """How far a part is shifted along an axis, in millimetres, once it is turned; None where none
+    of its lines is told from the other axis."""
+    for each in spelled.headings:
+        if each.rail and each.rail.datum() and each.rail.upwards == upwards \
+                and each.name in plate.lines:
+            return float(each.at_um - along(axis, upwards, plate.foot(each.name))) / 1e3
+    return None
 
 
 def drawn(judgement: Judgement, ref: PointRef) -> Spot:
