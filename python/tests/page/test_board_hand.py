@@ -48,16 +48,72 @@ def test_a_click_counts_where_it_was_clicked(page: Page) -> None:
     assert abs(u - x) < 20 and abs(y - v - 100 * 1.25 ** 2) < 20
 
 
-def test_a_click_of_a_tool_that_was_laid_down_draws_nothing(page: Page) -> None:
+def test_a_click_before_a_tools_key_counts_though_the_answer_comes_later(page: Page) -> None:
     page.keys("s")
     with page.held("edit"):
         page.press(300, 400)
         page.press(400, 400)
         page.press(500, 300)
         page.keys("p")
+        page.press(600, 200)
+    wait_for("a point", lambda: "point" in page.text())
+    assert [line.split()[0] for line in page.text().splitlines()[1:]] == [
+        "segment", "segment", "point"]
+    assert page.count("[data-tool=point][aria-pressed=true]") == 1
+
+
+def test_a_click_before_escape_counts_though_the_answer_comes_later(page: Page) -> None:
+    page.keys("s")
+    with page.held("edit"):
+        page.press(300, 400)
+        page.press(400, 400)
+        page.press(500, 300)
+        page.keys(Keys.ESCAPE)
+        page.press(300, 200)
+        page.press(400, 200)
+    wait_for("the third", lambda: page.text().count("segment") == 3)
+    assert "segment S2 S1.end" in page.text() and "segment S3 S2.end" not in page.text()
+    page.keys(Keys.ESCAPE, Keys.ESCAPE)
+    page.wait("no tool", "return document.querySelector('[data-tool=select][aria-pressed=true]')")
+
+
+def test_what_is_clicked_behind_escape_is_selected_and_what_is_dragged_moves(page: Page) -> None:
+    page.begin("point P 0 0\npoint Q 60 0\n", "open")
+    page.keys("s")
+    (x, y), (u, v) = page.at("P"), page.at("Q")
+    with page.held("edit"):
+        page.press(x, y - 150)
+        page.press(u, v - 150)
+        page.keys(Keys.ESCAPE, Keys.ESCAPE)
+        page.press(x, y)
+        page.press(u, v, to=(u, v + 60))
+    wait_for("Q is drawn lower", lambda: "point Q 60 -" in page.text())
+    assert page.count("[data-name=P] .selected") == 1 and page.text().count("segment") == 1
+
+
+def test_undo_waits_for_the_clicks_before_it(page: Page) -> None:
+    page.keys("s")
+    with page.held("edit"):
+        for place in ((300, 400), (400, 400), (500, 300)):
+            page.press(*place)
+        page.keys(Keys.CONTROL + "z")
+    page.wait("redo", "return document.getElementById('redo').ariaDisabled === 'false'")
+    assert page.text().count("segment") == 1
+    page.keys(Keys.CONTROL + "y")
+    wait_for("both again", lambda: page.text().count("segment") == 2)
+
+
+def test_clicks_that_wait_draw_nothing_in_another_drawing(page: Page) -> None:
+    page.keys("s")
+    with page.held("edit"):
+        for place in ((300, 400), (400, 400), (500, 300)):
+            page.press(*place)
+        page.click("#new")
+    page.verdict("empty")
+    page.keys("p")
     page.press(600, 200)
     wait_for("a point", lambda: "point" in page.text())
-    assert page.text().count("point") == 1
+    assert "segment" not in page.text()
 
 
 def test_what_is_verified_is_told_of_its_own_drawing(page: Page) -> None:

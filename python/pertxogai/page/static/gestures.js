@@ -3,6 +3,7 @@ import { svg } from './nodes.js';
 import { apart, arcThrough, rounded } from './tools.js';
 import { line, ring, bow } from './shapes.js';
 import { namesOf } from './selection.js';
+import { Sequence } from './sequence.js';
 
 const SLACK = 4;
 const NOTHING_DRAWN = 'Nothing is drawn: its places are one, or lie on one line. Choose others.';
@@ -13,7 +14,8 @@ export class Gestures {
   pressed = null;
   /** What was clicked last: the name of a point or shape, the number of a constraint. */
   clicked = null;
-  pressing = Promise.resolve();
+  /** What was done while the server had a click to answer. */
+  sequence = new Sequence();
 
   constructor(board, paper, selection, hand, tell) {
     Object.assign(this, { board, paper, selection, hand, tell });
@@ -73,21 +75,22 @@ export class Gestures {
 
   /** Drags what was pressed. */
   drag(at) {
-    const edit = DATUM.includes(this.pressed.thing) ? null : this.dragged(this.pressed.thing, this.onGrid(at));
+    const edit = this.dragged(this.pressed.thing, this.pressed.at, this.onGrid(at));
     if (!edit) return;
     this.pressed.edit = edit;
     this.paper.preview(edit);
   }
 
-  /** The edit of a drag to a place: a point goes there, a rim grows, a shape is shifted; null where there is none. */
-  dragged(name, [x, y]) {
+  /** The edit of a drag from a place in pixels to one in millimetres: a point goes there, a rim grows, a shape is shifted; null where there is none. */
+  dragged(name, from, [x, y]) {
+    if (DATUM.includes(name)) return null;
     const { shown, answer: { drawing } } = this.board;
     if (shown.at(name)) return { do: 'move', points: [{ of: name, x, y }] };
     if (drawing.shapes.find((each) => each.name === name)?.kind === 'circle') {
       const radius = rounded(apart(shown.at(`${name}.centre`), [x, y]), 100);
       return radius > 0 ? { do: 'move', radii: [{ of: name, radius }] } : null;
     }
-    const [u, v] = this.onGrid(this.pressed.at);
+    const [u, v] = this.onGrid(from);
     return { do: 'shift', shapes: [name], dx: rounded(x - u, 1000), dy: rounded(y - v, 1000) };
   }
 
@@ -97,8 +100,7 @@ export class Gestures {
     this.pressed = null;
     if (!pressed) return;
     if (pressed.edit) this.paper.land(pressed.edit);
-    else if (this.hand.draws && event.button === 0) this.press(at, event.shiftKey);
-    else if (!pressed.moved) this.select(pressed.thing, event.shiftKey);
+    else if (event.button === 0 && !(pressed.pans && pressed.moved)) this.release(pressed, at, event.shiftKey);
     this.clicked = pressed.moved ? null : pressed.thing;
   }
 
@@ -108,18 +110,24 @@ export class Gestures {
     this.paper.drop();
   }
 
+  /** What was pressed is let go at a place, which counts in its turn, there where it was: by a tool that draws then it is a click; else it selects, or what was dragged goes there. */
+  release({ thing, at: from, moved }, to, more) {
+    const { plane } = this.board;
+    const [first, last] = [from, to].map((pixels) => plane.toPlane(pixels));
+    this.sequence.do(() => {
+      const [start, end] = [first, last].map((place) => plane.toScreen(place));
+      if (this.hand.draws) return this.draw(end, more);
+      const edit = moved && typeof thing === 'string' ? this.dragged(thing, start, this.onGrid(end)) : null;
+      if (edit) this.paper.land(edit);
+      else if (!moved) this.select(thing, more);
+      return null;
+    });
+  }
+
   /** Selects what was clicked; a click beside all selects nothing. */
   select(thing, more) {
     if (thing) this.selection.take(thing, more);
     else if (!more) this.selection.set([]);
-  }
-
-  /** A click of a tool that draws counts once what was clicked before it is drawn, there where it was clicked; not where another tool is held by then. */
-  press(pixels, shift) {
-    const { hand: { tool }, board: { plane } } = this;
-    const at = plane.toPlane(pixels);
-    const next = () => { if (this.hand.tool === tool) return this.draw(plane.toScreen(at), shift); };
-    this.pressing = this.pressing.then(next, next);
   }
 
   /** Draws by a click. */
@@ -194,12 +202,14 @@ export class Gestures {
     board.draw();
   }
 
-  /** A click at the cross. */
+  /** A click at the cross, in its turn. */
   enter(more) {
-    if (!this.board.cross) return;
-    const pixels = this.board.plane.toScreen(this.board.cross);
-    if (this.hand.draws) this.press(pixels, false);
-    else this.select(this.board.nearPoint(pixels)?.name, more);
+    const { cross, plane } = this.board;
+    if (!cross) return;
+    this.sequence.do(() => {
+      const pixels = plane.toScreen(cross);
+      return this.hand.draws ? this.draw(pixels, false) : this.select(this.board.nearPoint(pixels)?.name, more);
+    });
   }
 
   /** What is selected is drawn half a step of the grid further. */

@@ -43,11 +43,11 @@ class Page {
   }
 
   /** What each button of the page does, by its id. */
-  buttons({ paper, board, files, offers, steps }) {
+  buttons({ paper, board, files, offers, steps, gestures: { sequence } }) {
     return {
       new: () => files.begin('', 'drawing'), gallery: () => files.gallery(), open: () => files.input.click(), save: () => files.save(),
-      undo: () => paper.go(-1), redo: () => paper.go(1), help: () => closed(byId('keys')),
-      construction: (button) => this.construct(button), fit: () => board.fit(), 'redraw-all': () => paper.redraw([]),
+      undo: () => sequence.do(() => paper.go(-1)), redo: () => sequence.do(() => paper.go(1)), help: () => closed(byId('keys')),
+      construction: (button) => sequence.do(() => this.construct(button)), fit: () => board.fit(), 'redraw-all': () => paper.redraw([]),
       revalue: () => this.keys.enter(false), construct: () => offers.construct(), rename: () => offers.rename(), erase: () => offers.erase(),
       back: () => steps.go(-1), on: () => steps.go(1), play: () => steps.play(), flip: () => steps.flip(), redraw: () => steps.redraw(), verify: () => steps.verify(),
     };
@@ -81,7 +81,7 @@ class Page {
   click(button) {
     if (!button) return;
     const { tool, export: kind } = button.dataset;
-    if (tool) this.take(tool);
+    if (tool) this.gestures.sequence.do(() => this.take(tool));
     else if (kind) this.files.export(kind);
     else this.acts[button.id]?.(button);
   }
@@ -94,6 +94,7 @@ class Page {
   /** Another drawing begins: nothing of the last is shown, held or selected. */
   leave() {
     this.gestures.pressed = null;
+    this.gestures.sequence.forget();
     this.board.show(NOTHING);
     this.selection.set([]);
     this.take(this.hand.tool);
@@ -127,14 +128,18 @@ class Page {
     button.ariaPressed = String(this.hand.construction);
   }
 
-  /** Gives up, one thing after the other: the menu, the clicks, the tool, the cross, the selection. */
+  /** Gives up: the menu, or else what the hand is about, in its turn. */
   escape() {
-    const { hand, board } = this;
     const menu = byId('export');
-    if (menu.open) {
-      if (menu.contains(document.activeElement)) menu.firstElementChild.focus();
-      menu.open = false;
-    } else if (hand.draws) this.take(hand.clicks.length ? hand.tool : 'select');
+    if (!menu.open) this.gestures.sequence.do(() => this.drop());
+    else if (menu.contains(document.activeElement)) menu.firstElementChild.focus();
+    menu.open = false;
+  }
+
+  /** Lets go of one thing after the other: the clicks, the tool, the cross, the selection. */
+  drop() {
+    const { hand, board } = this;
+    if (hand.draws) this.take(hand.clicks.length ? hand.tool : 'select');
     else if (board.cross) board.cross = null;
     else this.selection.set([]);
     hint(hand.hint);
