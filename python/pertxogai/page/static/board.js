@@ -22,6 +22,8 @@ export class Board {
   placed = [];
   /** What was last made of what. */
   from = {};
+  /** Where its upper left corner lay on the page. */
+  corner = null;
   waits = false;
 
   constructor(node, selection) {
@@ -30,7 +32,16 @@ export class Board {
     node.replaceChildren(...Object.values(this.layers).map((layer) => layer.node), this.over);
     byId('faint').append(this.layers.drawn.node);
     selection.addEventListener('change', () => this.draw());
-    new ResizeObserver(() => this.draw()).observe(node);
+    new ResizeObserver(() => this.stay()).observe(node);
+  }
+
+  /** The board has another size, or lies elsewhere on the page: what it shows stays where it was under the hand. */
+  stay() {
+    const { left, top } = this.node.getBoundingClientRect();
+    const [x, y] = this.corner ?? [left, top];
+    this.corner = [left, top];
+    this.plane.pan(x - left, y - top);
+    this.drawNow();
   }
 
   /** Shows an answer of the server. */

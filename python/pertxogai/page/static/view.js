@@ -1,8 +1,9 @@
 /** What of the plane the board shows: millimetres, x to the right and y up, to pixels. */
 const LEAST = 0.02;
 const MOST = 2000;
-/** The room around all that is shown, for the dimensions, in pixels. */
+/** The room around all that is shown, for the dimensions, in pixels; of a small board this share. */
 const ROOM = 84;
+const SHARE = 0.18;
 
 /** A scale in pixels a millimetre, and where the origin lies in pixels. */
 export class View {
@@ -41,7 +42,8 @@ export class View {
       const all = corners.map((place) => place[axis]);
       return [Math.min(...all), Math.max(...all)];
     });
-    const fitting = Math.min((width - 2 * ROOM) / Math.max(right - left, 1e-3), (height - 2 * ROOM) / Math.max(high - low, 1e-3));
+    const room = Math.min(ROOM, SHARE * width, SHARE * height);
+    const fitting = Math.min((width - 2 * room) / Math.max(right - left, 1e-3), (height - 2 * room) / Math.max(high - low, 1e-3));
     this.scale = Math.min(40, Math.max(LEAST, fitting));
     this.x = width / 2 - (left + right) / 2 * this.scale;
     this.y = height / 2 + (low + high) / 2 * this.scale;
