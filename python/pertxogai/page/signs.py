@@ -5,6 +5,7 @@ from __future__ import annotations
 import math
 from collections.abc import Iterator, Mapping
 from contextlib import suppress
+from dataclasses import dataclass
 
 from ..drawing import (
     Arc, Axis, Circle, Coincident, Collinear, Concentric, Constraint, Equal, Fixed, Horizontal,
@@ -45,40 +46,55 @@ def _marks(where: Whereabouts, constraint: Constraint) -> Iterator[Mark]:
         elif isinstance(each, Tag):
             yield {"at": list(each.at), "radius": each.radius, "text": each.text}
     if not shown:
-        yield from ({"sign": sign_of(constraint), "at": list(at)}
-                    for at in _places(where, constraint))
+        yield from (place.sign(sign_of(constraint)) for place in _places(where, constraint))
 
 
-def _places(where: Whereabouts, constraint: Constraint) -> Iterator[Spot]:
+@dataclass(frozen=True)
+class _Beside:
+    """A place at a thing, and the turn, in radians, of the edge that runs through it; None at a
+    point."""
+
+    at: Spot
+    turn: float | None = None
+
+    def sign(self, sign: str) -> Mark:
+        """A sign there, as the page is told it: at an edge with the direction which it is to stand
+        beside."""
+        if self.turn is None:
+            return {"sign": sign, "at": list(self.at)}
+        way = [math.cos(self.turn), math.sin(self.turn)]
+        return {"sign": sign, "at": list(self.at), "way": way}
+
+
+def _places(where: Whereabouts, constraint: Constraint) -> Iterator[_Beside]:
     """A place at each thing, each once."""
-    seen: list[Spot] = []
+    seen: list[_Beside] = []
     for ref in refs_of(constraint):
-        spot = _place(where, ref)
-        if spot is not None and spot not in seen:
-            seen.append(spot)
+        place = _place(where, ref)
+        if place is not None and place.at not in [each.at for each in seen]:
+            seen.append(place)
     if isinstance(getattr(constraint, "of", None), Pair) or getattr(constraint, "at", None):
         seen = seen[:1]
     yield from seen
 
 
-def _place(where: Whereabouts, ref: PointRef | ShapeRef) -> Spot | None:
+def _place(where: Whereabouts, ref: PointRef | ShapeRef) -> _Beside | None:
     if isinstance(ref, PointRef):
-        return where.at(ref)
+        return _Beside(where.at(ref))
     shape = where.drawing.shape(ref.name)
     if isinstance(shape, Axis):
         return None
     if isinstance(shape, Circle):
-        (x, y), radius = where.at(PointRef(ref.name, Which.CENTRE)), where.radius(ref.name)
-        return x + radius * 0.7071, y + radius * 0.7071
+        return _on_rim(where, ref, math.pi / 4)
     if isinstance(shape, Arc):
-        return _middle(where, ref)
-    return between(*where.ends(ref.name), 0.5)
+        first, turn = sweep(where.at(PointRef(ref.name, Which.CENTRE)), *where.ends(ref.name))
+        return _on_rim(where, ref, first + turn / 2)
+    (x, y), (u, v) = where.ends(ref.name)
+    return _Beside(between((x, y), (u, v), 0.5), math.atan2(v - y, u - x))
 
 
-def _middle(where: Whereabouts, ref: ShapeRef) -> Spot:
-    """The middle of an arc."""
-    centre = where.at(PointRef(ref.name, Which.CENTRE))
-    first, turn = sweep(centre, *where.ends(ref.name))
-    radius = where.radius(ref.name)
-    return (centre[0] + radius * math.cos(first + turn / 2),
-            centre[1] + radius * math.sin(first + turn / 2))
+def _on_rim(where: Whereabouts, ref: ShapeRef, turn: float) -> _Beside:
+    """The place of a rim so far round, in radians."""
+    (x, y), radius = where.at(PointRef(ref.name, Which.CENTRE)), where.radius(ref.name)
+    at = x + radius * math.cos(turn), y + radius * math.sin(turn)
+    return _Beside(at, turn - math.pi / 2)

@@ -16,6 +16,16 @@ if not (CHROMIUM and DRIVER):
     pytest.skip("Debian's chromium and chromium-driver aren't there", allow_module_level=True)
 
 CIRCLES = "circle K 0 0 8\ncircle L 30 0 8\ncircle M 60 0 8\n"
+SIGNS = """segment A 0 0 40 0
+segment B 50 0 90 30
+segment C 100 30 140 30
+circle D 20 40 9
+arc E 60 50 70 50 60 60
+horizontal A
+equal A B
+parallel A C
+equal D E
+"""
 
 
 @contextmanager
@@ -72,3 +82,58 @@ def test_a_line_over_the_page_leaves_the_drawing_under_the_hand(page: Page) -> N
     wait_for("the board lies lower", lambda: box(page)[1] > top + 10)
     page.settled()
     assert page.at("K") == pytest.approx((x, y + top - box(page)[1]), abs=0.6)
+
+
+# Signs.
+
+def signs(page: Page) -> list[tuple[float, float, int]]:
+    """The middle of each sign in pixels of the board, and its constraint."""
+    return [tuple(each) for each in page.driver.execute_script(
+        "const b = document.getElementById('board').getBoundingClientRect();"
+        "return [...document.querySelectorAll('#board text.sign')].map((each) => {"
+        "  const r = each.getBoundingClientRect();"
+        "  return [r.x + r.width / 2 - b.x, r.y + r.height / 2 - b.y,"
+        "    Number(each.parentNode.dataset.constraint)]; });")]
+
+
+def test_no_sign_takes_the_clicks_of_its_edge(page: Page) -> None:
+    page.begin(SIGNS, "open")
+    for name in "ABCDE":
+        for share in (0.1, 0.12, 0.46, 0.5, 0.54):
+            for aside in (-5, 0, 5):
+                page.press(*_beside(page, name, share, aside))
+                assert selected(page) == [name], (share, aside)
+
+
+def _beside(page: Page, name: str, share: float, aside: float) -> tuple[float, float]:
+    """A place at a share of an edge, so far beside it, in pixels of the board."""
+    x, y = page.driver.execute_script(
+        "const p = document.querySelector(`[data-name='${arguments[0]}'] .hit`);"
+        "const l = p.getTotalLength(), s = arguments[1];"
+        "const [a, b] = [s * l - 1, s * l + 1].map((at) => p.getPointAtLength(at));"
+        "return [(a.x + b.x) / 2 - (b.y - a.y) / 2 * arguments[2],"
+        "  (a.y + b.y) / 2 + (b.x - a.x) / 2 * arguments[2]];", name, share, aside)
+    return x, y
+
+
+def test_each_sign_is_selected_by_a_click(page: Page) -> None:
+    page.begin(SIGNS, "open")
+    assert sorted(number for _, _, number in signs(page)) == [1, 2, 2, 3, 3, 4, 4]
+    for x, y, number in signs(page):
+        page.press(x, y)
+        assert str(number) in selected(page)
+
+
+def test_a_sign_that_lies_on_another_edge_leaves_it_its_clicks(page: Page) -> None:
+    page.begin("segment A 0 0 40 0\nhorizontal A\n", "open")
+    ((x, y, _),) = signs(page)
+    page.keys("s")
+    page.press(x - 80, y)
+    page.press(x + 80, y)
+    page.keys("v")
+    wait_for("an edge", lambda: page.text().count("segment") == 2)
+    page.settled()
+    page.press(x, y)
+    assert selected(page) == ["S1"]
+    page.press(x, y + 6)
+    assert selected(page) == ["1"]

@@ -4,9 +4,11 @@ import { View } from './view.js';
 import { Marks, markMade } from './marks.js';
 import { Layer } from './layer.js';
 import { Shown } from './shown.js';
-import { kindOf, pathOf, shapeMade, pointMade, stillMade, middleOf, line, ring } from './shapes.js';
+import { awayFrom, kindOf, pathOf, shapeMade, pointMade, stillMade, middleOf, line, ring } from './shapes.js';
 
 const LAYERS = ['grid', 'drawn', 'edges', 'other', 'marks', 'dots', 'names', 'joints', 'faults'];
+/** So near in pixels a click is one on the edge itself. */
+const NEAR = 3.5;
 export const NOTHING = { drawing: { shapes: [], constraints: [], marks: [] }, judgement: null };
 
 /** Draws answers on an SVG node. */
@@ -172,7 +174,12 @@ export class Board {
     return near.name ? near : null;
   }
 
-  /** Shows all that is drawn and placed. */
+  /** The shape of which the edge itself lies at a place in pixels, if one does. */
+  edgeAt(place) {
+    return this.answer.drawing.shapes.find((shape) => awayFrom(shape, this.shown.viewOf(shape), this.plane, place) < NEAR)?.name;
+  }
+
+  /** Shows all that is drawn and placed, and the other shape where that is shown. */
   fit() {
     this.drawNow();
     const { node } = this.layers.edges;

@@ -50,10 +50,16 @@ export class Gestures {
   down(event, at) {
     if (event.button > 1) return;
     this.board.node.setPointerCapture(event.pointerId);
-    const name = event.target.closest('[data-name]')?.dataset.name;
-    const number = Number(event.target.closest('[data-constraint]')?.dataset.constraint);
-    const pans = event.button === 1 || (!name && !number && !this.hand.draws);
-    this.pressed = { at, last: at, thing: name ?? number, pans, moved: false, edit: null };
+    const thing = this.touched(event.target, at);
+    const pans = event.button === 1 || (!thing && !this.hand.draws);
+    this.pressed = { at, last: at, thing, pans, moved: false, edit: null };
+  }
+
+  /** What lies under the hand: a point or shape by its name, a constraint by its number, or nothing. A sign leaves an edge that it lies on its clicks. */
+  touched(node, at) {
+    const number = Number(node.closest('[data-constraint]')?.dataset.constraint);
+    if (!number) return node.closest('[data-name]')?.dataset.name;
+    return (node.matches('.sign') && this.board.edgeAt(at)) || number;
   }
 
   /** The pointer moves: it pans, drags, or shows what a click would draw. */
@@ -104,12 +110,6 @@ export class Gestures {
     this.clicked = pressed.moved ? null : pressed.thing;
   }
 
-  /** The browser takes the pointer away: what was dragged stays where it was. */
-  cancel() {
-    this.pressed = null;
-    this.paper.drop();
-  }
-
   /** What was pressed is let go at a place, which counts in its turn, there where it was: by a tool that draws then it is a click; else it selects, or what was dragged goes there. */
   release({ thing, at: from, moved }, to, more) {
     const { plane } = this.board;
@@ -122,6 +122,12 @@ export class Gestures {
       else if (!moved) this.select(thing, more);
       return null;
     });
+  }
+
+  /** The browser takes the pointer away: what was dragged stays where it was. */
+  cancel() {
+    this.pressed = null;
+    this.paper.drop();
   }
 
   /** Selects what was clicked; a click beside all selects nothing. */

@@ -5,6 +5,8 @@ import { middleOf } from './shapes.js';
 const AWAYS = [24, 43, 62, 81, 100, 119, 138];
 const TEXT_STEPS = [[0, -18], [0, 18], [34, 0], [-34, 0], [0, -36], [0, 36]];
 const SIGN_STEPS = [[11, -12], [-11, -12], [11, 12], [-11, 12], [24, -12], [24, 12], [37, -12], [50, -12]];
+/** How far a sign stands along an edge and beside it, so that it takes no click of the edge. */
+const BESIDE_STEPS = [[0, -17], [0, 17], [18, -17], [-18, -17], [18, 17], [-18, 17], [36, -17], [36, 17]];
 /** The height of a line of text in pixels. */
 const ROW = 15;
 
@@ -55,7 +57,7 @@ export class Marks {
     const text = mark.text ?? mark.sign;
     let at = this.plane.toScreen(mark.at);
     if (radius) at = [at[0] + radius * 0.7071 + 18, at[1] - radius * 0.7071 - 12];
-    const steps = mark.sign ? SIGN_STEPS : radius ? [[0, 0], ...TEXT_STEPS] : TEXT_STEPS;
+    const steps = mark.way ? beside(mark.way) : mark.sign ? SIGN_STEPS : radius ? [[0, 0], ...TEXT_STEPS] : TEXT_STEPS;
     const free = steps.map((step) => [at[0] + step[0], at[1] + step[1]]).find((each) => this.isFree(each, text));
     return { path: null, text, at: free ?? [at[0], at[1] - 24] };
   }
@@ -73,6 +75,11 @@ export class Marks {
     const row = Math.floor(y / ROW);
     return [row - 1, row, row + 1].every((near) => (this.rows.get(near) ?? []).every(([u, v, other]) => Math.abs(u - x) > half + other || Math.abs(v - y) > ROW));
   }
+}
+
+/** The steps beside an edge that runs a way, in pixels: those to its left first, since bars stand to its right. */
+function beside([dx, dy]) {
+  return BESIDE_STEPS.map(([along, aside]) => [dx * along + dy * aside, dx * aside - dy * along]);
 }
 
 /** A placed mark, in classes, with what is told of it where a hand rests on it. */

@@ -12,6 +12,30 @@ export function pathOf(shape, view, plane) {
   }
 }
 
+/** How far in pixels a place lies from the edge of a shape; a point has none. */
+export function awayFrom(shape, view, plane, place) {
+  const at = (which) => plane.toScreen(view.points[`${shape.name}.${which}`]);
+  if (shape.kind === 'segment') return awayFromLine(place, at('start'), at('end'));
+  if (shape.kind === 'point') return Infinity;
+  const centre = at('centre');
+  const radius = (view.radii[shape.name] ?? shape.radius) * plane.scale;
+  const isBeside = shape.kind === 'circle' || swept(centre, at('start'), place) <= swept(centre, at('start'), at('end'));
+  return isBeside ? Math.abs(Math.hypot(place[0] - centre[0], place[1] - centre[1]) - radius) : Infinity;
+}
+
+/** How far a place lies from a line between two others. */
+function awayFromLine([x, y], [a, b], [c, d]) {
+  const [u, v] = [c - a, d - b];
+  const share = Math.max(0, Math.min(1, ((x - a) * u + (y - b) * v) / (u * u + v * v || 1)));
+  return Math.hypot(x - a - share * u, y - b - share * v);
+}
+
+/** The turn about a centre from one place to another, counter-clockwise as seen, so against the turn of pixels. */
+function swept(centre, start, end) {
+  const turn = (place) => Math.atan2(centre[1] - place[1], place[0] - centre[0]);
+  return (turn(end) - turn(start) + 4 * Math.PI) % (2 * Math.PI);
+}
+
 /** A straight path. */
 export function line([x, y], [u, v]) {
   return `M${x} ${y}L${u} ${v}`;
@@ -22,10 +46,9 @@ export function ring([x, y], r) {
   return `M${x - r} ${y}a${r} ${r} 0 1 0 ${2 * r} 0a${r} ${r} 0 1 0 ${-2 * r} 0Z`;
 }
 
-/** A path along an arc, counter-clockwise as seen, so against the turn of pixels. */
+/** A path along an arc, counter-clockwise as seen. */
 export function bow(centre, start, end, radius) {
-  const turn = (place) => Math.atan2(centre[1] - place[1], place[0] - centre[0]);
-  const sweep = (turn(end) - turn(start) + 4 * Math.PI) % (2 * Math.PI);
+  const sweep = swept(centre, start, end);
   const r = radius || Math.hypot(start[0] - centre[0], start[1] - centre[1]);
   return `M${start[0]} ${start[1]}A${r} ${r} 0 ${sweep > Math.PI ? 1 : 0} 0 ${end[0]} ${end[1]}`;
 }
