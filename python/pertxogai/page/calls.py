@@ -28,7 +28,8 @@ from .fields import FieldRefused, Fields
 from .judging import Judged, NotPlaced
 from .offers import offers
 from .opening import opened
-from .panel import Untold, lines_shown
+from .overlaid import laid_over
+from .panel import Asides, Untold, lines_shown
 from .shown import excess_shown, judgement_shown, places_shown, without_known
 from .sight import sight_of
 
@@ -166,8 +167,9 @@ def _flips(desk: Desk, given: Fields) -> Json:
     if isinstance(found, Flipped):
         what = "has no choice" if isinstance(found.answer, NoChoice) else "has no places"
         return trouble("flip", f"the other shape {what}: {found.text()}")
-    assert found.solution is not None
-    return {"placed": places_shown(Whereabouts(judged.drawing, found.solution))}
+    here = judged.judgement.solution
+    assert here is not None
+    return {"placed": places_shown(Whereabouts(judged.drawing, laid_over(found, here)))}
 
 
 def _redraw(desk: Desk, given: Fields) -> Json:

@@ -137,3 +137,52 @@ def test_a_sign_that_lies_on_another_edge_leaves_it_its_clicks(page: Page) -> No
     assert selected(page) == ["S1"]
     page.press(x, y + 6)
     assert selected(page) == ["1"]
+
+
+# The other shape.
+
+TALL = """segment A 0 0 40 0
+segment B A.end 25 300
+segment C B.end A.start
+length A 40
+length B 300
+length C 301
+"""
+HELD = TALL + "coincident A.start Origin\nhorizontal A\n"
+
+
+def other_in_view(page: Page) -> None:
+    """Asks for the other shape of the one step, and waits until all of it is on the board."""
+    page.click("#tab-steps")
+    page.wait("a step", "return document.getElementById('flip')?.hidden === false")
+    page.click("#flip")
+    page.wait("the other shape, on the board",
+              "const n = document.querySelector('.other'), b = document.getElementById('board');"
+              "if (!n.childElementCount) return false;"
+              "const { x, y, width, height } = n.getBBox();"
+              "return x >= 0 && y >= 0 && x + width <= b.clientWidth && y + height <= b.clientHeight")
+    page.settled()
+
+
+def test_the_other_shape_is_shown_though_it_lies_beside_the_board(page: Page) -> None:
+    """A tall triangle above the axis, whose other shape lies below it."""
+    page.begin(HELD, "well")
+    before = page.at("A.start")[1] - page.at("B.end")[1]
+    other_in_view(page)
+    assert page.at("A.start")[1] - page.at("B.end")[1] < 0.6 * before
+    page.click("#redraw")
+    wait_for("drawn below", lambda: "segment B A.end 25 300" not in page.text())
+    page.verdict("well")
+    page.click("#tab-text")
+    box_of = page.driver.execute_script(
+        "const { y, height } = document.querySelector('.edges').getBBox(); return [y, y + height];")
+    assert box_of[0] >= 0 and box_of[1] <= box(page)[3]
+
+
+def test_the_other_shape_of_what_is_free_lies_over_the_one_that_is_shown(page: Page) -> None:
+    """Nothing holds the triangle, so its other shape is turned to it, and the view stays."""
+    page.begin(TALL, "well")
+    before = page.at("A.start")
+    other_in_view(page)
+    assert page.at("A.start") == pytest.approx(before, abs=1)
+    page.click("#tab-text")

@@ -22,10 +22,10 @@ export class Board {
   overlay = null;
   other = null;
   placed = [];
-  /** What was last made of what. */
-  from = {};
   /** Where its upper left corner lay on the page. */
   corner = null;
+  /** What was last made of what. */
+  from = {};
   waits = false;
 
   constructor(node, selection) {
@@ -182,12 +182,23 @@ export class Board {
   /** Shows all that is drawn and placed, and the other shape where that is shown. */
   fit() {
     this.drawNow();
-    const { node } = this.layers.edges;
-    const box = node.getBBox();
-    const corners = [[box.x, box.y], [box.x + box.width, box.y + box.height]].map((corner) => this.plane.toPlane(corner));
+    const corners = this.boxes().flatMap(([left, low, right, high]) => [[left, low], [right, high]].map((corner) => this.plane.toPlane(corner)));
     const points = [this.shown.between, this.shown.drawn].flatMap((view) => Object.values(view.points));
-    this.plane.fit(node.childElementCount ? [...points, ...corners] : points.slice(1), this.size());
+    this.plane.fit(corners.length ? [...points, ...corners] : points.slice(1), this.size());
     this.draw();
+  }
+
+  /** Shows all, where some of it lies beside the board. */
+  reveal() {
+    this.drawNow();
+    const { width, height } = this.size();
+    if (this.boxes().some(([left, low, right, high]) => left < 0 || low < 0 || right > width || high > height)) this.fit();
+  }
+
+  /** The boxes of all edges, and of the other shape, in pixels: left, low, right, high. */
+  boxes() {
+    const nodes = [this.layers.edges.node, this.layers.other.node].filter((node) => node.childElementCount);
+    return nodes.map((node) => node.getBBox()).map(({ x, y, width, height }) => [x, y, x + width, y + height]);
   }
 
   /** Zooms by a factor about the middle. */

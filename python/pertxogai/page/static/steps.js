@@ -147,11 +147,12 @@ export class Steps {
     this.slide(this.plan.steps.length);
     this.tell(told, 1);
     this.show(null, found.placed ?? null);
+    if (found.placed) this.board.reveal();
   }
 
   /** The drawing is drawn anew as the other shape lies. */
-  redraw() {
-    this.paper.redraw([...this.flipped], this.text);
+  async redraw() {
+    if (await this.paper.redraw([...this.flipped], this.text)) this.board.reveal();
   }
 
   /** Has what is shown verified as a claim, and tells what is said of it. */
