@@ -16,6 +16,7 @@ MOST_RATIO = 10_000
 """No number of a ratio is greater, as in the language."""
 
 _DIGITS = 20
+_BEYOND = f"is beyond {MOST_MM} mm: give lengths in millimetres, or as 1.5in"
 _NUMBER = re.compile(r"([+-]?)([0-9]{1,7}(?:\.[0-9]{1,20})?)(mm|in)?\Z")
 _DEGREES = re.compile(r"([+-]?)([0-9]{1,3}(?:\.[0-9]{1,20})?)(?:deg|°)\Z")
 _RATIO = re.compile(r"([+-]?)([0-9]{1,5})/([0-9]{1,5})\Z")
@@ -39,11 +40,13 @@ def read_um(word: str) -> Fraction:
         raise WordFault(word, _why_no_number(word))
     value = Fraction(found[2]) * _UM_OF_UNIT[found[3]]
     if value > MOST_MM * UM_PER_MM:
-        raise WordFault(word, "is beyond 1000000 mm: give lengths in millimetres, or as 1.5in")
+        raise WordFault(word, _BEYOND)
     return -value if found[1] == "-" else value
 
 
 def _why_no_number(word: str) -> str:
+    if re.match(r"[+-]?0*[1-9][0-9]{7,}(\.[0-9]*)?(mm|in)?\Z", word):
+        return _BEYOND
     if "," in word:
         return f"is no number: write a point for the comma, as {word.replace(',', '.')}"
     if re.match(r"[+-]?[0-9.]+(cm|m|um|µm|\"|')\Z", word):

@@ -171,14 +171,18 @@ def _advice(word: str) -> str:
         case "line" | "edge":
             return "is no word of a drawing: write `segment NAME START END`"
         case "sketch":
-            return "begins a sketch of the language, and no drawing: ./pertxogai check reads it"
+            return ("begins a sketch of the language, and no drawing: keep it in a file whose "
+                    "name ends in .sketch, and open that")
         case "drawing":
             return "begins the text, and only its first line, as `drawing 1`"
         case "end":
             return "is no word of a drawing, which just ends: leave it out"
-        case "block" | "outside" | "inside":
-            return "is a word of the sketch language: see python/DRAWING.md for a drawing's words"
+        case "outside" | "inside":
+            return "is a word of the sketch language: in a drawing, write `tangent CIRCLE CIRCLE`"
+        case "block":
+            return "is a word of the sketch language, and none of a drawing: leave it out"
         case "width" | "height" | "dimension" | "dim":
             return "is no word of a drawing: write `length SEGMENT 40` or `distance A B 40`"
     known = [each.value for kind in (ShapeWord, ConstraintWord, Flag) for each in kind]
-    return "is no word that begins a line: see python/DRAWING.md" + nearest(word, known)
+    near = nearest(word, known).removeprefix(", or ")
+    return f"is no word that begins a line: {near or 'write one of ' + ', '.join(known)}"

@@ -68,13 +68,18 @@ def is_direction(of: Constraint | Implied) -> bool:
 
 
 def amount_text(off: Deviation) -> str:
-    """How far something is off, for a person: in millimetres and degrees where it is a micrometre
-    and more, else in nanometres and ppb."""
-    if off.amount < 1000:
-        return f"{off.amount} {off.unit.value}"
-    if off.unit is Unit.NM:
-        return f"{_decimal(off.amount / 1e6)} mm"
-    return f"{_decimal(math.degrees(_radians(off.amount)))} degrees"
+    """How far something is off, for a person."""
+    return units_text(off.amount, off.unit)
+
+
+def units_text(amount: int, unit: Unit) -> str:
+    """So many units, for a person: in millimetres and degrees where it is a micrometre and more,
+    else in nanometres and ppb."""
+    if amount < 1000:
+        return f"{amount} {unit.value}"
+    if unit is Unit.NM:
+        return f"{_decimal(amount / 1e6)} mm"
+    return f"{_decimal(math.degrees(_radians(amount)))} degrees"
 
 
 def _radians(sine_ppb: int) -> float:

@@ -61,8 +61,7 @@ class Desk:
             return {"refused": {"line": refusal.line, "message": str(refusal)}}
         except (WordFault, DrawingUnsound) as fault:
             return trouble("edit", str(fault))
-        except (FieldRefused, InputRefused, FileRefusal, NotPlaced, NoPlaces,
-                DrawingRefused) as error:
+        except (FieldRefused, InputRefused, FileRefusal, NotPlaced, DrawingRefused) as error:
             return trouble("call", str(error))
         except (ProgramError, MissingLibrary) as error:
             return trouble("program", str(error))
@@ -115,7 +114,8 @@ def _whole(judged: Judged, before: Judged | None = None, is_known: bool = False)
     try:
         if judged.drawing.geometry:
             shown = judged.shown()
-            judged.told = judgement_shown(judged.judgement, judged.parts, judged.placed(before))
+            judged.told = judgement_shown(judged.judgement, judged.parts, judged.placed(before),
+                                          judged.short)
             known = before.told if before and is_known else None
             answer["judgement"] = without_known(judged.told, known)
     except DrawingRefused as error:
@@ -152,7 +152,7 @@ def _weigh(desk: Desk, given: Fields) -> Json:
     unweighed = weighing if isinstance(weighing, Untold) else None
     return {"spare": [spare_json(each) for each in judgement.surplus],
             "excess": excess_shown(judgement, left),
-            "lines": lines_shown(judgement, left, unweighed)}
+            "lines": lines_shown(judgement, Asides(left, unweighed))}
 
 
 def _plan(desk: Desk, given: Fields) -> Json:
@@ -165,8 +165,9 @@ def _flips(desk: Desk, given: Fields) -> Json:
     judged = desk.judged(given.text("text"))
     found = judged.flipped(_steps(given))
     if isinstance(found, Flipped):
-        what = "has no choice" if isinstance(found.answer, NoChoice) else "has no places"
-        return trouble("flip", f"the other shape {what}: {found.text()}")
+        return trouble("flip", "this step has no choice that could be turned over"
+                       if isinstance(found.answer, NoChoice) else
+                       "turned over, this choice leaves the part no places with these dimensions")
     here = judged.judgement.solution
     assert here is not None
     return {"placed": places_shown(Whereabouts(judged.drawing, laid_over(found, here)))}
@@ -210,13 +211,17 @@ def _verify(desk: Desk, given: Fields) -> Json:
 
 
 def _dxf(desk: Desk, given: Fields) -> Json:
-    """The shapes as placed in DXF, by the version of `release`."""
+    """The shapes as placed in DXF, by the version of `release`. Raises NotPlaced."""
     try:
         release = Release(given.text("release"))
     except ValueError:
         known = ", ".join(each.value for each in Release)
         raise FieldRefused(f"'release' has to be one of {known}") from None
-    return {"dxf": _sheet(desk, given).dxf(release)}
+    try:
+        return {"dxf": _sheet(desk, given).dxf(release)}
+    except NoPlaces:
+        raise NotPlaced("the drawing has no places, so there is no DXF of it: see the verdict, or "
+                        "export SVG, which shows it as drawn") from None
 
 
 def _svg(desk: Desk, given: Fields) -> Json:

@@ -23,7 +23,8 @@ def read_edit(drawing: Drawing, given: Fields) -> Edit:
         case "erase":
             return Erase(given.texts("shapes"), given.wholes("constraints"))
         case "ask":
-            return Ask(given.texts("words"))
+            return Ask(given.texts("words"),
+                       given.text("value") if given.has("value") else None)
         case "value":
             return Value(given.whole("number"), given.text("value"))
         case "call":

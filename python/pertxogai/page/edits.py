@@ -1,18 +1,21 @@
-"""The edits of the board: each makes another drawing of one. All raise WordFault where the
-drawing's words don't allow it."""
+"""The edits of the board: each makes another drawing of one. All raise WordFault or DrawingUnsound
+where the drawing's words don't allow it."""
 from __future__ import annotations
 
+from collections.abc import Iterator
+from contextlib import contextmanager
 from dataclasses import dataclass, replace
 from fractions import Fraction
 
 from ..drawing import (
-    Circle, Constraint, Drawing, Note, Place, PointRef, Spot, WordFault, points_of)
+    Circle, Constraint, Drawing, DrawingUnsound, Note, Place, PointRef, Spot, WordFault, points_of)
 from ..drawing.kinds import standing
 from ..drawing.numbers import mm_text
 from .freenames import Figure, free_name
 from .removal import without
 from .rereading import asked, drawn, valued
 from .spots import leader_of, renamed, with_spot
+from .typed import value_word
 
 
 @dataclass(frozen=True)
@@ -98,13 +101,19 @@ class Erase:
 
 @dataclass(frozen=True)
 class Ask:
-    """Asks for what a line says, as `length Bottom 40`."""
+    """Asks for what a line says, as `length Bottom`, and the value behind it, as `40`."""
 
     words: tuple[str, ...]
+    value: str | None = None
 
     def on(self, drawing: Drawing) -> Drawing:
-        """The drawing with that constraint, the last."""
-        more = asked(drawing, list(self.words))
+        """The drawing with that constraint, the last. Raises DrawingUnsound, with the words, where
+        the value isn't what they take."""
+        if self.value is None:
+            more = asked(drawing, list(self.words))
+        else:
+            with faults_of(" ".join(self.words)):
+                more = asked(drawing, [*self.words, value_word(self.value)])
         return replace(drawing, constraints=(*drawing.constraints, *more),
                        notes=_behind(drawing, len(more)))
 
@@ -117,9 +126,11 @@ class Value:
     value: str
 
     def on(self, drawing: Drawing) -> Drawing:
-        """The drawing with that value."""
+        """The drawing with that value. Raises DrawingUnsound, with what the constraint is called,
+        where that isn't what it takes."""
         old = _constraint(drawing, self.number)
-        return _with(drawing, self.number, valued(drawing, old, self.value))
+        with faults_of(drawing.called(self.number)):
+            return _with(drawing, self.number, valued(drawing, old, self.value))
 
 
 @dataclass(frozen=True)
@@ -165,6 +176,15 @@ class Construction:
         return replace(drawing, geometry=tuple(
             replace(each, construction=self.construction) if each.name in self.shapes else each
             for each in drawing.geometry))
+
+
+@contextmanager
+def faults_of(where: str) -> Iterator[None]:
+    """Has a word at fault told with what it is said of. Raises DrawingUnsound."""
+    try:
+        yield
+    except WordFault as fault:
+        raise DrawingUnsound(where, fault.word, fault.what) from None
 
 
 Edit = (Draw | Move | Shift | Erase | Ask | Value | Call | Rename | Construction)

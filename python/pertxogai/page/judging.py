@@ -20,6 +20,7 @@ from .construction import Construction
 from .frame import elements_placed
 from .panel import Untold
 from .parts_laid import LaidPart, parts_laid, shown_between
+from .shortage import shortage
 from .shown import places_shown
 from .sight import Sight
 
@@ -116,6 +117,17 @@ class Judged:
         if self.judgement.verdict is not Verdict.WELL:
             raise NotPlaced("the drawing isn't well, so there is no plan of it")
         return read_plan(self.program.ask(["plan"], self.text).text)
+
+    @cached_property
+    def short(self) -> str:
+        """By how much the dimensions beneath a fault miss each other; empty where there is no
+        fault, or that isn't known. Raises as `judgement`."""
+        if self.judgement.failure is None:
+            return ""
+        try:
+            return shortage(self.judgement, self.plan, self.program)
+        except ProgramError:
+            return ""
 
     def construction(self) -> Construction:
         """The steps to be watched. Raises NotPlaced."""

@@ -6,13 +6,14 @@ from dataclasses import dataclass
 from fractions import Fraction
 
 from ..answers import Excess, Judgement, Surplus, TooMuch
-from ..answers.faults import Amount, Failure
+from ..answers.faults import Failure
 from ..drawing import Drawing
 from ..drawing.numbers import mm_text
-from ..measure import Unit
+from ..measure import Unit, amount_text, units_text
 from ..program import ProgramError
 from ..reports import Solved, Verdict
 from ..told import JudgedDrawing
+from .faulted import fault_told
 
 MOST_PIECES, MOST_JOINTS = 40, 20
 """So many of them at most are told."""
@@ -46,35 +47,44 @@ class Untold:
         return Untold(" ".join(str(error).split()))
 
 
-def lines_shown(judgement: Judgement, left: TooMuch | Untold = TooMuch(()),
-                unweighed: Untold | None = None) -> list[dict[str, object]]:
-    """All lines, each with what it has. left: what is left out of what is over. unweighed: why
-    what may go isn't measured, where that failed."""
+@dataclass(frozen=True)
+class Asides:
+    """What is told beside a judgement. left: what is left out of what is over. unweighed: why what
+    may go isn't measured, where that failed. short: by how much the dimensions beneath a fault
+    miss each other, where that is known."""
+
+    left: TooMuch | Untold = TooMuch(())
+    unweighed: Untold | None = None
+    short: str = ""
+
+
+def lines_shown(judgement: Judgement, asides: Asides) -> list[dict[str, object]]:
+    """All lines, each with what it has."""
     return [{name: value for name, value in vars(line).items() if value not in ("", (), None)}
-            for line in (*_told(judgement, left, unweighed), *_notes(judgement))]
+            for line in (*_told(judgement, asides), *_notes(judgement))]
 
 
-def _told(judgement: Judgement, left: TooMuch | Untold,
-          unweighed: Untold | None) -> Iterator[Line]:
+def _told(judgement: Judgement, asides: Asides) -> Iterator[Line]:
     drawing = judgement.names.drawing
     if judgement.failure is not None:
-        return _fault(drawing, judgement.failure)
+        return _fault(judgement, judgement.failure, asides.short)
     if judgement.verdict is Verdict.WELL:
         return _well(drawing, judgement)
     if judgement.verdict is Verdict.OPEN:
         return _open(judgement)
-    return _over(judgement, left, unweighed)
+    return _over(judgement, asides.left, asides.unweighed)
 
 
 def _well(drawing: Drawing, judgement: Judgement) -> Iterator[Line]:
     """How exactly it is placed."""
     solved = judgement.asked.solved
     assert isinstance(solved, Solved)
-    yield Line(f"Just as many dimensions as fix it. Placed within {solved.length_tolerance_nm} nm "
-               f"and {solved.angle_tolerance_ppb} ppb.")
+    within = (units_text(solved.length_tolerance_nm, Unit.NM),
+              units_text(solved.angle_tolerance_ppb, Unit.PPB))
+    yield Line(f"Just as many dimensions as fix it. Placed within {within[0]} and {within[1]}.")
     off = [each for each in JudgedDrawing("", drawing, judgement).worst() if each.amount]
     for each in off:
-        yield Line(f"measured: at most {each.amount} {each.unit.value} off, "
+        yield Line(f"measured: at most {amount_text(each)} off, "
                    f"{each.called(drawing)}", "quiet")
     if not off:
         yield Line("measured: each constraint holds exactly", "quiet")
@@ -179,35 +189,20 @@ def _surplus(each: Surplus) -> str:
     off_um = Fraction(each.off.amount, 1000) if each.off.unit is Unit.NM else None
     if each.repeats():
         return _repeat(off_um or Fraction(0))
-    by = f"{each.off.amount}\u00a0{each.off.unit.value}" if off_um is None else _mm(off_um)
+    by = amount_text(each.off) if off_um is None else _mm(off_um)
     return f"a contradiction by {by}"
 
 
-def _fault(drawing: Drawing, failure: Failure) -> Iterator[Line]:
-    """Where it fails, by how much, and the dimensions beneath."""
-    yield Line("The count is right, and these dimensions can’t be met together.")
-    yield Line(failure.text.strip(), "quiet")
-    if failure.at:
-        yield Line(f"where {', '.join(failure.at)} meet")
-    if failure.amount:
-        yield Line(_gap(failure.amount))
+def _fault(judgement: Judgement, failure: Failure, short: str) -> Iterator[Line]:
+    """What has no place, and why, and the dimensions beneath."""
+    drawing = judgement.names.drawing
+    yield Line("The count is right, but the way it is drawn there are no places by these dimensions.")
+    yield Line(fault_told(judgement, failure, short))
     if failure.dimensions:
         yield Line("Look at:")
     numbers = {drawing.called(number): number for number in range(1, len(drawing.constraints) + 1)}
     for name in failure.dimensions:
         yield Line(name, list="dimensions beneath the fault", constraint=numbers.get(name))
-
-
-def _gap(amount: Amount) -> str:
-    """By how much a number misses what it has to be, or between what it lies where it can't be
-    told from 0."""
-    def told(value: Fraction) -> str:
-        unit = amount.unit.value
-        return f"{float(value):.6g}" + (f"\u00a0{unit}" if unit else "")
-    if amount.low <= 0 <= amount.high:
-        return (f"It lies between {told(amount.low)} and {told(amount.high)}, and can’t be told "
-                "from 0.")
-    return f"It misses by {told(abs(amount.low + amount.high) / 2)}."
 
 
 def _notes(judgement: Judgement) -> Iterator[Line]:

@@ -9,6 +9,7 @@ from ..drawing.constraint_lines import ConstraintWord, read_constraints
 from ..drawing.conveniences import Said
 from ..drawing.cursor import Cursor
 from ..drawing.shape_lines import ShapeWord, read_shape
+from .typed import value_word
 
 
 def asked(drawing: Drawing, words: list[str]) -> tuple[Constraint, ...]:
@@ -29,10 +30,8 @@ def valued(drawing: Drawing, constraint: Constraint, value: str) -> Constraint:
     if not hasattr(constraint, "value_um") and not hasattr(constraint, "value"):
         raise WordFault(words_of(constraint), "has no value that could be changed")
     words = words_of(constraint).split()[:-1]
-    found = asked(drawing, [*words, *value.split()])
-    if len(found) != 1:
-        raise WordFault(value, "is more than a value")
-    return replace(found[0], name=constraint.name)
+    (found,) = asked(drawing, [*words, value_word(value)])
+    return replace(found, name=constraint.name)
 
 
 def drawn(shapes: tuple[Shape, ...], words: list[str]) -> Said:

@@ -11,7 +11,7 @@ from ..reports import Verdict
 from ..shape_parts import parts_of_points, parts_of_shapes
 from ..told import spare_json
 from .motion import Spot
-from .panel import Untold, alone_of, excess_told, lines_shown
+from .panel import Asides, Untold, alone_of, excess_told, lines_shown
 from .parts_laid import LaidPart
 
 Json = dict[str, object]
@@ -19,13 +19,13 @@ LONG = "placed", "laid", "colours", "language"
 """What of a judgement isn't told again to a page that knows it."""
 
 
-def judgement_shown(judgement: Judgement, parts: Iterable[LaidPart],
-                    placed: Json | None) -> Json:
-    """What is judged, and where it is shown, as it is placed and by its parts. What is left out of
-    what is over isn't told yet."""
+def judgement_shown(judgement: Judgement, parts: Iterable[LaidPart], placed: Json | None,
+                    short: str = "") -> Json:
+    """What is judged, and where it is shown, as it is placed and by its parts; and by how much the
+    dimensions beneath a fault miss each other. What is left out of what is over isn't told yet."""
     return {
         "verdict": judgement.verdict.value,
-        "lines": lines_shown(judgement),
+        "lines": lines_shown(judgement, Asides(short=short)),
         "spare": [spare_json(each) for each in judgement.surplus],
         "excess": [],
         "placed": placed,

@@ -183,7 +183,7 @@ def test_an_edit_stays_with_its_drawing(page: Page) -> None:
 
 def test_a_fault_is_shown_at_its_place(page: Page) -> None:
     page.begin(TRIANGLE.replace("length C 35", "length C 3"), "fault")
-    assert "It misses by" in page.told() and "mm²" in page.told()
+    assert "1\u00a0mm too short to meet" in page.told() and "fault" not in page.told()
     assert page.count(".faults path") == 3 and page.count(".marks .blamed") == 3
     page.click("#tab-asked")
     keep_picture(page, "fault")
@@ -376,6 +376,22 @@ def test_a_point_is_dragged_and_a_dimension_changed(page: Page) -> None:
     field.send_keys("0.5in", Keys.ENTER)
     page.wait("changed",
               "return document.getElementById('text').value.includes('diameter C 12.7')")
+
+
+def test_a_value_is_typed_with_its_unit_and_one_that_isnt_taken_is_told(page: Page) -> None:
+    page.begin("drawing 1\nsegment A 0 0 40 0\n", "open")
+    page.select("A")
+    page.ask("length", "41 mm")
+    assert page.text().splitlines()[-1] == "length A 41"
+    page.press_twice(".marks [data-constraint='1'] text")
+    page.wait("asked", "return document.querySelector('#value[open] input')")
+    page.driver.switch_to.active_element.send_keys("10000000", Keys.ENTER)
+    page.wait("told", "return document.querySelector('#hint.trouble')")
+    assert page.told("hint") == ("constraint 1 (length A 41): '10000000' is beyond 1000000 mm: "
+                                 "give lengths in millimetres, or as 1.5in")
+    assert page.text().splitlines()[-1] == "length A 41"
+    page.keys(Keys.ESCAPE)
+    assert page.count("#hint.trouble") == 0
 
 
 def test_of_two_drags_before_the_answer_both_count(page: Page) -> None:

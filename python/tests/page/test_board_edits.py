@@ -125,7 +125,7 @@ def test_values_are_refused_with_what_to_do() -> None:
     assert "is no length" in trouble(TRIANGLE, do="value", number=1, value="-3")
     assert "write a point for the comma" in trouble(TRIANGLE, do="value", number=1, value="3,5")
     assert "doesn't stand" in trouble(TRIANGLE, do="value", number=2, value="3")
-    assert "more than a value" in trouble(TRIANGLE, do="value", number=1, value="S2 3")
+    assert "isn't one value" in trouble(TRIANGLE, do="value", number=1, value="S2 3")
     level = "segment A 0 0 1 0\nhorizontal A\n"
     assert "has no value" in trouble(level, do="value", number=1, value="3")
 

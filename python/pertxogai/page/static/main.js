@@ -58,7 +58,7 @@ class Page {
     const { paper, keeping } = this;
     paper.addEventListener('begin', () => this.leave());
     paper.addEventListener('answer', (event) => this.show(event.detail));
-    paper.addEventListener('trouble', (event) => hint(event.detail));
+    paper.addEventListener('trouble', (event) => hint(event.detail, 'trouble'));
     document.addEventListener('click', ({ target }) => {
       if (!target.closest('#export')) byId('export').open = false;
       this.click(target.closest('button'));
@@ -162,9 +162,9 @@ class Page {
   }
 }
 
-/** Shows a line at the foot of the board. */
-function hint(text) {
-  byId('hint').textContent = byId('hint').title = text;
+/** Shows a line at the foot of the board: what to do next, or of a kind. */
+function hint(text, kind = '') {
+  Object.assign(byId('hint'), { textContent: text, title: text, className: kind });
 }
 
 /** Shows a line of the server's, the tabs' or the keeping's over the whole page, or none. */

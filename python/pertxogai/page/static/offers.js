@@ -73,7 +73,7 @@ export class Offers {
   /** Asks for a constraint, with the value that is typed. */
   async ask(offer) {
     const value = offer.value === null ? '' : await typed(offer.words.join(' '), offer.value, this.place());
-    if (value !== null) await this.paper.edit({ do: 'ask', words: [...offer.words, ...value.split(/\s+/).filter(Boolean)] });
+    if (value !== null) await this.paper.edit({ do: 'ask', words: offer.words, ...(value && { value }) });
   }
 
   /** Gives a constraint another value. */
