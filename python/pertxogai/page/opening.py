@@ -15,6 +15,8 @@ from .fields import FieldRefused
 from .from_language import drawn_from
 
 Json = dict[str, object]
+_ROOM = "file"
+"""What a file is called while it is read."""
 
 
 def opened(name: str, data: str) -> list[Json]:
@@ -26,7 +28,7 @@ def opened(name: str, data: str) -> list[Json]:
         raise FieldRefused("'data' has to be in base 64") from None
     plain = Path(name).name or "drawing"
     with tempfile.TemporaryDirectory(prefix="pertxogai-") as room:
-        path = Path(room) / f"file{Path(plain).suffix}"
+        path = Path(room) / f"{_ROOM}{Path(plain).suffix}"
         try:
             path.write_bytes(content)
         except (OSError, ValueError):
@@ -44,9 +46,13 @@ def _json(found: Input, plain: str) -> Json:
         return {"name": stem, "text": write_document(taken.drawing),
                 "left_out": list(taken.left_out), "aside": []}
     assert isinstance(found, DesignerDrawing)
-    name = stem if found.name == "file" else found.name
-    return {"name": name, "text": write_document(found.drawing),
+    return {"name": _called(found, stem), "text": write_document(found.drawing),
             "left_out": list(found.left_out), "aside": list(found.aside)}
+
+
+def _called(found: DesignerDrawing, stem: str) -> str:
+    """What a sketch is called: as its file, and behind it by its own name, where it has one."""
+    return stem if found.name in (_ROOM, stem) else f"{stem} {found.name}"
 
 
 def _sketch(found: SketchText, plain: str) -> Sketch:

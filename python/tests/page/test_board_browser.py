@@ -487,7 +487,7 @@ def test_a_dialog_waits_until_the_one_before_it_is_closed(page: Page) -> None:
     page.wait("the gallery", f"{title} === 'Begin from'")
     page.driver.switch_to.active_element.send_keys(Keys.ESCAPE)
     page.wait("a sketch is taken", "return document.getElementById('text').value !== ''")
-    assert page.driver.execute_script("return document.getElementById('name').value") == "Sketch"
+    assert page.driver.execute_script("return document.getElementById('name').value") == "body Sketch"
 
 
 def test_panning_by_the_keyboard(page: Page) -> None:

@@ -1,9 +1,13 @@
 """What the board says to a hand that slips, and of amounts and faults: in its own words."""
 from __future__ import annotations
 
+import base64
+
 import pytest
 
 pytest.importorskip("flask", reason="the board needs Debian's python3-flask")
+
+from boards import FILES  # noqa: E402
 
 from pertxogai.drawing import WordFault  # noqa: E402
 from pertxogai.page.calls import Desk  # noqa: E402
@@ -77,13 +81,33 @@ def test_a_value_that_isnt_taken_is_told_with_its_dimension(
     assert edited(edit)["trouble"] == {"kind": "edit", "message": told}
 
 
-# Texts.
+# Texts and files.
 
 @pytest.mark.parametrize("line", ["fly Bottom 4", "sketch 1", "block Bottom", "outside Hole Hole"])
 def test_a_line_that_cant_be_read_sends_nobody_elsewhere(line: str) -> None:
     refused = Desk(NoProgram()).answer("judge", {"text": TEXT + line})["refused"]
     assert isinstance(refused, dict) and refused["line"] == 6
     assert ".md" not in refused["message"] and "./" not in refused["message"]
+
+
+def opened(name: str, data: bytes) -> list[str]:
+    """What the sketches of a file are called."""
+    given = {"name": name, "data": base64.b64encode(data).decode()}
+    found = Desk(NoProgram()).answer("open", given)["sketches"]
+    assert isinstance(found, list)
+    return [each["name"] for each in found]
+
+
+def test_a_sketch_of_freecad_has_the_name_of_its_file_in_front() -> None:
+    data = (FILES / "body.FCStd").read_bytes()
+    left, right = opened("left.FCStd", data), opened("right.FCStd", data)
+    assert len(left) == len(set(left)) > 1 and not set(left) & set(right)
+    assert all(each.startswith("left ") for each in left)
+
+
+def test_a_drawing_is_called_as_its_file() -> None:
+    assert opened("plate.drawing", b"point P 0 0\n") == ["plate"]
+    assert opened("file.drawing", b"point P 0 0\n") == ["file"]
 
 
 # Faults.
