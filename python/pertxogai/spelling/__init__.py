@@ -10,6 +10,7 @@ from pertxogai.kept import kept
 from pertxogai.spelling.axes import Axes
 from pertxogai.spelling.crossings import with_crossings
 from pertxogai.spelling.facts import Facts
+from pertxogai.spelling.half_arcs import with_half_arcs
 from pertxogai.spelling.lines import Lines
 from pertxogai.spelling.lowering import lowered
 from pertxogai.spelling.middles import with_ways
@@ -49,8 +50,13 @@ def axes_of(drawing: Drawing, reading: Reading = READINGS[0]) -> Axes:
 
 def axes_said(drawing: Drawing) -> Axes:
     """What a drawing says of x and y, before a reading takes some of it otherwise."""
-    facts = with_crossings(lowered(drawing))
+    facts = _met(lowered(drawing))
     return Axes(facts, Lines(facts))
+
+
+def _met(heard: Facts) -> Facts:
+    """The facts, with the points that lie in crossings, and without what arcs say twice."""
+    return with_half_arcs(with_crossings(replace(heard, own=dict(heard.own))))
 
 
 def readings(drawing: Drawing, before: Drawing = Drawing()) -> Iterator[Spellings]:
@@ -77,8 +83,7 @@ def _made(drawing: Drawing) -> list[Spellings]:
 
 def _read(heard: Facts, reading: Reading) -> Facts:
     """The facts as a reading takes them."""
-    facts = with_crossings(replace(heard, own=dict(heard.own)))
-    facts = with_polygons(facts, reading.middles)
+    facts = with_polygons(_met(heard), reading.middles)
     if reading.ways:
         facts = with_ways(facts)
     return with_slots(facts) if reading.slots else facts
