@@ -55,7 +55,7 @@ def spelled_json(judged: JudgedDrawing) -> dict[str, object]:
     return {
         "spelled": judgement.style.value,
         "exact": not (judgement.frozen or judgement.grown or judgement.rounded
-                      or judged.left_out()),
+                      or judgement.left_out_measured or judged.left_out()),
         "left_out": list(judged.left_out()),
         "left_out_but_holds": [each.name for each in judgement.left_out_measured
                                if each.holds()],
@@ -128,14 +128,11 @@ def _tried_lines(judgement: Judgement) -> Iterator[str]:
 
 
 def _left_out_lines(judgement: Judgement) -> Iterator[str]:
-    """What couldn't be spelled, and whether it holds all the same."""
+    """What couldn't be spelled, and doesn't hold all the same."""
     for each in judgement.left_out_measured:
         if each.off is None:
             yield f"  left out: {each.name}"
-        elif each.holds():
-            yield (f"  left out: {each.name}, and measured: it holds within {each.off.amount} "
-                   f"{each.off.unit.value}")
-        else:
+        elif not each.holds():
             yield (f"  left out: {each.name}, and measured: off by {each.off.amount} "
                    f"{each.off.unit.value}")
 

@@ -7,7 +7,7 @@ from fractions import Fraction
 
 import pytest
 
-from pertxogai.answers import Departure, DrawingRefused, Tie, judge
+from pertxogai.answers import Departure, DrawingRefused, Then, Tie, judge
 from pertxogai.answers.faults import Unit as Measure
 from pertxogai.answers.warnings import warnings
 from pertxogai.drawing import PointRef, Which, read_drawing
@@ -117,7 +117,7 @@ def test_what_is_told_on_the_other_side_contradicts(program, text, off_mm):
     left_out = [each for part in read_excess(answer.text).parts for each in part.left_out]
     scale = found.asked.spelled.scale
     assert max(abs(each.off.amount) for each in left_out) == off_mm * 1_000_000 * scale
-    last = max(found.surplus, key=lambda each: each.number)
+    last = max((each for each in found.surplus if each.off), key=lambda each: each.number)
     assert last.off.amount == off_mm * 1_000_000 and last.repeats() is (off_mm == 0)
 
 
@@ -127,7 +127,7 @@ def test_what_is_spare_then_goes_only_where_it_is_not_needed_in_part(program):
     text = ("segment L 10 0 10 20\nvertical L\nfixed L\n"
             "symmetric L.start L.end about XAxis\n")
     found = judge(read_drawing(text), program)
-    assert [(each.number, each.off.amount) for each in found.surplus] == [
+    assert [(each.number, each.off.amount) for each in found.surplus if each.off] == [
         (3, 20_000_000), (1, 0)]  # The image of (10, 0) is itself, 20 mm from (10, 20).
 
 
@@ -325,15 +325,23 @@ def test_a_middle_of_points_of_no_told_distance_is_left_out_by_name(program):
     assert found.verdict is Verdict.OPEN and found.left_out == ("Half",)
 
 
-@pytest.mark.parametrize("to_middle, holds", [(5, True), (6, False)])
-def test_what_is_left_out_is_measured_on_the_places_of_the_rest(to_middle, holds, program):
-    text = ("point A 0 0\npoint B 10 0\npoint M 5 0\npoint C 5 12\nHalf: symmetric A B about M\n"
-            f"distance A C 13\ndistance B C 13\ndistance M C 12\ndistance A M {to_middle}\n"
-            f"distance B M {to_middle}\n")
-    found = judge(read_drawing(text), program)
+HALVED = ("point A 0 0\npoint B 10 0\npoint M 5 0\npoint C 5 12\nHalf: symmetric A B about M\n"
+          "distance A C 13\ndistance B C 13\ndistance M C 12\n")
+
+
+def test_what_is_left_out_and_holds_on_the_places_of_the_rest_repeats_it(program):
+    found = judge(read_drawing(HALVED + "distance A M 5\ndistance B M 5\n"), program)
     left, = found.left_out_measured
-    assert found.verdict is Verdict.WELL and left.name == "Half"
-    assert left.holds() is holds
+    assert found.verdict is Verdict.WELL and left.name == "Half" and left.holds()
+    assert found.repeats == ("Half",) and found.left_out == ()
+
+
+def test_what_is_left_out_and_is_off_on_the_places_of_the_rest_contradicts_it(program):
+    """The middle of A and B lies 6 * (36 + 144 - 169) / (2 * 6 * 12) from M, towards C."""
+    found = judge(read_drawing(HALVED + "distance A M 6\ndistance B M 6\n"), program)
+    half, = [each for each in found.surplus if each.name == "Half"]
+    assert found.verdict is Verdict.OVER and half.then is Then.WELL
+    assert abs(half.off.amount - 458_333) <= 2
 
 
 def test_ends_that_become_one_are_named():
@@ -361,7 +369,7 @@ def test_json_tells_what_is_left_out_and_what_of_it_holds(program):
                            "Half: symmetric A B about M\ndistance A C 13\ndistance B C 13\n"
                            "distance M C 12\ndistance A M 5\ndistance B M 5\n")
     found = drawing_json(JudgedDrawing("half", drawing, judge(drawing, program)))
-    assert found["left_out"] == found["left_out_but_holds"] == ["Half"]
+    assert found["left_out"] == [] and found["repeats"] == found["left_out_but_holds"] == ["Half"]
     assert found["exact"] is False and found["spelled"] == "values"
 
 

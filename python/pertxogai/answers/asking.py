@@ -7,10 +7,11 @@ from __future__ import annotations
 from collections.abc import Iterator, Sequence
 from dataclasses import dataclass, replace
 from enum import Enum
+from itertools import islice
 
-from pertxogai.answers.contradicting import contradictions
+from pertxogai.answers.contradicting import contradictions, too_many
 from pertxogai.answers.freezing import frozen_choices
-from pertxogai.answers.growing import grown
+from pertxogai.answers.growing import growths
 from pertxogai.drawing import Drawing
 from pertxogai.language import Refusal
 from pertxogai.program import Asks, Status
@@ -20,6 +21,7 @@ from pertxogai.reports import (
 from pertxogai.spelling import Axes, Care, Rails, Spelled, Spellings, Style, readings, written
 from pertxogai.spelling.axes import Equation
 from pertxogai.spelling.facts import Owner
+from pertxogai.spelling.writing import Contradiction
 
 LIMIT_NM = 1000
 """The language's own limit, of the drawing."""
@@ -27,6 +29,8 @@ MOST_LIMIT = 1_000_000
 """The greatest limit that the program takes."""
 ROUNDS = 80
 """So many values at most are read off placed parts."""
+GROWTHS = 6
+"""So many things at most are tried as the next value, where the first leaves the drawing over."""
 FREEZES = 4
 """So many lengths and radii at most are taken as drawn."""
 SOLVED_FIRST = (Style.VALUES, Style.VALUES_NEAR, Style.GRID, Style.FEET)
@@ -143,19 +147,29 @@ def ask(axes: Axes, style: Style, program: Asks, care: Care = Care()) -> Asked:
 
 def _ask(rails: Rails, spelled: Spelled, program: Asks, care: Care) -> Asked:
     """One spelling, and those in which more is told by what the program has placed."""
-    equations: list[Equation] = []
-    while True:
-        asked = replace(_answered(rails, spelled, program), grown=tuple(equations))
-        more = None
-        if asked.verdict is Verdict.OPEN and len(equations) < ROUNDS:
-            text = spelled.sketch.text()
-            parts = read_parts(written_by(program, "parts", text, within(spelled)))
-            more = grown(rails.axes, rails, spelled, parts)
+    asked = _answered(rails, spelled, program)
+    for _ in range(ROUNDS):
+        more = _grown(asked, program, care) if asked.verdict is Verdict.OPEN else None
         if more is None:
-            return _contradicted(asked, program, care)
-        equations.append(more.equation)
-        rails = Rails(more.axes, spelled.style)
-        spelled = written(more.axes, rails, spelled.style, care)
+            break
+        asked = more
+    return _contradicted(asked, program, care)
+
+
+def _grown(asked: Asked, program: Asks, care: Care) -> Asked | None:
+    """The same with one more value that is read off placed parts: the first that leaves it not
+    over, of a few; None where there is none."""
+    parts = read_parts(written_by(program, "parts", asked.spelled.sketch.text()))
+    found: Asked | None = None
+    for more in islice(growths(asked.axes, asked.rails, asked.spelled, parts), GROWTHS):
+        rails = Rails(more.axes, asked.spelled.style)
+        spelled = written(more.axes, rails, asked.spelled.style, care)
+        trial = replace(_answered(rails, spelled, program),
+                        grown=(*asked.grown, more.equation))
+        if trial.verdict is not Verdict.OVER:
+            return trial
+        found = found or trial
+    return found
 
 
 def _contradicted(asked: Asked, program: Asks, care: Care) -> Asked:
@@ -163,12 +177,22 @@ def _contradicted(asked: Asked, program: Asks, care: Care) -> Asked:
     told so."""
     if not asked.spelled.left_out or asked.verdict is Verdict.OVER:
         return asked
-    parts = read_parts(written_by(program, "parts", asked.spelled.sketch.text()))
-    off = contradictions(asked.rails, asked.spelled, parts)
+    off = _off(asked, program)
     if not off:
         return asked
     spelled = written(asked.axes, asked.rails, asked.spelled.style, replace(care, off=off))
     return replace(_answered(asked.rails, spelled, program), grown=asked.grown)
+
+
+def _off(asked: Asked, program: Asks) -> tuple[Contradiction, ...]:
+    """What couldn't be spelled and contradicts what is placed, by boxes or by points. Where what is
+    well has no places, all that couldn't be spelled: the rest is just enough without it."""
+    for place in Place:
+        report = read_parts(written_by(program, "parts", asked.spelled.sketch.text(),
+                                       f"place={place.value}"))
+        if asked.verdict is Verdict.OPEN or isinstance(report.parts[0].shape, Solved):
+            return contradictions(asked.rails, asked.spelled, report)
+    return tuple(too_many(asked.spelled))
 
 
 def written_by(program: Asks, command: str, text: str, *keys: str) -> str:

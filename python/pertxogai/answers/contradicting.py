@@ -5,12 +5,13 @@ from __future__ import annotations
 from collections.abc import Iterator
 from fractions import Fraction
 
-from pertxogai.answers.growing import measured
-from pertxogai.reports import PartsReport
-from pertxogai.spelling.facts import Owner
+from pertxogai.answers.growing import distance, measured
+from pertxogai.answers.placing import Plate
+from pertxogai.reports import PartsReport, Solved
+from pertxogai.spelling.facts import Middle, Owner
 from pertxogai.spelling.rails import Rails, Span
 from pertxogai.spelling.writing import Contradiction, Spelled
-from pertxogai.values import Form, LinearSystem
+from pertxogai.values import Form, LinearSystem, Number
 
 REPEATS_UM = Fraction(1)
 """What is off by no more repeats the others: the limit of `excess`."""
@@ -30,7 +31,36 @@ def contradictions(rails: Rails, spelled: Spelled,
             known.add(form, -1)
         elif not -REPEATS_UM <= rest.number <= REPEATS_UM and owners & spelled.left_out:
             found.append(Contradiction(rest.number, owners, said - owners))
-    return tuple(found)
+    told = frozenset[Owner]().union(*(each.owners for each in found))
+    return (*found, *(Contradiction(off, frozenset({owner}), said - {owner})
+                      for owner, off in _middles(rails, spelled, report)
+                      if off > REPEATS_UM and owner in spelled.left_out - told))
+
+
+def too_many(spelled: Spelled) -> Iterator[Contradiction]:
+    """Each constraint that couldn't be spelled, though the rest is just enough: nothing tells how
+    far it is off."""
+    said = spelled.left_out.union(*spelled.owners)
+    for owner in sorted(spelled.left_out):
+        if owner.number and not owner.shape:
+            yield Contradiction(None, frozenset({owner}), said - {owner})
+
+
+def _middles(rails: Rails, spelled: Spelled,
+             report: PartsReport) -> Iterator[tuple[Owner, Number]]:
+    """How far each middle is off where it is placed with its points: whatever way these lie, which
+    no line of the part may tell."""
+    plates = [Plate.of(part.shape.places, spelled.scale).points for part in report.parts
+              if isinstance(part.shape, Solved)]
+    for fact in rails.axes.facts.facts:
+        if isinstance(fact, Middle):
+            names = [spelled.points.get(each, "") for each in (fact.middle, fact.first,
+                                                                fact.second)]
+            for plate in plates:
+                if set(names) <= plate.keys():
+                    (x, y), (a, b), (u, v) = (plate[name] for name in names)
+                    middle = Fraction(a + u) / 2, Fraction(b + v) / 2
+                    yield fact.owner, distance(middle, (x, y))
 
 
 def _unspelled(rails: Rails) -> Iterator[tuple[Form, frozenset[Owner]]]:

@@ -164,7 +164,7 @@ def _weight(each: Excess) -> tuple[bool, Fraction]:
 
 def _excess(names: Names, number: int, each: Excessive, owners: frozenset[Owner]) -> Excess:
     name, off = names.drawing.called(number), each.off
-    if off is None:
+    if off is None or each.constraint.names() in names.spelled.unmeasured:
         return Excess(number, name)
     if not isinstance(each.constraint, language.Distance) or owners != {Owner(number)}:
         return Excess(number, name, off.conflicts)

@@ -6,12 +6,12 @@ from __future__ import annotations
 from collections.abc import Iterator
 from dataclasses import dataclass
 from fractions import Fraction
-from math import isqrt
+from math import atan2, cos, isqrt, pi, sin
 
 from pertxogai.answers.placing import Plate, Spot, along
 from pertxogai.reports import PartsReport, Solved
 from pertxogai.spelling.axes import Axes, Equation
-from pertxogai.spelling.facts import DATUM, Knot
+from pertxogai.spelling.facts import DATUM, Knot, Line
 from pertxogai.spelling.rails import Rail, Rails, Size, Span
 from pertxogai.spelling.writing import Spelled
 from pertxogai.values import Form, LinearSystem, Number
@@ -25,8 +25,9 @@ class Grown:
     equation: Equation
 
 
-def grown(axes: Axes, rails: Rails, spelled: Spelled, report: PartsReport) -> Grown | None:
-    """The first thing that becomes a value by the placed parts; None where nothing does."""
+def growths(axes: Axes, rails: Rails, spelled: Spelled, report: PartsReport) -> Iterator[Grown]:
+    """Each thing that becomes a value by the placed parts. Where several facts say as much of one
+    thing, each is read as the one that tells it, in turn."""
     known = LinearSystem()
     for number, form in enumerate(measured(rails, spelled, report)):
         known.add(form, number)
@@ -34,14 +35,13 @@ def grown(axes: Axes, rails: Rails, spelled: Spelled, report: PartsReport) -> Gr
         rest = known.reduced(pending.form)
         if rest.terms != pending.form.terms and _told(rest):
             equation = Equation(rails.unfold(rest), axes.equations[pending.number].owners)
-            return Grown(axes.replaced(pending.number, equation), equation)
+            yield Grown(axes.replaced(pending.number, equation), equation)
     for fact in axes.loose:
         if rails.number(fact.value) is None:
             rest = known.reduced(rails.symbols(fact.value) - Form.of(Span(*fact.ends())))
             if len(rest.terms) == 1 and isinstance(next(iter(rest.terms)), Size):
                 equation = Equation(rails.unfold(rest), frozenset({fact.owner}))
-                return Grown(axes.replaced(None, equation, fact), equation)
-    return None
+                yield Grown(axes.replaced(None, equation, fact), equation)
 
 
 def _told(form: Form) -> bool:
@@ -66,13 +66,42 @@ def measured(rails: Rails, spelled: Spelled, report: PartsReport) -> Iterator[Fo
 
 def _coordinates(rails: Rails, spelled: Spelled, plate: Plate, frame: int) -> Iterator[Form]:
     """How far the rails of a frame are apart in a part."""
-    axis = plate.axis(spelled.headings, frame)
+    axis = plate.axis(spelled.headings, frame) or _axis_by_points(rails, spelled, plate, frame)
     if axis is None:
         return
     for upwards in (False, True):
         found = list(_along(rails, spelled, plate, axis, frame, upwards))
         for form, place in found[1:]:
             yield form - found[0][0] - Form(number=place - found[0][1])
+
+
+def _axis_by_points(rails: Rails, spelled: Spelled, plate: Plate, frame: int) -> Spot | None:
+    """The direction of a frame's first axis by two points of a line of it that isn't in the part
+    itself; None where there are none."""
+    axes, spots = rails.axes, plate.points
+    for line in axes.lines.all():
+        names = [(each.knot, name) for each in axes.lines.members(line)
+                 if (name := spelled.points.get(each.knot, "")) in spots]
+        if axes.frame(line).number == frame and len(names) >= 2:
+            (first, one), (second, other) = names[0], names[-1]
+            (x, y), (u, v) = axes.facts.drawn[first], axes.facts.drawn[second]
+            (a, b), (c, d) = spots[one], spots[other]
+            if (a, b) != (c, d):
+                return _turned_back((c - a, d - b), axes, line, (u - x, v - y))
+    return None
+
+
+def _turned_back(way: Spot, axes: Axes, line: Line, drawn: Spot) -> Spot:
+    """The first axis of a line's frame where a way along the line runs so, which is drawn in
+    another direction."""
+    a, b = axes.frame(line).way
+    turn = axes.lean(line).radians()
+    if cos(turn - atan2(float(drawn[1]), float(drawn[0])) + atan2(float(b), float(a))) < 0:
+        turn += pi
+    c, s = (Fraction(round(each)) if abs(each - round(each)) < 1e-12 else Fraction(each)
+            for each in (cos(turn), sin(turn)))
+    size = distance((0, 0), way)
+    return (way[0] * c + way[1] * s) / size, (way[1] * c - way[0] * s) / size
 
 
 def _along(rails: Rails, spelled: Spelled, plate: Plate, axis: Spot,
@@ -105,7 +134,7 @@ def _spans(rails: Rails, spelled: Spelled, plate: Plate) -> Iterator[Form]:
             other = spelled.points[second]
             if name in plate.points and other in plate.points:
                 yield Form({Span(first, second): 1},
-                           -_distance(plate.points[name], plate.points[other]))
+                           -distance(plate.points[name], plate.points[other]))
         else:
             track = next((key for key, track in spelled.tracks.items()
                           if track == rails.axes.lines.leader(second)), None)
@@ -113,7 +142,8 @@ def _spans(rails: Rails, spelled: Spelled, plate: Plate) -> Iterator[Form]:
                 yield Form({Span(first, second): 1}, -plate.height(track, name))
 
 
-def _distance(first: Spot, second: Spot) -> Fraction:
+def distance(first: Spot, second: Spot) -> Fraction:
+    """How far two places are apart."""
     square = (first[0] - second[0]) ** 2 + (first[1] - second[1]) ** 2
     return Fraction(isqrt(int(square * 10 ** 24)), 10 ** 12)
 

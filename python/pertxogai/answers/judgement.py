@@ -22,8 +22,9 @@ from pertxogai.spelling.style import Style
 
 FINE_NM = 2
 """What is off by more is asked for again with finer angles."""
-HOLDS_NM = 1
-"""What was left out holds where it is off by no more."""
+HOLDS = 1000
+"""What was left out holds where it is off by no more nanometres, or parts per 10^9: then it repeats
+the rest, by the limit that `too_much` has."""
 
 
 @dataclass(frozen=True)
@@ -35,8 +36,8 @@ class LeftOut:
     off: Deviation | None
 
     def holds(self) -> bool:
-        """Whether it was measured, and holds within rounding."""
-        return self.off is not None and self.off.amount <= HOLDS_NM
+        """Whether it was measured, and holds within the limit."""
+        return self.off is not None and self.off.amount <= HOLDS
 
 
 @dataclass(frozen=True)
@@ -78,8 +79,9 @@ class Judgement:
 
     @property
     def left_out(self) -> tuple[str, ...]:
-        """What couldn't be spelled."""
-        return tuple(each.name for each in self.left_out_measured)
+        """What couldn't be spelled, but for what holds where the rest is placed, and so repeats
+        it."""
+        return tuple(each.name for each in self.left_out_measured if not each.holds())
 
     @property
     def left_out_measured(self) -> tuple[LeftOut, ...]:
@@ -109,8 +111,9 @@ class Judgement:
     @property
     def repeats(self) -> tuple[str, ...]:
         """What says again what follows already, and is no line of a sketch: a direction, a size, a
-        point that is itself."""
-        return self.names.owners(self.asked.axes.repeats())
+        point that is itself; and what couldn't be spelled and holds where the rest is placed."""
+        held = tuple(each.name for each in self.left_out_measured if each.holds())
+        return self.names.owners(self.asked.axes.repeats()) + held
 
     @property
     def undimensioned(self) -> tuple[str, ...]:

@@ -134,7 +134,7 @@ class _Trials:
         each in the place of one of those that are enough together. Raises _Enough."""
         for number in numbers[:TRIED]:
             self._take(number, frozenset())
-        if self.found or not numbers:
+        if not numbers or not all(map(self._opens, self.found)):
             return
         gone = self._enough(numbers[:TRIED])
         for number in numbers[:TRIED]:
@@ -143,8 +143,8 @@ class _Trials:
 
     def _take(self, number: int, others: frozenset[int]) -> bool:
         """Whether a constraint may go beside others; then it is found."""
-        if number in others:
-            return False
+        if number in others or others and number in self.found:
+            return number in self.found
         gone = others | {number}
         asked = self._without(gone)
         if asked.verdict is Verdict.OVER:
@@ -155,6 +155,10 @@ class _Trials:
         then = Then.OVER if others else self._then(asked)
         self.found[number] = Surplus(number, self.drawing.called(number), off, then)
         return True
+
+    def _opens(self, number: int) -> bool:
+        """Whether more is free without a constraint, which says something else too."""
+        return self.found[number].then is Then.OPEN and self._more(number, frozenset()) > 0
 
     def _then(self, asked: Asked) -> Then:
         if asked.verdict is Verdict.OPEN:
@@ -168,7 +172,7 @@ class _Trials:
         excess = _excess(self._without(gone))
         for number in reversed(numbers):
             less = _excess(self._without(gone | {number}))
-            if less < excess and not self._is_needed(number, gone):
+            if less < excess and not self._more(number, gone):
                 gone, excess = gone | {number}, less
             if not excess:
                 break
@@ -206,9 +210,12 @@ class _Trials:
 
     def _is_needed(self, number: int, others: frozenset[int]) -> bool:
         """Whether without a constraint as much more is free as it says."""
-        more = _free(without(self.drawing, others | {number})) - _free(
-            without(self.drawing, others))
-        return more >= equations(self.drawing, number)
+        return self._more(number, others) >= equations(self.drawing, number)
+
+    def _more(self, number: int, others: frozenset[int]) -> int:
+        """How much more is free without a constraint, beside others."""
+        return (_free(without(self.drawing, others | {number}))
+                - _free(without(self.drawing, others)))
 
 
 def equations(drawing: Drawing, number: int) -> int:

@@ -40,9 +40,9 @@ class Heading:
 @dataclass(frozen=True)
 class Contradiction:
     """What can't be spelled and isn't so where the rest is placed: by how much it is off, in
-    micrometres, who says it, and who says the rest."""
+    micrometres, None where the rest has no places; who says it, and who says the rest."""
 
-    amount_um: Number
+    amount_um: Number | None
     owners: frozenset[Owner]
     others: frozenset[Owner]
 
@@ -74,7 +74,8 @@ class Spelled:
     said: who says each constraint, in their order. points: the name of each knot's point.
     tracks: what each line stands for. left_out: who says something that isn't in the sketch.
     headings: which way each line runs. rounded: values that had to be rounded. coarse: whether an
-    angle is told by the ratio that is next to it. behind: the lines of help behind a rail."""
+    angle is told by the ratio that is next to it. behind: the lines of help behind a rail.
+    unmeasured: the points of help between which a distance stands for what has no value."""
 
     style: Style
     sketch: language.Sketch
@@ -87,6 +88,7 @@ class Spelled:
     rounded: tuple[Rounded, ...]
     coarse: bool
     behind: dict[str, Behind]
+    unmeasured: frozenset[tuple[str, str]]
 
     @cached_property
     def owners(self) -> tuple[frozenset[Owner], ...]:
@@ -125,6 +127,7 @@ class Writer:
         self.left_out: set[Owner] = set()
         self.coarse = False
         self.bars: list[Rail] = []
+        self.unmeasured: set[tuple[str, str]] = set()
 
     def write(self) -> None:
         """Fills the sheet: points, lines, then angles, heights and distances."""
@@ -173,9 +176,11 @@ class Writer:
         headings = tuple(self._heading(name, track) for name, track in tracks.items()
                          if track is not None)
         said = tuple(draft.said for draft in self.sheet.drafts)
-        left_out = frozenset(self.left_out) | self.rails.lost
+        told = frozenset[Owner]().union(*(each.owners for each in self.care.off))
+        left_out = (frozenset(self.left_out) | self.rails.lost) - told
         return Spelled(self.style, sketch, scale, said, dict(self.points), tracks, headings,
-                       left_out, rounded, self.coarse, dict(self.behind))
+                       left_out, rounded, self.coarse, dict(self.behind),
+                       frozenset(self.unmeasured))
 
     def _heading(self, name: str, track: Track) -> Heading:
         frame = self._frame(track)
@@ -572,11 +577,14 @@ class Writer:
         would be, and as much off."""
         for number, each in enumerate(self.care.off):
             names = f"A{number}", f"B{number}"
-            value = 1000 + max(each.amount_um, -each.amount_um)
+            amount = each.amount_um or 0
+            value = 1000 + max(amount, -amount)
             for name, x in zip(names, (0, value)):
                 self.sheet.points[name] = x, 0
             self._say(*names, said_by(each.others), value)
-            self._say(*names, said_by(each.owners), value + each.amount_um)
+            self._say(*names, said_by(each.owners), value + amount)
+            if each.amount_um is None:
+                self.unmeasured.add(names)
 
     def _told_angle(self, leans: Leans) -> None:
         """An angle that isn't as others say: as theirs and its own, of two lines of help. Where
