@@ -9,8 +9,11 @@ from typing import Any
 
 import pytest
 
+from test_freecad import constraints, document, geometry, segment, written
+
+from pertxogai.answers import judge
 from pertxogai.commands import main
-from pertxogai.drawing import PointRef, Which
+from pertxogai.drawing import PointRef, Which, read_drawing
 from pertxogai.freecad import read_freecad
 from pertxogai.solvespace import read_solvespace
 
@@ -152,3 +155,41 @@ def test_names_do_not_steer_a_terminal(capsys: pytest.CaptureFixture[str], tmp_p
     assert ElementTree.parse(out).getroot().tag.endswith("svg")
     main(["judge", str(path)])
     assert "\x1b" not in capsys.readouterr().out
+
+
+def tie(kind: int, first: str, second: str = "-2000 0", value: float = 0) -> str:
+    """A constraint as FreeCAD writes it: of shapes by number, with the numbers of their places."""
+    (one, place), (other, end) = first.split(), second.split()
+    return (f'<Constrain Name="" Type="{kind}" Value="{value}" First="{one}" FirstPos="{place}" '
+            f'Second="{other}" SecondPos="{end}" Third="-2000" ThirdPos="0"/>')
+
+
+def test_what_is_free_in_its_place_comes_back_as_it_is_drawn(capsys: pytest.CaptureFixture[str],
+                                                             tmp_path: Path) -> None:
+    """Two lines that share an end, 50 mm long and square to each other, tied to nothing, at 3 : 4."""
+    lines = geometry(segment(10, 10, 40, 50), segment(40, 50, 0, 80))
+    ties = constraints(tie(1, "0 2", "1 1"), tie(6, "0 0", value=50), tie(6, "1 0", value=50),
+                       tie(10, "0 0", "1 0"))
+    path, out = written(tmp_path / "free.FCStd", document(lines + ties)), tmp_path / "out.FCStd"
+    status, _, err = called(capsys, "judge", path, "--write", out)
+    assert (status, err) == (0, "")
+    drawing = read_freecad(out)[0].drawing
+    for name, which, x, y in (("Line1", Which.START, 10, 10), ("Line1", Which.END, 40, 50),
+                              ("Line2", Which.START, 40, 50), ("Line2", Which.END, 0, 80)):
+        place = drawing.drawn(PointRef(name, which))
+        assert abs(place.x_um - 1000 * x) <= 0.001 and abs(place.y_um - 1000 * y) <= 0.001
+
+
+def test_what_is_free_and_drawn_level_is_placed_level(program: Any) -> None:
+    """A triangle of 3, 4 and 5 cm by its sides, drawn upside down and roughly."""
+    text = """segment A 7 9 -22 9
+segment B A.end -22 -30
+segment C B.end A.start
+length A 30
+length B 40
+length C 50
+"""
+    judged = judge(read_drawing(text), program)
+    assert judged.solution is not None
+    assert judged.solution.spot(PointRef("A", Which.END)) == (-23 * MM, 9 * MM)
+    assert judged.solution.spot(PointRef("B", Which.END)) == (-23 * MM, -31 * MM)

@@ -7,7 +7,7 @@ from dataclasses import dataclass
 from fractions import Fraction
 from math import cos, isqrt, sin
 
-from pertxogai.answers.turning import axis_of, known_at
+from pertxogai.answers.turning import axis_of, drawn_axis, known_at
 from pertxogai.language import Placed, PlacedLine, PlacedPoint
 from pertxogai.spelling.axes import Axes
 from pertxogai.spelling.facts import DATUM
@@ -90,13 +90,13 @@ def along(axis: Spot, upwards: bool, spot: Spot) -> Number:
 
 def in_datum(axes: Axes, spelled: Spelled, plate: Plate) -> dict[str, tuple[int, int]]:
     """Each point in the datum's frame, in whole nanometres. Where the drawing isn't tied to an
-    axis, the first point has its drawn coordinate there; where it has no direction, the printed
-    one stays."""
+    axis, the first point has its drawn coordinate there; where it has no direction, its first
+    segment runs as it is drawn."""
     spots = {knot: plate.points[name] for knot, name in spelled.points.items()
              if name in plate.points}
     axis = plate.axis(spelled.headings, DATUM)
     if axis is None:
-        told = axis_of(axes, spots)
+        told = axis_of(axes, spots) or drawn_axis(axes, spots)
         axis = (1, 0) if told is None else _of_length_one(*map(Fraction, told))
     shift = [_shift(axes, spelled, plate, axis, upwards) for upwards in (False, True)]
     found = {}

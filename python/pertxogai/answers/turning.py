@@ -9,7 +9,7 @@ from collections import defaultdict
 from collections.abc import Hashable, Iterator, Mapping
 from dataclasses import dataclass
 from fractions import Fraction
-from itertools import combinations
+from itertools import chain, combinations
 from math import cos, isqrt, sin
 
 from pertxogai.spelling.axes import Axes, Coordinate
@@ -40,6 +40,18 @@ def axis_of(axes: Axes, spots: Mapping[Knot, Spot]) -> Spot | None:
         wanted = _wanted(axes, told, _way(spots, told))
         if wanted is not None:
             return _turned_back(_way(spots, told), wanted)
+    return None
+
+
+def drawn_axis(axes: Axes, spots: Mapping[Knot, Spot]) -> Spot | None:
+    """The direction of the datum's x axis where nothing tells it: the first segment runs as it is
+    drawn; of points alone the way between the first two. None where all lie on one place."""
+    for first, second in chain(axes.facts.own.values(), combinations(spots, 2)):
+        if first in spots and second in spots:
+            way = _between(spots, first, second)
+            drawn = _between(axes.facts.drawn, first, second)
+            if any(way) and any(drawn):
+                return _turned_back(way, drawn)
     return None
 
 
@@ -87,7 +99,11 @@ def _direction(lean: Lean) -> Spot:
 
 
 def _way(spots: Mapping[Knot, Spot], told: Told) -> Spot:
-    (x, y), (u, v) = spots[told.first], spots[told.second]
+    return _between(spots, told.first, told.second)
+
+
+def _between(spots: Mapping[Knot, Spot], first: Knot, second: Knot) -> Spot:
+    (x, y), (u, v) = spots[first], spots[second]
     return u - x, v - y
 
 
