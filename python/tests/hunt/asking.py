@@ -3,6 +3,7 @@ from __future__ import annotations
 
 import io
 import json
+import os
 import signal
 import tempfile
 import traceback
@@ -15,8 +16,8 @@ from typing import Any
 
 from pertxogai.commands import main
 
-SECONDS = 60
-"""An answer takes no longer, or is none."""
+SECONDS = float(os.environ.get("HUNT_SECONDS", "60"))
+"""An answer takes no longer, or is none; on a machine that is busy it may be given more."""
 
 
 class Late(BaseException):

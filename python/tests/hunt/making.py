@@ -75,7 +75,7 @@ def _tried(seed: int, kind: Kind, chance: random.Random) -> Made:
     shapes = built(chance)
     model, exact = _model(shapes, shapes.asked, shapes.spots, shapes.radii)
     pool = _ordered(list(offered(model.plane(exact), chance)), shapes, chance)
-    first = _triangle(pool, chance) if kind is Kind.IMPOSSIBLE else []
+    first = _triangle(pool, shapes, chance) if kind is Kind.IMPOSSIBLE else []
     kept, spare = _chosen(model, exact, shapes, first + pool)
     if kind is Kind.OPEN:
         kept = _fewer(kept, chance, chance.randint(1, 3))
@@ -126,9 +126,11 @@ def _ordered(offers: list[Offer], shapes: Building, chance: random.Random) -> li
     return [offer for _, _, offer in sorted(found, key=lambda each: each[:2])]
 
 
-def _triangle(pool: list[Offer], chance: random.Random) -> list[Offer]:
+def _triangle(pool: list[Offer], shapes: Building, chance: random.Random) -> list[Offer]:
     """Three distances of three points."""
-    sides = [offer for offer in pool if offer.kind in ("distance", "length")]
+    points = {*shapes.spots, "Origin"}
+    sides = [offer for offer in pool if offer.kind == "length"
+             or offer.kind == "distance" and set(offer.names) <= points]
     chance.shuffle(sides)
     ends = {offer: _points(offer) for offer in sides}
     for one in sides:

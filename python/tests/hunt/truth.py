@@ -17,7 +17,9 @@ Matrix = NDArray[np.float64]
 STEP = 1e-30
 ZERO, SOME = 1e-9, 1e-6
 """A singular value below the one counts as 0, one above the other doesn't; one between can't be told."""
-TURNS = 12
+TURNS, FEW = 12, 7
+"""Newton's method takes few turns, but where what is asked holds at the end of its reach alone, as of
+three lengths that make a flat triangle: there it halves the way at each turn, and a rank tells nothing."""
 HELD_MM = 1e-9
 
 
@@ -76,10 +78,12 @@ class Model:
         return [np.array([np.broadcast_to(off, (count,)).imag for off in rows]).reshape(-1, count) / STEP
                 for rows in self._offs(steps, numbers)]
 
-    def solved(self, at: Vector, numbers: Sequence[int] | None = None) -> Vector | None:
-        """The vector near to another at which all numbers are 0; None where none is found."""
+    def solved(self, at: Vector, numbers: Sequence[int] | None = None, turns: int = TURNS
+               ) -> Vector | None:
+        """The vector near to another at which all numbers are 0; None where none is found in so
+        many turns of Newton's method."""
         at = at.copy()
-        for _ in range(TURNS):
+        for _ in range(turns):
             off = self.offs(at, numbers)
             if not np.isfinite(off).all():
                 return None
@@ -123,7 +127,7 @@ def _like(model: Model, exact: Vector, seed: int) -> Vector:
     span = max(1.0, float(np.abs(exact).max(initial=1.0)))
     for reach in (0.02, 0.005):
         moved = exact + chance.normal(0, reach * span, len(exact))
-        found = model.solved(moved, model.free_of_value())
+        found = model.solved(moved, model.free_of_value(), FEW)
         if found is not None and np.abs(found - exact).max(initial=0) < 0.5 * span:
             return found
     raise Untold("no like place is found")

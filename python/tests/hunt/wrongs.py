@@ -2,7 +2,7 @@
 from __future__ import annotations
 
 from collections.abc import Iterator
-from dataclasses import dataclass
+from dataclasses import dataclass, replace
 from enum import Enum
 from typing import Any
 
@@ -13,7 +13,7 @@ from .making import Made
 from .plane import Plane, Vector, real
 from .reading import Spot, Word, read
 from .rows import Row
-from .truth import Model
+from .truth import Model, Untold, truth
 
 LIMIT_NM = LIMIT_PPB = 1000.0
 SLACK = 2.0
@@ -26,7 +26,6 @@ class Cause(Enum):
 
     GOOD_BUT_OFF = "good, and a word is off"
     GOOD_BUT_SIZELESS = "good, and a circle's size follows from nothing"
-    GOOD_BUT_LEFT_OUT = "good, and something was left out"
     GOOD_BUT_LACKS = "good, and dimensions are missing"
     WELL_LACKS = "well, and dimensions are missing"
     WELL_CONTRADICTS = "well, and its words contradict each other"
@@ -76,10 +75,9 @@ def wrongs(made: Made, answer: Answer) -> list[Found]:
 
 def reach(made: Made, answer: Answer) -> Reach:
     """How far a right answer reaches."""
-    truth = made.truth
     if answer.is_good():
         return Reach.GOOD
-    if truth.lacks or truth.excess or made.is_impossible():
+    if made.truth.lacks or made.truth.excess or made.is_impossible():
         return Reach.JUDGED
     if answer.verdict == "open":
         return Reach.NOT_RIGID
@@ -96,20 +94,18 @@ def _good(made: Made, answer: Answer) -> Iterator[Found]:
         yield Found(Cause.GOOD_BUT_SIZELESS, " ".join(sorted(sizeless)))
     elif made.truth.lacks:
         yield Found(Cause.GOOD_BUT_LACKS, f"{made.truth.lacks}")
-    if answer.names("left_out"):
-        yield Found(Cause.GOOD_BUT_LEFT_OUT, str(answer.names("left_out")))
 
 
 def _well(made: Made, answer: Answer) -> Iterator[Found]:
     """What is wrong about a verdict `well`."""
-    truth = made.truth
-    told = len(set(answer.names("undimensioned")) & truth.sizeless)
-    if truth.lacks > told:
-        yield Found(Cause.WELL_LACKS, f"lacks {truth.lacks}, told {told}")
+    true = made.truth
+    told = len(set(answer.names("undimensioned")) & true.sizeless)
+    if true.lacks > told:
+        yield Found(Cause.WELL_LACKS, f"lacks {true.lacks}, told {told}")
     if made.contradicts():
         yield Found(Cause.WELL_CONTRADICTS, str(answer.names("left_out")))
-    elif truth.excess and answer.is_good() and not _speaks(answer):
-        yield Found(Cause.REPEAT_SILENT, _listed(made, truth.spare))
+    elif true.excess and answer.is_good() and not _speaks(answer):
+        yield Found(Cause.REPEAT_SILENT, _listed(made, true.spare))
 
 
 def _open(made: Made, answer: Answer) -> Iterator[Found]:
@@ -123,18 +119,32 @@ def _open(made: Made, answer: Answer) -> Iterator[Found]:
 
 def _over(made: Made, answer: Answer) -> Iterator[Found]:
     """What is wrong about a verdict `over`."""
-    truth, spare = made.truth, answer.names("spare")
-    if not truth.excess:
+    spare = answer.names("spare")
+    if not made.truth.excess:
         yield Found(Cause.OVER_INDEPENDENT)
         return
     if not spare:
         yield Found(Cause.OVER_UNLISTED)
-    may = truth.alone or truth.spare
-    needed = [each["name"] for each in spare if each["number"] not in may]
+    needed = [each["name"] for each in spare if _is_needed(made, each["number"])]
     if needed:
         yield Found(Cause.NEEDED_LISTED, "; ".join(needed))
-    if truth.excess == 1 and not needed:
+    if made.truth.excess == 1 and not needed:
         yield from _called(made, spare)
+
+
+def _is_needed(made: Made, number: int) -> bool:
+    """Whether the rest of a drawing without a word has as many too many; not where that can't be
+    told, since without the word others say it in the one place that their values leave."""
+    true = made.truth
+    if number in (true.alone or true.spare):
+        return False
+    sheet = read(made.text)
+    rest = replace(sheet, words=[word for place, word in enumerate(sheet.words, 1) if place != number])
+    try:
+        left = truth(Model.of(rest), made.exact).excess
+    except Untold:
+        return False
+    return left >= (true.excess if not true.alone else 1)
 
 
 def _called(made: Made, spare: list[dict[str, Any]]) -> Iterator[Found]:
