@@ -183,7 +183,7 @@ def test_an_edit_stays_with_its_drawing(page: Page) -> None:
 
 def test_a_fault_is_shown_at_its_place(page: Page) -> None:
     page.begin(TRIANGLE.replace("length C 35", "length C 3"), "fault")
-    assert "1\u00a0mm too short to meet" in page.told() and "fault" not in page.told()
+    assert "1 mm too short to meet" in page.told() and "fault" not in page.told()
     assert page.count(".faults path") == 3 and page.count(".marks .blamed") == 3
     page.click("#tab-asked")
     keep_picture(page, "fault")
