@@ -12,6 +12,7 @@ from ..drawing import Drawing, DrawingRefusal, DrawingUnsound, Place, WordFault,
 from ..drawing_sheet import DrawingSheet, NoPlaces
 from ..dxf import MissingLibrary, Release
 from ..found import FileRefusal
+from ..good import reasons_against
 from ..inputs import InputRefused
 from ..language import NotHeld, Refusal
 from ..language.flips import Flip
@@ -19,7 +20,7 @@ from ..measure import Spot
 from ..picture.designed import Whereabouts
 from ..program import Asks, ProgramError, Status
 from ..reports import Flipped, NoChoice
-from ..told import JudgedDrawing, spare_json
+from ..told import spare_json
 from .attending import Attending
 from .document import read_document, write_document
 from .edit_fields import read_edit
@@ -61,6 +62,8 @@ class Desk:
             return {"refused": {"line": refusal.line, "message": str(refusal)}}
         except (WordFault, DrawingUnsound) as fault:
             return trouble("edit", str(fault))
+        except NoPlaces as error:
+            return trouble("call", f"{error}; see the verdict, or export SVG, which shows it as drawn")
         except (FieldRefused, InputRefused, FileRefusal, NotPlaced, DrawingRefused) as error:
             return trouble("call", str(error))
         except (ProgramError, MissingLibrary) as error:
@@ -85,12 +88,13 @@ class Desk:
             del self.kept[next(iter(self.kept))]
         return judged
 
-    def edited(self, drawing: Drawing, known: Judged, is_known: bool = False) -> Json:
+    def edited(self, drawing: Drawing, known: Judged, given: Fields) -> Json:
         """What is told of a drawing that an edit has made of a known one, kept by its text as
-        what that reads as. Raises DrawingUnsound."""
+        what that reads as; where the page `knows` what was told of that one, without what is as it
+        was. Raises DrawingUnsound."""
         judged = Judged(checked(drawing, known.drawing), self.attending, known.drawing)
         text = self.attending.meanwhile(lambda: write_document(drawing))
-        found = _whole(judged, known, is_known)
+        found = _whole(judged, given.texts("left_out"), known, given.flag("knows"))
         self.keep(text.value, judged)
         return {"text": text.value, **found}
 
@@ -103,19 +107,20 @@ def trouble(kind: str, message: str) -> Json:
 def _judge(desk: Desk, given: Fields) -> Json:
     """The drawing of a text, and the judgement on it."""
     text = given.text("text")
-    return {"text": text, **_whole(desk.judged(text))}
+    return {"text": text, **_whole(desk.judged(text), given.texts("left_out"))}
 
 
-def _whole(judged: Judged, before: Judged | None = None, is_known: bool = False) -> Json:
+def _whole(judged: Judged, left_out: tuple[str, ...], before: Judged | None = None,
+           is_known: bool = False) -> Json:
     """The judgement, and what is drawn, by what was drawn before; where that `is_known` on the
-    page, without what is as it was."""
+    page, without what is as it was. left_out: what the drawing can't say of its file."""
     answer: Json = {"judgement": None}
     shown, sight = None, before.sight if before else None
     try:
         if judged.drawing.geometry:
             shown = judged.shown()
-            judged.told = judgement_shown(judged.judgement, judged.parts, judged.placed(before),
-                                          judged.short)
+            judged.told = judgement_shown(judged.with_file(judged.judgement, left_out),
+                                          judged.parts, judged.placed(before), judged.short)
             known = before.told if before and is_known else None
             answer["judgement"] = without_known(judged.told, known)
     except DrawingRefused as error:
@@ -130,11 +135,10 @@ def _whole(judged: Judged, before: Judged | None = None, is_known: bool = False)
 
 
 def _edit(desk: Desk, given: Fields) -> Json:
-    """The text that an edit makes of a text, and all that `judge` tells of it; where the page
-    `knows` that of the first, what is as it was isn't told again."""
+    """The text that an edit makes of a text, and all that `judge` tells of it."""
     known = desk.judged(given.text("text"))
     edit = read_edit(known.drawing, Fields.of(given.values.get("edit")))
-    return desk.edited(edit.on(known.drawing), known, given.flag("knows"))
+    return desk.edited(edit.on(known.drawing), known, given)
 
 
 def _offers(desk: Desk, given: Fields) -> Json:
@@ -146,13 +150,15 @@ def _offers(desk: Desk, given: Fields) -> Json:
 
 def _weigh(desk: Desk, given: Fields) -> Json:
     """What is left out of a drawing that is over, and what may go instead, each with how far it is
-    off without it; where one of these can't be told, the other, and why."""
+    off without it; where one of these can't be told, the other, and why. Of one that is well and
+    isn't met, what comes of other choices."""
     judged = desk.judged(given.text("text"))
     judgement, left, weighing = judged.weighed, judged.too_much, judged.weighing
     unweighed = weighing if isinstance(weighing, Untold) else None
     return {"spare": [spare_json(each) for each in judgement.surplus],
             "excess": excess_shown(judgement, left),
-            "lines": lines_shown(judgement, Asides(left, unweighed))}
+            "lines": lines_shown(judged.with_file(judgement, given.texts("left_out")),
+                                 Asides(left, unweighed, judged.short))}
 
 
 def _plan(desk: Desk, given: Fields) -> Json:
@@ -185,7 +191,7 @@ def _redraw(desk: Desk, given: Fields) -> Json:
     solution = found.solution
     moves = tuple((ref, _place(solution.spot(ref))) for ref in judged.drawing.points())
     radii = tuple((name, Fraction(solution.radius(name)) / 1000) for name in solution.radii)
-    return desk.edited(Move(moves, radii).on(judged.drawing), judged)
+    return desk.edited(Move(moves, radii).on(judged.drawing), judged, given)
 
 
 def _steps(given: Fields) -> tuple[int, ...]:
@@ -211,17 +217,13 @@ def _verify(desk: Desk, given: Fields) -> Json:
 
 
 def _dxf(desk: Desk, given: Fields) -> Json:
-    """The shapes as placed in DXF, by the version of `release`. Raises NotPlaced."""
+    """The shapes as placed in DXF, by the version of `release`. Raises NoPlaces."""
     try:
         release = Release(given.text("release"))
     except ValueError:
         known = ", ".join(each.value for each in Release)
         raise FieldRefused(f"'release' has to be one of {known}") from None
-    try:
-        return {"dxf": _sheet(desk, given).dxf(release)}
-    except NoPlaces:
-        raise NotPlaced("the drawing has no places, so there is no DXF of it: see the verdict, or "
-                        "export SVG, which shows it as drawn") from None
+    return {"dxf": _sheet(desk, given).dxf(release)}
 
 
 def _svg(desk: Desk, given: Fields) -> Json:
@@ -232,13 +234,17 @@ def _svg(desk: Desk, given: Fields) -> Json:
 def _sheet(desk: Desk, given: Fields) -> DrawingSheet:
     judged = desk.judged(given.text("text"))
     judgement = with_counts(judged.weighed, desk.attending)
-    return DrawingSheet(JudgedDrawing(given.text("name"), judged.drawing, judgement), False)
+    whole = judged.with_file(judgement, given.texts("left_out"), given.text("name"))
+    return DrawingSheet(whole, False)
 
 
 def _program_dxf(desk: Desk, given: Fields) -> Json:
-    """What the program itself writes as DXF of the sketch, byte by byte. Raises NotPlaced where
-    it writes none."""
+    """What the program itself writes as DXF of the sketch, byte by byte, where the drawing is
+    good. Raises NotPlaced where it isn't."""
     judged = desk.judged(given.text("text"))
+    whole = judged.with_file(judged.judgement, given.texts("left_out"))
+    if why := "; ".join(each.text for each in reasons_against(whole)):
+        raise NotPlaced(f"no DXF is written of what isn't good: {why}")
     words = ["dxf", f"place={judged.judgement.place.value}"]
     report = desk.program.ask(words, judged.text)
     if report.status is not Status.DONE:

@@ -4,9 +4,10 @@ from __future__ import annotations
 from dataclasses import dataclass, replace
 from functools import cached_property
 
-from ..answers import Judgement, TooMuch, judge_at_once, too_much, weighed
+from ..answers import Judgement, TooMuch, judge_at_once, too_much, weighed, with_choices
 from ..answers.solution import solution_of
 from ..drawing import Drawing
+from ..judged_drawing import JudgedDrawing
 from ..language import Refusal
 from ..language.claim import Claim
 from ..language.flips import Flip, Flips
@@ -62,19 +63,24 @@ class Judged:
 
     @cached_property
     def weighing(self) -> Judgement | Untold:
-        """The judgement with what may go measured, or why that can't be told. Raises as
-        `judgement`."""
+        """The judgement with what may go measured, and with what comes of other choices where it
+        is well and isn't met, or why that can't be told. Raises as `judgement`."""
         judgement = self.judgement
         try:
-            return weighed(judgement, self.program)
+            return with_choices(weighed(judgement, self.program), self.program)
         except ProgramError as error:
             return Untold.by(error)
 
     @property
     def weighed(self) -> Judgement:
-        """The judgement, with what may go measured where the program does that. Raises as
-        `judgement`."""
+        """The judgement, with what may go measured, and what comes of other choices, where the
+        program does that. Raises as `judgement`."""
         return self.judgement if isinstance(self.weighing, Untold) else self.weighing
+
+    def with_file(self, judgement: Judgement, left_out: tuple[str, ...],
+                  name: str = "") -> JudgedDrawing:
+        """The drawing with a judgement on it, what of its file it can't say, and its name."""
+        return JudgedDrawing(name, self.drawing, judgement, left_out)
 
     @property
     def text(self) -> str:

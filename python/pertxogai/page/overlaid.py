@@ -5,6 +5,7 @@ from dataclasses import replace
 from fractions import Fraction
 
 from ..answers import Judgement
+from ..answers.placing import is_tied
 from ..drawing import PointRef
 from ..measure import Frame, Solution
 from ..spelling.facts import ORIGIN_KNOT
@@ -16,7 +17,7 @@ def laid_over(other: Judgement, here: Solution) -> Solution:
     as a whole, about the origin where that is a point of it, if nothing ties it to the axes."""
     solution, spelled = other.solution, other.asked.spelled
     assert solution is not None
-    if spelled.tied():
+    if is_tied(other.asked.axes, spelled):
         return solution
     origin: Pair = (0.0, 0.0), (0.0, 0.0)
     pairs = [(_mm(solution, ref), _mm(here, ref)) for ref in solution.points]

@@ -7,12 +7,13 @@ from fractions import Fraction
 
 from ..answers import Excess, Judgement, Surplus, TooMuch
 from ..answers.faults import Failure
-from ..drawing import Drawing
+from ..choices import change
 from ..drawing.numbers import mm_text
+from ..good import Lack, reasons_against
+from ..judged_drawing import JudgedDrawing
 from ..measure import Unit, amount_text, units_text
 from ..program import ProgramError
 from ..reports import Solved, Verdict
-from ..told import JudgedDrawing
 from .faulted import fault_told
 
 MOST_PIECES, MOST_JOINTS = 40, 20
@@ -24,7 +25,8 @@ ROUNDING_UM = Fraction(2, 1000)
 @dataclass(frozen=True)
 class Line:
     """A line: how it is set, the list of this name that it stands in, what it selects, the
-    constraint that it selects, or that it takes away, and the part whose colour it has."""
+    constraint that it selects, or that it takes away, what of the file is told no longer once it is
+    done, and the part whose colour it has."""
 
     text: str
     kind: str = ""
@@ -32,6 +34,7 @@ class Line:
     selects: tuple[str, ...] = ()
     constraint: int | None = None
     takes: int | None = None
+    forgets: str = ""
     part: int | None = None
 
 
@@ -58,36 +61,52 @@ class Asides:
     short: str = ""
 
 
-def lines_shown(judgement: Judgement, asides: Asides) -> list[dict[str, object]]:
+def lines_shown(judged: JudgedDrawing, asides: Asides = Asides()) -> list[dict[str, object]]:
     """All lines, each with what it has."""
+    lines = *_told(judged, asides), *_left_out(judged), *_notes(judged.judgement)
     return [{name: value for name, value in vars(line).items() if value not in ("", (), None)}
-            for line in (*_told(judgement, asides), *_notes(judgement))]
+            for line in lines]
 
 
-def _told(judgement: Judgement, asides: Asides) -> Iterator[Line]:
-    drawing = judgement.names.drawing
+def _told(judged: JudgedDrawing, asides: Asides) -> Iterator[Line]:
+    judgement = judged.judgement
     if judgement.failure is not None:
         return _fault(judgement, judgement.failure, asides.short)
     if judgement.verdict is Verdict.WELL:
-        return _well(drawing, judgement)
+        return _well(judged)
     if judgement.verdict is Verdict.OPEN:
         return _open(judgement)
     return _over(judgement, asides.left, asides.unweighed)
 
 
-def _well(drawing: Drawing, judgement: Judgement) -> Iterator[Line]:
-    """How exactly it is placed."""
-    solved = judgement.asked.solved
+def _well(judged: JudgedDrawing) -> Iterator[Line]:
+    """Why it isn't good, if it isn't; and how exactly it is placed."""
+    solved = judged.judgement.asked.solved
     assert isinstance(solved, Solved)
+    unmet = [each for each in reasons_against(judged) if each.lack is not Lack.LEFT_OUT]
+    if unmet:
+        yield Line("The count is right, and it is placed, but not all is met or told:")
+    for reason in unmet:
+        yield Line(reason.text, list="what isn’t met", constraint=reason.constraint)
+    yield from _choices(judged.judgement)
     within = (units_text(solved.length_tolerance_nm, Unit.NM),
               units_text(solved.angle_tolerance_ppb, Unit.PPB))
-    yield Line(f"Just as many dimensions as fix it. Placed within {within[0]} and {within[1]}.")
-    off = [each for each in JudgedDrawing("", drawing, judgement).worst() if each.amount]
+    count = "" if unmet else "Just as many dimensions as fix it. "
+    yield Line(f"{count}Placed within {within[0]} and {within[1]}.")
+    off = [each for each in judged.worst() if each.amount]
     for each in off:
         yield Line(f"measured: at most {amount_text(each)} off, "
-                   f"{each.called(drawing)}", "quiet")
+                   f"{each.called(judged.drawing)}", "quiet")
     if not off:
         yield Line("measured: each constraint holds exactly", "quiet")
+
+
+def _left_out(judged: JudgedDrawing) -> Iterator[Line]:
+    """What the drawing's file has beside, as long as that isn't done."""
+    if judged.not_drawn:
+        yield Line("Left out of the file, since a drawing can’t say it:")
+    for what in judged.not_drawn:
+        yield Line(what, list="left out of the file", forgets=what)
 
 
 def _open(judgement: Judgement) -> Iterator[Line]:
@@ -97,6 +116,9 @@ def _open(judgement: Judgement) -> Iterator[Line]:
     plural = "s" if found.count > 1 else ""
     yield Line(f"Lacks {found.count} dimension{plural} at least, by rank." if found.count
                else "It doesn’t hold together by triangles.")
+    if found.whole is not None and found.whole.ways:
+        yield Line("It isn’t tied to the datum: the whole may still be "
+                   f"{found.whole.text()}, by rank.", "quiet")
     for piece in found.pieces[:MOST_PIECES]:
         yield Line(f"piece {piece.number}: {' '.join(piece.elements)}", list="pieces",
                    selects=piece.elements, part=piece.number)
@@ -129,8 +151,11 @@ def _over(judgement: Judgement, left: TooMuch | Untold,
         yield Line("Or one of these may go instead:" if len(listed) == 1
                    else "Or one of these may go instead of one of them:")
     for other in others:
-        yield Line(f"{other.name}: {_surplus(other)}", list="spare constraints",
+        then = "" if other.then is None else f"; the rest is {other.then.value} then"
+        yield Line(f"{other.name}: {_surplus(other)}{then}", list="spare constraints",
                    takes=other.number)
+    for what in judgement.loose:
+        yield Line(f"A dimension is lacking all the same: {what}, by rank.")
     if unweighed is not None:
         yield Line(f"What may go can’t be measured: {unweighed.why}", "quiet")
     if isinstance(left, Untold):
@@ -198,6 +223,7 @@ def _fault(judgement: Judgement, failure: Failure, short: str) -> Iterator[Line]
     drawing = judgement.names.drawing
     yield Line("The count is right, but the way it is drawn there are no places by these dimensions.")
     yield Line(fault_told(judgement, failure, short))
+    yield from _choices(judgement)
     if failure.dimensions:
         yield Line("Look at:")
     numbers = {drawing.called(number): number for number in range(1, len(drawing.constraints) + 1)}
@@ -205,14 +231,30 @@ def _fault(judgement: Judgement, failure: Failure, short: str) -> Iterator[Line]
         yield Line(name, list="dimensions beneath the fault", constraint=numbers.get(name))
 
 
+def _choices(judgement: Judgement) -> Iterator[Line]:
+    """What comes of drawing it the other way round, where that was tried."""
+    tried, sketch = judgement.tried, judgement.asked.spelled.sketch
+    if tried is None or tried.found is None and not tried.lists:
+        return
+    if tried.found is None:
+        count = "all of them" if tried.whole else "not all"
+        yield Line(f"No other choice of its steps will do: {tried.lists} were tried, {count}.",
+                   "quiet")
+        return
+    yield Line("The other way round it has places, and meets them:")
+    for step in tried.found.steps:
+        yield Line(change(sketch, step, judgement.names.element), list="what to draw otherwise")
+
+
 def _notes(judgement: Judgement) -> Iterator[Line]:
     """What is to be known beside the verdict."""
     for warning in judgement.warnings:
         yield Line(f"look: {warning.text()}", "warning", selects=warning.shapes)
+    unsized = () if judgement.solution is not None else judgement.undimensioned
     for what, names in (
             ("couldn’t be spelled", judgement.left_out), ("taken as drawn", judgement.frozen),
             ("told by a rounded value", judgement.rounded),
             ("repeats others, and may go", judgement.repeats),
-            ("its size is told by nothing, so it is as drawn", judgement.undimensioned),
+            ("its size is told by nothing, so it is as drawn", unsized),
             ("told by a value that was read off a placed part", judgement.grown)):
         yield from (Line(f"{what}: {name}", "note") for name in names)

@@ -6,6 +6,8 @@ from collections.abc import Iterable, Mapping
 
 from ..answers import Judgement, TooMuch
 from ..drawing import Arc, Circle, PointRef
+from ..good import reasons_json
+from ..judged_drawing import JudgedDrawing
 from ..picture.designed import Whereabouts
 from ..reports import Verdict
 from ..shape_parts import parts_of_points, parts_of_shapes
@@ -19,13 +21,15 @@ LONG = "placed", "laid", "colours", "language"
 """What of a judgement isn't told again to a page that knows it."""
 
 
-def judgement_shown(judgement: Judgement, parts: Iterable[LaidPart], placed: Json | None,
+def judgement_shown(judged: JudgedDrawing, parts: Iterable[LaidPart], placed: Json | None,
                     short: str = "") -> Json:
     """What is judged, and where it is shown, as it is placed and by its parts; and by how much the
     dimensions beneath a fault miss each other. What is left out of what is over isn't told yet."""
+    judgement = judged.judgement
     return {
         "verdict": judgement.verdict.value,
-        "lines": lines_shown(judgement, Asides(short=short)),
+        **reasons_json(judged),
+        "lines": lines_shown(judged, Asides(short=short)),
         "spare": [spare_json(each) for each in judgement.surplus],
         "excess": [],
         "placed": placed,

@@ -362,7 +362,9 @@ def test_what_has_no_places_is_no_dxf_of_the_program(client, name) -> None:
         "segment A 0 0 10 0\nsegment B A.end 3 8\nsegment C B.end A.start\n"
         "length A 40\nlength B 36\nlength C 3\n")
     found = answer(client, "program-dxf", text=text)
-    assert "dxf" not in found and "writes no DXF" in found["trouble"]["message"]
+    why = "it is open" if name == "open-hinge" else "it has no places"
+    assert "dxf" not in found
+    assert found["trouble"]["message"] == f"no DXF is written of what isn't good: {why}"
 
 
 def opened(client, path: Path) -> dict:

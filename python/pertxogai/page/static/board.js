@@ -142,12 +142,13 @@ export class Board {
     const { numbers } = this.selection;
     const spare = new Set((judgement?.spare ?? []).map((each) => each.number));
     const blamed = new Set(judgement?.failure?.dimensions ?? []);
+    const unmet = new Set((judgement?.why_not ?? []).map((each) => each.constraint));
     const excess = new Map((judgement?.excess ?? []).map((each) => [each.number, each]));
     const { scale, x, y } = this.plane;
     const from = [scale, x, y, marks];
     if (!this.isSame('places', from)) this.placed = new Marks(this.plane).all(marks);
-    if (this.isSame('marks', [...from, numbers, [...spare].join(), [...blamed].join(), JSON.stringify(judgement?.excess ?? [])])) return null;
-    const kinds = this.answer.drawing.constraints.map(({ number, called }) => `markgroup ${spare.has(number) || excess.has(number) ? 'spare' : ''} ${excess.has(number) ? 'excess' : ''} ${blamed.has(called) ? 'blamed' : ''} ${numbers.has(number) ? 'selectedmark' : ''}`);
+    if (this.isSame('marks', [...from, numbers, [...spare].join(), [...blamed].join(), [...unmet].join(), JSON.stringify(judgement?.excess ?? [])])) return null;
+    const kinds = this.answer.drawing.constraints.map(({ number, called }) => `markgroup ${spare.has(number) || excess.has(number) ? 'spare' : ''} ${excess.has(number) ? 'excess' : ''} ${blamed.has(called) || unmet.has(number) ? 'blamed' : ''} ${numbers.has(number) ? 'selectedmark' : ''}`);
     return this.placed.map((mark, place) => markMade(mark, place, kinds[mark.number - 1], excess.get(mark.number)?.told));
   }
 

@@ -24,12 +24,12 @@ export class Files {
     if (event.type === 'drop' && !document.querySelector('dialog[open]')) this.open(event.dataTransfer.files[0]);
   }
 
-  /** Begins with a text, once what isn't saved is kept aside. */
-  async begin(text, name) {
+  /** Begins with a text, once what isn't saved is kept aside; of a file something may be left out. */
+  async begin(text, name, leftOut = []) {
     this.paper.settle();
     this.keeping.put(this.paper);
     byId('name').value = name;
-    await this.paper.begin(text, name);
+    await this.paper.begin(text, name, text, leftOut);
     this.shown();
   }
 
@@ -48,7 +48,7 @@ export class Files {
 
   /** Takes a sketch of a file, and tells what of it couldn't be said. */
   async take({ text, name, left_out: out, aside }) {
-    await this.begin(text, name);
+    await this.begin(text, name, out);
     const lines = [...out.map((each) => `left out: ${each}`), ...aside.map((each) => `not asked for: ${each}`)];
     if (lines.length) told('What the drawing can’t say of the file', html('ul', {}, ...lines.map((each) => html('li', {}, each))));
   }
@@ -58,7 +58,7 @@ export class Files {
     const drawings = await this.paper.queue(() => this.paper.server.gallery());
     const all = [...this.keeping.unsaved(), ...(drawings || [])];
     const drawing = all.length && await chosen('Begin from', all);
-    if (drawing) this.begin(drawing.text, drawing.name);
+    if (drawing) this.begin(drawing.text, drawing.name, drawing.leftOut);
   }
 
   /** Saves the drawing's text. */

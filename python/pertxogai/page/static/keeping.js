@@ -26,8 +26,8 @@ export class Keeping {
 
   /** Keeps the drawing that stands; of it and what another tab has kept since, the one that was changed first goes aside. */
   keep() {
-    const { text, name, saved } = this.paper;
-    const mine = { text, name, saved, tab: this.tab };
+    const { text, name, saved, leftOut } = this.paper;
+    const mine = { text, name, saved, leftOut, tab: this.tab };
     const last = this.kept();
     const isOthers = last && last.tab !== this.tab;
     const hasChanged = JSON.stringify(mine) !== this.mine;
@@ -43,12 +43,12 @@ export class Keeping {
   }
 
   /** Puts a drawing aside, unless it is saved; of another tab's drawing its latest state alone. */
-  put({ text, name, saved, tab }) {
+  put({ text, name, saved, leftOut, tab }) {
     if (!text.trim() || text === saved) return;
     const all = this.unsaved().filter((each) => each.text !== text && (!tab || each.tab !== tab));
     const gone = all[MOST_ASIDE - 1];
     if (gone) this.tell('keeping', `More than ${MOST_ASIDE} drawings are left unsaved: the oldest is no longer kept (${gone.name}).`);
-    this.store(ASIDE, [{ text, name: `${name.replace(/, unsaved$/, '')}, unsaved`, tab }, ...all].slice(0, MOST_ASIDE));
+    this.store(ASIDE, [{ text, name: `${name.replace(/, unsaved$/, '')}, unsaved`, leftOut, tab }, ...all].slice(0, MOST_ASIDE));
   }
 
   /** The drawings that were left unsaved. */

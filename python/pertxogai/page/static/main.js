@@ -67,9 +67,9 @@ class Page {
     byId('name').addEventListener('change', () => { this.call(); keeping.keep(); });
     byId('board').addEventListener('mouseup', (event) => this.pressed(event.detail));
     this.take('select');
-    const { text = '', name = 'drawing', saved = '' } = keeping.kept() ?? {};
+    const { text = '', name = 'drawing', saved = '', leftOut = [] } = keeping.kept() ?? {};
     byId('name').value = name;
-    paper.begin(text, name, saved).then(() => this.board.fit());
+    paper.begin(text, name, saved, leftOut).then(() => this.board.fit());
   }
 
   /** The drawing is called as its field says. */

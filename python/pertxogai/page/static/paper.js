@@ -9,6 +9,8 @@ export class Paper extends EventTarget {
   history = new History('');
   name = 'drawing';
   saved = '';
+  /** What its file has and the drawing can't say, as long as that isn't done. */
+  leftOut = [];
   /** What is said of the last text that could be read, and the line of this one that can't. */
   answer = null;
   refused = null;
@@ -31,9 +33,9 @@ export class Paper extends EventTarget {
     return this.history.text;
   }
 
-  /** Begins with a text, under a name. */
-  begin(text, name, saved = text) {
-    Object.assign(this, { history: new History(text), name, saved, answer: null, refused: null, said: null, live: null, seen: null });
+  /** Begins with a text, under a name, of a file from which something is left out. */
+  begin(text, name, saved = text, leftOut = []) {
+    Object.assign(this, { history: new History(text), name, saved, leftOut, answer: null, refused: null, said: null, live: null, seen: null });
     this.tell('begin');
     return this.turned();
   }
@@ -42,6 +44,17 @@ export class Paper extends EventTarget {
   settle() {
     this.tell('settle');
     return this.text;
+  }
+
+  /** Something that was left out of the file is done, or isn't wanted. */
+  forget(what) {
+    this.leftOut = this.leftOut.filter((each) => each !== what);
+    return this.turned();
+  }
+
+  /** What the server answers to a call about a text. */
+  about(text, call, more = {}) {
+    return this.server.call(call, { text, left_out: this.leftOut, ...more });
   }
 
   /** Takes a text that was typed. */
@@ -69,14 +82,14 @@ export class Paper extends EventTarget {
     return this.queue(async () => {
       if (turn !== this.asked) return;
       const { text } = this;
-      const answer = await this.server.call('judge', { text });
+      const answer = await this.about(text, 'judge');
       if (turn === this.asked) this.take(text, answer);
     });
   }
 
   /** What the server answers to a call, behind all that was asked before; false where it is stopped. */
-  ask(call, given) {
-    return this.queue(() => this.server.call(call, given));
+  ask(call, { text, ...more }) {
+    return this.queue(() => this.about(text, call, more));
   }
 
   /** Edits the text that stands by one edit of the server's; by numbers of constraints only the text in which they were seen. Gives whether it was taken. */
@@ -95,7 +108,7 @@ export class Paper extends EventTarget {
 
   /** The text is drawn as it is placed, or as it is with the choices of some steps turned over; by steps only the text whose steps they are. */
   redraw(steps, seen) {
-    return this.change((text) => (steps.length && text !== seen ? { trouble: this.refused ?? CHANGED } : this.server.call('redraw', { text, steps })));
+    return this.change((text) => (steps.length && text !== seen ? { trouble: this.refused ?? CHANGED } : this.about(text, 'redraw', { steps })));
   }
 
   /** Changes the text that stands by a call; where another was typed meanwhile, that one; where another drawing has begun, none. Gives whether it was taken. */
@@ -114,7 +127,7 @@ export class Paper extends EventTarget {
   /** What an edit makes of a text; of one that is known, what stays as it was isn't told again. */
   async edited(text, edit) {
     const known = this.answer?.drawing && !this.answer.trouble && this.answer.text === text ? this.answer : null;
-    const answer = await this.server.call('edit', { text, edit, knows: known !== null });
+    const answer = await this.about(text, 'edit', { edit, knows: known !== null });
     return known ? completed(answer, known) : answer;
   }
 
@@ -163,19 +176,20 @@ export class Paper extends EventTarget {
     if (!this.refused) this.answer = answer;
     this.said = this.refused ? { ...this.answer, ...answer, judgement: null } : answer;
     this.tell('answer', this.said);
-    if (answer.judgement?.verdict === 'over') this.weighLater(text, answer);
+    const { verdict, good } = answer.judgement ?? {};
+    if (verdict === 'over' || (verdict === 'well' && !good)) this.weighLater(text, answer);
   }
 
-  /** What is over is weighed one after the other, so that there is room for all else. */
+  /** What is over, or isn't met, is weighed one after the other, so that there is room for all else. */
   weighLater(text, answer) {
     const weigh = () => this.weigh(text, answer);
     this.weighed = this.weighed.then(weigh, weigh);
   }
 
-  /** Has told and measured, beside all else, what is left out of a drawing that is over, and what may go. */
+  /** Has told and measured, beside all else, what is left out of a drawing that is over, and what may go; of one that isn't met, what comes of other choices. */
   async weigh(text, answer) {
     const stands = () => this.answer === answer && !this.refused;
-    const found = stands() && await this.server.call('weigh', { text }).catch(ended);
+    const found = stands() && await this.about(text, 'weigh').catch(ended);
     if (!found?.spare || !stands()) return;
     Object.assign(answer.judgement, found);
     if (!this.live) this.tell('answer', answer);

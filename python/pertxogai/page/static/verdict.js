@@ -35,11 +35,12 @@ export class Verdict {
     return list ? null : lists.get(line.list);
   }
 
-  /** A line of a list: with the colour of its part, or the button that takes its constraint away. */
+  /** A line of a list: with the colour of its part, or the button that takes its constraint away, or has it told no longer. */
   item(line) {
     const erase = () => this.paper.edit({ do: 'erase', constraints: [line.takes] });
-    const button = line.takes && html('button', { onclick: erase, 'aria-label': `take away ${line.text.split(': ')[0]}` }, 'Take away');
-    return html('li', { 'data-spare': line.takes }, line.part && html('i', { class: 'chip', '--colour': colourOf(line.part) }), this.told(line), button);
+    const take = line.takes && html('button', { onclick: erase, 'aria-label': `take away ${line.text.split(': ')[0]}` }, 'Take away');
+    const forget = line.forgets && html('button', { onclick: () => this.paper.forget(line.forgets), title: 'it is drawn, or isn’t wanted', 'aria-label': `done: ${line.text}` }, 'Done');
+    return html('li', { 'data-spare': line.takes }, line.part && html('i', { class: 'chip', '--colour': colourOf(line.part) }), this.told(line), take, forget);
   }
 
   /** The text of a line; where it selects something, as a button. */
@@ -56,5 +57,6 @@ function told({ refused, trouble, judgement }) {
   if (trouble) return ['trouble', 'not judged', [{ text: trouble.message }]];
   if (!judgement) return ['empty', 'empty', [{ kind: 'quiet', text: 'Draw with the tools above the board, begin from the gallery, or write in the text below.' }]];
   if (judgement.failure) return ['fault', 'well, and no places', judgement.lines];
+  if (judgement.verdict === 'well' && !judgement.good) return ['unmet', 'well, and not good', judgement.lines];
   return [judgement.verdict, judgement.verdict, judgement.lines];
 }
