@@ -22,15 +22,22 @@ class Piece:
     dx_mm: float | None = None
     dy_mm: float | None = None
 
+    def is_fixed(self) -> bool:
+        """Whether nothing of it is free."""
+        return None not in (self.turn, self.dx_mm, self.dy_mm)
+
 
 def in_turn(pieces: Iterable[Piece], drawn: Mapping[str, Spot],
             fixed: Mapping[str, Spot]) -> Iterator[tuple[Piece, Motion]]:
-    """Each piece and the motion that lays it nearest to where its points are drawn: about a point
-    that is fixed, else about one that a piece before it has laid, where it has such a point."""
+    """Each piece and the motion that lays it nearest to where its points are drawn: those first of
+    which nothing is free; the others about a point that is fixed, else about one that a piece
+    before it has laid, where it has such a point."""
     lies = dict(fixed)
-    waiting = sorted(pieces, key=lambda piece: -len(piece.points))
+    waiting = sorted(pieces, key=lambda piece: (not piece.is_fixed(), -len(piece.points)))
     while waiting:
-        piece = next((each for each in waiting if _shared(each, lies)), waiting[0])
+        piece = waiting[0]
+        if not piece.is_fixed():
+            piece = next((each for each in waiting if _shared(each, lies)), piece)
         waiting = [each for each in waiting if each is not piece]
         motion = _motion(piece, lies, drawn)
         for name, spot in piece.points.items():

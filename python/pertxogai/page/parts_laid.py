@@ -1,17 +1,20 @@
 """Each part of a drawing as the program places it by itself, laid on the drawing."""
 from __future__ import annotations
 
+import math
 from collections.abc import Iterator, Mapping, Sequence
 from dataclasses import dataclass
 
 from ..answers import Judgement
-from ..answers.placing import Plate, along
+from ..answers.placing import Plate
+from ..answers.turning import axis_of, known_at
 from ..drawing import ORIGIN, Circle, Drawing, PointRef, points_of
 from ..drawing.geometry import Arc
 from ..measure import Solution
 from ..program import Asks
 from ..reports import PlacedPart, Solved, read_parts
-from ..spelling.facts import DATUM, RadiusOf
+from ..spelling.axes import Axes
+from ..spelling.facts import DATUM, Knot, RadiusOf
 from ..spelling.writing import Spelled
 from ..values import Form, Number
 from .laying import Piece, in_turn
@@ -77,27 +80,54 @@ def _refs(judgement: Judgement) -> dict[str, list[PointRef]]:
 
 
 def _piece(judgement: Judgement, number: int, shape: Solved, known: Mapping[str, Spot]) -> Piece:
-    """A part as it is placed by itself, and what of it the datum's axes fix."""
-    spelled = judgement.asked.spelled
+    """A part as it is placed by itself, and what of it the drawing fixes against the datum."""
+    axes, spelled = judgement.asked.axes, judgement.asked.spelled
     plate = Plate.of(shape.places, spelled.scale)
     points = {name: (float(x) / 1e3, float(y) / 1e3)
               for name, (x, y) in plate.points.items() if name in known}
-    axis = plate.axis(spelled.headings, DATUM)
+    axis = plate.axis(spelled.headings, DATUM) or _told_axis(axes, spelled, plate)
     if axis is None:
         return Piece(number, points)
-    dx, dy = (_shift(spelled, plate, axis, upwards) for upwards in (False, True))
+    dx, dy = (_shift(axes, spelled, plate, axis, upwards) for upwards in (False, True))
     return Piece(number, points, Motion(float(axis[0]), -float(axis[1])), dx, dy)
 
 
-def _shift(spelled: Spelled, plate: Plate, axis: tuple[Number, Number],
+def _told_axis(axes: Axes, spelled: Spelled, plate: Plate) -> Spot | None:
+    """The direction of the datum's x axis in a part, of length 1, where no line of it says that,
+    but the drawing does."""
+    spots = {knot: plate.points[name] for knot, name in _knots(spelled, plate).items()}
+    found = axis_of(axes, spots)
+    if found is None:
+        return None
+    length = math.hypot(*map(float, found))
+    return float(found[0]) / length, float(found[1]) / length
+
+
+def _shift(axes: Axes, spelled: Spelled, plate: Plate, axis: Sequence[Number | float],
            upwards: bool) -> float | None:
-    """How far a part is shifted along an axis, in millimetres, once it is turned; None where none
-    of its lines is told from the other axis."""
+    """How far a part is shifted along an axis, in millimetres, once it is turned: by a line that is
+    told from the other axis, or by a point of which the coordinate is told; None where there is
+    neither."""
     for each in spelled.headings:
         if each.rail and each.rail.datum() and each.rail.upwards == upwards \
                 and each.name in plate.lines:
-            return float(each.at_um - along(axis, upwards, plate.foot(each.name))) / 1e3
-    return None
+            return (float(each.at_um) - _along(axis, upwards, plate.foot(each.name))) / 1e3
+    knots = _knots(spelled, plate)
+    told = known_at(axes, upwards, knots)
+    if told is None:
+        return None
+    return (float(told[1]) - _along(axis, upwards, plate.points[knots[told[0]]])) / 1e3
+
+
+def _knots(spelled: Spelled, plate: Plate) -> dict[Knot, str]:
+    """The points of a part, by what they are of the drawing."""
+    return {knot: name for knot, name in spelled.points.items() if name in plate.points}
+
+
+def _along(axis: Sequence[Number | float], upwards: bool, spot: Sequence[Number]) -> float:
+    """How far a place lies along an axis, or along its left."""
+    (a, b), (x, y) = map(float, axis), map(float, spot)
+    return a * y - b * x if upwards else a * x + b * y
 
 
 def drawn(judgement: Judgement, ref: PointRef) -> Spot:

@@ -83,3 +83,19 @@ def test_a_crank_hangs_at_the_end_of_what_is_fixed(program: Program) -> None:
     assert found["Ground.end"] == near(40, 0)
     x, y = found["Crank.end"]
     assert hypot(x - 40, y) == pytest.approx(30, abs=1e-6) and y > 0 and x < 40
+
+
+def test_a_crank_hangs_at_a_point_whose_place_is_told(program: Program) -> None:
+    """The point is drawn at 12 22, and told at 10 20; the crank is drawn up to 12 50."""
+    found = laid(program, "point P 12 22\nsegment Crank P 12 50\nlength Crank 30\nx P 10\ny P 20\n")
+    long = hypot(2, 30)
+    assert found["P"] == near(10, 20)
+    assert found["Crank.end"] == near(10 + 60 / long, 20 + 900 / long)
+
+
+def test_a_piece_that_an_angle_alone_holds_is_turned_as_it_is_told(program: Program) -> None:
+    """All else of the triangle is lengths; it is drawn at 45 degrees, and told at 30."""
+    found = laid(program, "segment A 0 0 30 30\nsegment B A.end 0 40\nsegment C B.end A.start\n"
+                          "length A 40\nlength B 36\nlength C 35\nangle A 30deg\npoint Q 90 90\n")
+    (x, y), (u, v) = found["A.start"], found["A.end"]
+    assert (u - x, v - y) == near(40 * 3 ** 0.5 / 2, 20)
