@@ -63,7 +63,8 @@ class Desk:
         except (WordFault, DrawingUnsound) as fault:
             return trouble("edit", str(fault))
         except NoPlaces as error:
-            return trouble("call", f"{error}; see the verdict, or export SVG, which shows it as drawn")
+            return trouble("call", f"{error}; see the verdict, or export SVG, which shows it as "
+                           "drawn")
         except (FieldRefused, InputRefused, FileRefusal, NotPlaced, DrawingRefused) as error:
             return trouble("call", str(error))
         except (ProgramError, MissingLibrary) as error:
@@ -259,7 +260,7 @@ def _open(desk: Desk, given: Fields) -> Json:
 
 
 CALLS: Mapping[str, Callable[[Desk, Fields], Json]] = {
-    "judge": _judge, "edit": _edit, "offers": _offers, "weigh": _weigh, "plan": _plan, "flips": _flips,
-    "redraw": _redraw, "verify": _verify, "dxf": _dxf, "svg": _svg, "program-dxf": _program_dxf,
-    "open": _open,
+    "judge": _judge, "edit": _edit, "offers": _offers, "weigh": _weigh, "plan": _plan,
+    "flips": _flips, "redraw": _redraw, "verify": _verify, "dxf": _dxf, "svg": _svg,
+    "program-dxf": _program_dxf, "open": _open,
 }

@@ -154,6 +154,12 @@ def _over(judgement: Judgement, left: TooMuch | Untold,
         then = "" if other.then is None else f"; the rest is {other.then.value} then"
         yield Line(f"{other.name}: {_surplus(other)}{then}", list="spare constraints",
                    takes=other.number)
+    yield from _beside_over(judgement, left, unweighed)
+
+
+def _beside_over(judgement: Judgement, left: TooMuch | Untold,
+                 unweighed: Untold | None) -> Iterator[Line]:
+    """What is lacking all the same, and what of what is over can't be told."""
     for what in judgement.loose:
         yield Line(f"A dimension is lacking all the same: {what}, by rank.")
     if unweighed is not None:
@@ -221,7 +227,8 @@ def _surplus(each: Surplus) -> str:
 def _fault(judgement: Judgement, failure: Failure, short: str) -> Iterator[Line]:
     """What has no place, and why, and the dimensions beneath."""
     drawing = judgement.names.drawing
-    yield Line("The count is right, but the way it is drawn there are no places by these dimensions.")
+    yield Line("The count is right, but the way it is drawn there are no places by these "
+               "dimensions.")
     yield Line(fault_told(judgement, failure, short))
     yield from _choices(judgement)
     if failure.dimensions:

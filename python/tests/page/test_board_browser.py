@@ -35,9 +35,10 @@ area.dispatchEvent(new Event('input'));
 
 
 def keep_picture(page: Page, name: str) -> None:
-    """Keeps a picture of the board, where that is asked for."""
+    """Keeps a picture of the board, where that is asked for; without the time that a call took."""
     page.settled()
     if PICTURES:
+        page.driver.execute_script("document.querySelector('#verdict .time')?.remove()")
         page.driver.save_screenshot(str(Path(PICTURES) / f"board-{name}.png"))
 
 

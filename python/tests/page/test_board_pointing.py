@@ -160,7 +160,8 @@ def other_in_view(page: Page) -> None:
               "const n = document.querySelector('.other'), b = document.getElementById('board');"
               "if (!n.childElementCount) return false;"
               "const { x, y, width, height } = n.getBBox();"
-              "return x >= 0 && y >= 0 && x + width <= b.clientWidth && y + height <= b.clientHeight")
+              "return x >= 0 && x + width <= b.clientWidth"
+              "  && y >= 0 && y + height <= b.clientHeight")
     page.settled()
 
 

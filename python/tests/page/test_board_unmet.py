@@ -52,5 +52,6 @@ def test_what_is_left_out_of_a_file_is_told_until_it_is_done(page: Page) -> None
 
 def test_which_choice_has_places_is_told_a_moment_later(page: Page) -> None:
     page.begin(TURNED, "fault")
-    page.wait("what to draw", "return document.querySelector('[aria-label=\"what to draw otherwise\"]')")
+    page.wait("what to draw",
+              "return document.querySelector('[aria-label=\"what to draw otherwise\"]')")
     assert "on the other side of" in page.told()

@@ -22,8 +22,8 @@ class NoProgram:
         raise ProgramError("nothing is asked here")
 
 
-TEXT = "segment Bottom 0 0 40 0\nsegment Left 0 0 0 30\ncircle Hole 20 15 4\nWidth: length Bottom 40\n" \
-       "angle Bottom Left 90deg\n"
+TEXT = ("segment Bottom 0 0 40 0\nsegment Left 0 0 0 30\ncircle Hole 20 15 4\n"
+        "Width: length Bottom 40\nangle Bottom Left 90deg\n")
 
 
 def edited(edit: dict[str, object]) -> dict[str, object]:
