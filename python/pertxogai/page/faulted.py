@@ -17,8 +17,7 @@ def fault_told(judgement: Judgement, failure: Failure, short: str) -> str:
     each other, where that is known."""
     match failure.fault:
         case NumberFault(at, cause):
-            made = judgement.names.element(at.element) or "a line of help"
-            return _unmet(made, failure.at, cause, short)
+            return _unmet(judgement.names.element(at.element), failure.at, cause, short)
         case RangeFault(at):
             made = judgement.names.element(at.element) or "a line of help"
             return f"The numbers by which {made} is placed {BEYOND}."
@@ -38,13 +37,12 @@ def fault_told(judgement: Judgement, failure: Failure, short: str) -> str:
             assert_never(other)
 
 
-def _unmet(made: str, at: Sequence[str], cause: Cause, short: str) -> str:
+def _unmet(made: str | None, at: Sequence[str], cause: Cause, short: str) -> str:
     """What is constructed has no place by its dimensions, or can't be told from flat."""
+    has_none = f"{made} has no place" if made else f"There is no place at {', '.join(at)}"
     if cause is Cause.FLAT:
-        return f"{made} has no place: it can’t be told on which side it lies. {short}".strip()
-    if short:
-        return f"{made} has no place. {short}"
-    return f"{made} has no place: what is told of it doesn’t meet at {', '.join(at)}."
+        return f"{has_none}: it can’t be told on which side it lies. {short}".strip()
+    return f"{has_none}. {short}" if short else f"{has_none}: what is told doesn’t meet there."
 
 
 def _named(failure: Failure) -> str:

@@ -8,7 +8,7 @@ from dataclasses import dataclass, replace
 from fractions import Fraction
 
 from ..answers import Judgement
-from ..answers.faults import Amount
+from ..answers.faults import Amount, Unit
 from ..drawing.numbers import mm_text
 from ..language import Placed, PlacedLine
 from ..language.clusters import ClusterName, Step
@@ -35,7 +35,7 @@ class Span:
 
 def shortage(judgement: Judgement, plan: Plan, program: Asks) -> str:
     """By how much the dimensions beneath a fault miss each other, in one sentence with the
-    designer's names; empty where three points, or two and a segment, aren't what meets."""
+    designer's names; empty where three points, or two and a line, aren't what meets."""
     failure = judgement.failure
     if failure is None or failure.amount is None or not isinstance(failure.fault, NumberFault):
         return ""
@@ -44,36 +44,47 @@ def shortage(judgement: Judgement, plan: Plan, program: Asks) -> str:
     spans = sorted(_spans(judgement, plan, step, program), key=lambda span: -span.um)
     called = {name: judgement.names.element(name) or "" for name in step.at}
     points = [span for span in spans if span.is_of_points]
-    if len(spans) < 3 or not all(called.values()) or len(points) not in (1, 3):
+    if len(spans) < 3 or len(points) not in (1, 3):
         return ""
     base, *others = [points[0], *(span for span in spans if span is not points[0])]
-    short = _short(base, others, failure.amount) if len(points) == 1 else \
-        base.um - sum(span.um for span in others)
-    return "" if short is None else _sentence(base, others, called, short)
+    tell = _of_points if len(points) == 3 else _of_a_line
+    return tell(base, others, called, failure.amount)
 
 
-def _short(base: Span, others: Sequence[Span], amount: Amount) -> float | None:
-    """By how much two points lie nearer to each other than their heights above a segment ask for,
-    by the number that failed: the square of the one less that of the other. None where that fits
-    neither the heights' sum nor their difference."""
-    square = base.um ** 2 - float(amount.low + amount.high) / 2 * 1e6
-    due = math.sqrt(max(0.0, square))
-    first, second = (span.um for span in others)
-    asked = min((abs(first - second), first + second), key=lambda um: abs(um - due))
-    return asked - base.um if abs(asked - due) < NEAR_UM * (1 + due) else None
-
-
-def _sentence(base: Span, others: Sequence[Span], called: Mapping[str, str], short: float) -> str:
-    """What is told of two points, of what is as far from the one and from the other, and of what
-    is missing."""
-    first, second = base.ends
-    third = next(name for name in called if not base.reaches(name))
+def _of_points(base: Span, others: Sequence[Span], called: Mapping[str, str],
+               amount: Amount) -> str:
+    """What is told of two points that are further apart than a third reaches."""
+    if not all(called.values()):
+        return ""
+    first, second = (called[name] for name in base.ends)
+    third = next(called[name] for name in called if not base.reaches(name))
     near, far = (next(span for span in others if span.reaches(name)) for name in base.ends)
-    meets = (f"{_mm(abs(short))} too {'short' if short > 0 else 'long'} to meet"
-             if abs(short) >= NEAR_UM else "so that all lie in one line")
-    return (f"{called[first]} and {called[second]} are {_mm(base.um)} apart, and "
-            f"{called[third]} is {_mm(near.um)} from {called[first]} and "
-            f"{_mm(far.um)} from {called[second]}: {meets}.")
+    return (f"{first} and {second} are {_mm(base.um)} apart, and {third} is {_mm(near.um)} from "
+            f"{first} and {_mm(far.um)} from {second}: {_meets(base.um - near.um - far.um)}.")
+
+
+def _of_a_line(base: Span, others: Sequence[Span], called: Mapping[str, str],
+               amount: Amount) -> str:
+    """What is told of two points that are nearer to each other than their heights above a line
+    ask for, by the number that failed: of the two squares the one less the other, or that by the
+    first. Nothing where that fits neither the heights' sum nor their difference."""
+    first, second = (called[name] for name in base.ends)
+    number = float(amount.low + amount.high) / 2
+    square = number * 1e6 if amount.unit is Unit.SQUARE_MM else number * base.um ** 2
+    due = math.sqrt(max(0.0, base.um ** 2 - square))
+    one, other = (span.um for span in others)
+    asked = min((abs(one - other), one + other), key=lambda um: abs(um - due))
+    if not (first and second) or abs(asked - due) > NEAR_UM * (1 + due):
+        return ""
+    return (f"{first} and {second} are {_mm(base.um)} apart, and by the other dimensions at least "
+            f"{_mm(asked)}: {_meets(asked - base.um)}.")
+
+
+def _meets(short_um: float) -> str:
+    """By how much something is too short to meet."""
+    if abs(short_um) < NEAR_UM:
+        return "so that all lie in one line"
+    return f"{_mm(abs(short_um))} too {'short' if short_um > 0 else 'long'} to meet"
 
 
 def _spans(judgement: Judgement, plan: Plan, step: Step, program: Asks) -> Iterator[Span]:

@@ -137,3 +137,45 @@ def test_three_lengths_that_dont_meet_are_told_in_mm(
 def test_one_that_is_too_long_is_told_by_what_it_lies_too_far(program: Program) -> None:
     told = told_of(program, THREE.format(100, 20)).replace("\u00a0", " ")
     assert "A.end and B.end are 100 mm apart" in told and "40 mm too short to meet" in told
+
+
+BESIDE = """segment A 0 0 40 0
+point P 10 30
+point Q 20 {}
+coincident A.start Origin
+horizontal A
+length A 40
+x P 10
+distance P A 30
+distance Q A 5
+distance P Q {}
+"""
+BELT = """circle A 0 0 10
+circle B 30 8 8
+segment S -20 20 30 0
+coincident A Origin
+radius A 10
+radius B 8
+distance A B 10
+tangent S A
+tangent S B
+length S 40
+on B XAxis
+x S.start -20
+"""
+
+
+@pytest.mark.parametrize("y, apart, told", [
+    (5, 10, "P are 10 mm apart, and by the other dimensions at least 25 mm: 15 mm too short"),
+    (-5, 20, "P are 20 mm apart, and by the other dimensions at least 35 mm: 15 mm too short")])
+def test_two_heights_that_are_further_apart_than_the_points(
+        program: Program, y: int, apart: int, told: str) -> None:
+    lines = told_of(program, BESIDE.format(y, apart)).replace("\u00a0", " ")
+    assert told in lines and "Q has no place" in lines
+
+
+def test_circles_that_are_nearer_than_a_line_between_them_allows(program: Program) -> None:
+    """The segment is drawn between them, so it is 10 and 8 mm away on two sides."""
+    lines = told_of(program, BELT).replace("\u00a0", " ")
+    assert "are 10 mm apart, and by the other dimensions at least 18 mm: 8 mm too short" in lines
+    assert "help" not in lines
