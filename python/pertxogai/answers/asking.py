@@ -71,18 +71,19 @@ class Asked:
 
 
 def ask_styles(drawing: Drawing, program: Asks, freeze: bool,
-               before: Drawing = Drawing()) -> Asked:
+               before: Drawing = Drawing(), quick: bool = False) -> Asked:
     """The first reading and style that is well and placed; else one that is well; else one that is
     over; else the one with the fewest parts. With `freeze`, what is open is asked again with
     lengths and radii as they are drawn. What an edit has left of the drawing before isn't spelled
-    anew."""
+    anew. `quick`: whether of what says something twice the first style that is over will do, since
+    none is called well then."""
     best: Asked | None = None
     seen: list[list[Equation]] = []
     for spellings in readings(drawing, before):
         if spellings.axes.equations in seen:
             continue
         seen.append(spellings.axes.equations)
-        asked = _best_style(spellings, program)
+        asked = _best_style(spellings, program, quick)
         if isinstance(asked.solved, Solved):
             return asked
         if best is None or _worth(asked) > _worth(best):
@@ -93,7 +94,7 @@ def ask_styles(drawing: Drawing, program: Asks, freeze: bool,
     return best
 
 
-def _best_style(spellings: Spellings, program: Asks) -> Asked:
+def _best_style(spellings: Spellings, program: Asks, quick: bool) -> Asked:
     """The first style that is placed, else the best; what is linear and told twice is told so to
     the program. What is open isn't asked again with its lines in another order: which parts remain
     doesn't depend on that, as is proved."""
@@ -110,7 +111,8 @@ def _best_style(spellings: Spellings, program: Asks) -> Asked:
             still_open.append(lines)
         if twice and asked.verdict is Verdict.WELL:
             continue
-        if isinstance(asked.solved, Solved):
+        if isinstance(asked.solved, Solved) or (
+                quick and twice and asked.verdict is Verdict.OVER):
             return asked
         if best is None or _worth(asked) > _worth(best):
             best = asked

@@ -3,20 +3,23 @@ over. Each is tried: the program is asked what the rest is then, and how far the
 measured where the rest is placed. """
 from __future__ import annotations
 
-from collections.abc import Iterable, Sequence
+from collections import Counter
+from collections.abc import Collection, Iterable, Sequence
 from contextlib import suppress
 from dataclasses import dataclass
 from enum import Enum
 from fractions import Fraction
 
 from pertxogai.answers.asking import Asked, ask_styles, written_by
-from pertxogai.answers.excess import REPEATS_NM, REPEATS_PPB
+from pertxogai.answers.excess import REPEATS_NM, REPEATS_PPB, too_much
 from pertxogai.answers.freedoms import freedoms
+from pertxogai.answers.naming import Names
 from pertxogai.answers.pieces_measured import off_in_pieces
 from pertxogai.answers.solution import solution_of
 from pertxogai.drawing import (
     Arc, Circle, Coincident, Collinear, Concentric, Drawing, Fixed, Midpoint, Pair, Perpendicular,
     ShapeRef, Symmetric, Tangent)
+from pertxogai.drawing.spoken import named
 from pertxogai.measure import Deviation, Unit, greatest, measure
 from pertxogai.measure.exact import whole_up
 from pertxogai.program import Asks
@@ -65,7 +68,7 @@ def suspects(drawing: Drawing, asked: Asked, program: Asks) -> list[int]:
     found = _spare(asked.spelled, program)
     seen = {asked.spelled.sketch.text()}
     for spellings in readings(drawing):
-        found |= _circuits(spellings.axes)
+        found.update(*_circuits(spellings.axes))
         for style in Style:
             spelled = spellings.spelled(style)
             if spelled.sketch.text() not in seen:
@@ -84,7 +87,7 @@ def what_may_go(drawing: Drawing, asked: Asked, program: Asks) -> tuple[Surplus,
     trials = _Trials(drawing, program)
     numbers = suspects(drawing, asked, program)
     with suppress(_Enough):
-        trials.try_all(numbers)
+        trials.try_all(numbers, asked)
     return tuple(sorted(trials.found.values(), key=_order))
 
 
@@ -96,7 +99,7 @@ def _order(each: Surplus) -> tuple[int, int, int]:
 
 def spare_at_once(asked: Asked, program: Asks) -> list[int]:
     """The places of the constraints that the program calls spare in one spelling."""
-    found = _spare(asked.spelled, program) | _circuits(asked.axes)
+    found = _spare(asked.spelled, program).union(*_circuits(asked.axes))
     return sorted({owner.number for owner in found if owner.number and not owner.shape})
 
 
@@ -105,15 +108,25 @@ def _spare(spelled: Spelled, program: Asks) -> set[Owner]:
     return {owner for each in spare for owner in spelled.owners[each.number - 1]}
 
 
-def _circuits(axes: Axes) -> set[Owner]:
-    """Who tells again what others tell, and these others."""
-    found: set[Owner] = set()
-    for equation, told in axes.surplus():
-        found |= equation.owners
-        found.update(*(axes.equations[mark].owners for mark in told.marks))
-    for leans in axes.conflicts():
-        found |= {leans.owner} | axes.directions.owners(leans.first, leans.second)
-    return found
+def _circuits(axes: Axes) -> list[frozenset[Owner]]:
+    """Who tells again what others tell, with these others, of each that tells nothing new."""
+    found = [equation.owners.union(*(axes.equations[mark].owners for mark in told.marks))
+             for equation, told in axes.surplus()]
+    return found + [axes.directions.owners(leans.first, leans.second) | {leans.owner}
+                    for leans in axes.conflicts()]
+
+
+def _likely(drawing: Drawing, number: int, gone: Collection[int],
+            circuits: Iterable[frozenset[Owner]]) -> list[int]:
+    """Those that are gone in whose place a constraint may go: that tell again what it tells, or
+    speak of a shape of which it speaks; else the nearest."""
+    near = sorted(gone, key=lambda other: abs(other - number))
+    mine = [each for each in circuits if Owner(number) in each]
+    shapes = named(drawing.constraints[number - 1])
+    likely = [other for other in near if any(Owner(other) in each for each in mine)]
+    likely += [other for other in near
+               if other not in likely and shapes & named(drawing.constraints[other - 1])]
+    return likely or near[:1]
 
 
 class _Enough(Exception):
@@ -129,17 +142,19 @@ class _Trials:
         self.found: dict[int, Surplus] = {}
         self._known: dict[frozenset[int], Asked] = {}
 
-    def try_all(self, numbers: Sequence[int]) -> None:
-        """Tries each of some constraints alone; where the rest is over still without any of them,
-        each in the place of one of those that are enough together. Raises _Enough."""
-        for number in numbers[:TRIED]:
+    def try_all(self, numbers: Sequence[int], asked: Asked) -> None:
+        """Tries each of some constraints alone, where it may be enough; where the rest is over
+        still without any of them, each in the place of one of those that are enough together.
+        asked: what the program says of all. Raises _Enough."""
+        for number in _enough_alone(self.drawing, numbers[:TRIED]):
             self._take(number, frozenset())
         if not numbers or not all(map(self._opens, self.found)):
             return
-        gone = self._enough(numbers[:TRIED])
+        gone = self._left_out(asked) or self._enough(numbers[:TRIED])
+        circuits = _circuits(axes_said(self.drawing))
         for number in numbers[:TRIED]:
-            nearest = sorted(gone, key=lambda other: abs(other - number))
-            next((other for other in nearest if self._take(number, gone - {other})), None)
+            likely = _likely(self.drawing, number, gone, circuits)
+            next((other for other in likely if self._take(number, gone - {other})), None)
 
     def _take(self, number: int, others: frozenset[int]) -> bool:
         """Whether a constraint may go beside others; then it is found."""
@@ -165,6 +180,20 @@ class _Trials:
             return Then.OPEN
         return Then.WELL if isinstance(asked.solved, Solved) else Then.NO_PLACES
 
+    def _left_out(self, asked: Asked) -> frozenset[int] | None:
+        """The constraints that the program leaves out of all, where the rest isn't over without
+        them, and nothing more is free; else None."""
+        names = Names(self.drawing, asked.spelled, asked.axes.facts.refs)
+        left = too_much(names, self.program)
+        gone = frozenset(each.number for each in left.dimensions)
+        if left.helps or not gone or any(each.in_part for each in left.dimensions):
+            return None
+        rest = self._without(gone)
+        if rest.verdict is Verdict.OVER:
+            return None
+        is_free = _free(without(self.drawing, gone)) > _free(self.drawing)
+        return None if is_free else gone
+
     def _enough(self, numbers: Sequence[int]) -> frozenset[int]:
         """The last constraints without which the rest isn't over, each of which makes it less
         so, and leaves nothing more free."""
@@ -183,7 +212,8 @@ class _Trials:
         if gone not in self._known:
             if len(self._known) >= ASKED:
                 raise _Enough
-            self._known[gone] = ask_styles(without(self.drawing, gone), self.program, False)
+            rest = without(self.drawing, gone)
+            self._known[gone] = ask_styles(rest, self.program, False, quick=True)
         return self._known[gone]
 
     def _off(self, number: int, gone: frozenset[int], asked: Asked) -> Deviation | None:
@@ -216,6 +246,16 @@ class _Trials:
         """How much more is free without a constraint, beside others."""
         return (_free(without(self.drawing, others | {number}))
                 - _free(without(self.drawing, others)))
+
+
+def _enough_alone(drawing: Drawing, numbers: Sequence[int]) -> list[int]:
+    """The constraints that say at least as many equations in x and y as say nothing new: without
+    one that says fewer some of these are left."""
+    axes = axes_said(drawing)
+    too_many = len(axes.surplus()) + len(axes.conflicts())
+    said = Counter(owner.number for each in axes.equations for owner in each.owners)
+    return [number for number in numbers
+            if max(said[number], equations(drawing, number)) >= too_many]
 
 
 def equations(drawing: Drawing, number: int) -> int:
