@@ -4,8 +4,11 @@ from __future__ import annotations
 from collections.abc import Sequence
 from dataclasses import dataclass, field
 
+import pytest
+
 from pertxogai.answers import judge
 from pertxogai.drawing import read_drawing
+from pertxogai.measure import Limit
 from pertxogai.program import Answer, Asks
 from pertxogai.reports import Verdict
 
@@ -42,3 +45,30 @@ def test_what_contradicts_in_two_places_is_found_by_few_questions(program):
         assert off[name] == 1_000_000
     assert not any("length R0Right" in name or "length R1Right" in name for name in off)
     assert len(counts.asked) <= 40
+
+
+@dataclass
+class Keys:
+    """A program, and the keys that it was asked with."""
+
+    program: Asks
+    asked: set[str] = field(default_factory=set)
+
+    def ask(self, words: Sequence[str], text: str) -> Answer:
+        self.asked.update(words[1:])
+        return self.program.ask(words, text)
+
+
+@pytest.mark.parametrize("amount, key", [(10, 1000), (1000, 1000), (5000, 5000),
+                                         (1_000_000, 1_000_000)])
+def test_a_limit_that_is_wider_is_that_of_the_places_too(amount, key, program):
+    keys = Keys(program)
+    judge(read_drawing("segment A 0 0 9 0\nlength A 9\n"), keys, limit=Limit(amount))
+    assert f"within={key}" in keys.asked
+    assert sum(each.startswith("within=") for each in keys.asked) == 1
+
+
+def test_no_limit_is_wider_than_the_program_takes(program):
+    keys = Keys(program)
+    judge(read_drawing("segment A 0 0 9 0\nlength A 9.0000625\n"), keys, limit=Limit(500_000))
+    assert {each for each in keys.asked if each.startswith("within=")} == {"within=1000000"}

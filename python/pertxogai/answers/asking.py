@@ -12,6 +12,7 @@ from itertools import islice
 from pertxogai.answers.contradicting import contradictions, too_many
 from pertxogai.answers.freezing import frozen_choices
 from pertxogai.answers.growing import growths
+from pertxogai.answers.within import within
 from pertxogai.drawing import Drawing
 from pertxogai.language import Refusal
 from pertxogai.program import Asks, Status
@@ -23,10 +24,6 @@ from pertxogai.spelling.axes import Equation
 from pertxogai.spelling.facts import Owner
 from pertxogai.spelling.writing import Contradiction
 
-LIMIT_NM = 1000
-"""The language's own limit, of the drawing."""
-MOST_LIMIT = 1_000_000
-"""The greatest limit that the program takes."""
 ROUNDS = 80
 """So many values at most are read off placed parts."""
 GROWTHS = 6
@@ -207,12 +204,6 @@ def written_by(program: Asks, command: str, text: str, *keys: str) -> str:
         raise NotAReport(f"the program ended {command} with status {answer.status.value}, which "
                          "doesn't fit what it was asked")
     return answer.text
-
-
-def within(spelled: Spelled) -> str:
-    """The key that asks for places within a micrometre of the drawing: so many times of it as the
-    sketch is larger. How far each constraint is off is measured on the places."""
-    return f"within={min(MOST_LIMIT, LIMIT_NM * spelled.scale)}"
 
 
 def _told(program: Asks, spelled: Spelled, place: Place) -> CheckReport | Solved | Fault:

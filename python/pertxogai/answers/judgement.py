@@ -12,6 +12,7 @@ from pertxogai.answers.placing import is_tied
 from pertxogai.answers.solution import settled, solution_of
 from pertxogai.answers.surplus import Surplus, spare_at_once, what_may_go, worst
 from pertxogai.answers.warnings import Warning, warnings
+from pertxogai.answers.within import Wider, within
 from pertxogai.choices import Tried, beneath, tried
 from pertxogai.drawing import Circle, Drawing, moved
 from pertxogai.measure import Deviation, Limit, Solution, Unit, measure
@@ -131,11 +132,12 @@ class Judgement:
 def judge(drawing: Drawing, program: Asks, freeze: bool = False,
           limit: Limit = Limit()) -> Judgement:
     """What the program says of a drawing, with the counts of what is well, how far each dimension
-    is off that may go, and which other choices meet what isn't met within the limit. `freeze`:
-    whether lengths and radii that nothing tells may be taken as they are drawn. Raises as
-    `judge_at_once`."""
-    judged = with_counts(judge_at_once(drawing, program, freeze), program)
-    return with_choices(weighed(judged, program), program, limit)
+    is off that may go, and which other choices meet what isn't met within the limit, by which it
+    is placed too where that is wider than the language's own. `freeze`: whether lengths and radii
+    that nothing tells may be taken as they are drawn. Raises as `judge_at_once`."""
+    wider = Wider(program, limit)
+    judged = with_counts(judge_at_once(drawing, wider, freeze), wider)
+    return with_choices(weighed(judged, wider), wider, limit)
 
 
 def judge_at_once(drawing: Drawing, program: Asks, freeze: bool = False,
@@ -169,7 +171,7 @@ def with_choices(judged: Judgement, program: Asks, limit: Limit = Limit()) -> Ju
     text = judged.asked.spelled.sketch.text()
     plan = read_plan(written_by(program, "plan", text))
     steps = plan.steps if judged.failure is None else beneath(plan, judged.failure.fault)
-    keys = [f"place={judged.place.value}"]
+    keys = [f"place={judged.place.value}", within(judged.asked.spelled)]
     return replace(judged, tried=tried(judged.asked.spelled.sketch, steps, program, keys,
                                        lambda shape: _is_met(judged, shape, limit)))
 

@@ -1,0 +1,40 @@
+"""Within what the program is asked to place a drawing."""
+from __future__ import annotations
+
+from collections.abc import Sequence
+from dataclasses import dataclass
+
+from pertxogai.measure import Limit
+from pertxogai.program import Answer, Asks
+from pertxogai.spelling import Spelled
+
+KEY = "within="
+LIMIT_NM = 1000
+"""The language's own limit, of the drawing."""
+MOST_LIMIT = 1_000_000
+"""The greatest limit that the program takes."""
+
+
+def within(spelled: Spelled) -> str:
+    """The key that asks for places within a micrometre of the drawing: so many times of it as the
+    sketch is larger. How far each constraint is off is measured on the places."""
+    return f"{KEY}{min(MOST_LIMIT, LIMIT_NM * spelled.scale)}"
+
+
+@dataclass(frozen=True)
+class Wider:
+    """A program that is asked with as many times each limit as one is greater than the language's
+    own; a smaller one is a matter of what is measured alone."""
+
+    program: Asks
+    limit: Limit
+
+    def ask(self, words: Sequence[str], text: str) -> Answer:
+        """Asks the program. Raises ProgramError."""
+        return self.program.ask([self._widened(word) for word in words], text)
+
+    def _widened(self, word: str) -> str:
+        if not word.startswith(KEY) or self.limit.amount <= LIMIT_NM:
+            return word
+        wider = int(word.removeprefix(KEY)) * self.limit.amount // LIMIT_NM
+        return f"{KEY}{min(MOST_LIMIT, wider)}"
