@@ -32,11 +32,20 @@ class Other:
 @dataclass(frozen=True)
 class Tried:
     """What came of turning choices over: so many lists were tried, whether these are all that the
-    steps have, and the first that gives a shape."""
+    steps have, and the first that gives a shape. scale: how many times as large the sketch is as
+    what was drawn."""
 
     lists: int
     whole: bool
     found: Other | None = None
+    scale: int = 1
+
+    def within(self) -> tuple[int, int] | None:
+        """Within how many nanometres of what was drawn, and how many ppb, the shape is placed."""
+        if self.found is None:
+            return None
+        shape = self.found.shape
+        return -(-shape.length_tolerance_nm // self.scale), shape.angle_tolerance_ppb
 
 
 def beneath(plan: Plan, fault: Fault) -> tuple[Step, ...]:
@@ -117,12 +126,12 @@ def tried_lines(sketch: Sketch, found: Tried | None,
     over. none: what is said where none of them will do."""
     if found is None or not found.lists and found.whole:
         return
-    if found.found is None:
+    within = found.within()
+    if found.found is None or within is None:
         yield f"{none}: {found.lists} were tried, {'all' if found.whole else 'but not all'}"
         return
-    shape = found.found.shape
-    yield (f"another choice is placed within {shape.length_tolerance_nm} nm and "
-           f"{shape.angle_tolerance_ppb} ppb: {found.found.flip()}")
+    yield (f"another choice is placed within {within[0]} nm and {within[1]} ppb: "
+           f"{found.found.flip()}")
     yield from (f"  {change(sketch, step, named)}" for step in found.found.steps)
 
 
@@ -131,12 +140,12 @@ def tried_json(sketch: Sketch, found: Tried | None,
     """The same for JSON."""
     if found is None:
         return None
-    other = found.found
+    other, within = found.found, found.within()
     return {
         "tried": found.lists,
         "all": found.whole,
         "flip": [f"s{step.number}" for step in other.steps] if other else None,
         "changes": [change(sketch, step, named) for step in other.steps] if other else [],
-        "length_tolerance_nm": other.shape.length_tolerance_nm if other else None,
-        "angle_tolerance_ppb": other.shape.angle_tolerance_ppb if other else None,
+        "length_tolerance_nm": within[0] if within else None,
+        "angle_tolerance_ppb": within[1] if within else None,
     }

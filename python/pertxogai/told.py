@@ -85,8 +85,7 @@ def within_json(judged: JudgedDrawing) -> dict[str, object]:
     """Within what it is placed, and the greatest deviations, in nm and ppb."""
     solved = judged.judgement.asked.solved if judged.judgement.solution is not None else None
     return {
-        "length_tolerance_nm": (_length_nm(judged.judgement, solved)
-                                if isinstance(solved, Solved) else None),
+        "length_tolerance_nm": judged.judgement.length_tolerance_nm if solved else None,
         "angle_tolerance_ppb": solved.angle_tolerance_ppb if isinstance(solved, Solved) else None,
         "deviations": [_deviation(each, judged.drawing) for each in judged.worst()],
     }
@@ -142,7 +141,7 @@ def _placed_lines(judged: JudgedDrawing) -> Iterator[str]:
     solved = judged.judgement.asked.solved
     if judged.judgement.solution is None or not isinstance(solved, Solved):
         return
-    yield (f"  placed within {_length_nm(judged.judgement, solved)} nm and "
+    yield (f"  placed within {judged.judgement.length_tolerance_nm} nm and "
            f"{solved.angle_tolerance_ppb} ppb")
     off = [each for each in judged.worst() if each.amount]
     for each in off:
@@ -150,12 +149,6 @@ def _placed_lines(judged: JudgedDrawing) -> Iterator[str]:
                f"{each.called(judged.drawing)}")
     if not off:
         yield "  measured: each constraint holds exactly"
-
-
-def _length_nm(judgement: Judgement, solved: Solved) -> int:
-    """The program's tolerance of lengths, in whole nanometres of the drawing, which the sketch is
-    so many times as large as."""
-    return -(-solved.length_tolerance_nm // judgement.asked.spelled.scale)
 
 
 def _failure_lines(judgement: Judgement) -> Iterator[str]:

@@ -2,6 +2,7 @@
 from __future__ import annotations
 
 import json
+from dataclasses import replace
 
 import pytest
 from conftest import TOP
@@ -156,6 +157,16 @@ def test_a_drawing_that_another_choice_places(program):
         "draw C on the other side of the line through A and B"]
     redrawn = read_drawing(LINES.replace("point C 0 3", "point C 0 -3"))
     assert reasons_against(JudgedDrawing("it", redrawn, judge(redrawn, program))) == ()
+
+
+def test_the_tolerance_of_another_choice_is_told_of_the_drawing(program):
+    """The sketch is told ten times as large, and its tolerance is of that."""
+    drawing = read_drawing(LINES.replace("distance C E 2", "distance C E 2.0001"))
+    found = judge(drawing, program).tried
+    assert found.scale == 10 and found.within()[0] <= 1
+    shape = found.found.shape
+    worse = replace(shape, tolerances=replace(shape.tolerances, length_nm=21))
+    assert replace(found, found=replace(found.found, shape=worse)).within()[0] == 3
 
 
 def test_where_no_choice_places_it_that_is_told(program):

@@ -185,6 +185,7 @@ def test_the_limit_grows_with_the_sketch(program) -> None:
         judged = judge_at_once(read_drawing(PLATE.replace("60", value)), counts)
         assert f"within={1000 * judged.asked.spelled.scale}" == key
         assert counts.asked == [("solve", "place=boxes", key)]
+        assert judged.length_tolerance_nm <= 1
 
 
 def test_of_what_is_well_the_program_is_asked_once(program) -> None:

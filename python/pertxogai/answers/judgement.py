@@ -79,6 +79,15 @@ class Judgement:
         return self.asked.place
 
     @property
+    def length_tolerance_nm(self) -> int | None:
+        """Within how many nanometres of the drawing the program places it: its sketch is so many
+        times as large."""
+        solved = self.asked.solved
+        if not isinstance(solved, Solved):
+            return None
+        return -(-solved.length_tolerance_nm // self.asked.spelled.scale)
+
+    @property
     def left_out(self) -> tuple[str, ...]:
         """What couldn't be spelled, but for what holds where the rest is placed, and so repeats
         it."""
@@ -172,8 +181,9 @@ def with_choices(judged: Judgement, program: Asks, limit: Limit = Limit()) -> Ju
     plan = read_plan(written_by(program, "plan", text))
     steps = plan.steps if judged.failure is None else beneath(plan, judged.failure.fault)
     keys = [f"place={judged.place.value}", within(judged.asked.spelled)]
-    return replace(judged, tried=tried(judged.asked.spelled.sketch, steps, program, keys,
-                                       lambda shape: _is_met(judged, shape, limit)))
+    found = tried(judged.asked.spelled.sketch, steps, program, keys,
+                  lambda shape: _is_met(judged, shape, limit))
+    return replace(judged, tried=replace(found, scale=judged.asked.spelled.scale))
 
 
 def _is_met(judged: Judgement, shape: Shape, limit: Limit) -> bool:
