@@ -7,7 +7,7 @@ import pytest
 
 pytest.importorskip("flask", reason="the board needs Debian's python3-flask")
 
-from boards import FILES  # noqa: E402
+from boards import FILES, drawing  # noqa: E402
 
 from pertxogai.drawing import WordFault  # noqa: E402
 from pertxogai.page.calls import Desk  # noqa: E402
@@ -179,3 +179,13 @@ def test_circles_that_are_nearer_than_a_line_between_them_allows(program: Progra
     lines = told_of(program, BELT).replace("\u00a0", " ")
     assert "are 10 mm apart, and by the other dimensions at least 18 mm: 8 mm too short" in lines
     assert "help" not in lines
+
+
+def test_a_step_that_has_no_other_shape_is_told_in_words(program: Program) -> None:
+    desk, text = Desk(program), drawing("arm")
+    construction = desk.answer("plan", {"text": text})["construction"]
+    assert isinstance(construction, dict)
+    number = next(each["number"] for each in construction["steps"] if each["choice"] == "none")
+    found = desk.answer("flips", {"text": text, "steps": [number]})
+    assert found == {"trouble": {
+        "kind": "flip", "message": "this step has no choice that could be turned over"}}
