@@ -132,7 +132,9 @@ class Axes:
         itself or lies on its own line, a direction that follows from others, a size that is
         known."""
         found = {*self.facts.repeats, *self.lines.repeats}
-        found |= {leans.owner for leans in self.directions.told if leans not in self.conflicts()}
+        more = {fact.owner for fact in self.facts.facts if not isinstance(fact, Leans)}
+        found |= {leans.owner for leans in self.directions.told
+                  if leans not in self.conflicts()} - more
         for equation, told in self.told:
             if (equation, told) not in self.surplus():
                 found |= equation.owners
