@@ -32,6 +32,7 @@ def drawing_json(judged: JudgedDrawing) -> dict[str, object]:
         **spelled_json(judged),
         "lacks": judgement.missing.count if judgement.missing else 0,
         "by_rank": _by_rank(judgement),
+        "excess": [list(each) for each in judgement.missing.excess] if judgement.missing else [],
         "spare": [spare_json(each) for each in judgement.surplus],
         **_placed_json(judged),
         "warnings": [each.text() for each in judgement.warnings],
@@ -177,6 +178,8 @@ def _missing_lines(judgement: Judgement) -> Iterator[str]:
     if lacks.whole is not None and lacks.whole.ways:
         yield (f"  not tied to the datum: the whole may still be {lacks.whole.text()} "
                "(by rank)")
+    yield from (f"  one is too many all the same, of: {', '.join(each)} (by rank)"
+                for each in lacks.excess)
     for piece in lacks.pieces:
         yield f"  piece {piece.number}: {' '.join(piece.elements)}"
     for joint in lacks.joints[:MOST_ADVICE]:

@@ -72,6 +72,20 @@ def test_what_ties_loose_pieces_is_as_many_dimensions_as_are_missing(program, li
     assert joint.tie is tie and joint.shared == ()
 
 
+def test_what_is_too_many_though_the_pieces_are_not_found_rigid_is_told_by_rank(program):
+    """Two braced quadrilaterals, and four bars between them, of which three would be enough: merging
+    doesn't join them, since no two of the bars meet."""
+    places = ("0 0", "40 0", "40 30", "0 30", "10 60", "50 70", "44 100", "8 92")
+    points = [f"point P{number} {place}" for number, place in enumerate(places)]
+    bars = [(0, 1, 40), (1, 2, 30), (2, 3, 40), (3, 0, 30), (0, 2, 50), (4, 5, 41), (5, 6, 31),
+            (6, 7, 37), (7, 4, 32), (4, 6, 52), (0, 4, 61), (1, 5, 71), (2, 6, 70), (3, 7, 63)]
+    said = [f"distance P{one} P{other} {long}" for one, other, long in bars]
+    found = judge(read_drawing("\n".join([*points, *said])), program)
+    assert found.verdict is Verdict.OPEN and found.missing.count == 0
+    among, = found.missing.excess
+    assert len(among) == len(bars)
+
+
 def test_a_dimension_told_twice_repeats(program):
     found = judge(read_drawing(PLATE + "Again: x PlateBottom.end 60\n"), program)
     assert found.verdict is Verdict.OVER

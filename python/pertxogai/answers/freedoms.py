@@ -10,6 +10,7 @@ from __future__ import annotations
 
 from collections.abc import Hashable, Iterable, Iterator, Mapping, Sequence
 from dataclasses import dataclass
+from functools import partial
 from itertools import combinations
 from random import Random
 
@@ -20,12 +21,14 @@ from pertxogai.spelling.axes import Axes, Coordinate, rank
 from pertxogai.spelling.directions import Directions
 from pertxogai.spelling.facts import (
     DATUM, ORIGIN_KNOT, Apart, Fact, Knot, Leans, Lies, Line, Middle, Mirror, Off, OneLine,
-    RadiusOf, Sized)
+    Owner, RadiusOf, Shift, Sized, Stays)
 from pertxogai.spelling.lean import Lean
 from pertxogai.values import Form, LinearSystem, Number
 
 Way = tuple[Jet, Jet]
 ZERO, ONE = Jet(0), Jet(1)
+NOBODY = Owner(0)
+"""Who says what follows from several facts."""
 WAYS: dict[Line, Way] = {X_AXIS: (ONE, ZERO), Y_AXIS: (ZERO, ONE)}
 
 
@@ -70,11 +73,12 @@ class Loose:
 @dataclass(frozen=True)
 class Freedoms:
     """lacks: how many freedoms are left at least beside those of the whole. loose: the points that
-    are free by themselves."""
+    are free by themselves. excess: who says together what is one equation too many."""
 
     lacks: int
     whole: Whole
     loose: tuple[Loose, ...]
+    excess: tuple[frozenset[Owner], ...]
 
 
 def freedoms(drawing: Drawing) -> Freedoms | None:
@@ -82,17 +86,28 @@ def freedoms(drawing: Drawing) -> Freedoms | None:
     where they take too long to count."""
     places = _Places(axes_said(drawing))
     rims = (each.name for each in drawing.geometry if isinstance(each, (Circle, Arc)))
-    slopes = [jet.slope for jet in places.equations()]
+    said = [(owner, jet.slope) for owner, jet in places.equations() if jet.slope]
+    slopes = [slope for _, slope in said]
     unknowns = {*places.unknowns(), *map(RadiusOf, rims)}
     rows = Rows()
     try:
-        for slope in slopes:
-            rows.add(slope)
+        follows = [(owner, rows.add(slope, owner)) for owner, slope in said]
     except TooMany:
         return None
     whole = places.whole(slopes)
-    loose = tuple(places.loose(slopes))
-    return Freedoms(max(0, len(unknowns) - len(rows) - whole.ways), whole, loose)
+    return Freedoms(max(0, len(unknowns) - len(rows) - whole.ways), whole,
+                    tuple(places.loose(slopes)), tuple(_excess(follows)))
+
+
+def _excess(follows: Sequence[tuple[Owner, frozenset[Hashable]]]) -> Iterator[frozenset[Owner]]:
+    """Who says what follows from others. None where something is known to be linear that the facts
+    don't say by their slopes, as that a point lies square over another which is as far from it as
+    from its line: there two facts of one slope say two things."""
+    if any(owner == NOBODY and not found for owner, found in follows):
+        return
+    for owner, found in follows:
+        if owner != NOBODY and found:
+            yield frozenset(each for each in found if isinstance(each, Owner))
 
 
 class _Places:
@@ -130,14 +145,14 @@ class _Places:
 
     # -- equations
 
-    def equations(self) -> Iterator[Jet]:
-        """What the facts say to be 0, or to be a number; directions that follow from others are
-        passed over."""
+    def equations(self) -> Iterator[tuple[Owner, Jet]]:
+        """What the facts say to be 0, or to be a number, and who says so; directions that follow
+        from others are passed over."""
         directions = Directions()
         for fact in self.facts.facts:
             if not isinstance(fact, Leans) or directions.tell(fact):
-                yield from self._equations(fact)
-        yield from map(self._size, self._told())
+                yield from ((fact.owner, jet) for jet in self._equations(fact))
+        yield from ((NOBODY, self._size(form)) for form in self._told())
 
     def _told(self) -> Iterator[Form]:
         """What follows to be linear in the datum's frame, as forms that are 0."""
@@ -147,10 +162,7 @@ class _Places:
                 yield equation.form
         for fact in self.facts.facts:
             if isinstance(fact, Middle):
-                for upwards in (False, True):
-                    middle, first, second = (Coordinate(DATUM, upwards, knot) for knot in (
-                        fact.middle, fact.first, fact.second))
-                    yield Form.of(first) + Form.of(second) - Form.of(middle).times(2)
+                yield from _linear(fact)
 
     def _equations(self, fact: Fact) -> Iterator[Jet]:
         match fact:
@@ -167,6 +179,8 @@ class _Places:
                 yield self._aside(first_knot, line) + self._aside(second_knot, line)
             case Sized(form):
                 yield self._size(form)
+            case Shift() | Stays() | Middle():
+                yield from map(self._size, _linear(fact))
 
     def _distance(self, fact: Apart | Off) -> Jet:
         """The square of a distance."""
@@ -238,6 +252,19 @@ class _Places:
             motion[Coordinate(DATUM, False, knot)] = -y.value
             motion[Coordinate(DATUM, True, knot)] = x.value
         return motion
+
+
+def _linear(fact: Shift | Stays | Middle) -> Iterator[Form]:
+    """What is 0 by a fact that is linear in the datum's frame, but for its numbers."""
+    for upwards in (False, True):
+        at = partial(Coordinate, DATUM, upwards)
+        match fact:
+            case Shift(first, second, along) if along == upwards:
+                yield Form.of(at(second)) - Form.of(at(first))
+            case Stays(point):
+                yield Form.of(at(point))
+            case Middle(middle, first, second):
+                yield Form.of(at(first)) + Form.of(at(second)) - Form.of(at(middle)).times(2)
 
 
 def _change(slope: Mapping[Hashable, int], motion: Mapping[Hashable, int]) -> int:

@@ -54,11 +54,19 @@ def plus(first: Slope, second: Slope, factor: int) -> dict[Hashable, int]:
     return total
 
 
+@dataclass(frozen=True)
+class _Mark:
+    """A row by its place, as an unknown that comes behind all others."""
+
+    row: int
+
+
 class Rows:
     """Rows of slopes, in steps: each begins at an unknown at which no other does."""
 
     def __init__(self) -> None:
-        self._order: dict[Hashable, int] = {}
+        self._order: dict[Hashable, tuple[bool, int]] = {}
+        self._of: list[Hashable] = []
         self._rows: dict[Hashable, dict[Hashable, int]] = {}
         self._steps = 0
 
@@ -66,18 +74,20 @@ class Rows:
         """The rank of all rows."""
         return len(self._rows)
 
-    def add(self, slope: Slope) -> None:
-        """Takes a row. Raises TooMany."""
-        rest = dict(slope)
+    def add(self, slope: Slope, of: Hashable = None) -> frozenset[Hashable]:
+        """Takes a row, and who it is of; where it follows from others, who these and it are of.
+        Raises TooMany."""
+        rest: dict[Hashable, int] = {**slope, _Mark(len(self._of)): 1}
+        self._of.append(of)
         for key in rest:
-            self._order.setdefault(key, len(self._order))
-        while rest:
-            first = min(rest, key=self._order.__getitem__)
+            self._order.setdefault(key, (isinstance(key, _Mark), len(self._order)))
+        while not isinstance(first := min(rest, key=self._order.__getitem__), _Mark):
             known = self._rows.get(first)
             if known is None:
                 self._rows[first] = plus({}, rest, pow(rest[first], PRIME - 2, PRIME))
-                return
+                return frozenset()
             self._steps += len(known)
             if self._steps > MOST_STEPS:
                 raise TooMany
             rest = plus(rest, known, -rest[first])
+        return frozenset(self._of[key.row] for key in rest if isinstance(key, _Mark))

@@ -44,12 +44,14 @@ class Missing:
     circles among them; 0 where it isn't known that one is, as where the drawing is rigid in a way
     that merging doesn't find. `joints`: each piece but the first, with one before it that it hangs
     at, where there is one. `whole`: how all of it may still be moved against the datum, which
-    isn't counted; None where that isn't known."""
+    isn't counted; None where that isn't known. `excess`: constraints of which one is too many all
+    the same, by rank: it says what the others say, or contradicts it."""
 
     count: int
     pieces: tuple[Piece, ...]
     joints: tuple[Joint, ...]
     whole: Whole | None = None
+    excess: tuple[tuple[str, ...], ...] = ()
 
 
 def missing(names: Names, check: CheckReport) -> Missing:
@@ -62,7 +64,9 @@ def missing(names: Names, check: CheckReport) -> Missing:
     shown_pieces = tuple(pieces[place] for place in shown)
     if free is None:
         return Missing(0, shown_pieces, joints)
-    return Missing(free.lacks, shown_pieces, joints, free.whole)
+    excess = tuple(names.owners(owner for owner in each if not owner.shape)
+                   for each in free.excess)
+    return Missing(free.lacks, shown_pieces, joints, free.whole, tuple(filter(None, excess)))
 
 
 def loose(names: Names) -> tuple[str, ...]:

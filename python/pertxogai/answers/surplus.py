@@ -74,6 +74,8 @@ def suspects(drawing: Drawing, asked: Asked, program: Asks) -> list[int]:
             if spelled.sketch.text() not in seen:
                 seen.add(spelled.sketch.text())
                 found |= _spare(spelled, program)
+    free = freedoms(drawing)
+    found = found.union(*(free.excess if free is not None else ()))
     numbers = {owner.number for owner in found if owner.number and not owner.shape}
     if numbers:
         numbers |= {number for number, each in enumerate(drawing.constraints, 1)
