@@ -22,15 +22,15 @@ from pertxogai.drawing import (
 from pertxogai.drawing.spoken import named
 from pertxogai.measure import Deviation, Unit, greatest, measure
 from pertxogai.measure.exact import whole_up
-from pertxogai.program import Asks
+from pertxogai.program import Answer, Asks
 from pertxogai.reports import Solved, Verdict, read_spare
 from pertxogai.spelling import Axes, Spelled, Style, axes_said, readings
 from pertxogai.spelling.facts import Owner
 
 TRIED = 60
 """So many dimensions at most are tried."""
-ASKED = 150
-"""So many drawings at most are asked of the program for it."""
+CALLS = 1000
+"""So many times at most the program is called for it."""
 
 
 class Then(Enum):
@@ -132,7 +132,22 @@ def _likely(drawing: Drawing, number: int, gone: Collection[int],
 
 
 class _Enough(Exception):
-    """So many drawings were asked of the program as may be."""
+    """The program was called as often as may be."""
+
+
+class _Counted:
+    """A program that may be called so many times."""
+
+    def __init__(self, program: Asks) -> None:
+        self._program = program
+        self._left = CALLS
+
+    def ask(self, words: Sequence[str], text: str) -> Answer:
+        """What the program answers. Raises _Enough."""
+        self._left -= 1
+        if self._left < 0:
+            raise _Enough
+        return self._program.ask(words, text)
 
 
 class _Trials:
@@ -140,7 +155,7 @@ class _Trials:
     place."""
 
     def __init__(self, drawing: Drawing, program: Asks) -> None:
-        self.drawing, self.program = drawing, program
+        self.drawing, self.program = drawing, _Counted(program)
         self.found: dict[int, Surplus] = {}
         self._known: dict[frozenset[int], Asked] = {}
 
@@ -212,8 +227,6 @@ class _Trials:
     def _without(self, gone: frozenset[int]) -> Asked:
         """What the program says of the drawing without some constraints. Raises _Enough."""
         if gone not in self._known:
-            if len(self._known) >= ASKED:
-                raise _Enough
             rest = without(self.drawing, gone)
             self._known[gone] = ask_styles(rest, self.program, False, quick=True)
         return self._known[gone]
