@@ -104,3 +104,21 @@ def test_drawings_by_chance_are_spelled(seed: int) -> None:
         for each in spelled(drawing):
             assert Sketch.parse(each.sketch.text()) == each.sketch
             assert len(each.owners) == len(each.sketch.constraints)
+
+
+@pytest.mark.parametrize("text", [
+    "segment S0 24 5 26 -1\nsegment S1 S0.start S0.end\nsegment S2 -11 12 S0.start\n"
+    "segment S3 Origin -20 30\nhorizontal S0\nangle S3 -50deg\nangle S1 20deg\nlength S0 30\n",
+    "segment S0 Origin -16 7\nsegment S1 Origin -11 -29\nsegment S2 S1.end S0.end\n"
+    "segment S3 S0.start 39 -22\nsegment S4 26 -38 -28 -12\nangle S4 S0 33deg\nparallel S0 S1\n"
+    "angle S2 S1 100deg\nangle S1 45deg\nparallel S0 S3\n",
+    "segment S0 -33 -27 -26 -2\nsegment S1 Origin -40 -31\nsegment S2 -18 5 25 -8\n"
+    "segment S3 -3 -4 11 16\nparallel S3 S1\non S2.end S1\ncollinear S3 S0\nangle S1 70deg\n",
+    "segment S1 -8 9 28 -29\nsegment S2 22 -15 S1.end\nsegment S3 7 9 -13 -21\n"
+    "segment S4 -18 32 S3.start\nhorizontal S1\nangle S2 S3 33deg\nangle S3 S2 33deg\n"
+    "length S1 30\ndistance Origin S2 10\nx S4.start S2.end 12\n",
+])
+def test_a_line_of_help_may_go_through_the_origin(text: str) -> None:
+    """Where it is the only point of a line, or of an axis, that a line of help goes through."""
+    for each in spelled(read_drawing(text)):
+        assert Sketch.parse(each.sketch.text()) == each.sketch

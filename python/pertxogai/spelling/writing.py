@@ -428,10 +428,15 @@ class Writer:
         return name
 
     def _a_point_of(self, track: Track) -> Knot:
+        """A point of a track; the origin, where it has no other: from then on that is a point of
+        the sketch."""
         if isinstance(track, Rail):
-            return next(each.knot for each in self.rails.members[track]
-                        if each.knot in self.points)
-        return self.axes.lines.members(track)[0].knot
+            knots = [each.knot for each in self.rails.members[track]]
+        else:
+            knots = [each.knot for each in self.axes.lines.members(track)]
+        knot = next((each for each in knots if each in self.points), ORIGIN_KNOT)
+        self.points.setdefault(knot, "O")
+        return knot
 
     def _points_on(self, track: Track) -> None:
         """Puts a track's points on it, or as high over it as they are."""
