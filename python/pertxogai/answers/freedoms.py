@@ -15,7 +15,7 @@ from itertools import combinations
 from random import Random
 
 from pertxogai.answers.jets import PRIME, Jet, Rows, TooMany
-from pertxogai.drawing import X_AXIS, Y_AXIS, Arc, Circle, Drawing
+from pertxogai.drawing import ORIGIN, X_AXIS, Y_AXIS, Arc, Circle, Drawing
 from pertxogai.spelling import axes_said
 from pertxogai.spelling.axes import Axes, Coordinate, rank
 from pertxogai.spelling.directions import Directions
@@ -34,22 +34,21 @@ WAYS: dict[Line, Way] = {X_AXIS: (ONE, ZERO), Y_AXIS: (ZERO, ONE)}
 
 @dataclass(frozen=True)
 class Whole:
-    """How the whole may still be moved against the datum: along x, along y, and in how many ways
-    with turning, of three."""
+    """How the whole may still be moved against the datum: along x, along y, in how many ways
+    without turning, of two, and in how many with it, of three."""
 
     along_x: bool
     along_y: bool
+    shifts: int
     ways: int
 
     def text(self) -> str:
         """What it may be, as one says it; nothing where it is tied."""
-        if self.ways == 3 or self.ways == 2 and not (self.along_x and self.along_y):
-            return "moved and turned"
-        if self.ways == 2:
-            return "moved"
-        if not self.ways:
-            return ""
-        return "moved along x" if self.along_x else "moved along y" if self.along_y else "turned"
+        along = ""
+        if self.shifts == 1:
+            along = " along x" if self.along_x else " along y" if self.along_y else ""
+        found = [f"moved{along}"] if self.shifts else []
+        return " and ".join([*found, *(["turned"] if self.ways > self.shifts else [])])
 
 
 @dataclass(frozen=True)
@@ -233,14 +232,14 @@ class _Places:
     # -- the whole
 
     def whole(self, slopes: Iterable[Mapping[Hashable, int]]) -> Whole:
-        """How the whole may be moved: by which motions no equation changes."""
+        """How the whole may be moved: by which motions no equation changes, and no point of it
+        that is the origin."""
         changes = [[_change(slope, motion) for motion in (self._shift(False), self._shift(True),
                                                           self._turn())] for slope in slopes]
-        rows = Rows()
-        for each in changes:
-            rows.add({place: change for place, change in enumerate(each) if change})
+        if any(knot == ORIGIN_KNOT and ref != ORIGIN for ref, knot in self.facts.refs.items()):
+            changes += [[1, 0, 0], [0, 1, 0]]
         x, y = (not any(each[place] for each in changes) for place in (0, 1))
-        return Whole(x, y, 3 - len(rows))
+        return Whole(x, y, 2 - _rank(each[:2] for each in changes), 3 - _rank(changes))
 
     def _shift(self, upwards: bool) -> dict[Hashable, int]:
         return {Coordinate(DATUM, upwards, knot): 1 for knot in self._spots}
@@ -274,6 +273,13 @@ def _change(slope: Mapping[Hashable, int], motion: Mapping[Hashable, int]) -> in
 def _spans(ways: Sequence[tuple[int, int]]) -> bool:
     """Whether ways go in two directions."""
     return any((x * v - y * u) % PRIME for (x, y), (u, v) in combinations(ways, 2))
+
+
+def _rank(rows: Iterable[Sequence[int]]) -> int:
+    found = Rows()
+    for row in rows:
+        found.add({place: value for place, value in enumerate(row) if value})
+    return len(found)
 
 
 def _square(jet: Jet) -> Jet:
