@@ -38,11 +38,11 @@ def contradictions(rails: Rails, spelled: Spelled,
 
 
 def too_many(spelled: Spelled) -> Iterator[Contradiction]:
-    """Each constraint that couldn't be spelled, though the rest is just enough: nothing tells how
-    far it is off."""
+    """Each constraint, and each arc of which the ends couldn't be spelled, though the rest is just
+    enough: nothing tells how far it is off."""
     said = spelled.left_out.union(*spelled.owners)
     for owner in sorted(spelled.left_out):
-        if owner.number and not owner.shape:
+        if owner.number:
             yield Contradiction(None, frozenset({owner}), said - {owner})
 
 

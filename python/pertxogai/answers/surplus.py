@@ -182,8 +182,11 @@ class _Trials:
         if asked.verdict is Verdict.OVER:
             return False
         off = self._off(number, gone, asked)
-        if asked.verdict is Verdict.OPEN and off is None and self._is_needed(number, others):
+        if not isinstance(asked.solved, Solved) and off is None and self._is_needed(
+                number, others):
             return False
+        if equations(self.drawing, number) > 1 and self._more(number, others) > 0:
+            off = None
         then = Then.OVER if others else self._then(asked)
         self.found[number] = Surplus(number, self.drawing.called(number), off, then)
         return True

@@ -196,14 +196,24 @@ class Writer:
     # -- elements
 
     def _name_points(self) -> None:
-        origin = any(ORIGIN_KNOT in each.ends() for each in self.axes.loose) or any(
-            coordinate.knot == ORIGIN_KNOT and len(members) > 1
-            for members in self.rails.members.values() for coordinate in members)
+        origin = self._is_origin_needed()
         for knot in dict.fromkeys(self.axes.facts.refs.values()):
             if knot != ORIGIN_KNOT:
                 self.points[knot] = f"P{knot.number}"
             elif origin or len(set(self.axes.facts.refs.values())) == 1:
                 self.points[knot] = "O"
+
+    def _is_origin_needed(self) -> bool:
+        """Whether the origin has to be a point of the sketch: it has a distance, shares a rail, is
+        that from which a rail has a dimension, or lies on a line that leans."""
+        ran = {rail for run in self.rails.runs for rail in self._run_rails(run)}
+        return (any(ORIGIN_KNOT in each.ends() for each in self.axes.loose)
+                or any(coordinate.knot == ORIGIN_KNOT and (
+                    len(members) > 1 or rail in ran and not rail.datum())
+                    for rail, members in self.rails.members.items() for coordinate in members)
+                or any(member.knot == ORIGIN_KNOT for line in self.axes.lines.all()
+                       if self.axes.fixed_axis(line) is None
+                       for member in self.axes.lines.members(line)))
 
     def _tracks(self) -> list[Track]:
         """The rails that carry something, and the lines that lean, named."""
