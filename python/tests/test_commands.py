@@ -88,6 +88,7 @@ def test_json_of_a_sketch_that_is_well(capsys) -> None:
         "length_tolerance_nm",
         "angle_tolerance_ppb",
         "fault",
+        "other_choice",
         "deviations",
     ]
     assert (sketch["name"], sketch["verdict"], sketch["exact"], sketch["fault"]) == (
@@ -153,6 +154,7 @@ def test_json_of_a_drawing_has_the_same_members(capsys, tmp_path) -> None:
         "length_tolerance_nm",
         "angle_tolerance_ppb",
         "fault",
+        "other_choice",
         "deviations",
     } <= set(sketch)
 

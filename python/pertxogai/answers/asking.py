@@ -158,7 +158,8 @@ def _ask(rails: Rails, spelled: Spelled, program: Asks, care: Care) -> Asked:
 def _grown(asked: Asked, program: Asks, care: Care) -> Asked | None:
     """The same with one more value that is read off placed parts: the first that leaves it not
     over, of a few; None where there is none."""
-    parts = read_parts(written_by(program, "parts", asked.spelled.sketch.text()))
+    text = asked.spelled.sketch.text()
+    parts = read_parts(written_by(program, "parts", text, within(asked.spelled)))
     found: Asked | None = None
     for more in islice(growths(asked.axes, asked.rails, asked.spelled, parts), GROWTHS):
         rails = Rails(more.axes, asked.spelled.style)
@@ -187,8 +188,9 @@ def _off(asked: Asked, program: Asks) -> tuple[Contradiction, ...]:
     """What couldn't be spelled and contradicts what is placed, by boxes or by points. Where what is
     well has no places, all that couldn't be spelled: the rest is just enough without it."""
     for place in Place:
-        report = read_parts(written_by(program, "parts", asked.spelled.sketch.text(),
-                                       f"place={place.value}"))
+        keys = f"place={place.value}", within(asked.spelled)
+        text = asked.spelled.sketch.text()
+        report = read_parts(written_by(program, "parts", text, *keys))
         if asked.verdict is Verdict.OPEN or isinstance(report.parts[0].shape, Solved):
             return contradictions(asked.rails, asked.spelled, report)
     return tuple(too_many(asked.spelled))

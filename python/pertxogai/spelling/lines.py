@@ -137,6 +137,8 @@ class Lines:
         """The points that two lines have in common: the origin first, then own ends."""
         knots = {each.knot for each in self._members[second]}
         members = [each for each in self._members[first] if each.knot in knots]
+        if len(members) < 2:
+            return [each.knot for each in members]
         own = {knot for line in (first, second) for name in self.names(line)
                for knot in self._facts.own[name]}
         return sorted((each.knot for each in members),
