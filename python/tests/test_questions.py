@@ -72,3 +72,20 @@ def test_no_limit_is_wider_than_the_program_takes(program):
     keys = Keys(program)
     judge(read_drawing("segment A 0 0 9 0\nlength A 9.0000625\n"), keys, limit=Limit(500_000))
     assert {each for each in keys.asked if each.startswith("within=")} == {"within=1000000"}
+
+
+def test_the_program_is_not_asked_the_same_twice(program):
+    """Points by their distances alone have one text in all styles."""
+    said: list[tuple[tuple[str, ...], str]] = []
+
+    class Notes:
+        def ask(self, words: Sequence[str], text: str) -> Answer:
+            said.append((tuple(words), text))
+            return program.ask(words, text)
+
+    lengths = [("A", "B", 4), ("A", "C", 5), ("A", "D", 3), ("B", "C", 3), ("B", "D", 5),
+               ("C", "D", 4.5)]
+    text = "point A 0 0\npoint B 4 0\npoint C 4 3\npoint D 0 3\n" + "".join(
+        f"distance {one} {other} {length}\n" for one, other, length in lengths)
+    assert judge(read_drawing(text), Notes()).verdict is Verdict.OVER
+    assert len(said) == len(set(said)) > 1

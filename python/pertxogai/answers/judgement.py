@@ -9,6 +9,7 @@ from pertxogai.answers.limits import check_fits
 from pertxogai.answers.missing import Missing, loose, missing
 from pertxogai.answers.naming import Names
 from pertxogai.answers.placing import is_tied
+from pertxogai.answers.remembering import Remembering
 from pertxogai.answers.solution import settled, solution_of
 from pertxogai.answers.surplus import Surplus, spare_at_once, what_may_go, worst
 from pertxogai.answers.warnings import Warning, warnings
@@ -144,9 +145,9 @@ def judge(drawing: Drawing, program: Asks, freeze: bool = False,
     is off that may go, and which other choices meet what isn't met within the limit, by which it
     is placed too where that is wider than the language's own. `freeze`: whether lengths and radii
     that nothing tells may be taken as they are drawn. Raises as `judge_at_once`."""
-    wider = Wider(program, limit)
-    judged = with_counts(judge_at_once(drawing, wider, freeze), wider)
-    return with_choices(weighed(judged, wider), wider, limit)
+    asks = Remembering(Wider(program, limit))
+    judged = with_counts(judge_at_once(drawing, asks, freeze), asks)
+    return with_choices(weighed(judged, asks), asks, limit)
 
 
 def judge_at_once(drawing: Drawing, program: Asks, freeze: bool = False,

@@ -15,6 +15,7 @@ from pertxogai.answers.excess import REPEATS_NM, REPEATS_PPB, too_much
 from pertxogai.answers.freedoms import freedoms
 from pertxogai.answers.naming import Names
 from pertxogai.answers.pieces_measured import off_in_pieces
+from pertxogai.answers.remembering import Remembering
 from pertxogai.answers.solution import solution_of
 from pertxogai.drawing import (
     Arc, Circle, Coincident, Collinear, Concentric, Drawing, Fixed, Midpoint, Pair, Perpendicular,
@@ -86,6 +87,7 @@ def suspects(drawing: Drawing, asked: Asked, program: Asks) -> list[int]:
 def what_may_go(drawing: Drawing, asked: Asked, program: Asks) -> tuple[Surplus, ...]:
     """What may go of a drawing that is over by what was asked of it: contradictions first, those
     that are off by least before others. Raises ProgramError."""
+    program = Remembering(program)
     trials = _Trials(drawing, program)
     numbers = suspects(drawing, asked, program)
     with suppress(_Enough):
