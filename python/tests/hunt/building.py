@@ -304,11 +304,15 @@ BLOCKS: tuple[tuple[Callable[[Building], None], int], ...] = (
     (arm, 3), (lone_points, 2))
 
 
-def built(chance: random.Random) -> Building:
-    """One to four blocks, side by side or over each other; the first begins at the origin."""
+MOST_BLOCKS = 4
+
+
+def built(chance: random.Random, most: int = MOST_BLOCKS) -> Building:
+    """One to four blocks, or at most so many, side by side or over each other; the first begins at
+    the origin."""
     found = Building(chance)
     makes, weights = zip(*BLOCKS)
-    for block in range(chance.choice((1, 1, 2, 2, 3, 4))):
+    for block in range(min(most, chance.choice((1, 1, 2, 2, 3, 4)))):
         found.block = block
         if block:
             found.corner = (chance.uniform(0, 2) * BLOCK, chance.uniform(0, 1) * BLOCK)

@@ -8,7 +8,7 @@ from enum import Enum
 
 import numpy as np
 
-from .building import Building, built
+from .building import MOST_BLOCKS, Building, built
 from .offered import WEIGHTS, Offer, offered
 from .plane import Index, Vector
 from .reading import Sheet, read
@@ -59,20 +59,20 @@ class NotMade(Exception):
     """No drawing came of a try."""
 
 
-def made(seed: int, kind: Kind | None = None) -> Made:
-    """The drawing of a seed."""
+def made(seed: int, kind: Kind | None = None, most: int = MOST_BLOCKS) -> Made:
+    """The drawing of a seed, of so many blocks at most."""
     chance = random.Random(seed)
     wanted = kind or chance.choice(list(Kind))
     for _ in range(TRIES):
         try:
-            return _tried(seed, wanted, chance)
+            return _tried(seed, wanted, chance, most)
         except (NotMade, Untold, np.linalg.LinAlgError, ZeroDivisionError, OverflowError):
             continue
     raise NotMade(f"no drawing of seed {seed}")
 
 
-def _tried(seed: int, kind: Kind, chance: random.Random) -> Made:
-    shapes = built(chance)
+def _tried(seed: int, kind: Kind, chance: random.Random, most: int) -> Made:
+    shapes = built(chance, most)
     model, exact = _model(shapes, shapes.asked, shapes.spots, shapes.radii)
     pool = _ordered(list(offered(model.plane(exact), chance)), shapes, chance)
     first = _triangle(pool, shapes, chance) if kind is Kind.IMPOSSIBLE else []

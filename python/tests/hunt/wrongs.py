@@ -135,8 +135,7 @@ def _over(made: Made, answer: Answer) -> Iterator[Found]:
 def _is_needed(made: Made, number: int) -> bool:
     """Whether the rest of a drawing without a word has as many too many; not where that can't be
     told, since without the word others say it in the one place that their values leave."""
-    true = made.truth
-    if number in (true.alone or true.spare):
+    if number in made.truth.spare:
         return False
     sheet = read(made.text)
     rest = replace(sheet, words=[word for place, word in enumerate(sheet.words, 1) if place != number])
@@ -144,7 +143,7 @@ def _is_needed(made: Made, number: int) -> bool:
         left = truth(Model.of(rest), made.exact).excess
     except Untold:
         return False
-    return left >= (true.excess if not true.alone else 1)
+    return left >= made.truth.excess
 
 
 def _called(made: Made, spare: list[dict[str, Any]]) -> Iterator[Found]:
