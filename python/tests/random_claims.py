@@ -10,8 +10,11 @@ import subprocess
 from collections.abc import Iterator
 from dataclasses import dataclass, field
 from fractions import Fraction
+from itertools import islice
 from pathlib import Path
 from random import Random
+
+from changed_claims import changed
 
 TOP = Path(__file__).resolve().parents[2]
 
@@ -65,12 +68,14 @@ class Growing:
     def touch(self, new: Drawn, other: Drawn) -> str | None:
         """A constraint by which a new circle touches the other, or has it on its rim, with the radius that this takes."""
         across = abs(other.height(new)) if other.kind == "line" else math.hypot(new.x - other.x, new.y - other.y)
-        radius = round(across - (other.radius if other.kind == "circle" else 0), 3)
+        is_inside = other.kind == "circle" and self.random.random() < 0.5
+        radius = round(across + other.radius * (1 if is_inside else -1), 3)
         if radius <= 0:
             return None
         new.radius = radius
-        word = {"line": "tangent", "circle": "outside"}.get(other.kind)
-        return f"{word} {new.name} {other.name}" if word else f"on {other.name} {new.name}"
+        if other.kind == "circle":
+            return f"{'inside' if is_inside else 'outside'} {new.name} {other.name}"
+        return f"tangent {other.name} {new.name}" if other.kind == "line" else f"on {other.name} {new.name}"
 
     def add(self, kind: str) -> None:
         """Adds an element with two constraints to others, unless none can be said."""
@@ -86,11 +91,13 @@ class Growing:
             self.constraints += [tie for tie in ties if tie]
 
     def begin(self) -> None:
-        """A pair of points with their distance, or a block of three."""
-        blocked = self.random.random() < 0.3
-        for number in range(3 if blocked else 2):
-            x, y = 30 * number, self.random.randint(-20, 20)
-            self.elements.append(Drawn(f"B{number}", "point", x, y))
+        """A pair of points with their distance, or a block of 2 to 10 points and circles, of which some lie on one line."""
+        blocked = self.random.random() < 0.4
+        level = self.random.randint(2, 5)
+        for number in range(self.random.choice([2, 3, 3, 4, 10]) if blocked else 2):
+            y = 0 if blocked and number < level else self.random.randint(-20, 20)
+            kind = self.random.choice(["point", "point", "circle"]) if blocked else "point"
+            self.elements.append(Drawn(f"B{number}", kind, 9 * number, y, radius=1))
         if blocked:
             given = " ".join(f"{it.name} {it.x:g} {it.y:g}" for it in self.elements)
             self.constraints.append(f"block {given}")
@@ -98,10 +105,12 @@ class Growing:
             self.constraints += [tie for tie in [self.tie(*self.elements)] if tie]
 
     def text(self) -> str:
-        """The sketch, with its header and `end`."""
-        version = 2 if any(line.startswith("block") for line in self.constraints) else 1
-        drawn = [it.line(self.random) for it in self.elements]
-        return "\n".join([f"sketch {version}", *drawn, *self.constraints, "end", ""])
+        """The sketch, with its header and `end`; in version 2 some lines have comments."""
+        version = 2 if any(line.startswith("block") for line in self.constraints) else self.random.choice([1, 2])
+        lines = [*(it.line(self.random) for it in self.elements), *self.constraints]
+        if version == 2:
+            lines = [line + self.random.choice(["", "", " # as drawn", "#", "\n\t# point"]) for line in lines]
+        return "\n".join([f"sketch {version}", *lines, "end", ""])
 
 
 def random_sketch(random: Random) -> str:
@@ -134,64 +143,16 @@ def claim_of(text: str, program: Path) -> str | None:
     return front + "\n".join([*steps, *places, "tolerance " + " ".join(tolerances), ""])
 
 
-def changed(claim: str, random: Random) -> str:
-    """A claim with one digit, word or line changed, so that it's mostly no longer true, or no longer readable."""
-    lines = claim.splitlines()
-    number = random.randrange(len(lines))
-    words = lines[number].split()
-    way = random.randrange(8)
-    if way == 0 and words:
-        place = random.randrange(len(words))
-        words[place] = other_digit(words[place], random)
-        lines[number] = " ".join(words)
-    elif way == 1 and words:
-        lines[number] = " ".join(words[:-1]) if random.random() < 0.3 else other_word(words, random)
-    elif way == 2:
-        del lines[number]
-    elif way == 3:
-        lines.insert(random.randrange(len(lines) + 1), lines[number])
-    elif way == 4:
-        other = random.randrange(len(lines))
-        lines[number], lines[other] = lines[other], lines[number]
-    elif way == 5 and words:
-        lines[number] = lines[number].replace("+", "-") if "+" in words else lines[number].replace("-", "", 1)
-    elif way == 6:
-        lines[number] = lines[number][: random.randrange(len(lines[number]) + 1)] + random.choice("#x\t 9-\x01")
-    else:
-        lines[-1] = f"tolerance {random.choice(['0', '1', '-1', '4611686018427387904', '4611686018427387905'])} 0"
-    return "\n".join(lines) + random.choice(["\n", "\n", "\n\n", "", "\r\n"])
-
-
-def other_digit(word: str, random: Random) -> str:
-    """The word with one of its digits changed, where it has one."""
-    places = [place for place, letter in enumerate(word) if letter.isdigit()]
-    if not places:
-        return word[::-1]
-    place = random.choice(places)
-    return word[:place] + random.choice("0123456789") + word[place + 1 :]
-
-
-def other_word(words: list[str], random: Random) -> str:
-    """The line with one word replaced by another of it, or by one that the language knows."""
-    known = ["point", "line", "circle", "on", "tangent", "outside", "inside", "angle", "block", "end", "step", "none",
-             "turn", "advance", "+", "-", "s1", "c1", "0", "1/0", "-1", "sketch", "2", "#", "Q"]
-    place = random.randrange(len(words))
-    return " ".join([*words[:place], random.choice([*words, *known]), *words[place + 1 :]])
-
-
 def claims(program: Path, count: int, seed: int) -> Iterator[str]:
-    """`count` claims by a seed: those of the gallery as they are, then random ones, a third of them true."""
-    random, told = Random(seed), 0
+    """`count` claims by a seed: those of the gallery as they are, then random ones, a fourth of them true."""
+    return islice(_endless(program, Random(seed)), count)
+
+
+def _endless(program: Path, random: Random) -> Iterator[str]:
     true = [claim for text in gallery() if (claim := claim_of(text, program))]
-    for claim in true:
-        if told < count:
-            told += 1
-            yield claim
-    while told < count:
-        made = claim_of(random_sketch(random), program)
-        if made:
+    yield from true
+    while True:
+        if made := claim_of(random_sketch(random), program):
             true.append(made)
-        for claim in ([made] if made else []) + [changed(random.choice(true), random) for _ in range(2)]:
-            if told < count:
-                told += 1
-                yield claim
+            yield made
+        yield from (changed(random.choice(true[-20:] + true[:20]), random) for _ in range(3))

@@ -46,41 +46,99 @@ ANSWERS = [
     ("point A 0 0\npoint B 4000000", "line A 0 0 0\npoint B 4000000", 1, "refused line 10 E7 kind"),
     ("sketch 1\n", "# part\nsketch 2\n", 1, "refused line 1 E1 header"),
     ("sketch 1\npoint A 0 0", "sketch 2\npoint A 0 0 # left", 0, "verified steps 1 length 0 nm angle 0 ppb"),
+    ("step s1", "step c1", 9, "verify fails s1"),
+    ("turn +", "none +", 1, "refused line 9 E2 word"),
+    ("keeps c1", "keeps c01", 1, "refused line 9 E4 name"),
+    ("point A 0 0\n", "point A 0 0\n" + " " * 201 + "\n", 1, "refused line 3 E15 line-too-long"),
 ]
+
+BLOCK = """sketch 2
+point A 0 0
+point B 1 0
+point C 0 -1
+block A 0 0 B 4 0 C 4 3
+end
+point A 0 0
+point B 4000000 0
+point C 4000000 3000000
+tolerance 0 0
+"""
+
 
 
 @pytest.fixture(scope="module")
-def asks(program: Program, tmp_path_factory: pytest.TempPathFactory) -> Checkers:
+def in_c(tmp_path_factory: pytest.TempPathFactory) -> Path:
+    """The checker in C."""
+    return checkers.built(tmp_path_factory.mktemp("checker"))
+
+
+@pytest.fixture(scope="module")
+def asks(program: Program, in_c: Path) -> Checkers:
     """The three checkers."""
-    return checkers.all_of(Path(program.path), tmp_path_factory.mktemp("checkers"))
+    return checkers.all_of(Path(program.path), in_c)
 
 
 @pytest.mark.parametrize(("old", "new", "status", "line"), ANSWERS)
 def test_the_triangle(asks: Checkers, old: str, new: str, status: int, line: str) -> None:
     claim = TRIANGLE.replace(old, new, 1) if old else TRIANGLE
-    assert {name: ask(claim.encode()) for name, ask in asks.items()} == dict.fromkeys(asks, (status, f"{line}\n".encode()))
+    assert {name: ask(claim.encode("latin-1")) for name, ask in asks.items()} == dict.fromkeys(asks, (status, f"{line}\n".encode()))
+
+
+def test_a_block_turns_as_its_places_do_whichever_way_its_pins_are_drawn(asks: Checkers) -> None:
+    good, mirrored = (0, b"verified steps 0 length 0 nm angle 0 ppb\n"), (9, b"verify fails sign c1\n")
+    for claim, answer in [(BLOCK, good), (BLOCK.replace(" 3000000", " -3000000"), mirrored)]:
+        assert {name: ask(claim.encode()) for name, ask in asks.items()} == dict.fromkeys(asks, answer)
+
+
+def large(elements: int, constraints: int, trailing: int) -> bytes:
+    """A sketch of so many points and constraints that is no part, and so many line feeds behind its claim."""
+    points = [f"point P{number} 0 0" for number in range(elements)]
+    lines = ["sketch 1", *points, *["distance P0 P1 1"] * constraints, "end", "tolerance 0 0"]
+    return ("\n".join(lines) + "\n" * trailing).encode()
+
+
+@pytest.mark.parametrize(("claim", "line"), [
+    (large(2000, 4000, 1), "verify fails parts"),
+    (large(2001, 4000, 1), "refused line 2002 E13 too-many-elements"),
+    (large(2000, 4001, 1), "refused line 6002 E14 too-many-constraints"),
+    (large(2, 1, 2**20 - len(large(2, 1, 0))), "verify fails element P0"),
+    (large(2, 1, 2**20 + 1 - len(large(2, 1, 0))), "refused line 0 E20 too-long"),
+    (b"\n" * 2**20, "refused line 0 E18 empty"),
+    (b"", "refused line 0 E18 empty"),
+    (b"\x01", "refused line 1 E19 not-ascii"),
+], ids=range(8))
+def test_the_limits(asks: Checkers, claim: bytes, line: str) -> None:
+    assert {name: ask(claim)[1].decode() for name, ask in asks.items()} == dict.fromkeys(asks, f"{line}\n")
 
 
 def test_three_hundred_claims_have_one_answer_each(asks: Checkers, program: Program) -> None:
     kinds = set()
     for claim in random_claims.claims(Path(program.path), 300, seed=7):
-        answers = {name: ask(claim.encode()) for name, ask in asks.items()}
+        answers = {name: ask(claim.encode("latin-1")) for name, ask in asks.items()}
         assert len(set(answers.values())) == 1, (claim, answers)
         kinds.add(checkers.kind(answers["sketch verify"]))
     assert {"verified", "verify fails", "refused E2", "refused E8"} <= kinds
 
 
-def test_explained(asks: Checkers) -> None:
-    words = (sys.executable, str(checkers.CHECKER / "sketch_claim.py"), "--explain")
-    said = subprocess.run(words, input=TRIANGLE, capture_output=True, text=True, check=True).stdout.splitlines()
-    assert said == [
-        "s1 joins c3 c2 c1 to 3 elements, turn +",
-        "c1: the distances have the squares [16000000000000] nm2",
-        "c2: the distances have the squares [25000000000000] nm2",
-        "c3: the distances have the squares [9000000000000] nm2",
-        "s1: drawn +1, placed +1",
-        "verified steps 1 length 0 nm angle 0 ppb",
-    ]
+def explained(words: list[str | Path], claim: str) -> list[str]:
+    """What a checker says of a claim line by line."""
+    return subprocess.run([*words, "--explain"], input=claim, capture_output=True, text=True, check=False).stdout.splitlines()
+
+
+def test_both_explain_each_step_each_constraint_and_each_sign(program: Program, in_c: Path) -> None:
+    ways: list[list[str | Path]] = [[sys.executable, checkers.CHECKER / "sketch_claim.py"], [in_c]]
+    for words in ways:
+        assert explained(words, TRIANGLE) == [
+            "s1 joins c3 c2 c1 to 3 elements, turn +",
+            "c1: the distances have the squares [16000000000000] nm2",
+            "c2: the distances have the squares [25000000000000] nm2",
+            "c3: the distances have the squares [9000000000000] nm2",
+            "s1: drawn +1, placed +1",
+            "verified steps 1 length 0 nm angle 0 ppb",
+        ]
+    for claim in random_claims.claims(Path(program.path), 60, seed=1):
+        if claim.isascii():
+            assert explained(ways[0], claim) == explained(ways[1], claim)
 
 
 def test_it_is_one_file_of_at_most_350_lines_on_the_standard_library() -> None:
