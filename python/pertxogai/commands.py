@@ -14,10 +14,11 @@ from typing import TypeAlias
 
 from . import __version__
 from .answers import DrawingRefused, Judgement, judge
+from .certifying import NotAccepted, checked, claim_of, scale_of
 from .drawing_sheet import DrawingSheet, NoPlaces
 from .dxf import MissingLibrary, Release
 from .found import FileRefusal
-from .good import GoodJudgement, good_of, reasons_against
+from .good import GoodJudgement, NotGood, good_of, good_sketch_of, reasons_against
 from .inputs import DesignerDrawing, Input, InputRefused, SketchText, kind_of, read_inputs
 from .judged import JudgedSketch, TextRefused, judge_sketch
 from .judged_drawing import JudgedDrawing
@@ -37,6 +38,8 @@ met within --within as it is measured, nothing is left out, every size is told),
 was asked for; 1 where something isn't, and a line says what; 2 where the words or a file can't be
 read, or nothing can be written; 3 where the program gave no answer. The program is found by
 --program, the variable PERTXOGAI_SKETCH, the repository's build, or the path."""
+CHECK = "have it read by sketch verify, sketch_claim.py and sketch_claim.c"
+CLAIM = "the sketch, its steps, places and tolerances, as verify reads them"
 FILE = "a sketch: .sketch, .drawing, .FCStd, .slvs, .dxf"
 FREEZE = "take lengths and radii that nothing tells as they are drawn"
 OUTPUT = "OUT.svg or OUT.dxf"
@@ -103,6 +106,7 @@ def command_line() -> argparse.ArgumentParser:
     commands = parser.add_subparsers(dest="command", required=True, metavar="COMMAND")
     _add_judge(commands)
     _add_draw(commands)
+    _add_certify(commands)
     add_page(commands)
     return parser
 
@@ -122,6 +126,16 @@ def _add_draw(commands: Commands) -> None:
     draw.add_argument("--sketch", metavar="NAME", help="which sketch of a file that has several")
     releases = [it.value for it in Release]
     draw.add_argument("--release", choices=releases, default=releases[-1], help=RELEASE)
+
+
+def _add_certify(commands: Commands) -> None:
+    certify = _command(commands, "certify", "writes of what is good a claim that anyone can check")
+    certify.set_defaults(act=_certify)
+    certify.add_argument(
+        "-o", "--output", type=Path, required=True, metavar="OUT.claim", help=CLAIM
+    )
+    certify.add_argument("--check", action="store_true", help=CHECK)
+    certify.add_argument("--sketch", metavar="NAME", help="which sketch of a file that has several")
 
 
 def _command(commands: Commands, name: str, what: str) -> argparse.ArgumentParser:
@@ -146,7 +160,7 @@ def _limit(word: str) -> Limit:
             f"{word!r} is no whole number from 1 to {MOST_LIMIT}") from None
 
 
-def _program(options: argparse.Namespace) -> Asks:
+def _program(options: argparse.Namespace) -> Program:
     if not options.seconds > 0:
         raise CommandError("--seconds takes a number above 0")
     return replace(Program.find(options.program), seconds=options.seconds)
@@ -242,6 +256,34 @@ def _draw(options: argparse.Namespace) -> Exit:
     with saving(options.output, options.file) as file:
         file.write(text.encode("utf-8", "replace"))
     return Exit.GOOD if sheet.is_good() else Exit.NOT_GOOD
+
+
+def _certify(options: argparse.Namespace) -> Exit:
+    """Writes the claim of a sketch that is good, and has it checked where that is asked for."""
+    found = _chosen(read_inputs(options.file), options.sketch)
+    program = _program(options)
+    judged = _judged(found, program, options)
+    good = good_sketch_of(judged) if isinstance(judged, JudgedSketch) else good_of(judged)
+    if isinstance(good, NotGood):
+        print(shown(f"{judged.name}: isn't good, so no claim is written: {good}"))
+        return Exit.NOT_GOOD
+    try:
+        claim = claim_of(good, program).text()
+    except NotAccepted as error:
+        raise CommandError(f"{judged.name}: {error}") from None
+    with saving(options.output, options.file) as file:
+        file.write(claim.encode("ascii"))
+    if scale_of(good) > 1:
+        print(f"the sketch of the claim is {scale_of(good)} times as large as the drawing")
+    return _checked(claim, program) if options.check else Exit.GOOD
+
+
+def _checked(claim: str, program: Program) -> Exit:
+    """Tells what each checker answers to a claim."""
+    answers = list(checked(claim, program))
+    for each in answers:
+        print(f"{each.checker}: {each.line}")
+    return Exit.GOOD if all(each.accepts() for each in answers) else Exit.NOT_GOOD
 
 
 def _dxf(sheet: SketchSheet | DrawingSheet, release: Release) -> str:

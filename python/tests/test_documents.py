@@ -9,7 +9,7 @@ from conftest import TOP
 
 PAGES = [
     page
-    for form in ("*.md", "crates/*/*.md", "python/**/*.md", "docs/*.md", "*s/README.md")
+    for form in ("*.md", "crates/*/*.md", "python/**/*.md", "docs/*.md", "*s/README.md", "checker/*.md")
     for page in sorted(TOP.glob(form))
 ]
 LINK = re.compile(r"!?\[(?:[^\[\]]|!\[[^\]]*\]\([^)]*\))*\]\(([^()\s]+)\)")

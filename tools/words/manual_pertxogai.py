@@ -26,6 +26,7 @@ plate: well, spelled values, elements 7, constraints 11, parts 1
   placed within 0 nm and 0 ppb
   measured: each constraint holds exactly
 $ pertxogai draw plate.drawing -o plate.svg
+$ pertxogai certify plate.drawing -o plate.claim
 $ pertxogai page
 """
 VARIABLES = (
@@ -41,7 +42,7 @@ def page(version: str, date: str) -> list[str]:
                  for line in (f".SS {name}", about[0].upper() + about[1:] + ".", *terms(*options(parser)))]
     return [
         *head("pertxogai", 1, ABOUT, version, date),
-        *chapter("SYNOPSIS", ["\\fBpertxogai\\fR \\fBjudge\\fR|\\fBdraw\\fR [\\fIOPTION\\fR].. \\fIFILE\\fR", ".br",
+        *chapter("SYNOPSIS", ["\\fBpertxogai\\fR \\fBjudge\\fR|\\fBdraw\\fR|\\fBcertify\\fR [\\fIOPTION\\fR].. \\fIFILE\\fR", ".br",
                               "\\fBpertxogai\\fR \\fBpage\\fR [\\fIOPTION\\fR].."]),
         *chapter("DESCRIPTION", *SAYS),
         *chapter("COMMANDS", described),
