@@ -142,6 +142,14 @@ def test_the_installed_command_judges(installed: Path, tmp_path: Path) -> None:
     assert found.strip() == str(installed / "usr/bin/sketch")
 
 
+def test_the_installed_checkers_read_a_claim(installed: Path, tmp_path: Path) -> None:
+    here, triangle = within(installed), TOP / "examples/triangle.sketch"
+    words = ("pertxogai", "certify", triangle, "-o", tmp_path / "triangle.claim", "--check")
+    verified = "verified steps 1 length 0 nm angle 0 ppb"
+    assert done(*words, env=here).splitlines() == [
+        f"{name}: {verified}" for name in ("sketch verify", "sketch_claim.py", "sketch_claim.c")]
+
+
 def test_the_installed_library_links(installed: Path, tmp_path: Path) -> None:
     libraries = installed / "usr/lib/x86_64-linux-gnu"
     flags = [f"-I{installed}/usr/include", f"-L{libraries}", "-lsketch"]
@@ -167,7 +175,8 @@ def test_the_package_has_its_pages_and_what_editors_read(installed: Path) -> Non
                  "doc/pertxogai/examples/bracket.sketch", "doc/pertxogai/licences/slab.txt",
                  "doc/pertxogai/docs/LANGUAGE.md", "bash-completion/completions/sketch",
                  "vim/vimfiles/syntax/sketch.vim", "pertxogai/textmate/sketch.tmLanguage.json",
-                 "pertxogai/freecad/Pertxogai.FCMacro"):
+                 "pertxogai/freecad/Pertxogai.FCMacro", "doc/pertxogai/checker/README.md",
+                 "pertxogai/checker/sketch_claim.py", "pertxogai/checker/sketch_claim.c"):
         assert (shared / name).is_file(), name
     rights = {it.stat().st_mode & 0o777 for it in (installed / "usr").rglob("*")}
     assert rights == {0o644, 0o755}

@@ -12,7 +12,8 @@ HIGHLIGHTING = {
     "textmate": "pertxogai/textmate",
 }
 PAGES = (
-    "README.md", "CHANGELOG.md", "CONTRIBUTING.md", "docs", "examples", "licences", "c/examples", "editors/README.md",
+    "README.md", "CHANGELOG.md", "CONTRIBUTING.md", "docs", "examples", "licences", "checker/README.md", "c/examples",
+    "editors/README.md",
     "python/README.md", "python/DRAWING.md", "python/pictures",
 )
 TOOLS = ("refresh", "draw")
@@ -46,7 +47,8 @@ def put(source: Path, to: Path) -> None:
 
 
 def stage(root: Path, places: Places, made: Made) -> None:
-    """Puts the program, the library, manual pages, completion, highlighting and pages below a root."""
+    """Puts the program, the library, manual pages, completion, highlighting, macro, checker and pages below a
+    root."""
     put(made.program, root / places.programs / "sketch")
     put(made.library / "sketch.h", root / places.headers / "sketch.h")
     for name in ("libsketch.a", "libsketch.so"):
@@ -55,7 +57,8 @@ def stage(root: Path, places: Places, made: Made) -> None:
     _stage_editors(root / places.shared, made.tree / "editors")
     for name in PAGES:
         put(made.tree / name, root / places.pages / name)
-    put(made.tree / "freecad", root / places.shared / "pertxogai" / "freecad")
+    for name in ("freecad", "checker"):
+        put(made.tree / name, root / places.shared / "pertxogai" / name)
     (root / places.pages / "GATE").write_text(made.gate)
     _stage_manual(root / places.shared / "man", made.tree / "man")
 

@@ -15,7 +15,7 @@ SAY = """Pertxogai {version} for Linux on x86-64.
     pip install wheel/{wheel}    adds it and the Python package, in a virtual environment of your own
     man -l share/man/man1/sketch.1.gz    is the manual
 
-share/doc/pertxogai has the pages and the examples, licences what is linked, GATE what was proved and tested of which
+share/doc/pertxogai has the pages and the examples, share/pertxogai/checker the checkers of claims, licences what is linked, GATE what was proved and tested of which
 commit, SHA256SUMS the checksums of all: sha256sum --quiet -c SHA256SUMS
 """
 
