@@ -30,9 +30,8 @@ def drawing_json(judged: JudgedDrawing) -> dict[str, object]:
         **reasons_json(judged),
         "parts": [_part(judgement, part) for part in _check(judgement).parts],
         **spelled_json(judged),
-        "lacks": judgement.missing.count if judgement.missing else 0,
+        "measured_over": list(judgement.measured_off),
         "by_rank": _by_rank(judgement),
-        "excess": [list(each) for each in judgement.missing.excess] if judgement.missing else [],
         "spare": [spare_json(each) for each in judgement.surplus],
         **_placed_json(judged),
         "warnings": [each.text() for each in judgement.warnings],
@@ -41,11 +40,12 @@ def drawing_json(judged: JudgedDrawing) -> dict[str, object]:
 
 def _by_rank(judgement: Judgement) -> dict[str, object]:
     """What is counted by the rank of what the drawing says, and not by the program: how many
-    dimensions are lacking at least, how the whole may be moved, and what is loose though the
-    drawing is over."""
+    dimensions are lacking at least, how the whole may be moved, what is too many though the drawing
+    is open, and what is loose though it is over."""
     found = judgement.missing
     return {"lacks": found.count if found else 0,
             "whole": found.whole.text() if found and found.whole else "",
+            "excess": [list(each) for each in found.excess] if found else [],
             "loose": list(judgement.loose)}
 
 
@@ -192,8 +192,11 @@ def _missing_lines(judgement: Judgement) -> Iterator[str]:
 
 def _surplus_lines(judgement: Judgement) -> Iterator[str]:
     """What may go, how far it is off, and what the rest is then."""
+    yield from (f"  over as it was measured, which isn't certified: {what} can't be spelled, and the "
+                "rest is enough" for what in judgement.measured_off)
     if judgement.surplus:
-        yield "  what to do: take one of these away, and ask again"
+        yield ("  what to do: take one of these away, and ask again (each was tried; what is needed "
+               "by rank isn't listed)")
     for each in judgement.surplus:
         off = "" if each.off is None else f": off by {each.off.amount} {each.off.unit.value}"
         then = "" if each.then is None else f"; the rest is {each.then.value} without it"

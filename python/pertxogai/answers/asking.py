@@ -45,7 +45,8 @@ class Place(Enum):
 class Asked:
     """What the program answered to one style of a drawing: of what is well, the places or the
     fault, and what `check` says where it was asked (`counted`); else what `check` says. grown:
-    equations that placed parts told. frozen: who is only measured."""
+    equations that placed parts told. frozen: who is only measured. off: what couldn't be spelled,
+    and was told as a contradiction by what was measured."""
 
     spelled: Spelled
     axes: Axes
@@ -53,6 +54,7 @@ class Asked:
     check: CheckReport | None = None
     grown: tuple[Equation, ...] = ()
     frozen: frozenset[Owner] = frozenset()
+    off: tuple[Contradiction, ...] = ()
     place: Place = Place.BOXES
     solved: Solved | Fault | None = None
 
@@ -181,7 +183,7 @@ def _contradicted(asked: Asked, program: Asks, care: Care) -> Asked:
     if not off:
         return asked
     spelled = written(asked.axes, asked.rails, asked.spelled.style, replace(care, off=off))
-    return replace(_answered(asked.rails, spelled, program), grown=asked.grown)
+    return replace(_answered(asked.rails, spelled, program), grown=asked.grown, off=off)
 
 
 def _off(asked: Asked, program: Asks) -> tuple[Contradiction, ...]:

@@ -113,6 +113,12 @@ class Judgement:
         return self.names.owners(owner for each in self.asked.grown for owner in each.owners)
 
     @property
+    def measured_off(self) -> tuple[str, ...]:
+        """What couldn't be spelled and makes the drawing over only as it was measured where the
+        rest is placed, or as the rest is just enough without it: that isn't certified."""
+        return self.names.owners(owner for each in self.asked.off for owner in each.owners)
+
+    @property
     def rounded(self) -> tuple[str, ...]:
         """What is told by a rounded value."""
         numbers = [each.number for each in self.asked.spelled.rounded]

@@ -4,9 +4,9 @@ measured where the rest is placed. """
 from __future__ import annotations
 
 from collections import Counter
-from collections.abc import Collection, Iterable, Sequence
+from collections.abc import Collection, Iterable, Iterator, Sequence
 from contextlib import suppress
-from dataclasses import dataclass
+from dataclasses import dataclass, replace
 from enum import Enum
 from fractions import Fraction
 
@@ -92,7 +92,20 @@ def what_may_go(drawing: Drawing, asked: Asked, program: Asks) -> tuple[Surplus,
     numbers = suspects(drawing, asked, program)
     with suppress(_Enough):
         trials.try_all(numbers, asked)
-    return tuple(sorted(trials.found.values(), key=_order))
+    return tuple(sorted(_consistent(trials.found.values()), key=_order))
+
+
+def _consistent(found: Collection[Surplus]) -> Iterator[Surplus]:
+    """What may go. Where one alone is too much and one repeats the rest, so do all: the rest of
+    each has the places of the whole. So one without which the rest has none is needed, and one that
+    is off by more is so on another shape of its rest, and that isn't told."""
+    alone = not any(each.then is Then.OVER for each in found)
+    repeats = alone and any(each.repeats() for each in found)
+    for each in found:
+        if not repeats:
+            yield each
+        elif each.then is not Then.NO_PLACES:
+            yield replace(each, off=None) if each.repeats() is False else each
 
 
 def _order(each: Surplus) -> tuple[int, int, int]:
@@ -184,8 +197,9 @@ class _Trials:
         if asked.verdict is Verdict.OVER:
             return False
         off = self._off(number, gone, asked)
-        if not isinstance(asked.solved, Solved) and off is None and self._is_needed(
-                number, others):
+        if not isinstance(asked.solved, Solved) and off is None and (
+                self._is_needed(number, others) or asked.verdict is Verdict.WELL
+                and not self._is_among(number)):
             return False
         if equations(self.drawing, number) > 1 and self._more(number, others) > 0:
             off = None
@@ -257,6 +271,13 @@ class _Trials:
         off = [Fraction(max(each.number, -each.number)) for each in values if not each.terms]
         return Deviation(number, self.drawing.constraints[number - 1], whole_up(max(off) * 1000),
                          Unit.NM) if off else None
+
+    def _is_among(self, number: int) -> bool:
+        """Whether a constraint is among those of which one is too many by rank, where there are
+        such."""
+        free = freedoms(self.drawing)
+        return free is None or not free.excess or any(Owner(number) in each
+                                                      for each in free.excess)
 
     def _is_needed(self, number: int, others: frozenset[int]) -> bool:
         """Whether without a constraint as much more is free as it says."""

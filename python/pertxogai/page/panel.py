@@ -160,6 +160,9 @@ def _over(judgement: Judgement, left: TooMuch | Untold,
 def _beside_over(judgement: Judgement, left: TooMuch | Untold,
                  unweighed: Untold | None) -> Iterator[Line]:
     """What is lacking all the same, and what of what is over can't be told."""
+    for what in judgement.measured_off:
+        yield Line(f"Over as it was measured, which isn’t certified: {what} can’t be spelled, and the "
+                   "rest is enough.", "quiet")
     for what in judgement.loose:
         yield Line(f"A dimension is lacking all the same: {what}, by rank.")
     if unweighed is not None:

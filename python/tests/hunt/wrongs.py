@@ -110,7 +110,7 @@ def _well(made: Made, answer: Answer) -> Iterator[Found]:
 
 def _open(made: Made, answer: Answer) -> Iterator[Found]:
     """What is wrong about a verdict `open`."""
-    lacks = answer.said.get("lacks")
+    lacks = answer.said["by_rank"]["lacks"]
     if lacks and lacks != made.truth.lacks:
         yield Found(Cause.LACKS_UNTRUE, f"told {lacks}, true {made.truth.lacks}")
     if made.contradicts() and not _speaks(answer):
@@ -157,7 +157,8 @@ def _called(made: Made, spare: list[dict[str, Any]]) -> Iterator[Found]:
 
 def _speaks(answer: Answer) -> bool:
     """Whether something is said to be too much, or left out."""
-    return any(answer.names(key) for key in ("repeats", "left_out", "spare", "conflicts", "excess"))
+    return bool(answer.said["by_rank"]["excess"]) or any(
+        answer.names(key) for key in ("repeats", "left_out", "spare"))
 
 
 def _listed(made: Made, numbers: frozenset[int]) -> str:

@@ -416,7 +416,7 @@ def test_what_is_left_out_is_told_where_what_may_go_cannot_be_measured(program) 
 
 def test_what_could_not_be_spelled_is_not_called_left_out(program) -> None:
     text = ("point A 0 0\npoint B 10 0\npoint M 5 0\npoint C 5 12\nHalf: symmetric A B about M\n"
-            "distance A C 13\ndistance B C 13\ndistance M C 12\ndistance A M 5\ndistance B M 5\n")
+            "distance A C 8\ndistance B C 9\ndistance M C 7\n")
     lines = Desk(program).answer("judge", {"text": text})["judgement"]["lines"]
     assert [each["text"] for each in lines if each.get("kind") == "note"] == [
         "couldn’t be spelled: Half"]
