@@ -7,15 +7,18 @@ and the macro of FreeCAD ask this, and nothing else."""
 
 from __future__ import annotations
 
-from collections.abc import Iterator
+from collections.abc import Collection, Iterator
 from dataclasses import dataclass
 from enum import Enum
 
-from pertxogai.drawing import Drawing
+from pertxogai.answers import Asked
+from pertxogai.answers.solution import settled
+from pertxogai.drawing import ORIGIN, Drawing
 from pertxogai.judged import JudgedSketch
 from pertxogai.judged_drawing import JudgedDrawing
 from pertxogai.measure import Deviation, MissingPlace, Solution, Unit, amount_text, measured
 from pertxogai.reports import Solved, Verdict
+from pertxogai.spelling.facts import ORIGIN_KNOT, Knot
 
 
 class Lack(Enum):
@@ -35,6 +38,8 @@ class Lack(Enum):
     """A constraint doesn't hold within the limit."""
     NO_SIZE = "no size"
     """Nothing tells the size of a circle."""
+    NOT_PRINTED = "not printed"
+    """What is said of it isn't what the program has printed of this drawing."""
 
 
 @dataclass(frozen=True)
@@ -58,8 +63,8 @@ class NotGood(Exception):
 
 @dataclass(frozen=True)
 class GoodJudgement:
-    """A judgement on a drawing that is good: the program says well and places it, every constraint
-    of the designer and all that the shapes imply is measured within the limit, nothing of the file
+    """A judgement on a drawing that is good: the program says well and places it, every point lies
+    where that was printed, every constraint of the designer and all that the shapes imply is measured within the limit, nothing of the file
     is left out, and every size is told. Making one of anything else raises NotGood."""
 
     judged: JudgedDrawing
@@ -139,13 +144,43 @@ def _against(judged: JudgedDrawing) -> Iterator[Reason]:
     if not judged.drawing.geometry:
         yield Reason(Lack.EMPTY, "nothing is drawn in it that could be judged")
     judgement = judged.judgement
-    yield from _unplaced(judgement.verdict, judgement.asked.solved, judgement.solution is not None)
+    if judgement.names.drawing != judged.drawing or judgement.verdict is not judgement.asked.verdict:
+        yield Reason(Lack.NOT_PRINTED, "the judgement is of another drawing")
+        return
+    solved = judgement.asked.solved
+    yield from _unplaced(judgement.verdict, solved, judgement.solution is not None)
     for what in judged.not_drawn:
         yield Reason(Lack.LEFT_OUT, f"left out of the file: {what}")
-    if judgement.solution is not None:
+    if judgement.solution is not None and isinstance(solved, Solved):
+        yield from _not_printed(judged, judgement.solution, solved)
         yield from _measured(judged, judgement.solution)
-        for name in judgement.undimensioned:
-            yield Reason(Lack.NO_SIZE, f"nothing tells the size of {name}")
+
+
+def _not_printed(judged: JudgedDrawing, solution: Solution, solved: Solved) -> Iterator[Reason]:
+    """What isn't where the program has printed it; and the circles of which nothing tells the
+    size."""
+    asked = judged.judgement.asked
+    printed = {each.name for each in solved.places}
+    lost = [ref for ref, knot in asked.axes.facts.refs.items()
+            if ref != ORIGIN and not _is_printed(asked, knot, printed)]
+    yield from (Reason(Lack.NOT_PRINTED, f"the program has printed no place of {ref}")
+                for ref in lost)
+    if lost:
+        return
+    found = settled(judged.drawing, asked, solved)
+    if found.solution != solution:
+        yield Reason(Lack.NOT_PRINTED, "the places aren't those that the program has printed")
+    for name in found.unsized:
+        yield Reason(Lack.NO_SIZE, f"nothing tells the size of {name}")
+
+
+def _is_printed(asked: Asked, knot: Knot, printed: Collection[str]) -> bool:
+    """Whether a point's place is printed: itself, or of the origin both axes, which meet there."""
+    if asked.spelled.points.get(knot) in printed:
+        return True
+    axes = {each.rail.upwards for each in asked.spelled.headings
+            if each.rail is not None and each.rail.datum() and each.name in printed}
+    return knot == ORIGIN_KNOT and len(axes) == 2
 
 
 def _unplaced(verdict: Verdict, solved: object, placed: bool) -> Iterator[Reason]:

@@ -102,7 +102,7 @@ def told(judged: JudgedDrawing) -> Iterator[str]:
     if not judged.drawing.geometry:
         yield "  nothing is drawn in it that could be judged"
     yield from (f"  not met: {reason.text}" for reason in reasons_against(judged)
-                if reason.lack in (Lack.OFF, Lack.UNMEASURED))
+                if reason.lack in (Lack.OFF, Lack.UNMEASURED, Lack.NOT_PRINTED))
     yield from _tried_lines(judgement)
     yield from (f"  left out: {what}" for what in judged.not_drawn)
     yield from _left_out_lines(judgement)
@@ -162,7 +162,9 @@ def _failure_lines(judgement: Judgement) -> Iterator[str]:
         at = ", ".join(failure.at)
         yield f"    where {at} meet" if len(failure.at) > 1 else f"    at {at}"
     sketch, named = judgement.asked.spelled.sketch, judgement.names.element
-    yield from (f"  {line}" for line in tried_lines(sketch, judgement.tried, named))
+    yield from (f"  {line}" for line in tried_lines(
+        sketch, judgement.tried, named,
+        "no other choice of the steps beneath has places that meet all of it"))
     if failure.dimensions:
         yield f"  what to do: look at {', '.join(failure.dimensions)}"
 

@@ -20,6 +20,7 @@ from pertxogai.judged import judge_sketch
 from pertxogai.judged_drawing import JudgedDrawing
 from pertxogai.measure import Deviation, Limit, Solution, Unit, amount_text
 from pertxogai.measure.limit import is_direction
+from pertxogai.reports import Verdict
 
 FILES = Path(__file__).parent / "files"
 PLATE = ("rectangle Plate 0 0 61 39\ncircle Hole 30 20 5\ncoincident PlateBottom.start Origin\n"
@@ -85,26 +86,57 @@ def test_what_the_file_has_beside_the_drawing_is_lacking(program):
 
 
 def test_the_places_are_measured_and_not_believed(program):
-    """A judgement whose places were changed behind its back: 1,001 nm is beyond the limit, 1,000
-    isn't; a wrong list of deviations doesn't matter."""
+    """A judgement whose places were changed behind its back: not even a nanometre is taken, and
+    1,001 nm are beyond the limit too; a wrong list of deviations doesn't matter."""
     found = judged(PLATE, program)
     hole = PointRef("Hole", Which.CENTRE)
-    assert isinstance(good_of(moved(found, hole, 1000)), GoodJudgement)
-    why, = reasons_against(moved(found, hole, 1001))
-    assert (why.lack, why.constraint, why.off.amount) == (Lack.OFF, 8, 1001)
-    assert why.text == "constraint 8 (x Hole.centre 30) is off by 0.001001 mm"
+    assert lacks(moved(found, hole, 1)) == lacks(moved(found, hole, 1000)) == [Lack.NOT_PRINTED]
+    silent = replace(found, judgement=replace(found.judgement, deviations=()))
+    for each in (found, silent):
+        _, why = reasons_against(moved(each, hole, 1001))
+        assert (why.lack, why.constraint, why.off.amount) == (Lack.OFF, 8, 1001)
+        assert why.text == "constraint 8 (x Hole.centre 30) is off by 0.001001 mm"
     lost = replace(found, judgement=replace(found.judgement, solution=Solution({}, {})))
-    assert lacks(lost) == [Lack.UNMEASURED]
-    silent = replace(found.judgement, deviations=())
-    assert lacks(moved(replace(found, judgement=silent), hole, 1001)) == [Lack.OFF]
+    assert lacks(lost) == [Lack.NOT_PRINTED, Lack.UNMEASURED]
+
+
+def test_drawing_judgement_and_sizes_are_of_one(program):
+    found = judged(PLATE, program)
+    less = Drawing(found.drawing.geometry, found.drawing.constraints[:1])
+    assert lacks(replace(found, drawing=less)) == [Lack.NOT_PRINTED]
+    over = judged(PLATE + "x PlateBottom.end 61\n", program)
+    claimed = replace(over.judgement, verdict=Verdict.WELL)
+    assert lacks(replace(over, judgement=claimed)) == [Lack.NOT_PRINTED]
+    sizeless = judged(PLATE.replace("radius Hole 5\n", ""), program)
+    claimed = replace(sizeless.judgement, unsized=())
+    assert lacks(replace(sizeless, judgement=claimed)) == [Lack.NO_SIZE]
+
+
+@pytest.mark.parametrize("text", [
+    "segment L 0 0 40 40\ncoincident L.start Origin\nangle L 45deg\n",
+    "segment L Origin 40 40\nangle L 45deg\n",
+    "segment L 0 0 40 23\ncoincident L.start Origin\nangle L 30deg\n",
+])
+def test_a_length_that_nothing_tells_is_not_good(text, program):
+    """Of the segment one thing is told, its direction: its length is missing."""
+    assert lacks(judged(text, program)) == [Lack.VERDICT]
+
+
+def test_a_point_that_is_not_printed_is_not_good(program):
+    """The same judgement, of a program that has told nothing of the hole's centre."""
+    found = judged(PLATE, program)
+    asked = found.judgement.asked
+    name = asked.spelled.points[asked.axes.facts.refs[PointRef("Hole", Which.CENTRE)]]
+    kept = tuple(each for each in asked.solved.places if each.name != name)
+    fewer = replace(asked, solved=replace(asked.solved, places=kept))
+    why, = reasons_against(replace(found, judgement=replace(found.judgement, asked=fewer)))
+    assert why.text == "the program has printed no place of Hole.centre"
 
 
 def test_the_limit_is_told(program):
-    hole = PointRef("Hole", Which.CENTRE)
-    strict = moved(judged(PLATE, program, limit=Limit(10)), hole, 11)
-    assert lacks(strict) == [Lack.OFF]
-    wide = moved(judged(PLATE, program, limit=Limit(2000)), hole, 2000)
-    assert isinstance(good_of(wide), GoodJudgement)
+    """What is off by 11 nm holds within 11, and not within 10."""
+    off = one("distance A.end B.start 9", (11, Unit.NM))
+    assert list(Limit(10).beyond(off)) == off and list(Limit(11).beyond(off)) == []
     for amount in (0, 1_000_001):
         with pytest.raises(ValueError):
             Limit(amount)
