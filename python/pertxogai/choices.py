@@ -127,6 +127,9 @@ def tried_lines(sketch: Sketch, found: Tried | None,
     if found is None or not found.lists and found.whole:
         return
     within = found.within()
+    if not found.lists:
+        yield "other choices can't be tried: with them the text is too long for the program"
+        return
     if found.found is None or within is None:
         yield f"{none}: {found.lists} were tried, {'all' if found.whole else 'but not all'}"
         return

@@ -8,7 +8,7 @@ import pytest
 from conftest import TOP
 
 from pertxogai.answers import judge
-from pertxogai.choices import Tried, beneath, change, tried
+from pertxogai.choices import Tried, beneath, change, tried, tried_lines
 from pertxogai.commands import main
 from pertxogai.drawing import read_drawing
 from pertxogai.good import Lack, reasons_against
@@ -169,6 +169,14 @@ def test_the_tolerance_of_another_choice_is_told_of_the_drawing(program):
     assert replace(found, found=replace(found.found, shape=worse)).within()[0] == 3
 
 
+def test_what_could_not_be_tried_is_told_so():
+    line, = tried_lines(SKETCH, Tried(0, False))
+    assert line == "other choices can't be tried: with them the text is too long for the program"
+    assert list(tried_lines(SKETCH, Tried(0, True))) == list(tried_lines(SKETCH, None)) == []
+    line, = tried_lines(SKETCH, Tried(64, False))
+    assert line.endswith("has places: 64 were tried, but not all")
+
+
 def test_where_no_choice_places_it_that_is_told(program):
     """Beside sides of 5, 1 and 1 there is none to choose; a point 9 mm from A and 1 mm from C has
     no place, whichever way C is turned."""
@@ -178,7 +186,9 @@ def test_where_no_choice_places_it_that_is_told(program):
     drawing = read_drawing(text)
     judged = JudgedDrawing("it", drawing, judge(drawing, program))
     assert judged.judgement.tried.found is None and judged.judgement.tried.whole
-    assert any("no other choice of the steps beneath has places" in line for line in told(judged))
+    line, = (line for line in told(judged) if "no other choice" in line)
+    assert line.strip() == ("no other choice of the steps beneath has places that meet all of it: "
+                            f"{judged.judgement.tried.lists} were tried, all")
 
 
 def test_a_constraint_that_another_choice_meets(program):
