@@ -24,7 +24,7 @@ from .judged import JudgedSketch, TextRefused, judge_sketch
 from .judged_drawing import JudgedDrawing
 from .language import NotHeld, Refusal
 from .measure import Limit
-from .measure.limit import MOST as MOST_LIMIT
+from .measure.limit import DEFAULT, MOST as MOST_LIMIT
 from .page.command import add_page
 from .program import Asks, Program, ProgramError
 from .saving import saving
@@ -145,7 +145,7 @@ def _command(commands: Commands, name: str, what: str) -> argparse.ArgumentParse
     )
     parser.add_argument("file", type=Path, metavar="FILE", help=FILE)
     parser.add_argument("--freeze", action="store_true", help=FREEZE)
-    parser.add_argument("--within", type=_limit, default="1000", metavar="N", help=WITHIN)
+    parser.add_argument("--within", type=_limit, default=str(DEFAULT), metavar="N", help=WITHIN)
     parser.add_argument("--program", metavar="PATH", help="the program `sketch`")
     parser.add_argument("--seconds", type=float, default=60.0, help=SECONDS)
     return parser

@@ -7,13 +7,14 @@ from fractions import Fraction
 
 from pertxogai.answers.growing import distance, measured
 from pertxogai.answers.placing import Plate
+from pertxogai.measure.limit import DEFAULT
 from pertxogai.reports import PartsReport, Solved
 from pertxogai.spelling.facts import Middle, Owner
 from pertxogai.spelling.rails import Rails, Span
 from pertxogai.spelling.writing import Contradiction, Spelled
 from pertxogai.values import Form, LinearSystem, Number
 
-REPEATS_UM = Fraction(1)
+REPEATS_UM = Fraction(DEFAULT, 1000)
 """What is off by no more repeats the others: the limit of `excess`."""
 
 

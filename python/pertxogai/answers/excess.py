@@ -11,11 +11,12 @@ from pertxogai import language
 from pertxogai.answers.asking import Place, written_by
 from pertxogai.answers.naming import Names
 from pertxogai.answers.own_lines import off_um
+from pertxogai.measure.limit import DEFAULT
 from pertxogai.program import Asks
 from pertxogai.reports import Excessive, OverPart, read_excess
 from pertxogai.spelling.facts import Owner
 
-REPEATS_NM = REPEATS_PPB = 1000
+REPEATS_NM = REPEATS_PPB = DEFAULT
 """What is off by no more nanometres of the drawing, or an angle by no more parts per 10^9, repeats
 the others: the limit that the language has where none is told."""
 CHOICES = 4

@@ -17,6 +17,7 @@ from pertxogai.answers.within import Wider, within
 from pertxogai.choices import Tried, beneath, tried
 from pertxogai.drawing import Circle, Drawing, moved
 from pertxogai.measure import Deviation, Limit, Solution, Unit, measure
+from pertxogai.measure.limit import DEFAULT
 from pertxogai.program import Asks
 from pertxogai.reports import Shape, Solved, Verdict, read_plan
 from pertxogai.spelling.facts import RadiusOf
@@ -24,7 +25,7 @@ from pertxogai.spelling.style import Style
 
 FINE_NM = 2
 """What is off by more is asked for again with finer angles."""
-HOLDS = 1000
+HOLDS = DEFAULT
 """What was left out holds where it is off by no more nanometres, or parts per 10^9: then it repeats
 the rest, by the limit that `too_much` has."""
 

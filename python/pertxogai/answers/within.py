@@ -5,20 +5,17 @@ from collections.abc import Sequence
 from dataclasses import dataclass
 
 from pertxogai.measure import Limit
+from pertxogai.measure.limit import DEFAULT, MOST
 from pertxogai.program import Answer, Asks
 from pertxogai.spelling import Spelled
 
 KEY = "within="
-LIMIT_NM = 1000
-"""The language's own limit, of the drawing."""
-MOST_LIMIT = 1_000_000
-"""The greatest limit that the program takes."""
 
 
 def within(spelled: Spelled) -> str:
     """The key that asks for places within a micrometre of the drawing: so many times of it as the
     sketch is larger. How far each constraint is off is measured on the places."""
-    return f"{KEY}{min(MOST_LIMIT, LIMIT_NM * spelled.scale)}"
+    return f"{KEY}{min(MOST, DEFAULT * spelled.scale)}"
 
 
 @dataclass(frozen=True)
@@ -34,7 +31,7 @@ class Wider:
         return self.program.ask([self._widened(word) for word in words], text)
 
     def _widened(self, word: str) -> str:
-        if not word.startswith(KEY) or self.limit.amount <= LIMIT_NM:
+        if not word.startswith(KEY) or self.limit.amount <= DEFAULT:
             return word
-        wider = int(word.removeprefix(KEY)) * self.limit.amount // LIMIT_NM
-        return f"{KEY}{min(MOST_LIMIT, wider)}"
+        wider = int(word.removeprefix(KEY)) * self.limit.amount // DEFAULT
+        return f"{KEY}{min(MOST, wider)}"

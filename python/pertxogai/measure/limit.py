@@ -15,8 +15,10 @@ ROUNDING_NM = 4
 further off: each of the two lines has two ends, and each of these is rounded."""
 ROUNDING_PPB = 10 ** 7
 """No line that has a length is turned further by that: the least length is a micrometre."""
+DEFAULT = 1000
+"""The limit where none is told, as of the key `within` of the language."""
 MOST = 1_000_000
-"""The greatest limit, as of the key `within` of the language."""
+"""The greatest limit, as of that key."""
 _PPB = 10 ** 9
 
 
@@ -25,7 +27,7 @@ class Limit:
     """So many nanometres of a length, and so many parts per 10^9 of a direction: the key `within`
     of the language, which has one number for both."""
 
-    amount: int = 1000
+    amount: int = DEFAULT
 
     def __post_init__(self) -> None:
         if not 1 <= self.amount <= MOST:
