@@ -15,7 +15,7 @@ from .reading import Sheet, read
 from .truth import HELD_MM, SOME, Matrix, Model, Truth, Untold, truth
 
 TRIES = 40
-JITTERS = (1.5, 0.4, 0.0)
+JITTERS = (1.5, 0.4, 0.1, 0.0)
 HOLDS_MM = 1e-6
 
 
@@ -295,7 +295,7 @@ class _Finish:
         for jitter in JITTERS:
             spots, radii, digits = self._rough(words, jitter)
             model, exact = self._read(words, spots, radii, digits)
-            if _holds(model, exact, wrong):
+            if _holds(model, exact, wrong) and _turns_alike(model, exact):
                 text = written(self.shapes, words, spots, radii, digits)
                 return Made(kind, seed, text, exact, truth(model, exact), wrong, against)
         raise NotMade("not drawn so that it holds")
@@ -326,6 +326,25 @@ def _named(words: list[str], kind: str) -> set[tuple[str, ...]]:
     """The names that words of a kind speak of."""
     split = [line.split() for line in words]
     return {tuple(name for name in each[1:] if name[0].isalpha()) for each in split if each[0] == kind}
+
+
+def _turns_alike(model: Model, exact: Vector) -> bool:
+    """Whether each three points are drawn the way round that they lie, so that the drawing chooses
+    the shape that was meant wherever its words leave two."""
+    def spots(at: Vector) -> Vector:
+        plane = model.plane(at)
+        return np.array([complex(x.real, y.real) for x, y in map(plane.spot, model.sheet.drawn)])
+
+    drawn = spots(model.index.vector(model.sheet.drawn, model.sheet.radii))
+    before, after = _turns(spots(exact)), _turns(drawn)
+    return not ((np.abs(before) > HOLDS_MM) & (before * after <= 0)).any()
+
+
+def _turns(spots: Vector) -> Matrix:
+    """For each three points twice their triangle's area, above 0 where they go round to the left."""
+    ways = spots[None, :] - spots[:, None]
+    turns: Matrix = (np.conj(ways)[:, :, None] * ways[:, None, :]).imag
+    return turns
 
 
 def _holds(model: Model, exact: Vector, wrong: frozenset[str]) -> bool:
