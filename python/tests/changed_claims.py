@@ -1,6 +1,7 @@
-"""Claims that were true, with one thing changed: a digit, a word, a line, a tolerance, a side, a limit.
+"""Claims that were true, with one thing changed: a digit, a word, a line, a tolerance, a side.
 
-So most of them are no longer true, or no longer readable, and each checker has to say the same of them."""
+So most of them are no longer true, or no longer readable, and each checker has to say the same of
+them."""
 from __future__ import annotations
 
 from collections.abc import Callable
@@ -8,14 +9,14 @@ from random import Random
 
 Lines = list[str]
 
-KNOWN = ["point", "line", "circle", "on", "tangent", "outside", "inside", "angle", "block", "end", "step", "none", "turn",
-         "advance", "joins", "at", "keeps", "tolerance", "+", "-", "s1", "c1", "s2", "1/0", "-1/1", "0/1", "sketch", "2", "#", "Q"]
-# Each limit of the language, and the word just beyond it.
-LIMITS = ["1000000", "1000000.001", "-1000000", "10000000", "0.001", "0.0001", "-0", "00", "1.", ".5", "+1", "1e3", "0000000.000",
-          "10000/10000", "10001/1", "-10000/1", "1/10001", "00001/00001", "000001/1", "1/-1", "-0/1", "0/0", "1/",
-          "A234567890123456", "A2345678901234567", "_A", "A_", "c999999", "c1000000", "c01", "s999999", "s0", "c", "C1",
-          "1152921504606846976", "1152921504606846977", "-1152921504606846976", "2000000000", "2000000001", "-2000000000",
-          "4611686018427387904", "4611686018427387905", "9999999999999999999", "00000000000000000001", "0000000000000000001"]
+KNOWN = """point line circle on tangent outside inside angle block end step none turn advance
+joins at keeps tolerance + - s1 c1 s2 1/0 -1/1 0/1 sketch 2 # Q""".split()
+LIMITS = """1000000 1000000.001 -1000000 10000000 0.001 0.0001 -0 00 1. .5 +1 1e3 0000000.000
+10000/10000 10001/1 -10000/1 1/10001 00001/00001 000001/1 1/-1 -0/1 0/0 1/ A234567890123456
+A2345678901234567 _A A_ c999999 c1000000 c01 s999999 s0 c C1 1152921504606846976
+1152921504606846977 -1152921504606846976 2000000000 2000000001 -2000000000 4611686018427387904
+4611686018427387905 9999999999999999999 00000000000000000001 0000000000000000001""".split()
+"""Each limit of the language, and the word just beyond it."""
 
 
 def _digit(lines: Lines, random: Random) -> None:
@@ -58,26 +59,33 @@ def _line(lines: Lines, random: Random) -> None:
 def _sign(lines: Lines, random: Random) -> None:
     """A plus or minus turned over."""
     number, words = _some_line(lines, random)
-    turned = {"+": "-", "-": "+"}
-    place = random.randrange(len(words))
-    place = len(words) - 1 if words[-1] in turned else place
-    words[place] = turned.get(words[place], words[place].removeprefix("-") if words[place][0] == "-" else "-" + words[place])
+    place = len(words) - 1 if words[-1] in ("+", "-") else random.randrange(len(words))
+    words[place] = {"+": "-", "-": "+"}.get(words[place]) or _negative(words[place])
     lines[number] = " ".join(words)
 
 
+def _negative(word: str) -> str:
+    """A number's other sign."""
+    return word[1:] if word.startswith("-") else "-" + word
+
+
 def _bytes(lines: Lines, random: Random) -> None:
-    """A line that is cut, padded to the longest or beyond it, or has a byte more, that may be a wrong one."""
+    """A line that is cut, padded to the longest or beyond it, or has a byte more, which may be a
+    wrong one."""
     number = random.randrange(len(lines))
     cut = random.randrange(len(lines[number]) + 1)
     way = random.randrange(4)
     if way == 0:
         lines[number] = lines[number][:cut] + random.choice("#x\t 9-")
     elif way == 1:
-        lines[number] = lines[number].ljust(random.choice([199, 200, 201]), random.choice(" \t"))
+        size = random.choice([199, 200, 201])
+        lines[number] = lines[number].ljust(size, random.choice(" \t"))
     elif way == 2:
-        lines[number] = (lines[number] + " #").ljust(random.choice([199, 200, 201]), "-") + random.choice(["", "\r"])
+        size = random.choice([199, 200, 201])
+        lines[number] = (lines[number] + " #").ljust(size, "-") + random.choice(["", "\r"])
     else:
-        lines[number] = lines[number][:cut] + random.choice("\x01\x00\x7f\x80\xff\r\v\f~#") + lines[number][cut:]
+        byte = random.choice("\x01\x00\x7f\x80\xff\r\v\f~#")
+        lines[number] = lines[number][:cut] + byte + lines[number][cut:]
 
 
 def _tolerance(lines: Lines, random: Random) -> None:
@@ -85,19 +93,37 @@ def _tolerance(lines: Lines, random: Random) -> None:
     words = lines[-1].split()
     place = random.choice([1, 2])
     size = int(words[place]) if words[place].isdigit() else 0
-    words[place] = str(random.choice([size - 1, size + 1, 0, 10**random.randint(1, 18), 2**62, 2**62 + 1]))
+    any_size = 10 ** random.randint(1, 18)
+    words[place] = str(random.choice([size - 1, size + 1, 0, any_size, 2**62, 2**62 + 1]))
     lines[-1] = " ".join(words)
 
 
 def _side(lines: Lines, random: Random) -> None:
-    """A claim that is mirrored, or has one place moved, with tolerances under which all but the signs holds."""
-    begin = next((at for at, line in enumerate(lines) if line.split()[:1] == ["end"]), 0)
-    placed = [at for at in range(begin, len(lines)) if lines[at].split()[:1] in (["point"], ["circle"])]
+    """A claim that is mirrored, or has one place moved, with tolerances under which all but the
+    signs holds."""
+    placed = _claimed(lines, "point", "circle")
     for at in placed if random.random() < 0.5 else random.sample(placed, min(1, len(placed))):
         words = lines[at].split()
-        words[3] = words[3].removeprefix("-") if words[3].startswith("-") else "-" + words[3]
+        words[3] = _negative(words[3])
         lines[at] = " ".join(words)
     lines[-1] = f"tolerance {random.choice([0, 10**9, 2**62])} {random.choice([0, 10, 2**62])}"
+
+
+def _largest(lines: Lines, random: Random) -> None:
+    """Places and normals as large as they may be, and tolerances within which they may hold."""
+    for at in _claimed(lines, "point", "circle", "line"):
+        words = lines[at].split()
+        most = [2 * 10**9, 2 * 10**9, 2**60] if words[0] == "line" else [2**60, 2**60]
+        words[2 : 2 + len(most)] = [str(size * random.choice([-1, 1])) for size in most]
+        lines[at] = " ".join(words)
+    lines[-1] = f"tolerance {2**62} {2**62}"
+
+
+def _claimed(lines: Lines, *kinds: str) -> list[int]:
+    """Where the lines of the claim stand that place elements of these kinds."""
+    begin = next((at for at, line in enumerate(lines) if line.split()[:1] == ["end"]), 0)
+    firsts = [[kind] for kind in kinds]
+    return [at for at in range(begin, len(lines)) if lines[at].split()[:1] in firsts]
 
 
 def _some_line(lines: Lines, random: Random) -> tuple[int, list[str]]:
@@ -106,7 +132,8 @@ def _some_line(lines: Lines, random: Random) -> tuple[int, list[str]]:
     return number, lines[number].split()
 
 
-CHANGES: list[Callable[[Lines, Random], None]] = [_digit, _digit, _word, _word, _count, _line, _sign, _bytes, _tolerance, _side]
+CHANGES: list[Callable[[Lines, Random], None]] = [
+    _digit, _digit, _word, _word, _count, _line, _sign, _bytes, _tolerance, _side, _side, _largest]
 
 
 def changed(claim: str, random: Random) -> str:
@@ -114,4 +141,5 @@ def changed(claim: str, random: Random) -> str:
     lines = claim.splitlines()
     random.choice(CHANGES)(lines, random)
     feed = random.choice(["\n"] * 8 + ["\r\n"])
-    return feed.join(lines) + random.choice([feed, feed, feed + feed, "", feed + "\r", feed + " \t", feed + "#"])
+    ends = ["", feed + feed, feed + "\r", feed + " \t", feed + "#"]
+    return feed.join(lines) + random.choice([feed] * 5 + ends)

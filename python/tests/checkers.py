@@ -1,4 +1,4 @@
-"""Three checkers of claims, each asked as a process: the program, and the two that share nothing with it."""
+"""Three checkers of claims: the program, and the two that share nothing with it."""
 from __future__ import annotations
 
 import subprocess
@@ -23,17 +23,28 @@ def ask(words: tuple[str | Path, ...], claim: bytes) -> Answer:
 
 
 def built(folder: Path) -> Path:
-    """The checker in C, built into the folder so that it stops at an overflow or a byte beyond a table."""
-    made = folder / "sketch_claim"
-    checks = ["-fsanitize=address,undefined", "-fno-sanitize-recover=all", "-pedantic", "-Wall", "-Wextra", "-Werror"]
-    subprocess.run(["cc", "-std=c99", "-O1", *checks, "-o", made, CHECKER / "sketch_claim.c"], check=True)
+    """The checker in C, built into the folder so that it stops at an overflow or a byte beyond a
+    table."""
+    made, source = folder / "sketch_claim", CHECKER / "sketch_claim.c"
+    sanitizers = ["-fsanitize=address,undefined", "-fno-sanitize-recover=all"]
+    warnings = ["-pedantic", "-Wall", "-Wextra", "-Werror"]
+    words = ["cc", "-std=c99", "-O1", *sanitizers, *warnings, "-o", str(made), str(source)]
+    subprocess.run(words, check=True)
     return made
 
 
 def called(claim: bytes) -> Answer:
-    """What the checker in Python answers, called here, since a Python that starts takes longer than the check."""
+    """What the checker in Python answers, called here, since a Python takes longer to start than
+    to check."""
     status, line = _module().answer(claim)
     return status, f"{line}\n".encode()
+
+
+def explained(claim: bytes) -> list[str]:
+    """What the checker in Python says of a claim, line by line."""
+    lines: list[str] = []
+    _, line = _module().answer(claim, lines.append)
+    return [*lines, line]
 
 
 @cache
@@ -56,4 +67,7 @@ def all_of(program: Path, in_c: Path) -> dict[str, Callable[[bytes], Answer]]:
 def kind(answer: Answer) -> str:
     """What kind of answer it is: verified, what fails, or the code of a refusal."""
     words = answer[1].decode().split()
-    return {0: "verified", 1: " ".join(words[:1] + words[3:4]), 9: " ".join(words[:2])}.get(answer[0], "?")
+    if answer[0] == 9:
+        what = words[2:] if words[2] == "sign" else words[2:3]
+        return " ".join(["verify fails", *(it.rstrip("0123456789") for it in what)])
+    return {0: "verified", 1: " ".join(words[:1] + words[3:4])}.get(answer[0], "?")

@@ -1,7 +1,8 @@
 """Claims about sketches, true ones and changed ones, for several checkers to agree on.
 
-A sketch is made by placing its elements first and reading the dimensions off their places, so that it can be constructed:
-each new element has two constraints to elements that stand already. What `plan` and `solve` print of it is a true claim.
+A sketch is made by placing its elements first and reading the dimensions off their places, so that
+it can be constructed: each new element has two constraints to elements that stand already. What
+`plan` and `solve` print of it is a true claim.
 """
 from __future__ import annotations
 
@@ -21,7 +22,8 @@ TOP = Path(__file__).resolve().parents[2]
 
 @dataclass
 class Drawn:
-    """An element at its true place, in mm: a point or circle at x, y, or a line through x, y in the direction `angle`."""
+    """An element at its true place, in mm: a point or circle at x, y, or a line through x, y in the
+    direction `angle`."""
 
     name: str
     kind: str
@@ -36,7 +38,8 @@ class Drawn:
         if self.kind == "line":
             ahead = x + 10 * math.cos(self.angle), y + 10 * math.sin(self.angle)
             return f"line {self.name} {x:.3f} {y:.3f} {ahead[0]:.3f} {ahead[1]:.3f}"
-        return f"{self.kind} {self.name} {x:.3f} {y:.3f}" + (f" {self.radius:.3f}" if self.kind == "circle" else "")
+        radius = f" {self.radius:.3f}" if self.kind == "circle" else ""
+        return f"{self.kind} {self.name} {x:.3f} {y:.3f}{radius}"
 
     def height(self, point: Drawn) -> float:
         """How far a point lies from the line, in mm; above 0 on its left."""
@@ -52,12 +55,11 @@ class Growing:
     constraints: list[str] = field(default_factory=list)
 
     def tie(self, one: Drawn, other: Drawn) -> str | None:
-        """A constraint of two elements that holds at their places, to a micrometre; None where there is none."""
+        """A constraint of two elements that holds at their places, to a micrometre; None where
+        there is none."""
         if one.kind == other.kind == "line":
-            turn = other.angle - one.angle
-            ratio = Fraction(math.tan(turn)).limit_denominator(9000) if abs(math.cos(turn)) > 0.001 else Fraction(0)
-            is_said = ratio and abs(ratio.numerator) <= 10000
-            return f"angle {one.name} {other.name} {ratio.numerator}/{ratio.denominator}" if is_said else None
+            ratio = ratio_of(other.angle - one.angle)
+            return f"angle {one.name} {other.name} {ratio}" if ratio else None
         if "line" in (one.kind, other.kind):
             line, point = (one, other) if one.kind == "line" else (other, one)
             length = abs(line.height(point))
@@ -66,8 +68,10 @@ class Growing:
         return f"distance {one.name} {other.name} {length:.3f}" if length >= 0.001 else None
 
     def touch(self, new: Drawn, other: Drawn) -> str | None:
-        """A constraint by which a new circle touches the other, or has it on its rim, with the radius that this takes."""
-        across = abs(other.height(new)) if other.kind == "line" else math.hypot(new.x - other.x, new.y - other.y)
+        """A constraint by which a new circle touches the other, or has it on its rim, with the
+        radius that this takes."""
+        apart = math.hypot(new.x - other.x, new.y - other.y)
+        across = abs(other.height(new)) if other.kind == "line" else apart
         is_inside = other.kind == "circle" and self.random.random() < 0.5
         radius = round(across + other.radius * (1 if is_inside else -1), 3)
         if radius <= 0:
@@ -75,23 +79,26 @@ class Growing:
         new.radius = radius
         if other.kind == "circle":
             return f"{'inside' if is_inside else 'outside'} {new.name} {other.name}"
-        return f"tangent {other.name} {new.name}" if other.kind == "line" else f"on {other.name} {new.name}"
+        return f"{'tangent' if other.kind == 'line' else 'on'} {other.name} {new.name}"
 
     def add(self, kind: str) -> None:
         """Adds an element with two constraints to others, unless none can be said."""
-        new = Drawn(f"{kind[0].upper()}{len(self.elements)}", kind, self.random.uniform(-80, 80),
-                    self.random.uniform(-80, 80), self.random.uniform(-math.pi, math.pi), self.random.randint(1, 9))
+        x, y, angle = (self.random.uniform(-most, most) for most in (80, 80, math.pi))
+        name = f"{kind[0].upper()}{len(self.elements)}"
+        new = Drawn(name, kind, x, y, angle, self.random.randint(1, 9))
         others = self.random.sample(self.elements, 2)
         if kind == "line" and all(it.kind == "line" for it in others):
             return
         touches = kind == "circle" and self.random.random() < 0.6
-        ties = [self.touch(new, others[0]) if touches else self.tie(new, others[0]), self.tie(new, others[1])]
+        first = self.touch(new, others[0]) if touches else self.tie(new, others[0])
+        ties = [first, self.tie(new, others[1])]
         if all(ties):
             self.elements.append(new)
             self.constraints += [tie for tie in ties if tie]
 
     def begin(self) -> None:
-        """A pair of points with their distance, or a block of 2 to 10 points and circles, of which some lie on one line."""
+        """A pair of points with their distance, or a block of 2 to 10 points and circles, of which
+        some lie on one line."""
         blocked = self.random.random() < 0.4
         level = self.random.randint(2, 5)
         for number in range(self.random.choice([2, 3, 3, 4, 10]) if blocked else 2):
@@ -106,11 +113,22 @@ class Growing:
 
     def text(self) -> str:
         """The sketch, with its header and `end`; in version 2 some lines have comments."""
-        version = 2 if any(line.startswith("block") for line in self.constraints) else self.random.choice([1, 2])
+        has_block = any(line.startswith("block") for line in self.constraints)
+        version = 2 if has_block else self.random.choice([1, 2])
         lines = [*(it.line(self.random) for it in self.elements), *self.constraints]
         if version == 2:
-            lines = [line + self.random.choice(["", "", " # as drawn", "#", "\n\t# point"]) for line in lines]
+            comments = ["", "", " # as drawn", "#", "\n\t# point"]
+            lines = [line + self.random.choice(comments) for line in lines]
         return "\n".join([f"sketch {version}", *lines, "end", ""])
+
+
+def ratio_of(turn: float) -> str | None:
+    """The tangent of a turn in radians as the language has it, where it can be said."""
+    if abs(math.cos(turn)) < 1e-9:
+        return "1/0"
+    ratio = Fraction(math.tan(turn)).limit_denominator(9000)
+    is_said = 0 < abs(ratio.numerator) <= 10000
+    return f"{ratio.numerator}/{ratio.denominator}" if is_said else None
 
 
 def random_sketch(random: Random) -> str:
@@ -129,10 +147,12 @@ def gallery() -> Iterator[str]:
 
 
 def claim_of(text: str, program: Path) -> str | None:
-    """The sketch with what `plan` and `solve` print of it; None where they don't print a construction."""
+    """The sketch with what `plan` and `solve` print of it; None where they print no
+    construction."""
     said = {}
     for command in ("plan", "solve"):
-        run = subprocess.run([program, command], input=text, capture_output=True, text=True, check=False)
+        words = [str(program), command]
+        run = subprocess.run(words, input=text, capture_output=True, text=True, check=False)
         if run.returncode:
             return None
         said[command] = run.stdout.splitlines()
@@ -144,7 +164,8 @@ def claim_of(text: str, program: Path) -> str | None:
 
 
 def claims(program: Path, count: int, seed: int) -> Iterator[str]:
-    """`count` claims by a seed: those of the gallery as they are, then random ones, a fourth of them true."""
+    """`count` claims by a seed: those of the gallery as they are, then random ones, of which a
+    fourth is true."""
     return islice(_endless(program, Random(seed)), count)
 
 

@@ -51,7 +51,10 @@ def test_a_sketch_that_is_larger_than_the_drawing_is_told(
 
 
 def test_a_checker_that_cannot_be_asked_is_named(
-    tmp_path: Path, capsys: pytest.CaptureFixture[str], monkeypatch: pytest.MonkeyPatch, program: Program
+    tmp_path: Path,
+    capsys: pytest.CaptureFixture[str],
+    monkeypatch: pytest.MonkeyPatch,
+    program: Program,
 ) -> None:
     out = tmp_path / "triangle.claim"
     monkeypatch.setenv("PATH", str(tmp_path))

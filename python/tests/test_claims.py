@@ -1,4 +1,5 @@
-"""Three checkers of claims agree: `verify` of the proved program, and the two in checker/ that share nothing with it."""
+"""Three checkers of claims agree: `verify` of the proved program, and the two in checker/ that
+share nothing with it."""
 from __future__ import annotations
 
 import subprocess
@@ -29,9 +30,11 @@ point C 4000000 3000000
 tolerance 0 0
 """
 
+VERIFIED = "verified steps 1 length 0 nm angle 0 ppb"
+
 # A change of the triangle's claim, and what is answered to it.
 ANSWERS = [
-    ("", "", 0, "verified steps 1 length 0 nm angle 0 ppb"),
+    ("", "", 0, VERIFIED),
     ("C 4000000 3000000", "C 4000000 -3000000", 9, "verify fails sign s1"),
     ("C 4000000 3000000", "C 4000000 3000001", 9, "verify fails c2"),
     ("at C A B", "at C B A", 9, "verify fails s1"),
@@ -45,7 +48,7 @@ ANSWERS = [
     ("keeps c1 turn +", "keeps c1 turn", 1, "refused line 9 E2 word"),
     ("point A 0 0\npoint B 4000000", "line A 0 0 0\npoint B 4000000", 1, "refused line 10 E7 kind"),
     ("sketch 1\n", "# part\nsketch 2\n", 1, "refused line 1 E1 header"),
-    ("sketch 1\npoint A 0 0", "sketch 2\npoint A 0 0 # left", 0, "verified steps 1 length 0 nm angle 0 ppb"),
+    ("sketch 1\npoint A 0 0", "sketch 2\npoint A 0 0 # left", 0, VERIFIED),
     ("step s1", "step c1", 9, "verify fails s1"),
     ("turn +", "none +", 1, "refused line 9 E2 word"),
     ("keeps c1", "keeps c01", 1, "refused line 9 E4 name"),
@@ -78,20 +81,28 @@ def asks(program: Program, in_c: Path) -> Checkers:
     return checkers.all_of(Path(program.path), in_c)
 
 
+def said(asks: Checkers, claim: bytes) -> dict[str, tuple[int, str]]:
+    """What each answers to a claim: the status, and the one line."""
+    found = {name: ask(claim) for name, ask in asks.items()}
+    assert all(text.endswith(b"\n") for _, text in found.values())
+    return {name: (status, text[:-1].decode()) for name, (status, text) in found.items()}
+
+
 @pytest.mark.parametrize(("old", "new", "status", "line"), ANSWERS)
 def test_the_triangle(asks: Checkers, old: str, new: str, status: int, line: str) -> None:
     claim = TRIANGLE.replace(old, new, 1) if old else TRIANGLE
-    assert {name: ask(claim.encode("latin-1")) for name, ask in asks.items()} == dict.fromkeys(asks, (status, f"{line}\n".encode()))
+    assert said(asks, claim.encode()) == dict.fromkeys(asks, (status, line))
 
 
 def test_a_block_turns_as_its_places_do_whichever_way_its_pins_are_drawn(asks: Checkers) -> None:
-    good, mirrored = (0, b"verified steps 0 length 0 nm angle 0 ppb\n"), (9, b"verify fails sign c1\n")
-    for claim, answer in [(BLOCK, good), (BLOCK.replace(" 3000000", " -3000000"), mirrored)]:
-        assert {name: ask(claim.encode()) for name, ask in asks.items()} == dict.fromkeys(asks, answer)
+    good, fails = (0, "verified steps 0 length 0 nm angle 0 ppb"), (9, "verify fails sign c1")
+    for claim, answer in [(BLOCK, good), (BLOCK.replace(" 3000000", " -3000000"), fails)]:
+        assert said(asks, claim.encode()) == dict.fromkeys(asks, answer)
 
 
 def large(elements: int, constraints: int, trailing: int) -> bytes:
-    """A sketch of so many points and constraints that is no part, and so many line feeds behind its claim."""
+    """A sketch of so many points and constraints that is no part, and so many line feeds behind its
+    claim."""
     points = [f"point P{number} 0 0" for number in range(elements)]
     lines = ["sketch 1", *points, *["distance P0 P1 1"] * constraints, "end", "tolerance 0 0"]
     return ("\n".join(lines) + "\n" * trailing).encode()
@@ -108,7 +119,7 @@ def large(elements: int, constraints: int, trailing: int) -> bytes:
     (b"\x01", "refused line 1 E19 not-ascii"),
 ], ids=range(8))
 def test_the_limits(asks: Checkers, claim: bytes, line: str) -> None:
-    assert {name: ask(claim)[1].decode() for name, ask in asks.items()} == dict.fromkeys(asks, f"{line}\n")
+    assert {answer[1] for answer in said(asks, claim).values()} == {line}
 
 
 def test_three_hundred_claims_have_one_answer_each(asks: Checkers, program: Program) -> None:
@@ -117,28 +128,28 @@ def test_three_hundred_claims_have_one_answer_each(asks: Checkers, program: Prog
         answers = {name: ask(claim.encode("latin-1")) for name, ask in asks.items()}
         assert len(set(answers.values())) == 1, (claim, answers)
         kinds.add(checkers.kind(answers["sketch verify"]))
-    assert {"verified", "verify fails", "refused E2", "refused E8"} <= kinds
+    assert {"verified", "verify fails c", "verify fails s", "refused E2", "refused E8"} <= kinds
 
 
-def explained(words: list[str | Path], claim: str) -> list[str]:
-    """What a checker says of a claim line by line."""
-    return subprocess.run([*words, "--explain"], input=claim, capture_output=True, text=True, check=False).stdout.splitlines()
+def explained(words: list[str | Path], claim: bytes) -> list[str]:
+    """What a checker says of a claim, line by line."""
+    run = subprocess.run([*words, "--explain"], input=claim, capture_output=True, check=False)
+    return run.stdout.decode().splitlines()
 
 
 def test_both_explain_each_step_each_constraint_and_each_sign(program: Program, in_c: Path) -> None:
-    ways: list[list[str | Path]] = [[sys.executable, checkers.CHECKER / "sketch_claim.py"], [in_c]]
-    for words in ways:
-        assert explained(words, TRIANGLE) == [
+    for words in ([sys.executable, checkers.CHECKER / "sketch_claim.py"], [in_c]):
+        assert explained(words, TRIANGLE.encode()) == [
             "s1 joins c3 c2 c1 to 3 elements, turn +",
             "c1: the distances have the squares [16000000000000] nm2",
             "c2: the distances have the squares [25000000000000] nm2",
             "c3: the distances have the squares [9000000000000] nm2",
             "s1: drawn +1, placed +1",
-            "verified steps 1 length 0 nm angle 0 ppb",
+            VERIFIED,
         ]
-    for claim in random_claims.claims(Path(program.path), 60, seed=1):
-        if claim.isascii():
-            assert explained(ways[0], claim) == explained(ways[1], claim)
+    for claim in random_claims.claims(Path(program.path), 100, seed=1):
+        data = claim.encode("latin-1")
+        assert explained([in_c], data) == checkers.explained(data)
 
 
 def test_it_is_one_file_of_at_most_350_lines_on_the_standard_library() -> None:
