@@ -3,7 +3,7 @@
  * This file shares no line with the program, nor with sketch_claim.py beside it. It was written from docs/LANGUAGE.md, whose
  * sentences stand in quotes at the rules that they give. Its parts: answers, lines and words, numbers and names, the sketch,
  * the claim, the steps, the constraints, the signs. All numbers are whole and nothing is rounded: README.md says how large
- * they get. It takes no memory but the tables below, and calls nothing of itself again.
+ * they get. All that is read stands in tables of a fixed size, and no function calls itself.
  *
  * Build: cc -std=c99 -O2 -o sketch_claim sketch_claim.c (GCC or Clang, where whole numbers of 128 bits are). */
 #include <inttypes.h>
@@ -45,7 +45,7 @@ enum code { E1 = 1, E2, E3, E4, E5, E6, E7, E8, E9, E10, E11, E12, E13, E14, E15
 static bool explains;
 static long line_number;
 
-/* Ends with the status, or where what was printed can't be written with that. */
+/* Ends with the status, or with 4 where what was printed can't be written. */
 static void finish(int status) { exit(fflush(stdout) || ferror(stdout) ? WRITE_FAULT : status); }
 
 static void refuse(enum code code) {

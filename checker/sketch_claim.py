@@ -8,9 +8,8 @@ two tolerances. The answer is that of `sketch verify`, in the same words and wit
 
     0  verified steps K length T nm angle W ppb     1  refused line N CODE word     9  verify fails WHAT
 
-With --explain, lines before the answer say what was computed for each step, constraint and sign. This file uses Python's
-own whole numbers, and nothing of the program that it checks. README.md beside it says what an accepted claim means.
-"""
+With --explain, lines before it say what was computed of each step, constraint and sign. Status 3 says that FILE can't be
+read. README.md beside this file says what an accepted claim means."""
 import re
 import sys
 from collections import namedtuple
@@ -343,7 +342,9 @@ def answer(data, explain=lambda said: None):
 
 if __name__ == "__main__":
     files = [word for word in sys.argv[1:] if word != "--explain"]
-    with open(files[0], "rb") if files else sys.stdin.buffer as source:
-        status, line = answer(source.read(2**20 + 1), print if "--explain" in sys.argv else lambda said: None)
+    try:
+        data = (open(files[0], "rb") if files else sys.stdin.buffer).read(2**20 + 1)
+    except OSError: sys.exit(3)
+    status, line = answer(data, print if "--explain" in sys.argv else lambda said: None)
     print(line)
     sys.exit(status)
