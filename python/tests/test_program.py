@@ -220,6 +220,13 @@ def test_a_lower_limit_of_memory_is_kept(tmp_path) -> None:
         assert subprocess.run(["sh", "-c", line], capture_output=True, text=True, env=here).stdout == f"{kib}\n"
 
 
+def test_a_worker_of_the_board_keeps_a_lower_limit_of_memory() -> None:
+    here = {**os.environ, "PYTHONPATH": str(PROGRAM.parents[3] / "python")}
+    line = ("ulimit -v 1000000; exec /usr/bin/python3 -c 'from pertxogai.page.worker import limit_memory; import resource;"
+            "limit_memory(4096); print(resource.getrlimit(resource.RLIMIT_AS)[0] // 1024)'")
+    assert subprocess.run(["sh", "-c", line], capture_output=True, text=True, env=here).stdout == "1000000\n"
+
+
 def test_a_program_that_is_missing(tmp_path, monkeypatch) -> None:
     monkeypatch.setenv("PERTXOGAI_SKETCH", str(tmp_path / "nothing"))
     with pytest.raises(MissingProgram, match="nothing"):

@@ -89,10 +89,12 @@ def _answer(desk: Desk, line: str) -> dict[str, object]:
 
 
 def limit_memory(mib: int) -> None:
-    """Limits this process, and what it starts, where `mib` isn't 0."""
+    """Limits this process, and what it starts, where `mib` isn't 0. A lower limit that stands
+    already, as by `ulimit -v`, is kept."""
     if mib:
-        _, hard = resource.getrlimit(resource.RLIMIT_AS)
-        resource.setrlimit(resource.RLIMIT_AS, (mib * MEBIBYTE, hard))
+        standing = resource.getrlimit(resource.RLIMIT_AS)
+        lower = [each for each in standing if each != resource.RLIM_INFINITY]
+        resource.setrlimit(resource.RLIMIT_AS, (min([mib * MEBIBYTE, *lower]), standing[1]))
 
 
 if __name__ == "__main__":
