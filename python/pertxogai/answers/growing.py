@@ -66,7 +66,9 @@ def measured(rails: Rails, spelled: Spelled, report: PartsReport) -> Iterator[Fo
 
 def _coordinates(rails: Rails, spelled: Spelled, plate: Plate, frame: int) -> Iterator[Form]:
     """How far the rails of a frame are apart in a part."""
-    axis = plate.axis(spelled.headings, frame) or _axis_by_points(rails, spelled, plate, frame)
+    axis = plate.axis(spelled.headings, frame)
+    if axis is None and len(plate.points) > 1:
+        axis = _axis_by_points(rails, spelled, plate, frame)
     if axis is None:
         return
     for upwards in (False, True):
@@ -80,9 +82,11 @@ def _axis_by_points(rails: Rails, spelled: Spelled, plate: Plate, frame: int) ->
     itself; None where there are none."""
     axes, spots = rails.axes, plate.points
     for line in axes.lines.all():
+        if axes.frame(line).number != frame:
+            continue
         names = [(each.knot, name) for each in axes.lines.members(line)
                  if (name := spelled.points.get(each.knot, "")) in spots]
-        if axes.frame(line).number == frame and len(names) >= 2:
+        if len(names) >= 2:
             (first, one), (second, other) = names[0], names[-1]
             (x, y), (u, v) = axes.facts.drawn[first], axes.facts.drawn[second]
             (a, b), (c, d) = spots[one], spots[other]

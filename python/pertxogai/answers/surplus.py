@@ -92,7 +92,18 @@ def what_may_go(drawing: Drawing, asked: Asked, program: Asks) -> tuple[Surplus,
     numbers = suspects(drawing, asked, program)
     with suppress(_Enough):
         trials.try_all(numbers, asked)
-    return tuple(sorted(_consistent(trials.found.values()), key=_order))
+    found = list(trials.found.values())
+    corners = [each for each in found if _is_corner(drawing, each)]
+    if len(corners) < len(found):
+        found = [each for each in found if each not in corners]
+    return tuple(sorted(_consistent(found), key=_order))
+
+
+def _is_corner(drawing: Drawing, each: Surplus) -> bool:
+    """Whether a corner or a common centre would come apart: that is listed where nothing else may
+    go."""
+    joins = isinstance(drawing.constraints[each.number - 1], (Coincident, Concentric))
+    return joins and each.then is Then.OPEN and each.off is None
 
 
 def _consistent(found: Collection[Surplus]) -> Iterator[Surplus]:
