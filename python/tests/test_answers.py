@@ -358,6 +358,14 @@ def test_what_is_left_out_and_is_off_on_the_places_of_the_rest_contradicts_it(pr
     assert abs(half.off.amount - 458_333) <= 2
 
 
+def test_what_only_says_where_the_whole_lies_is_not_too_much_where_the_rest_has_no_places(program):
+    """The mirror says where the axis is; the three lengths make no triangle."""
+    found = judge(read_drawing(
+        "point A 10 5\npoint B -11 5\npoint C 0 20\nsymmetric A B about YAxis\ndistance A B 5\n"
+        "distance A C 100\ndistance B C 20\n"), program)
+    assert found.verdict is Verdict.WELL and found.failure is not None
+
+
 def test_ends_that_become_one_are_named():
     text = ("segment S 0 0 40 0\nsegment T 40 0 0 5\ncoincident S.end T.start\n"
             "Shut: coincident S.start T.start\nlength T 30\n")

@@ -188,14 +188,14 @@ def _contradicted(asked: Asked, program: Asks, care: Care) -> Asked:
 
 def _off(asked: Asked, program: Asks) -> tuple[Contradiction, ...]:
     """What couldn't be spelled and contradicts what is placed, by boxes or by points. Where what is
-    well has no places, all that couldn't be spelled: the rest is just enough without it."""
+    well has no places, what of it is too many by rank."""
     for place in Place:
         keys = f"place={place.value}", within(asked.spelled)
         text = asked.spelled.sketch.text()
         report = read_parts(written_by(program, "parts", text, *keys))
         if asked.verdict is Verdict.OPEN or isinstance(report.parts[0].shape, Solved):
             return contradictions(asked.rails, asked.spelled, report)
-    return tuple(too_many(asked.spelled))
+    return tuple(too_many(asked.axes, asked.spelled))
 
 
 def written_by(program: Asks, command: str, text: str, *keys: str) -> str:

@@ -5,10 +5,12 @@ from __future__ import annotations
 from collections.abc import Iterator
 from fractions import Fraction
 
+from pertxogai.answers.freedoms import freedoms_of
 from pertxogai.answers.growing import distance, measured
 from pertxogai.answers.placing import Plate
 from pertxogai.measure.limit import DEFAULT
 from pertxogai.reports import PartsReport, Solved
+from pertxogai.spelling.axes import Axes
 from pertxogai.spelling.facts import Middle, Owner
 from pertxogai.spelling.rails import Rails, Span
 from pertxogai.spelling.writing import Contradiction, Spelled
@@ -38,11 +40,14 @@ def contradictions(rails: Rails, spelled: Spelled,
                       if off > REPEATS_UM and owner in spelled.left_out - told))
 
 
-def too_many(spelled: Spelled) -> Iterator[Contradiction]:
+def too_many(axes: Axes, spelled: Spelled) -> Iterator[Contradiction]:
     """Each constraint, and each arc of which the ends couldn't be spelled, though the rest is just
-    enough: nothing tells how far it is off."""
+    enough, and one is too many of those by rank: nothing tells how far it is off. Else it may say
+    where the whole lies, as a mirror in an axis that nothing else is told from."""
     said = spelled.left_out.union(*spelled.owners)
-    for owner in sorted(spelled.left_out):
+    free = freedoms_of(axes)
+    among = frozenset[Owner]().union(*(free.excess if free is not None else ()))
+    for owner in sorted(spelled.left_out & among):
         if owner.number:
             yield Contradiction(None, frozenset({owner}), said - {owner})
 

@@ -83,8 +83,13 @@ class Freedoms:
 def freedoms(drawing: Drawing) -> Freedoms | None:
     """The freedoms of the points of a drawing, and of the radii of its circles and arcs; None
     where they take too long to count."""
-    places = _Places(axes_said(drawing))
     rims = (each.name for each in drawing.geometry if isinstance(each, (Circle, Arc)))
+    return freedoms_of(axes_said(drawing), rims)
+
+
+def freedoms_of(axes: Axes, rims: Iterable[str] = ()) -> Freedoms | None:
+    """The same of what axes say, and of the radii of these circles and arcs."""
+    places = _Places(axes)
     said = [(owner, jet.slope) for owner, jet in places.equations() if jet.slope]
     slopes = [slope for _, slope in said]
     unknowns = {*places.unknowns(), *map(RadiusOf, rims)}
