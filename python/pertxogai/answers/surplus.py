@@ -107,16 +107,15 @@ def _is_corner(drawing: Drawing, each: Surplus) -> bool:
 
 
 def _consistent(found: Collection[Surplus]) -> Iterator[Surplus]:
-    """What may go. Where one alone is too much and one repeats the rest, so do all: the rest of
-    each has the places of the whole. So one without which the rest has none is needed, and one that
-    is off by more is so on another shape of its rest, and that isn't told."""
+    """What may go; one without which the rest has no places, only where the rest is placed without
+    none. Where one alone is too much and one repeats the rest, so do all: one that is off by more is
+    so on another shape of its rest, and that isn't told."""
+    if any(each.then is Then.WELL for each in found):
+        found = [each for each in found if each.then is not Then.NO_PLACES]
     alone = not any(each.then is Then.OVER for each in found)
     repeats = alone and any(each.repeats() for each in found)
     for each in found:
-        if not repeats:
-            yield each
-        elif each.then is not Then.NO_PLACES:
-            yield replace(each, off=None) if each.repeats() is False else each
+        yield replace(each, off=None) if repeats and each.repeats() is False else each
 
 
 def _order(each: Surplus) -> tuple[int, int, int]:
