@@ -10,6 +10,7 @@ from pathlib import Path
 import pytest
 
 import checkers
+import hand_claims
 import random_claims
 from pertxogai.program import Program
 
@@ -98,6 +99,19 @@ def test_a_block_turns_as_its_places_do_whichever_way_its_pins_are_drawn(asks: C
     good, fails = (0, "verified steps 0 length 0 nm angle 0 ppb"), (9, "verify fails sign c1")
     for claim, answer in [(BLOCK, good), (BLOCK.replace(" 3000000", " -3000000"), fails)]:
         assert said(asks, claim.encode()) == dict.fromkeys(asks, answer)
+
+
+@pytest.mark.parametrize(("line", "refused"), hand_claims.LINES.items())
+def test_a_line_is_refused_as_the_page_says(asks: Checkers, line: str, refused: str) -> None:
+    answers = said(asks, f"{hand_claims.SKETCH}{line}\n".encode())
+    assert answers == dict.fromkeys(asks, (1, f"refused {refused}"))
+
+
+@pytest.mark.parametrize(("claim", "end"), hand_claims.CLAIMS, ids=range(len(hand_claims.CLAIMS)))
+def test_a_claim_is_answered_as_the_page_says(asks: Checkers, claim: str, end: str) -> None:
+    good = end.startswith("verified")
+    answer = (0, end) if good else (9, f"verify {end}")
+    assert said(asks, claim.encode()) == dict.fromkeys(asks, answer)
 
 
 def large(elements: int, constraints: int, trailing: int) -> bytes:
