@@ -53,6 +53,7 @@ ANSWERS = [
     ("step s1", "step c1", 9, "verify fails s1"),
     ("turn +", "none +", 1, "refused line 9 E2 word"),
     ("keeps c1", "keeps c01", 1, "refused line 9 E4 name"),
+    ("keeps c1", "keeps c1000000", 1, "refused line 9 E4 name"),
     ("point A 0 0\n", "point A 0 0\n" + " " * 201 + "\n", 1, "refused line 3 E15 line-too-long"),
 ]
 
