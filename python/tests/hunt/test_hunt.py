@@ -45,9 +45,14 @@ def placed(moved_nm: int = 0) -> dict[str, object]:
     return places
 
 
-def causes(made_: Made, status: int = 0, **said: object) -> set[Cause]:
-    """In what ways an answer is wrong."""
-    answer = Answer(status, {"verdict": "well", "places": placed(), **said})
+def by_rank(lacks: int | None = None) -> dict[str, object]:
+    """What an answer tells by rank: how many dimensions are lacking, and nothing that is too many."""
+    return {"lacks": lacks, "excess": None}
+
+
+def causes(made_: Made, status: int = 0, lacks: int | None = None, **said: object) -> set[Cause]:
+    """In what ways an answer is wrong that tells so many dimensions to be lacking."""
+    answer = Answer(status, {"verdict": "well", "places": placed(), "by_rank": by_rank(lacks), **said})
     return {found.cause for found in wrongs(made_, answer)}
 
 
@@ -132,7 +137,8 @@ def test_a_seed_makes_one_drawing() -> None:
 def test_a_drawing_is_made_smaller(monkeypatch: pytest.MonkeyPatch) -> None:
     """An answer that calls everything over where there is a hole: what is left is the hole."""
     def lie(text: str) -> Answer:
-        return Answer(1, {"verdict": "over", "spare": []} if "circle" in text else {"verdict": "open"})
+        said: dict[str, object] = {"verdict": "over", "spare": []} if "circle" in text else {"verdict": "open"}
+        return Answer(1, {**said, "by_rank": by_rank()})
 
     monkeypatch.setattr("hunt.shrinking.asked", lie)
     assert shrunk(plate_of(), Cause.OVER_INDEPENDENT).text == "circle Hole 47 28 5\n"
