@@ -211,7 +211,7 @@ def test_a_program_that_wants_much_memory(tmp_path) -> None:
 
 def test_a_lower_limit_of_memory_is_kept(tmp_path) -> None:
     """A shell that allows less than the package asks for: `ulimit -v`, which no call may raise."""
-    telling = script(tmp_path, "ulimit -v")
+    telling = script(tmp_path, "cat; ulimit -v")  # the limit stands before the text comes to its end
     limited = ("ulimit -v 1000000; exec /usr/bin/python3 -c 'from pertxogai.process import *;"
                "print(run_process([\"%s\"], b\"\", Limits(20, %s)).written.decode(), end=\"\")'")
     here = {**os.environ, "PYTHONPATH": str(PROGRAM.parents[3] / "python")}
