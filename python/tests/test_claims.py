@@ -16,20 +16,7 @@ from pertxogai.program import Program
 
 Checkers = dict[str, Callable[[bytes], checkers.Answer]]
 
-TRIANGLE = """sketch 1
-point A 0 0
-point B 4 0
-point C 4 3
-distance A B 4
-distance A C 5
-distance B C 3
-end
-step s1 joins c3 c2 c1 at C A B keeps c1 turn +
-point A 0 0
-point B 4000000 0
-point C 4000000 3000000
-tolerance 0 0
-"""
+TRIANGLE = hand_claims.TRIANGLE.format(step=hand_claims.STEP)
 
 VERIFIED = "verified steps 1 length 0 nm angle 0 ppb"
 
