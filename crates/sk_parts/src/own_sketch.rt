@@ -34,7 +34,7 @@ fn elements_in(
 {
     let mut own = List::new(alloc);
     for element in elements {
-        if has(numbers, element.number) {
+        if element.number.is_among(numbers) {
             own.push(*element)?;
         }
     }
@@ -51,7 +51,7 @@ fn constraints_among(
 {
     let mut own = List::new(alloc);
     for constraint in constraints {
-        if is_among(numbers, constraint) {
+        if lies_among(numbers, constraint) {
             own.push(copy_constraint(alloc, constraint)?)?;
         }
     }
@@ -59,7 +59,7 @@ fn constraints_among(
 }
 
 /// Whether the constraint names these elements alone.
-fn is_among(numbers: &[Elem], constraint: &Constraint) -> bool
+fn lies_among(numbers: &[Elem], constraint: &Constraint) -> bool
     ensures { result ≡ lies_among numbers.now constraint.now }
 {
     match &constraint.rule {
@@ -67,8 +67,8 @@ fn is_among(numbers: &[Elem], constraint: &Constraint) -> bool
         | Rule::On { u, v }
         | Rule::Tangent { u, v }
         | Rule::Outside { u, v }
-        | Rule::Inside { u, v } => has(numbers, *u) && has(numbers, *v),
-        Rule::Angle { l, m, .. } => has(numbers, *l) && has(numbers, *m),
+        | Rule::Inside { u, v } => u.is_among(numbers) && v.is_among(numbers),
+        Rule::Angle { l, m, .. } => l.is_among(numbers) && m.is_among(numbers),
         Rule::Block { pins } => has_pins(numbers, pins.as_slice()),
     }
 }
@@ -77,12 +77,5 @@ fn is_among(numbers: &[Elem], constraint: &Constraint) -> bool
 fn has_pins(numbers: &[Elem], pins: &[Pin]) -> bool
     ensures { result ≡ list_all (λ (pin : ThePin). is_elem numbers.now pin.elem) pins.now }
 {
-    pins.iter().all(|pin| has(numbers, pin.elem))
-}
-
-/// Whether the element is one of these.
-fn has(numbers: &[Elem], elem: Elem) -> bool
-    ensures { result ≡ is_elem numbers.now elem }
-{
-    numbers.iter().any(|number| number.0 == elem.0)
+    pins.iter().all(|pin| pin.elem.is_among(numbers))
 }

@@ -5,7 +5,7 @@ use Rattle.sk_base.specs.declared.Pin.{Pin}
 use Rattle.sk_base.specs.declared.Rule.{Rule}
 use Rattle.sk_base.specs.Numbering.{is_elem}
 use Rattle.sk_graph.specs.Naming.{named_by}
-use Rattle.sk_parts.proofs.own_sketch.is_among.Goals as goal
+use Rattle.sk_parts.proofs.own_sketch.lies_among.Goals as goal
 
 pub returns-in-Block : goal.returns-in-Block
 returns-in-Block c =
