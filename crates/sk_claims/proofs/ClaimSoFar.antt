@@ -12,7 +12,7 @@ use Rattle.sk_lines.specs.Lines.{lines_in}
 use Rattle.sk_lines.proofs.LineFaults.{IsClean, IsFault, clean_or_fault, no_fault, one_fault}
 use Rattle.sk_lines.proofs.FirstCodes.{code_behind}
 use Rattle.sk_lines.proofs.Leading.{led_along, refused_along}
-use Rattle.sk_lex.specs.Words.{words_in}
+use Rattle.sk_lines.specs.Words.{words_in}
 use Rattle.sk_tree.specs.declared.PlanStep.{PlanStep}
 use Rattle.sk_claims.specs.declared.claim.Claim.{Claim}
 use Rattle.sk_claims.specs.declared.claim.Radius.{Radius}

@@ -14,7 +14,7 @@ use Rattle.sk_base.specs.declared.Spot.{Spot}
 use Rattle.sk_base.specs.Labels.{is_name}
 use Rattle.sk_base.specs.Millimetres.{digits_of, at_most, has_sign, without_sign, with_sign}
 use Rattle.sk_base.specs.Places.{place_of}
-use Rattle.sk_lex.specs.Words.{words_in}
+use Rattle.sk_lines.specs.Words.{words_in}
 use Rattle.sk_lines.specs.declared.Code.{Code}
 use Rattle.sk_lines.specs.declared.Code.TheVariants.{E2, E3, E4, E5, E6, E7, E8, E17}
 use Rattle.sk_lines.specs.ClusterWords.{named, is_bad_name}

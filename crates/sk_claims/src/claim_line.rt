@@ -1,6 +1,6 @@
 // One line of a claim.
 ghost use Rattle.std.specs.Prelude.{◌≡◌, ◌<◌, [], ◌∷◌, length, map, drop, Some, None, IfOk, IfErr, MatchResult};
-ghost use Rattle.sk_lex.specs.Words.{bytes_of, StandInOrder};
+ghost use Rattle.sk_lines.specs.Words.{bytes_of, StandInOrder};
 ghost use Rattle.sk_claims.specs.declared.first_word.First.TheVariants as begins;
 ghost use Rattle.sk_claims.specs.declared.first_word.Figure.TheVariants as figure;
 ghost use Rattle.sk_claims.specs.ClaimLines.{tolerance, tolerance_rows, word_rows, rows_behind, code_of, tolerances_said, with_words};
@@ -14,8 +14,7 @@ use crate::first_word::{Figure, First, first_of};
 use crate::number::count_of;
 use crate::step_line::step_of;
 use sk_base::{List, Placed, Sketch};
-use sk_lex::Word;
-use sk_lines::{Code, EntryError, LineReader, split_words, word};
+use sk_lines::{Code, EntryError, LineReader, Word, split_words, word};
 use sk_tree::PlanStep;
 use std::alloc::Global;
 

@@ -2,7 +2,7 @@
 ghost use Rattle.std.specs.Prelude.{◌≡◌, ◌<◌, ◌≤◌, ◌^◌, [], ◌∷◌, length, map, drop, is_some, false, true, None, Some, MatchResult};
 ghost use Rattle.sk_base.specs.declared.At.TheVariants as at;
 ghost use Rattle.sk_base.specs.Places.{place_of};
-ghost use Rattle.sk_lex.specs.Words.{bytes_of, StandInOrder};
+ghost use Rattle.sk_lines.specs.Words.{bytes_of, StandInOrder};
 ghost use Rattle.sk_claims.specs.declared.first_word.Figure.TheVariants as figure;
 ghost use Rattle.sk_claims.specs.ClaimLines.{name_rows, fits_shape, whole_of, whole, length_limit, normal_limit, element_rows, spot_said, radius_said};
 ghost use Rattle.sk_entry.specs.Named.{element_named, number_named};
@@ -14,8 +14,7 @@ use crate::first_word::{Figure, fits_shape};
 use crate::number::whole_of;
 use sk_base::{At, Elem, Element, Placed, Sketch, Spot};
 use sk_entry::{element_named, label};
-use sk_lex::Word;
-use sk_lines::{Code, word};
+use sk_lines::{Code, Word, word};
 
 /// The greatest length, in nanometres.
 const LENGTH_LIMIT: u64 = 1 << 60;

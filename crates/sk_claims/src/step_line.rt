@@ -1,7 +1,7 @@
 // A step, by the words of its line.
 ghost use Rattle.std.specs.Prelude.{◌≡◌, ◌<◌, ◌≤◌, [], ◌∷◌, length, map, drop, None, Some, MatchResult};
 ghost use Rattle.std.specs.List.{list_any};
-ghost use Rattle.sk_lex.specs.Words.{bytes_of, StandInOrder};
+ghost use Rattle.sk_lines.specs.Words.{bytes_of, StandInOrder};
 ghost use Rattle.sk_claims.specs.ClaimLines.{are_fixed, choice_of, corner_rows, step_rows, step_said};
 ghost use Rattle.sk_entry.specs.Named.{number_named};
 ghost use Rattle.sk_lines.specs.ClusterWords.{named, is_bad_name};
@@ -11,8 +11,7 @@ ghost use Rattle.sk_lines.specs.declared.Code.TheVariants.{E4};
 use crate::choosing::{closed_choice, open_choice};
 use sk_base::{Elem, Name, Sketch};
 use sk_entry::{element_named, label};
-use sk_lex::Word;
-use sk_lines::{Code, cluster_named, is_word, word};
+use sk_lines::{Code, Word, cluster_named, is_word, word};
 use sk_tree::{Choice, PlanStep};
 
 /// The names in a step: its own, those of the clusters that it joins, and that of the one that it keeps.

@@ -1,6 +1,6 @@
 // Lines that drop, set or erase.
 ghost use Rattle.std.specs.Prelude.{◌≡◌, ◌==◌, ◌<◌, [], ◌∷◌, length, map, drop, Some, None, Ok, Err, is_none, MatchResult, IfOk};
-ghost use Rattle.sk_lex.specs.Words.{bytes_of, StandInOrder};
+ghost use Rattle.sk_lines.specs.Words.{bytes_of, StandInOrder};
 ghost use Rattle.sk_lines.specs.FirstCode.{first_code};
 ghost use Rattle.std.specs.Option.{option_map};
 ghost use Rattle.std.specs.List.{list_any};
@@ -19,8 +19,7 @@ use crate::command::Change;
 use crate::edit::Edit;
 use sk_base::{ConId, Constraint, Elem, Pin, Rule, Sketch};
 use sk_entry::{constraint_of, element_named, label, length, not_zero};
-use sk_lex::Word;
-use sk_lines::{Code, angle_ratio, plain_number, word};
+use sk_lines::{Code, Word, angle_ratio, plain_number, word};
 
 /// The number that a word is.
 fn number_of(word: &[u8]) -> Result<ConId, Code>

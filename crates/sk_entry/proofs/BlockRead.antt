@@ -6,8 +6,8 @@ use Rattle.sk_base.specs.declared.Elem.{Elem}
 use Rattle.sk_base.specs.declared.ConId.{ConId}
 use Rattle.sk_base.specs.declared.Constraint.{Constraint}
 use Rattle.sk_base.specs.declared.Sketch.{Sketch}
-use Rattle.sk_lex.specs.declared.Word.{Word}
-use Rattle.sk_lex.specs.Words.{StandInOrder}
+use Rattle.sk_lines.specs.declared.Word.{Word}
+use Rattle.sk_lines.specs.Words.{StandInOrder}
 use Rattle.sk_lines.specs.declared.Code.{Code}
 use Rattle.sk_entry.specs.declared.entry.Entry.TheVariants as entry
 use Rattle.sk_lines.specs.declared.EntryError.{EntryError}

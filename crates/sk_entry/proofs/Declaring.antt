@@ -7,8 +7,8 @@ use Rattle.sk_base.specs.declared.Element.{Element}
 use Rattle.sk_base.specs.declared.Shape.{Shape}
 use Rattle.sk_base.specs.declared.Rule.{Rule}
 use Rattle.sk_base.specs.declared.Sketch.{Sketch}
-use Rattle.sk_lex.specs.declared.Words.{Words}
-use Rattle.sk_lex.specs.Words.{bytes_of, is_too_long, has_wrong_byte}
+use Rattle.sk_lines.specs.declared.Words.{Words}
+use Rattle.sk_lines.specs.Words.{bytes_of, is_too_long, has_wrong_byte}
 use Rattle.sk_lines.specs.declared.Code.TheVariants.{E15, E19}
 use Rattle.sk_lines.specs.declared.Version.{Version}
 use Rattle.sk_lines.specs.declared.Keyword.{Keyword}

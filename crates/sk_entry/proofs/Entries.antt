@@ -4,8 +4,8 @@ use Rattle.std.proofs.lemmas.List.{length-map}
 use Rattle.sk_base.specs.declared.Element.{Element}
 use Rattle.sk_base.specs.declared.Constraint.{Constraint}
 use Rattle.sk_base.specs.declared.Sketch.{Sketch}
-use Rattle.sk_lex.specs.declared.words.Word.{Word}
-use Rattle.sk_lex.specs.Words.{bytes_of}
+use Rattle.sk_lines.specs.declared.words.Word.{Word}
+use Rattle.sk_lines.specs.Words.{bytes_of}
 use Rattle.sk_lines.specs.declared.Code.{Code}
 use Rattle.sk_lines.specs.declared.Code.TheVariants.{E3, E12}
 use Rattle.std.proofs.lemmas.Bool.Decides.{nat_tests}

@@ -1,7 +1,7 @@
 -- The pins of a block, three words each.
 use Rattle.std.proofs.Common.{◌≡◌, ℕ, ◌<◌, ◌≤◌, Bool, true, false, cond, List, [], ◌∷◌, length, map, Option, Some, Result, Ok, Err, IsErr, IsErrAnd, MatchResult, refl, sym, subst, arith}
-use Rattle.sk_lex.specs.declared.Word.{Word}
-use Rattle.sk_lex.specs.Words.{StandInOrder}
+use Rattle.sk_lines.specs.declared.Word.{Word}
+use Rattle.sk_lines.specs.Words.{StandInOrder}
 use Rattle.sk_lines.specs.declared.Code.{Code}
 use Rattle.sk_lines.specs.declared.EntryError.{EntryError}
 use Rattle.sk_lines.specs.declared.EntryError.TheVariants.{Refused, NoMemory}

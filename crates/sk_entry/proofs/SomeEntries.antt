@@ -10,10 +10,10 @@ use Rattle.sk_base.specs.declared.Elem.{Elem}
 use Rattle.sk_base.specs.declared.ConId.{ConId}
 use Rattle.sk_base.specs.declared.Sketch.{Sketch}
 use Rattle.sk_base.proofs.Tables.{passed}
-use Rattle.sk_lex.specs.declared.Word.{Word}
-use Rattle.sk_lex.specs.declared.Words.{Words}
-use Rattle.sk_lex.specs.Words.{is_too_long, has_wrong_byte, is_blank, words_in, bytes_of, StandInOrder}
-use Rattle.sk_lex.proofs.Splitting.{words_of_front, words_in-skip, words_in-word_at, words_in-pushed, StandInOrder-push, StandInOrder-wider}
+use Rattle.sk_lines.specs.declared.Word.{Word}
+use Rattle.sk_lines.specs.declared.Words.{Words}
+use Rattle.sk_lines.specs.Words.{is_too_long, has_wrong_byte, is_blank, words_in, bytes_of, StandInOrder}
+use Rattle.sk_lines.proofs.Splitting.{words_of_front, words_in-skip, words_in-word_at, words_in-pushed, StandInOrder-push, StandInOrder-wider}
 use Rattle.sk_lines.specs.declared.Code.TheVariants.{E15, E19}
 use Rattle.sk_entry.specs.declared.entry.Entry.{Entry}
 use Rattle.sk_entry.specs.declared.entry.Entry.TheVariants as entry

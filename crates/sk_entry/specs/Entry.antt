@@ -3,7 +3,7 @@ use Rattle.std.specs.Prelude.{◌≡◌, ⊤, ℕ, List, [], ◌∷◌, ◌++◌
 use Rattle.sk_base.specs.declared.Elem.{Elem}
 use Rattle.sk_base.specs.declared.ConId.{ConId}
 use Rattle.sk_base.specs.declared.Sketch.{Sketch}
-use Rattle.sk_lex.specs.Words.{bytes_of, StandInOrder}
+use Rattle.sk_lines.specs.Words.{bytes_of, StandInOrder}
 use Rattle.sk_lines.specs.declared.Keyword.{Keyword}
 use Rattle.sk_lines.specs.declared.Code.{Code}
 use Rattle.sk_entry.specs.declared.entry.Entry.{Entry}

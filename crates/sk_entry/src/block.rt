@@ -2,7 +2,7 @@
 ghost use Rattle.std.specs.Prelude.{◌≡◌, ◌≤◌, ◌<◌, ◌∷◌, length, map, None, is_none, true, false, MatchOption, MatchResult};
 ghost use Rattle.std.specs.List.{list_any};
 ghost use Rattle.sk_base.specs.Labels.{is_name};
-ghost use Rattle.sk_lex.specs.Words.{bytes_of, StandInOrder};
+ghost use Rattle.sk_lines.specs.Words.{bytes_of, StandInOrder};
 ghost use Rattle.sk_lines.specs.declared.Code.TheVariants.{E4, E8};
 ghost use Rattle.sk_lines.specs.Refusals.{IsRefusal};
 ghost use Rattle.sk_lines.specs.FirstCode.{first_code, coded};
@@ -12,8 +12,7 @@ ghost use Rattle.sk_entry.specs.PinLines.{pins_in, some_two};
 use crate::field::{label, room_for_constraint};
 use crate::scope::Scope;
 use sk_base::{ConId, Constraint, Label, List, Pin, Rule, Um, parse_mm};
-use sk_lex::Word;
-use sk_lines::{Code, EntryError, bytes_at};
+use sk_lines::{Code, EntryError, Word, bytes_at};
 use std::alloc::Global;
 
 /// What the three words of a pin say.

@@ -1,5 +1,5 @@
 use sk_base::{Constraint, Element};
-use sk_lex::Words;
+use sk_lines::Words;
 
 /// What one line says.
 #[derive(Drop)]

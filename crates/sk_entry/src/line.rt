@@ -1,6 +1,6 @@
 ghost use Rattle.std.specs.Prelude.{◌≡◌, ◌<◌, length, map, drop, All, Some, None, IfOk, IfErr, MatchResult};
 ghost use Rattle.sk_base.specs.SoundSketch.{IsSoundSketch};
-ghost use Rattle.sk_lex.specs.Words.{bytes_of, StandInOrder};
+ghost use Rattle.sk_lines.specs.Words.{bytes_of, StandInOrder};
 ghost use Rattle.sk_lines.specs.Keywords.{places, pin_count};
 ghost use Rattle.sk_entry.specs.Conditions.{lacks_radius};
 ghost use Rattle.sk_entry.specs.EntryCodes.{entry_rows};
@@ -16,8 +16,7 @@ use crate::element::{read_circle, read_line, read_point};
 use crate::entry::Entry;
 use crate::scope::Scope;
 use sk_base::{ConId, Constraint, Elem, Element, Sketch};
-use sk_lex::Word;
-use sk_lines::{Code, EntryError, Keyword, Version, keyword_of, word, words_under};
+use sk_lines::{Code, EntryError, Keyword, Version, Word, keyword_of, word, words_under};
 use std::alloc::Global;
 
 /// What a line of the version says within the sketch: the declared element gets the number `elem`, the declared

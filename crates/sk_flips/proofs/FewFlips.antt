@@ -4,7 +4,7 @@ use Rattle.std.specs.Prelude.{codes, bytes_eq, nat_le, nat_lt, if◌then◌else�
 use Rattle.std.specs.List.{list_any}
 use Rattle.std.proofs.lemmas.Bool.Decides.{nat_tests}
 use Rattle.sk_base.specs.declared.Name.{Name}
-use Rattle.sk_lex.specs.Words.{words_in}
+use Rattle.sk_lines.specs.Words.{words_in}
 use Rattle.sk_lines.specs.declared.Code.TheVariants.{E3, E4, E10, E21}
 use Rattle.sk_lines.specs.ClusterWords.{has_twins}
 use Rattle.sk_lines.specs.ByteCodes.{byte_rows}

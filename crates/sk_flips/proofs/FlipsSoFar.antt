@@ -1,7 +1,7 @@
 -- What was read of the text behind a sketch, line by line, as flips.
 use Rattle.std.proofs.Common.{◌≡◌, ◌⊎◌, inl, inr, ℕ, ◌+◌, List, length, Option, None, Some, Result, Ok, Err, IsErr, IsErrAnd, IfErr, refl, sym, ap, subst, ◌∙◌, arith}
 use Rattle.sk_base.specs.declared.Name.{Name}
-use Rattle.sk_lex.specs.Words.{words_in}
+use Rattle.sk_lines.specs.Words.{words_in}
 use Rattle.sk_lines.specs.declared.Code.{Code}
 use Rattle.sk_lines.specs.declared.Code.TheVariants.{E16}
 use Rattle.sk_lines.specs.declared.ReadError.{ReadError}

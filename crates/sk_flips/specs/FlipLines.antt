@@ -3,7 +3,7 @@ use Rattle.std.specs.Prelude.{ℕ, Bool, true, nat_lt, nat_le, List, [], ◌∷�
 use Rattle.std.specs.List.{list_any}
 use Rattle.sk_base.specs.declared.Name.{Name}
 use Rattle.sk_base.specs.declared.Name.TheVariants.{Con, Step}
-use Rattle.sk_lex.specs.Words.{words_in}
+use Rattle.sk_lines.specs.Words.{words_in}
 use Rattle.sk_lines.specs.declared.Code.{Code}
 use Rattle.sk_lines.specs.declared.Code.TheVariants.{E3, E4, E10, E17, E21}
 use Rattle.sk_lines.specs.ClusterWords.{cluster_named, has_twins}

@@ -1,7 +1,7 @@
 -- What the text behind a sketch is read as, as flips, and where it is refused.
 use Rattle.std.specs.Prelude.{◌≡◌, ⊤, ℕ, ◌+◌, Bool, true, List, [], length, None}
 use Rattle.sk_base.specs.declared.Name.{Name}
-use Rattle.sk_lex.specs.Words.{words_in}
+use Rattle.sk_lines.specs.Words.{words_in}
 use Rattle.sk_lines.specs.declared.Code.{Code}
 use Rattle.sk_lines.specs.declared.Code.TheVariants.{E4, E16}
 use Rattle.sk_lines.specs.declared.EntryError.{EntryError}

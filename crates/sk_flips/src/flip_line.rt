@@ -1,7 +1,7 @@
 // One line among flips.
 ghost use Rattle.std.specs.Prelude.{◌≡◌, ◌<◌, [], ◌∷◌, ◌++◌, length, map, drop, Some, None, IfOk, IfErr, MatchResult, false};
 ghost use Rattle.std.specs.List.{list_any};
-ghost use Rattle.sk_lex.specs.Words.{bytes_of, StandInOrder};
+ghost use Rattle.sk_lines.specs.Words.{bytes_of, StandInOrder};
 ghost use Rattle.sk_lines.specs.declared.Code.TheVariants.{E4};
 ghost use Rattle.sk_lines.specs.ClusterWords.{has_twins};
 ghost use Rattle.sk_lines.specs.FirstCode.{first_code};
@@ -10,9 +10,8 @@ ghost use Rattle.sk_flips.specs.FlipLines.{step_of, step_named, is_no_step, flip
 ghost use Rattle.sk_flips.specs.FlipReading.{among, AddsWords, Adds, IsNameRefusal};
 
 use sk_base::{List, Name};
-use sk_lex::Word;
 use sk_lines::{
-    Code, EntryError, LineReader, check_end, cluster_named, is_word, split_words, word,
+    Code, EntryError, LineReader, Word, check_end, cluster_named, is_word, split_words, word,
 };
 use std::alloc::Global;
 

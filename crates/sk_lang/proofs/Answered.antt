@@ -16,7 +16,7 @@ use Rattle.sk_lines.specs.EndLine.{is_none_left}
 use Rattle.sk_lines.specs.FirstCode.{first_code}
 use Rattle.sk_entry.specs.Growth.{empty_sketch}
 use Rattle.sk_lang.specs.Progress.{progress_after, progress_after_words, progress_within}
-use Rattle.sk_lex.specs.Words.{is_too_long, has_wrong_byte, words_in}
+use Rattle.sk_lines.specs.Words.{is_too_long, has_wrong_byte, words_in}
 use Rattle.sk_lines.specs.Lines.{lines_in}
 use Rattle.sk_lang.specs.Reading.{is_blank_line, progress_along, HaveNoCode, HasFirstCode, has_ended, Reads, Refuses, TooLong, Empty, AtLine, NoEnd}
 use Rattle.sk_lang.proofs.Computed.{Answer, or_code, at_end, read_from, reading}

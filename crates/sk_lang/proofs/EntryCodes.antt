@@ -2,8 +2,8 @@
 use Rattle.std.proofs.Common.{◌≡◌, ℕ, Bool, true, false, List, [], ◌∷◌, map, Option, Some, None, Result, Ok, Err, IsErr, IsErrAnd, IfErr, MatchResult, refl, sym, ap, ◌∙◌, subst}
 use Rattle.sk_base.specs.declared.Sketch.{Sketch}
 use Rattle.sk_base.proofs.Tables.{passed}
-use Rattle.sk_lex.specs.declared.Words.{Words}
-use Rattle.sk_lex.specs.Words.{is_too_long, has_wrong_byte, bytes_of}
+use Rattle.sk_lines.specs.declared.Words.{Words}
+use Rattle.sk_lines.specs.Words.{is_too_long, has_wrong_byte, bytes_of}
 use Rattle.sk_lines.specs.declared.Code.{Code}
 use Rattle.sk_lines.specs.declared.Code.TheVariants.{E15, E19}
 use Rattle.sk_lines.specs.declared.EntryError.{EntryError}

@@ -9,7 +9,7 @@ use Rattle.sk_base.specs.declared.Shape.{Shape}
 use Rattle.sk_base.specs.declared.Rule.{Rule}
 use Rattle.sk_base.specs.declared.Sketch.{Sketch}
 use Rattle.sk_base.specs.SoundSketch.{IsSoundSketch}
-use Rattle.sk_lex.specs.Words.{is_too_long, has_wrong_byte}
+use Rattle.sk_lines.specs.Words.{is_too_long, has_wrong_byte}
 use Rattle.sk_lines.specs.declared.Code.{Code}
 use Rattle.sk_lines.specs.declared.Code.TheVariants.{E2, E3, E15, E18, E19}
 use Rattle.sk_lines.specs.declared.Version.{Version}

@@ -2,7 +2,7 @@
 use Rattle.std.specs.Prelude.{◌≡◌, ℕ, ◌+◌, ◌<◌, ◌≤◌, ⊤, Bool, true, false, ◌&&◌, not, List, length}
 use Rattle.std.specs.List.{list_all}
 use Rattle.sk_base.specs.declared.Sketch.{Sketch}
-use Rattle.sk_lex.specs.Words.{is_too_long, has_wrong_byte, words_in}
+use Rattle.sk_lines.specs.Words.{is_too_long, has_wrong_byte, words_in}
 use Rattle.sk_lines.specs.declared.Code.{Code}
 use Rattle.sk_lines.specs.declared.ReadError.{ReadError}
 use Rattle.sk_lines.specs.declared.ReadError.TheVariants.{Refused, NoMemory}

@@ -1,5 +1,5 @@
 ghost use Rattle.std.specs.Prelude.{◌≡◌, ◌+◌, ◌≤◌, ◌<◌, length, map, [], None, IfOk, IfErr};
-ghost use Rattle.sk_lex.specs.Words.{bytes_of, StandInOrder};
+ghost use Rattle.sk_lines.specs.Words.{bytes_of, StandInOrder};
 ghost use Rattle.sk_lines.specs.Comments.{words_under};
 ghost use Rattle.sk_lang.specs.Header.{version_in, version_of};
 ghost use Rattle.sk_lang.specs.declared.progress.Progress.TheVariants.{Before, After};
@@ -11,8 +11,7 @@ ghost use Rattle.sk_lines.specs.Refusals.{IsRefusal};
 use crate::draft::Draft;
 use crate::progress::Progress;
 use sk_base::Sketch;
-use sk_lex::Word;
-use sk_lines::{Code, EntryError, Version, is_word, split_words, word, words_under};
+use sk_lines::{Code, EntryError, Version, Word, is_word, split_words, word, words_under};
 use std::alloc::Global;
 
 /// How far the text has been read behind a line before which no line has a word.

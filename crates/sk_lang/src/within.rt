@@ -1,5 +1,5 @@
 ghost use Rattle.std.specs.Prelude.{◌≡◌, ◌+◌, ◌≤◌, ◌<◌, length, map, None, IfOk, IfErr, MatchResult};
-ghost use Rattle.sk_lex.specs.Words.{StandInOrder, bytes_of};
+ghost use Rattle.sk_lines.specs.Words.{StandInOrder, bytes_of};
 ghost use Rattle.sk_lang.specs.declared.progress.Progress.TheVariants.{Within, After};
 ghost use Rattle.sk_lang.specs.Codes.{code_of, other_rows};
 ghost use Rattle.sk_lines.specs.FirstCode.{first_code};
@@ -10,8 +10,7 @@ use crate::draft::Draft;
 use crate::progress::Progress;
 use sk_base::{ConId, Elem, Sketch};
 use sk_entry::{Entry, Scope, entry_in};
-use sk_lex::Word;
-use sk_lines::{Code, EntryError, Version, is_word, word};
+use sk_lines::{Code, EntryError, Version, Word, is_word, word};
 use std::alloc::Global;
 
 /// How far the text has been read behind a line within the sketch.

@@ -8,5 +8,6 @@ pub mod LineFaults
 pub mod LineWords
 pub mod ReadBack
 pub mod SolidLines
+pub mod Splitting
 pub mod WholeLines
 pub mod WordPlaces

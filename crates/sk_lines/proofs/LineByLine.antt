@@ -5,7 +5,7 @@ use Rattle.std.specs.Str.Lines.{strip_carriage_return}
 use Rattle.std.proofs.lemmas.Bool.Decides.{nat_tests}
 use Rattle.std.proofs.lemmas.List.Sums.{fails_before_first}
 use Rattle.std.proofs.lemmas.List.Splits.{slice_split_first, slice_split_none, length-slice_split}
-use Rattle.sk_lex.specs.Words.{is_empty}
+use Rattle.sk_lines.specs.Words.{is_empty}
 use Rattle.sk_lines.specs.Lines.{is_line_feed, without_empty_end, lines_in}
 
 pub without_end-cons : (first : List ℕ) (parts : List (List ℕ)) → 0 < length parts → without_empty_end (first ∷ parts) ≡ first ∷ without_empty_end parts

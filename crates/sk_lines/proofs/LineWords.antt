@@ -6,7 +6,7 @@ use Rattle.std.proofs.lemmas.List.{length-take-le}
 use Rattle.std.proofs.lemmas.List.Sums.{prefix_len-le-length}
 use Rattle.std.proofs.lemmas.List.Splits.{length-slice_split}
 use Rattle.sk_base.specs.Spelling.{spaced}
-use Rattle.sk_lex.specs.Words.{is_blank, is_empty, is_too_long}
+use Rattle.sk_lines.specs.Words.{is_blank, is_empty, is_too_long}
 use Rattle.sk_lines.specs.declared.keyword.Keyword.{Keyword}
 use Rattle.sk_lines.specs.declared.version.Version.{Version}
 use Rattle.sk_lines.specs.declared.version.Version.TheVariants.{One, Two}

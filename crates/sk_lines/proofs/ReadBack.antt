@@ -3,7 +3,7 @@ use Rattle.std.proofs.Common.{◌≡◌, ℕ, ◌<◌, false, List, [], ◌∷�
 use Rattle.std.specs.List.{slice_split, All, AllByRecursion}
 use Rattle.std.specs.Str.Lines.{strip_carriage_return}
 use Rattle.std.proofs.lemmas.List.Splits.{slice_split_at, slice_split_none, length-slice_split}
-use Rattle.sk_lex.specs.Words.{is_blank, is_empty, words_in}
+use Rattle.sk_lines.specs.Words.{is_blank, is_empty, words_in}
 use Rattle.sk_lines.proofs.LineByLine.{without_end-cons}
 use Rattle.sk_lines.specs.Lines.{is_line_feed, without_empty_end, lines_in, ended_lines}
 use Rattle.sk_base.specs.Spelling.{spaced}

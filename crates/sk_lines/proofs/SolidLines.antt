@@ -10,7 +10,7 @@ use Rattle.std.proofs.lemmas.List.Elements.{All-from_recursion}
 use Rattle.sk_base.specs.Labels.{is_name, is_name_byte}
 use Rattle.sk_base.specs.Spelling.{spaced}
 use Rattle.std.proofs.lemmas.Bool.{and_parts}
-use Rattle.sk_lex.specs.Words.{is_too_long, is_text_byte, has_wrong_byte, is_blank, is_empty, words_in}
+use Rattle.sk_lines.specs.Words.{is_too_long, is_text_byte, has_wrong_byte, is_blank, is_empty, words_in}
 use Rattle.sk_lines.specs.declared.version.Version.{Version}
 use Rattle.sk_lines.specs.declared.version.Version.TheVariants.{One, Two}
 use Rattle.sk_lines.specs.Comments.{is_hash, before_comment, words_under}

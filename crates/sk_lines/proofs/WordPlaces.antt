@@ -1,7 +1,7 @@
 -- The places of words in their line.
 use Rattle.std.proofs.Common.{ℕ, zero, suc, ◌<◌, ◌≤◌, List, [], ◌∷◌, length, get_or, arith}
-use Rattle.sk_lex.specs.declared.words.Word.{Word}
-use Rattle.sk_lex.specs.Words.{StandInOrder}
+use Rattle.sk_lines.specs.declared.words.Word.{Word}
+use Rattle.sk_lines.specs.Words.{StandInOrder}
 
 -- where the word at a place starts and ends
 pub word_within : (from : ℕ) (words : List Word) (to : ℕ) → StandInOrder from words to → (i : ℕ) (d : Word) → i < length words → ((get_or words i d).start < (get_or words i d).end) × ((get_or words i d).end ≤ to)

@@ -1,6 +1,6 @@
 -- The codes of the bytes of a line.
 use Rattle.std.specs.Prelude.{ℕ, Bool, List, [], ◌∷◌}
-use Rattle.sk_lex.specs.Words.{is_too_long, has_wrong_byte}
+use Rattle.sk_lines.specs.Words.{is_too_long, has_wrong_byte}
 use Rattle.sk_lines.specs.declared.code.Code.{Code}
 use Rattle.sk_lines.specs.declared.code.Code.TheVariants.{E15, E19}
 

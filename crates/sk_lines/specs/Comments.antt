@@ -1,7 +1,7 @@
 -- Comments, and the words that stand before them.
 use Rattle.std.specs.Prelude.{ℕ, Bool, ◌==◌, List}
 use Rattle.std.specs.List.{before_first}
-use Rattle.sk_lex.specs.Words.{words_in}
+use Rattle.sk_lines.specs.Words.{words_in}
 use Rattle.sk_lines.specs.declared.version.Version.{Version}
 use Rattle.sk_lines.specs.declared.version.Version.TheVariants.{One, Two}
 

@@ -9,3 +9,4 @@ pub mod LineCodes
 pub mod Lines
 pub mod Quantities
 pub mod Refusals
+pub mod Words

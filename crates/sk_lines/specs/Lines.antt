@@ -2,7 +2,7 @@
 use Rattle.std.specs.Prelude.{◌≡◌, ◌⊎◌, ℕ, Bool, ◌==◌, List, [], ◌∷◌, ◌++◌, map, if◌then◌else◌}
 use Rattle.std.specs.List.{slice_split, flat_map}
 use Rattle.std.specs.Str.Lines.{strip_carriage_return}
-use Rattle.sk_lex.specs.Words.{is_empty}
+use Rattle.sk_lines.specs.Words.{is_empty}
 
 abbrev pub is_line_feed : ℕ → Bool
 is_line_feed b = b == 10

@@ -9,7 +9,9 @@ mod law;
 mod lines;
 mod ratio;
 mod reading;
+mod split;
 mod version;
+mod words;
 
 pub use cluster_word::{cluster_named, plain_number};
 pub use code::{Code, ReadError, Refusal};
@@ -19,4 +21,6 @@ pub use law::quantities_are_sound;
 pub use lines::{bytes_at, check_end, is_word, split_line, split_words, word, words_under};
 pub use ratio::angle_ratio;
 pub use reading::{LineReader, read_lines};
+pub use split::{words_before, words_of};
 pub use version::Version;
+pub use words::{LexFault, Word, Words};

@@ -2,7 +2,7 @@
 ghost use Rattle.std.specs.Prelude.{◌≡◌, ◌<◌, ◌≤◌, [], ◌∷◌, length, map, position, bytes_eq, None, Some, IfSome, IfOk, IfErr, MatchResult};
 ghost use Rattle.std.specs.List.{slice_index_or, slice_range};
 ghost use Rattle.std.specs.Str.Lines.{strip_carriage_return};
-ghost use Rattle.sk_lex.specs.Words.{bytes_of, words_in, StandInOrder};
+ghost use Rattle.sk_lines.specs.Words.{bytes_of, words_in, StandInOrder};
 ghost use Rattle.sk_lines.specs.Comments.{words_under};
 ghost use Rattle.sk_lines.specs.Lines.{is_line_feed, lines_in, IsFirstLine};
 ghost use Rattle.sk_lines.specs.ByteCodes.{byte_rows};
@@ -12,8 +12,9 @@ ghost use Rattle.sk_lines.specs.Refusals.{IsRefusal};
 
 use crate::code::Code;
 use crate::error::EntryError;
+use crate::split::words_before;
 use crate::version::{Version, len_before_comment};
-use sk_lex::{LexFault, Word, Words, words_before};
+use crate::words::{LexFault, Word, Words};
 use std::alloc::Global;
 
 /// The first line without its line end, and what follows it.

@@ -7,7 +7,7 @@ use Rattle.std.proofs.lemmas.List.{length-map}
 use Rattle.sk_base.specs.declared.Name.{Name}
 use Rattle.sk_family.specs.declared.Merge.{Merge}
 use Rattle.sk_family.specs.Merges.{IsMergeOf}
-use Rattle.sk_lex.specs.Words.{is_too_long, has_wrong_byte, words_in}
+use Rattle.sk_lines.specs.Words.{is_too_long, has_wrong_byte, words_in}
 use Rattle.sk_lines.specs.declared.Code.{Code}
 use Rattle.sk_lines.specs.declared.Code.TheVariants.{E3, E4, E8, E10, E15, E16, E19}
 use Rattle.sk_lines.specs.FirstCode.{first_code}

@@ -1,6 +1,6 @@
 -- What was read of the text behind a sketch, line by line.
 use Rattle.std.proofs.Common.{◌≡◌, ℕ, ◌+◌, List, [], ◌∷◌, ◌++◌, length, Option, sym, ap, subst, ◌∙◌, append_assoc, append-nil}
-use Rattle.sk_lex.specs.Words.{words_in}
+use Rattle.sk_lines.specs.Words.{words_in}
 use Rattle.sk_lines.proofs.FirstCodes.{code_behind}
 use Rattle.sk_lines.specs.ByteCodes.{byte_rows}
 use Rattle.sk_lines.specs.LineCodes.{LeadTo, IsLineRefusal}

@@ -2,7 +2,7 @@
 use Rattle.std.specs.Prelude.{◌≡◌, ◌≤◌, ⊤, ℕ, Bool, true, ◌&&◌, not, ◌==◌, List, [], ◌∷◌, ◌++◌, length, map, Option, Some, is_none, codes, bytes_eq, if◌then◌else◌}
 use Rattle.std.specs.List.{list_any}
 use Rattle.sk_base.specs.Millimetres.{at_most}
-use Rattle.sk_lex.specs.Words.{words_in}
+use Rattle.sk_lines.specs.Words.{words_in}
 pub use Rattle.sk_lines.specs.ClusterWords.{begins_with_zero, plain_number, cluster_named, named, is_bad_name, has_twins}
 pub use Rattle.sk_lines.specs.EndLine.{end_rows}
 use Rattle.sk_lines.specs.ByteCodes.{byte_rows}

@@ -1,6 +1,6 @@
 -- What the text behind a sketch is read as, and where it is refused.
 use Rattle.std.specs.Prelude.{◌≡◌, ⊤, ℕ, ◌+◌, List, [], ◌∷◌, ◌++◌, length, None}
-use Rattle.sk_lex.specs.Words.{words_in}
+use Rattle.sk_lines.specs.Words.{words_in}
 use Rattle.sk_lines.specs.ByteCodes.{byte_rows}
 use Rattle.sk_lines.specs.FirstCode.{first_code}
 use Rattle.sk_lines.specs.LineCodes.{along, HaveNone, HasFirst}

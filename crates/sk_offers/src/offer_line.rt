@@ -1,6 +1,6 @@
 // One line among offers.
 ghost use Rattle.std.specs.Prelude.{◌≡◌, ◌<◌, [], ◌∷◌, length, map, drop, Some, None, IfOk, IfErr, MatchResult};
-ghost use Rattle.sk_lex.specs.Words.{bytes_of, StandInOrder};
+ghost use Rattle.sk_lines.specs.Words.{bytes_of, StandInOrder};
 ghost use Rattle.sk_lines.specs.FirstCode.{first_code};
 ghost use Rattle.sk_lines.specs.Refusals.{IsRefusal};
 ghost use Rattle.sk_lines.specs.declared.Code.TheVariants.{E8};
@@ -9,10 +9,9 @@ ghost use Rattle.sk_offers.specs.OfferReading.{AddsWords, Adds, IsWithOffer};
 ghost use Rattle.sk_offers.specs.declared.offer_line.Place.TheVariants.{Among};
 
 use sk_base::List;
-use sk_lex::Word;
 use sk_lines::{
-    Code, EntryError, LineReader, check_end, cluster_named, is_word, plain_number, split_words,
-    word,
+    Code, EntryError, LineReader, Word, check_end, cluster_named, is_word, plain_number,
+    split_words, word,
 };
 use sk_rules::Merge;
 use std::alloc::Global;

@@ -13,7 +13,7 @@ use Rattle.sk_lines.specs.ByteCodes.{byte_rows}
 use Rattle.sk_entry.specs.Entry.{rows_of, IsEntryOf}
 use Rattle.sk_lines.specs.FirstCode.{first_code}
 use Rattle.sk_lines.specs.Keywords.{keyword_of}
-use Rattle.sk_lex.specs.declared.Words.{Words}
+use Rattle.sk_lines.specs.declared.Words.{Words}
 use Rattle.sk_plan.specs.Judged.{IsTheJudgement}
 use Rattle.sk_plan.specs.PlanBy.{IsPlanBy}
 use Rattle.sk_verdict.specs.declared.Verdict.TheVariants.{Well}

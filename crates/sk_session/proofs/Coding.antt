@@ -4,7 +4,7 @@ use Rattle.sk_lines.specs.declared.Version.TheVariants.{Two}
 use Rattle.sk_lines.specs.Comments.{words_under}
 use Rattle.sk_lines.specs.declared.Code.{Code}
 use Rattle.sk_lines.specs.declared.Code.TheVariants.{S5}
-use Rattle.sk_lex.specs.declared.Words.{Words}
+use Rattle.sk_lines.specs.declared.Words.{Words}
 use Rattle.sk_entry.specs.declared.Entry.TheVariants as entry
 use Rattle.sk_edits.specs.declared.Edit.{Edit}
 use Rattle.sk_entry.specs.Entry.{rows_of, entry_code, IsEntryOf, Begins}

@@ -2,7 +2,7 @@
 ghost use Rattle.std.specs.Prelude.{◌≡◌, ◌⊎◌, ◌<◌, [], ◌∷◌, length, map, drop, not, if◌then◌else◌, true, None, Some, IfOk, OnErr};
 ghost use Rattle.std.specs.List.{slice_index_or};
 ghost use Rattle.sk_base.specs.SoundSketch.{IsSoundSketch};
-ghost use Rattle.sk_lex.specs.Words.{bytes_of, StandInOrder};
+ghost use Rattle.sk_lines.specs.Words.{bytes_of, StandInOrder};
 ghost use Rattle.sk_lines.specs.declared.EntryError.TheVariants as an_error;
 ghost use Rattle.sk_edits.specs.declared.Edit.TheVariants as an_edit;
 ghost use Rattle.sk_entry.specs.Entry.{entry_code, IsEntryOf, StandsOn, IsNumbered};
@@ -28,8 +28,7 @@ use crate::session::Session;
 use sk_base::{ConId, Constraint, Elem, Element, NoMemory};
 use sk_edits::{Change, Command, Edit, command_of, read_change};
 use sk_entry::{Entry, read_entry};
-use sk_lex::Word;
-use sk_lines::{Code, EntryError, Version, word};
+use sk_lines::{Code, EntryError, Version, Word, word};
 
 /// The most edits and undos that a session accepts.
 const MOST_EDITS: u32 = 1_000_000;

@@ -1,4 +1,4 @@
-use sk_lex::words_of;
+use sk_lines::words_of;
 use std::test::Fail;
 
 #[test]

@@ -1,6 +1,6 @@
 use Rattle.std.proofs.Common.{[], ◌≡◌, map, length, refl, arith}
 use Rattle.std.proofs.lemmas.List.{length-map}
-use Rattle.sk_lex.specs.Words.{bytes_of}
+use Rattle.sk_lines.specs.Words.{bytes_of}
 use Rattle.sk_base.proofs.Rests.{rest_two}
 use Rattle.sk_claims.proofs.StepWords.{some_said}
 use Rattle.sk_claims.proofs.claim_line.tolerances_of.Goals as goal

@@ -1,6 +1,6 @@
 use Rattle.std.proofs.Common.{[], ◌≡◌, map, length, refl, arith}
 use Rattle.std.proofs.lemmas.List.{length-map}
-use Rattle.sk_lex.specs.Words.{bytes_of}
+use Rattle.sk_lines.specs.Words.{bytes_of}
 use Rattle.sk_base.proofs.Rests.{rest_four}
 use Rattle.sk_claims.proofs.StepWords.{said}
 use Rattle.sk_claims.proofs.element_line.line_of.Goals as goal

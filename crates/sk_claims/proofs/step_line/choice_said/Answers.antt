@@ -1,6 +1,6 @@
 use Rattle.std.proofs.Common.{◌≡◌, map, length, arith}
 use Rattle.std.proofs.lemmas.List.{length-map}
-use Rattle.sk_lex.specs.Words.{bytes_of}
+use Rattle.sk_lines.specs.Words.{bytes_of}
 use Rattle.sk_claims.proofs.StepWords.{two_last}
 use Rattle.sk_claims.proofs.step_line.choice_said.Goals as goal
 

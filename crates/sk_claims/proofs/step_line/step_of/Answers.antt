@@ -1,7 +1,7 @@
 use Rattle.std.proofs.Common.{◌≡◌, ◌⊎◌, inl, inr, ◌<◌, ◌∙◌, true, Some, is_none, sym, ap, map, length, drop, arith, refl}
 use Rattle.std.proofs.lemmas.Bool.Decides.{nat_tests}
 use Rattle.std.proofs.lemmas.List.{length-map}
-use Rattle.sk_lex.specs.Words.{bytes_of}
+use Rattle.sk_lines.specs.Words.{bytes_of}
 use Rattle.sk_claims.proofs.step_line.step_of.Goals as goal
 use Rattle.sk_claims.proofs.StepWords.{behind_step, long_choice, bad_names, bad_corners, no_code, made, stopped}
 use Rattle.sk_claims.proofs.step_line.step_of.Goals.{else-words-ne13-via-then-words-ne13+else-words-ne14, else-words-ne13-via-else-words-ne13}

@@ -1,6 +1,6 @@
 use Rattle.std.proofs.Common.{◌≡◌, List, [], ◌++◌, length, map, sym, ap, ◌∙◌, append-nil}
 use Rattle.std.specs.List.{list_any}
-use Rattle.sk_lex.specs.Words.{bytes_of}
+use Rattle.sk_lines.specs.Words.{bytes_of}
 use Rattle.sk_entry.specs.PinCodes.{said_by, lacks_name}
 use Rattle.sk_entry.specs.PinLines.{PinWords, pins_in}
 use Rattle.sk_entry.proofs.Pinned.{first_three, none_left}

@@ -1,6 +1,6 @@
 use Rattle.std.proofs.Common.{◌≡◌, ℕ, ◌++◌, length, map}
 use Rattle.std.specs.List.{list_any}
-use Rattle.sk_lex.specs.Words.{bytes_of, StandInOrder}
+use Rattle.sk_lines.specs.Words.{bytes_of, StandInOrder}
 use Rattle.sk_entry.specs.PinCodes.{said_by, lacks_name}
 use Rattle.sk_entry.specs.PinLines.{pins_in}
 use Rattle.sk_entry.proofs.block.pins_said.Given as goal

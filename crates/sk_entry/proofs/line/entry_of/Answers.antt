@@ -1,6 +1,6 @@
 use Rattle.std.proofs.Common.{[], ◌≡◌, ◌-◌, map, length, refl, sym, ap, ◌∙◌, arith}
 use Rattle.std.proofs.lemmas.List.{length-map}
-use Rattle.sk_lex.specs.Words.{bytes_of}
+use Rattle.sk_lines.specs.Words.{bytes_of}
 use Rattle.sk_lines.specs.declared.Keyword.TheVariants.{Block}
 use Rattle.sk_lines.specs.Keywords.{places}
 use Rattle.sk_entry.specs.Entry.{told}

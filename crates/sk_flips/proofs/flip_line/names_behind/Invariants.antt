@@ -1,5 +1,5 @@
 use Rattle.std.specs.Prelude.{map}
-use Rattle.sk_lex.specs.Words.{bytes_of}
+use Rattle.sk_lines.specs.Words.{bytes_of}
 use Rattle.sk_flips.proofs.StepWords.{AreNamed}
 use Rattle.sk_flips.proofs.flip_line.names_behind.Given as goal
 

@@ -1,6 +1,6 @@
 use Rattle.std.proofs.Common.{◌≡◌, ◌+◌, ℕ, List, Result, Ok, Err, IfOk, MatchResult, map, sym, ap, ◌∙◌, subst}
 use Rattle.sk_base.specs.declared.Sketch.{Sketch}
-use Rattle.sk_lex.specs.Words.{bytes_of}
+use Rattle.sk_lines.specs.Words.{bytes_of}
 use Rattle.sk_lines.specs.declared.Version.{Version}
 use Rattle.sk_lang.specs.declared.progress.Progress.{Progress}
 use Rattle.sk_lang.specs.declared.progress.Progress.TheVariants.{Within, After}

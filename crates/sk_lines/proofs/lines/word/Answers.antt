@@ -1,6 +1,6 @@
 use Rattle.std.proofs.Common.{arith, length, [], sym, ◌∙◌}
 use Rattle.std.proofs.lemmas.List.{get_or-map}
-use Rattle.sk_lex.specs.Words.{bytes_of}
+use Rattle.sk_lines.specs.Words.{bytes_of}
 use Rattle.sk_lines.proofs.WordPlaces.{word_within}
 use Rattle.sk_lines.proofs.lines.word.Goals as goal
 

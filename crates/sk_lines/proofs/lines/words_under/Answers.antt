@@ -1,5 +1,5 @@
 use Rattle.std.proofs.Common.{length}
-use Rattle.sk_lex.proofs.Splitting.{StandInOrder-wider}
+use Rattle.sk_lines.proofs.Splitting.{StandInOrder-wider}
 use Rattle.sk_lines.proofs.lines.words_under.Goals as goal
 
 pub returns-in-Ok-clause-order : goal.returns-in-Ok-clause-order

@@ -1,6 +1,6 @@
 use Rattle.std.proofs.Common.{[], ◌≡◌, map, length, arith}
 use Rattle.std.proofs.lemmas.List.{length-map}
-use Rattle.sk_lex.specs.Words.{bytes_of}
+use Rattle.sk_lines.specs.Words.{bytes_of}
 use Rattle.sk_base.proofs.Rests.{rest_three, rest_four}
 use Rattle.sk_offers.proofs.offer_line.offer_of.Goals.{else-words-ne4-via-then-words-ne4+else-words-ne5, else-words-ne4-via-else-words-ne4}
 use Rattle.sk_offers.proofs.offer_line.offer_of.Goals as goal

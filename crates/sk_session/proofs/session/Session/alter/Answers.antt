@@ -2,7 +2,7 @@ use Rattle.std.proofs.Common.{◌≡◌, ◌∷◌, [], Ok, Err, map, drop, refl
 use Rattle.std.proofs.lemmas.Result.{IfOk-weaker}
 use Rattle.sk_base.specs.declared.Sketch.{Sketch}
 use Rattle.sk_base.specs.SoundSketch.{IsSoundSketch}
-use Rattle.sk_lex.specs.Words.{bytes_of}
+use Rattle.sk_lines.specs.Words.{bytes_of}
 use Rattle.sk_edits.specs.declared.Edit.{Edit}
 use Rattle.sk_lines.specs.FirstCode.{first_code}
 use Rattle.sk_lines.specs.declared.Code.TheVariants.{S5}

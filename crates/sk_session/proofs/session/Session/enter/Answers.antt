@@ -2,8 +2,8 @@ use Rattle.std.proofs.Common.{◌≡◌, ◌∷◌, [], ℕ, List, map, drop, ge
 use Rattle.std.specs.Prelude.{OnErr}
 use Rattle.std.proofs.lemmas.Result.{IfOk-weaker}
 use Rattle.sk_base.specs.Numbering.{elem_number, con_number}
-use Rattle.sk_lex.specs.declared.Word.{Word}
-use Rattle.sk_lex.specs.Words.{bytes_of}
+use Rattle.sk_lines.specs.declared.Word.{Word}
+use Rattle.sk_lines.specs.Words.{bytes_of}
 use Rattle.sk_entry.specs.declared.Entry.TheVariants as entry
 use Rattle.sk_edits.specs.declared.Edit.TheVariants as edit
 use Rattle.sk_entry.specs.Entry.{IsEntryOf, StandsOn, IsNumbered}

@@ -1,7 +1,7 @@
 use Rattle.std.proofs.Common.{◌≡◌, Bool, Some, ◌∷◌, [], refl, sym, subst}
 use Rattle.std.specs.Prelude.{map, drop, not}
 use Rattle.std.proofs.lemmas.Result.{IfOk-weaker}
-use Rattle.sk_lex.specs.Words.{bytes_of}
+use Rattle.sk_lines.specs.Words.{bytes_of}
 use Rattle.sk_lines.specs.declared.Code.TheVariants.{E3, E18}
 use Rattle.sk_lines.specs.EndLine.{is_none_left}
 use Rattle.sk_lines.specs.FirstCode.{first_code}

@@ -1,7 +1,7 @@
 use Rattle.std.proofs.Common.{Some}
 use Rattle.std.specs.Prelude.{map, drop}
 use Rattle.std.proofs.lemmas.Result.{IfOk-weaker}
-use Rattle.sk_lex.specs.Words.{bytes_of}
+use Rattle.sk_lines.specs.Words.{bytes_of}
 use Rattle.sk_session.proofs.ToSolve.{obeyed_some}
 use Rattle.sk_session.proofs.session.Session.other.Goals as goal
 

@@ -5,8 +5,8 @@ use Rattle.std.proofs.lemmas.Bool.{cases_lt}
 use Rattle.std.proofs.lemmas.List.Splits.{slice_split-cons_yes, slice_split_first, slice_split_none}
 use Rattle.std.proofs.lemmas.List.Sums.{passes_at_first, fails_before_first, prefix_len-le-length}
 use Rattle.std.proofs.lemmas.List.{length-take-le, take_all, drop_all, drop-drop, map-append, drop-take, take-take}
-use Rattle.sk_lex.specs.declared.words.Word.{Word}
-use Rattle.sk_lex.specs.Words.{is_blank, is_empty, words_in, bytes_of, StandInOrder}
+use Rattle.sk_lines.specs.declared.words.Word.{Word}
+use Rattle.sk_lines.specs.Words.{is_blank, is_empty, words_in, bytes_of, StandInOrder}
 
 zero_len : (t : Bool) (n : ℕ) → cond (not t) (1 + n) 0 ≡ 0 → t ≡ true
 zero_len true n e = refl

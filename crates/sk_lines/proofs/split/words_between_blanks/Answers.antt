@@ -1,9 +1,9 @@
 use Rattle.std.proofs.Common.{◌≡◌, ◌+◌, ◌-◌, ◌<◌, ◌∷◌, length, take, drop, sym, ap, ◌∙◌, arith, length-drop}
 use Rattle.std.specs.List.{position_or_len}
 use Rattle.std.proofs.lemmas.List.{take_all}
-use Rattle.sk_lex.specs.Words.{is_blank, words_in}
-use Rattle.sk_lex.proofs.Splitting.{words_in-skip, words_in-word_at, StandInOrder-push, StandInOrder-wider, words_in-pushed}
-use Rattle.sk_lex.proofs.split.split_words.Goals as goal
+use Rattle.sk_lines.specs.Words.{is_blank, words_in}
+use Rattle.sk_lines.proofs.Splitting.{words_in-skip, words_in-word_at, StandInOrder-push, StandInOrder-wider, words_in-pushed}
+use Rattle.sk_lines.proofs.split.words_between_blanks.Goals as goal
 
 pub loop-at-preserved-then-word_len-eq0 : goal.loop-at-preserved-then-word_len-eq0
 loop-at-preserved-then-word_len-eq0 c =

@@ -1,6 +1,6 @@
 ghost use Rattle.std.specs.Prelude.{◌≡◌, ◌≤◌, length, map, take, IfOk, IfErr, false};
 ghost use Rattle.std.specs.List.{position, position_or_len};
-ghost use Rattle.sk_lex.specs.Words.{is_too_long, has_wrong_byte, is_blank, words_in, bytes_of, StandInOrder, IsFaultOf};
+ghost use Rattle.sk_lines.specs.Words.{is_too_long, has_wrong_byte, is_blank, words_in, bytes_of, StandInOrder, IsFaultOf};
 
 use crate::words::{LexFault, Word, Words};
 use sk_base::{List, NoMemory};
@@ -35,7 +35,7 @@ pub fn words_before(alloc: Global, line: &[u8], end: usize) -> Result<Words, Lex
     if has_wrong_byte(line) {
         return Err(LexFault::NotAscii);
     }
-    Ok(split_words(alloc, &line[..end])?)
+    Ok(words_between_blanks(alloc, &line[..end])?)
 }
 
 /// Whether a byte is neither 0x20 to 0x7E nor a tab.
@@ -47,7 +47,7 @@ fn has_wrong_byte(line: &[u8]) -> bool
 }
 
 /// The words of a line that is short enough.
-fn split_words(alloc: Global, line: &[u8]) -> Result<Words, NoMemory>
+fn words_between_blanks(alloc: Global, line: &[u8]) -> Result<Words, NoMemory>
     requires { length line.now ≤ 200 }
     ensures words { IfOk result (λ words. map (bytes_of line.now) words.items ≡ words_in line.now) }
     ensures order { IfOk result (λ words. StandInOrder 0 words.items (length line.now)) }

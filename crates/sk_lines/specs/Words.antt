@@ -1,9 +1,9 @@
 -- The bytes and the words of a line.
 use Rattle.std.specs.Prelude.{◌≡◌, ⊤, true, false, ℕ, ◌<◌, ◌≤◌, Bool, ◌&&◌, ◌||◌, not, ◌==◌, nat_lt, nat_le, List, [], ◌∷◌, length, filter}
 use Rattle.std.specs.List.{list_any, slice_split, slice_range}
-use Rattle.sk_lex.specs.declared.words.Word.{Word}
-use Rattle.sk_lex.specs.declared.words.LexFault.{LexFault}
-use Rattle.sk_lex.specs.declared.words.LexFault.TheVariants.{LineTooLong, NotAscii, NoMemory}
+use Rattle.sk_lines.specs.declared.words.Word.{Word}
+use Rattle.sk_lines.specs.declared.words.LexFault.{LexFault}
+use Rattle.sk_lines.specs.declared.words.LexFault.TheVariants.{LineTooLong, NotAscii, NoMemory}
 
 -- more than 200 bytes
 abbrev pub is_too_long : List ℕ → Bool

@@ -1,5 +1,5 @@
 ghost use Rattle.std.specs.Prelude.{◌≡◌};
-ghost use Rattle.sk_lex.specs.declared.words.LexFault.TheVariants.{NoMemory};
+ghost use Rattle.sk_lines.specs.declared.words.LexFault.TheVariants.{NoMemory};
 
 use sk_base::{List, NoMemory};
 use thiserror::Error;
