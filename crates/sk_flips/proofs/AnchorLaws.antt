@@ -35,8 +35,8 @@ use Rattle.sk_steps.specs.declared.BoxOf.TheVariants.{Point, Line}
 use Rattle.sk_steps.specs.declared.What.{What}
 use Rattle.sk_steps.specs.Expressions.{with_sign}
 use Rattle.sk_steps.specs.Leaves.{leaf, by_sign, IsSoundMeasure}
-use Rattle.sk_motion.specs.declared.Motion.{Motion}
-use Rattle.sk_motion.specs.Carried.{carried}
+use Rattle.sk_steps.specs.declared.Motion.{Motion}
+use Rattle.sk_steps.specs.Carried.{carried}
 use Rattle.sk_tree.specs.declared.Plan.{Plan}
 use Rattle.sk_tree.specs.declared.Tree.{Tree}
 use Rattle.sk_tree.specs.LastName.{last_name}

@@ -21,8 +21,8 @@ use Rattle.sk_base.specs.Bounds.{IsWithin}
 use Rattle.sk_base.proofs.Magnitudes.{≤ℤ_antisymm}
 use Rattle.sk_steps.specs.declared.BoxOf.{BoxOf}
 use Rattle.sk_steps.specs.declared.BoxOf.TheVariants.{Point}
-use Rattle.sk_motion.specs.declared.Motion.{Motion}
-use Rattle.sk_motion.specs.Carried.{carried, carried_point}
+use Rattle.sk_steps.specs.declared.Motion.{Motion}
+use Rattle.sk_steps.specs.Carried.{carried, carried_point}
 use Rattle.sk_place.specs.declared.PlaceBy.{PlaceBy}
 use Rattle.sk_place.specs.declared.PlaceBy.TheVariants.{Boxes, Points}
 use Rattle.sk_place.specs.Rounding.{midpoint, rounded_box}

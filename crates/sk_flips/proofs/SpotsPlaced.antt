@@ -21,7 +21,7 @@ use Rattle.sk_place.specs.declared.PlaceBy.{PlaceBy}
 use Rattle.sk_place.specs.declared.MoveError.{MoveError}
 use Rattle.sk_place.specs.declared.MoveError.TheVariants as moving
 use Rattle.sk_place.specs.Carrying.{carried_each, AnswersMove}
-use Rattle.sk_motion.specs.declared.Motion.{Motion}
+use Rattle.sk_steps.specs.declared.Motion.{Motion}
 use Rattle.sk_frame.specs.declared.Frame.{Frame}
 use Rattle.sk_place.specs.declared.FrameBy.TheVariants.{Drawn}
 use Rattle.sk_frame.specs.Frames.{frame_of}

@@ -16,7 +16,7 @@ use Rattle.sk_interval.proofs.RatioLemmas.{root-real, quotient-bounded}
 use Rattle.sk_interval.proofs.ScaleLemmas.{scale-scale}
 use Rattle.sk_steps.specs.declared.What.{What}
 use Rattle.sk_steps.specs.Quantities.{evaluate}
-use Rattle.sk_motion.specs.Settling.{unit_turn}
+use Rattle.sk_steps.specs.SettledMotions.{unit_turn}
 use Rattle.sk_frame.proofs.Ratios.{least_same, greatest_same}
 use Rattle.sk_frame.proofs.UnitTurns.{exactly, square_is, evaluated, floor_whole, ceil_whole}
 

@@ -9,9 +9,9 @@ use Rattle.sk_interval.specs.declared.Cause.{Cause}
 use Rattle.sk_interval.specs.Interval.{Interval}
 use Rattle.sk_interval.proofs.AroundLemmas.{size_of_bounds}
 use Rattle.sk_steps.specs.declared.What.{What}
-use Rattle.sk_motion.specs.declared.Motion.{Motion}
+use Rattle.sk_steps.specs.declared.Motion.{Motion}
 use Rattle.sk_steps.specs.Quantities.{evaluate}
-use Rattle.sk_motion.specs.Settling.{turned, unit_turn}
+use Rattle.sk_steps.specs.SettledMotions.{turned, unit_turn}
 use Rattle.sk_frame.specs.declared.frames.Frame.{Frame}
 use Rattle.sk_frame.specs.Frames.{IsSoundFrame}
 use Rattle.sk_frame.specs.FrameMotions.{ratio, parts_motion, frame_motion}

@@ -18,9 +18,9 @@ use Rattle.sk_steps.specs.Boxes.{from_end}
 use Rattle.sk_steps.specs.Nesting.{AreInside, Keeps}
 use Rattle.sk_steps.specs.Quantities.{evaluate}
 use Rattle.sk_steps.proofs.NestingLemmas.{evaluate-Keeps, from_end-IsInside}
-use Rattle.sk_motion.specs.declared.Motion.{Motion}
-use Rattle.sk_motion.specs.Nesting.{IsMotionInside}
-use Rattle.sk_motion.specs.Settling.{turned, unit_turn}
+use Rattle.sk_steps.specs.declared.Motion.{Motion}
+use Rattle.sk_steps.specs.MotionNesting.{IsMotionInside}
+use Rattle.sk_steps.specs.SettledMotions.{turned, unit_turn}
 use Rattle.sk_frame.specs.declared.frames.Frame.{Frame}
 use Rattle.sk_frame.specs.Frames.{IsSoundFrame}
 use Rattle.sk_frame.specs.FrameMotions.{ratio, parts_motion, frame_motion, IsExactAlongAxes}

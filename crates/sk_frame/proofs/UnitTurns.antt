@@ -21,7 +21,7 @@ use Rattle.sk_interval.proofs.RatioLemmas.{root-real, quotient-bounded}
 use Rattle.sk_interval.proofs.SquareLemmas.{floor_root_below_ceil_root}
 use Rattle.sk_steps.specs.declared.What.{What}
 use Rattle.sk_steps.specs.Quantities.{evaluate}
-use Rattle.sk_motion.specs.Settling.{unit_turn}
+use Rattle.sk_steps.specs.SettledMotions.{unit_turn}
 use Rattle.sk_frame.specs.FrameMotions.{ratio}
 use Rattle.sk_frame.proofs.Ratios.{least_same, greatest_same}
 

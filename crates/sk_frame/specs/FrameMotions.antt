@@ -5,9 +5,9 @@ use Rattle.sk_interval.specs.Interval.{Interval, one}
 use Rattle.sk_interval.specs.Rounding.{floor_of, ceil_of}
 use Rattle.sk_interval.specs.Operations.{of_micrometres, whole}
 use Rattle.sk_steps.specs.declared.What.{What}
-use Rattle.sk_motion.specs.declared.Motion.{Motion}
-use Rattle.sk_motion.specs.Settling.{settled_motion}
-use Rattle.sk_motion.specs.Nesting.{IsMotionInside}
+use Rattle.sk_steps.specs.declared.Motion.{Motion}
+use Rattle.sk_steps.specs.SettledMotions.{settled_motion}
+use Rattle.sk_steps.specs.MotionNesting.{IsMotionInside}
 use Rattle.sk_orient.specs.declared.Vector.{Vector}
 use Rattle.sk_orient.specs.PlacedSigns.{placed_sign}
 use Rattle.sk_frame.specs.declared.frames.Frame.{Frame}

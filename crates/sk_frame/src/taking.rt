@@ -8,7 +8,7 @@ ghost use Rattle.sk_frame.specs.FrameMotions.{ratio, parts_motion, frame_motion,
 use crate::frames::Frame;
 use sk_base::Um;
 use sk_interval::{Grid, Iv};
-use sk_motion::{Motion, settle_motion};
+use sk_steps::{Motion, settle_motion};
 
 /// The motion that takes the frame to where it is drawn. It has no fault on any grid.
 pub fn frame_motion<G: Grid>(f: &Frame) -> Motion<G>

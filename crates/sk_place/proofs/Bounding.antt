@@ -20,8 +20,8 @@ use Rattle.sk_steps.specs.Boxes.{zero as nought, kind_of, numbers, from_end, las
 use Rattle.sk_steps.specs.Constructions.{point_by_points, line_by_points, point_by_line, line_by_line, point_by_lines}
 use Rattle.sk_steps.specs.ThirdElement.{construction, inputs, third_element}
 use Rattle.sk_steps.specs.Leaves.{part, by_sign, opposite, frame, framed, frame_of, leaf}
-use Rattle.sk_motion.specs.declared.Motion.{Motion}
-use Rattle.sk_motion.specs.Carried.{carried_point, carried_line, carried_box, motion_numbers, carried}
+use Rattle.sk_steps.specs.declared.Motion.{Motion}
+use Rattle.sk_steps.specs.Carried.{carried_point, carried_line, carried_box, motion_numbers, carried}
 use Rattle.sk_place.specs.Rounding.{IsWithin, IsBoundedBox}
 
 -- ---- one quantity

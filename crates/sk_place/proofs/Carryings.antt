@@ -2,8 +2,8 @@
 use Rattle.std.proofs.Common.{◌≡◌, ℕ, ◌+◌, ◌<◌, List, [], ◌∷◌, ◌++◌, length, get_or, drop, Result, Ok, Err, refl, sym, ap, ◌∙◌, append_assoc}
 use Rattle.std.proofs.lemmas.List.{at_drop_more}
 use Rattle.sk_steps.specs.declared.BoxOf.{BoxOf}
-use Rattle.sk_motion.specs.declared.Motion.{Motion}
-use Rattle.sk_motion.specs.Carried.{carried}
+use Rattle.sk_steps.specs.declared.Motion.{Motion}
+use Rattle.sk_steps.specs.Carried.{carried}
 use Rattle.sk_place.specs.declared.boxes.BoxAt.{BoxAt}
 use Rattle.sk_place.specs.Settling.{settled_box}
 use Rattle.sk_place.specs.declared.settling.PlaceBy.{PlaceBy}

@@ -10,12 +10,12 @@ use Rattle.sk_steps.specs.declared.What.{What}
 use Rattle.sk_steps.specs.Boxes.{kind_of}
 use Rattle.sk_steps.specs.Nesting.{Keeps, IsBoxInside, IsGivenInside}
 use Rattle.sk_steps.proofs.NestingLemmas.{third_element-Keeps}
-use Rattle.sk_motion.specs.declared.Motion.{Motion}
-use Rattle.sk_motion.specs.declared.Pair.{Pair}
-use Rattle.sk_motion.specs.Motions.{motion}
-use Rattle.sk_motion.specs.Carried.{carried}
-use Rattle.sk_motion.specs.Nesting.{IsPairInside, IsMotionInside}
-use Rattle.sk_motion.proofs.NestingLemmas.{motion-Keeps, carried-Keeps}
+use Rattle.sk_steps.specs.declared.Motion.{Motion}
+use Rattle.sk_steps.specs.declared.Pair.{Pair}
+use Rattle.sk_steps.specs.Motions.{motion}
+use Rattle.sk_steps.specs.Carried.{carried}
+use Rattle.sk_steps.specs.MotionNesting.{IsPairInside, IsMotionInside}
+use Rattle.sk_steps.proofs.MotionLemmas.{motion-Keeps, carried-Keeps}
 use Rattle.sk_tree.specs.declared.PlanStep.{PlanStep}
 use Rattle.sk_place.specs.declared.boxes.BoxAt.{BoxAt}
 use Rattle.sk_place.specs.declared.settling.PlaceBy.TheVariants.{Boxes}

@@ -8,8 +8,8 @@ use Rattle.std.proofs.lemmas.Option.{same_Some}
 use Rattle.sk_interval.specs.declared.Cause.{Cause}
 use Rattle.sk_steps.specs.declared.What.{What}
 use Rattle.sk_steps.specs.ThirdElement.{third_element}
-use Rattle.sk_motion.specs.declared.Pair.{Pair}
-use Rattle.sk_motion.specs.Motions.{motion}
+use Rattle.sk_steps.specs.declared.Pair.{Pair}
+use Rattle.sk_steps.specs.Motions.{motion}
 use Rattle.sk_rules.specs.declared.Shared.{Shared}
 use Rattle.sk_tree.specs.declared.PlanStep.{PlanStep}
 use Rattle.sk_tree.specs.declared.Tree.{Tree}

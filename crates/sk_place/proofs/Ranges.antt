@@ -14,8 +14,8 @@ use Rattle.sk_steps.specs.declared.What.{What}
 use Rattle.sk_steps.specs.Boxes.{numbers, box_of}
 use Rattle.sk_steps.specs.Expressions.{Expression, input, earlier, number, micrometres, signed, ◌⊕◌, ◌⊖◌, ◌⊗◌, ◌⊘◌, square_root, length_box, normal_box, then, value}
 use Rattle.sk_steps.specs.Quantities.{named, then_list, evaluate_after}
-use Rattle.sk_motion.specs.declared.Motion.{Motion}
-use Rattle.sk_motion.specs.Carried.{carried_point, carried_line, motion_numbers, carried}
+use Rattle.sk_steps.specs.declared.Motion.{Motion}
+use Rattle.sk_steps.specs.Carried.{carried_point, carried_line, motion_numbers, carried}
 use Rattle.sk_place.specs.declared.boxes.BoxAt.{BoxAt}
 use Rattle.sk_place.specs.declared.fault.BoxFault.{BoxFault}
 use Rattle.sk_place.specs.declared.fault.MoveError.{MoveError}

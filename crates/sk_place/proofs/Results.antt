@@ -18,10 +18,10 @@ use Rattle.sk_steps.specs.Boxes.{kind_of}
 use Rattle.sk_steps.specs.Quantities.{evaluate}
 use Rattle.sk_steps.specs.ThirdElement.{third_element, construction, inputs}
 use Rattle.sk_steps.proofs.KindLemmas.{box_of-kind}
-use Rattle.sk_motion.specs.declared.Motion.{Motion}
-use Rattle.sk_motion.specs.declared.Pair.{Pair}
-use Rattle.sk_motion.specs.Motions.{motion}
-use Rattle.sk_motion.specs.Carried.{carried}
+use Rattle.sk_steps.specs.declared.Motion.{Motion}
+use Rattle.sk_steps.specs.declared.Pair.{Pair}
+use Rattle.sk_steps.specs.Motions.{motion}
+use Rattle.sk_steps.specs.Carried.{carried}
 use Rattle.sk_place.specs.declared.boxes.BoxAt.{BoxAt}
 use Rattle.sk_place.specs.Settling.{settled_box, settled_turn}
 use Rattle.sk_place.specs.declared.settling.PlaceBy.{PlaceBy}

@@ -5,10 +5,10 @@ use Rattle.sk_base.specs.declared.Name.{Name}
 use Rattle.sk_interval.specs.declared.Cause.{Cause}
 use Rattle.sk_interval.specs.declared.Cause.TheVariants.{Range}
 use Rattle.sk_steps.specs.declared.What.{What}
-use Rattle.sk_motion.specs.declared.Pair.{Pair}
-use Rattle.sk_motion.specs.declared.Motion.{Motion}
-use Rattle.sk_motion.specs.Motions.{motion}
-use Rattle.sk_motion.specs.Carried.{carried}
+use Rattle.sk_steps.specs.declared.Pair.{Pair}
+use Rattle.sk_steps.specs.declared.Motion.{Motion}
+use Rattle.sk_steps.specs.Motions.{motion}
+use Rattle.sk_steps.specs.Carried.{carried}
 use Rattle.sk_place.specs.declared.boxes.BoxAt.{BoxAt}
 use Rattle.sk_place.specs.declared.fault.Phase.{Phase}
 use Rattle.sk_place.specs.declared.fault.StepFault.{StepFault}

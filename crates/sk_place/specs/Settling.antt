@@ -4,8 +4,8 @@ use Rattle.sk_interval.specs.declared.Cause.{Cause}
 use Rattle.sk_steps.specs.declared.BoxOf.{BoxOf}
 use Rattle.sk_steps.specs.declared.What.{What}
 use Rattle.sk_steps.specs.Settling.{settled}
-use Rattle.sk_motion.specs.declared.Motion.{Motion}
-use Rattle.sk_motion.specs.Settling.{settled_motion}
+use Rattle.sk_steps.specs.declared.Motion.{Motion}
+use Rattle.sk_steps.specs.SettledMotions.{settled_motion}
 use Rattle.sk_place.specs.declared.settling.PlaceBy.{PlaceBy}
 use Rattle.sk_place.specs.declared.settling.PlaceBy.TheVariants.{Boxes, Points}
 

@@ -1,6 +1,6 @@
 // A child's further boxes, carried to where the kept child lies.
 ghost use Rattle.std.specs.Prelude.{◌≡◌};
-ghost use Rattle.sk_motion.specs.Motions.{motion, AreAlike};
+ghost use Rattle.sk_steps.specs.Motions.{motion, AreAlike};
 ghost use Rattle.sk_place.specs.Clusters.{Rise, Holds, comes_first};
 ghost use Rattle.sk_place.specs.Settling.{settled_turn};
 ghost use Rattle.sk_place.specs.Carrying.{faulty, pair_in, carried_each, moved, carried_child, AreShared, Answers, AnswersMove};
@@ -11,7 +11,7 @@ use crate::lookup::{besides, box_of};
 use crate::settling::{PlaceBy, settled_box, settled_turn};
 use sk_base::{Elem, Kind, List};
 use sk_interval::Grid;
-use sk_motion::{Motion, Pair, carry, motion_by};
+use sk_steps::{Motion, Pair, carry, motion_by};
 use std::alloc::Global;
 
 /// Whether p comes before q: a point before a line, and of one kind the lesser number first.

@@ -1,7 +1,7 @@
 // All boxes, carried by one motion.
 ghost use Rattle.std.specs.Prelude.{◌≡◌, ◌+◌, ℕ, IfOk, List as Items};
-ghost use Rattle.sk_motion.specs.declared.Motion.{Motion as MotionOf};
-ghost use Rattle.sk_motion.specs.Nesting.{IsMotionInside};
+ghost use Rattle.sk_steps.specs.declared.Motion.{Motion as MotionOf};
+ghost use Rattle.sk_steps.specs.MotionNesting.{IsMotionInside};
 ghost use Rattle.sk_place.specs.declared.boxes.BoxAt.{BoxAt as BoxOfElement};
 ghost use Rattle.sk_place.specs.Clusters.{nodes_of};
 ghost use Rattle.sk_place.specs.Carrying.{carried_each, AnswersMove, FailsByRange};
@@ -12,7 +12,7 @@ use crate::carry::carried_each;
 use crate::fault::MoveError;
 use crate::settling::PlaceBy;
 use sk_interval::Grid;
-use sk_motion::Motion;
+use sk_steps::Motion;
 use std::alloc::Global;
 
 /// Each box, carried by the motion, or the fault of the first that has one.

@@ -5,8 +5,7 @@ ghost use Rattle.sk_steps.specs.Boxes.{kind_of};
 ghost use Rattle.sk_place.specs.Settling.{settled_box, settled_turn};
 
 use sk_interval::{Cause, Grid};
-use sk_motion::{Motion, settle_motion};
-use sk_steps::{BoxOf, What, settle};
+use sk_steps::{BoxOf, Motion, What, settle, settle_motion};
 
 /// What the place of an element is, from one step to the next.
 #[derive(Clone, Copy, PartialEq, Eq, Debug)]

@@ -1,10 +1,14 @@
 pub mod Boxes
+pub mod Carried
 pub mod Constructions
 pub mod Expressions
 pub mod Leaves
+pub mod MotionNesting
+pub mod Motions
 pub mod Nesting
 pub mod PointsAndLines
 pub mod Quantities
+pub mod SettledMotions
 pub mod Settling
 pub mod ThirdElement
 pub mod Words

@@ -1,11 +1,13 @@
-//! Boxes, settled at points of the grid.
+//! Boxes that are settled at points of the grid, and motions whose turn is brought to length 1.
 ghost use Rattle.std.specs.Prelude.{◌≡◌, ◌∷◌, [], IfOk};
 ghost use Rattle.sk_steps.specs.Expressions.{value, input, ◌⊘◌, normal_box};
 ghost use Rattle.sk_steps.specs.Quantities.{evaluate};
 ghost use Rattle.sk_steps.specs.Boxes.{kind_of};
 ghost use Rattle.sk_steps.specs.Settling.{unit_normal, settled_line, settled};
+ghost use Rattle.sk_steps.specs.SettledMotions.{unit_turn, settled_motion};
 
 use crate::boxes::{BoxOf, LineBox};
+use crate::frames::Motion;
 use crate::parts::{named, size_of};
 use crate::what::What;
 use sk_interval::{Cause, Grid, Iv};
@@ -52,4 +54,22 @@ pub fn settle<G: Grid>(b: &BoxOf<G>) -> Result<BoxOf<G>, (What, Cause)>
     ensures kind { IfOk result (λ c. kind_of c ≡ kind_of b.now) }
 {
     settle_box(b)
+}
+
+/// The motion with its cosine and sine brought to length 1, or the first quantity that has a cause, with that.
+#[tactic(auto, unfolding(crate::specs::SettledMotions::unit_turn))]
+pub fn settle_motion<G: Grid>(m: &Motion<G>) -> Result<Motion<G>, (What, Cause)>
+    ensures { result ≡ settled_motion G.BITS m.now }
+{
+    let size = named(What::Size, size_of(m.cos, m.sin))?;
+    let cos = named(What::Cos, m.cos.div(size))?;
+    let sin = named(What::Sin, m.sin.div(size))?;
+    Ok(Motion {
+        cos,
+        sin,
+        fx: m.fx,
+        fy: m.fy,
+        tx: m.tx,
+        ty: m.ty,
+    })
 }

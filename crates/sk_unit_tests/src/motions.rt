@@ -5,8 +5,7 @@ ghost use Rattle.sk_steps.specs.Boxes.{kind_of};
 
 use sk_base::Um;
 use sk_interval::{Cause, G16, G27, G38, Grid, Iv};
-use sk_motion::{Motion, Pair, carry, motion_by, settle_motion};
-use sk_steps::{BoxOf, What};
+use sk_steps::{BoxOf, Motion, Pair, What, carry, motion_by, settle_motion};
 use std::process::Abort;
 
 type Ends = (i128, i128);

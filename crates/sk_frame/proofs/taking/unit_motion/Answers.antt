@@ -1,5 +1,5 @@
 use Rattle.std.proofs.Common.{sym, ap, ◌∙◌}
-use Rattle.sk_motion.specs.Settling.{settled_motion}
+use Rattle.sk_steps.specs.SettledMotions.{settled_motion}
 use Rattle.sk_frame.proofs.FrameTurns.{never}
 use Rattle.sk_frame.proofs.taking.unit_motion.Goals as goal
 

@@ -2,12 +2,12 @@
 use Rattle.std.specs.Prelude.{ℕ, List, [], ◌∷◌, Result, Ok, Err}
 use Rattle.sk_interval.specs.declared.Cause.{Cause}
 use Rattle.sk_interval.specs.Interval.{Interval}
-use Rattle.sk_steps.specs.declared.What.{What}
-use Rattle.sk_steps.specs.declared.What.TheVariants.{Size, Cos, Sin}
+use Rattle.sk_steps.specs.declared.what.What.{What}
+use Rattle.sk_steps.specs.declared.what.What.TheVariants.{Size, Cos, Sin}
 use Rattle.sk_steps.specs.Expressions.{Expression, input, earlier, ◌⊕◌, ◌⊗◌, ◌⊘◌, square_root}
 use Rattle.sk_steps.specs.Quantities.{evaluate}
 use Rattle.sk_steps.specs.Boxes.{from_end}
-use Rattle.sk_motion.specs.declared.frames.Motion.{Motion}
+use Rattle.sk_steps.specs.declared.frames.Motion.{Motion}
 
 -- a turn, which is given by its cosine and its sine, at length 1
 unfoldable pub unit_turn : List (What × Expression)

@@ -4,13 +4,15 @@ ghost use Rattle.sk_base.specs.declared.Kind.{Kind};
 ghost use Rattle.sk_steps.specs.Expressions.{value, input, ◌⊕◌, ◌⊖◌, ◌⊗◌, length_box};
 ghost use Rattle.sk_steps.specs.Quantities.{evaluate};
 ghost use Rattle.sk_steps.specs.Boxes.{kind_of, box_of, point_numbers, line_numbers};
-ghost use Rattle.sk_motion.specs.Carried.{carried, carried_point, carried_line, motion_numbers};
-ghost use Rattle.sk_motion.specs.Nesting.{IsKeptByMotion};
+ghost use Rattle.sk_steps.specs.Carried.{carried, carried_point, carried_line, motion_numbers};
+ghost use Rattle.sk_steps.specs.MotionNesting.{IsKeptByMotion};
 
+use crate::boxes::{BoxOf, LineBox, PointBox};
 use crate::frames::Motion;
+use crate::parts::{dot, named, normal_cross, normal_dot};
+use crate::what::What;
 use sk_base::Kind;
 use sk_interval::{Cause, Grid, Iv};
-use sk_steps::{BoxOf, LineBox, PointBox, What, dot, named, normal_cross, normal_dot};
 
 /// `(to + p (x - from_x)) - q (y - from_y)`, as a length.
 fn across<G: Grid>(

@@ -4,17 +4,17 @@ use Rattle.sk_base.specs.declared.Kind.{Kind}
 use Rattle.sk_interval.specs.declared.Cause.{Cause}
 use Rattle.sk_interval.specs.declared.Cause.TheVariants.{Flat, Gap, Range}
 use Rattle.sk_interval.specs.Interval.{Interval}
-use Rattle.sk_steps.specs.declared.BoxOf.{BoxOf}
-use Rattle.sk_steps.specs.declared.What.{What}
+use Rattle.sk_steps.specs.declared.boxes.BoxOf.{BoxOf}
+use Rattle.sk_steps.specs.declared.what.What.{What}
 use Rattle.sk_steps.specs.Boxes.{kind_of, numbers}
 use Rattle.sk_steps.specs.Nesting.{AreInside, Keeps, IsBoxInside}
 use Rattle.sk_steps.proofs.ExpressionLemmas.{append-AreInside}
 use Rattle.sk_steps.proofs.NestingLemmas.{evaluate-Keeps, from_end-IsInside, numbers-AreInside, same_kind, box_of-Keeps}
-use Rattle.sk_motion.specs.declared.frames.Pair.{Pair}
-use Rattle.sk_motion.specs.declared.frames.Motion.{Motion}
-use Rattle.sk_motion.specs.Motions.{motion, motion_of, last_motion, quantities, inputs}
-use Rattle.sk_motion.specs.Carried.{carried, carried_box, motion_numbers}
-use Rattle.sk_motion.specs.Nesting.{IsPairInside, IsMotionInside}
+use Rattle.sk_steps.specs.declared.frames.Pair.{Pair}
+use Rattle.sk_steps.specs.declared.frames.Motion.{Motion}
+use Rattle.sk_steps.specs.Motions.{motion, motion_of, last_motion, quantities, inputs}
+use Rattle.sk_steps.specs.Carried.{carried, carried_box, motion_numbers}
+use Rattle.sk_steps.specs.MotionNesting.{IsPairInside, IsMotionInside}
 
 last_motion-IsMotionInside : (G H : Type 0) (k : ℕ) (kind : Kind) (xs ys : List Interval) → AreInside k xs ys
     → IsMotionInside {G = G} {H = H} k (last_motion kind xs) (last_motion kind ys)

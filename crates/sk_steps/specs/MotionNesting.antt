@@ -2,13 +2,13 @@
 use Rattle.std.specs.Prelude.{ℕ, ◌+◌, Result}
 use Rattle.sk_interval.specs.declared.Cause.{Cause}
 use Rattle.sk_interval.specs.Nesting.{IsInside}
-use Rattle.sk_steps.specs.declared.BoxOf.{BoxOf}
-use Rattle.sk_steps.specs.declared.What.{What}
+use Rattle.sk_steps.specs.declared.boxes.BoxOf.{BoxOf}
+use Rattle.sk_steps.specs.declared.what.What.{What}
 use Rattle.sk_steps.specs.Nesting.{Keeps, IsBoxInside}
-use Rattle.sk_motion.specs.declared.frames.Pair.{Pair}
-use Rattle.sk_motion.specs.declared.frames.Motion.{Motion}
-use Rattle.sk_motion.specs.Motions.{motion}
-use Rattle.sk_motion.specs.Carried.{carried}
+use Rattle.sk_steps.specs.declared.frames.Pair.{Pair}
+use Rattle.sk_steps.specs.declared.frames.Motion.{Motion}
+use Rattle.sk_steps.specs.Motions.{motion}
+use Rattle.sk_steps.specs.Carried.{carried}
 
 pub record IsPairInside {G H : Type 0} (k : ℕ) (fine : Pair G) (coarse : Pair H) : Type 0 where
   pub p : IsBoxInside k fine.p coarse.p

@@ -1,6 +1,6 @@
 use Rattle.sk_steps.proofs.KindLemmas.{box_of-kind}
-use Rattle.sk_motion.proofs.NestingLemmas.{carried-Keeps}
-use Rattle.sk_motion.proofs.carrying.carry.Goals as goal
+use Rattle.sk_steps.proofs.MotionLemmas.{carried-Keeps}
+use Rattle.sk_steps.proofs.carrying.carry.Goals as goal
 
 pub returns-clause-kind : goal.returns-clause-kind
 returns-clause-kind g c = rw c.carry_box.ensures (box_of-kind _ _ _ _)

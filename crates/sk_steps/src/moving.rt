@@ -1,13 +1,13 @@
 //! The motion by a pair, by its kinds.
 ghost use Rattle.std.specs.Prelude.{◌≡◌};
-ghost use Rattle.sk_motion.specs.Motions.{motion, AreAlike};
-ghost use Rattle.sk_motion.specs.Nesting.{IsKeptByPairs};
+ghost use Rattle.sk_steps.specs.Motions.{motion, AreAlike};
+ghost use Rattle.sk_steps.specs.MotionNesting.{IsKeptByPairs};
 
 use crate::frames::{Motion, Pair};
 use crate::turn::{by_lines, by_point_and_line, by_points};
+use crate::what::What;
 use sk_base::Kind;
 use sk_interval::{Cause, Grid};
-use sk_steps::What;
 
 /// The motion for the kinds of a pair.
 fn by_kinds<G: Grid>(old: &Pair<G>, new: &Pair<G>) -> Result<Motion<G>, (What, Cause)>

@@ -1,4 +1,4 @@
-use Rattle.sk_motion.proofs.moving.by_kinds.Goals as goal
+use Rattle.sk_steps.proofs.moving.by_kinds.Goals as goal
 
 pub returns-in-Point-Point : goal.returns-in-Point-Point
 returns-in-Point-Point g c =

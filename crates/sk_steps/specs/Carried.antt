@@ -5,14 +5,14 @@ use Rattle.sk_base.specs.declared.Kind.{Kind}
 use Rattle.sk_base.specs.declared.Kind.TheVariants.{Point, Line}
 use Rattle.sk_interval.specs.declared.Cause.{Cause}
 use Rattle.sk_interval.specs.Interval.{Interval}
-use Rattle.sk_steps.specs.declared.BoxOf.{BoxOf}
-use Rattle.sk_steps.specs.declared.What.{What}
-use Rattle.sk_steps.specs.declared.What.TheVariants.{X, Y, A, B, C}
+use Rattle.sk_steps.specs.declared.boxes.BoxOf.{BoxOf}
+use Rattle.sk_steps.specs.declared.what.What.{What}
+use Rattle.sk_steps.specs.declared.what.What.TheVariants.{X, Y, A, B, C}
 use Rattle.sk_steps.specs.Expressions.{Expression, input, earlier, ◌⊕◌, ◌⊖◌, ◌⊗◌, length_box, normal_box}
 use Rattle.sk_steps.specs.Quantities.{evaluate}
 use Rattle.sk_steps.specs.PointsAndLines.{point, line}
 use Rattle.sk_steps.specs.Boxes.{kind_of, numbers, box_of}
-use Rattle.sk_motion.specs.declared.frames.Motion.{Motion}
+use Rattle.sk_steps.specs.declared.frames.Motion.{Motion}
 
 abbrev pub motion_numbers : {G : Type 0} → Motion G → List Interval
 motion_numbers m = m.cos ∷ m.sin ∷ m.fx ∷ m.fy ∷ m.tx ∷ m.ty ∷ []

@@ -4,11 +4,13 @@ ghost use Rattle.sk_base.specs.declared.Kind.{Kind};
 ghost use Rattle.sk_steps.specs.Expressions.{value, input, ◌⊕◌, ◌⊖◌, ◌⊗◌, ◌⊘◌};
 ghost use Rattle.sk_steps.specs.Quantities.{evaluate};
 ghost use Rattle.sk_steps.specs.Boxes.{point_numbers, line_numbers};
-ghost use Rattle.sk_motion.specs.Motions.{by_points, by_point_and_line, by_lines, motion_of};
+ghost use Rattle.sk_steps.specs.Motions.{by_points, by_point_and_line, by_lines, motion_of};
 
+use crate::boxes::{LineBox, PointBox};
 use crate::frames::Motion;
+use crate::parts::{cross, dist2, dot, named};
+use crate::what::What;
 use sk_interval::{Cause, Grid, Iv};
-use sk_steps::{LineBox, PointBox, What, cross, dist2, dot, named};
 
 /// The cosine of the turn from the way between two points to the way between two others.
 fn cos_of<G: Grid>(

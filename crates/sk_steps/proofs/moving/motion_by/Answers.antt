@@ -1,5 +1,5 @@
-use Rattle.sk_motion.proofs.NestingLemmas.{motion-Keeps}
-use Rattle.sk_motion.proofs.moving.motion_by.Goals as goal
+use Rattle.sk_steps.proofs.MotionLemmas.{motion-Keeps}
+use Rattle.sk_steps.proofs.moving.motion_by.Goals as goal
 
 pub returns-clause-nested : goal.returns-clause-nested
 returns-clause-nested g c k fine_old fine_new old_inside new_inside =

@@ -1,6 +1,6 @@
 //! Pairs of boxes, and motions.
+use crate::boxes::BoxOf;
 use sk_interval::{Grid, Iv};
-use sk_steps::BoxOf;
 
 /// The boxes of two elements in one frame.
 #[derive(Clone, Copy)]

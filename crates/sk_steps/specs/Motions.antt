@@ -5,14 +5,14 @@ use Rattle.sk_base.specs.declared.Kind.{Kind}
 use Rattle.sk_base.specs.declared.Kind.TheVariants.{Point, Line}
 use Rattle.sk_interval.specs.declared.Cause.{Cause}
 use Rattle.sk_interval.specs.Interval.{Interval}
-use Rattle.sk_steps.specs.declared.What.{What}
-use Rattle.sk_steps.specs.declared.What.TheVariants.{Cos, Sin, Span2, Fx, Fy, Tx, Ty, Det1, Det2}
+use Rattle.sk_steps.specs.declared.what.What.{What}
+use Rattle.sk_steps.specs.declared.what.What.TheVariants.{Cos, Sin, Span2, Fx, Fy, Tx, Ty, Det1, Det2}
 use Rattle.sk_steps.specs.Expressions.{Expression, earlier, ◌⊕◌, ◌⊖◌, ◌⊗◌, ◌⊘◌}
 use Rattle.sk_steps.specs.Quantities.{evaluate}
 use Rattle.sk_steps.specs.PointsAndLines.{point, line, dist2}
 use Rattle.sk_steps.specs.Boxes.{kind_of, numbers, from_end}
-use Rattle.sk_motion.specs.declared.frames.Pair.{Pair}
-use Rattle.sk_motion.specs.declared.frames.Motion.{Motion}
+use Rattle.sk_steps.specs.declared.frames.Pair.{Pair}
+use Rattle.sk_steps.specs.declared.frames.Motion.{Motion}
 
 -- point, point
 unfoldable pub by_points : List (What × Expression)

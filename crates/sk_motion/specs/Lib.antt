@@ -1,4 +1,0 @@
-pub mod Carried
-pub mod Motions
-pub mod Nesting
-pub mod Settling
