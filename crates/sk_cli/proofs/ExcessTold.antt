@@ -32,7 +32,7 @@ use Rattle.sk_residual.specs.Telling.{IsCompared}
 use Rattle.sk_residual.specs.Turns.{senses}
 use Rattle.sk_residual.proofs.Numbered.{number_there}
 use Rattle.sk_residual.proofs.OneOff.{some_off, some_compared}
-use Rattle.sk_flips.specs.declared.Placement.TheVariants.{Holds}
+use Rattle.sk_solve.specs.declared.Placement.TheVariants.{Holds}
 use Rattle.sk_excess.specs.LeftOut.{AreLeftOut}
 use Rattle.sk_excess.specs.KeptSketch.{kept_sketch}
 use Rattle.sk_excess.proofs.Choosing.{left_has}

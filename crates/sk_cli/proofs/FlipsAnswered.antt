@@ -10,11 +10,11 @@ use Rattle.sk_lang.specs.declared.Front.{Front}
 use Rattle.sk_tree.specs.declared.Plan.{Plan as ThePlan}
 use Rattle.sk_report.specs.SolveReport.{places_report, solve_report}
 use Rattle.sk_residual.specs.declared.Tolerance.{Tolerance}
-use Rattle.sk_flips.specs.declared.Alternative.TheVariants.{Found}
-use Rattle.sk_flips.specs.declared.Placement.{Placement}
-use Rattle.sk_flips.specs.declared.Placement.TheVariants.{Fault, Uncarried, Beyond, Turned, Holds}
-use Rattle.sk_flips.specs.Alternatives.{IsAlternative}
-use Rattle.sk_flips.proofs.Untouched.{untouched_signs, placed_untouched}
+use Rattle.sk_solve.specs.declared.Alternative.TheVariants.{Found}
+use Rattle.sk_solve.specs.declared.Placement.{Placement}
+use Rattle.sk_solve.specs.declared.Placement.TheVariants.{Fault, Uncarried, Beyond, Turned, Holds}
+use Rattle.sk_solve.specs.Alternatives.{IsAlternative}
+use Rattle.sk_solve.proofs.Untouched.{untouched_signs, placed_untouched}
 use Rattle.sk_cli.specs.declared.answer.Answer.{Answer}
 use Rattle.sk_request.specs.declared.Request.{Request}
 use Rattle.sk_cli.specs.declared.solving.Report.TheVariants.{Places}

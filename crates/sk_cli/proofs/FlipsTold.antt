@@ -2,7 +2,7 @@
 use Rattle.std.proofs.Common.{◌≡◌, ℕ, ◌+◌, ◌<◌, List, ◌∷◌, ◌++◌, length, get_or, drop, ap, sym, ◌∙◌}
 use Rattle.std.proofs.lemmas.List.{drop_more, append_assoc}
 use Rattle.sk_base.specs.declared.Sketch.{Sketch}
-use Rattle.sk_flips.specs.declared.Alternative.{Alternative}
+use Rattle.sk_solve.specs.declared.Alternative.{Alternative}
 use Rattle.sk_cli.specs.FlipsReport.{alternative_report, alternatives_from}
 
 -- with what is told of the others, the text so far is that of all, and so many are told

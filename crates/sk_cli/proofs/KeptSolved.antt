@@ -24,8 +24,8 @@ use Rattle.sk_plan.specs.Judged.{IsTheJudgement}
 use Rattle.sk_plan.specs.PlanBy.{fresh}
 use Rattle.sk_plan.proofs.SomePlans.{judgement_there}
 use Rattle.sk_residual.specs.Turns.{constraint_signs, step_signs}
-use Rattle.sk_flips.specs.declared.Placement.{Placement}
-use Rattle.sk_flips.specs.declared.Placement.TheVariants as placed
+use Rattle.sk_solve.specs.declared.Placement.{Placement}
+use Rattle.sk_solve.specs.declared.Placement.TheVariants as placed
 use Rattle.sk_parts.specs.OwnSketch.{part_sketch}
 use Rattle.sk_parts.proofs.Drawing.{part_is_sound}
 use Rattle.sk_parts.proofs.OwnGraph.{own_held}

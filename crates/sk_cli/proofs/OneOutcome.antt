@@ -4,8 +4,8 @@ use Rattle.std.specs.Prelude.{take, drop, ◌==◌, Bool, ℤ, Option}
 use Rattle.sk_base.specs.declared.ConId.{ConId}
 use Rattle.sk_base.specs.declared.Constraint.{Constraint}
 use Rattle.sk_base.specs.declared.Placed.{Placed}
-use Rattle.sk_flips.specs.declared.Placement.{Placement}
-use Rattle.sk_flips.specs.declared.Placement.TheVariants.{Holds}
+use Rattle.sk_solve.specs.declared.Placement.{Placement}
+use Rattle.sk_solve.specs.declared.Placement.TheVariants.{Holds}
 use Rattle.sk_cli.specs.Solved.{IsPlacedPlan}
 use Rattle.sk_base.specs.Numbering.{con_exact}
 use Rattle.sk_base.proofs.Finding.{found_in}
@@ -49,8 +49,8 @@ use Rattle.sk_spare.specs.Sparing.{AreSpares}
 use Rattle.sk_spare.specs.SpareReport.{spare_report}
 use Rattle.sk_derive.specs.WideReach.{IsWideNormal}
 use Rattle.sk_derive.specs.DerivedText.{derived_text}
-use Rattle.sk_flips.specs.declared.Alternative.{Alternative}
-use Rattle.sk_flips.specs.Alternatives.{AreAlternatives}
+use Rattle.sk_solve.specs.declared.Alternative.{Alternative}
+use Rattle.sk_solve.specs.Alternatives.{AreAlternatives}
 use Rattle.sk_flips.specs.FlipReading.{ReadsFlips}
 use Rattle.sk_residual.specs.declared.Wanted.TheVariants.{Drawn}
 use Rattle.sk_lang.specs.declared.Front.{Front}
@@ -92,7 +92,7 @@ use Rattle.sk_verdict.specs.declared.Part.{Part}
 use Rattle.sk_request.specs.Grids.{grid_of, digits_of}
 use Rattle.sk_cli.specs.Solving.{IsPlacement, status_of, placement_words}
 use Rattle.sk_request.proofs.OneRequest.{same_request}
-use Rattle.sk_flips.proofs.OnePlacement.{same_placement, same_alternatives}
+use Rattle.sk_solve.proofs.OnePlacement.{same_placement, same_alternatives}
 use Rattle.sk_flips.proofs.FlipsSoFar.{same_flips, same_refusal as one_flips_refusal, read_or_refused}
 use Rattle.sk_plan.proofs.PlanTrees.{some_plan_tree}
 use Rattle.sk_cli.specs.Outcome.{IsAccountOf, IsRefusalText, IsAccountAnswer, IsPlanReport, IsReportNotWell, IsPlanAnswer, IsPlanOrReport, IsSolved, IsSolveAnswer, IsGrowAnswer, IsAnswer, IsAnswerOf, IsOutcome, AreFirstReplies, AreLiveReplies}

@@ -12,8 +12,8 @@ use Rattle.sk_verdict.specs.declared.Part.{Part}
 use Rattle.sk_verdict.specs.declared.Verdict.TheVariants.{Well}
 use Rattle.sk_plan.specs.Judged.{IsTheJudgement, IsWell}
 use Rattle.sk_plan.proofs.TheJudgement.{one_judgement}
-use Rattle.sk_flips.specs.declared.Placement.{Placement}
-use Rattle.sk_flips.specs.declared.Placement.TheVariants.{Fault, Uncarried, Beyond, Turned, Holds}
+use Rattle.sk_solve.specs.declared.Placement.{Placement}
+use Rattle.sk_solve.specs.declared.Placement.TheVariants.{Fault, Uncarried, Beyond, Turned, Holds}
 use Rattle.sk_parts.proofs.Sharing.{covered_judged, sole_judged, whole_judged, well_judged}
 use Rattle.sk_report.specs.CheckReport.{part_line, parts_head}
 use Rattle.sk_report.specs.SolveReport.{solve_counts, places_report}

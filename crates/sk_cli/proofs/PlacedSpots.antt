@@ -28,7 +28,7 @@ use Rattle.sk_place.specs.Clusters.{nodes_of}
 use Rattle.sk_graph.specs.SketchGraph.{graph_of}
 use Rattle.sk_place.specs.declared.FrameBy.{FrameBy}
 use Rattle.sk_place.specs.declared.FrameBy.TheVariants.{Base, Drawn}
-use Rattle.sk_flips.specs.Placements.{IsCarried, IsLaid}
+use Rattle.sk_solve.specs.Placements.{IsCarried, IsLaid}
 use Rattle.sk_place.specs.Placing.{IsPlaced}
 use Rattle.sk_place.specs.Rounding.{IsWithin, IsBoundedBox, AreBounded, midpoint, rounded, rounded_box}
 use Rattle.sk_place.proofs.Midpoints.{parts_within}
@@ -36,7 +36,7 @@ use Rattle.sk_place.proofs.OnePlacing.{one_list, not_both}
 use Rattle.sk_holding.specs.Placing.{AreSpotsOf, PlacesExactly}
 use Rattle.sk_holding.proofs.InOrder.{exactly_in_order}
 use Rattle.sk_cli.specs.Solving.{midpoints}
-use Rattle.sk_flips.proofs.SpotsPlaced.{spots_made}
+use Rattle.sk_solve.proofs.SpotsPlaced.{spots_made}
 use Rattle.sk_place.proofs.SomePlaces.{some_places}
 use Rattle.sk_place.proofs.Results.{each_nodes, each_bounded}
 

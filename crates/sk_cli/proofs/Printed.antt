@@ -36,8 +36,8 @@ use Rattle.sk_residual.proofs.Merging.{has_blocks}
 use Rattle.sk_residual.proofs.Worsts.{all_hold_within}
 use Rattle.sk_report.specs.PlanReport.{plan_report}
 use Rattle.sk_worklist.specs.declared.Order.{Order}
-use Rattle.sk_flips.specs.declared.Placement.{Placement}
-use Rattle.sk_flips.specs.declared.Placement.TheVariants.{Fault, Uncarried, Beyond, Turned, Holds}
+use Rattle.sk_solve.specs.declared.Placement.{Placement}
+use Rattle.sk_solve.specs.declared.Placement.TheVariants.{Fault, Uncarried, Beyond, Turned, Holds}
 use Rattle.sk_request.specs.declared.Request.{Request}
 use Rattle.sk_cli.specs.declared.solving.Report.{Report}
 use Rattle.sk_cli.specs.declared.status.Status.{Status}

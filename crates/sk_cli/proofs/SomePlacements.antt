@@ -29,16 +29,16 @@ use Rattle.sk_residual.specs.Telling.{spotted_constraint}
 use Rattle.sk_residual.specs.Tolerances.{lengthwise, anglewise, everything}
 use Rattle.sk_residual.specs.Turns.{signs_wanted}
 use Rattle.sk_residual.proofs.Worsts.{worst_lengthwise_named}
-use Rattle.sk_flips.specs.declared.Alternative.{Alternative}
-use Rattle.sk_flips.specs.declared.Alternative.TheVariants.{NoChoice}
-use Rattle.sk_flips.specs.declared.Placement.{Placement}
-use Rattle.sk_flips.specs.declared.Placement.TheVariants.{Fault, Uncarried, Beyond, Turned, Holds}
-use Rattle.sk_flips.specs.Alternatives.{alternative_of, IsAlternative, AreAlternatives}
+use Rattle.sk_solve.specs.declared.Alternative.{Alternative}
+use Rattle.sk_solve.specs.declared.Alternative.TheVariants.{NoChoice}
+use Rattle.sk_solve.specs.declared.Placement.{Placement}
+use Rattle.sk_solve.specs.declared.Placement.TheVariants.{Fault, Uncarried, Beyond, Turned, Holds}
+use Rattle.sk_solve.specs.Alternatives.{alternative_of, IsAlternative, AreAlternatives}
 use Rattle.sk_flips.specs.Flipping.{first_without_choice, flipped}
-use Rattle.sk_flips.specs.Placements.{midpoints, IsCarried, IsLaid, IsMeasured, IsPlacement}
+use Rattle.sk_solve.specs.Placements.{midpoints, IsCarried, IsLaid, IsMeasured, IsPlacement}
 use Rattle.sk_flips.proofs.FlippedPlans.{flipped_is_legal}
-use Rattle.sk_flips.proofs.InTurn.{is_alternative}
-use Rattle.sk_flips.proofs.SpotsPlaced.{measured_there}
+use Rattle.sk_solve.proofs.InTurn.{is_alternative}
+use Rattle.sk_solve.proofs.SpotsPlaced.{measured_there}
 use Rattle.sk_cli.proofs.PlacedSpots.{laid_exactly}
 use Rattle.sk_residual.proofs.SomeMeasures.{own_everything, own_lengthwise, own_anglewise, some_told, searched, compared}
 use Rattle.sk_place.proofs.SomePlaces.{some_places}

@@ -24,8 +24,8 @@ use Rattle.sk_request.specs.declared.Command.{Command}
 use Rattle.sk_request.specs.declared.Command.TheVariants.{Check, Plan, Solve, Dxf, Offers, Session, Grow, Migrate, Verify, Spare, Flips, Derive, Parts, Live, Excess}
 use Rattle.sk_lang.specs.declared.Front.{Front}
 use Rattle.sk_residual.specs.declared.Wanted.TheVariants.{Drawn}
-use Rattle.sk_flips.specs.declared.Placement.{Placement}
-use Rattle.sk_flips.specs.declared.Placement.TheVariants.{Fault, Uncarried, Beyond, Turned, Holds}
+use Rattle.sk_solve.specs.declared.Placement.{Placement}
+use Rattle.sk_solve.specs.declared.Placement.TheVariants.{Fault, Uncarried, Beyond, Turned, Holds}
 use Rattle.sk_request.specs.declared.Request.{Request}
 use Rattle.sk_cli.specs.FlipsReport.{IsFlipped, IsFlipsAnswer}
 use Rattle.sk_cli.specs.LiveAnswer.{IsLiveAnswer}
@@ -40,7 +40,7 @@ use Rattle.sk_request.specs.Grids.{grid_of, digits_of}
 use Rattle.sk_cli.specs.Solving.{midpoints, status_of, IsMeasured, IsPlacement}
 use Rattle.sk_cli.specs.Outcome.{IsPlanOrReport, IsSolved, IsAnswer, IsAnswerOf, IsAccountAnswer, IsOutcome}
 use Rattle.sk_cli.specs.Causes.{plans, solves, IsReportOf, IsSketchOf, EndsInTime, IsRefusedInput, IsItsPlan, HasFault, LieAt, NonePasses, SomePasses, SomeTurned}
-use Rattle.sk_flips.proofs.OnePlacement.{laid_measured, same_placement}
+use Rattle.sk_solve.proofs.OnePlacement.{laid_measured, same_placement}
 use Rattle.sk_request.proofs.OneRequest.{same_request}
 use Rattle.sk_cli.proofs.OneOutcome.{OneSketch, NotBoth, OneJudgement, LowerLaws, still_well, one_solved, told_account, told_plan, told_planned, told_solve, told_offers, told_session, told_claim, told_flips, told_flipped, not_read_and_refused, not_accepted_and_failing, not_claimed_and_refused, not_flips_and_refused}
 use Rattle.sk_cli.proofs.Runs.{solved_told}

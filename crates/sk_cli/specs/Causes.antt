@@ -14,7 +14,7 @@ use Rattle.sk_plan.specs.PlanBy.{IsPlanBy}
 use Rattle.sk_place.specs.declared.BoxAt.{BoxAt}
 use Rattle.sk_place.specs.declared.BoxFault.{BoxFault}
 use Rattle.sk_place.specs.declared.StepFault.{StepFault}
-use Rattle.sk_flips.specs.Placements.{IsCarried, IsLaid}
+use Rattle.sk_solve.specs.Placements.{IsCarried, IsLaid}
 use Rattle.sk_place.specs.declared.PlaceError.TheVariants as errors
 use Rattle.sk_place.specs.Placing.{IsPlaced}
 use Rattle.sk_residual.specs.declared.Turned.{Turned}

@@ -17,8 +17,8 @@ use Rattle.sk_residual.specs.declared.Tolerance.{Tolerance}
 use Rattle.sk_residual.specs.Offs.{IsOff}
 use Rattle.sk_residual.specs.Telling.{IsCompared}
 use Rattle.sk_residual.specs.Turns.{senses}
-use Rattle.sk_flips.specs.declared.Placement.{Placement}
-use Rattle.sk_flips.specs.declared.Placement.TheVariants.{Holds}
+use Rattle.sk_solve.specs.declared.Placement.{Placement}
+use Rattle.sk_solve.specs.declared.Placement.TheVariants.{Holds}
 use Rattle.sk_parts.specs.OwnSketch.{part_sketch}
 use Rattle.sk_excess.specs.LeftOut.{AreLeftOut}
 use Rattle.sk_excess.specs.KeptSketch.{kept_sketch}

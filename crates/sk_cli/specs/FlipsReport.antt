@@ -13,9 +13,9 @@ use Rattle.sk_text.specs.ClusterName.{cluster_name}
 use Rattle.sk_report.specs.FaultLines.{fault_line, frame_fault_line, passed_line, turned_line}
 use Rattle.sk_report.specs.RefusalLine.{refusal_line}
 use Rattle.sk_report.specs.SolveReport.{places_report}
-use Rattle.sk_flips.specs.declared.Alternative.{Alternative}
-use Rattle.sk_flips.specs.declared.Alternative.TheVariants.{Found, NoChoice, Fault, Uncarried, Passed, Turned}
-use Rattle.sk_flips.specs.Alternatives.{AreAlternatives}
+use Rattle.sk_solve.specs.declared.Alternative.{Alternative}
+use Rattle.sk_solve.specs.declared.Alternative.TheVariants.{Found, NoChoice, Fault, Uncarried, Passed, Turned}
+use Rattle.sk_solve.specs.Alternatives.{AreAlternatives}
 use Rattle.sk_flips.specs.FlipReading.{ReadsFlips, RefusesFlips}
 use Rattle.sk_request.specs.declared.Request.{Request}
 use Rattle.sk_cli.specs.declared.status.Status.{Status}

@@ -7,7 +7,7 @@ use Rattle.sk_verdict.specs.declared.Part.{Part}
 use Rattle.sk_verdict.specs.Judging.{IsOver}
 use Rattle.sk_tree.specs.declared.Plan.{Plan as ThePlan}
 use Rattle.sk_plan.specs.Judged.{IsTheJudgement}
-use Rattle.sk_flips.specs.declared.Placement.{Placement}
+use Rattle.sk_solve.specs.declared.Placement.{Placement}
 use Rattle.sk_parts.specs.OwnSketch.{part_sketch}
 use Rattle.sk_report.specs.CheckReport.{part_line, parts_head}
 use Rattle.sk_request.specs.declared.Request.{Request}

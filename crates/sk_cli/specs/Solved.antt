@@ -8,7 +8,7 @@ use Rattle.sk_tree.specs.declared.Plan.{Plan as ThePlan}
 use Rattle.sk_plan.specs.Judged.{IsTheJudgement}
 use Rattle.sk_plan.specs.PlanBy.{IsPlanBy}
 use Rattle.sk_report.specs.CheckReport.{check_report}
-use Rattle.sk_flips.specs.declared.Placement.{Placement}
+use Rattle.sk_solve.specs.declared.Placement.{Placement}
 use Rattle.sk_request.specs.declared.Request.{Request}
 use Rattle.sk_cli.specs.declared.solving.Report.{Report}
 use Rattle.sk_cli.specs.declared.status.Status.{Status}

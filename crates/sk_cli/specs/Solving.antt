@@ -10,10 +10,10 @@ use Rattle.sk_report.specs.SolveReport.{shape_report, solve_report}
 use Rattle.sk_report.specs.GrowReport.{grow_report}
 use Rattle.sk_dxf.specs.Entities.{dxf_of}
 use Rattle.sk_report.specs.FaultLines.{fault_line, frame_fault_line, passed_line, turned_line}
-pub use Rattle.sk_flips.specs.Placements.{midpoints, IsTolerance, LiesWithinBounds}
-use Rattle.sk_flips.specs.Placements.{IsMeasured as IsMeasuredAs, IsPlacement as IsPlacementAs}
-use Rattle.sk_flips.specs.declared.Placement.{Placement}
-use Rattle.sk_flips.specs.declared.Placement.TheVariants.{Fault, Uncarried, Beyond, Turned, Holds}
+pub use Rattle.sk_solve.specs.Placements.{midpoints, IsTolerance, LiesWithinBounds}
+use Rattle.sk_solve.specs.Placements.{IsMeasured as IsMeasuredAs, IsPlacement as IsPlacementAs}
+use Rattle.sk_solve.specs.declared.Placement.{Placement}
+use Rattle.sk_solve.specs.declared.Placement.TheVariants.{Fault, Uncarried, Beyond, Turned, Holds}
 use Rattle.sk_cli.specs.declared.solving.Report.{Report}
 use Rattle.sk_cli.specs.declared.solving.Report.TheVariants.{Places, Drawing, Sums, Shape}
 use Rattle.sk_cli.specs.declared.status.Status.{Status}

@@ -3,8 +3,8 @@ ghost use Rattle.std.specs.Prelude.{◌≡◌, IfOk, string_bytes};
 ghost use Rattle.sk_cli.specs.FlipsReport.{found_words, flip_line, lines_below, alternative_report};
 
 use sk_base::{NoMemory, Sketch, Text};
-use sk_flips::Alternative;
 use sk_report::{fault_text, frame_fault_text, passed_text, places_text, turned_text};
+use sk_solve::Alternative;
 use sk_text::cluster_name;
 use std::alloc::Global;
 

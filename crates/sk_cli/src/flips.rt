@@ -1,7 +1,7 @@
 // The command `flips`.
 ghost use Rattle.std.specs.Prelude.{◌≡◌, ◌<◌, ◌≤◌, length, IfOk};
 ghost use Rattle.sk_base.specs.SoundSketch.{IsSoundSketch};
-ghost use Rattle.sk_flips.specs.Alternatives.{AreAlternatives};
+ghost use Rattle.sk_solve.specs.Alternatives.{AreAlternatives};
 ghost use Rattle.sk_graph.specs.SketchGraph.{graph_of};
 ghost use Rattle.sk_tree.specs.LegalPlan.{IsLegalPlan};
 ghost use Rattle.sk_cli.specs.FlipsReport.{alternatives_from, IsFlipped, IsFlipsAnswer};
@@ -12,12 +12,13 @@ use crate::answer::{Answer, refused};
 use crate::planning::{Planning, plan_or_report};
 use crate::status::Status;
 use sk_base::{Graph, List, Name, NoMemory, Sketch, Text};
-use sk_flips::{Alternative, alternatives, read_flips};
+use sk_flips::read_flips;
 use sk_interval::{G16, G27, G38};
 use sk_lang::read_sketch_front;
 use sk_lines::ReadError;
 use sk_place::Layout;
 use sk_request::{Bits, Request};
+use sk_solve::{Alternative, alternatives};
 use sk_tree::Plan;
 use std::alloc::Global;
 

@@ -4,8 +4,8 @@ ghost use Rattle.sk_base.specs.declared.ConId.{ConId};
 ghost use Rattle.sk_base.specs.declared.Placed.{Placed};
 ghost use Rattle.sk_base.specs.declared.Sketch.{Sketch};
 ghost use Rattle.sk_base.specs.SoundSketch.{IsSoundSketch};
-ghost use Rattle.sk_flips.specs.declared.Alternative.TheVariants.{Found};
-ghost use Rattle.sk_flips.specs.Alternatives.{IsAlternative};
+ghost use Rattle.sk_solve.specs.declared.Alternative.TheVariants.{Found};
+ghost use Rattle.sk_solve.specs.Alternatives.{IsAlternative};
 ghost use Rattle.sk_graph.specs.SketchGraph.{graph_of};
 ghost use Rattle.sk_tree.specs.declared.Plan.{Plan};
 ghost use Rattle.sk_verdict.specs.declared.Judgement.{Judgement};
@@ -187,7 +187,7 @@ pub fn causes()
 /// Where `solve` is done with a sketch, the plan of the run by the order, with nothing turned, finds the very
 /// places and the tolerance that were told, so that `flips` with the same keys tells these where a line of
 /// flips names no step. By `one_plan` the order gives one plan at most, and by `one_alternative`
-/// of `sk_flips` such a plan has one alternative at most for a list of steps; so every line of flips that
+/// of `sk_solve` such a plan has one alternative at most for a list of steps; so every line of flips that
 /// names no step tells these, wherever it stands.
 pub fn solved_places_are_found()
     ensures { (request : Request) (s : Sketch) (text : List ℕ) → IsSoundSketch s → IsSolved Places request s Status.Done text

@@ -7,11 +7,11 @@ ghost use Rattle.sk_request.specs.Grids.{grid_of, digits_of};
 ghost use Rattle.sk_cli.specs.Solving.{IsPlacement, LiesWithinBounds};
 
 use sk_base::{Graph, NoMemory, Sketch};
-use sk_flips::{Placement, placed_on};
 use sk_interval::{G16, G27, G38};
 use sk_place::Layout;
 use sk_request::Bits;
 use sk_residual::Wanted;
+use sk_solve::{Placement, placed_on};
 use sk_tree::Plan;
 use std::alloc::Global;
 

@@ -11,12 +11,12 @@ use crate::planning::{Planning, plan_or_report};
 use crate::status::Status;
 use sk_base::{NoMemory, Placed, Sketch, Text};
 use sk_dxf::dxf_text;
-use sk_flips::Placement;
 use sk_report::{
     fault_text, frame_fault_text, grow_text, passed_text, shape_text, solve_text, turned_text,
 };
 use sk_request::Request;
 use sk_residual::Tolerance;
+use sk_solve::Placement;
 use sk_tree::Plan;
 use std::alloc::Global;
 

@@ -1,5 +1,5 @@
 use Rattle.std.proofs.Common.{arith}
-use Rattle.sk_flips.proofs.InTurn.{as_many}
+use Rattle.sk_solve.proofs.InTurn.{as_many}
 use Rattle.sk_request.specs.Grids.{grid_of, digits_of}
 use Rattle.sk_cli.proofs.flips.flipped.Goals as goal
 

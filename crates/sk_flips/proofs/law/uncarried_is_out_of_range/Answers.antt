@@ -1,5 +1,0 @@
-use Rattle.sk_flips.proofs.FinerLaid.{out_of_range}
-use Rattle.sk_flips.proofs.law.uncarried_is_out_of_range.Goals as goal
-
-pub returns : goal.returns
-returns g c frame wanted F limit s p f is = out_of_range _ F s p frame f is

@@ -1,0 +1,14 @@
+pub mod SpotsPlaced
+pub mod InTurn
+pub mod OpenSteps
+pub mod Untouched
+pub mod Differing
+pub mod Meeting
+pub mod OnePlacement
+pub mod AnchorPlaces
+pub mod KeptPaths
+pub mod BaseBoxes
+pub mod BasePlaces
+pub mod AnchorBoxes
+pub mod AnchorLaws
+pub mod FinerLaid
