@@ -34,7 +34,9 @@ use Rattle.sk_excess.specs.LeftOut.{is_number, is_kept, kept_graph, above, AreLe
 use Rattle.sk_excess.specs.Thinning.{AreLeftOutOf}
 use Rattle.sk_excess.proofs.SomeLess.{kept_not, none_kept, in_above, part_has, has_part, kept_same}
 use Rattle.sk_excess.proofs.OneClusters.{whole_in, only_whole, whole_at, whole_owns, whole_has, spare_has, spare_one, one_spare, one_with_more, one_decided}
-use Rattle.sk_excess.proofs.Aside.{without_kept, one_with_fewer, all_left, none_left, lone_left, still_one, both_left}
+use Rattle.sk_excess.proofs.Without.{without_kept}
+use Rattle.sk_excess.proofs.Going.{none_gone, both_gone, same_gone}
+use Rattle.sk_excess.proofs.Aside.{one_with_fewer, all_left, lone_left, still_one}
 
 -- what is left out of all constraints
 pub left_of_all : (g : Graph) → IsSoundGraph g → (all left : List ConId) → ((k : ConId) → HasConstraint g k → Contains all k) → AreLeftOutOf g all left → AreLeftOut g left
@@ -51,7 +53,7 @@ left_of_all g sound all left has are = record {
 
 -- some constraints have such a list
 pub some_left : (g : Graph) → IsSoundGraph g → IsOneCluster g → (all : List ConId) → IsRising con_number all → ((k : ConId) → Contains all k → HasConstraint g k) → (left : List ConId) × AreLeftOutOf g all left
-some_left g sound one [] rise there = ([], none_left g sound [] (λ k h. absurd (contains_none k h)))
+some_left g sound one [] rise there = ([], none_gone IsSpare g sound [] (λ k h. absurd (contains_none k h)))
 some_left g sound one (x ∷ xs) rise there =
     let (late, of_late) = some_left g sound one xs (rising_tail con_number x xs rise) (λ k h. there k (contains_later x xs k h)) in
     let rest_sound : IsSoundGraph (kept_graph late g) = sound_part g (is_kept late) sound in
@@ -64,14 +66,14 @@ some_left g sound one (x ∷ xs) rise there =
     elim (one_decided (kept_graph (x ∷ []) (kept_graph late g)) (sound_part (kept_graph late g) (is_kept (x ∷ [])) rest_sound)) [
       | inl left ↦ (
         (x ∷ []) ++ late,
-        both_left g sound (x ∷ []) xs (x ∷ []) late of_late
+        both_gone IsSpare g sound (x ∷ []) xs (x ∷ []) late of_late
             (all_left (kept_graph late g) rest_sound (x ∷ []) (rising_cons con_number x [] (rising_none con_number) (λ y h. absurd (contains_none y h))) here left)
             apart,
       )
       | inr not ↦ (
         late,
-        both_left g sound (x ∷ []) xs [] late of_late
-            (none_left (kept_graph late g) rest_sound (x ∷ []) (lone_left (kept_graph late g) rest_sound rest_one (x ∷ []) (omega arith) not))
+        both_gone IsSpare g sound (x ∷ []) xs [] late of_late
+            (none_gone IsSpare (kept_graph late g) rest_sound (x ∷ []) (lone_left (kept_graph late g) rest_sound rest_one (x ∷ []) (omega arith) not))
             apart,
       )
     ]
@@ -83,44 +85,9 @@ some_left_out g sound one =
     let (left, are) = some_left g sound one all rise (whole_has g sound one) in
     (left, left_of_all g sound all left (whole_owns g sound one) are)
 
--- a number that is greater than all of some
-bound : (ks : List ConId) → (most : ℕ) × ((k : ConId) → Contains ks k → k.0 < most)
-bound [] = (0, λ k h. absurd (contains_none k h))
-bound (x ∷ xs) =
-    let (most, below) = bound xs in (
-      x.0 + 1 + most,
-      λ k h. elim (contains_cases x xs k h) [
-        | inl here ↦ (let level = ap con_number here in omega (arith, level))
-        | inr later ↦ (let less = below k later in omega (arith, less))
-      ],
-    )
-
--- from the greatest number down, the same are left out
-module _ (g : Graph) (sound : IsSoundGraph g) (one other : List ConId) (p : AreLeftOut g one) (q : AreLeftOut g other) where
-  agree_from : (m : ℕ) (k : ConId) → (bound one).0 + (bound other).0 ≤ k.0 + m → Contains one k ↔ Contains other k
-  agree_from zero k over = (
-    (λ h. absurd (let less = (bound one).1 k h in omega (arith, less, over))),
-    (λ h. absurd (let less = (bound other).1 k h in omega (arith, less, over))),
-  )
-  agree_from (suc m) k over =
-      let same = kept_same g sound (above k one) (above k other) (λ j. (
-        (λ h. (
-            let was = (in_above k one j).0 h in
-            (in_above k other j).1 ((agree_from m j (omega (arith, over, was.1))).0 was.0, was.1))),
-        (λ h. (
-            let was = (in_above k other j).0 h in
-            (in_above k one j).1 ((agree_from m j (omega (arith, over, was.1))).1 was.0, was.1))),
-      )) in (
-        (λ h. (q.exactly k).1 (subst (λ (s : Graph). IsSpare s k) same ((p.exactly k).0 h))),
-        (λ h. (p.exactly k).1 (subst (λ (s : Graph). IsSpare s k) (sym same) ((q.exactly k).0 h))),
-      )
-
-  pub one_list : one ≡ other
-  one_list =
-      let most = (bound one).0 + (bound other).0 in
-      rising_same con_number one other p.rise q.rise
-      (λ k h. (agree_from most k (omega arith)).0 h)
-      (λ k h. (agree_from most k (omega arith)).1 h)
+-- there is one such list
+pub one_list : (g : Graph) → IsSoundGraph g → (one other : List ConId) → AreLeftOut g one → AreLeftOut g other → one ≡ other
+one_list g sound one other p q = same_gone IsSpare g sound one other p.exactly q.exactly p.rise q.rise
 
 module _ (g : Graph) (sound : IsSoundGraph g) (left : List ConId) (are : AreLeftOut g left) where
   pub left_has : (k : ConId) → Contains left k → HasConstraint g k

@@ -1,4 +1,7 @@
 pub mod SomeLess
+pub mod Without
+pub mod Going
+pub mod Halves
 pub mod OneClusters
 pub mod Aside
 pub mod Choosing

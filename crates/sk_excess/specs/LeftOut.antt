@@ -1,22 +1,14 @@
 -- What a minimal choice of a cluster's constraints leaves out. They are looked at once each, from the greatest number
 -- to the least.
-use Rattle.std.specs.Prelude.{◌≡◌, ◌↔◌, ◌==◌, not, nat_lt, Bool, List, Contains, filter}
-use Rattle.std.specs.List.{list_any}
+use Rattle.std.specs.Prelude.{◌≡◌, ◌↔◌, nat_lt, List, Contains, filter}
 use Rattle.sk_base.specs.declared.ConId.{ConId}
 use Rattle.sk_base.specs.declared.Graph.{Graph}
 use Rattle.sk_base.specs.Numbering.{con_number}
 use Rattle.sk_base.specs.Rising.{IsRising}
 use Rattle.sk_family.specs.Body.{Start, starts}
 use Rattle.sk_rules.specs.JustSome.{with_just}
+pub use Rattle.sk_spare.specs.Numbers.{is_number, is_kept}
 use Rattle.sk_spare.specs.Sparing.{IsSpare}
-
--- whether it is one of these
-abbrev pub is_number : List ConId → ConId → Bool
-is_number numbers k = list_any (λ (j : ConId). j.0 == k.0) numbers
-
--- whether it is none of those that are left out
-abbrev pub is_kept : List ConId → ConId → Bool
-is_kept left k = not (is_number left k)
 
 -- the graph without the constraints that are left out
 abbrev pub kept_graph : List ConId → Graph → Graph

@@ -1,3 +1,4 @@
 pub mod LeftOut
+pub mod Going
 pub mod Thinning
 pub mod KeptSketch

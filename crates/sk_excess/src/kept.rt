@@ -2,10 +2,11 @@
 ghost use Rattle.std.specs.Prelude.{◌≡◌, filter, IfOk};
 ghost use Rattle.sk_base.specs.declared.Constraint.{Constraint as TheConstraint};
 ghost use Rattle.sk_base.specs.SoundSketch.{IsSoundSketch};
-ghost use Rattle.sk_excess.specs.LeftOut.{is_kept, is_number};
+ghost use Rattle.sk_excess.specs.LeftOut.{is_kept};
 ghost use Rattle.sk_excess.specs.KeptSketch.{kept_sketch};
 
 use sk_base::{ConId, Constraint, List, NoMemory, Sketch, copy_constraint};
+use sk_spare::is_kept;
 use std::alloc::Global;
 
 /// The sketch with all its elements and the constraints that are none of these, in their order, with their numbers.
@@ -38,18 +39,4 @@ fn kept_constraints(
         }
     }
     Ok(kept)
-}
-
-/// Whether the number is none of these.
-pub(crate) fn is_kept(left: &[ConId], number: ConId) -> bool
-    ensures { result ≡ is_kept left.now number }
-{
-    !is_among(left, number)
-}
-
-/// Whether the number is one of these.
-fn is_among(numbers: &[ConId], number: ConId) -> bool
-    ensures { result ≡ is_number numbers.now number }
-{
-    numbers.iter().any(|other| other.0 == number.0)
 }

@@ -3,7 +3,7 @@
 // nodes, all of the segment is left out: more constraints never leave less. Where it isn't, one constraint alone is
 // kept, and all of a segment where all that there is would be too few; else the greater half is looked at with the
 // lesser one put back, and then the lesser one with what is kept of the greater one put back.
-ghost use Rattle.std.specs.Prelude.{◌≡◌, ◌+◌, ◌≤◌, Bool, IfOk, length, filter};
+ghost use Rattle.std.specs.Prelude.{◌≡◌, ◌+◌, ◌≤◌, Bool, IfOk, length};
 ghost use Rattle.sk_base.specs.declared.ConId.{ConId as Number};
 ghost use Rattle.sk_base.specs.Numbering.{con_number};
 ghost use Rattle.sk_base.specs.Rising.{IsRising};
@@ -11,13 +11,12 @@ ghost use Rattle.sk_base.specs.SoundGraph.{IsSoundGraph};
 ghost use Rattle.sk_family.specs.Clusters.{bodies};
 ghost use Rattle.sk_rules.specs.JustSome.{with_just};
 ghost use Rattle.sk_verdict.specs.OneCluster.{IsOneCluster};
-ghost use Rattle.sk_excess.specs.LeftOut.{is_kept, AreLeftOut};
+ghost use Rattle.sk_excess.specs.LeftOut.{AreLeftOut};
 ghost use Rattle.sk_excess.specs.Thinning.{some_has, AreLeftOutOf, IsWithout};
 
-use crate::kept::is_kept;
 use sk_base::{ConId, Graph, List, NoMemory};
 use sk_family::{Cluster, Family, initial};
-use sk_spare::{are_too_few, no_graph, normal_family, with_these};
+use sk_spare::{are_too_few, copy_of, no_graph, normal_family, others_of, with_these};
 use std::alloc::Global;
 
 /// The constraints that are left out where they are looked at from the greatest number to the least, and each is left
@@ -58,7 +57,7 @@ fn left_of(
             let middle = aside.len() / 2;
             let with_less = with_these(alloc, graph, family, &aside[..middle])?;
             let greater = left_of(alloc, graph, owner, &aside[middle..], &with_less)?;
-            let kept = kept_of(alloc, &aside[middle..], greater.as_slice())?;
+            let kept = others_of(alloc, &aside[middle..], greater.as_slice())?;
             let with_kept = with_these(alloc, graph, family, kept.as_slice())?;
             let mut left = left_of(alloc, graph, owner, &aside[..middle], &with_kept)?;
             left.extend(greater.as_slice())?;
@@ -74,25 +73,4 @@ fn some_has(count: usize, clusters: &[Cluster]) -> bool
     clusters
         .iter()
         .any(|cluster| cluster.elements.len() == count)
-}
-
-fn copy_of(alloc: Global, numbers: &[ConId]) -> Result<List<ConId>, NoMemory>
-    ensures { IfOk result (λ copy. copy ≡ numbers.now) }
-{
-    let mut copy = List::new(alloc);
-    copy.extend(numbers)?;
-    Ok(copy)
-}
-
-/// Those of the numbers that aren't left out.
-fn kept_of(alloc: Global, numbers: &[ConId], left: &[ConId]) -> Result<List<ConId>, NoMemory>
-    ensures { IfOk result (λ kept. kept ≡ filter (is_kept left.now) numbers.now) }
-{
-    let mut kept = List::new(alloc);
-    for number in numbers {
-        if is_kept(left, *number) {
-            kept.push(*number)?;
-        }
-    }
-    Ok(kept)
 }

@@ -1,6 +1,5 @@
 -- Families that some of a graph's constraints make, as the search by halves keeps them.
-use Rattle.std.specs.Prelude.{◌≡◌, ◌↔◌, ◌==◌, ◌||◌, ◌*◌, ◌-◌, ℕ, Bool, true, false, List, Contains, length}
-use Rattle.std.specs.List.{list_any}
+use Rattle.std.specs.Prelude.{◌≡◌, ◌↔◌, ◌||◌, ◌*◌, ◌-◌, ℕ, Bool, true, false, List, Contains, length}
 use Rattle.sk_base.specs.declared.ConId.{ConId}
 use Rattle.sk_base.specs.declared.Graph.{Graph}
 use Rattle.sk_base.specs.Numbering.{con_number}
@@ -9,6 +8,7 @@ use Rattle.sk_family.specs.declared.Cluster.{Cluster}
 use Rattle.sk_family.specs.Body.{Body, Start, starts, initial_bodies}
 use Rattle.sk_rules.specs.Reach.{Reach, IsClosed, IsNormal}
 use Rattle.sk_rules.specs.JustSome.{with_just}
+use Rattle.sk_spare.specs.Numbers.{is_number}
 
 -- merging leads to the family from the starts of the constraints that pass
 abbrev pub IsMadeOf : Graph → (ConId → Bool) → List Body → Type 0
@@ -16,7 +16,7 @@ IsMadeOf g passes f = Reach (with_just passes g) (initial_bodies (with_just pass
 
 -- whether it is one of these, or passes
 abbrev pub too : (ConId → Bool) → List ConId → ConId → Bool
-too passes numbers k = list_any (λ (j : ConId). j.0 == k.0) numbers || passes k
+too passes numbers k = is_number numbers k || passes k
 
 -- these are constraints of the graph, rising, and none of them passes
 pub record AreFurther (g : Graph) (passes : ConId → Bool) (numbers : List ConId) : Type 0 where

@@ -1,5 +1,5 @@
 -- What a cluster is tried by without one of its constraints.
-use Rattle.std.specs.Prelude.{Bool, ◌==◌, ◌&&◌, List}
+use Rattle.std.specs.Prelude.{Bool, ◌&&◌, List}
 use Rattle.std.specs.List.{list_any, list_all}
 use Rattle.sk_base.specs.declared.Elem.{Elem}
 use Rattle.sk_base.specs.declared.ConId.{ConId}
@@ -7,11 +7,12 @@ use Rattle.sk_base.specs.declared.Graph.{Graph}
 use Rattle.sk_family.specs.declared.Cluster.{Cluster}
 use Rattle.sk_base.specs.Numbering.{is_elem}
 use Rattle.sk_rules.specs.JustSome.{with_just}
+use Rattle.sk_spare.specs.Numbers.{is_number}
 use Rattle.sk_spare.specs.Sparing.{differs_from}
 
 -- whether the constraint is one of these, and not the one of that number
 abbrev pub is_other : List ConId → ConId → ConId → Bool
-is_other owned k j = list_any (λ (i : ConId). i.0 == j.0) owned && differs_from k j
+is_other owned k j = is_number owned j && differs_from k j
 
 -- the graph of these constraints alone, but for one
 abbrev pub trial_graph : List ConId → ConId → Graph → Graph

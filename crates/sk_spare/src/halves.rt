@@ -1,8 +1,8 @@
-// The spare constraints of a cluster, by halves. Each family here is closed, of the owner's constraints
-// but for a segment of them. Where the family holds all that the owner holds, all of the segment may go.
-// Where it does not, one constraint alone may not, nor any of a segment where all that there is would be
-// too few for the owner; else each half is tried with the other one put back, so that each level of the
-// search puts a constraint in once.
+// Which constraints of a cluster are spare, found by halves. Some of its constraints are set aside, and a family of all
+// its others is closed. Where one cluster of that family holds all elements of the owner, all that are set aside are spare.
+// Where none does, none of them is spare if it is one constraint alone, or if all of them weigh too little together with
+// that family. Else they are cut in two halves, and each half is tried with the other one put back. So a constraint is put
+// back once at most on each level of the search.
 ghost use Rattle.std.specs.Prelude.{◌≡◌, ◌+◌, ◌*◌, ◌<◌, ◌≤◌, ◌↔◌, ◌⊎◌, Bool, OnOk, IsTrue, Contains, List as Items, [], length, sum_by};
 ghost use Rattle.sk_base.specs.declared.ConId.{ConId as Number};
 ghost use Rattle.sk_base.specs.Numbering.{con_number};

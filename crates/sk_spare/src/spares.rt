@@ -1,5 +1,5 @@
 // The spare constraints of a graph.
-ghost use Rattle.std.specs.Prelude.{◌≡◌, ◌↔◌, IfOk, IsTrue, Contains, List as Items};
+ghost use Rattle.std.specs.Prelude.{◌≡◌, ◌↔◌, IfOk, Contains, List as Items};
 ghost use Rattle.sk_base.specs.declared.ConId.{ConId as Number};
 ghost use Rattle.sk_base.specs.SoundGraph.{IsSoundGraph};
 ghost use Rattle.sk_family.specs.Body.{Body, Start};
@@ -10,6 +10,7 @@ ghost use Rattle.sk_verdict.specs.Parts.{part_with};
 ghost use Rattle.sk_spare.specs.Sparing.{AreSpares, IsOwner, IsSpare};
 
 use crate::halves::try_owned;
+use crate::numbers::is_among;
 use crate::trial::normal_family;
 use sk_base::{ConId, Graph, List, NoMemory};
 use sk_family::{Cluster, Family, initial};
@@ -28,7 +29,7 @@ pub fn spare(alloc: Global, graph: &Graph) -> Result<List<ConId>, NoMemory>
     let mut spares = List::new(alloc);
     for start in starts.clusters() {
         let number = number_of(start);
-        if is_among(number, &found) {
+        if is_among(found.as_slice(), number) {
             spares.push(number)?;
         }
     }
@@ -41,12 +42,6 @@ fn number_of(start: &Cluster) -> ConId
     ensures { (s : Start) → start.now ≡ start_of s → result ≡ s.number }
 {
     start.owned.as_slice()[0]
-}
-
-fn is_among(number: ConId, found: &List<ConId>) -> bool
-    ensures { IsTrue result ↔ Contains found.now number }
-{
-    found.as_slice().contains(&number)
 }
 
 /// The spare constraints, as they come cluster by cluster.

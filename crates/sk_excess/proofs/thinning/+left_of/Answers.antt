@@ -13,8 +13,11 @@ use Rattle.sk_rules.specs.JustSome.{with_just}
 use Rattle.sk_spare.specs.Halving.{AreFurther, IsMadeOf, cluster_weight}
 use Rattle.sk_spare.proofs.PutBack.{rest_is}
 use Rattle.sk_excess.specs.LeftOut.{is_kept}
-use Rattle.sk_excess.specs.Thinning.{AreLeftOutOf, but, IsWithout, some_has}
-use Rattle.sk_excess.proofs.Searching.{constraints_aside, all_go, lone_stays, none_go, less_further, kept_further, few_kept, greater_without, greater_left, less_without, both_go}
+use Rattle.sk_spare.specs.Sparing.{IsSpare}
+use Rattle.sk_excess.specs.Going.{but}
+use Rattle.sk_excess.specs.Thinning.{AreLeftOutOf, IsWithout, some_has}
+use Rattle.sk_excess.proofs.Halves.{constraints_aside, less_further, kept_further, few_kept, both_halves}
+use Rattle.sk_excess.proofs.Searching.{all_go, lone_stays, none_go, greater_without, greater_left, less_without}
 use Rattle.sk_excess.proofs.thinning.+left_of.Goals as goal
 use Rattle.sk_excess.proofs.thinning.+left_of.Goals.{After-some_has}
 
@@ -48,7 +51,7 @@ returns-in-empty t c p w =
 pub are_too_few-requires-clause-constraints : goal.are_too_few-requires-clause-constraints
 are_too_few-requires-clause-constraints t c =
     let (p, w) = c.requires.without in
-    constraints_aside c.args.graph.now c.requires.sound p c.args.aside.now c.requires.rise (bodies c.args.family.now) w
+    constraints_aside c.args.graph.now c.requires.sound p c.args.aside.now c.requires.rise (bodies c.args.family.now) w.rest
 
 pub returns-in_default-2 : goal.returns-in_default-2
 returns-in_default-2 t c p w =
@@ -62,7 +65,7 @@ pub with_these-requires-clause-further : goal.with_these-requires-clause-further
 with_these-requires-clause-further t c =
     let (p, w) = c.requires.without in
     let ks = c.args.aside.now in
-    (but p ks, (less_further c.args.graph.now c.requires.sound p ks c.requires.rise (bodies c.args.family.now) w (length ks / 2), w.made))
+    (but p ks, (less_further c.args.graph.now c.requires.sound p ks c.requires.rise (bodies c.args.family.now) w.rest (length ks / 2), w.rest.made))
 
 pub left_of-requires : goal.left_of-requires
 left_of-requires t c =
@@ -106,7 +109,7 @@ with_these-requires-in_default-3-clause-further t c =
     let is = kept_list c.as_slice.result.now c.in_ok-kept-in_default-3.kept c.as_slice-in_default-3.result.now (take (length ks - i) (drop i ks)) (drop i ks) late
     c.as_slice-in_default-3.ensures c.in_ok-kept-in_default-3.ensures c.as_slice.ensures (rest_is ks i) in
     subst (λ (js : List ConId). (q : ConId → Bool) × (AreFurther g q js × IsMadeOf g q (bodies c.args.family.now))) (sym is)
-    (but p ks, (kept_further g c.requires.sound p ks c.requires.rise (bodies c.args.family.now) w i late, w.made))
+    (but p ks, (kept_further g c.requires.sound p ks c.requires.rise (bodies c.args.family.now) w.rest i late, w.rest.made))
 
 pub with_these-requires-in_default-3-clause-room : goal.with_these-requires-in_default-3-clause-room
 with_these-requires-in_default-3-clause-room t c =
@@ -119,7 +122,7 @@ with_these-requires-in_default-3-clause-room t c =
     let is = kept_list c.as_slice.result.now c.in_ok-kept-in_default-3.kept c.as_slice-in_default-3.result.now (take (length ks - i) (drop i ks)) (drop i ks) late
     c.as_slice-in_default-3.ensures c.in_ok-kept-in_default-3.ensures c.as_slice.ensures (rest_is ks i) in
     let many = ap length is in
-    let few = few_kept g c.requires.sound p ks c.requires.rise (bodies c.args.family.now) w i late in
+    let few = few_kept g c.requires.sound p ks c.requires.rise (bodies c.args.family.now) w.rest i late in
     let left = length-drop i ks in
     omega (arith, many, few, left, c.requires.room)
 
@@ -140,7 +143,7 @@ left_of-requires-in_default-3 t c =
     (take (length ks - i) (drop i ks)) (rest_is ks i) late c.in_ok-greater-in_default-3.ensures in
     let early = length-take-le i ks i_in in
     let many = ap length is in
-    let few = few_kept g c.requires.sound p ks c.requires.rise f w i late in
+    let few = few_kept g c.requires.sound p ks c.requires.rise f w.rest i late in
     let left = length-drop i ks in
     let room = c.in_ok-with_kept-in_default-3.ensures.room in (
       omega (arith, two, early),
@@ -181,4 +184,4 @@ returns-in_ok-extend-in_default-3 t c p w =
     c.in_ok-with_kept-in_default-3.ensures.made c.in_ok-with_kept-in_default-3.ensures.closed) in
     let whole = c.in_ok-extend-in_default-3.ensures.ok ∙ ap (λ (js : List ConId). early ++ js) c.as_slice-in_default-3-2.ensures in
     subst (λ (js : List ConId). AreLeftOutOf (with_just p g) ks js) (sym whole)
-    (both_go g c.requires.sound p ks c.requires.rise f w i late of_greater early of_less)
+    (both_halves g c.requires.sound p ks c.requires.rise f w.rest i IsSpare late of_greater early of_less)

@@ -1,5 +1,5 @@
 use Rattle.std.proofs.Common.{◌≡◌, ◌+◌, ◌<◌, ◌++◌, List, [], ◌∷◌, length, get_or, take, ap, sym, subst, ◌∙◌, arith}
-use Rattle.std.specs.Prelude.{map}
+use Rattle.std.specs.Prelude.{Contains, map}
 use Rattle.sk_base.specs.declared.ConId.{ConId}
 use Rattle.sk_family.specs.Body.{Start, starts}
 use Rattle.sk_family.specs.Clusters.{Clusters, start_of}
@@ -31,10 +31,10 @@ loop-start-preserved c =
       | then-is_among+in_ok-push w ↦ subst (λ (ks : List ConId). AreSpareOf g (take (i + 1) (starts g)) ks) (sym (w.spares-is ∙ w.in_ok-push.ensures.ok))
           (subst (λ (k : ConId). AreSpareOf g (take (i + 1) (starts g)) (c.loop-start.spares ++ k ∷ [])) (sym is)
           (with_it g (starts g) i c.loop-start.spares c.loop-start.invariant within any_start (starts_rise g c.requires.edges_rise)
-          (subst (λ (k : ConId). IsSpare g k) is ((c.in_ok-found.ensures number).0 (c.is_among.ensures.0 w.if-is_among.true)))))
+          (subst (λ (k : ConId). IsSpare g k) is ((c.in_ok-found.ensures number).0 (subst (λ (ks : List ConId). Contains ks number) c.as_slice.ensures (c.is_among.ensures.decides.0 w.if-is_among.true))))))
       | else-is_among w ↦ subst (λ (ks : List ConId). AreSpareOf g (take (i + 1) (starts g)) ks) (sym w.spares-is)
           (without_it g (starts g) i c.loop-start.spares c.loop-start.invariant within any_start
-          (subst (λ (k : ConId). ¬ IsSpare g k) is (λ s. not_told c.is_among.result c.is_among.ensures w.if-is_among.false ((c.in_ok-found.ensures number).1 s))))
+          (subst (λ (k : ConId). ¬ IsSpare g k) is (λ s. not_told c.is_among.result c.is_among.ensures.decides w.if-is_among.false (subst (λ (ks : List ConId). Contains ks number) (sym c.as_slice.ensures) ((c.in_ok-found.ensures number).1 s)))))
     ]
 
 pub returns-clause-spares : goal.returns-clause-spares

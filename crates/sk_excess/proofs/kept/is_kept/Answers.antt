@@ -1,6 +1,0 @@
-use Rattle.std.proofs.Common.{ap}
-use Rattle.std.specs.Prelude.{not}
-use Rattle.sk_excess.proofs.kept.is_kept.Goals as goal
-
-pub returns : goal.returns
-returns c = ap not c.is_among.ensures
