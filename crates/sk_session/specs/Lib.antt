@@ -5,4 +5,4 @@ pub mod Standing
 pub mod State
 pub mod SessionCodes
 pub mod Replies
-pub mod Drawings
+pub mod ItsGraph

@@ -11,7 +11,7 @@ ghost use Rattle.sk_family.specs.Starts.{HasStart};
 ghost use Rattle.sk_graph.specs.SketchGraph.{graph_of};
 ghost use Rattle.sk_edits.specs.Changes.{HasItem};
 ghost use Rattle.sk_edits.specs.Edits.{applied, constraint_number, with_length, with_ratio};
-ghost use Rattle.sk_session.specs.Drawings.{IsItsGraph};
+ghost use Rattle.sk_session.specs.ItsGraph.{IsItsGraph};
 ghost use Rattle.sk_session.specs.Past.{edit_of, Stood, LeadsTo};
 ghost use Rattle.sk_plan.specs.ConstraintStarts.{constraint_start};
 ghost use Rattle.sk_edits.specs.Making.{CanMake, HasConstraint};

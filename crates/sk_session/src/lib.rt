@@ -4,10 +4,10 @@
 mod change;
 mod closing;
 mod done;
-mod drawing;
 mod law;
 mod lines;
 mod origin;
+mod reduced_sketch;
 mod reply;
 mod session;
 

@@ -15,7 +15,7 @@ ghost use Rattle.sk_session.specs.Replies.{Checks, Plans};
 
 use crate::closing::{Closing, close};
 use crate::done::Done;
-use crate::drawing::Drawing;
+use crate::reduced_sketch::ReducedSketch;
 use crate::reply::Reply;
 use sk_base::{List, NoMemory, Sketch};
 use sk_edits::Edit;
@@ -36,7 +36,7 @@ pub struct Session {
     order: Order,
     closing: Closing,
     done: List<Done>,
-    drawing: Drawing,
+    reduced: ReducedSketch,
     next_elem: u32,
     next_con: u32,
     count: u32,
@@ -52,7 +52,7 @@ impl Model for Session {
 
     ghost view = { λ s. record { order = s.order; closing = s.closing; edits = edits_of s.done; count = s.count; family = s.family } };
 
-    ghost invariant = { λ s. IsConsistent s.done s.drawing s.next_elem s.next_con s.count s.family };
+    ghost invariant = { λ s. IsConsistent s.done s.reduced s.next_elem s.next_con s.count s.family };
 }
 
 impl Session {
@@ -68,7 +68,7 @@ impl Session {
             order,
             closing,
             done: List::new(alloc),
-            drawing: Drawing::of(sketch),
+            reduced: ReducedSketch::of(sketch),
             next_elem: 1,
             next_con: 1,
             count: 0,
@@ -81,7 +81,7 @@ impl Session {
         ensures sketch { result.now ≡ sketch_in self.now }
         ensures sound { IsSoundSketch result.now }
     {
-        self.drawing.sketch()
+        self.reduced.sketch()
     }
 
     /// The kept family, one that merges of the sketch's initial family lead to.
@@ -134,9 +134,9 @@ impl Session {
     {
         let place = self.done.len();
         self.done
-            .push(Done::of(self.alloc, self.drawing.sketch(), edit)?)?;
+            .push(Done::of(self.alloc, self.reduced.sketch(), edit)?)?;
         let done = &self.done.as_slice()[place];
-        match self.drawing.change(self.alloc, &mut self.family, done) {
+        match self.reduced.change(self.alloc, &mut self.family, done) {
             Ok(()) => {
                 self.next_elem = done.element_after(self.next_elem);
                 self.next_con = done.constraint_after(self.next_con);
@@ -159,7 +159,7 @@ impl Session {
     {
         let last = self.done.len() - 1;
         let done = &self.done.as_slice()[last];
-        self.drawing
+        self.reduced
             .change_back(self.alloc, &mut self.family, done)?;
         self.next_elem = done.element_before(self.next_elem);
         self.next_con = done.constraint_before(self.next_con);
@@ -174,7 +174,7 @@ impl Session {
         ensures ok { IfOk result (λ answer. Checks self.old answer self.new) }
         ensures err { OnErr result (IsHeldUp self.old self.new) }
     {
-        let graph = self.drawing.take_graph(self.alloc)?;
+        let graph = self.reduced.take_graph(self.alloc)?;
         close(
             self.alloc,
             &mut self.family,
@@ -183,7 +183,7 @@ impl Session {
             self.closing,
         )?;
         let judgement = judge(self.alloc, &self.family, &graph)?;
-        self.drawing.keep_graph(graph);
+        self.reduced.keep_graph(graph);
         Ok(Reply::Checked(judgement))
     }
 
@@ -192,7 +192,7 @@ impl Session {
         requires { 0 < length (sketch_in self.now).elements }
         ensures { IfOk result (Plans self.now) }
     {
-        match planned_by(self.alloc, self.order, self.drawing.sketch()) {
+        match planned_by(self.alloc, self.order, self.reduced.sketch()) {
             Ok(planned) => Ok(Reply::Planned(planned.plan)),
             Err(PlanError::NotWell(judgement)) => Ok(Reply::NotWell(judgement)),
             Err(PlanError::NoMemory) => Err(NoMemory),

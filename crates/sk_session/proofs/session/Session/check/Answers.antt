@@ -28,7 +28,7 @@ pub invariant_of-self-in_err-close : goal.invariant_of-self-in_err-close
 invariant_of-self-in_err-close c =
     let k = c.self.invariant in
     rw c.take_graph.ensures.same
-    (consistent_merged c.self.inside.done c.self.inside.drawing c.self.inside.next_elem c.self.inside.next_con c.self.inside.count c.self.inside.family c.close.new.family k
+    (consistent_merged c.self.inside.done c.self.inside.reduced c.self.inside.next_elem c.self.inside.next_con c.self.inside.count c.self.inside.family c.close.new.family k
     c.close.ensures.sound c.close.ensures.room
     (subst (λ (g : Graph). Reach g (bodies c.self.inside.family) (bodies c.close.new.family)) c.in_ok-graph.ensures.graph c.close.ensures.reached))
 
@@ -36,7 +36,7 @@ pub invariant_of-self-in_err-judgement : goal.invariant_of-self-in_err-judgement
 invariant_of-self-in_err-judgement c =
     let k = c.self.invariant in
     rw c.take_graph.ensures.same
-    (consistent_merged c.self.inside.done c.self.inside.drawing c.self.inside.next_elem c.self.inside.next_con c.self.inside.count c.self.inside.family c.close.new.family k
+    (consistent_merged c.self.inside.done c.self.inside.reduced c.self.inside.next_elem c.self.inside.next_con c.self.inside.count c.self.inside.family c.close.new.family k
     c.close.ensures.sound c.close.ensures.room
     (subst (λ (g : Graph). Reach g (bodies c.self.inside.family) (bodies c.close.new.family)) c.in_ok-graph.ensures.graph c.close.ensures.reached))
 
@@ -44,7 +44,7 @@ pub invariant_of-self-2 : goal.invariant_of-self-2
 invariant_of-self-2 c =
     let k = c.self.invariant in
     rw (c.keep_graph.ensures, c.take_graph.ensures.same)
-    (consistent_merged c.self.inside.done c.self.inside.drawing c.self.inside.next_elem c.self.inside.next_con c.self.inside.count c.self.inside.family c.close.new.family k
+    (consistent_merged c.self.inside.done c.self.inside.reduced c.self.inside.next_elem c.self.inside.next_con c.self.inside.count c.self.inside.family c.close.new.family k
     c.close.ensures.sound c.close.ensures.room
     (subst (λ (g : Graph). Reach g (bodies c.self.inside.family) (bodies c.close.new.family)) c.in_ok-graph.ensures.graph c.close.ensures.reached))
 

@@ -24,12 +24,12 @@ invariant_of-self-in-Ok c =
     let given = subst (λ (e : Edit). Gives e (edits_of items)) edit_is (subst (λ (s : State). Gives c.args.edit s.edits) (sym c.self.view_is) c.requires.given) in
     let room = subst (λ (s : State). s.count < 1000000) (sym c.self.view_is) c.requires.room in
     let stood = subst (λ (s : Sketch). Stood d s) c.sketch.ensures c.in_ok-of.ensures.stood in
-    let ok = subst (λ (y : Done). c.change.new.self ≡ applied (edit_of y) c.self.inside.drawing) last c.in-Ok.ensures.ok in
-    let follows = subst (λ (y : Done). Follows (edit_of y) c.self.inside.drawing c.self.inside.family c.change.new.family) last c.in-Ok.ensures.follows in
+    let ok = subst (λ (y : Done). c.change.new.self ≡ applied (edit_of y) c.self.inside.reduced) last c.in-Ok.ensures.ok in
+    let follows = subst (λ (y : Done). Follows (edit_of y) c.self.inside.reduced c.self.inside.family c.change.new.family) last c.in-Ok.ensures.follows in
     let elem = subst (λ (y : Done). c.element_after-self-inside.result ≡ element_after (edit_of y) c.self.inside.next_elem) last c.element_after-self-inside.ensures in
     let con = subst (λ (y : Done). c.constraint_after-self-inside.result ≡ constraint_after (edit_of y) c.self.inside.next_con) last c.constraint_after-self-inside.ensures in
     rw (pushed, elem, con)
-    (consistent_made items c.self.inside.drawing c.change.new.self c.self.inside.next_elem c.self.inside.next_con c.self.inside.count c.self.inside.family c.change.new.family
+    (consistent_made items c.self.inside.reduced c.change.new.self c.self.inside.next_elem c.self.inside.next_con c.self.inside.count c.self.inside.family c.change.new.family
     c.self.invariant room c.in-Ok.ensures.family_sound c.in-Ok.ensures.count d can given stood ok follows)
 
 pub invariant_of-self-in-Err : goal.invariant_of-self-in-Err

@@ -17,7 +17,7 @@ change_back-requires-clause-led c =
     let size : c.len-last.result ≡ length items = search rules in
     let split : items ≡ take n items ++ d ∷ [] = last_split items n d (omega arith) (sym (subst (λ (xs : List Done). d ≡ get_or xs n d) c.as_slice.ensures c.index-as_slice-last.is)) in (
       sketch_of (edits_of (take n items)),
-      last_led items c.self.inside.drawing c.self.inside.drawing c.self.inside.next_elem c.self.inside.next_con c.self.inside.count c.self.inside.family c.self.inside.family c.self.invariant
+      last_led items c.self.inside.reduced c.self.inside.reduced c.self.inside.next_elem c.self.inside.next_con c.self.inside.count c.self.inside.family c.self.inside.family c.self.invariant
           (subst (λ (x : State). x.count < 1000000) (sym c.self.view_is) c.requires.room) c.self.invariant.family_sound (omega arith) (take n items) d split,
     )
 
@@ -31,13 +31,13 @@ invariant_of-self-2 c =
     let size : c.len-last.result ≡ length items = search rules in
     let split : items ≡ take n items ++ d ∷ [] = last_split items n d (omega arith) (sym (subst (λ (xs : List Done). d ≡ get_or xs n d) c.as_slice.ensures c.index-as_slice-last.is)) in
     let room = subst (λ (x : State). x.count < 1000000) (sym c.self.view_is) c.requires.room in
-    let led = last_led items c.self.inside.drawing c.self.inside.drawing c.self.inside.next_elem c.self.inside.next_con c.self.inside.count c.self.inside.family c.self.inside.family c.self.invariant
+    let led = last_led items c.self.inside.reduced c.self.inside.reduced c.self.inside.next_elem c.self.inside.next_con c.self.inside.count c.self.inside.family c.self.inside.family c.self.invariant
     room c.self.invariant.family_sound (omega arith) (take n items) d split in
     let back = c.in_ok-change_back.ensures.ok (sketch_of (edits_of (take n items))) led in
     let longer : length items ≡ length (take n items) + 1 = ap length split ∙ length-append (take n items) (d ∷ []) in
     let left = c.remove.ensures.rest ∙ others_left (take n items) items n d (omega arith) split in
     rw (left, c.element_before-self-inside.ensures, c.constraint_before-self-inside.ensures)
-    (consistent_undone items c.self.inside.drawing c.change_back.new.self c.self.inside.next_elem c.self.inside.next_con c.self.inside.count c.self.inside.family c.change_back.new.family
+    (consistent_undone items c.self.inside.reduced c.change_back.new.self c.self.inside.next_elem c.self.inside.next_con c.self.inside.count c.self.inside.family c.change_back.new.family
     c.self.invariant room c.in_ok-change_back.ensures.family_sound c.in_ok-change_back.ensures.count (take n items) d split back.0 back.1)
 
 pub returns-clause-ok : goal.returns-clause-ok
@@ -50,7 +50,7 @@ returns-clause-ok c =
     let size : c.len-last.result ≡ length items = search rules in
     let split : items ≡ take n items ++ d ∷ [] = last_split items n d (omega arith) (sym (subst (λ (xs : List Done). d ≡ get_or xs n d) c.as_slice.ensures c.index-as_slice-last.is)) in
     let room = subst (λ (x : State). x.count < 1000000) (sym c.self.view_is) c.requires.room in
-    let led = last_led items c.self.inside.drawing c.self.inside.drawing c.self.inside.next_elem c.self.inside.next_con c.self.inside.count c.self.inside.family c.self.inside.family c.self.invariant
+    let led = last_led items c.self.inside.reduced c.self.inside.reduced c.self.inside.next_elem c.self.inside.next_con c.self.inside.count c.self.inside.family c.self.inside.family c.self.invariant
     room c.self.invariant.family_sound (omega arith) (take n items) d split in
     let back = c.in_ok-change_back.ensures.ok (sketch_of (edits_of (take n items))) led in
     let made : TakesBack (record { order = c.self.inside.order; closing = c.self.inside.closing; edits = edits_of items; count = c.self.inside.count; family = c.self.inside.family })

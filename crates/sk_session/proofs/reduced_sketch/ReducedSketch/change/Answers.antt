@@ -3,7 +3,7 @@ use Rattle.sk_base.specs.declared.Sketch.{Sketch}
 use Rattle.sk_edits.specs.Making.{CanMake}
 use Rattle.sk_session.specs.Following.{IsReachedIn}
 use Rattle.sk_session.specs.Past.{edit_of, Stood}
-use Rattle.sk_session.proofs.drawing.Drawing.change.Goals as goal
+use Rattle.sk_session.proofs.reduced_sketch.ReducedSketch.change.Goals as goal
 
 pub change-requires-clause-can : goal.change-requires-clause-can
 change-requires-clause-can c = subst (λ (s : Sketch). CanMake (edit_of c.args.done.now) s) (sym c.self.view_is) c.requires.can

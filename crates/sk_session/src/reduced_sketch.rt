@@ -7,7 +7,7 @@ ghost use Rattle.sk_family.specs.Clusters.{IsSound};
 ghost use Rattle.sk_graph.specs.SketchGraph.{graph_of};
 ghost use Rattle.sk_edits.specs.Edits.{applied};
 ghost use Rattle.sk_edits.specs.Making.{CanMake};
-ghost use Rattle.sk_session.specs.Drawings.{IsItsGraph};
+ghost use Rattle.sk_session.specs.ItsGraph.{IsItsGraph};
 ghost use Rattle.sk_session.specs.Following.{Follows, FollowsBack, IsReachedIn};
 ghost use Rattle.sk_session.specs.Past.{edit_of, Stood, LeadsTo};
 
@@ -20,15 +20,15 @@ use std::marker::Model;
 
 /// A sketch, and its graph where it is known. Contracts see it as the sketch alone.
 #[derive(Drop)]
-pub(crate) struct Drawing {
+pub(crate) struct ReducedSketch {
     sketch: Sketch,
     graph: Option<Graph>,
 }
 
-impl Model for Drawing {
+impl Model for ReducedSketch {
     ghost use Rattle.std.specs.Prelude.{IfSome};
     ghost use Rattle.sk_base.specs.declared.Sketch.{Sketch as ASketch};
-    ghost use Rattle.sk_session.specs.Drawings.{IsItsGraph};
+    ghost use Rattle.sk_session.specs.ItsGraph.{IsItsGraph};
 
     ghost Value = { ASketch };
 
@@ -37,11 +37,11 @@ impl Model for Drawing {
     ghost invariant = { λ d. IfSome d.graph (IsItsGraph d.sketch) };
 }
 
-impl Drawing {
-    pub(crate) fn of(sketch: Sketch) -> Drawing
+impl ReducedSketch {
+    pub(crate) fn of(sketch: Sketch) -> ReducedSketch
         ensures { result ≡ sketch }
     {
-        Drawing {
+        ReducedSketch {
             sketch,
             graph: None,
         }
