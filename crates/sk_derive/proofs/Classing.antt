@@ -6,7 +6,7 @@ use Rattle.sk_base.specs.declared.Elem.{Elem}
 use Rattle.sk_base.specs.declared.Node.{Node}
 use Rattle.sk_base.specs.declared.Graph.{Graph}
 use Rattle.sk_family.specs.Body.{Body}
-use Rattle.sk_index.proofs.Fronts.{front_more}
+use Rattle.sk_triangles.proofs.Fronts.{front_more}
 use Rattle.sk_derive.specs.Ties.{AreTied}
 use Rattle.sk_derive.specs.Classes.{class_of, line_node, AreRenamed, AreAlone, AddsNode, Coarsens, AreTogether, TellTies, IsClassAmong, IsClassOfOne}
 use Rattle.sk_derive.proofs.Tying.{tied_on, tied_back}

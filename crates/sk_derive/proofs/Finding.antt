@@ -17,9 +17,9 @@ use Rattle.sk_base.specs.SoundGraph.{HasNode, HasRisingNodes}
 use Rattle.sk_base.proofs.Halves.{number_found, none_missed}
 use Rattle.sk_base.proofs.Members.{contains_none, contains_mapped, mapped_from}
 use Rattle.sk_family.proofs.Naming.{one_of_name}
-use Rattle.sk_ends.specs.Growing.{GrowsBy, FromSome}
+use Rattle.sk_triangles.specs.Growing.{GrowsBy, FromSome}
 use Rattle.sk_worklist.specs.Gather.{HoldsSome}
-use Rattle.sk_ends.proofs.Growing.{grows_none, grows_one, grows_same}
+use Rattle.sk_triangles.proofs.Growing.{grows_none, grows_one, grows_same}
 use Rattle.sk_base.specs.declared.Graph.{Graph}
 use Rattle.sk_base.specs.ClusterNames.{IsBelow}
 use Rattle.sk_base.proofs.Pairs.{pairs_push, pairs_map, pairs_tell, pairs_weaken}
@@ -30,7 +30,7 @@ use Rattle.sk_family.specs.Clusters.{Clusters, ByName, IsSound}
 use Rattle.sk_family.specs.declared.Merge.{Merge}
 use Rattle.sk_family.specs.declared.Merge.TheVariants.{Two, Three}
 use Rattle.sk_kept.specs.MergeOrder.{ComesFirst}
-use Rattle.sk_index.proofs.Fronts.{front_more, front_all, front_before}
+use Rattle.sk_triangles.proofs.Fronts.{front_more, front_all, front_before}
 use Rattle.sk_derive.specs.Ties.{AreTied, itself, further, HaveTiedLines}
 use Rattle.sk_derive.specs.Classes.{class_of, AreClasses, IsClassAmong}
 use Rattle.sk_derive.specs.WideChoices.{CanTakeByTie, AreTieMerges}

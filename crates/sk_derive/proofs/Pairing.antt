@@ -14,7 +14,7 @@ use Rattle.sk_base.proofs.Members.{contains_mapped, contains_one}
 use Rattle.sk_base.proofs.Pairs.{pairs_none, pairs_tail, pairs_head, pairs_cons}
 use Rattle.sk_base.proofs.Splits.{pairs_take, pairs_drop}
 use Rattle.sk_family.proofs.Naming.{below_irreflexive, below_differs, unnamed_true, named_among}
-use Rattle.sk_index.proofs.Holding.{in_list}
+use Rattle.sk_neighbours.proofs.Holding.{in_list}
 use Rattle.sk_family.specs.declared.Merge.{Merge}
 use Rattle.sk_family.specs.declared.Merge.TheVariants.{Two}
 use Rattle.sk_kept.specs.MergeOrder.{ComesFirst}

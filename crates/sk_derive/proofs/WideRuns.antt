@@ -21,7 +21,7 @@ use Rattle.sk_rules.specs.Reach.{ReachBy, IsClosed, stays, goes}
 use Rattle.sk_rules.proofs.Merging.{replaced_replaces, named_among_bodies, bodies_differ, named_two, fewer_by}
 use Rattle.sk_worklist.specs.Choices.{AreChoices}
 use Rattle.sk_worklist.specs.Run.{PicksLead}
-use Rattle.sk_index.proofs.Holding.{in_list}
+use Rattle.sk_neighbours.proofs.Holding.{in_list}
 use Rattle.sk_derive.specs.Ties.{SharesPoint, MeetsByTie, CanMergeByTie}
 use Rattle.sk_derive.specs.WideReach.{WideStep, IsWideClosed}
 use Rattle.sk_derive.specs.WideChoices.{CanTakeByTie, AreTieMerges}

@@ -6,7 +6,7 @@ use Rattle.sk_family.specs.Clusters.{Clusters, IsSound, bodies}
 use Rattle.sk_family.specs.declared.Merge.{Merge}
 use Rattle.sk_rules.specs.Merges.{merged}
 use Rattle.sk_kept.specs.MergeOrder.{ComesFirst}
-use Rattle.sk_index.specs.Indexed.{IsLast}
+use Rattle.sk_neighbours.specs.Indexed.{IsLast}
 use Rattle.sk_derive.specs.Classes.{AreClasses}
 use Rattle.sk_derive.specs.WideChoices.{AreTieMerges, CanTakeByTie}
 use Rattle.sk_derive.specs.TieMerges.{AreBelow, FindsOf}

@@ -7,7 +7,7 @@ use Rattle.sk_family.specs.declared.cluster.Cluster.{Cluster}
 use Rattle.sk_family.specs.Clusters.{Clusters, IsNamed, bodies}
 use Rattle.sk_family.specs.declared.Merge.{Merge}
 use Rattle.sk_family.specs.declared.Merge.TheVariants.{Two, Three}
-use Rattle.sk_ends.specs.Growing.{GrowsBy, FromSome}
+use Rattle.sk_triangles.specs.Growing.{GrowsBy, FromSome}
 use Rattle.sk_derive.specs.Ties.{HaveTiedLines, MeetsByTie}
 
 -- the merge is of a and a cluster below it, one of these, and the tie rule holds of the two

@@ -13,14 +13,14 @@ use Rattle.sk_family.specs.declared.Merge.{Merge}
 use Rattle.sk_family.specs.declared.Merge.TheVariants.{Two, Three}
 use Rattle.sk_rules.specs.Reach.{IsClosed}
 use Rattle.sk_rules.proofs.Merging.{closed_by_merges}
-use Rattle.sk_index.specs.declared.Index.{Index}
+use Rattle.sk_neighbours.specs.declared.Index.{Index}
 use Rattle.sk_rules.specs.Merges.{CanTake}
-use Rattle.sk_index.specs.Indexed.{Represents}
-use Rattle.sk_ends.specs.Growing.{GrowsBy}
-use Rattle.sk_index.specs.Partners.{Partner}
-use Rattle.sk_index.specs.Triples.{TriplesOf}
+use Rattle.sk_neighbours.specs.Indexed.{Represents}
+use Rattle.sk_triangles.specs.Growing.{GrowsBy}
+use Rattle.sk_neighbours.specs.Partners.{Partner}
+use Rattle.sk_neighbours.specs.Triples.{TriplesOf}
 use Rattle.sk_growth.specs.Settling.{IsAny, IsSettledBelow, IsNextMerge, MergesOf, greatest_of}
-use Rattle.sk_index.proofs.Gathered.{partners_found, triples_found}
+use Rattle.sk_neighbours.proofs.Gathered.{partners_found, triples_found}
 use Rattle.sk_rules.proofs.Takable.{can_pair, can_triple, pair_can, triple_can}
 use Rattle.sk_family.proofs.Lasting.{named_before, not_next, live_below_next}
 

@@ -21,13 +21,13 @@ use Rattle.sk_family.specs.declared.Merge.{Merge}
 use Rattle.sk_family.specs.declared.Merge.TheVariants.{Two, Three}
 use Rattle.sk_family.specs.Merges.{names_of}
 use Rattle.sk_rules.proofs.Merging.{merge_steps, replaced_replaces}
-use Rattle.sk_index.specs.declared.Index.{Index}
+use Rattle.sk_neighbours.specs.declared.Index.{Index}
 use Rattle.sk_growth.specs.declared.growth.Joining.TheVariants.{One, Both}
 use Rattle.sk_growth.specs.Grown.{IsMarkedIn, MarksTwo, Joins, HasGrown, IsGrown}
-use Rattle.sk_ends.specs.Marks.{IsMarked}
+use Rattle.sk_triangles.specs.Marks.{IsMarked}
 use Rattle.sk_rules.specs.Merges.{CanTake}
-use Rattle.sk_index.specs.Indexed.{IsHeld, IsIndex, KeepsLines, IsThird, Represents}
-use Rattle.sk_index.proofs.Representing.{represents_left}
+use Rattle.sk_neighbours.specs.Indexed.{IsHeld, IsIndex, KeepsLines, IsThird, Represents}
+use Rattle.sk_neighbours.proofs.Representing.{represents_left}
 use Rattle.sk_family.proofs.Parts.{parts, in_parts, from_parts, parts_left, parts_right, parts_cases}
 
 module _ (f : Clusters) (sound : IsSound f) where

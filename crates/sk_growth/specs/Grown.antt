@@ -6,11 +6,11 @@ use Rattle.sk_base.specs.declared.Graph.{Graph}
 use Rattle.sk_family.specs.declared.Cluster.{Cluster}
 use Rattle.sk_family.specs.Clusters.{Clusters, IsLive, bodies, made_of, replaced, unnamed}
 use Rattle.sk_rules.specs.Reach.{Reach}
-use Rattle.sk_index.specs.declared.Index.{Index}
+use Rattle.sk_neighbours.specs.declared.Index.{Index}
 use Rattle.sk_growth.specs.declared.growth.Joining.{Joining}
 use Rattle.sk_growth.specs.declared.growth.Joining.TheVariants.{One, Both}
-use Rattle.sk_index.specs.Indexed.{IsHeld, IsThird, Represents}
-use Rattle.sk_ends.specs.Marks.{IsMarked}
+use Rattle.sk_neighbours.specs.Indexed.{IsHeld, IsThird, Represents}
+use Rattle.sk_triangles.specs.Marks.{IsMarked}
 
 -- it is one of these, and marked
 abbrev pub IsMarkedIn : List Bool → List Elem → Elem → Type 0

@@ -7,10 +7,10 @@ use Rattle.sk_family.specs.declared.Cluster.{Cluster}
 use Rattle.sk_family.specs.Clusters.{Clusters}
 use Rattle.sk_family.specs.declared.Merge.{Merge}
 use Rattle.sk_family.specs.declared.Merge.TheVariants.{Two, Three}
-use Rattle.sk_index.specs.declared.Index.{Index}
+use Rattle.sk_neighbours.specs.declared.Index.{Index}
 use Rattle.sk_rules.specs.Merges.{CanTake}
-use Rattle.sk_index.specs.Partners.{Partner}
-use Rattle.sk_index.specs.Triples.{TriplesOf}
+use Rattle.sk_neighbours.specs.Partners.{Partner}
+use Rattle.sk_neighbours.specs.Triples.{TriplesOf}
 
 abbrev pub greatest_of : Merge → Name
 greatest_of (Two x y) = x

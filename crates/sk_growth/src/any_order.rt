@@ -10,13 +10,13 @@ ghost use Rattle.sk_family.specs.Body.{initial_bodies};
 ghost use Rattle.sk_family.specs.Clusters.{ByName, IsSound, bodies, replaced};
 ghost use Rattle.sk_rules.specs.Reach.{Reach, IsClosed, IsNormal, IsTheOnlyNormal};
 ghost use Rattle.sk_rules.specs.Merges.{CanTake};
-ghost use Rattle.sk_index.specs.Indexed.{AllRise, IsIndex, Represents};
+ghost use Rattle.sk_neighbours.specs.Indexed.{AllRise, IsIndex, Represents};
 ghost use Rattle.sk_growth.specs.Settling.{IsAny, IsNext, MergesOf, greatest_of};
 
 use crate::growth::Growth;
 use sk_base::{Graph, List, Name, NoMemory};
 use sk_family::{Cluster, Family};
-use sk_index::{Index, add_triples_of, least_partner};
+use sk_neighbours::{Index, add_triples_of, least_partner};
 use sk_rules::Merge;
 use std::alloc::Global;
 

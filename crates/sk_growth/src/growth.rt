@@ -6,14 +6,14 @@ ghost use Rattle.sk_base.specs.Numbering.{elem_number};
 ghost use Rattle.sk_base.specs.Rising.{IsRising};
 ghost use Rattle.sk_family.specs.Clusters.{IsLive, IsSound, HasElements};
 ghost use Rattle.sk_rules.specs.Merges.{CanTake};
-ghost use Rattle.sk_ends.specs.Marks.{IsMarked};
+ghost use Rattle.sk_triangles.specs.Marks.{IsMarked};
 ghost use Rattle.sk_growth.specs.Grown.{IsMarkedIn, MakesThird, MeetsAt, Joins, HasGrown, IsGrown};
-ghost use Rattle.sk_index.specs.Indexed.{IsHeld, IsIndex, IsThird, Represents};
+ghost use Rattle.sk_neighbours.specs.Indexed.{IsHeld, IsIndex, IsThird, Represents};
 
 use sk_base::{Elem, Graph, List, Name, NoMemory};
-use sk_ends::{is_marked, mark};
+use sk_triangles::{is_in_rising, is_marked, mark};
 use sk_family::{Cluster, Family};
-use sk_index::{Index, is_in_rising, is_third};
+use sk_neighbours::{Index, is_third};
 use sk_rules::Merge;
 use std::alloc::Global;
 

@@ -20,8 +20,8 @@ use Rattle.std.specs.List.Sorted.{IsPermutation}
 use Rattle.std.proofs.lemmas.List.Filters.{dedup_is}
 use Rattle.std.proofs.lemmas.List.Kept.{Contains-dedup_nat, Contains-from_dedup}
 use Rattle.std.proofs.lemmas.List.Sorted.{Contains-permutation, IsPermutation-sym}
-use Rattle.sk_ends.specs.Growing.{FromSome, GrowsBy}
-use Rattle.sk_ends.proofs.Growing.{grows_step}
+use Rattle.sk_triangles.specs.Growing.{FromSome, GrowsBy}
+use Rattle.sk_triangles.proofs.Growing.{grows_step}
 use Rattle.sk_kept.proofs.Writing.{row_written, row_beside}
 use Rattle.sk_kept.specs.declared.mentions.Mentions.{Mentions}
 use Rattle.sk_kept.specs.declared.row.KeptRow.{KeptRow}

@@ -15,7 +15,7 @@ use Rattle.sk_family.proofs.Naming.{named_among}
 use Rattle.sk_family.specs.declared.Merge.{Merge}
 use Rattle.sk_family.specs.declared.Merge.TheVariants.{Three}
 use Rattle.sk_family.specs.Merges.{names_of}
-use Rattle.sk_ends.specs.Growing.{FromSome, GrowsBy}
+use Rattle.sk_triangles.specs.Growing.{FromSome, GrowsBy}
 use Rattle.sk_kept.proofs.Writing.{row_written, row_beside}
 use Rattle.sk_kept.specs.MergeOrder.{ComesFirst}
 use Rattle.sk_kept.specs.Inherited.{Inherits, IsBeside}

@@ -11,7 +11,7 @@ use Rattle.sk_base.proofs.Members.{contains_none, contains_head, contains_later,
 use Rattle.sk_family.specs.declared.Merge.{Merge}
 use Rattle.sk_family.specs.declared.Merge.TheVariants.{Two, Three}
 use Rattle.sk_family.specs.Merges.{names_of}
-use Rattle.sk_ends.specs.Growing.{FromSome}
+use Rattle.sk_triangles.specs.Growing.{FromSome}
 use Rattle.sk_kept.specs.declared.heir.Heir.{Heir}
 use Rattle.sk_kept.specs.declared.row.KeptRow.{KeptRow}
 use Rattle.sk_kept.specs.declared.lessers.Lessers.{Lessers}

@@ -3,7 +3,7 @@ use Rattle.std.specs.Prelude.{◌≡◌, ◌↔◌, ◌⊎◌, ◌++◌, List, C
 use Rattle.sk_base.specs.declared.Name.{Name}
 use Rattle.sk_family.specs.declared.Merge.{Merge}
 use Rattle.sk_family.specs.declared.Merge.TheVariants.{Three}
-use Rattle.sk_ends.specs.Growing.{FromSome}
+use Rattle.sk_triangles.specs.Growing.{FromSome}
 use Rattle.sk_kept.specs.declared.heir.Heir.{Heir}
 use Rattle.sk_kept.specs.MergeOrder.{ComesFirst}
 use Rattle.sk_kept.specs.Inherited.{Inherits}

@@ -10,7 +10,7 @@ use Rattle.sk_family.specs.Merges.{names_of}
 use Rattle.sk_kept.specs.declared.mentions.Mentions.{Mentions}
 use Rattle.sk_kept.specs.declared.row.KeptRow.{KeptRow}
 use Rattle.sk_kept.specs.declared.lessers.Lessers.{Lessers}
-use Rattle.sk_ends.specs.Growing.{FromSome}
+use Rattle.sk_triangles.specs.Growing.{FromSome}
 use Rattle.sk_kept.specs.declared.heir.Heir.{Heir}
 use Rattle.sk_kept.specs.MergeOrder.{ComesFirst}
 use Rattle.sk_kept.specs.Inherited.{Inherits}

@@ -2,7 +2,7 @@
 ghost use Rattle.std.specs.Prelude.{◌≡◌, ◌↔◌, AllPairs, IfNone, IfSome, IsTrue, OnOk};
 ghost use Rattle.sk_base.specs.declared.Name.{Name as ClusterName};
 ghost use Rattle.sk_base.specs.ClusterNames.{IsBelow};
-ghost use Rattle.sk_ends.specs.Growing.{GrowsBy};
+ghost use Rattle.sk_triangles.specs.Growing.{GrowsBy};
 ghost use Rattle.sk_kept.specs.Inherited.{Inherits, IsBeside};
 
 use crate::order::is_among;

@@ -1,7 +1,7 @@
 // Two clusters of a triple, below its greatest one.
 ghost use Rattle.std.specs.Prelude.{◌≡◌, ◌↔◌, ◌||◌, AllPairs, Contains, IfOk, OnOk};
 ghost use Rattle.sk_base.specs.ClusterNames.{IsBelow, is_named};
-ghost use Rattle.sk_ends.specs.Growing.{FromSome, GrowsBy};
+ghost use Rattle.sk_triangles.specs.Growing.{FromSome, GrowsBy};
 ghost use Rattle.sk_family.specs.declared.Merge.{Merge as AnyMerge};
 ghost use Rattle.sk_kept.specs.declared.lessers.Lessers.{Lessers as AnyLessers};
 ghost use Rattle.sk_kept.specs.Avoiding.{IsTriple};

@@ -1,7 +1,7 @@
 // Which rows of triples name a cluster.
 ghost use Rattle.std.specs.Prelude.{◌≡◌, ◌↔◌, ◌<◌, [], ℕ, length, Contains, IfOk, IsTrue, OnOk};
 ghost use Rattle.sk_base.specs.declared.Name.{Name as ClusterName};
-ghost use Rattle.sk_ends.specs.Growing.{FromSome};
+ghost use Rattle.sk_triangles.specs.Growing.{FromSome};
 ghost use Rattle.sk_family.specs.declared.Merge.{Merge as AnyMerge};
 ghost use Rattle.sk_family.specs.Merges.{names_of};
 ghost use Rattle.sk_kept.specs.Avoiding.{IsTriple};

@@ -1,7 +1,7 @@
 // The triples of which one cluster is the greatest.
 ghost use Rattle.std.specs.Prelude.{◌≡◌, ◌<◌, AllPairs, OnOk, Some, length, slice_get};
 ghost use Rattle.sk_base.specs.ClusterNames.{IsBelow};
-ghost use Rattle.sk_ends.specs.Growing.{FromSome, GrowsBy};
+ghost use Rattle.sk_triangles.specs.Growing.{FromSome, GrowsBy};
 ghost use Rattle.sk_kept.specs.Avoiding.{avoiding};
 ghost use Rattle.sk_kept.specs.Inherited.{Inherits};
 ghost use Rattle.sk_kept.specs.KeptRows.{InheritsFrom, merges_of};

@@ -2,7 +2,7 @@
 ghost use Rattle.std.specs.Prelude.{◌≡◌, ◌<◌, ◌+◌, ◌++◌, ◌∷◌, [], ℕ, AllPairs, Contains, IfOk, IfSome, IsTrue, OnErr, OnOk, Some, length, slice_get};
 ghost use Rattle.std.specs.List.{flat_map};
 ghost use Rattle.sk_base.specs.ClusterNames.{IsBelow};
-ghost use Rattle.sk_ends.specs.Growing.{FromSome, GrowsBy};
+ghost use Rattle.sk_triangles.specs.Growing.{FromSome, GrowsBy};
 ghost use Rattle.sk_family.specs.declared.Merge.{Merge as AnyMerge};
 ghost use Rattle.sk_kept.specs.declared.row.KeptRow.{KeptRow as AnyRow};
 ghost use Rattle.sk_kept.specs.HandedOn.{IsTripleOf};

@@ -20,7 +20,8 @@ use Rattle.sk_offers.specs.declared.offer_line.Place.TheVariants.{Among, Past}
 use Rattle.sk_offers.specs.OfferLines.{worker_of, named, is_bad_name, has_twins, offer_rows, end_rows, word_rows, code_of, place_after, behind_offer, offered, IsOfferOf, AreOffersOf}
 use Rattle.sk_offers.specs.OfferReading.{place_along, HaveNoCode, ReadsOffers, RefusesOffers, AtLine, NoEnd}
 use Rattle.sk_offers.proofs.OffersSoFar.{offers_append}
-use Rattle.sk_offers.proofs.FallingMerges.{one_merge, some_pair, some_three}
+use Rattle.sk_neighbours.proofs.OneMerge.{one_merge}
+use Rattle.sk_offers.proofs.FallingMerges.{some_pair, some_three}
 
 -- the code at the end of the lines, where no `end` has come
 abbrev end_code : Place → Option Code

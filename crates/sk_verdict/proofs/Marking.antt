@@ -5,7 +5,7 @@ use Rattle.std.proofs.lemmas.List.{take_all, take_more}
 use Rattle.std.proofs.lemmas.List.Elements.{All-contains, All-from_get_or, All-nil, All-push, Contains-append_left, Contains-append_right, Contains-get_or}
 use Rattle.sk_base.specs.declared.Elem.{Elem}
 use Rattle.sk_base.proofs.Members.{contains_head}
-use Rattle.sk_ends.specs.Marks.{IsMarked}
+use Rattle.sk_triangles.specs.Marks.{IsMarked}
 use Rattle.sk_verdict.specs.Leaving.{LeavesOut}
 
 -- one element is marked

@@ -1,7 +1,7 @@
 -- Which elements stay without a mark.
 use Rattle.std.specs.Prelude.{◌↔◌, Bool, List}
 use Rattle.sk_base.specs.declared.Elem.{Elem}
-use Rattle.sk_ends.specs.Marks.{IsMarked}
+use Rattle.sk_triangles.specs.Marks.{IsMarked}
 
 -- of those that had none, just the ones of that kind still have none
 abbrev pub LeavesOut : (Elem → Type 0) → List Bool → List Bool → Type 0

@@ -3,12 +3,12 @@ ghost use Rattle.std.specs.Prelude.{◌≢◌, ◌↔◌, All, IfOk, IsTrue, OnO
 ghost use Rattle.sk_base.specs.declared.Elem.{Elem as Element};
 ghost use Rattle.sk_base.specs.declared.Edge.{Edge as AnEdge};
 ghost use Rattle.sk_base.specs.declared.Pin.{Pin as APin};
-ghost use Rattle.sk_ends.specs.Marks.{IsMarked};
+ghost use Rattle.sk_triangles.specs.Marks.{IsMarked};
 ghost use Rattle.sk_verdict.specs.Leaving.{LeavesOut};
 ghost use Rattle.sk_verdict.specs.Parts.{EndsElsewhere, HasNoPin, IsNamedByNone};
 
 use sk_base::{Block, Edge, Elem, Graph, NoMemory, Pin};
-use sk_ends::{is_marked, mark};
+use sk_triangles::{is_marked, mark};
 use std::alloc::Global;
 
 /// A mark for each element that a constraint names, or a block.

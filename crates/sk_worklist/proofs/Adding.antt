@@ -9,8 +9,8 @@ use Rattle.sk_family.specs.Clusters.{Clusters, IsLive, IsSound}
 use Rattle.sk_family.proofs.Naming.{among_named}
 use Rattle.sk_family.specs.declared.Merge.{Merge}
 use Rattle.sk_family.specs.declared.Merge.TheVariants.{Three}
-use Rattle.sk_index.specs.declared.Index.{Index}
-use Rattle.sk_index.specs.Indexed.{Represents}
+use Rattle.sk_neighbours.specs.declared.Index.{Index}
+use Rattle.sk_neighbours.specs.Indexed.{Represents}
 use Rattle.sk_kept.specs.declared.Heir.{Heir}
 use Rattle.sk_rules.specs.Merges.{CanTake}
 use Rattle.sk_worklist.specs.Gather.{AreUncovered, IsUncovered}

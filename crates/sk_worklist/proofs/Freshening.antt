@@ -10,7 +10,7 @@ use Rattle.sk_base.proofs.Members.{contains_head, contains_none, contains_one}
 use Rattle.sk_family.specs.declared.Cluster.{Cluster}
 use Rattle.sk_family.specs.Clusters.{Clusters, IsNamed, IsSound}
 use Rattle.sk_family.proofs.Naming.{one_of_name}
-use Rattle.sk_ends.specs.Growing.{FromSome, GrowsBy}
+use Rattle.sk_triangles.specs.Growing.{FromSome, GrowsBy}
 use Rattle.sk_worklist.specs.Heirs.{IsFreshOn, MissesSome}
 
 -- what a call gives where it ends well

@@ -11,18 +11,18 @@ use Rattle.sk_family.proofs.Naming.{below_chain, below_differs, below_irreflexiv
 use Rattle.sk_family.specs.declared.Merge.{Merge}
 use Rattle.sk_family.specs.declared.Merge.TheVariants.{Three}
 use Rattle.sk_family.specs.Rules.{MeetsInThree}
-use Rattle.sk_index.specs.declared.Index.{Index}
-use Rattle.sk_index.specs.Indexed.{Represents}
-use Rattle.sk_ends.specs.Growing.{FromSome}
+use Rattle.sk_neighbours.specs.declared.Index.{Index}
+use Rattle.sk_neighbours.specs.Indexed.{Represents}
+use Rattle.sk_triangles.specs.Growing.{FromSome}
 use Rattle.sk_kept.specs.declared.Heir.{Heir}
-use Rattle.sk_index.specs.declared.Third.TheVariants.{Either}
+use Rattle.sk_neighbours.specs.declared.Third.TheVariants.{Either}
 use Rattle.sk_rules.specs.Merges.{CanTake, TakesFrom}
-use Rattle.sk_index.specs.Partners.{Partner, PartnerOf}
-use Rattle.sk_index.specs.Triples.{AtCorner}
+use Rattle.sk_neighbours.specs.Partners.{Partner, PartnerOf}
+use Rattle.sk_neighbours.specs.Triples.{AtCorner}
 use Rattle.sk_worklist.specs.Gather.{IsUncovered}
 use Rattle.sk_kept.specs.Inherited.{Inherits, IsBeside}
 use Rattle.sk_worklist.specs.Heirs.{IsHeir, IsHeirOf, IsNoHeir, IsOfHeir, TellsFresh}
-use Rattle.sk_index.proofs.Gathered.{at_corner, found_at}
+use Rattle.sk_neighbours.proofs.Gathered.{at_corner, found_at}
 use Rattle.sk_rules.proofs.Takable.{can_triple, triple_can}
 
 -- a name is another or the same

@@ -7,11 +7,11 @@ use Rattle.sk_base.specs.declared.Graph.{Graph}
 use Rattle.sk_base.specs.ClusterNames.{IsBelow}
 use Rattle.sk_base.proofs.Members.{contains_none}
 use Rattle.sk_family.specs.Clusters.{Clusters}
-use Rattle.sk_index.specs.declared.Index.{Index}
-use Rattle.sk_ends.specs.Growing.{FromSome, GrowsBy}
-use Rattle.sk_index.specs.Walks.{HolderOf}
+use Rattle.sk_neighbours.specs.declared.Index.{Index}
+use Rattle.sk_triangles.specs.Growing.{FromSome, GrowsBy}
+use Rattle.sk_neighbours.specs.Walks.{HolderOf}
 use Rattle.sk_worklist.specs.Gather.{HoldsSome}
-use Rattle.sk_index.specs.Indexed.{Represents}
+use Rattle.sk_neighbours.specs.Indexed.{Represents}
 
 -- the holders of some elements in the index of a family are its clusters that hold some
 pub holds_some : (ix : Index) (g : Graph) (f : Clusters) → Represents ix g f.live → (es : List Elem) (bound n : Name) → FromSome (HolderOf ix bound) es n ↔ HoldsSome f es bound n

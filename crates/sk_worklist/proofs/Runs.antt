@@ -16,7 +16,7 @@ use Rattle.sk_family.proofs.Soundness.{sound_replaced}
 use Rattle.sk_worklist.specs.Choices.{AreChoices}
 use Rattle.sk_worklist.specs.Run.{PicksLead, merge_of}
 use Rattle.sk_worklist.specs.Turns.{Answers}
-use Rattle.sk_index.proofs.Holding.{in_list}
+use Rattle.sk_neighbours.proofs.Holding.{in_list}
 
 pub choice_can : (g : Graph) (f : Clusters) (choices : List Merge) → AreChoices g f choices → (m : Merge) → Contains choices m → CanTake g f m
 choice_can g f choices (inl (first, is, h)) m m_in =

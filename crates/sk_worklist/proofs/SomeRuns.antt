@@ -16,7 +16,7 @@ use Rattle.sk_rules.proofs.Merging.{can_be_replaced, merge_lessens}
 use Rattle.sk_worklist.specs.Choices.{AreChoices}
 use Rattle.sk_worklist.specs.Run.{PicksLead, IsRun, merge_of}
 use Rattle.sk_worklist.proofs.Runs.{choice_can}
-use Rattle.sk_index.proofs.Holding.{in_list}
+use Rattle.sk_neighbours.proofs.Holding.{in_list}
 use Rattle.sk_worklist.proofs.SomeChoices.{some_choices}
 use Rattle.sk_worklist.proofs.SomeShared.{some_shared}
 

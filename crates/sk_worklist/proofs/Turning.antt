@@ -11,20 +11,20 @@ use Rattle.sk_family.specs.Clusters.{Clusters, IsSound, IsWithin}
 use Rattle.sk_family.proofs.Naming.{below_irreflexive, below_asymmetric, is_it_below}
 use Rattle.sk_family.specs.declared.Merge.{Merge}
 use Rattle.sk_family.specs.declared.Merge.TheVariants.{Two}
-use Rattle.sk_index.specs.declared.Index.{Index}
+use Rattle.sk_neighbours.specs.declared.Index.{Index}
 use Rattle.sk_rules.specs.Merges.{CanTake}
 use Rattle.sk_kept.specs.MergeOrder.{ComesFirst}
 use Rattle.sk_worklist.specs.Choices.{IsFirstPair, AreTriples}
-use Rattle.sk_ends.specs.Growing.{GrowsBy, FromSome}
-use Rattle.sk_index.specs.Partners.{Partner}
-use Rattle.sk_index.specs.Triples.{TriplesOf}
+use Rattle.sk_triangles.specs.Growing.{GrowsBy, FromSome}
+use Rattle.sk_neighbours.specs.Partners.{Partner}
+use Rattle.sk_neighbours.specs.Triples.{TriplesOf}
 use Rattle.sk_worklist.specs.Gather.{IsPartner, IsUncovered, AreUncovered}
 use Rattle.sk_kept.specs.Avoiding.{IsTriple, avoiding}
 use Rattle.sk_worklist.specs.Known.{AreKept, Knows, NoPairBelow}
-use Rattle.sk_index.specs.Indexed.{Represents, lines_in}
-use Rattle.sk_triples.specs.Triples.{IsTripleAmong}
+use Rattle.sk_neighbours.specs.Indexed.{Represents, lines_in}
+use Rattle.sk_neighbours.specs.AllTriples.{IsTripleAmong}
 use Rattle.sk_worklist.specs.Turns.{HasNoPair}
-use Rattle.sk_index.proofs.Gathered.{partners_found, third_of, triangle_of, triples_found}
+use Rattle.sk_neighbours.proofs.Gathered.{partners_found, third_of, triangle_of, triples_found}
 use Rattle.sk_rules.proofs.Takable.{can_pair, can_triple, pair_can, triple_can}
 use Rattle.sk_worklist.proofs.Mending.{kept_more, kept_are_choices, avoiding_none}
 use Rattle.sk_family.proofs.Lasting.{live_below_next}

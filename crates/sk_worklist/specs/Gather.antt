@@ -7,8 +7,8 @@ use Rattle.sk_base.specs.ClusterNames.{IsBelow}
 use Rattle.sk_family.specs.declared.Cluster.{Cluster}
 use Rattle.sk_family.specs.Clusters.{Clusters, IsNamed}
 use Rattle.sk_family.specs.declared.Merge.{Merge}
-use Rattle.sk_index.specs.declared.Index.{Index}
-use Rattle.sk_index.specs.Partners.{IsLeast, Partner}
+use Rattle.sk_neighbours.specs.declared.Index.{Index}
+use Rattle.sk_neighbours.specs.Partners.{IsLeast, Partner}
 use Rattle.sk_rules.specs.Merges.{TakesFrom}
 use Rattle.sk_kept.specs.MergeOrder.{ComesFirst}
 

@@ -9,13 +9,13 @@ use Rattle.sk_family.specs.declared.Cluster.{Cluster}
 use Rattle.sk_family.specs.Clusters.{Clusters, IsLive, IsNamed}
 use Rattle.sk_family.specs.declared.Merge.{Merge}
 use Rattle.sk_family.specs.Rules.{SharesTwo, MeetsInThree}
-use Rattle.sk_index.specs.declared.Index.{Index}
+use Rattle.sk_neighbours.specs.declared.Index.{Index}
 use Rattle.sk_kept.specs.declared.Heir.{Heir}
 use Rattle.sk_kept.specs.Inherited.{Inherits, IsBeside}
-use Rattle.sk_ends.specs.Growing.{FromSome}
-use Rattle.sk_index.specs.declared.Third.TheVariants.{Either}
-use Rattle.sk_index.specs.Partners.{Partner, PartnerOf}
-use Rattle.sk_index.specs.Triples.{AtCorner}
+use Rattle.sk_triangles.specs.Growing.{FromSome}
+use Rattle.sk_neighbours.specs.declared.Third.TheVariants.{Either}
+use Rattle.sk_neighbours.specs.Partners.{Partner, PartnerOf}
+use Rattle.sk_neighbours.specs.Triples.{AtCorner}
 use Rattle.sk_worklist.specs.Gather.{IsUncovered}
 
 -- the element is that one, and not among these

@@ -9,7 +9,7 @@ use Rattle.sk_rules.specs.Merges.{merged, CanTake}
 use Rattle.sk_family.specs.Merges.{names_of}
 use Rattle.sk_worklist.specs.declared.worklist.Worklist.{Worklist}
 use Rattle.sk_worklist.specs.Choices.{AreChoices}
-use Rattle.sk_index.specs.Indexed.{Represents}
+use Rattle.sk_neighbours.specs.Indexed.{Represents}
 use Rattle.sk_worklist.specs.Known.{Knows}
 use Rattle.sk_worklist.specs.Heirs.{IsHeirOf}
 

@@ -5,13 +5,13 @@ ghost use Rattle.std.specs.Prelude.{◌≡◌, ◌↔◌, ◌⊎◌, ◌∷◌, 
 ghost use Rattle.sk_base.specs.Numbering.{elem_number};
 ghost use Rattle.sk_base.specs.Rising.{IsRising};
 ghost use Rattle.sk_family.specs.Clusters.{IsLive, IsNamed, IsSound};
-ghost use Rattle.sk_ends.specs.Growing.{FromSome, GrowsBy};
+ghost use Rattle.sk_triangles.specs.Growing.{FromSome, GrowsBy};
 ghost use Rattle.sk_family.specs.Merges.{names_of};
 ghost use Rattle.sk_worklist.specs.Heirs.{IsFreshOn, MissesSome};
 
 use sk_base::{Elem, List, Name, NoMemory};
 use sk_family::{Cluster, Family};
-use sk_index::is_in_rising;
+use sk_triangles::is_in_rising;
 use sk_kept::is_same;
 use sk_rules::Merge;
 

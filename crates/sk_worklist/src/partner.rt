@@ -5,14 +5,14 @@ ghost use Rattle.sk_base.specs.Rising.{IsRising};
 ghost use Rattle.sk_base.specs.declared.Name.{Name as ClusterName};
 ghost use Rattle.sk_family.specs.Clusters.{ByName};
 ghost use Rattle.sk_family.specs.declared.Cluster.{Cluster as AnyCluster};
-ghost use Rattle.sk_index.specs.Indexed.{AllRise, IsIndex};
-ghost use Rattle.sk_index.specs.Partners.{IsLeast, Partner};
+ghost use Rattle.sk_neighbours.specs.Indexed.{AllRise, IsIndex};
+ghost use Rattle.sk_neighbours.specs.Partners.{IsLeast, Partner};
 ghost use Rattle.sk_worklist.specs.Gather.{IsPartner};
 ghost use Rattle.sk_worklist.specs.Heirs.{TellsFresh};
 
 use sk_base::{Elem, Name};
 use sk_family::Cluster;
-use sk_index::{Index, least_partner, least_partner_at};
+use sk_neighbours::{Index, least_partner, least_partner_at};
 use sk_kept::{Heir, is_same};
 
 /// The first of these clusters that has a partner, and the least one.

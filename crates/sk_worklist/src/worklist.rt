@@ -10,20 +10,26 @@ ghost use Rattle.sk_family.specs.Merges.{names_of};
 ghost use Rattle.sk_family.specs.declared.Merge.{Merge as AnyMerge};
 ghost use Rattle.sk_worklist.specs.Choices.{AreTriples, IsFirstPair};
 ghost use Rattle.sk_worklist.specs.Gather.{HoldsSome, IsUncovered};
-ghost use Rattle.sk_index.specs.Indexed.{IsIndex};
+ghost use Rattle.sk_neighbours.specs.Indexed.{IsIndex};
 ghost use Rattle.sk_worklist.specs.Turns.{Answers, Follows, HasLeft, HasNoPair, IsSameButHeir};
 ghost use Rattle.sk_worklist.specs.Heirs.{IsFound, IsHeir, IsHeirOf, IsOfFresh};
-ghost use Rattle.sk_ends.specs.Growing.{GrowsBy};
+ghost use Rattle.sk_triangles.specs.Growing.{GrowsBy};
 
 use crate::heir::{add_fresh, biggest, has_name};
 use crate::partner::first_with_partner;
 use crate::picker::Picker;
 use sk_base::{Elem, Graph, List, Name, NoMemory};
 use sk_family::{Family, names_in_order};
-use sk_index::{Index, Third, add_holders_of_all, add_triples_at, add_triples_of_all};
+use sk_neighbours::{
+    Index,
+    Third,
+    add_all_triples,
+    add_holders_of_all,
+    add_triples_at,
+    add_triples_of_all,
+};
 use sk_kept::{Heir, Kept, is_same};
 use sk_rules::Merge;
-use sk_triples::add_all_triples;
 use std::alloc::Global;
 
 /// The most elements that a cluster has at the start: those of a rigid block.

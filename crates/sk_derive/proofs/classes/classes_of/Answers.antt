@@ -5,7 +5,7 @@ use Rattle.sk_base.proofs.Members.{contains_mapped, mapped_from}
 use Rattle.sk_family.specs.declared.Cluster.{Cluster}
 use Rattle.sk_family.specs.Body.{Body}
 use Rattle.sk_family.specs.Clusters.{bodies, body_of}
-use Rattle.sk_index.proofs.Fronts.{front_more, front_all}
+use Rattle.sk_triangles.proofs.Fronts.{front_more, front_all}
 use Rattle.sk_base.specs.declared.Elem.{Elem}
 use Rattle.sk_derive.specs.Classes.{Coarsens, TellTies, AreTogether}
 use Rattle.sk_derive.proofs.Classing.{together_kept, all_written}

@@ -2,7 +2,7 @@ use Rattle.std.proofs.Common.{◌≡◌, ◌<◌, inl, inr, sym, subst, get_or}
 use Rattle.std.specs.Prelude.{Contains}
 use Rattle.std.proofs.lemmas.List.Elements.{Contains-get_or}
 use Rattle.sk_base.specs.declared.Elem.{Elem}
-use Rattle.sk_index.proofs.Fronts.{front_more, front_all}
+use Rattle.sk_triangles.proofs.Fronts.{front_more, front_all}
 use Rattle.sk_derive.specs.Classes.{class_of}
 use Rattle.sk_derive.proofs.Tying.{tied_in_one}
 use Rattle.sk_derive.proofs.Classing.{coarsens_on}

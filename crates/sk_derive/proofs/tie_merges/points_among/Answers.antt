@@ -2,8 +2,8 @@ use Rattle.std.proofs.Common.{◌≡◌, List, [], sym, subst}
 use Rattle.sk_base.specs.declared.Elem.{Elem}
 use Rattle.sk_base.specs.declared.Kind.TheVariants.{Point}
 use Rattle.sk_base.specs.SoundGraph.{HasNode}
-use Rattle.sk_ends.specs.Growing.{GrowsBy, FromSome}
-use Rattle.sk_ends.proofs.Growing.{grows_start, grows_step, grows_end}
+use Rattle.sk_triangles.specs.Growing.{GrowsBy, FromSome}
+use Rattle.sk_triangles.proofs.Growing.{grows_start, grows_step, grows_end}
 use Rattle.sk_derive.proofs.Finding.{adds_grows, told_among}
 use Rattle.sk_derive.proofs.tie_merges.points_among.Goals as goal
 

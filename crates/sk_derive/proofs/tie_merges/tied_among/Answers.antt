@@ -4,8 +4,8 @@ use Rattle.sk_base.specs.declared.Name.{Name}
 use Rattle.sk_base.specs.declared.Name.TheVariants.{Con}
 use Rattle.sk_base.specs.ClusterNames.{IsBelow}
 use Rattle.sk_base.proofs.Pairs.{pairs_none}
-use Rattle.sk_ends.specs.Growing.{GrowsBy, FromSome}
-use Rattle.sk_ends.proofs.Growing.{grows_start, grows_step, grows_end}
+use Rattle.sk_triangles.specs.Growing.{GrowsBy, FromSome}
+use Rattle.sk_triangles.proofs.Growing.{grows_start, grows_step, grows_end}
 use Rattle.sk_derive.specs.TieMerges.{IsTiedTo}
 use Rattle.sk_derive.proofs.Finding.{adds_grows, told_among, order_step}
 use Rattle.sk_derive.proofs.tie_merges.tied_among.Goals as goal

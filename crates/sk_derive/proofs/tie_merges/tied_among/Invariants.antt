@@ -4,7 +4,7 @@ use Rattle.sk_base.specs.declared.Graph.{Graph}
 use Rattle.sk_base.specs.declared.Name.{Name}
 use Rattle.sk_base.specs.ClusterNames.{IsBelow}
 use Rattle.sk_family.specs.Clusters.{bodies}
-use Rattle.sk_ends.specs.Growing.{GrowsBy, FromSome}
+use Rattle.sk_triangles.specs.Growing.{GrowsBy, FromSome}
 use Rattle.sk_derive.specs.Classes.{AreClasses}
 use Rattle.sk_derive.specs.TieMerges.{IsTiedTo}
 use Rattle.sk_derive.proofs.tie_merges.tied_among.Given as goal

@@ -1,7 +1,7 @@
 use Rattle.std.proofs.Common.{◌+◌, ◌≤◌, length}
 use Rattle.sk_family.specs.Clusters.{IsSound, bodies, IsWithin}
 use Rattle.sk_rules.specs.Reach.{Reach}
-use Rattle.sk_index.specs.Indexed.{Represents}
+use Rattle.sk_neighbours.specs.Indexed.{Represents}
 use Rattle.sk_growth.specs.Settling.{IsSettledBelow}
 use Rattle.sk_growth.proofs.any_order.close_in_any_order.Given as goal
 

@@ -1,8 +1,8 @@
 use Rattle.std.proofs.Common.{List, subst}
 use Rattle.std.specs.Prelude.{Contains}
 use Rattle.sk_family.specs.declared.Merge.{Merge}
-use Rattle.sk_ends.specs.Growing.{GrowsBy}
-use Rattle.sk_index.specs.Triples.{TriplesOf}
+use Rattle.sk_triangles.specs.Growing.{GrowsBy}
+use Rattle.sk_neighbours.specs.Triples.{TriplesOf}
 use Rattle.sk_growth.specs.Settling.{IsAny}
 use Rattle.sk_growth.proofs.Settled.{any_found}
 use Rattle.sk_growth.proofs.any_order.merge_of.Goals as goal

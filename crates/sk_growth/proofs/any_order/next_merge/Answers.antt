@@ -7,7 +7,7 @@ use Rattle.sk_family.specs.Clusters.{ByName}
 use Rattle.sk_family.proofs.Naming.{below_irreflexive, below_asymmetric}
 use Rattle.sk_family.specs.declared.Merge.{Merge}
 use Rattle.sk_growth.specs.Settling.{IsAny, MergesOf}
-use Rattle.sk_index.proofs.Fronts.{front_more, front_all, in_front}
+use Rattle.sk_triangles.proofs.Fronts.{front_more, front_all, in_front}
 use Rattle.sk_growth.proofs.any_order.next_merge.Goals as goal
 
 pub returns-in-Some : goal.returns-in-Some

@@ -5,8 +5,8 @@ use Rattle.sk_family.specs.declared.Cluster.{Cluster}
 use Rattle.sk_family.specs.Clusters.{Clusters, bodies, replaced}
 use Rattle.sk_family.specs.Joining.{CanBeJoined}
 use Rattle.sk_rules.specs.Reach.{Reach, stays}
-use Rattle.sk_index.specs.Indexed.{IsLast}
-use Rattle.sk_index.proofs.Representing.{represents_entered, whole_is_greatest}
+use Rattle.sk_neighbours.specs.Indexed.{IsLast}
+use Rattle.sk_neighbours.proofs.Representing.{represents_entered, whole_is_greatest}
 use Rattle.sk_growth.proofs.any_order.take_in.Goals as goal
 
 pub returns-in_err-growth-clause-reached : goal.returns-in_err-growth-clause-reached

@@ -4,8 +4,8 @@ use Rattle.sk_base.proofs.Searches.{on_ok}
 use Rattle.sk_family.proofs.Naming.{among_named, not_named}
 use Rattle.sk_family.specs.declared.Merge.{Merge}
 use Rattle.sk_family.specs.declared.Merge.TheVariants.{Three}
-use Rattle.sk_ends.specs.Growing.{GrowsBy}
-use Rattle.sk_ends.proofs.Growing.{grows_none, grows_one}
+use Rattle.sk_triangles.specs.Growing.{GrowsBy}
+use Rattle.sk_triangles.proofs.Growing.{grows_none, grows_one}
 use Rattle.sk_kept.specs.Inherited.{Inherits}
 use Rattle.sk_kept.proofs.Inherited.{inherits_none, inherits_one}
 use Rattle.sk_kept.proofs.heir.add_if_inherited.Goals as goal

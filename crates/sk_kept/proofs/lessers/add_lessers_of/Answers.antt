@@ -1,7 +1,7 @@
 use Rattle.std.proofs.Common.{List, get_or, subst, sym}
 use Rattle.std.proofs.lemmas.List.Elements.{Contains-get_or}
-use Rattle.sk_ends.specs.Growing.{GrowsBy}
-use Rattle.sk_ends.proofs.Growing.{grows_start, grows_step, grows_end, grows_one}
+use Rattle.sk_triangles.specs.Growing.{GrowsBy}
+use Rattle.sk_triangles.proofs.Growing.{grows_start, grows_step, grows_end, grows_one}
 use Rattle.sk_kept.specs.KeptRows.{HasLessers}
 use Rattle.sk_kept.specs.declared.lessers.Lessers.{Lessers}
 use Rattle.sk_kept.proofs.Handing.{one_lessers}

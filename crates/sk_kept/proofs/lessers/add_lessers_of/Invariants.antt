@@ -1,5 +1,5 @@
 use Rattle.std.proofs.Common.{take}
-use Rattle.sk_ends.specs.Growing.{FromSome, GrowsBy}
+use Rattle.sk_triangles.specs.Growing.{FromSome, GrowsBy}
 use Rattle.sk_kept.specs.KeptRows.{HasLessers}
 use Rattle.sk_kept.proofs.lessers.add_lessers_of.Given as goal
 

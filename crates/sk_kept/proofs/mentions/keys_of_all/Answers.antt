@@ -1,6 +1,6 @@
 use Rattle.std.proofs.Common.{◌∙◌, ◌++◌, [], ℕ, List, ap, refl, subst, sym}
-use Rattle.sk_ends.specs.Growing.{FromSome, GrowsBy}
-use Rattle.sk_ends.proofs.Growing.{grows_end}
+use Rattle.sk_triangles.specs.Growing.{FromSome, GrowsBy}
+use Rattle.sk_triangles.proofs.Growing.{grows_end}
 use Rattle.sk_kept.specs.KeptRows.{Mention}
 use Rattle.sk_kept.proofs.Dropping.{keys_more, keys_told}
 use Rattle.sk_kept.proofs.Outcomes.{both_ok}

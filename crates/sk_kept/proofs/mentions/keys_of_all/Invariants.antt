@@ -1,5 +1,5 @@
 use Rattle.std.proofs.Common.{take, []}
-use Rattle.sk_ends.specs.Growing.{FromSome, GrowsBy}
+use Rattle.sk_triangles.specs.Growing.{FromSome, GrowsBy}
 use Rattle.sk_kept.specs.KeptRows.{Mention}
 use Rattle.sk_kept.proofs.mentions.keys_of_all.Given as goal
 

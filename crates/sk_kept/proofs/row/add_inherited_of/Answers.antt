@@ -1,7 +1,7 @@
 use Rattle.std.proofs.Common.{subst}
 use Rattle.sk_family.specs.declared.Merge.{Merge}
-use Rattle.sk_ends.specs.Growing.{GrowsBy}
-use Rattle.sk_ends.proofs.Growing.{grows_start, grows_step, grows_end}
+use Rattle.sk_triangles.specs.Growing.{GrowsBy}
+use Rattle.sk_triangles.proofs.Growing.{grows_start, grows_step, grows_end}
 use Rattle.sk_kept.specs.Inherited.{Inherits}
 use Rattle.sk_kept.specs.KeptRows.{InheritsFrom}
 use Rattle.sk_kept.proofs.row.add_inherited_of.Goals as goal

@@ -1,5 +1,5 @@
 use Rattle.std.proofs.Common.{take}
-use Rattle.sk_ends.specs.Growing.{GrowsBy, FromSome}
+use Rattle.sk_triangles.specs.Growing.{GrowsBy, FromSome}
 use Rattle.sk_kept.specs.KeptRows.{InheritsFrom}
 use Rattle.sk_kept.proofs.row.add_inherited_of.Given as goal
 

@@ -1,8 +1,8 @@
 use Rattle.std.proofs.Common.{◌∙◌, List, ap, subst}
 use Rattle.sk_base.proofs.Searches.{on_ok}
 use Rattle.sk_family.specs.declared.Merge.{Merge}
-use Rattle.sk_ends.specs.Growing.{FromSome, GrowsBy}
-use Rattle.sk_ends.proofs.Growing.{grows_none, grows_same}
+use Rattle.sk_triangles.specs.Growing.{FromSome, GrowsBy}
+use Rattle.sk_triangles.proofs.Growing.{grows_none, grows_same}
 use Rattle.sk_kept.specs.Inherited.{Inherits}
 use Rattle.sk_kept.specs.KeptRows.{InheritsAt, InheritsElse, merges_of}
 use Rattle.sk_kept.proofs.Inheritance.{row_of_key}

@@ -1,7 +1,7 @@
 use Rattle.std.proofs.Common.{get_or}
 use Rattle.std.proofs.lemmas.List.Elements.{Contains-get_or}
 use Rattle.sk_kept.specs.KeptRows.{InheritsElse}
-use Rattle.sk_ends.proofs.Growing.{grows_start, grows_step, grows_end}
+use Rattle.sk_triangles.proofs.Growing.{grows_start, grows_step, grows_end}
 use Rattle.sk_kept.proofs.rows.add_inherited_from.Goals as goal
 
 pub loop-key-init : goal.loop-key-init

@@ -1,7 +1,7 @@
 use Rattle.std.proofs.Common.{◌≡◌, ◌∙◌, ◌++◌, List, ap, refl, subst}
 use Rattle.std.specs.Prelude.{◌↔◌, Contains}
 use Rattle.std.proofs.lemmas.Option.{get_or_from_slice_get}
-use Rattle.sk_ends.specs.Growing.{FromSome, GrowsBy}
+use Rattle.sk_triangles.specs.Growing.{FromSome, GrowsBy}
 use Rattle.sk_kept.specs.KeptRows.{HasLessers}
 use Rattle.sk_kept.specs.declared.row.KeptRow.{KeptRow}
 use Rattle.sk_kept.specs.declared.lessers.Lessers.{Lessers}

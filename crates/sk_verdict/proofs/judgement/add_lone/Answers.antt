@@ -5,7 +5,7 @@ use Rattle.sk_base.specs.declared.Node.{Node}
 use Rattle.sk_base.specs.declared.Kind.TheVariants.{Point}
 use Rattle.sk_base.proofs.Searches.{refused}
 use Rattle.sk_verdict.specs.declared.part.Part.{Part}
-use Rattle.sk_ends.specs.Marks.{IsMarked}
+use Rattle.sk_triangles.specs.Marks.{IsMarked}
 use Rattle.sk_verdict.specs.Parts.{IsNamedByNone}
 use Rattle.sk_verdict.specs.Building.{AddsLone}
 use Rattle.sk_verdict.proofs.Gathering.{lone_part_is, node_new, node_more, node_passed}

@@ -3,7 +3,7 @@ use Rattle.sk_base.specs.declared.Elem.{Elem}
 use Rattle.sk_base.specs.Numbering.{elem_number}
 use Rattle.sk_base.specs.Rising.{IsRising}
 use Rattle.sk_base.proofs.Searches.{on_ok}
-use Rattle.sk_ends.specs.Growing.{FromSome, GrowsBy}
+use Rattle.sk_triangles.specs.Growing.{FromSome, GrowsBy}
 use Rattle.sk_worklist.specs.Heirs.{MissesSome}
 use Rattle.sk_worklist.proofs.Freshening.{fresh_added, told_ok}
 use Rattle.sk_worklist.proofs.heir.add_fresh_of.Goals as goal

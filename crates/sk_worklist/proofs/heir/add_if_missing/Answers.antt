@@ -2,8 +2,8 @@ use Rattle.std.proofs.Common.{refl, subst, sym, List}
 use Rattle.std.specs.Prelude.{Contains}
 use Rattle.sk_base.specs.declared.Elem.{Elem}
 use Rattle.sk_base.proofs.Searches.{on_ok, refused}
-use Rattle.sk_ends.specs.Growing.{GrowsBy}
-use Rattle.sk_ends.proofs.Growing.{grows_none, grows_one}
+use Rattle.sk_triangles.specs.Growing.{GrowsBy}
+use Rattle.sk_triangles.proofs.Growing.{grows_none, grows_one}
 use Rattle.sk_worklist.specs.Heirs.{MissesSome}
 use Rattle.sk_worklist.proofs.heir.add_if_missing.Goals as goal
 

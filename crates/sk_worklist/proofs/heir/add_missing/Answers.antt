@@ -1,5 +1,5 @@
 use Rattle.sk_worklist.specs.Heirs.{MissesSome}
-use Rattle.sk_ends.proofs.Growing.{grows_start, grows_step, grows_end}
+use Rattle.sk_triangles.proofs.Growing.{grows_start, grows_step, grows_end}
 use Rattle.sk_worklist.proofs.heir.add_missing.Goals as goal
 
 pub loop-elem-init : goal.loop-elem-init

@@ -1,5 +1,5 @@
 use Rattle.std.proofs.Common.{take}
-use Rattle.sk_ends.specs.Growing.{GrowsBy, FromSome}
+use Rattle.sk_triangles.specs.Growing.{GrowsBy, FromSome}
 use Rattle.sk_worklist.specs.Heirs.{MissesSome}
 use Rattle.sk_worklist.proofs.heir.add_missing.Given as goal
 

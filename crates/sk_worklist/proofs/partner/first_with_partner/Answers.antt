@@ -5,8 +5,8 @@ use Rattle.sk_base.specs.ClusterNames.{IsBelow}
 use Rattle.sk_family.specs.declared.Cluster.{Cluster}
 use Rattle.sk_family.specs.Clusters.{ByName}
 use Rattle.sk_family.proofs.Naming.{below_irreflexive, below_asymmetric}
-use Rattle.sk_index.specs.Partners.{Partner}
-use Rattle.sk_index.proofs.Fronts.{front_more, front_all, in_front}
+use Rattle.sk_neighbours.specs.Partners.{Partner}
+use Rattle.sk_triangles.proofs.Fronts.{front_more, front_all, in_front}
 use Rattle.sk_worklist.proofs.partner.first_with_partner.Goals as goal
 
 pub least_partner_by-requires-clause-tells : goal.least_partner_by-requires-clause-tells

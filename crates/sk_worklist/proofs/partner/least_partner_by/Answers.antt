@@ -1,10 +1,10 @@
 use Rattle.std.proofs.Common.{subst}
 use Rattle.std.specs.Prelude.{Option, None}
 use Rattle.sk_kept.specs.declared.Heir.{Heir}
-use Rattle.sk_ends.specs.Growing.{FromSome}
-use Rattle.sk_index.specs.Partners.{Partner, PartnerUnless}
+use Rattle.sk_triangles.specs.Growing.{FromSome}
+use Rattle.sk_neighbours.specs.Partners.{Partner, PartnerUnless}
 use Rattle.sk_worklist.specs.Heirs.{TellsFresh}
-use Rattle.sk_index.proofs.Least.{least_same}
+use Rattle.sk_neighbours.proofs.Least.{least_same}
 use Rattle.sk_worklist.proofs.partner.least_partner_by.Goals as goal
 
 pub returns-then-is_same : goal.returns-then-is_same

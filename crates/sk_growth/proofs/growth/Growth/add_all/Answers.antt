@@ -1,6 +1,6 @@
 use Rattle.std.proofs.Common.{◌∙◌, inl, inr, sym}
 use Rattle.sk_base.specs.declared.Elem.{Elem}
-use Rattle.sk_index.proofs.Fronts.{front_all, front_more}
+use Rattle.sk_triangles.proofs.Fronts.{front_all, front_more}
 use Rattle.sk_growth.proofs.growth.Growth.add_all.Goals as goal
 
 pub loop-elem-preserved : goal.loop-elem-preserved

@@ -1,7 +1,7 @@
 use Rattle.std.proofs.Common.{◌≡◌, take}
 use Rattle.std.specs.Prelude.{◌↔◌, ◌⊎◌, Contains}
 use Rattle.sk_base.specs.declared.Elem.{Elem}
-use Rattle.sk_ends.specs.Marks.{IsMarked}
+use Rattle.sk_triangles.specs.Marks.{IsMarked}
 use Rattle.sk_growth.proofs.growth.Growth.add_all.Given as goal
 
 abbrev pub invariant-loop-elem : goal.invariant-loop-elem

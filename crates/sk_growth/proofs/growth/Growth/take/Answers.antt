@@ -6,7 +6,7 @@ use Rattle.sk_base.proofs.Members.{contains_head, contains_one}
 use Rattle.sk_family.specs.declared.Cluster.{Cluster}
 use Rattle.sk_family.proofs.Naming.{one_of_name}
 use Rattle.sk_family.proofs.Outcomes.{both_on_ok}
-use Rattle.sk_index.specs.Indexed.{IsHeld}
+use Rattle.sk_neighbours.specs.Indexed.{IsHeld}
 use Rattle.sk_growth.specs.Grown.{HasGrown}
 use Rattle.sk_growth.proofs.TakingIn.{has_more, not_taken}
 use Rattle.sk_growth.proofs.growth.Growth.take.Goals as goal

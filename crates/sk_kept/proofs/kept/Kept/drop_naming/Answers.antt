@@ -3,7 +3,7 @@ use Rattle.std.specs.Prelude.{◌↔◌, Contains}
 use Rattle.std.specs.List.{flat_map}
 use Rattle.sk_family.specs.declared.Merge.{Merge}
 use Rattle.sk_kept.specs.declared.row.KeptRow.{KeptRow}
-use Rattle.sk_ends.specs.Growing.{FromSome}
+use Rattle.sk_triangles.specs.Growing.{FromSome}
 use Rattle.sk_kept.specs.Avoiding.{avoiding}
 use Rattle.sk_kept.specs.KeptRows.{AreDropped, AreRows, Mention, merges_at}
 use Rattle.sk_kept.proofs.Dropping.{all_avoid, keys_of_rows, rows_left}

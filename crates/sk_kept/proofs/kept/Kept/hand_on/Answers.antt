@@ -3,8 +3,8 @@ use Rattle.std.specs.Prelude.{Contains, slice_get}
 use Rattle.std.specs.List.{flat_map}
 use Rattle.std.specs.Vec.{vec_len}
 use Rattle.sk_family.specs.declared.Merge.{Merge}
-use Rattle.sk_ends.specs.Growing.{FromSome, GrowsBy}
-use Rattle.sk_ends.proofs.Growing.{grows_same}
+use Rattle.sk_triangles.specs.Growing.{FromSome, GrowsBy}
+use Rattle.sk_triangles.proofs.Growing.{grows_same}
 use Rattle.sk_kept.specs.declared.row.KeptRow.{KeptRow}
 use Rattle.sk_kept.specs.HandedOn.{IsAdded, IsOfHeirIn}
 use Rattle.sk_kept.specs.Inherited.{Inherits}

@@ -1,7 +1,7 @@
 use Rattle.std.proofs.Common.{List, subst, map}
 use Rattle.sk_base.proofs.Searches.{on_ok}
-use Rattle.sk_ends.specs.Growing.{FromSome, GrowsBy}
-use Rattle.sk_ends.proofs.Growing.{grows_same}
+use Rattle.sk_triangles.specs.Growing.{FromSome, GrowsBy}
+use Rattle.sk_triangles.proofs.Growing.{grows_same}
 use Rattle.sk_kept.specs.declared.lessers.Lessers.{Lessers}
 use Rattle.sk_kept.specs.Inherited.{Inherits}
 use Rattle.sk_kept.specs.KeptRows.{InheritsFrom, triple_of}

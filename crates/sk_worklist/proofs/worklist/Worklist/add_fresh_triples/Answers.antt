@@ -3,10 +3,10 @@ use Rattle.sk_base.specs.declared.Elem.{Elem}
 use Rattle.sk_base.proofs.Searches.{on_ok}
 use Rattle.sk_family.specs.declared.Cluster.{Cluster}
 use Rattle.sk_family.proofs.Naming.{one_of_name}
-use Rattle.sk_ends.specs.Growing.{FromSome, GrowsBy}
-use Rattle.sk_ends.proofs.Growing.{grows_none, grows_same}
-use Rattle.sk_index.specs.declared.Third.TheVariants.{Either}
-use Rattle.sk_index.specs.Triples.{AtCorner}
+use Rattle.sk_triangles.specs.Growing.{FromSome, GrowsBy}
+use Rattle.sk_triangles.proofs.Growing.{grows_none, grows_same}
+use Rattle.sk_neighbours.specs.declared.Third.TheVariants.{Either}
+use Rattle.sk_neighbours.specs.Triples.{AtCorner}
 use Rattle.sk_worklist.specs.Heirs.{IsOfFresh}
 use Rattle.sk_worklist.proofs.worklist.Worklist.add_fresh_triples.Goals as goal
 

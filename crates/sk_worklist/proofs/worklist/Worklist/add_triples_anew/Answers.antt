@@ -2,12 +2,12 @@ use Rattle.std.proofs.Common.{sym, subst, List, Bool}
 use Rattle.sk_base.proofs.Searches.{on_ok}
 use Rattle.sk_base.specs.declared.Name.{Name}
 use Rattle.sk_base.specs.declared.Name.TheVariants.{Con}
-use Rattle.sk_ends.specs.Growing.{FromSome, GrowsBy}
-use Rattle.sk_ends.proofs.Growing.{grows_same}
+use Rattle.sk_triangles.specs.Growing.{FromSome, GrowsBy}
+use Rattle.sk_triangles.proofs.Growing.{grows_same}
 use Rattle.sk_family.specs.declared.Cluster.{Cluster}
-use Rattle.sk_index.specs.Indexed.{lines_in}
-use Rattle.sk_index.specs.Triples.{TriplesOf}
-use Rattle.sk_triples.specs.Triples.{IsTripleAmong}
+use Rattle.sk_neighbours.specs.Indexed.{lines_in}
+use Rattle.sk_neighbours.specs.Triples.{TriplesOf}
+use Rattle.sk_neighbours.specs.AllTriples.{IsTripleAmong}
 use Rattle.sk_worklist.specs.Gather.{IsUncovered}
 use Rattle.sk_worklist.proofs.Turning.{all_uncovered, walks_uncovered}
 use Rattle.sk_worklist.proofs.worklist.Worklist.add_triples_anew.Goals as goal

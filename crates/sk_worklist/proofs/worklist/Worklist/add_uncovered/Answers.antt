@@ -1,7 +1,7 @@
 use Rattle.std.proofs.Common.{subst, sym}
 use Rattle.std.specs.Prelude.{Option}
 use Rattle.sk_base.proofs.Searches.{on_ok}
-use Rattle.sk_ends.specs.Growing.{GrowsBy}
+use Rattle.sk_triangles.specs.Growing.{GrowsBy}
 use Rattle.sk_kept.specs.declared.Heir.{Heir}
 use Rattle.sk_worklist.specs.Heirs.{IsFound}
 use Rattle.sk_worklist.proofs.worklist.Worklist.add_uncovered.Goals as goal

@@ -4,8 +4,8 @@ use Rattle.sk_base.proofs.Searches.{on_ok}
 use Rattle.sk_family.specs.declared.Cluster.{Cluster}
 use Rattle.sk_family.specs.declared.Merge.{Merge}
 use Rattle.sk_family.specs.Merges.{names_of}
-use Rattle.sk_index.specs.Indexed.{IsLast}
-use Rattle.sk_index.proofs.Representing.{whole_is_greatest, represents_entered}
+use Rattle.sk_neighbours.specs.Indexed.{IsLast}
+use Rattle.sk_neighbours.proofs.Representing.{whole_is_greatest, represents_entered}
 use Rattle.sk_worklist.proofs.Entering.{knows_entered, heirs_entered}
 use Rattle.sk_worklist.proofs.worklist.Worklist.enter.Goals as goal
 

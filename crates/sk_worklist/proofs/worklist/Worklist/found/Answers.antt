@@ -1,7 +1,7 @@
 use Rattle.std.proofs.Common.{inl, inr, List, subst}
 use Rattle.sk_base.proofs.Members.{contains_none}
 use Rattle.sk_family.specs.declared.Merge.{Merge}
-use Rattle.sk_ends.specs.Growing.{GrowsBy}
+use Rattle.sk_triangles.specs.Growing.{GrowsBy}
 use Rattle.sk_worklist.specs.Heirs.{IsFound}
 use Rattle.sk_worklist.proofs.worklist.Worklist.found.Goals as goal
 

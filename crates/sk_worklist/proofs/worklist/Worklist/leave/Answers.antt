@@ -3,9 +3,9 @@ use Rattle.std.specs.Prelude.{Contains}
 use Rattle.sk_family.specs.Clusters.{unnamed}
 use Rattle.sk_family.specs.declared.Merge.{Merge}
 use Rattle.sk_family.specs.Merges.{names_of}
-use Rattle.sk_index.specs.declared.Index.{Index}
-use Rattle.sk_index.specs.Indexed.{IsHeld, IsIndex, Represents}
-use Rattle.sk_index.proofs.Representing.{represents_left}
+use Rattle.sk_neighbours.specs.declared.Index.{Index}
+use Rattle.sk_neighbours.specs.Indexed.{IsHeld, IsIndex, Represents}
+use Rattle.sk_neighbours.proofs.Representing.{represents_left}
 use Rattle.sk_worklist.proofs.Entering.{same_knows}
 use Rattle.sk_worklist.proofs.worklist.Worklist.leave.Goals as goal
 

@@ -1,7 +1,0 @@
-use Rattle.std.proofs.Common.{rules}
-use Rattle.std.proofs.lemmas.List.Sorted.{IsNonDecreasingBy-from_sort_by_key}
-use Rattle.sk_ends.specs.Ends.{end_number}
-use Rattle.sk_ends.proofs.ends.by_elem.Goals as goal
-
-pub returns-clause-sorted : goal.returns-clause-sorted
-returns-clause-sorted c = IsNonDecreasingBy-from_sort_by_key end_number _ c.sort_unstable_by_key.ensures.sorted (λ a r q k. search rules)

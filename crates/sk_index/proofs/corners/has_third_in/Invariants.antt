@@ -1,8 +1,0 @@
-use Rattle.std.specs.Prelude.{Contains}
-use Rattle.sk_base.specs.declared.Elem.{Elem}
-use Rattle.sk_base.proofs.Searches.{NoneBefore}
-use Rattle.sk_index.specs.Indexed.{IsThird}
-use Rattle.sk_index.proofs.corners.has_third_in.Given as goal
-
-abbrev pub invariant-loop-c : goal.invariant-loop-c
-invariant-loop-c l = NoneBefore (λ (e : Elem). Contains l.many e × IsThird l.index l.a l.b e) l.few l.c-index

@@ -1,7 +1,0 @@
-use Rattle.std.proofs.Common.{take}
-use Rattle.sk_ends.specs.Growing.{GrowsBy, FromSome}
-use Rattle.sk_index.specs.Walked.{Meets}
-use Rattle.sk_index.proofs.meeting.add_meets.Given as goal
-
-abbrev pub invariant-loop-end : goal.invariant-loop-end
-invariant-loop-end l = GrowsBy (FromSome (Meets l.third l.x l.z) (take l.end-index l.ends)) l.fn.all l.all

@@ -1,5 +1,0 @@
-pub mod Indexed
-pub mod Walks
-pub mod Partners
-pub mod Triples
-pub mod Walked

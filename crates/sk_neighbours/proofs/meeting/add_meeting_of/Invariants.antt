@@ -1,0 +1,7 @@
+use Rattle.std.proofs.Common.{take}
+use Rattle.sk_triangles.specs.Growing.{GrowsBy, FromSome}
+use Rattle.sk_neighbours.specs.Walked.{MeetAt}
+use Rattle.sk_neighbours.proofs.meeting.add_meeting_of.Given as goal
+
+abbrev pub invariant-loop-b : goal.invariant-loop-b
+invariant-loop-b l = GrowsBy (FromSome (MeetAt l.index l.ends l.corners l.z.name) (take l.b-index l.b-items)) l.fn.all l.all

@@ -1,0 +1,5 @@
+pub mod Growing
+mod Between
+pub mod Fronts
+mod Found
+mod Walking

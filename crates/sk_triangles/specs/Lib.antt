@@ -1,0 +1,5 @@
+pub mod Marks
+pub mod Growing
+pub mod Ends
+pub mod Ranks
+pub mod Walk

@@ -1,3 +1,0 @@
-pub mod Triples
-pub mod Ranks
-pub mod Walk
