@@ -25,13 +25,13 @@ use Rattle.sk_triangles.proofs.Growing.{grows_step}
 use Rattle.sk_kept.proofs.Writing.{row_written, row_beside}
 use Rattle.sk_kept.specs.declared.mentions.Mentions.{Mentions}
 use Rattle.sk_kept.specs.declared.row.KeptRow.{KeptRow}
-use Rattle.sk_kept.specs.declared.lessers.Lessers.{Lessers}
+use Rattle.sk_kept.specs.declared.lower_pairs.LowerPair.{LowerPair}
 use Rattle.sk_kept.specs.Avoiding.{names_one_of, avoiding}
 use Rattle.sk_kept.specs.KeptRows.{AreDropped, AreRows, IsDroppedAt, Mention, keys_of, merges_at, merges_in, merges_of, triple_of}
 
 -- in a row
 module _ (gone : List Name) (x : Name) where
-  pub row_goes : is_named gone x ≡ true → (ps : List Lessers) → avoiding gone (map (triple_of x) ps) ≡ []
+  pub row_goes : is_named gone x ≡ true → (ps : List LowerPair) → avoiding gone (map (triple_of x) ps) ≡ []
   row_goes goes [] = refl
   row_goes goes (p ∷ ps) = told (is_named gone x) (is_named gone p.second || is_named gone p.third) goes (row_goes goes ps)
     where
@@ -39,13 +39,13 @@ module _ (gone : List Name) (x : Name) where
       told true b is rest = rest
       told false b is rest = absurd (cc)
 
-  pub row_stays : is_named gone x ≡ false → (ps : List Lessers)
-      → avoiding gone (map (triple_of x) ps) ≡ map (triple_of x) (filter (λ (p : Lessers). not (is_named gone p.second || is_named gone p.third)) ps)
+  pub row_stays : is_named gone x ≡ false → (ps : List LowerPair)
+      → avoiding gone (map (triple_of x) ps) ≡ map (triple_of x) (filter (λ (p : LowerPair). not (is_named gone p.second || is_named gone p.third)) ps)
   row_stays stays [] = refl
   row_stays stays (p ∷ ps) = told (is_named gone x) (is_named gone p.second || is_named gone p.third) stays (row_stays stays ps)
     where
-      left : List Lessers
-      left = filter (λ (q : Lessers). not (is_named gone q.second || is_named gone q.third)) ps
+      left : List LowerPair
+      left = filter (λ (q : LowerPair). not (is_named gone q.second || is_named gone q.third)) ps
 
       told : (a b : Bool) → a ≡ false → avoiding gone (map (triple_of x) ps) ≡ map (triple_of x) left
           → cond (not (a || b)) (triple_of x p ∷ avoiding gone (map (triple_of x) ps)) (avoiding gone (map (triple_of x) ps)) ≡ map (triple_of x) (cond (not b) (p ∷ left) left)

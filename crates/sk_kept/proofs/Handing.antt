@@ -19,13 +19,13 @@ use Rattle.sk_triangles.specs.Growing.{FromSome, GrowsBy}
 use Rattle.sk_kept.proofs.Writing.{row_written, row_beside}
 use Rattle.sk_kept.specs.MergeOrder.{ComesFirst}
 use Rattle.sk_kept.specs.Inherited.{Inherits, IsBeside}
-use Rattle.sk_kept.specs.HandedOn.{IsAdded, IsOfHeirIn, IsTripleOf}
+use Rattle.sk_kept.specs.HandedOn.{IsAdded, IsOfHeirIn, HasGreatest}
 use Rattle.sk_kept.specs.Avoiding.{IsTriple, avoiding, names_one_of}
-use Rattle.sk_kept.specs.KeptRows.{AreBefore, AreRows, AreTold, GainsKey, HasLessers, InheritsElse, IsGrownRow, IsRowOf, Mention, but, keys_of, merges_at, merges_in, merges_of, triple_of}
+use Rattle.sk_kept.specs.KeptRows.{AreBefore, AreRows, AreTold, GainsKey, HasLowerPair, InheritsElse, IsGrownRow, IsRowOf, Mention, but, keys_of, merges_at, merges_in, merges_of, triple_of}
 use Rattle.sk_kept.specs.declared.heir.Heir.{Heir}
 use Rattle.sk_kept.specs.declared.mentions.Mentions.{Mentions}
 use Rattle.sk_kept.specs.declared.row.KeptRow.{KeptRow}
-use Rattle.sk_kept.specs.declared.lessers.Lessers.{Lessers}
+use Rattle.sk_kept.specs.declared.lower_pairs.LowerPair.{LowerPair}
 use Rattle.sk_kept.proofs.Dropping.{row_goes}
 use Rattle.sk_kept.proofs.Inheritance.{beside_names, flat_contains, flat_from}
 use Rattle.sk_kept.proofs.Inherited.{one_beside}
@@ -86,9 +86,9 @@ inherited_else rows order mentions are key heir gone m = (
 )
 
 module _ (rows : List KeptRow) (order : List ℕ) (mentions : Mentions) (are : AreRows rows order mentions) (heir : Heir) (key : ℕ) (key_in : key < length rows) (of_core : IsRowOf rows heir.core key)
-    (found all : List Merge) (row : KeptRow) (grown : IsGrownRow heir.name of_core.row.lessers.items all row) where
-  abbrev own : List Lessers
-  own = of_core.row.lessers.items
+    (found all : List Merge) (row : KeptRow) (grown : IsGrownRow heir.name of_core.row.lower_pairs.items all row) where
+  abbrev own : List LowerPair
+  own = of_core.row.lower_pairs.items
 
   abbrev rest : List Merge
   rest = flat_map (merges_at rows) (but key order)
@@ -130,7 +130,7 @@ module _ (rows : List KeptRow) (order : List ℕ) (mentions : Mentions) (are : A
     rest_in : (m : Merge) → Contains rest m → Contains old m
     rest_in m m_in = (let (k, k_in, m_at) = flat_from (merges_at rows) (but key order) m m_in in flat_contains (merges_at rows) order k m (but_from key order k k_in).0 m_at)
 
-    own_in : (p : Lessers) → Contains own p → Contains old (triple_of heir.core p)
+    own_in : (p : LowerPair) → Contains own p → Contains old (triple_of heir.core p)
     own_in p p_in =
         let at = subst (λ l. Contains l (triple_of heir.core p)) (sym row_is) (contains_mapped (triple_of heir.core) own p p_in) in
         flat_contains (merges_at rows) order key (triple_of heir.core p) (are.placed key (triple_of heir.core p) at) at
@@ -181,7 +181,7 @@ module _ (rows : List KeptRow) (order : List ℕ) (mentions : Mentions) (are : A
     still_in : (k : ℕ) → k < length rows → k < length new
     still_in k less = subst (λ n. k < n) (sym (length-set rows key row)) less
 
-    own_told : (p : Lessers) → Contains own p → (n : Name) → Contains (names_of (triple_of heir.name p)) n → Mention mentions' n key
+    own_told : (p : LowerPair) → Contains own p → (n : Name) → Contains (names_of (triple_of heir.name p)) n → Mention mentions' n key
     own_told p p_in n n_in =
         elim (contains_cases heir.name (p.second ∷ p.third ∷ []) n n_in) [
           | inl is_name ↦ subst (λ l. Mention mentions' l key) is_name named
@@ -218,16 +218,16 @@ pub row_within : (rows : List KeptRow) (x : Name) (key : ℕ) → IsRowOf rows x
 row_within rows x key of_name = slice_get_within rows key of_name.row of_name.there
 
 -- pairs in order, under one name
-pub under_name : (x : Name) (ps : List Lessers) → AllPairs AreBefore ps → AllPairs ComesFirst (map (triple_of x) ps)
+pub under_name : (x : Name) (ps : List LowerPair) → AllPairs AreBefore ps → AllPairs ComesFirst (map (triple_of x) ps)
 under_name x ps order = pairs_map ComesFirst (triple_of x) ps (pairs_weaken AreBefore (λ p q. ComesFirst (triple_of x p) (triple_of x q)) ps order (λ p q p_in q_in before. comes p q before))
   where
-    comes : (p q : Lessers) → AreBefore p q → ComesFirst (triple_of x p) (triple_of x q)
+    comes : (p q : LowerPair) → AreBefore p q → ComesFirst (triple_of x p) (triple_of x q)
     comes p q (inl second) = inr (refl, inl second)
     comes p q (inr (level, third)) = inr (refl, inr (level, inl third))
 
 -- the pairs of a row and of what was found, under one name
-pub grown_same : (x : Name) (ps all ordered : List Lessers) (found : List Merge) → ((m : Merge) → Contains found m → IsTripleOf x m) → GrowsBy (FromSome HasLessers found) ps all
-    → ((p : Lessers) → Contains ordered p ↔ Contains all p) → (m : Merge) → Contains (map (triple_of x) ordered) m ↔ (Contains (map (triple_of x) ps) m ⊎ Contains found m)
+pub grown_same : (x : Name) (ps all ordered : List LowerPair) (found : List Merge) → ((m : Merge) → Contains found m → HasGreatest x m) → GrowsBy (FromSome HasLowerPair found) ps all
+    → ((p : LowerPair) → Contains ordered p ↔ Contains all p) → (m : Merge) → Contains (map (triple_of x) ordered) m ↔ (Contains (map (triple_of x) ps) m ⊎ Contains found m)
 grown_same x ps all ordered found right grows same m = (
   (λ h. (
       let (p, p_in, is) = mapped_from (triple_of x) ordered m h in
@@ -239,12 +239,12 @@ grown_same x ps all ordered found right grows same m = (
     | inl was ↦ (let (p, p_in, is) = mapped_from (triple_of x) ps m was in subst (λ (u : Merge). Contains (map (triple_of x) ordered) u) is (contains_mapped (triple_of x) ordered p ((same p).1 ((grows p).1 (inl p_in)))))
     | inr in_found ↦ (
         let (y, z, m_is) = right m in_found in
-        let p : Lessers = record { second = y; third = z } in
+        let p : LowerPair = record { second = y; third = z } in
         subst (λ (u : Merge). Contains (map (triple_of x) ordered) u) (sym m_is) (contains_mapped (triple_of x) ordered p ((same p).1 ((grows p).1 (inr (m, in_found, (x, m_is)))))))
   ]),
 )
   where
-    renamed : (t : Merge) → Contains found t → (n : Name) (p : Lessers) → t ≡ triple_of n p → t ≡ triple_of x p
+    renamed : (t : Merge) → Contains found t → (n : Name) (p : LowerPair) → t ≡ triple_of n p → t ≡ triple_of x p
     renamed t t_in n p t_is =
         let (y, z, is) = right t t_in in
         let both : Three n p.second p.third ≡ Three x y z = sym t_is ∙ is in
@@ -252,11 +252,11 @@ grown_same x ps all ordered found right grows same m = (
         t_is ∙ ap (λ k. Three k p.second p.third) level
 
 -- a triple has two other clusters
-abbrev pair : Name → Name → Lessers
+abbrev pair : Name → Name → LowerPair
 pair y z = record { second = y; third = z }
 
-pub one_lessers : (m : Merge) (p q : Lessers) → HasLessers m p → HasLessers m q → p ≡ q
-one_lessers m p q (x, p_is) (y, q_is) =
+pub one_pairs : (m : Merge) (p q : LowerPair) → HasLowerPair m p → HasLowerPair m q → p ≡ q
+one_pairs m p q (x, p_is) (y, q_is) =
     let both : Three x p.second p.third ≡ Three y q.second q.third = sym p_is ∙ q_is in
     let second : p.second ≡ q.second = cc in
     let third : p.third ≡ q.third = cc in
@@ -274,12 +274,12 @@ told_more mentions mentions' key ms i d i_in gains named told m m_in n n_in =
       | inr last ↦ named n (subst (λ (t : Merge). Contains (names_of t) n) (sym (contains_one (get_or ms i d) m last)) n_in)
     ]
 
-pub triples_of : (x : Name) (ms : List Merge) → ((m : Merge) → Contains ms m → IsTripleOf x m) → (m : Merge) → Contains ms m → IsTriple m
+pub triples_of : (x : Name) (ms : List Merge) → ((m : Merge) → Contains ms m → HasGreatest x m) → (m : Merge) → Contains ms m → IsTriple m
 triples_of x ms right m m_in = (let (y, z, is) = right m m_in in (x, y, z, is))
 
 -- what was found, with what the heir inherits, are triples of the heir
-pub still_right : (heir : Heir) (gone : List Name) (rows : List KeptRow) (key : ℕ) (ks : List ℕ) (found all : List Merge) → ((m : Merge) → Contains found m → IsTripleOf heir.name m)
-    → GrowsBy (FromSome (InheritsElse rows key heir gone) ks) found all → (m : Merge) → Contains all m → IsTripleOf heir.name m
+pub still_right : (heir : Heir) (gone : List Name) (rows : List KeptRow) (key : ℕ) (ks : List ℕ) (found all : List Merge) → ((m : Merge) → Contains found m → HasGreatest heir.name m)
+    → GrowsBy (FromSome (InheritsElse rows key heir gone) ks) found all → (m : Merge) → Contains all m → HasGreatest heir.name m
 still_right heir gone rows key ks found all right grows m m_in =
     elim ((grows m).0 m_in) [
       | inl was ↦ right m was

@@ -14,7 +14,7 @@ use Rattle.sk_family.specs.Merges.{names_of}
 use Rattle.sk_triangles.specs.Growing.{FromSome}
 use Rattle.sk_kept.specs.declared.heir.Heir.{Heir}
 use Rattle.sk_kept.specs.declared.row.KeptRow.{KeptRow}
-use Rattle.sk_kept.specs.declared.lessers.Lessers.{Lessers}
+use Rattle.sk_kept.specs.declared.lower_pairs.LowerPair.{LowerPair}
 use Rattle.sk_kept.specs.Inherited.{Inherits, IsBeside}
 use Rattle.sk_kept.specs.KeptRows.{InheritsFrom, merges_at, merges_in, merges_of, triple_of}
 
@@ -43,7 +43,7 @@ beside_names (Three x y z) n p q (inr (inr (_, _, is, _, _))) =
     subst (λ m. Contains (x ∷ y ∷ z ∷ []) m) is (contains_later x (y ∷ z ∷ []) z (contains_later y (z ∷ []) z (contains_head z [])))
 
 -- what the heir has instead of the triples of a row
-pub inherited_by_row : (heir : Heir) (gone : List Name) (x : Name) (ps : List Lessers) (m : Merge) → FromSome (InheritsFrom heir gone x) ps m ↔ FromSome (Inherits heir gone) (map (triple_of x) ps) m
+pub inherited_by_row : (heir : Heir) (gone : List Name) (x : Name) (ps : List LowerPair) (m : Merge) → FromSome (InheritsFrom heir gone x) ps m ↔ FromSome (Inherits heir gone) (map (triple_of x) ps) m
 inherited_by_row heir gone x ps m = (
   (λ (p, p_in, is). (triple_of x p, contains_mapped (triple_of x) ps p p_in, is)),
   (λ (t, t_in, is). (let (p, p_in, same) = mapped_from (triple_of x) ps t t_in in (p, p_in, subst (λ n. Inherits heir gone n m) (sym same) is))),

@@ -15,7 +15,7 @@ use Rattle.sk_family.specs.Merges.{names_of}
 use Rattle.sk_kept.proofs.Writing.{row_written, row_beside}
 use Rattle.sk_kept.specs.declared.mentions.Mentions.{Mentions}
 use Rattle.sk_kept.specs.declared.row.KeptRow.{KeptRow}
-use Rattle.sk_kept.specs.declared.lessers.Lessers.{Lessers}
+use Rattle.sk_kept.specs.declared.lower_pairs.LowerPair.{LowerPair}
 use Rattle.sk_kept.specs.KeptRows.{AreAlike, AreRows, AreUnchanged, GainsKey, IsLastRow, IsPutAt, Mention, merges_at, merges_in, merges_of, triple_of}
 
 -- a row without a triple changes nothing
@@ -80,7 +80,7 @@ module _ (rows : List KeptRow) (row : KeptRow) (none : merges_of row ≡ []) (or
   there (r ∷ rs) = there rs
 
   pub is_last : (x : Name) → row.greatest ≡ x → IsLastRow more (order ++ length rows ∷ []) x (length rows)
-  is_last x named = record { front = order; last = refl; row = row; there = there rows; has_name = named }
+  is_last x named = record { front = order; last = refl; is_row = record { row = row; there = there rows; has_name = named } }
 
 -- more keys of names do no harm
 pub still_told : (rows : List KeptRow) (order : List ℕ) (old new : Mentions) (key : ℕ) → AreRows rows order old → key < length rows → GainsKey old new key → AreRows rows order new
@@ -141,16 +141,16 @@ module _ (rows : List KeptRow) (order : List ℕ) (mentions : Mentions) (are : A
             ]
 
 -- a row with one more triple
-map_pushed : (x : Name) (ps : List Lessers) (p : Lessers) → map (triple_of x) (ps ++ p ∷ []) ≡ map (triple_of x) ps ++ triple_of x p ∷ []
+map_pushed : (x : Name) (ps : List LowerPair) (p : LowerPair) → map (triple_of x) (ps ++ p ∷ []) ≡ map (triple_of x) ps ++ triple_of x p ∷ []
 map_pushed x [] p = refl
 map_pushed x (q ∷ ps) p = ap (λ l. triple_of x q ∷ l) (map_pushed x ps p)
 
-pub put_at : (rows : List KeptRow) (key : ℕ) (was row : KeptRow) (p : Lessers) → key < length rows → slice_get rows key ≡ Some was → row.greatest ≡ was.greatest → row.lessers.items ≡ was.lessers.items ++ p ∷ []
+pub put_at : (rows : List KeptRow) (key : ℕ) (was row : KeptRow) (p : LowerPair) → key < length rows → slice_get rows key ≡ Some was → row.greatest ≡ was.greatest → row.lower_pairs.items ≡ was.lower_pairs.items ++ p ∷ []
     → IsPutAt key (triple_of was.greatest p) rows (set rows key row)
 put_at rows key was row p key_in was_is same more = record {
   as_many = length-set rows key row;
-  here = row_written rows key row key_in ∙ ap (λ n. map (triple_of n) row.lessers.items) same ∙ ap (λ (l : List Lessers). map (triple_of was.greatest) l) more
-      ∙ map_pushed was.greatest was.lessers.items p ∙ ap (λ l. l ++ triple_of was.greatest p ∷ []) (sym (ap merges_in was_is));
+  here = row_written rows key row key_in ∙ ap (λ n. map (triple_of n) row.lower_pairs.items) same ∙ ap (λ (l : List LowerPair). map (triple_of was.greatest) l) more
+      ∙ map_pushed was.greatest was.lower_pairs.items p ∙ ap (λ l. l ++ triple_of was.greatest p ∷ []) (sym (ap merges_in was_is));
   others = λ k other. row_beside rows key row k other;
 }
 
@@ -161,7 +161,7 @@ last_row rows order x key row last_is row_is named =
       | inl none ↦ (let clash : None ≡ Some key = sym (ap (λ l. slice_get l (length l - 1)) none) ∙ last_is in absurd (cc))
       | inr (front, last, is) ↦ (
           let same : last ≡ key = same_Some last key (sym (last_pushed front last) ∙ sym (ap (λ l. slice_get l (length l - 1)) is) ∙ last_is) in
-          record { front = front; last = is ∙ ap (λ k. front ++ k ∷ []) same; row = row; there = row_is; has_name = named })
+          record { front = front; last = is ∙ ap (λ k. front ++ k ∷ []) same; is_row = record { row = row; there = row_is; has_name = named } })
     ]
 
 pub gains_then : (old mid new : Mentions) (key : ℕ) → GainsKey old mid key → GainsKey mid new key → GainsKey old new key
@@ -214,10 +214,10 @@ module _ (rows more : List KeptRow) (order : List ℕ) (row : KeptRow) (none : m
         (subst (λ l. IsLastRow more l row.greatest (length rows)) (sym (order_is ∙ ap (λ k. order ++ k ∷ []) key_is)) (subst (λ rs. IsLastRow rs (order ++ length rows ∷ []) row.greatest (length rows)) (sym more_is) (is_last rows row none order row.greatest refl)))
 
 -- what was put at the end of the last row
-pub put_last : (rows slice : List KeptRow) → slice ≡ rows → (order : List ℕ) (x : Name) (key : ℕ) → IsLastRow rows order x key → (p : Lessers) (new : List KeptRow)
+pub put_last : (rows slice : List KeptRow) → slice ≡ rows → (order : List ℕ) (x : Name) (key : ℕ) → IsLastRow rows order x key → (p : LowerPair) (new : List KeptRow)
     → ((row : KeptRow) → slice_get slice key ≡ Some row → IsPutAt key (triple_of row.greatest p) slice new) → IsPutAt key (triple_of x p) rows new
 put_last rows slice slice_is order x key last p new put =
-    subst (λ rs. IsPutAt key (triple_of x p) rs new) slice_is (subst (λ n. IsPutAt key (triple_of n p) slice new) last.has_name (put last.row (ap (λ rs. slice_get rs key) slice_is ∙ last.there)))
+    subst (λ rs. IsPutAt key (triple_of x p) rs new) slice_is (subst (λ n. IsPutAt key (triple_of n p) slice new) last.is_row.has_name (put last.is_row.row (ap (λ rs. slice_get rs key) slice_is ∙ last.is_row.there)))
 
 pub written : {X : Type 0} (len : ℕ) (new old : List X) → length new ≡ len → take len (new ++ drop (length new) old) ≡ new
 written len new old is = subst (λ n. take n (new ++ drop (length new) old) ≡ new) is (take_at new (drop (length new) old) (length new) refl)

@@ -24,10 +24,10 @@ use Rattle.sk_family.specs.declared.Merge.TheVariants.{Two, Three}
 use Rattle.sk_family.specs.contracts.merge.MergeOrd.TheImpl as merges
 use Rattle.sk_family.specs.contracts.merge.MergePartialEq.TheImpl as equal_merges
 use Rattle.sk_family.specs.contracts.merge.MergeEq.TheImpl as merge_laws
-use Rattle.sk_kept.specs.declared.lessers.Lessers.{Lessers}
-use Rattle.sk_kept.specs.contracts.lessers.LessersOrd.TheImpl as lessers
-use Rattle.sk_kept.specs.contracts.lessers.LessersPartialEq.TheImpl as equal_lessers
-use Rattle.sk_kept.specs.contracts.lessers.LessersEq.TheImpl as lessers_laws
+use Rattle.sk_kept.specs.declared.lower_pairs.LowerPair.{LowerPair}
+use Rattle.sk_kept.specs.contracts.lower_pairs.LowerPairOrd.TheImpl as ordered_pairs
+use Rattle.sk_kept.specs.contracts.lower_pairs.LowerPairPartialEq.TheImpl as equal_pairs
+use Rattle.sk_kept.specs.contracts.lower_pairs.LowerPairEq.TheImpl as pairs_laws
 use Rattle.sk_kept.specs.Avoiding.{IsTriple}
 use Rattle.sk_kept.specs.KeptRows.{AreBefore}
 use Rattle.sk_kept.specs.MergeOrder.{ComesFirst}
@@ -134,29 +134,29 @@ module _ (from sorted once : List Merge) (permutation : IsPermutation from sorte
       (once_strict merges.ghosts.cmp equal_merges.ghosts.eq merges.Laws.total-law merges.Laws.matches_eq-law merge_laws.Laws.laws-law merge_equal from sorted once permutation once_is rises))
       (λ m n m_in n_in before. before (triples m ((sorted_same m).0 m_in)) (triples n ((sorted_same n).0 n_in)))
 
-lessers_less : (p q : Lessers) → lessers.ghosts.cmp p q ≡ Less → AreBefore p q
-lessers_less p q h =
+pairs_less : (p q : LowerPair) → ordered_pairs.ghosts.cmp p q ≡ Less → AreBefore p q
+pairs_less p q h =
     elim (then_less (names.ghosts.cmp p.second q.second) (names.ghosts.cmp p.third q.third) h) [
       | inl first ↦ inl (name_less p.second q.second first)
       | inr (same, rest) ↦ inr (same_name p.second q.second same, name_less p.third q.third rest)
     ]
 
-abbrev pair : Name → Name → Lessers
+abbrev pair : Name → Name → LowerPair
 pair y z = record { second = y; third = z }
 
-lessers_equal : (p q : Lessers) → lessers.ghosts.cmp p q ≡ Equal → p ≡ q
-lessers_equal p q h =
+pairs_equal : (p q : LowerPair) → ordered_pairs.ghosts.cmp p q ≡ Equal → p ≡ q
+pairs_equal p q h =
     let (first, rest) = then_equal (names.ghosts.cmp p.second q.second) (names.ghosts.cmp p.third q.third) h in
     ap (λ n. pair n p.third) (same_name p.second q.second first) ∙ ap (λ n. pair q.second n) (same_name p.third q.third rest)
 
-module _ (from sorted once : List Lessers) (permutation : IsPermutation from sorted) (deduped : IsFiltered (DiffersFromLast equal_lessers.ghosts.eq) [] sorted once) where
-  once_lessers : once ≡ dedup equal_lessers.ghosts.eq sorted
-  once_lessers = dedup_is equal_lessers.ghosts.eq sorted once deduped
+module _ (from sorted once : List LowerPair) (permutation : IsPermutation from sorted) (deduped : IsFiltered (DiffersFromLast equal_pairs.ghosts.eq) [] sorted once) where
+  once_pairs : once ≡ dedup equal_pairs.ghosts.eq sorted
+  once_pairs = dedup_is equal_pairs.ghosts.eq sorted once deduped
 
-  pub lessers_same : (p : Lessers) → Contains once p ↔ Contains from p
-  lessers_same = once_same lessers.ghosts.cmp equal_lessers.ghosts.eq lessers.Laws.total-law lessers.Laws.matches_eq-law lessers_laws.Laws.laws-law lessers_equal from sorted once permutation once_lessers
+  pub pairs_same : (p : LowerPair) → Contains once p ↔ Contains from p
+  pairs_same = once_same ordered_pairs.ghosts.cmp equal_pairs.ghosts.eq ordered_pairs.Laws.total-law ordered_pairs.Laws.matches_eq-law pairs_laws.Laws.laws-law pairs_equal from sorted once permutation once_pairs
 
-  pub lessers_order : IsSorted lessers.ghosts.cmp sorted → AllPairs AreBefore once
-  lessers_order rises =
-      strict_pairs lessers.ghosts.cmp AreBefore once lessers_less
-      (once_strict lessers.ghosts.cmp equal_lessers.ghosts.eq lessers.Laws.total-law lessers.Laws.matches_eq-law lessers_laws.Laws.laws-law lessers_equal from sorted once permutation once_lessers rises)
+  pub pairs_order : IsSorted ordered_pairs.ghosts.cmp sorted → AllPairs AreBefore once
+  pairs_order rises =
+      strict_pairs ordered_pairs.ghosts.cmp AreBefore once pairs_less
+      (once_strict ordered_pairs.ghosts.cmp equal_pairs.ghosts.eq ordered_pairs.Laws.total-law ordered_pairs.Laws.matches_eq-law pairs_laws.Laws.laws-law pairs_equal from sorted once permutation once_pairs rises)

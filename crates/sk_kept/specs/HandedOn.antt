@@ -10,13 +10,13 @@ use Rattle.sk_kept.specs.Inherited.{Inherits}
 use Rattle.sk_kept.specs.Avoiding.{IsTriple, avoiding, names_one_of}
 
 -- a triple with the name as the greatest
-abbrev pub IsTripleOf : Name → Merge → Type 0
-IsTripleOf x m = (y : Name) × (z : Name) × (m ≡ Three x y z)
+abbrev pub HasGreatest : Name → Merge → Type 0
+HasGreatest x m = (y : Name) × (z : Name) × (m ≡ Three x y z)
 
--- what is found are triples: where there is an heir its own, and its core is gone
-abbrev pub IsRight : Option Heir → List Name → List Merge → Type 0
-IsRight None gone found = (m : Merge) → Contains found m → IsTriple m
-IsRight (Some heir) gone found = Contains gone heir.core × ((m : Merge) → Contains found m → IsTripleOf heir.name m)
+-- these are triples: where there is an heir its own, and its core is gone
+abbrev pub AreFoundFor : Option Heir → List Name → List Merge → Type 0
+AreFoundFor None gone found = (m : Merge) → Contains found m → IsTriple m
+AreFoundFor (Some heir) gone found = Contains gone heir.core × ((m : Merge) → Contains found m → HasGreatest heir.name m)
 
 -- what is to be added: what was found, and what the heir inherits, if there is one
 abbrev pub IsOfHeirIn : Heir → List Name → List Merge → List Merge → Merge → Type 0

@@ -9,7 +9,7 @@ use Rattle.sk_family.specs.declared.Merge.TheVariants.{Three}
 use Rattle.sk_family.specs.Merges.{names_of}
 use Rattle.sk_kept.specs.declared.mentions.Mentions.{Mentions}
 use Rattle.sk_kept.specs.declared.row.KeptRow.{KeptRow}
-use Rattle.sk_kept.specs.declared.lessers.Lessers.{Lessers}
+use Rattle.sk_kept.specs.declared.lower_pairs.LowerPair.{LowerPair}
 use Rattle.sk_triangles.specs.Growing.{FromSome}
 use Rattle.sk_kept.specs.declared.heir.Heir.{Heir}
 use Rattle.sk_kept.specs.MergeOrder.{ComesFirst}
@@ -38,11 +38,11 @@ abbrev pub Mention : Mentions → Name → ℕ → Type 0
 Mention m n k = Contains (keys_of m n) k
 
 -- the triples of a row, and those of the row with that key
-abbrev pub triple_of : Name → Lessers → Merge
+abbrev pub triple_of : Name → LowerPair → Merge
 triple_of x p = Three x p.second p.third
 
 abbrev pub merges_of : KeptRow → List Merge
-merges_of row = map (triple_of row.greatest) row.lessers.items
+merges_of row = map (triple_of row.greatest) row.lower_pairs.items
 
 abbrev pub merges_in : Option KeptRow → List Merge
 merges_in None = []
@@ -51,13 +51,17 @@ merges_in (Some row) = merges_of row
 abbrev pub merges_at : List KeptRow → ℕ → List Merge
 merges_at rows k = merges_in (slice_get rows k)
 
+-- each name of the triples has the key
+abbrev pub AreTold : Mentions → ℕ → List Merge → Type 0
+AreTold mentions key ms = (m : Merge) → Contains ms m → (n : Name) → Contains (names_of m) n → Mention mentions n key
+
 -- what holds of rows, their order, and the keys of names: each name of a triple has its row's key
 pub record AreRows (rows : List KeptRow) (order : List ℕ) (mentions : Mentions) : Type 0 where
   pub differ : AllPairs (λ (j k : ℕ). j ≢ k) order
   pub within : (k : ℕ) → Contains order k → k < length rows
   pub keys_within : (n : Name) (k : ℕ) → Mention mentions n k → k < length rows
   pub placed : (k : ℕ) (m : Merge) → Contains (merges_at rows k) m → Contains order k
-  pub told : (k : ℕ) (m : Merge) → Contains (merges_at rows k) m → (n : Name) → Contains (names_of m) n → Mention mentions n k
+  pub told : (k : ℕ) → AreTold mentions k (merges_at rows k)
 
 -- the row with that key has lost what names one of these, or it has none of the keys, and is as it was
 abbrev pub IsDropped : List Name → List ℕ → List KeptRow → List KeptRow → ℕ → Type 0
@@ -79,13 +83,17 @@ pub record AreAlike (rows : List KeptRow) (order : List ℕ) (rows' : List KeptR
   pub same : flat_map (merges_at rows') order' ≡ flat_map (merges_at rows) order
   pub still : (m : Mentions) → AreRows rows order m → AreRows rows' order' m
 
+-- there is a row with that key, and it is of the cluster
+pub record IsRowOf (rows : List KeptRow) (x : Name) (key : ℕ) : Type 0 where
+  pub row : KeptRow
+  pub there : slice_get rows key ≡ Some row
+  pub has_name : row.greatest ≡ x
+
 -- the last in order is a row of the cluster, and has that key
 pub record IsLastRow (rows : List KeptRow) (order : List ℕ) (x : Name) (key : ℕ) : Type 0 where
   pub front : List ℕ
   pub last : order ≡ front ++ key ∷ []
-  pub row : KeptRow
-  pub there : slice_get rows key ≡ Some row
-  pub has_name : row.greatest ≡ x
+  pub is_row : IsRowOf rows x key
 
 -- the row with that key has one more merge at its end
 pub record IsPutAt (key : ℕ) (m : Merge) (old new : List KeptRow) : Type 0 where
@@ -99,7 +107,7 @@ pub record AreUnchanged (old new : List KeptRow) : Type 0 where
   pub each : (k : ℕ) → merges_at new k ≡ merges_at old k
 
 -- what the heir has instead of the triple of a cluster and these two, and instead of the triples of the row with that key
-abbrev pub InheritsFrom : Heir → List Name → Name → Lessers → Merge → Type 0
+abbrev pub InheritsFrom : Heir → List Name → Name → LowerPair → Merge → Type 0
 InheritsFrom heir gone x p m = Inherits heir gone (triple_of x p) m
 
 abbrev pub InheritsAt : List KeptRow → Heir → List Name → ℕ → Merge → Type 0
@@ -113,25 +121,15 @@ InheritsElse rows key heir gone k m = (k ≢ key) × InheritsAt rows heir gone k
 abbrev pub but : ℕ → List ℕ → List ℕ
 but key ks = filter (λ (k : ℕ). not (k == key)) ks
 
--- there is a row with that key, and it is of the cluster
-pub record IsRowOf (rows : List KeptRow) (x : Name) (key : ℕ) : Type 0 where
-  pub row : KeptRow
-  pub there : slice_get rows key ≡ Some row
-  pub has_name : row.greatest ≡ x
-
 -- these are the other two of the triple
-abbrev pub HasLessers : Merge → Lessers → Type 0
-HasLessers m p = (x : Name) × (m ≡ triple_of x p)
+abbrev pub HasLowerPair : Merge → LowerPair → Type 0
+HasLowerPair m p = (x : Name) × (m ≡ triple_of x p)
 
-abbrev pub AreBefore : Lessers → Lessers → Type 0
+abbrev pub AreBefore : LowerPair → LowerPair → Type 0
 AreBefore p q = IsBelow p.second q.second ⊎ ((p.second ≡ q.second) × IsBelow p.third q.third)
 
--- each name of the triples has the key
-abbrev pub AreTold : Mentions → ℕ → List Merge → Type 0
-AreTold mentions key ms = (m : Merge) → Contains ms m → (n : Name) → Contains (names_of m) n → Mention mentions n key
-
 -- the row is of the name and has those pairs and what was found, in order
-pub record IsGrownRow (x : Name) (ps : List Lessers) (found : List Merge) (row : KeptRow) : Type 0 where
+pub record IsGrownRow (x : Name) (ps : List LowerPair) (found : List Merge) (row : KeptRow) : Type 0 where
   pub has_name : row.greatest ≡ x
   pub in_order : AllPairs ComesFirst (merges_of row)
   pub exactly : (m : Merge) → Contains (merges_of row) m ↔ (Contains (map (triple_of x) ps) m ⊎ Contains found m)

@@ -3,11 +3,11 @@ ghost use Rattle.std.specs.Prelude.{◌≡◌, ◌<◌, ◌++◌, ◌∷◌, [],
 ghost use Rattle.sk_base.specs.ClusterNames.{IsBelow};
 ghost use Rattle.sk_family.specs.declared.Merge.{Merge as AnyMerge};
 ghost use Rattle.sk_kept.specs.Avoiding.{IsTriple, avoiding};
-ghost use Rattle.sk_kept.specs.HandedOn.{IsAdded, IsOfHeirIn, IsRight, IsTakenIn, IsToAdd, IsTripleOf};
+ghost use Rattle.sk_kept.specs.HandedOn.{IsAdded, IsOfHeirIn, AreFoundFor, IsTakenIn, IsToAdd, HasGreatest};
 ghost use Rattle.sk_kept.specs.KeptRows.{triple_of};
 
 use crate::heir::Heir;
-use crate::lessers::Lessers;
+use crate::lower_pairs::LowerPair;
 use crate::mentions::{Mentions, keys_of_all, mention_all, mention_heir};
 use crate::order::in_order;
 use crate::row::KeptRow;
@@ -78,7 +78,7 @@ impl Kept {
         found: List<Merge>,
     ) -> Result<(), NoMemory>
         requires in_order { AllPairs IsBelow gone.now }
-        requires right { IsRight heir gone.now found }
+        requires right { AreFoundFor heir gone.now found }
         ensures { OnOk result (IsTakenIn gone.now (IsToAdd heir gone.now found self.old) self.old self.new) }
     {
         match heir {
@@ -99,7 +99,7 @@ impl Kept {
     fn hand_on(&mut self, heir: Heir, gone: &[Name], found: List<Merge>) -> Result<(), NoMemory>
         requires in_order { AllPairs IsBelow gone.now }
         requires core { Contains gone.now heir.core }
-        requires right { (m : AnyMerge) → Contains found m → IsTripleOf heir.name m }
+        requires right { (m : AnyMerge) → Contains found m → HasGreatest heir.name m }
         ensures { OnOk result (IsAdded gone.now (IsOfHeirIn heir gone.now found self.old) self.old self.new) }
     {
         let mut found = found;
@@ -136,16 +136,16 @@ impl Kept {
     {
         match merge {
             Merge::Two(_, _) => unreachable!(),
-            Merge::Three(x, second, third) => self.push(x, Lessers { second, third }),
+            Merge::Three(x, second, third) => self.push(x, LowerPair { second, third }),
         }
     }
 
-    fn push(&mut self, greatest: Name, lessers: Lessers) -> Result<(), NoMemory>
-        ensures { OnOk result (self.new ≡ self.old ++ triple_of greatest lessers ∷ []) }
+    fn push(&mut self, greatest: Name, pair: LowerPair) -> Result<(), NoMemory>
+        ensures { OnOk result (self.new ≡ self.old ++ triple_of greatest pair ∷ []) }
     {
         let key = last_row_of(self.alloc, &mut self.rows, &mut self.order, greatest)?;
-        mention_all(&mut self.mentions, greatest, lessers, key)?;
-        push_at(self.rows.as_mut_slice(), key, lessers)
+        mention_all(&mut self.mentions, greatest, pair, key)?;
+        push_at(self.rows.as_mut_slice(), key, pair)
     }
 
     /// Drops the merges that name one of these, which stand in order.

@@ -3,7 +3,7 @@
 
 mod heir;
 mod kept;
-mod lessers;
+mod lower_pairs;
 mod mentions;
 mod order;
 mod row;

@@ -7,7 +7,7 @@ ghost use Rattle.sk_family.specs.Merges.{names_of};
 ghost use Rattle.sk_kept.specs.Avoiding.{IsTriple};
 ghost use Rattle.sk_kept.specs.KeptRows.{AddsKey, AreTold, GainsKey, Mention, keys_at, keys_of, triple_of};
 
-use crate::lessers::Lessers;
+use crate::lower_pairs::LowerPair;
 use sk_base::{List, Name, NoMemory};
 use sk_family::Merge;
 use std::alloc::Global;
@@ -105,15 +105,15 @@ fn ends_with(keys: &[usize], key: usize) -> bool
 pub(crate) fn mention_all(
     mentions: &mut Mentions,
     greatest: Name,
-    lessers: Lessers,
+    pair: LowerPair,
     key: usize,
 ) -> Result<(), NoMemory>
     ensures gains { GainsKey mentions.old mentions.new key }
-    ensures named { OnOk result ((n : ClusterName) → Contains (names_of (triple_of greatest lessers)) n → Mention mentions.new n key) }
+    ensures named { OnOk result ((n : ClusterName) → Contains (names_of (triple_of greatest pair)) n → Mention mentions.new n key) }
 {
     mentions.add(greatest, key)?;
-    mentions.add(lessers.second, key)?;
-    mentions.add(lessers.third, key)
+    mentions.add(pair.second, key)?;
+    mentions.add(pair.third, key)
 }
 
 /// Adds the key to those of the heir's name and of each name of these triples.
@@ -142,7 +142,12 @@ fn mention_merge(mentions: &mut Mentions, merge: Merge, key: usize) -> Result<()
 {
     match merge {
         Merge::Two(_, _) => unreachable!(),
-        Merge::Three(x, second, third) => mention_all(mentions, x, Lessers { second, third }, key),
+        Merge::Three(x, second, third) => mention_all(
+            mentions,
+            x,
+            LowerPair { second, third },
+            key,
+        ),
     }
 }
 

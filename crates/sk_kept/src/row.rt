@@ -7,17 +7,17 @@ ghost use Rattle.sk_kept.specs.Inherited.{Inherits};
 ghost use Rattle.sk_kept.specs.KeptRows.{InheritsFrom, merges_of};
 
 use crate::heir::{Heir, add_if_inherited};
-use crate::lessers::Lessers;
+use crate::lower_pairs::LowerPair;
 use crate::order::is_among;
 use sk_base::{List, Name, NoMemory};
 use sk_family::Merge;
 use std::alloc::Global;
 
-/// A cluster, and the other two of each triple in which it is the greatest.
+/// A cluster, and the two lower ones of each triple in which it is the greatest.
 #[derive(Drop)]
 pub(crate) struct KeptRow {
     pub greatest: Name,
-    pub lessers: Vec<Lessers>,
+    pub lower_pairs: Vec<LowerPair>,
 }
 
 impl KeptRow {
@@ -26,8 +26,8 @@ impl KeptRow {
         requires { place < length (merges_of self.now) }
         ensures { slice_get (merges_of self.now) place ≡ Some result }
     {
-        let lessers = self.lessers[place];
-        Merge::Three(self.greatest, lessers.second, lessers.third)
+        let pair = self.lower_pairs[place];
+        Merge::Three(self.greatest, pair.second, pair.third)
     }
 
     /// Adds what the heir has instead of those of its core.
@@ -40,7 +40,7 @@ impl KeptRow {
         requires { AllPairs IsBelow gone.now }
         ensures { OnOk result (GrowsBy (FromSome (Inherits heir gone.now) (merges_of self.now)) all.old all.new) }
     {
-        add_inherited_of(self.greatest, self.lessers.as_slice(), heir, gone, all)
+        add_inherited_of(self.greatest, self.lower_pairs.as_slice(), heir, gone, all)
     }
 
     pub fn drop_naming(&mut self, alloc: Global, names: &[Name])
@@ -48,9 +48,9 @@ impl KeptRow {
         ensures { merges_of self.new ≡ avoiding names.now (merges_of self.old) }
     {
         if is_among(self.greatest, names) {
-            self.lessers = Vec::new(alloc);
+            self.lower_pairs = Vec::new(alloc);
         } else {
-            self.lessers.retain(|lessers| !lessers.has_one_of(names));
+            self.lower_pairs.retain(|pair| !pair.has_one_of(names));
         }
     }
 }
@@ -58,7 +58,7 @@ impl KeptRow {
 /// Adds what the heir has instead of the core's triples of these and their greater cluster.
 fn add_inherited_of(
     greatest: Name,
-    rest: &[Lessers],
+    rest: &[LowerPair],
     heir: Heir,
     gone: &[Name],
     all: &mut List<Merge>,
@@ -66,8 +66,8 @@ fn add_inherited_of(
     requires { AllPairs IsBelow gone.now }
     ensures { OnOk result (GrowsBy (FromSome (InheritsFrom heir gone.now greatest) rest.now) all.old all.new) }
 {
-    for lessers in rest {
-        add_if_inherited(lessers.below(greatest), heir, gone, all)?;
+    for pair in rest {
+        add_if_inherited(pair.below(greatest), heir, gone, all)?;
     }
     Ok(())
 }

@@ -5,11 +5,11 @@ ghost use Rattle.sk_base.specs.ClusterNames.{IsBelow};
 ghost use Rattle.sk_triangles.specs.Growing.{FromSome, GrowsBy};
 ghost use Rattle.sk_family.specs.declared.Merge.{Merge as AnyMerge};
 ghost use Rattle.sk_kept.specs.declared.row.KeptRow.{KeptRow as AnyRow};
-ghost use Rattle.sk_kept.specs.HandedOn.{IsTripleOf};
+ghost use Rattle.sk_kept.specs.HandedOn.{HasGreatest};
 ghost use Rattle.sk_kept.specs.KeptRows.{AreAlike, AreDropped, AreUnchanged, InheritsElse, IsDroppedAt, IsGrownRow, IsLastRow, IsPutAt, IsRowOf, but, merges_at, triple_of};
 
 use crate::heir::{Heir, is_same};
-use crate::lessers::{Lessers, add_lessers_of, lessers_in_order};
+use crate::lower_pairs::{LowerPair, add_lower_pairs_of, lower_pairs_in_order};
 use crate::row::KeptRow;
 use sk_base::{List, Name, NoMemory};
 use sk_family::Merge;
@@ -42,7 +42,7 @@ fn count_at(rows: &[KeptRow], key: usize) -> usize
     requires { key < length rows.now }
     ensures { result ≡ length (merges_at rows.now key) }
 {
-    rows[key].lessers.len()
+    rows[key].lower_pairs.len()
 }
 
 /// The triple at the place among those of the rows in order.
@@ -151,19 +151,19 @@ fn add_row(
     let key = rows.len();
     rows.push(KeptRow {
         greatest,
-        lessers: Vec::new(alloc),
+        lower_pairs: Vec::new(alloc),
     })?;
     order.push(key)?;
     Ok(key)
 }
 
 /// Appends the triple to the row with that key.
-pub(crate) fn push_at(rows: &mut [KeptRow], key: usize, lessers: Lessers) -> Result<(), NoMemory>
+pub(crate) fn push_at(rows: &mut [KeptRow], key: usize, pair: LowerPair) -> Result<(), NoMemory>
     requires { key < length rows.old }
-    ensures put { OnOk result ((row : AnyRow) → slice_get rows.old key ≡ Some row → IsPutAt key (triple_of row.greatest lessers) rows.old rows.new) }
+    ensures put { OnOk result ((row : AnyRow) → slice_get rows.old key ≡ Some row → IsPutAt key (triple_of row.greatest pair) rows.old rows.new) }
     ensures err { OnErr result (AreUnchanged rows.old rows.new) }
 {
-    rows[key].lessers.push(lessers)?;
+    rows[key].lower_pairs.push(pair)?;
     Ok(())
 }
 
@@ -224,16 +224,16 @@ pub(crate) fn grown_row(
     found: &[Merge],
 ) -> Result<KeptRow, NoMemory>
     requires within { key < length rows.now }
-    requires right { (m : AnyMerge) → Contains found.now m → IsTripleOf name m }
-    ensures { IfOk result (λ row. (was : AnyRow) → slice_get rows.now key ≡ Some was → IsGrownRow name was.lessers.items found.now row) }
+    requires right { (m : AnyMerge) → Contains found.now m → HasGreatest name m }
+    ensures { IfOk result (λ row. (was : AnyRow) → slice_get rows.now key ≡ Some was → IsGrownRow name was.lower_pairs.items found.now row) }
 {
     // What the row has stands in order already, and the sort merges such a run with the rest.
     let mut all = List::new(alloc);
-    all.extend(rows[key].lessers.as_slice())?;
-    add_lessers_of(found, &mut all)?;
+    all.extend(rows[key].lower_pairs.as_slice())?;
+    add_lower_pairs_of(found, &mut all)?;
     Ok(KeptRow {
         greatest: name,
-        lessers: lessers_in_order(alloc, all.as_slice())?,
+        lower_pairs: lower_pairs_in_order(alloc, all.as_slice())?,
     })
 }
 

@@ -12,8 +12,9 @@ use crate::meets::shares_two;
 use sk_base::{Elem, Name};
 use sk_family::Cluster;
 
-/// The least of the clusters below x that share two elements with it, if there is one. Those share one
-/// beside the element that most clusters hold, so that one is left out.
+/// The least of the clusters below x that share two elements with it, if there is one. The element that
+/// most clusters hold is the hub. Each cluster that is looked for has an element of x other than the hub,
+/// so the many that hold the hub aren't walked along.
 pub fn least_partner(index: &Index, x: &Cluster) -> Option<Name>
     requires index { IsIndex index.now }
     requires rises { IsRising elem_number x.now.elements }

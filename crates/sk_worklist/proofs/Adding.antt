@@ -14,7 +14,7 @@ use Rattle.sk_neighbours.specs.Indexed.{Represents}
 use Rattle.sk_kept.specs.declared.Heir.{Heir}
 use Rattle.sk_rules.specs.Merges.{CanTake}
 use Rattle.sk_worklist.specs.Gather.{AreUncovered, IsUncovered}
-use Rattle.sk_kept.specs.HandedOn.{IsRight, IsTakenIn, IsToAdd, IsTripleOf}
+use Rattle.sk_kept.specs.HandedOn.{AreFoundFor, IsTakenIn, IsToAdd, HasGreatest}
 use Rattle.sk_worklist.specs.Heirs.{IsFound, IsHeir, IsHeirOf, IsOfHeir}
 use Rattle.sk_kept.specs.Avoiding.{IsTriple, names_one_of}
 use Rattle.sk_worklist.proofs.Freshness.{heir_uncovered, one_or_other}
@@ -36,7 +36,7 @@ module _ (ix : Index) (g : Graph) (f : Clusters) (sound : IsSound f) (r : Repres
   uncovered_triple m (x, x_is, (can, (y, z, is))) = (x.name, y, z, is)
 
   module _ (heir : Heir) (is : IsHeir g f covered kept gone heir fresh) where
-    uncovered_of : (m : Merge) → IsUncovered g f covered m → IsTripleOf heir.name m
+    uncovered_of : (m : Merge) → IsUncovered g f covered m → HasGreatest heir.name m
     uncovered_of m (x, (x_in, above), (can, (y, z, m_is))) =
         elim (one_or_other x.name heir.name) [
           | inl named ↦ (y, z, m_is ∙ ap (λ n. Three n y z) named)
@@ -52,7 +52,7 @@ module _ (ix : Index) (g : Graph) (f : Clusters) (sound : IsSound f) (r : Repres
     of_heir apart = (let (whole, whole_is) = is.lives in heir_uncovered ix g f sound r covered kept gone heir fresh is whole whole_is apart listed same)
 
   -- what was found are triples, and those of the heir, if there is one
-  pub right_found : (heir : Option Heir) → IsHeirOf g f covered kept gone heir fresh → ((m : Merge) → Contains found m ↔ IsFound ix g f covered heir fresh m) → IsRight heir listed found
+  pub right_found : (heir : Option Heir) → IsHeirOf g f covered kept gone heir fresh → ((m : Merge) → Contains found m ↔ IsFound ix g f covered heir fresh m) → AreFoundFor heir listed found
   right_found None none found_is = λ m m_in. uncovered_triple m ((found_is m).0 m_in)
   right_found (Some heir) (is, apart, core) found_is = ((same heir.core).1 core, (λ m m_in. uncovered_of heir is m ((of_heir heir is apart m).0 (inr ((found_is m).0 m_in)))))
 

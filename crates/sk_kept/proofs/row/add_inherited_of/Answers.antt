@@ -6,15 +6,15 @@ use Rattle.sk_kept.specs.Inherited.{Inherits}
 use Rattle.sk_kept.specs.KeptRows.{InheritsFrom}
 use Rattle.sk_kept.proofs.row.add_inherited_of.Goals as goal
 
-pub loop-lessers-init : goal.loop-lessers-init
-loop-lessers-init c = grows_start (InheritsFrom c.args.heir c.args.gone.now c.args.greatest) c.args.rest.now c.args.all.now
+pub loop-pair-init : goal.loop-pair-init
+loop-pair-init c = grows_start (InheritsFrom c.args.heir c.args.gone.now c.args.greatest) c.args.rest.now c.args.all.now
 
-pub loop-lessers-preserved : goal.loop-lessers-preserved
-loop-lessers-preserved c =
-    grows_step (InheritsFrom c.args.heir c.args.gone.now c.args.greatest) c.args.rest.now c.args.all.now c.loop-lessers.all c.add_if_inherited.new.all c.loop-lessers.lessers-index _ c.loop-lessers-test.true
-    c.loop-lessers.invariant
-    (subst (λ (t : Merge). GrowsBy (Inherits c.args.heir c.args.gone.now t) c.loop-lessers.all c.add_if_inherited.new.all) c.below.ensures c.in_ok-add_if_inherited.ensures)
+pub loop-pair-preserved : goal.loop-pair-preserved
+loop-pair-preserved c =
+    grows_step (InheritsFrom c.args.heir c.args.gone.now c.args.greatest) c.args.rest.now c.args.all.now c.loop-pair.all c.add_if_inherited.new.all c.loop-pair.pair-index _ c.loop-pair-test.true
+    c.loop-pair.invariant
+    (subst (λ (t : Merge). GrowsBy (Inherits c.args.heir c.args.gone.now t) c.loop-pair.all c.add_if_inherited.new.all) c.below.ensures c.in_ok-add_if_inherited.ensures)
 
 pub returns : goal.returns
 returns c =
-    grows_end (InheritsFrom c.args.heir c.args.gone.now c.args.greatest) c.args.rest.now c.args.all.now c.loop-lessers.all c.loop-lessers.lessers-index c.loop-lessers-test.false c.loop-lessers.invariant
+    grows_end (InheritsFrom c.args.heir c.args.gone.now c.args.greatest) c.args.rest.now c.args.all.now c.loop-pair.all c.loop-pair.pair-index c.loop-pair-test.false c.loop-pair.invariant

@@ -2,7 +2,7 @@ use Rattle.std.proofs.Common.{◌≡◌, ◌++◌, ◌∷◌, [], ◌∙◌, Lis
 use Rattle.std.specs.Prelude.{map}
 use Rattle.std.proofs.lemmas.Option.{get_or_from_slice_get}
 use Rattle.sk_kept.specs.declared.row.KeptRow.{KeptRow}
-use Rattle.sk_kept.specs.declared.lessers.Lessers.{Lessers}
+use Rattle.sk_kept.specs.declared.lower_pairs.LowerPair.{LowerPair}
 use Rattle.sk_kept.specs.KeptRows.{triple_of}
 use Rattle.sk_kept.proofs.Outcomes.{on_err}
 use Rattle.sk_kept.proofs.Pushing.{put_at, unchanged_at}
@@ -11,10 +11,10 @@ use Rattle.sk_kept.proofs.rows.push_at.Goals as goal
 pub returns-in_err-push-clause-err : goal.returns-in_err-push-clause-err
 returns-in_err-push-clause-err c =
     let was : KeptRow = get_or c.args.rows.now c.args.key c.index-rows-key.result in
-    on_err c.from_residual.result (unchanged_at c.args.rows.now c.args.key c.index-rows-key.result _ c.requires (ap (λ (ps : List Lessers). map (triple_of was.greatest) ps) c.in_err-push.ensures.items))
+    on_err c.from_residual.result (unchanged_at c.args.rows.now c.args.key c.index-rows-key.result _ c.requires (ap (λ (ps : List LowerPair). map (triple_of was.greatest) ps) c.in_err-push.ensures.items))
 
 pub returns-clause-put : goal.returns-clause-put
 returns-clause-put c row row_is =
     let at : get_or c.args.rows.now c.args.key c.index-rows-key.result ≡ row = get_or_from_slice_get c.args.rows.now c.args.key row c.index-rows-key.result row_is in
-    put_at c.args.rows.now c.args.key row _ c.args.lessers c.requires row_is (ap (λ (r : KeptRow). r.greatest) at)
-    (c.in_ok-push.ensures.items ∙ ap (λ (r : KeptRow). r.lessers.items ++ c.args.lessers ∷ []) at)
+    put_at c.args.rows.now c.args.key row _ c.args.pair c.requires row_is (ap (λ (r : KeptRow). r.greatest) at)
+    (c.in_ok-push.ensures.items ∙ ap (λ (r : KeptRow). r.lower_pairs.items ++ c.args.pair ∷ []) at)

@@ -86,8 +86,8 @@ invariant_of-self-2 c =
     let row = c.in_ok-row.row in
     let new_mentions = c.mention_heir.new.mentions in
     let key_in = row_within rows heir.core key of_core in
-    let grown : IsGrownRow heir.name of_core.row.lessers.items all row =
-    subst (λ (ms : List Merge). IsGrownRow heir.name of_core.row.lessers.items ms row) c.as_slice-3.ensures (c.in_ok-row.ensures of_core.row (ap (λ (rs : List KeptRow). slice_get rs key) c.as_slice-2.ensures.value ∙ of_core.there)) in
+    let grown : IsGrownRow heir.name of_core.row.lower_pairs.items all row =
+    subst (λ (ms : List Merge). IsGrownRow heir.name of_core.row.lower_pairs.items ms row) c.as_slice-3.ensures (c.in_ok-row.ensures of_core.row (ap (λ (rs : List KeptRow). slice_get rs key) c.as_slice-2.ensures.value ∙ of_core.there)) in
     let put_is : c.in_ok-self-inside.field-0.items ≡ but key order ++ key ∷ [] = c.in_ok-self-inside.ensures ∙ ap (λ (ks : List ℕ). but key ks ++ key ∷ []) c.as_slice-5.ensures.value in
     subst (λ (ks : List ℕ). AreRows (set rows key row) ks new_mentions) (sym put_is)
     (handed_rows rows order mentions were heir key key_in of_core c.args.found all row grown new_mentions c.mention_heir.ensures.gains c.in_ok-mention_heir.ensures.named
@@ -107,8 +107,8 @@ returns c =
     let row = c.in_ok-row.row in
     let new_mentions = c.mention_heir.new.mentions in
     let key_in = row_within rows heir.core key of_core in
-    let grown : IsGrownRow heir.name of_core.row.lessers.items all row =
-    subst (λ (ms : List Merge). IsGrownRow heir.name of_core.row.lessers.items ms row) c.as_slice-3.ensures (c.in_ok-row.ensures of_core.row (ap (λ (rs : List KeptRow). slice_get rs key) c.as_slice-2.ensures.value ∙ of_core.there)) in
+    let grown : IsGrownRow heir.name of_core.row.lower_pairs.items all row =
+    subst (λ (ms : List Merge). IsGrownRow heir.name of_core.row.lower_pairs.items ms row) c.as_slice-3.ensures (c.in_ok-row.ensures of_core.row (ap (λ (rs : List KeptRow). slice_get rs key) c.as_slice-2.ensures.value ∙ of_core.there)) in
     let put_is : c.in_ok-self-inside.field-0.items ≡ but key order ++ key ∷ [] = c.in_ok-self-inside.ensures ∙ ap (λ (ks : List ℕ). but key ks ++ key ∷ []) c.as_slice-5.ensures.value in
     let rest = flat_map (merges_at rows) (but key order) in
     let grows : GrowsBy (FromSome (Inherits heir gone) rest) c.args.found all =

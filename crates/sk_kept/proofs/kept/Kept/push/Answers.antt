@@ -38,7 +38,7 @@ invariant_of-self-2 c =
     let are = still_told rows order c.self.inside.mentions mentions key were (key_within rows order c.self.inside.mentions were x key last) c.mention_all.ensures.gains in
     subst (λ (rs : List KeptRow). AreRows rs order mentions) (sym (written c.last_row_of.new.rows.len new rows (omega (arith, c.push_at.auto.rows, c.as_mut_slice.ensures.len))))
     (elim (stays_or_grows c.push_at.result _ _ c.push_at.ensures.put c.push_at.ensures.err) [
-      | inl put ↦ put_rows rows order mentions are x key last new (triple_of x c.args.lessers) (put_last rows c.as_mut_slice.result.now c.as_mut_slice.ensures.value order x key last c.args.lessers new put) c.in_ok-mention_all.ensures.named
+      | inl put ↦ put_rows rows order mentions are x key last new (triple_of x c.args.pair) (put_last rows c.as_mut_slice.result.now c.as_mut_slice.ensures.value order x key last c.args.pair new put) c.in_ok-mention_all.ensures.named
       | inr same ↦ still_rows rows new order mentions are (subst (λ (rs : List KeptRow). AreUnchanged rs new) c.as_mut_slice.ensures.value same)
     ])
 
@@ -51,8 +51,8 @@ returns c =
     let last = c.in_ok-key.ensures.last in
     let new = c.push_at.new.rows in
     let were = c.last_row_of.ensures.alike.still c.self.inside.mentions c.self.invariant in
-    let m = triple_of x c.args.lessers in
+    let m = triple_of x c.args.pair in
     on_ok c.push_at.result c.push_at.ensures.put (λ put.
     ap (λ (rs : List KeptRow). flat_map (merges_at rs) order) (written c.last_row_of.new.rows.len new rows (omega (arith, c.push_at.auto.rows, c.as_mut_slice.ensures.len)))
-    ∙ put_view rows order c.self.inside.mentions were x key last new m (put_last rows c.as_mut_slice.result.now c.as_mut_slice.ensures.value order x key last c.args.lessers new put)
+    ∙ put_view rows order c.self.inside.mentions were x key last new m (put_last rows c.as_mut_slice.result.now c.as_mut_slice.ensures.value order x key last c.args.pair new put)
     ∙ ap (λ (ms : List Merge). ms ++ m ∷ []) (c.last_row_of.ensures.alike.same ∙ c.self.view_is))

@@ -2,7 +2,7 @@ use Rattle.std.proofs.Common.{List, subst, map}
 use Rattle.sk_base.proofs.Searches.{on_ok}
 use Rattle.sk_triangles.specs.Growing.{FromSome, GrowsBy}
 use Rattle.sk_triangles.proofs.Growing.{grows_same}
-use Rattle.sk_kept.specs.declared.lessers.Lessers.{Lessers}
+use Rattle.sk_kept.specs.declared.lower_pairs.LowerPair.{LowerPair}
 use Rattle.sk_kept.specs.Inherited.{Inherits}
 use Rattle.sk_kept.specs.KeptRows.{InheritsFrom, triple_of}
 use Rattle.sk_kept.proofs.Inheritance.{inherited_by_row}
@@ -16,6 +16,6 @@ returns c =
     let old = c.args.all.now in
     let new = c.add_inherited_of.new.all in
     on_ok c.add_inherited_of.result c.add_inherited_of.ensures (λ grows.
-    grows_same (FromSome (InheritsFrom heir gone row.greatest) row.lessers.items) (FromSome (Inherits heir gone) (map (triple_of row.greatest) row.lessers.items)) old new
-    (inherited_by_row heir gone row.greatest row.lessers.items)
-    (subst (λ (ps : List Lessers). GrowsBy (FromSome (InheritsFrom heir gone row.greatest) ps) old new) c.as_slice.ensures.value grows))
+    grows_same (FromSome (InheritsFrom heir gone row.greatest) row.lower_pairs.items) (FromSome (Inherits heir gone) (map (triple_of row.greatest) row.lower_pairs.items)) old new
+    (inherited_by_row heir gone row.greatest row.lower_pairs.items)
+    (subst (λ (ps : List LowerPair). GrowsBy (FromSome (InheritsFrom heir gone row.greatest) ps) old new) c.as_slice.ensures.value grows))

@@ -1,25 +1,25 @@
-// Two clusters of a triple, below its greatest one.
+// The two lower clusters of a triple.
 ghost use Rattle.std.specs.Prelude.{◌≡◌, ◌↔◌, ◌||◌, AllPairs, Contains, IfOk, OnOk};
 ghost use Rattle.sk_base.specs.ClusterNames.{IsBelow, is_named};
 ghost use Rattle.sk_triangles.specs.Growing.{FromSome, GrowsBy};
 ghost use Rattle.sk_family.specs.declared.Merge.{Merge as AnyMerge};
-ghost use Rattle.sk_kept.specs.declared.lessers.Lessers.{Lessers as AnyLessers};
+ghost use Rattle.sk_kept.specs.declared.lower_pairs.LowerPair.{LowerPair as AnyPair};
 ghost use Rattle.sk_kept.specs.Avoiding.{IsTriple};
-ghost use Rattle.sk_kept.specs.KeptRows.{AreBefore, HasLessers, triple_of};
+ghost use Rattle.sk_kept.specs.KeptRows.{AreBefore, HasLowerPair, triple_of};
 
 use crate::order::is_among;
 use sk_base::{List, Name, NoMemory};
 use sk_family::Merge;
 use std::alloc::Global;
 
-/// The other two clusters of a triple.
+/// The two clusters of a triple that are below its greatest one.
 #[derive(Clone, Copy, PartialEq, Eq, PartialOrd, Ord)]
-pub(crate) struct Lessers {
+pub(crate) struct LowerPair {
     pub second: Name,
     pub third: Name,
 }
 
-impl Lessers {
+impl LowerPair {
     /// The triple of these and their greater cluster.
     pub fn below(self, greatest: Name) -> Merge
         ensures { result ≡ triple_of greatest self }
@@ -35,33 +35,36 @@ impl Lessers {
     }
 }
 
-/// Adds the other two clusters of each of these triples.
-pub(crate) fn add_lessers_of(found: &[Merge], all: &mut List<Lessers>) -> Result<(), NoMemory>
+/// Adds the two lower clusters of each of these triples.
+pub(crate) fn add_lower_pairs_of(found: &[Merge], all: &mut List<LowerPair>) -> Result<(), NoMemory>
     requires { (m : AnyMerge) → Contains found.now m → IsTriple m }
-    ensures { OnOk result (GrowsBy (FromSome HasLessers found.now) all.old all.new) }
+    ensures { OnOk result (GrowsBy (FromSome HasLowerPair found.now) all.old all.new) }
 {
     for merge in found {
-        all.push(lessers_of(*merge))?;
+        all.push(lower_pair_of(*merge))?;
     }
     Ok(())
 }
 
-fn lessers_of(merge: Merge) -> Lessers
+fn lower_pair_of(merge: Merge) -> LowerPair
     requires { IsTriple merge }
-    ensures { HasLessers merge result }
+    ensures { HasLowerPair merge result }
 {
     match merge {
         Merge::Two(_, _) => unreachable!(),
-        Merge::Three(_, second, third) => Lessers { second, third },
+        Merge::Three(_, second, third) => LowerPair { second, third },
     }
 }
 
 /// These in order, each once.
-pub(crate) fn lessers_in_order(alloc: Global, lessers: &[Lessers]) -> Result<Vec<Lessers>, NoMemory>
-    ensures same { IfOk result (λ ordered. (p : AnyLessers) → Contains ordered.items p ↔ Contains lessers.now p) }
+pub(crate) fn lower_pairs_in_order(
+    alloc: Global,
+    pairs: &[LowerPair],
+) -> Result<Vec<LowerPair>, NoMemory>
+    ensures same { IfOk result (λ ordered. (p : AnyPair) → Contains ordered.items p ↔ Contains pairs.now p) }
     ensures in_order { IfOk result (λ ordered. AllPairs AreBefore ordered.items) }
 {
-    let mut ordered = Vec::from_slice(alloc, lessers)?;
+    let mut ordered = Vec::from_slice(alloc, pairs)?;
     ordered.sort()?;
     ordered.dedup();
     Ok(ordered)
