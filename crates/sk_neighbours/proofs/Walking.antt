@@ -9,7 +9,6 @@ use Rattle.sk_family.proofs.Halving.{is_before, passing_front, before_below, bel
 use Rattle.sk_family.proofs.Naming.{below_chain}
 use Rattle.sk_base.proofs.Splits.{in_take, in_either}
 use Rattle.sk_neighbours.specs.declared.index.Index.{Index}
-use Rattle.sk_triangles.specs.Growing.{FromSome}
 use Rattle.sk_neighbours.specs.Indexed.{cluster_at, IsBelowAt, RisesIn}
 
 abbrev is_below_in : Option Cluster → Name → Bool
@@ -59,11 +58,3 @@ in_front_of P xs place before after x = (
   (λ h. (in_take place xs x h, before x h)),
   (λ (x_in, is). elim (in_either place xs x x_in) [ inl front ↦ front | inr back ↦ absurd (after x back is) ]),
 )
-
--- what the walk along the front gives is what those of that kind give
-module _ (front all : List ℕ) (P : ℕ → Type 0) (front_is : (k : ℕ) → Contains front k ↔ (Contains all k × P k)) where
-  pub found_below : {M : Type 0} (kind : ℕ → M → Type 0) (m : M) → FromSome kind front m ↔ FromSome (λ k n. P k × kind k n) all m
-  found_below kind m = (
-    (λ (k, k_in, is). (let (k_all, below) = (front_is k).0 k_in in (k, k_all, (below, is)))),
-    (λ (k, k_all, (below, is)). (k, (front_is k).1 (k_all, below), is)),
-  )

@@ -54,7 +54,7 @@ fn add_ends_of(r: &Cluster, ends: &mut List<End>) -> Result<(), NoMemory>
 }
 
 /// Adds those seen from c.
-fn add_ends_from(r: &Cluster, c: Elem, ends: &mut List<End>) -> Result<(), NoMemory>
+pub(crate) fn add_ends_from(r: &Cluster, c: Elem, ends: &mut List<End>) -> Result<(), NoMemory>
     ensures { OnOk result (GrowsBy (EndsAmong r.now.name c r.now.elements) ends.old ends.new) }
 {
     add_ends(r.name, r.elements.as_slice(), c, ends)

@@ -10,6 +10,7 @@ mod meeting;
 mod meets;
 mod partner;
 mod triples;
+mod walk;
 
 pub use all_triples::add_all_triples;
 pub use corners::is_third;

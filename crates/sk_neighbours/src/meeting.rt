@@ -6,25 +6,17 @@ ghost use Rattle.sk_triangles.specs.Ends.{end_number};
 ghost use Rattle.sk_triangles.specs.Growing.{FromSome, GrowsBy};
 ghost use Rattle.sk_neighbours.specs.Indexed.{IsIndex, IsThird};
 ghost use Rattle.sk_neighbours.specs.Triples.{AtCorner};
-ghost use Rattle.sk_neighbours.specs.Walked.{EndsAt, EndsBelow, MeetAny, MeetAt, MeetBy, MeetFrom, Meets};
+ghost use Rattle.sk_neighbours.specs.Walked.{MeetAny, MeetAt, Meets};
 
+use crate::all_triples::add_ends_from;
 use crate::corners::is_third;
 use crate::index::Index;
 use crate::triples::{Third, is_placed, triple_of};
+use crate::walk::{HolderVisitor, Walk};
 use sk_base::{Elem, List, Name, NoMemory};
 use sk_family::{Cluster, Merge};
-use sk_triangles::{End, add_ends, by_elem, ends_at};
+use sk_triangles::{End, by_elem, ends_at};
 use std::alloc::Global;
-
-/// What is settled of a triple: its greatest cluster, that one's corners with the second and with the
-/// third, and where the third stands.
-#[derive(Clone, Copy)]
-pub(crate) struct Corners {
-    x: Name,
-    a: Elem,
-    d: Elem,
-    third: Third,
-}
 
 /// Adds the triples of x with a as the corner between it and the second.
 pub(crate) fn add_by_ends(
@@ -38,125 +30,105 @@ pub(crate) fn add_by_ends(
     requires { IsIndex index.now }
     ensures { OnOk result (GrowsBy (AtCorner third index.now x.now a) all.old all.new) }
 {
+    let walk = Walk {
+        index,
+        below: x.name,
+    };
     let mut ends = List::new(alloc);
-    add_ends_below(index, x.name, a, &mut ends)?;
+    walk.at_element(a, &AsEnds {}, &mut ends)?;
     let sorted = by_elem(alloc, ends.as_slice())?;
-    add_meeting(index, x, a, third, sorted.as_slice(), all)
+    let meetings = Meetings {
+        index,
+        x: x.name,
+        a,
+        third,
+        ends: sorted.as_slice(),
+    };
+    walk.along(x.elements.as_slice(), &meetings, all)
 }
 
-/// Adds the ends of the clusters with a that are below x.
-fn add_ends_below(index: &Index, x: Name, a: Elem, ends: &mut List<End>) -> Result<(), NoMemory>
-    requires { IsIndex index.now }
-    ensures { OnOk result (GrowsBy (EndsBelow index.now x a) ends.old ends.new) }
-{
-    for key in index.below(a, x) {
-        add_ends_at(index, a, *key, ends)?;
+/// Each cluster is kept as its ends, seen from the element.
+#[derive(Clone, Copy)]
+struct AsEnds {}
+
+impl HolderVisitor for AsEnds {
+    ghost use Rattle.sk_triangles.specs.Ends.{EndsAmong};
+
+    type Kept = End;
+
+    ghost can_visit = { λ v y. Unit {0} };
+
+    ghost keeps = { λ v a y. EndsAmong y.name a y.elements };
+
+    fn visit(&self, elem: Elem, cluster: &Cluster, all: &mut List<End>) -> Result<(), NoMemory> {
+        add_ends_from(cluster, elem, all)
     }
-    Ok(())
 }
 
-/// Adds those of the cluster of that key.
-fn add_ends_at(index: &Index, a: Elem, key: usize, ends: &mut List<End>) -> Result<(), NoMemory>
-    ensures { OnOk result (GrowsBy (EndsAt index.now a key) ends.old ends.new) }
-{
-    match index.held(key) {
-        Some(y) => add_ends(y.name, y.elements.as_slice(), a, ends),
-        None => Ok(()),
-    }
-}
-
-/// Adds the triples of x, one of these ends, sorted by their elements, and a third that meets both.
-fn add_meeting(
-    index: &Index,
-    x: &Cluster,
+/// The walk comes to the third clusters of triples of x, at a corner of the two. The corner of x and the
+/// second is a, and the ends are those of the second ones, sorted by their elements.
+#[derive(Clone, Copy)]
+struct Meetings<'a> {
+    index: &'a Index,
+    x: Name,
     a: Elem,
     third: Third,
-    ends: &[End],
-    all: &mut List<Merge>,
-) -> Result<(), NoMemory>
-    requires index { IsIndex index.now }
-    requires sorted { IsNonDecreasingBy end_number ends.now }
-    ensures { OnOk result (GrowsBy (FromSome (MeetAny third index.now ends.now x.now.name a) x.now.elements) all.old all.new) }
-{
-    for d in x.elements.as_slice() {
-        let corners = Corners {
-            x: x.name,
-            a,
-            d: *d,
-            third,
-        };
-        add_meeting_from(index, corners, ends, all)?;
-    }
-    Ok(())
+    ends: &'a [End],
 }
 
-/// Adds those of these corners.
-fn add_meeting_from(
-    index: &Index,
-    corners: Corners,
-    ends: &[End],
-    all: &mut List<Merge>,
-) -> Result<(), NoMemory>
-    requires index { IsIndex index.now }
-    requires sorted { IsNonDecreasingBy end_number ends.now }
-    ensures { OnOk result (GrowsBy (MeetFrom index.now ends.now corners) all.old all.new) }
-{
-    for key in index.below(corners.d, corners.x) {
-        add_meeting_by(index, corners, *key, ends, all)?;
-    }
-    Ok(())
-}
+impl<'a> HolderVisitor for Meetings<'a> {
+    ghost use Rattle.std.specs.List.Sorted.{IsNonDecreasingBy};
+    ghost use Rattle.sk_triangles.specs.Ends.{end_number};
+    ghost use Rattle.sk_neighbours.specs.Walked.{MeetAny};
 
-/// Adds those with the cluster of that key as the third.
-fn add_meeting_by(
-    index: &Index,
-    corners: Corners,
-    key: usize,
-    ends: &[End],
-    all: &mut List<Merge>,
-) -> Result<(), NoMemory>
-    requires { IsNonDecreasingBy end_number ends.now }
-    ensures { OnOk result (GrowsBy (MeetBy index.now ends.now corners key) all.old all.new) }
-{
-    match index.held(key) {
-        Some(z) => add_meeting_of(index, corners, z, ends, all),
-        None => Ok(()),
+    type Kept = Merge;
+
+    ghost can_visit = { λ v z. IsNonDecreasingBy end_number v.ends.now };
+
+    ghost keeps = { λ v d z. MeetAny v.third v.index.now v.ends.now v.x v.a d z };
+
+    fn visit(&self, elem: Elem, cluster: &Cluster, all: &mut List<Merge>) -> Result<(), NoMemory> {
+        add_meeting_of(self, elem, cluster, all)
     }
 }
 
-/// Adds those with z as the third.
+/// Adds the triples of x, one of the ends' clusters, and z, which has the corner d with x.
 fn add_meeting_of(
-    index: &Index,
-    corners: Corners,
+    meetings: &Meetings,
+    d: Elem,
     z: &Cluster,
-    ends: &[End],
     all: &mut List<Merge>,
 ) -> Result<(), NoMemory>
-    requires { IsNonDecreasingBy end_number ends.now }
-    ensures { OnOk result (GrowsBy (FromSome (MeetAt index.now ends.now corners z.now.name) z.now.elements) all.old all.new) }
+    requires { IsNonDecreasingBy end_number meetings.now.ends.now }
+    ensures { OnOk result (GrowsBy (MeetAny meetings.now.third meetings.now.index.now meetings.now.ends.now meetings.now.x meetings.now.a d z.now) all.old all.new) }
 {
     for b in z.elements.as_slice() {
-        add_meeting_at(index, corners, z.name, *b, ends, all)?;
+        add_meeting_at(meetings, d, z.name, *b, all)?;
     }
     Ok(())
 }
 
 /// Adds those where z meets the second at b, if b makes a triangle with the corners.
 fn add_meeting_at(
-    index: &Index,
-    corners: Corners,
+    meetings: &Meetings,
+    d: Elem,
     z: Name,
     b: Elem,
-    ends: &[End],
     all: &mut List<Merge>,
 ) -> Result<(), NoMemory>
-    requires { IsNonDecreasingBy end_number ends.now }
-    ensures { OnOk result (GrowsBy (MeetAt index.now ends.now corners z b) all.old all.new) }
+    requires { IsNonDecreasingBy end_number meetings.now.ends.now }
+    ensures { OnOk result (GrowsBy (MeetAt meetings.now.third meetings.now.index.now meetings.now.ends.now meetings.now.x meetings.now.a d z b) all.old all.new) }
 {
-    if !are_corners(index, corners.a, b, corners.d) {
+    if !are_corners(meetings.index, meetings.a, b, d) {
         return Ok(());
     }
-    add_meets(corners.x, z, ends_at(ends, b), corners.third, all)
+    add_meets(
+        meetings.x,
+        z,
+        ends_at(meetings.ends, b),
+        meetings.third,
+        all,
+    )
 }
 
 fn are_corners(index: &Index, a: Elem, b: Elem, d: Elem) -> bool

@@ -7,10 +7,11 @@ ghost use Rattle.sk_base.specs.Rising.{IsRising};
 ghost use Rattle.sk_triangles.specs.Growing.{FromSome, GrowsBy};
 ghost use Rattle.sk_neighbours.specs.Indexed.{AllRise, IsIndex};
 ghost use Rattle.sk_neighbours.specs.Triples.{AtCorner, IsPlaced, IsTripleOf, TriplesOf};
-ghost use Rattle.sk_neighbours.specs.Walked.{IsThirdCluster, SecondAt, ThirdAt, WithCorner, WithCorners, WithOther, limit_of};
+ghost use Rattle.sk_neighbours.specs.Walked.{IsThirdCluster, WithSecond, WithThird, limit_of};
 
 use crate::index::Index;
 use crate::meeting::add_by_ends;
+use crate::walk::{HolderVisitor, Walk};
 use sk_base::{Elem, List, Name, NoMemory};
 use sk_family::{Cluster, Merge};
 use sk_triangles::has_third;
@@ -108,113 +109,93 @@ fn add_by_search(
     requires rises { IsRising elem_number x.now.elements }
     ensures { OnOk result (GrowsBy (AtCorner third index.now x.now a) all.old all.new) }
 {
-    for key in index.below(a, x.name) {
-        add_with_key(index, x, a, *key, third, all)?;
+    let below = x.name;
+    Walk { index, below }.at_element(a, &Seconds { index, x, third }, all)
+}
+
+/// The walk comes to the second clusters of triples of x, at a corner of the two, and goes on from there.
+#[derive(Clone, Copy)]
+struct Seconds<'a> {
+    index: &'a Index,
+    x: &'a Cluster,
+    third: Third,
+}
+
+impl<'a> HolderVisitor for Seconds<'a> {
+    ghost use Rattle.sk_base.specs.Numbering.{elem_number};
+    ghost use Rattle.sk_base.specs.Rising.{IsRising};
+    ghost use Rattle.sk_neighbours.specs.Indexed.{IsIndex};
+    ghost use Rattle.sk_neighbours.specs.Walked.{WithSecond};
+
+    type Kept = Merge;
+
+    ghost can_visit = { λ v y. IsIndex v.index.now × IsRising elem_number v.x.now.elements };
+
+    ghost keeps = { λ v a y. WithSecond v.third v.index.now v.x.now a y };
+
+    fn visit(&self, elem: Elem, cluster: &Cluster, all: &mut List<Merge>) -> Result<(), NoMemory> {
+        add_with_second(self.index, self.x, self.third, elem, cluster, all)
+    }
+}
+
+/// Adds those of x and y, with a as the corner between the two.
+fn add_with_second(
+    index: &Index,
+    x: &Cluster,
+    third: Third,
+    a: Elem,
+    y: &Cluster,
+    all: &mut List<Merge>,
+) -> Result<(), NoMemory>
+    requires index { IsIndex index.now }
+    requires rises { IsRising elem_number x.now.elements }
+    ensures { OnOk result (GrowsBy (WithSecond third index.now x.now a y.now) all.old all.new) }
+{
+    let below = limit(third, x.name, y.name);
+    let thirds = Thirds { index, x, y, a };
+    Walk { index, below }.along(y.elements.as_slice(), &thirds, all)
+}
+
+/// The walk comes to the third clusters, at a corner of them and y. The corner of x and y is a.
+#[derive(Clone, Copy)]
+struct Thirds<'a> {
+    index: &'a Index,
+    x: &'a Cluster,
+    y: &'a Cluster,
+    a: Elem,
+}
+
+impl<'a> HolderVisitor for Thirds<'a> {
+    ghost use Rattle.sk_base.specs.Numbering.{elem_number};
+    ghost use Rattle.sk_base.specs.Rising.{IsRising};
+    ghost use Rattle.sk_neighbours.specs.Walked.{WithThird};
+
+    type Kept = Merge;
+
+    ghost can_visit = { λ v z. IsRising elem_number v.x.now.elements × IsRising elem_number z.elements };
+
+    ghost keeps = { λ v b z. WithThird v.index.now v.x.now v.y.now v.a b z };
+
+    fn visit(&self, elem: Elem, cluster: &Cluster, all: &mut List<Merge>) -> Result<(), NoMemory> {
+        add_with_third(self, elem, cluster, all)
+    }
+}
+
+/// Adds the triple of x, y and z, if b and some corner of z and x make a triangle with a.
+fn add_with_third(
+    thirds: &Thirds,
+    b: Elem,
+    z: &Cluster,
+    all: &mut List<Merge>,
+) -> Result<(), NoMemory>
+    requires x_rises { IsRising elem_number thirds.now.x.now.elements }
+    requires z_rises { IsRising elem_number z.now.elements }
+    ensures { OnOk result (GrowsBy (WithThird thirds.now.index.now thirds.now.x.now thirds.now.y.now thirds.now.a b z.now) all.old all.new) }
+{
+    if is_third_cluster(thirds.index, thirds.x, thirds.y, z, thirds.a, b) {
+        all.push(triple_of(thirds.x.name, thirds.y.name, z.name))?;
     }
     Ok(())
-}
-
-/// Adds those with the cluster of that key as the second.
-fn add_with_key(
-    index: &Index,
-    x: &Cluster,
-    a: Elem,
-    key: usize,
-    third: Third,
-    all: &mut List<Merge>,
-) -> Result<(), NoMemory>
-    requires index { IsIndex index.now }
-    requires rises { IsRising elem_number x.now.elements }
-    ensures { OnOk result (GrowsBy (SecondAt third index.now x.now a key) all.old all.new) }
-{
-    match index.held(key) {
-        Some(y) => add_with_corner(index, x, y, a, third, all),
-        None => Ok(()),
-    }
-}
-
-/// Adds those of x and y with a as the corner between the two.
-fn add_with_corner(
-    index: &Index,
-    x: &Cluster,
-    y: &Cluster,
-    a: Elem,
-    third: Third,
-    all: &mut List<Merge>,
-) -> Result<(), NoMemory>
-    requires index { IsIndex index.now }
-    requires rises { IsRising elem_number x.now.elements }
-    ensures { OnOk result (GrowsBy (WithCorner third index.now x.now y.now a) all.old all.new) }
-{
-    for b in y.elements.as_slice() {
-        add_if_other(index, x, y, a, *b, third, all)?;
-    }
-    Ok(())
-}
-
-/// Adds those with a and b as two of the corners, where b is another one.
-fn add_if_other(
-    index: &Index,
-    x: &Cluster,
-    y: &Cluster,
-    a: Elem,
-    b: Elem,
-    third: Third,
-    all: &mut List<Merge>,
-) -> Result<(), NoMemory>
-    requires index { IsIndex index.now }
-    requires rises { IsRising elem_number x.now.elements }
-    ensures { OnOk result (GrowsBy (WithOther third index.now x.now y.now a b) all.old all.new) }
-{
-    if a == b {
-        return Ok(());
-    }
-    add_with_corners(index, x, y, a, b, third, all)
-}
-
-/// Adds those of x and y with a and b as two of the corners.
-fn add_with_corners(
-    index: &Index,
-    x: &Cluster,
-    y: &Cluster,
-    a: Elem,
-    b: Elem,
-    third: Third,
-    all: &mut List<Merge>,
-) -> Result<(), NoMemory>
-    requires index { IsIndex index.now }
-    requires rises { IsRising elem_number x.now.elements }
-    ensures { OnOk result (GrowsBy (WithCorners third index.now x.now y.now a b) all.old all.new) }
-{
-    for key in index.below(b, limit(third, x.name, y.name)) {
-        add_third(index, x, y, a, b, *key, all)?;
-    }
-    Ok(())
-}
-
-/// Adds the triple with the cluster of that key as the third.
-fn add_third(
-    index: &Index,
-    x: &Cluster,
-    y: &Cluster,
-    a: Elem,
-    b: Elem,
-    key: usize,
-    all: &mut List<Merge>,
-) -> Result<(), NoMemory>
-    requires index { IsIndex index.now }
-    requires rises { IsRising elem_number x.now.elements }
-    ensures { OnOk result (GrowsBy (ThirdAt index.now x.now y.now a b key) all.old all.new) }
-{
-    match index.held(key) {
-        Some(z) => {
-            if is_third_cluster(index, x, y, z, a, b) {
-                all.push(triple_of(x.name, y.name, z.name))?;
-            }
-            Ok(())
-        }
-        None => Ok(()),
-    }
 }
 
 /// The name below which the third stands.
@@ -239,13 +220,15 @@ pub(crate) fn triple_of(x: Name, y: Name, z: Name) -> Merge
     }
 }
 
-/// Whether z is another cluster than y, and some corner of z and x makes a triangle with a and b.
+/// Whether z is another cluster than y, b another corner than a, and some corner of z and x makes a
+/// triangle with the two.
 fn is_third_cluster(index: &Index, x: &Cluster, y: &Cluster, z: &Cluster, a: Elem, b: Elem) -> bool
     requires x_rises { IsRising elem_number x.now.elements }
     requires z_rises { IsRising elem_number z.now.elements }
     ensures { IsTrue result ↔ IsThirdCluster index.now x.now y.now z.now a b }
 {
-    z.name != y.name
+    a != b
+        && z.name != y.name
         && has_third(
             index.lines(),
             a,
