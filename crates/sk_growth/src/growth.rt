@@ -11,10 +11,10 @@ ghost use Rattle.sk_growth.specs.Grown.{IsMarkedIn, MakesThird, MeetsAt, Joins, 
 ghost use Rattle.sk_neighbours.specs.Indexed.{IsHeld, IsIndex, IsThird, Represents};
 
 use sk_base::{Elem, Graph, List, Name, NoMemory};
-use sk_triangles::{is_in_rising, is_marked, mark};
 use sk_family::{Cluster, Family};
 use sk_neighbours::{Index, is_third};
 use sk_rules::Merge;
+use sk_triangles::{is_in_rising, is_marked, mark};
 use std::alloc::Global;
 
 /// What may merge with the growing cluster.

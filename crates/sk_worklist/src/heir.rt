@@ -11,9 +11,9 @@ ghost use Rattle.sk_worklist.specs.Heirs.{IsFreshOn, MissesSome};
 
 use sk_base::{Elem, List, Name, NoMemory};
 use sk_family::{Cluster, Family};
-use sk_triangles::is_in_rising;
 use sk_kept::is_same;
 use sk_rules::Merge;
+use sk_triangles::is_in_rising;
 
 /// Adds those of the elements that aren't among the many.
 pub(crate) fn add_missing(

@@ -12,8 +12,8 @@ ghost use Rattle.sk_worklist.specs.Heirs.{TellsFresh};
 
 use sk_base::{Elem, Name};
 use sk_family::Cluster;
-use sk_neighbours::{Index, least_partner, least_partner_at};
 use sk_kept::{Heir, is_same};
+use sk_neighbours::{Index, least_partner, least_partner_at};
 
 /// The first of these clusters that has a partner, and the least one.
 pub(crate) fn first_with_partner(

@@ -20,15 +20,10 @@ use crate::partner::first_with_partner;
 use crate::picker::Picker;
 use sk_base::{Elem, Graph, List, Name, NoMemory};
 use sk_family::{Family, names_in_order};
-use sk_neighbours::{
-    Index,
-    Third,
-    add_all_triples,
-    add_holders_of_all,
-    add_triples_at,
-    add_triples_of_all,
-};
 use sk_kept::{Heir, Kept, is_same};
+use sk_neighbours::{
+    Index, Third, add_all_triples, add_holders_of_all, add_triples_at, add_triples_of_all,
+};
 use sk_rules::Merge;
 use std::alloc::Global;
 
