@@ -1,5 +1,5 @@
 -- A source and a sink in memory, as their contracts see them.
-use Rattle.std.specs.Prelude.{◌≡◌, ◌⊎◌, ℕ, ◌+◌, ◌-◌, min, List, [], ◌∷◌, length, filter, nat_le}
+use Rattle.std.specs.Prelude.{◌≡◌, ◌⊎◌, ℕ, ◌+◌, ◌-◌, ◌<◌, min, List, [], ◌∷◌, ◌++◌, length, filter, nat_le, Contains}
 use Rattle.sk_io.specs.declared.fault.TheConstants.{LAST_COUNT}
 
 -- a number of calls or faults, one later; at its last value it stays
@@ -34,9 +34,22 @@ to_come calls fails = filter (λ number. nat_le (one_later calls) number) fails
 abbrev pub IsSure : Stream → Type 0
 IsSure s = to_come s.calls s.fails ≡ []
 
--- the second is the first after one read: one call more is counted, or the buffer was empty
-abbrev pub IsOneRead : Stream → Stream → Type 0
-IsOneRead old new = (new.calls ≡ old.calls) ⊎ (new.calls ≡ one_later old.calls)
+-- the second is the first after one read that gave bytes: one call more is counted, that wasn't to fail, and a piece is taken off
+pub record IsReadOn (old new : Stream) : Type 0 where
+  pub counted : new.calls ≡ one_later old.calls
+  pub unlisted : ¬ Contains old.fails (one_later old.calls)
+  pub piece : List ℕ
+  pub some : 0 < length piece
+  pub taken : old.left ≡ piece ++ new.left
+  pub fails : new.fails ≡ old.fails
+  pub faults : new.faults ≡ old.faults
+
+-- the second is the first after one read that gave nothing: one call more is counted, that was to fail, or nothing was left
+pub record IsReadLast (old new : Stream) : Type 0 where
+  pub counted : new.calls ≡ one_later old.calls
+  pub cause : Contains old.fails (one_later old.calls) ⊎ (old.left ≡ [])
+  pub left : new.left ≡ old.left
+  pub fails : new.fails ≡ old.fails
 
 -- the room that is left where no failing call is still to come, else none
 abbrev pub room_if_none : List ℕ → ℕ → ℕ

@@ -1,5 +1,6 @@
-ghost use Rattle.std.specs.Prelude.{◌≡◌, None, is_err, IsErr, if◌then◌else◌};
+ghost use Rattle.std.specs.Prelude.{◌≡◌, ◌<◌, None, is_err, IfOk, IsErr, if◌then◌else◌};
 ghost use Rattle.std.specs.Io.{ReadsAtMost};
+ghost use Rattle.sk_io.specs.Asked.{GivesBytes, GivesNothing};
 ghost use Rattle.sk_io.specs.Causes.{AnswersFault};
 ghost use Rattle.sk_io.specs.Transfer.{WritesSome};
 ghost use Rattle.sk_io.specs.Memory.{one_later};
@@ -10,46 +11,65 @@ use crate::source::Source;
 use std::io::{Read, Write};
 use std::marker::Model;
 
-/// A reader of std's, which contracts see as how often it has failed. It tells nothing of content.
+/// A reader of std's, which contracts see as how often it was asked, how often it gave nothing, and how
+/// often it has failed. It tells nothing of content.
 #[derive(Drop)]
 pub struct StdSource<R: Read> {
     inner: R,
+    reads: u64,
+    ends: u64,
     faults: u64,
 }
 
 impl<R: Read> Model for StdSource<R> {
-    ghost use Rattle.std.specs.Prelude.{ℕ};
+    ghost use Rattle.sk_io.specs.Asked.{Asked};
 
-    ghost Value = { ℕ };
+    ghost Value = { Asked };
 
-    ghost view = { λ s. s.faults };
+    ghost view = { λ s. record { reads = s.reads; ends = s.ends; faults = s.faults } };
 }
 
 impl<R: Read> StdSource<R> {
     pub fn new(inner: R) -> StdSource<R>
-        ensures { result ≡ 0 }
+        ensures { result ≡ record { reads = 0; ends = 0; faults = 0 } }
     {
-        StdSource { inner, faults: 0 }
+        StdSource {
+            inner,
+            reads: 0,
+            ends: 0,
+            faults: 0,
+        }
     }
 }
 
 impl<R: Read> Source for StdSource<R> {
     ghost left = { λ _. None };
 
-    ghost faults = { λ s. s };
+    ghost faults = { λ s. s.faults };
 
     ghost is_sure = { λ _. ⊥ };
 
-    ghost is_one_read = { λ _ _. Unit {0} };
+    ghost is_read_on = { GivesBytes };
+
+    ghost is_read_last = { GivesNothing };
 
     fn read(&mut self, buf: &mut [u8]) -> Result<usize, Failed>
         ensures bound { ReadsAtMost result buf.new }
-        ensures fault { AnswersFault (IsErr result) self.old self.new }
-        ensures counted { self.new ≡ (if is_err result then one_later self.old else self.old) }
+        ensures fault { AnswersFault (IsErr result) self.old.faults self.new.faults }
+        ensures on { IfOk result (λ n. 0 < n → GivesBytes self.old self.new) }
+        ensures end { IfOk result (λ n. n ≡ 0 → GivesNothing self.old self.new) }
+        ensures stopped { IsErr result → GivesNothing self.old self.new }
+        ensures counted { self.new.faults ≡ (if is_err result then one_later self.old.faults else self.old.faults) }
     {
+        self.reads = self.reads.saturating_add(1);
         match self.inner.read(buf) {
+            Ok(0) => {
+                self.ends = self.ends.saturating_add(1);
+                Ok(0)
+            }
             Ok(count) => Ok(count),
             Err(_) => {
+                self.ends = self.ends.saturating_add(1);
                 self.faults = self.faults.saturating_add(1);
                 Err(Failed)
             }

@@ -2,7 +2,7 @@ ghost use Rattle.std.specs.Prelude.{◌≡◌, ◌<◌, ◌↔◌, length, min, 
 ghost use Rattle.std.specs.Io.{ReadsAtMost};
 ghost use Rattle.std.specs.Io.KnownBytes.{ReadConsumes};
 ghost use Rattle.sk_io.specs.Causes.{AnswersFault};
-ghost use Rattle.sk_io.specs.Memory.{one_later, calls_after, IsSure, IsOneRead};
+ghost use Rattle.sk_io.specs.Memory.{one_later, calls_after, IsSure, IsReadOn, IsReadLast};
 
 use crate::calls::is_listed;
 use crate::fault::Failed;
@@ -65,7 +65,9 @@ impl Source for MemSource {
 
     ghost is_sure = { IsSure };
 
-    ghost is_one_read = { IsOneRead };
+    ghost is_read_on = { IsReadOn };
+
+    ghost is_read_last = { IsReadLast };
 
     fn read(&mut self, buf: &mut [u8]) -> Result<usize, Failed>
         ensures bound { ReadsAtMost result buf.new }
@@ -73,7 +75,9 @@ impl Source for MemSource {
         ensures fault { AnswersFault (IsErr result) self.old.faults self.new.faults }
         ensures sure { IsSure self.old
             → IsSure self.new × IsOk result × (self.new.faults ≡ self.old.faults) }
-        ensures once { IsOneRead self.old self.new }
+        ensures on { IfOk result (λ n. 0 < n → IsReadOn self.old self.new) }
+        ensures end { IfOk result (λ n. n ≡ 0 → 0 < length buf.old → IsReadLast self.old self.new) }
+        ensures stopped { IsErr result → IsReadLast self.old self.new }
 
         // It fails exactly where the call's number is one of those, and else gives all that there is room for.
         ensures failed { IsErr result ↔ ((0 < length buf.old) × Contains self.old.fails (one_later self.old.calls)) }

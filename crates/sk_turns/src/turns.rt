@@ -1,5 +1,5 @@
 // A turn.
-ghost use Rattle.std.specs.Prelude.{◌≡◌, ◌⊎◌, ◌<◌, ◌≤◌, ◌+◌, ◌-◌, ◌++◌, ℕ, false, List, length, All, OnOk, IfErr, IsErrOf};
+ghost use Rattle.std.specs.Prelude.{◌≡◌, ◌⊎◌, ◌<◌, ◌≤◌, ◌+◌, ◌-◌, ◌++◌, ℕ, false, List, length, All, OnOk, IfErr, IsOk, IsErrOf};
 ghost use Rattle.std.specs.Io.KnownBytes.{Consumes, Keeps};
 ghost use Rattle.sk_io.specs.Causes.{AnswersFault};
 ghost use Rattle.sk_io.specs.Transfer.{TakesAtMost};
@@ -42,7 +42,8 @@ pub fn turn<R: Replier, S: Source, K: Sink>(
         × ((first : R) (taken text : List ℕ) → HasHeard R.replies first taken hearing.old.kept replier.old text → hearing.old.taken ≡ length taken
         → (piece : List ℕ) × (rest : List ℕ) × Consumes (S.left source.old) (S.left source.new) piece × IsTold (S.left source.new) rest
         × Ends R.replies R.ends first (taken ++ (piece ++ rest)) TurnEnd.TooLong text) }
-    ensures once { S.is_one_read source.old source.new }
+    ensures once { S.is_read_on source.old source.new ⊎ S.is_read_last source.old source.new }
+    ensures on { IsOk result → S.is_read_on source.old source.new }
     ensures few { TakesAtMost 4096 (S.left source.old) (S.left source.new) }
     ensures within { TakesAtMost (4294967296 - hearing.old.taken) (S.left source.old) (S.left source.new) }
     ensures flushed { (IsErrOf result TurnEnd.WriteFault → ⊥) → K.is_flushed sink.old → K.is_flushed sink.new }

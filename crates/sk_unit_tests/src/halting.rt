@@ -77,6 +77,24 @@ fn a_reader_that_fails_is_not_at_its_end(rt: HostRuntime) -> Result<(), Fail> {
     Ok(())
 }
 
+/// Three bytes take four calls, and there is no fifth at the end, nor any behind a call that fails.
+#[test]
+fn a_reader_is_not_asked_behind_its_end(rt: HostRuntime) -> Result<(), Fail> {
+    for (failing, calls) in [(1u64, 1u64), (3, 3), (4, 4), (9, 4)] {
+        let mut reader = HaltingReader {
+            rest: b"abc",
+            calls: 0,
+            failing,
+        };
+        let mut source = StdSource::new(&mut reader);
+        let ended = read_all(rt.alloc(), &mut source, 10).is_ok();
+        drop(source);
+        assert_eq!(rt; ended, failing > 4);
+        assert_eq!(rt; reader.calls, calls);
+    }
+    Ok(())
+}
+
 /// What such a writer has taken of three bytes and a flush behind them, and whether all of it was done.
 fn written(alloc: Global, failing: u64, takes_none: bool) -> (Vec<u8>, bool) {
     let mut writer = HaltingWriter {

@@ -1,5 +1,5 @@
-use Rattle.std.proofs.Common.{◌≡◌, ◌+◌, ◌<◌, ◌≤◌, length, refl, arith}
-use Rattle.std.proofs.lemmas.List.{length-drop, take_rest, drop_all}
+use Rattle.std.proofs.Common.{◌≡◌, ◌+◌, ◌<◌, ◌≤◌, length, take, refl, arith}
+use Rattle.std.proofs.lemmas.List.{length-drop, length-take-le, take_rest, drop_all}
 use Rattle.sk_io.proofs.Moved.{read_on}
 use Rattle.sk_io.proofs.Passed.{none_listed, still_none}
 use Rattle.sk_io.proofs.mem_source.MemSourceSource.read.Goals as goal
@@ -23,3 +23,19 @@ returns-clause-sure c sure = (
   refl,
   rw (← c.self.view_is) refl,
 )
+
+pub returns-clause-on : goal.returns-clause-on
+returns-clause-on c some =
+    let front = rw c.as_bytes.ensures at c.copied-count.ensures.front in
+    let listed = rw (c.as_slice.ensures, c.saturating_add-self-inside.ensures) at c.is_listed.ensures.1 in
+    let fits : c.copied-count.result ≤ length c.copied-count.new.to = omega (arith, c.copied-count.ensures.count, c.copied-count.auto.to) in
+    let size = length-take-le c.copied-count.result c.copied-count.new.to fits in
+    rw (← c.self.view_is) (record {
+      counted = c.saturating_add-self-inside.ensures;
+      unlisted = λ among. (let yes = listed among in cc);
+      piece = take c.copied-count.result c.copied-count.new.to;
+      some = omega (arith, size, some);
+      taken = read_on c.self.inside.bytes c.copied-count.new.to c.self.inside.at c.copied-count.result front;
+      fails = refl;
+      faults = refl;
+    })
