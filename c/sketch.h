@@ -21,11 +21,12 @@ extern "C" {
 /* What a call answers: the statuses of the program. */
 enum sketch_status {
     SKETCH_DONE = 0,         /* the command did its work: the text is its report */
-    SKETCH_REFUSED = 1,      /* the input is refused: the text is the line with its number and code */
+    SKETCH_REFUSED = 1,      /* the input is refused: the text is the line with its number and code, of live behind the
+                              * replies to the lines before */
     SKETCH_USAGE = 2,        /* the command isn't of the form: the text is the usage line */
     SKETCH_READ_FAULT = 3,   /* never: no read of memory fails */
     SKETCH_WRITE_FAULT = 4,  /* memory ran out while the text was gathered: the text is a front of it */
-    SKETCH_NO_MEMORY = 5,    /* memory ran out before: the text is empty, or of a session its whole replies so far */
+    SKETCH_NO_MEMORY = 5,    /* memory ran out before: the text is empty, or of session and live their whole replies so far */
     SKETCH_NOT_WELL = 6,     /* the sketch isn't well: the text is the report of check */
     SKETCH_STEP_FAULT = 7,   /* a step has no places, or a sign isn't as drawn: the text is the fault line */
     SKETCH_TOLERANCE = 8,    /* a tolerance is beyond the limit: the text is the fault line */
@@ -42,7 +43,9 @@ enum sketch_status {
  * All pointers are the caller's, before and after; nothing of them is kept. None may be null, also where its length is
  * 0, and output and *size must overlap nothing else. A call takes 64 KiB of stack at most.
  *
- * That status and text are those of the program is proved; the pointers are taken as given. */
+ * That status and text are those of the program is proved; the pointers are taken as given. Want of memory is the one
+ * answer that a call may give at any time: what the allocator grants is its own matter. It is proved that the text stops
+ * short (4) only where it needs more room than it has got so far; that 5 comes only where memory was refused is tested. */
 int32_t sketch_answer(const uint8_t *command, size_t command_length, const uint8_t *input, size_t input_length,
                       uint8_t *output, size_t room, size_t *size);
 
