@@ -10,6 +10,7 @@ fn texts_get_their_answers(rt: HostRuntime) {
     let tables = [
         checks::REPORTS,
         plans::PLANS,
+        plans::REFUSED_BEHIND_THE_RUN,
         offers::OFFERS,
         sessions::SESSIONS,
         refusals::REFUSALS,
