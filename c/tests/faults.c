@@ -1,7 +1,7 @@
 /* faults FILE COMMAND: lets the Nth request for memory of a call fail, for N from 1 on until none is reached.
  * Link with -Wl,--wrap=malloc,--wrap=realloc,--wrap=free. After each call all memory is given back, the text is a front
- * of the right one, and the status is the right one, or says that memory ran out: then no text stands, or of a session
- * whole replies, or where it ran out while the text was gathered some front. */
+ * of the right one, and the status is the right one, or says that memory ran out: then no text stands, or of session
+ * and live whole replies, or where it ran out while the text was gathered some front. */
 #include <stdio.h>
 
 #include "sketch.h"
@@ -50,7 +50,7 @@ int main(int count, char **words) {
     if (file == NULL) return 3;
     length = fread(input, 1, MOST, file);
     fclose(file);
-    is_session = strncmp(words[2], "session", 7) == 0;
+    is_session = strncmp(words[2], "session", 7) == 0 || strncmp(words[2], "live", 4) == 0;
     right = call(words[2], text, &whole);
 
     long wrong = 0, requests = 0;

@@ -5,8 +5,9 @@
 
 #include "sketch.h"
 
-static const char *const commands[] = {"check", "plan", "solve", "solve place=points bits=27", "dxf", "parts", "offers",
-                                       "migrate", "spare", "flips", "derive", "session", "grow n=20", "nonsense"};
+static const char *const commands[] = {"check", "plan", "solve", "solve place=points bits=27", "solve frame=drawn",
+                                       "dxf", "parts", "excess", "offers", "migrate", "spare", "flips", "derive",
+                                       "session", "live", "grow n=20", "nonsense"};
 enum { COMMANDS = sizeof commands / sizeof *commands, FILES = 64, MOST = 65536, THREADS = 64 };
 
 static struct {
