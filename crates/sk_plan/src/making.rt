@@ -10,7 +10,7 @@ ghost use Rattle.sk_tree.specs.LegalPlan.{numbers_of, merge_told, taken_told, Ar
 ghost use Rattle.sk_tree.specs.declared.Tree.{Tree};
 ghost use Rattle.sk_tree.specs.PlanTree.{IsPlanTree};
 ghost use Rattle.sk_tree.specs.DrawnChoice.{HasDrawnChoice};
-ghost use Rattle.sk_plan.specs.Judged.{IsWell, TellsWhy};
+ghost use Rattle.sk_plan.specs.Judged.{HoldsWhatIsDue, IsWell, TellsWhy};
 ghost use Rattle.sk_plan.specs.Leaves.{HasLeaves};
 ghost use Rattle.sk_plan.specs.Runs.{EachTakesOnce};
 ghost use Rattle.sk_plan.specs.Sparse.{IsSparse, HasFewAngles};
@@ -29,7 +29,8 @@ use std::alloc::Global;
 /// The plan of the picker's run on the graph `g` of the sketch `s`. There is one exactly where the
 /// verdict is well; else the judgement tells why. It has half as many steps as constraints but one, which
 /// without blocks is two fewer than elements. Where there is one, among no k ≥ 2 different elements do
-/// the constraints weigh more than 2k - 3, and no k ≥ 1 different lines have more than k - 1 angles.
+/// the constraints weigh more than 2k - 3, and no k ≥ 1 different lines have more than k - 1 angles. Where all
+/// constraints together don't weigh just what is due, the picker isn't asked.
 pub fn plan_of<P: Picker>(
     alloc: Global,
     s: &Sketch,
@@ -49,6 +50,7 @@ pub fn plan_of<P: Picker>(
     ensures few_angles { OnOk result (HasFewAngles g.now) }
     ensures well { OnOk result (IsWell g.now) }
     ensures not_well { IfErr result (λ error. TellsWhy g.now error) }
+    ensures unasked { (HoldsWhatIsDue g.now → ⊥) → p.new ≡ p.old }
 {
     let leaves = numbers_of(alloc, g)?;
     if !holds_what_is_due(g, leaves.as_slice()) {
