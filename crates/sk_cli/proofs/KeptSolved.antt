@@ -39,7 +39,7 @@ use Rattle.sk_report.specs.ExcessReport.{left_lines, stays_over}
 use Rattle.sk_report.specs.SolveReport.{solve_report}
 use Rattle.sk_request.specs.declared.Request.{Request}
 use Rattle.sk_request.specs.Grids.{digits_of}
-use Rattle.sk_cli.specs.declared.accounts.Account.TheVariants.{Excesses}
+use Rattle.sk_request.specs.declared.Account.TheVariants.{Excesses}
 use Rattle.sk_cli.specs.declared.solving.Report.TheVariants.{Shape}
 use Rattle.sk_cli.specs.declared.status.Status.{Status}
 use Rattle.sk_cli.specs.declared.status.Status.TheVariants.{Done, StepFault, NotWell, Tolerance}
@@ -127,10 +127,10 @@ fits request few own text sound (left, are, inr (inr over)) = (
 )
 
 -- so of what is answered
-pub answer_fits : OneSketch → NotBoth → (request : Request) → request.within ≤ 1000000 → (bytes : List ℕ) (status : Status) (text : List ℕ) (s : Sketch) → IsSoundSketch s → Reads bytes s → IsAccountAnswer (Excesses request) bytes status text
+pub answer_fits : OneSketch → NotBoth → (request : Request) → request.within ≤ 1000000 → (bytes : List ℕ) (status : Status) (text : List ℕ) (s : Sketch) → IsSoundSketch s → Reads bytes s → IsAccountAnswer Excesses request bytes status text
     → FitWhereRepeated request s text
 answer_fits one_sketch not_both request few bytes status text s sound reads answer =
-    elim (told_account (Excesses request) bytes status text answer) [
+    elim (told_account Excesses request bytes status text answer) [
       | inl (done, (t, reads', report)) ↦ told (subst (λ (z : Sketch). IsExcessReport request z text) (one_sketch bytes t s reads' reads) report)
       | inr (refused, (r, refuses, is)) ↦ absurd (not_both bytes s r.line r.code reads refuses)
     ]

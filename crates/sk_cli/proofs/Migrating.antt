@@ -5,10 +5,10 @@ use Rattle.sk_base.specs.SoundSketch.{IsSoundSketch}
 use Rattle.sk_lang.specs.Canonical.{canonical_2}
 use Rattle.sk_lang.specs.Reading.{Reads}
 use Rattle.sk_lang.specs.Renumbered.{renumbered}
-use Rattle.sk_cli.specs.declared.accounts.Account.{Account}
-use Rattle.sk_cli.specs.declared.accounts.Account.TheVariants.{Judged, Spares, Derived, Migrated, Shapes, Excesses}
+use Rattle.sk_request.specs.declared.Account.{Account}
+use Rattle.sk_request.specs.declared.Account.TheVariants.{Migrated}
 use Rattle.sk_request.specs.declared.Command.{Command}
-use Rattle.sk_request.specs.declared.Command.TheVariants.{Check, Plan, Solve, Dxf, Offers, Session, Grow, Migrate, Verify, Spare, Flips, Derive, Parts, Live, Excess}
+use Rattle.sk_request.specs.declared.Command.TheVariants.{Tell, Plan, Solve, Dxf, Offers, Session, Grow, Verify, Flips, Live}
 use Rattle.sk_request.specs.declared.Request.{Request}
 use Rattle.sk_cli.specs.declared.solving.Report.{Report}
 use Rattle.sk_cli.specs.declared.solving.Report.TheVariants.{Places, Drawing}
@@ -37,27 +37,22 @@ module _ (laws : LawsOfText) where
 
   pub migrated_reads : (bytes text : List ℕ) → IsMigrated bytes text → (s : Sketch) × Reads bytes s × Reads text s
   migrated_reads bytes text m =
-      let answer : IsAccountAnswer Migrated bytes Done text = subst (λ (c : Command). IsAnswerOf c m.request bytes Done text) m.migrates (answer_about m.words bytes text Done m.request m.outcome m.asks) in
+      let answer : IsAccountAnswer Migrated m.request bytes Done text = subst (λ (c : Command). IsAnswerOf c m.request bytes Done text) m.migrates (answer_about m.words bytes text Done m.request m.outcome m.asks) in
       (answer.0, answer.1, subst (λ (z : List ℕ). Reads z answer.0) (sym answer.2) (written_again bytes answer.0 answer.1))
 
   -- two texts that read as one sketch
   module _ (a b : List ℕ) (s : Sketch) (reads_a : Reads a s) (reads_b : Reads b s) where
-    account_moved : (account : Account) (status : Status) (text : List ℕ) → IsAccountAnswer account a status text → IsAccountAnswer account b status text
-    account_moved account Done text (t, reads, told) = (s, reads_b, subst (λ (z : Sketch). IsAccount account z text) (laws.one_sketch a t s reads reads_a) told)
-    account_moved account Refused text (r, refuses, is) = absurd (laws.not_both a s r.line r.code reads_a refuses)
-    account_moved account status text answer = absurd answer
+    account_moved : (account : Account) (request : Request) (status : Status) (text : List ℕ) → IsAccountAnswer account request a status text → IsAccountAnswer account request b status text
+    account_moved account request Done text (t, reads, told) = (s, reads_b, subst (λ (z : Sketch). IsAccount account request z text) (laws.one_sketch a t s reads reads_a) told)
+    account_moved account request Refused text (r, refuses, is) = absurd (laws.not_both a s r.line r.code reads_a refuses)
+    account_moved account request status text answer = absurd answer
 
     solve_moved : (report : Report) (request : Request) (status : Status) (text : List ℕ) → IsSolveAnswer report request a status text → IsSolveAnswer report request b status text
     solve_moved report request Refused text (r, refuses, is) = absurd (laws.not_both a s r.line r.code reads_a refuses)
     solve_moved report request status text (t, reads, told) = (s, reads_b, subst (λ (z : Sketch). IsSolved report request z status text) (laws.one_sketch a t s reads reads_a) told)
 
     answer_moved : (command : Command) (request : Request) → ReadsOneSketch command → (status : Status) (text : List ℕ) → IsAnswerOf command request a status text → IsAnswerOf command request b status text
-    answer_moved Check request one status text answer = account_moved Judged status text answer
-    answer_moved Migrate request one status text answer = account_moved Migrated status text answer
-    answer_moved Spare request one status text answer = account_moved Spares status text answer
-    answer_moved Derive request one status text answer = account_moved Derived status text answer
-    answer_moved Parts request one status text answer = account_moved (Shapes request) status text answer
-    answer_moved Excess request one status text answer = account_moved (Excesses request) status text answer
+    answer_moved (Tell account) request one status text answer = account_moved account request status text answer
     answer_moved Solve request one status text answer = solve_moved Places request status text answer
     answer_moved Dxf request one status text answer = solve_moved Drawing request status text answer
     answer_moved Plan request one Refused text (r, refuses, is) = absurd (laws.not_both a s r.line r.code reads_a refuses)
@@ -65,7 +60,7 @@ module _ (laws : LawsOfText) where
     answer_moved Offers request one status text answer = absurd one
     answer_moved Session request one status text answer = absurd one
     answer_moved Live request one status text answer = absurd one
-    answer_moved Grow request one status text answer = absurd one
+    answer_moved (Grow n) request one status text answer = absurd one
     answer_moved Verify request one status text answer = absurd one
     answer_moved Flips request one status text answer = absurd one
 

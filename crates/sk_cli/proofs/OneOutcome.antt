@@ -73,16 +73,17 @@ use Rattle.sk_verify.proofs.Answering.{not_both as not_both_failing, one_failure
 use Rattle.sk_claims.proofs.ClaimSoFar.{one_claim, one_refusal as one_claim_refusal, not_both as not_both_claims}
 use Rattle.sk_cli.specs.VerifyAnswer.{HasClaim, IsVerified, IsNotVerified, RefusesClaimBehind, IsVerifyRefusal, IsVerifyAnswer}
 use Rattle.sk_worklist.specs.declared.Order.{Order}
-use Rattle.sk_cli.specs.declared.accounts.Account.{Account}
-use Rattle.sk_cli.specs.declared.accounts.Account.TheVariants.{Judged, Spares, Derived, Migrated, Shapes, Excesses}
+use Rattle.sk_request.specs.declared.Account.{Account}
+use Rattle.sk_request.specs.declared.Account.TheVariants as accounts
 use Rattle.sk_request.specs.declared.Command.{Command}
-use Rattle.sk_request.specs.declared.Command.TheVariants.{Check, Plan, Solve, Dxf, Offers, Session, Grow, Migrate, Verify, Spare, Flips, Derive, Parts, Live, Excess}
+use Rattle.sk_request.specs.declared.Command.TheVariants.{Tell, Plan, Solve, Dxf, Offers, Session, Grow, Verify, Flips, Live}
 use Rattle.sk_request.specs.declared.Request.{Request}
 use Rattle.sk_cli.specs.declared.status.Status.{Status}
 use Rattle.sk_cli.specs.declared.status.Status.TheVariants.{Done, Refused, NotWell, NotVerified}
 use Rattle.sk_cli.specs.declared.solving.Report.{Report}
 use Rattle.sk_cli.specs.declared.solving.Report.TheVariants.{Places, Drawing, Sums, Shape}
-use Rattle.sk_request.proofs.Sizes.{HasFitSize, size_fits, some_injective}
+use Rattle.sk_request.specs.Asking.{HasFitSize}
+use Rattle.sk_request.proofs.Sizes.{size_fits}
 use Rattle.sk_gen.specs.DatumSketch.{datum_sketch}
 use Rattle.sk_cli.specs.Accounts.{IsAccount}
 use Rattle.sk_cli.specs.PartsReport.{IsShape, IsBelowPart, ArePartsTold}
@@ -125,8 +126,8 @@ same_refusal one_refusal bytes text another (r, refuses, is) (q, refuses', is') 
     let make : ℕ → Code → Refusal = λ n c. record { line = n; code = c } in
     is ∙ ap (λ n. refusal_line (make n r.code)) same.0 ∙ ap (λ c. refusal_line (make q.line c)) same.1 ∙ sym is'
 
-no_account : NotBoth → (account : Account) (bytes text another : List ℕ) → IsAccountOf account bytes text → IsRefusalText bytes another → ⊥
-no_account not_both account bytes text another (s, reads, told) (r, refuses, is) = not_both bytes s r.line r.code reads refuses
+no_account : NotBoth → (account : Account) (request : Request) (bytes text another : List ℕ) → IsAccountOf account request bytes text → IsRefusalText bytes another → ⊥
+no_account not_both account request bytes text another (s, reads, told) (r, refuses, is) = not_both bytes s r.line r.code reads refuses
 
 -- further laws of the layers below
 abbrev SoundRead : Type 0
@@ -248,13 +249,10 @@ same_solve_answer one_sketch one_refusal not_both law laws report request bytes 
     ]
 
 -- what is answered of a sketch that was made
-same_grown : OneJudgement → LowerLaws → (request : Request) → HasFitSize request → (status other : Status) (text another : List ℕ)
-    → IsGrowAnswer request status text → IsGrowAnswer request other another → (status ≡ other) × (text ≡ another)
-same_grown law laws request fit status other text another (n, size, solved) (m, size', solved') =
-    let same : n ≡ m = some_injective (sym size ∙ size') in
-    let fits = fit m size' in
-    same_solved law laws Sums request (datum_sketch m) (graph_is_sound (datum_sketch m) (laws.made m fits.0 fits.1)) status other text another
-    (subst (λ k. IsSolved Sums request (datum_sketch k) status text) same solved) solved'
+same_grown : OneJudgement → LowerLaws → (n : ℕ) (request : Request) → HasFitSize (Grow n) → (status other : Status) (text another : List ℕ)
+    → IsGrowAnswer n request status text → IsGrowAnswer n request other another → (status ≡ other) × (text ≡ another)
+same_grown law laws n request fits status other text another first second =
+    same_solved law laws Sums request (datum_sketch n) (graph_is_sound (datum_sketch n) (laws.made n fits.0 fits.1)) status other text another first second
 
 -- the report on some offers
 same_report_on : OneJudgement → (s : Sketch) (os : List OfferLine) (text another : List ℕ) → IsReportOnOffers s os text → IsReportOnOffers s os another → text ≡ another
@@ -606,60 +604,50 @@ same_excesses request s sound (p ∷ parts) number text another (here, more, tol
     ∙ ap (λ t. here' ++ t) (same_excesses request s sound parts (number + 1) more more' rest rest') ∙ sym is'
 
 -- an account of a sketch
-same_account : OneJudgement → LowerLaws → (account : Account) (s : Sketch) → IsSoundSketch s → (text another : List ℕ) → IsAccount account s text → IsAccount account s another → text ≡ another
-same_account law laws Judged s sound text another (j, judged, is) (k, judged', is') = is ∙ ap (λ z. check_report s z) (same_judgement law (graph_of s) j k judged judged') ∙ sym is'
-same_account law laws Spares s sound text another (ks, are, is) (ls, are', is') = is ∙ ap (λ z. spare_report s z) (laws.spares (graph_of s) ks ls are are') ∙ sym is'
-same_account law laws Migrated s sound text another is is' = is ∙ sym is'
-same_account law laws Derived s sound text another (f, f_sound, normal, is) (h, h_sound, normal', is') =
+same_account : OneJudgement → LowerLaws → (account : Account) (request : Request) (s : Sketch) → IsSoundSketch s → (text another : List ℕ) → IsAccount account request s text → IsAccount account request s another → text ≡ another
+same_account law laws accounts.Judged request s sound text another (j, judged, is) (k, judged', is') = is ∙ ap (λ z. check_report s z) (same_judgement law (graph_of s) j k judged judged') ∙ sym is'
+same_account law laws accounts.Spares request s sound text another (ks, are, is) (ls, are', is') = is ∙ ap (λ z. spare_report s z) (laws.spares (graph_of s) ks ls are are') ∙ sym is'
+same_account law laws accounts.Migrated request s sound text another is is' = is ∙ sym is'
+same_account law laws accounts.Derived request s sound text another (f, f_sound, normal, is) (h, h_sound, normal', is') =
     is ∙ laws.derived (graph_of s) s f h (graph_is_sound s sound) f_sound h_sound normal normal' ∙ sym is'
-same_account law laws (Shapes request) s sound text another (j, lines, judged, told, is) (k, lines', judged', told', is') =
+same_account law laws accounts.Shapes request s sound text another (j, lines, judged, told, is) (k, lines', judged', told', is') =
     let same = same_judgement law (graph_of s) j k judged judged' in
     let moved : ArePartsTold request s 1 k.parts lines = subst (λ (z : Judgement). ArePartsTold request s 1 z.parts lines) same told in
     is ∙ ap (λ z. parts_head z ++ lines) same ∙ ap (λ t. parts_head k ++ t) (same_parts law laws request s sound k.parts 1 lines lines' moved told') ∙ sym is'
-same_account law laws (Excesses request) s sound text another (j, lines, judged, told, is) (k, lines', judged', told', is') =
+same_account law laws accounts.Excesses request s sound text another (j, lines, judged, told, is) (k, lines', judged', told', is') =
     let same = same_judgement law (graph_of s) j k judged judged' in
     let moved : AreExcessesTold request s 1 k.parts lines = subst (λ (z : Judgement). AreExcessesTold request s 1 z.parts lines) same told in
     is ∙ ap (λ z. excess_head (over_count z.parts) ++ lines) same ∙ ap (λ t. excess_head (over_count k.parts) ++ t) (same_excesses request s sound k.parts 1 lines lines' moved told') ∙ sym is'
 
-same_account_of : OneSketch → OneJudgement → LowerLaws → (account : Account) (bytes text another : List ℕ) → IsAccountOf account bytes text → IsAccountOf account bytes another → text ≡ another
-same_account_of one_sketch law laws account bytes text another (s, reads, told) (t, reads', told') =
-    same_account law laws account t (laws.sound bytes t reads') text another (subst (λ z. IsAccount account z text) (one_sketch bytes s t reads reads') told) told'
+same_account_of : OneSketch → OneJudgement → LowerLaws → (account : Account) (request : Request) (bytes text another : List ℕ) → IsAccountOf account request bytes text → IsAccountOf account request bytes another → text ≡ another
+same_account_of one_sketch law laws account request bytes text another (s, reads, told) (t, reads', told') =
+    same_account law laws account request t (laws.sound bytes t reads') text another (subst (λ z. IsAccount account request z text) (one_sketch bytes s t reads reads') told) told'
 
 -- an account or a refusal
-pub told_account : (account : Account) (bytes : List ℕ) (status : Status) (text : List ℕ) → IsAccountAnswer account bytes status text
-    → ((status ≡ Done) × IsAccountOf account bytes text) ⊎ ((status ≡ Refused) × IsRefusalText bytes text)
-told_account account bytes Done text answer = inl (refl, answer)
-told_account account bytes Refused text answer = inr (refl, answer)
-told_account account bytes status text answer = absurd answer
+pub told_account : (account : Account) (request : Request) (bytes : List ℕ) (status : Status) (text : List ℕ) → IsAccountAnswer account request bytes status text
+    → ((status ≡ Done) × IsAccountOf account request bytes text) ⊎ ((status ≡ Refused) × IsRefusalText bytes text)
+told_account account request bytes Done text answer = inl (refl, answer)
+told_account account request bytes Refused text answer = inr (refl, answer)
+told_account account request bytes status text answer = absurd answer
 
-same_accounted : OneSketch → OneRefusal → NotBoth → OneJudgement → LowerLaws → (account : Account) (bytes : List ℕ) (status other : Status) (text another : List ℕ)
-    → IsAccountAnswer account bytes status text → IsAccountAnswer account bytes other another → (status ≡ other) × (text ≡ another)
-same_accounted one_sketch one_refusal not_both law laws account bytes status other text another first second =
-    elim (told_account account bytes status text first) [
-      | inl done ↦ elim (told_account account bytes other another second) [
-        | inl done' ↦ (done.0 ∙ sym done'.0, same_account_of one_sketch law laws account bytes text another done.1 done'.1)
-        | inr refused ↦ absurd (no_account not_both account bytes text another done.1 refused.1)
+same_accounted : OneSketch → OneRefusal → NotBoth → OneJudgement → LowerLaws → (account : Account) (request : Request) (bytes : List ℕ) (status other : Status) (text another : List ℕ)
+    → IsAccountAnswer account request bytes status text → IsAccountAnswer account request bytes other another → (status ≡ other) × (text ≡ another)
+same_accounted one_sketch one_refusal not_both law laws account request bytes status other text another first second =
+    elim (told_account account request bytes status text first) [
+      | inl done ↦ elim (told_account account request bytes other another second) [
+        | inl done' ↦ (done.0 ∙ sym done'.0, same_account_of one_sketch law laws account request bytes text another done.1 done'.1)
+        | inr refused ↦ absurd (no_account not_both account request bytes text another done.1 refused.1)
       ]
-      | inr refused ↦ elim (told_account account bytes other another second) [
-        | inl done ↦ absurd (no_account not_both account bytes another text done.1 refused.1)
+      | inr refused ↦ elim (told_account account request bytes other another second) [
+        | inl done ↦ absurd (no_account not_both account request bytes another text done.1 refused.1)
         | inr refused' ↦ (refused.0 ∙ sym refused'.0, same_refusal one_refusal bytes text another refused.1 refused'.1)
       ]
     ]
 
-same_answer : OneSketch → OneRefusal → NotBoth → OneJudgement → LowerLaws → (command : Command) (request : Request) → HasFitSize request → (bytes : List ℕ) (status other : Status) (text another : List ℕ)
+same_answer : OneSketch → OneRefusal → NotBoth → OneJudgement → LowerLaws → (command : Command) (request : Request) → HasFitSize command → (bytes : List ℕ) (status other : Status) (text another : List ℕ)
     → IsAnswerOf command request bytes status text → IsAnswerOf command request bytes other another → (status ≡ other) × (text ≡ another)
-same_answer one_sketch one_refusal not_both law laws Check request fit bytes status other text another first second =
-    same_accounted one_sketch one_refusal not_both law laws Judged bytes status other text another first second
-same_answer one_sketch one_refusal not_both law laws Migrate request fit bytes status other text another first second =
-    same_accounted one_sketch one_refusal not_both law laws Migrated bytes status other text another first second
-same_answer one_sketch one_refusal not_both law laws Spare request fit bytes status other text another first second =
-    same_accounted one_sketch one_refusal not_both law laws Spares bytes status other text another first second
-same_answer one_sketch one_refusal not_both law laws Derive request fit bytes status other text another first second =
-    same_accounted one_sketch one_refusal not_both law laws Derived bytes status other text another first second
-same_answer one_sketch one_refusal not_both law laws Parts request fit bytes status other text another first second =
-    same_accounted one_sketch one_refusal not_both law laws (Shapes request) bytes status other text another first second
-same_answer one_sketch one_refusal not_both law laws Excess request fit bytes status other text another first second =
-    same_accounted one_sketch one_refusal not_both law laws (Excesses request) bytes status other text another first second
+same_answer one_sketch one_refusal not_both law laws (Tell account) request fit bytes status other text another first second =
+    same_accounted one_sketch one_refusal not_both law laws account request bytes status other text another first second
 same_answer one_sketch one_refusal not_both law laws Offers request fit bytes status other text another first second = same_offers laws law bytes status other text another first second
 same_answer one_sketch one_refusal not_both law laws Verify request fit bytes status other text another first second = same_verify laws bytes status other text another first second
 same_answer one_sketch one_refusal not_both law laws Flips request fit bytes status other text another first second = same_flips_answer law laws request bytes status other text another first second
@@ -670,7 +658,7 @@ same_answer one_sketch one_refusal not_both law laws Solve request fit bytes sta
     same_solve_answer one_sketch one_refusal not_both law laws Places request bytes status other text another first second
 same_answer one_sketch one_refusal not_both law laws Dxf request fit bytes status other text another first second =
     same_solve_answer one_sketch one_refusal not_both law laws Drawing request bytes status other text another first second
-same_answer one_sketch one_refusal not_both law laws Grow request fit bytes status other text another first second = same_grown law laws request fit status other text another first second
+same_answer one_sketch one_refusal not_both law laws (Grow n) request fit bytes status other text another first second = same_grown law laws n request fit status other text another first second
 same_answer one_sketch one_refusal not_both law laws Plan request fit bytes status other text another first second =
     same_plan_answer one_sketch one_refusal not_both law laws request.order bytes status other text another first second
 

@@ -16,10 +16,9 @@ use Rattle.sk_cli.specs.Fronts.{IsRefusedAt}
 use Rattle.sk_cli.specs.FlipsReport.{RefusesFlipsBehind}
 use Rattle.sk_cli.specs.OffersReport.{RefusesOffersBehind}
 use Rattle.sk_cli.specs.VerifyAnswer.{RefusesClaimBehind}
-use Rattle.sk_cli.specs.declared.accounts.Account.{Account}
-use Rattle.sk_cli.specs.declared.accounts.Account.TheVariants.{Judged, Spares, Derived, Migrated, Shapes, Excesses}
+use Rattle.sk_request.specs.declared.Account.{Account}
 use Rattle.sk_request.specs.declared.Command.{Command}
-use Rattle.sk_request.specs.declared.Command.TheVariants.{Check, Plan, Solve, Dxf, Offers, Session, Grow, Migrate, Verify, Spare, Flips, Derive, Parts, Live, Excess}
+use Rattle.sk_request.specs.declared.Command.TheVariants.{Tell, Plan, Solve, Dxf, Offers, Session, Grow, Verify, Flips, Live}
 use Rattle.sk_solve.specs.declared.Placement.{Placement}
 use Rattle.sk_request.specs.declared.Request.{Request}
 use Rattle.sk_cli.specs.declared.solving.Report.{Report}
@@ -72,25 +71,20 @@ still_refused_at : (RefusesBehind : Front → List ℕ → ℕ → Code → Type
 still_refused_at RefusesBehind text bytes long longer r (inl refuses) = inl (still_front text bytes long longer r.line r.code refuses.refuses)
 still_refused_at RefusesBehind text bytes long longer r (inr behind) = absurd (omega (arith, long, behind.1.fits))
 
-still_accounted : (text bytes : List ℕ) → length text ≡ 1048577 → 1048577 ≤ length bytes → (account : Account) (status : Status) (out : List ℕ) → IsAccountAnswer account text status out → IsAccountAnswer account bytes status out
-still_accounted text bytes long longer account Done out answer = absurd (omega (arith, long, answer.1.fits))
-still_accounted text bytes long longer account Refused out answer = (answer.0, still_refused text bytes long longer answer.0.line answer.0.code answer.1, answer.2)
-still_accounted text bytes long longer account status out answer = absurd answer
+still_accounted : (text bytes : List ℕ) → length text ≡ 1048577 → 1048577 ≤ length bytes → (account : Account) (request : Request) (status : Status) (out : List ℕ) → IsAccountAnswer account request text status out → IsAccountAnswer account request bytes status out
+still_accounted text bytes long longer account request Done out answer = absurd (omega (arith, long, answer.1.fits))
+still_accounted text bytes long longer account request Refused out answer = (answer.0, still_refused text bytes long longer answer.0.line answer.0.code answer.1, answer.2)
+still_accounted text bytes long longer account request status out answer = absurd answer
 
 still_answered : (text bytes : List ℕ) → length text ≡ 1048577 → 1048577 ≤ length bytes → (command : Command) → command ≢ Live → (request : Request) (status : Status) (out : List ℕ) → IsAnswerOf command request text status out → IsAnswerOf command request bytes status out
-still_answered text bytes long longer Check whole request status out answer = still_accounted text bytes long longer Judged status out answer
-still_answered text bytes long longer Migrate whole request status out answer = still_accounted text bytes long longer Migrated status out answer
-still_answered text bytes long longer Spare whole request status out answer = still_accounted text bytes long longer Spares status out answer
-still_answered text bytes long longer Derive whole request status out answer = still_accounted text bytes long longer Derived status out answer
-still_answered text bytes long longer Parts whole request status out answer = still_accounted text bytes long longer (Shapes request) status out answer
-still_answered text bytes long longer Excess whole request status out answer = still_accounted text bytes long longer (Excesses request) status out answer
+still_answered text bytes long longer (Tell account) whole request status out answer = still_accounted text bytes long longer account request status out answer
 still_answered text bytes long longer Plan whole request Refused out answer = (answer.0, still_refused text bytes long longer answer.0.line answer.0.code answer.1, answer.2)
 still_answered text bytes long longer Plan whole request status out answer = absurd (omega (arith, long, answer.1.fits))
 still_answered text bytes long longer Solve whole request Refused out answer = (answer.0, still_refused text bytes long longer answer.0.line answer.0.code answer.1, answer.2)
 still_answered text bytes long longer Solve whole request status out answer = absurd (omega (arith, long, answer.1.fits))
 still_answered text bytes long longer Dxf whole request Refused out answer = (answer.0, still_refused text bytes long longer answer.0.line answer.0.code answer.1, answer.2)
 still_answered text bytes long longer Dxf whole request status out answer = absurd (omega (arith, long, answer.1.fits))
-still_answered text bytes long longer Grow whole request status out answer = answer
+still_answered text bytes long longer (Grow n) whole request status out answer = answer
 still_answered text bytes long longer Offers whole request Done out answer = absurd (omega (arith, long, answer.2.fits))
 still_answered text bytes long longer Offers whole request Refused out answer = (answer.0, still_refused_at RefusesOffersBehind text bytes long longer answer.0 answer.1, answer.2)
 still_answered text bytes long longer Offers whole request status out answer = absurd answer
@@ -119,7 +113,7 @@ answer_of_front text bytes front request whole status out answer =
 told_answer : (left behind : Option (List ℕ)) (taken : List ℕ) (command : Command) (request : Request) → request.command ≢ Live → (status : Status) (out : List ℕ) → request.command ≡ command
     → length taken ≤ 1048577 → (TakesInput command → TakesUpTo 1048577 left behind taken) → IsAnswer request taken status out
     → (bytes : List ℕ) × IsTold left bytes × IsAnswer request bytes status out
-told_answer left behind taken Grow request whole status out is few takes answer =
+told_answer left behind taken (Grow n) request whole status out is few takes answer =
     let told = told_bytes left in
     (told.0, told.1, subst (λ c. IsAnswerOf c request told.0 status out) (sym is) (subst (λ c. IsAnswerOf c request taken status out) is answer))
 told_answer left behind taken command request whole status out is few takes answer =
@@ -150,55 +144,40 @@ solved_told report request s status text (inr (is, told)) = subst (λ z. IsSolve
 
 -- no answer is a fault or that memory ran out
 no_read_fault : (command : Command) (request : Request) (bytes text : List ℕ) → ¬ IsAnswerOf command request bytes ReadFault text
-no_read_fault Check request bytes text answer = answer
+no_read_fault (Tell account) request bytes text answer = answer
 no_read_fault Plan request bytes text answer = answer.2
 no_read_fault Solve request bytes text answer = solved_told Places request answer.0 ReadFault text answer.2
 no_read_fault Dxf request bytes text answer = solved_told Drawing request answer.0 ReadFault text answer.2
-no_read_fault Grow request bytes text answer = solved_told Sums request (datum_sketch answer.0) ReadFault text answer.2
+no_read_fault (Grow n) request bytes text answer = solved_told Sums request (datum_sketch n) ReadFault text answer
 no_read_fault Offers request bytes text answer = answer
 no_read_fault Flips request bytes text answer = answer.3
 no_read_fault Session request bytes text answer = answer
-no_read_fault Migrate request bytes text answer = answer
 no_read_fault Verify request bytes text answer = answer
-no_read_fault Spare request bytes text answer = answer
-no_read_fault Derive request bytes text answer = answer
-no_read_fault Parts request bytes text answer = answer
 no_read_fault Live request bytes text answer = answer
-no_read_fault Excess request bytes text answer = answer
 
 no_want : (command : Command) (request : Request) (bytes text : List ℕ) → ¬ IsAnswerOf command request bytes NoMemory text
-no_want Check request bytes text answer = answer
+no_want (Tell account) request bytes text answer = answer
 no_want Plan request bytes text answer = answer.2
 no_want Solve request bytes text answer = solved_told Places request answer.0 NoMemory text answer.2
 no_want Dxf request bytes text answer = solved_told Drawing request answer.0 NoMemory text answer.2
-no_want Grow request bytes text answer = solved_told Sums request (datum_sketch answer.0) NoMemory text answer.2
+no_want (Grow n) request bytes text answer = solved_told Sums request (datum_sketch n) NoMemory text answer
 no_want Offers request bytes text answer = answer
 no_want Flips request bytes text answer = answer.3
 no_want Session request bytes text answer = answer
-no_want Migrate request bytes text answer = answer
 no_want Verify request bytes text answer = answer
-no_want Spare request bytes text answer = answer
-no_want Derive request bytes text answer = answer
-no_want Parts request bytes text answer = answer
 no_want Live request bytes text answer = answer
-no_want Excess request bytes text answer = answer
 
 no_write_fault : (command : Command) (request : Request) (bytes text : List ℕ) → ¬ IsAnswerOf command request bytes WriteFault text
-no_write_fault Check request bytes text answer = answer
+no_write_fault (Tell account) request bytes text answer = answer
 no_write_fault Plan request bytes text answer = answer.2
 no_write_fault Solve request bytes text answer = solved_told Places request answer.0 WriteFault text answer.2
 no_write_fault Dxf request bytes text answer = solved_told Drawing request answer.0 WriteFault text answer.2
-no_write_fault Grow request bytes text answer = solved_told Sums request (datum_sketch answer.0) WriteFault text answer.2
+no_write_fault (Grow n) request bytes text answer = solved_told Sums request (datum_sketch n) WriteFault text answer
 no_write_fault Offers request bytes text answer = answer
 no_write_fault Flips request bytes text answer = answer.3
 no_write_fault Session request bytes text answer = answer
-no_write_fault Migrate request bytes text answer = answer
 no_write_fault Verify request bytes text answer = answer
-no_write_fault Spare request bytes text answer = answer
-no_write_fault Derive request bytes text answer = answer
-no_write_fault Parts request bytes text answer = answer
 no_write_fault Live request bytes text answer = answer
-no_write_fault Excess request bytes text answer = answer
 
 outcome_no_read_fault : (words : List (List ℕ)) (bytes text : List ℕ) → ¬ IsOutcome words bytes ReadFault text
 outcome_no_read_fault words bytes text outcome = elim outcome [ inl asked ↦ no_read_fault asked.0.command asked.0 bytes text asked.2 | inr usage ↦ (let same = usage.1 in cc) ]

@@ -8,7 +8,8 @@ use Rattle.sk_session.specs.declared.Reply.TheVariants as reply
 use Rattle.sk_session.specs.State.{State, sketch_in}
 use Rattle.sk_session.proofs.Asked.{OtherBegins, TellsOf, answers_told}
 use Rattle.sk_worklist.specs.declared.Order.{Order}
-use Rattle.sk_request.specs.declared.Command.TheVariants.{Check, Plan, Solve, Session, Live}
+use Rattle.sk_request.specs.declared.Account.TheVariants.{Judged}
+use Rattle.sk_request.specs.declared.Command.TheVariants.{Tell, Plan, Solve, Session, Live}
 use Rattle.sk_request.specs.declared.Request.{Request}
 use Rattle.sk_cli.specs.declared.solving.Report.TheVariants.{Places}
 use Rattle.sk_cli.specs.declared.status.Status.{Status}
@@ -18,7 +19,7 @@ use Rattle.sk_cli.specs.Headline.{TellsAsAsked, RepliesNext, RepliesNextLive}
 use Rattle.sk_cli.specs.Outcome.{IsOutcome, IsSolved}
 use Rattle.sk_turns.specs.InTime.{in_time}
 use Rattle.sk_cli.specs.LiveAnswer.{RepliesInTime}
-use Rattle.sk_cli.specs.SessionAnswer.{IsReplyText, IsReplied, AreReplied, solve_with, at_start}
+use Rattle.sk_cli.specs.SessionAnswer.{IsReplyText, IsReplied, AreReplied, solve_with, at_start, settings_of}
 use Rattle.sk_cli.proofs.OneOutcome.{OneJudgement, LowerLaws, front_of_outcome, front_of_live}
 use Rattle.sk_cli.proofs.Printed.{OneNormal}
 use Rattle.sk_cli.proofs.Sessions.{Stands, stands_next, front_at, ends_or_not, end_has_none}
@@ -31,13 +32,13 @@ order_kept begins request (line ∷ lines) old new text (r, next, first, rest, h
     order_kept begins request lines next new rest further ∙ (answers_told begins old next line r here.answers).0
 
 -- what is solved depends on no more than the order, the grid, the limit and what places are
-solved_as : (request : Request) (s : Sketch) (status : Status) (text : List ℕ) → IsSolved Places (solve_with request.order request.bits request.within request.layout) s status text → IsSolved Places request s status text
+solved_as : (request : Request) (s : Sketch) (status : Status) (text : List ℕ) → IsSolved Places (solve_with (settings_of request)) s status text → IsSolved Places request s status text
 solved_as request s status text (inl (p, q, placed, status_is, text_is)) = inl (p, q, record { plan = placed.plan; placed = placed.placed }, status_is, text_is)
 solved_as request s status text (inr short) = inr short
 
 module _ (normal : OneNormal) (plans : LegalPlans) (law : OneJudgement) (laws : LowerLaws) (begins : OtherBegins) (request : Request) where
-  tells_asked : (s : Sketch) → IsSoundSketch s → (r : Reply) (text : List ℕ) → TellsOf request.order s r → IsReplyText request.order request.bits request.within request.layout s r text → TellsAsAsked request s r text
-  tells_asked s sound (reply.Checked j) text (some, judged) says = (some, tells normal plans law laws request s Done text (graph_is_sound s sound) Check (j, judged, says))
+  tells_asked : (s : Sketch) → IsSoundSketch s → (r : Reply) (text : List ℕ) → TellsOf request.order s r → IsReplyText (settings_of request) s r text → TellsAsAsked request s r text
+  tells_asked s sound (reply.Checked j) text (some, judged) says = (some, tells normal plans law laws request s Done text (graph_is_sound s sound) (Tell Judged) (sound, (j, judged, says)))
   tells_asked s sound (reply.Planned p) text (some, plan) says =
       (some, tells normal plans law laws request s Done text (graph_is_sound s sound) Plan (some, (p, plan, says)))
   tells_asked s sound (reply.NotWell j) text (some, judged, not_well) says =

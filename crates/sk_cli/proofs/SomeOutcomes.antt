@@ -31,10 +31,10 @@ use Rattle.sk_verify.specs.Texts.{failure_line, verified_line}
 use Rattle.sk_claims.proofs.ClaimSoFar.{some_answer as claim_or_refused}
 use Rattle.sk_claims.proofs.FittingClaims.{read_claim_fits}
 use Rattle.sk_verify.proofs.SomeFailures.{accepted_or_failing}
-use Rattle.sk_cli.specs.declared.accounts.Account.{Account}
-use Rattle.sk_cli.specs.declared.accounts.Account.TheVariants.{Judged, Spares, Derived, Migrated, Shapes, Excesses}
+use Rattle.sk_request.specs.declared.Account.{Account}
+use Rattle.sk_request.specs.declared.Account.TheVariants as accounts
 use Rattle.sk_request.specs.declared.Command.{Command}
-use Rattle.sk_request.specs.declared.Command.TheVariants.{Check, Plan, Solve, Dxf, Offers, Session, Grow, Migrate, Verify, Spare, Flips, Derive, Parts, Live, Excess}
+use Rattle.sk_request.specs.declared.Command.TheVariants.{Tell, Plan, Solve, Dxf, Offers, Session, Grow, Verify, Flips, Live}
 use Rattle.sk_residual.specs.declared.Wanted.TheVariants.{Drawn}
 use Rattle.sk_solve.specs.declared.Placement.{Placement}
 use Rattle.sk_cli.specs.Solved.{IsPlacedPlan}
@@ -53,7 +53,8 @@ use Rattle.sk_offers.proofs.FittingOffers.{read_fit}
 use Rattle.sk_cli.proofs.FlipsAnswered.{answers_flips}
 use Rattle.sk_flips.proofs.FlipsSoFar.{some_reading}
 use Rattle.sk_offers.proofs.OfferAnswers.{some_answer as read_or_refused}
-use Rattle.sk_request.proofs.Sizes.{grow_size}
+use Rattle.sk_request.specs.Asking.{HasFitSize}
+use Rattle.sk_request.proofs.Sizes.{size_fits}
 use Rattle.sk_cli.proofs.SomeAnswers.{some_answers}
 use Rattle.sk_cli.proofs.SomePlacements.{enough_digits, some_placement, some_alternatives}
 use Rattle.sk_plan.proofs.SomePlans.{judgement_there, some_plan_by}
@@ -169,24 +170,24 @@ some_part request s sketch j judged p p_in number =
     ]
 
 -- what is told of a sketch
-some_account : (account : Account) (s : Sketch) → IsSoundSketch s → (text : List ℕ) × IsAccount account s text
-some_account Judged s sketch = let j = the_judgement_of s sketch in (check_report s j.0, (j.0, j.1, refl))
-some_account Spares s sketch = let found = some_spares (graph_of s) (graph_is_sound s sketch) in (spare_report s found.0, (found.0, found.1, refl))
-some_account Migrated s sketch = (canonical_2 s, refl)
-some_account Derived s sketch = let found = some_wide (graph_of s) (graph_is_sound s sketch) in (derived_text s found.family, (found.family, found.sound, found.normal, refl))
-some_account (Shapes request) s sketch =
+some_account : (account : Account) (request : Request) (s : Sketch) → IsSoundSketch s → (text : List ℕ) × IsAccount account request s text
+some_account accounts.Judged request s sketch = let j = the_judgement_of s sketch in (check_report s j.0, (j.0, j.1, refl))
+some_account accounts.Spares request s sketch = let found = some_spares (graph_of s) (graph_is_sound s sketch) in (spare_report s found.0, (found.0, found.1, refl))
+some_account accounts.Migrated request s sketch = (canonical_2 s, refl)
+some_account accounts.Derived request s sketch = let found = some_wide (graph_of s) (graph_is_sound s sketch) in (derived_text s found.family, (found.family, found.sound, found.normal, refl))
+some_account accounts.Shapes request s sketch =
     let j = the_judgement_of s sketch in
     let told = some_told request s j.0.parts (λ p p_in. some_below request s sketch j.0 j.1 p p_in) 1 in
     (parts_head j.0 ++ told.0, (j.0, told.0, j.1, told.1, refl))
-some_account (Excesses request) s sketch =
+some_account accounts.Excesses request s sketch =
     let j = the_judgement_of s sketch in
     let told = some_excesses request s j.0.parts (λ p number p_in. some_part request s sketch j.0 j.1 p p_in number) 1 in
     (excess_head (over_count j.0.parts) ++ told.0, (j.0, told.0, j.1, told.1, refl))
 
-accounted : LawsBelow → (account : Account) (bytes : List ℕ) → (status : Status) × (text : List ℕ) × IsAccountAnswer account bytes status text
-accounted laws account bytes =
+accounted : LawsBelow → (account : Account) (request : Request) (bytes : List ℕ) → (status : Status) × (text : List ℕ) × IsAccountAnswer account request bytes status text
+accounted laws account request bytes =
     elim (laws.answer bytes) [
-      | inl (s, reads) ↦ (let told = some_account account s (laws.sound bytes s reads) in (Done, told.0, (s, reads, told.1)))
+      | inl (s, reads) ↦ (let told = some_account account request s (laws.sound bytes s reads) in (Done, told.0, (s, reads, told.1)))
       | inr (n, (code, refuses)) ↦ (let r : Refusal = record { line = n; code = code } in (Refused, refusal_line r, (r, refuses, refl)))
     ]
 
@@ -292,14 +293,9 @@ flips_answer laws request bytes =
               ))
         ]
 
-answered : LawsBelow → (command : Command) (request : Request) → (command ≡ Grow → (n : ℕ) × (request.size ≡ Some n) × (3 ≤ n) × (n ≤ 1000)) → (bytes : List ℕ) → Answered command request bytes
-answered laws Check request size bytes = accounted laws Judged bytes
-answered laws Migrate request size bytes = accounted laws Migrated bytes
+answered : LawsBelow → (command : Command) (request : Request) → HasFitSize command → (bytes : List ℕ) → Answered command request bytes
+answered laws (Tell account) request size bytes = accounted laws account request bytes
 answered laws Verify request size bytes = verify_answer laws request bytes
-answered laws Spare request size bytes = accounted laws Spares bytes
-answered laws Derive request size bytes = accounted laws Derived bytes
-answered laws Parts request size bytes = accounted laws (Shapes request) bytes
-answered laws Excess request size bytes = accounted laws (Excesses request) bytes
 answered laws Plan request size bytes = planned_answer laws request bytes
 answered laws Solve request size bytes = solve_answer laws Places request bytes
 answered laws Dxf request size bytes = solve_answer laws Drawing request bytes
@@ -309,16 +305,13 @@ answered laws Session request size bytes =
     some_session laws.language laws.to_solve (λ asked s sound some. (let found = solved Places asked s sound some in (found.0, found.1, found.3))) request bytes
 answered laws Live request size bytes =
     some_live laws.language laws.to_solve (λ asked s sound some. (let found = solved Places asked s sound some in (found.0, found.1, found.3))) request bytes
-answered laws Grow request size bytes =
-    let n = size refl in
-    let found = solved Sums request (datum_sketch n.0) (laws.made n.0 n.2 n.3) (omega arith) in
-    (found.0, found.1, (n.0, n.1, found.3))
+answered laws (Grow n) request size bytes = let found = solved Sums request (datum_sketch n) (laws.made n size.0 size.1) (omega arith) in (found.0, found.1, found.3)
 
 pub some_outcome : LawsBelow → (words : List (List ℕ)) (bytes : List ℕ) → (status : Status) × (text : List ℕ) × IsOutcome words bytes status text
 some_outcome laws words bytes =
     elim (form_decided words) [
       | inr never ↦ (Usage, usage_line, inr (never, refl, refl))
       | inl (request, asks) ↦ (
-          let found = answered laws request.command request (λ is. grow_size words request asks is) bytes in
+          let found = answered laws request.command request (size_fits words request asks) bytes in
           (found.0, found.1, inl (request, asks, found.2)))
     ]

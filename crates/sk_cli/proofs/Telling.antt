@@ -25,9 +25,10 @@ use Rattle.sk_plan.specs.Judged.{IsTheJudgement}
 use Rattle.sk_plan.specs.Leaves.{HasLeaves}
 use Rattle.sk_report.specs.CheckReport.{check_report}
 use Rattle.sk_worklist.specs.declared.Order.{Order}
-use Rattle.sk_cli.specs.declared.accounts.Account.TheVariants.{Judged, Shapes, Excesses}
+use Rattle.sk_request.specs.declared.Account.{Account}
+use Rattle.sk_request.specs.declared.Account.TheVariants as accounts
 use Rattle.sk_request.specs.declared.Command.{Command}
-use Rattle.sk_request.specs.declared.Command.TheVariants.{Check, Plan, Solve, Dxf, Offers, Session, Grow, Migrate, Verify, Spare, Flips, Derive, Parts, Live, Excess}
+use Rattle.sk_request.specs.declared.Command.TheVariants.{Tell, Plan, Solve, Dxf, Offers, Session, Grow, Verify, Flips, Live}
 use Rattle.sk_request.specs.declared.Request.{Request}
 use Rattle.sk_cli.specs.declared.solving.Report.{Report}
 use Rattle.sk_cli.specs.declared.solving.Report.TheVariants.{Shape}
@@ -57,21 +58,16 @@ IsSolvedFor command request s status text = (report : Report) × IsReportOf comm
 
 -- what a command says of a sketch, so far as the headline tells it
 abbrev pub IsSaid : Command → Request → Sketch → Status → List ℕ → Type 0
-IsSaid Check request s status text = IsAccount Judged s text
+IsSaid (Tell account) request s status text = IsSoundSketch s × IsAccount account request s text
 IsSaid Plan request s status text = (0 < length s.elements) × IsPlanOrReport request.order s status text
 IsSaid Offers request s status text = status ≡ Done → (j : Judgement) × (lines : List ℕ) × IsTheJudgement (graph_of s) j × (text ≡ lines ++ check_report s j)
 IsSaid Flips request s status text = (lists : List (List Name)) × IsFlipped request s lists status text
 IsSaid Session request s status text = ⊥
 IsSaid Live request s status text = ⊥
-IsSaid Migrate request s status text = Unit {0}
 IsSaid Verify request s status text = Unit {0}
-IsSaid Spare request s status text = Unit {0}
-IsSaid Derive request s status text = Unit {0}
-IsSaid Parts request s status text = IsSoundSketch s × IsPartsReport request s text
-IsSaid Excess request s status text = IsSoundSketch s × IsExcessReport request s text
 IsSaid Solve request s status text = IsSolvedFor Solve request s status text
 IsSaid Dxf request s status text = IsSolvedFor Dxf request s status text
-IsSaid Grow request s status text = IsSolvedFor Grow request s status text
+IsSaid (Grow n) request s status text = IsSolvedFor (Grow n) request s status text
 
 abbrev pub SomeRead : Type 0
 SomeRead = (bytes : List ℕ) (s : Sketch) → Reads bytes s → 0 < length s.elements
@@ -80,14 +76,8 @@ module _ (one_sketch : OneSketch) (not_both : NotBoth) (laws : LowerLaws) (bytes
   not_refused : Reads bytes s → ¬ IsRefusalText bytes text
   not_refused reads (r, refuses, is) = not_both bytes s r.line r.code reads refuses
 
-  check_said : Reads bytes s → IsAccountOf Judged bytes text → IsAccount Judged s text
-  check_said reads (t, reads', told) = subst (λ z. IsAccount Judged z text) (one_sketch bytes t s reads' reads) told
-
-  parts_said : (request : Request) → Reads bytes s → IsAccountOf (Shapes request) bytes text → IsPartsReport request s text
-  parts_said request reads (t, reads', told) = subst (λ z. IsPartsReport request z text) (one_sketch bytes t s reads' reads) told
-
-  excess_said : (request : Request) → Reads bytes s → IsAccountOf (Excesses request) bytes text → IsExcessReport request s text
-  excess_said request reads (t, reads', told) = subst (λ z. IsExcessReport request z text) (one_sketch bytes t s reads' reads) told
+  account_said : (account : Account) (request : Request) → Reads bytes s → IsAccountOf account request bytes text → IsAccount account request s text
+  account_said account request reads (t, reads', told) = subst (λ z. IsAccount account request z text) (one_sketch bytes t s reads' reads) told
 
   plan_said : (order : Order) (status : Status) → Reads bytes s → (t : Sketch) → Reads bytes t → IsPlanOrReport order t status text → IsPlanOrReport order s status text
   plan_said order status reads t reads' told = subst (λ z. IsPlanOrReport order z status text) (one_sketch bytes t s reads' reads) told
@@ -103,9 +93,9 @@ done_report bytes text status answer is = subst (λ z. IsOffersAnswer bytes z te
 -- the answer to an input says it of the sketch that the command is about
 pub said_about : OneSketch → NotBoth → SomeRead → LowerLaws → (command : Command) (request : Request) (bytes text : List ℕ) (status : Status) (s : Sketch) → IsAnswerOf command request bytes status text
     → IsSketchOf command request bytes s → IsSaid command request s status text
-said_about one_sketch not_both some_read laws Check request bytes text status s answer reads =
-    elim (told_account Judged bytes status text answer) [
-      | inl report ↦ check_said one_sketch not_both laws bytes text s reads report.1
+said_about one_sketch not_both some_read laws (Tell account) request bytes text status s answer reads =
+    elim (told_account account request bytes status text answer) [
+      | inl report ↦ (laws.sound bytes s reads, account_said one_sketch not_both laws bytes text s account request reads report.1)
       | inr line ↦ absurd (not_refused one_sketch not_both laws bytes text s reads line.1)
     ]
 said_about one_sketch not_both some_read laws Plan request bytes text status s answer reads =
@@ -118,23 +108,10 @@ said_about one_sketch not_both some_read laws Offers request bytes text status s
 said_about one_sketch not_both some_read laws Flips request bytes text status s answer about = flips_about laws request bytes text status s answer about
 said_about one_sketch not_both some_read laws Session request bytes text status s answer about = absurd about
 said_about one_sketch not_both some_read laws Live request bytes text status s answer about = absurd about
-said_about one_sketch not_both some_read laws Migrate request bytes text status s answer about = tt
 said_about one_sketch not_both some_read laws Verify request bytes text status s answer about = tt
-said_about one_sketch not_both some_read laws Spare request bytes text status s answer about = tt
-said_about one_sketch not_both some_read laws Derive request bytes text status s answer about = tt
-said_about one_sketch not_both some_read laws Parts request bytes text status s answer reads =
-    elim (told_account (Shapes request) bytes status text answer) [
-      | inl report ↦ (laws.sound bytes s reads, parts_said one_sketch not_both laws bytes text s request reads report.1)
-      | inr line ↦ absurd (not_refused one_sketch not_both laws bytes text s reads line.1)
-    ]
-said_about one_sketch not_both some_read laws Excess request bytes text status s answer reads =
-    elim (told_account (Excesses request) bytes status text answer) [
-      | inl report ↦ (laws.sound bytes s reads, excess_said one_sketch not_both laws bytes text s request reads report.1)
-      | inr line ↦ absurd (not_refused one_sketch not_both laws bytes text s reads line.1)
-    ]
 said_about one_sketch not_both some_read laws Solve request bytes text status s answer about = solved_about one_sketch not_both Solve request bytes text status s answer refl about
 said_about one_sketch not_both some_read laws Dxf request bytes text status s answer about = solved_about one_sketch not_both Dxf request bytes text status s answer refl about
-said_about one_sketch not_both some_read laws Grow request bytes text status s answer about = solved_about one_sketch not_both Grow request bytes text status s answer refl about
+said_about one_sketch not_both some_read laws (Grow n) request bytes text status s answer about = solved_about one_sketch not_both (Grow n) request bytes text status s answer refl about
 
 -- a legal plan has a tree, whose leaves are the plan's
 pub record LegalPlans : Type 0 where
@@ -154,12 +131,12 @@ nothing_before command = refl
 
 -- a command that solves a sketch writes the check report only where the verdict isn't well
 short_placed : (command : Command) (status : Status) → IsTrue (solves command) → WritesCheckReport command status → status ≡ NotWell
-short_placed Check Done placed writes = cc
+short_placed (Tell accounts.Judged) Done placed writes = cc
 short_placed Offers Done placed writes = cc
 short_placed Plan NotWell placed writes = cc
 short_placed Solve NotWell placed writes = refl
 short_placed Dxf NotWell placed writes = refl
-short_placed Grow NotWell placed writes = refl
+short_placed (Grow n) NotWell placed writes = refl
 short_placed Flips NotWell placed writes = cc
 short_placed command status placed writes = absurd writes
 
@@ -177,7 +154,7 @@ done_offers status writes = absurd writes
 
 -- a command that writes no check report, plans nothing and solves nothing tells of parts and of excess at most
 parts_at_most : (command : Command) (request : Request) (s : Sketch) (status : Status) (text : List ℕ) → plans command ≡ false → solves command ≡ false → ((any : Status) → ¬ WritesCheckReport command any) → command ≢ Plan
-    → (command ≡ Parts → TellsParts request s text) → (command ≡ Excess → TellsExcess request s text) → Tells command request s status text
+    → (command ≡ Tell accounts.Shapes → TellsParts request s text) → (command ≡ Tell accounts.Excesses → TellsExcess request s text) → Tells command request s status text
 parts_at_most command request s status text no_plan no_solving no_report other told excess_told = record {
   clusters = λ writes. absurd (no_report status writes);
   not_well = λ planned. absurd (let clash : false ≡ true = sym no_plan ∙ planned in cc);
@@ -189,7 +166,7 @@ parts_at_most command request s status text no_plan no_solving no_report other t
   excess = excess_told;
 }
 
-nothing_told : (command : Command) (request : Request) (s : Sketch) (status : Status) (text : List ℕ) → plans command ≡ false → solves command ≡ false → ((any : Status) → ¬ WritesCheckReport command any) → command ≢ Plan → command ≢ Parts → command ≢ Excess
+nothing_told : (command : Command) (request : Request) (s : Sketch) (status : Status) (text : List ℕ) → plans command ≡ false → solves command ≡ false → ((any : Status) → ¬ WritesCheckReport command any) → command ≢ Plan → command ≢ Tell accounts.Shapes → command ≢ Tell accounts.Excesses
     → Tells command request s status text
 nothing_told command request s status text no_plan no_solving no_report other no_parts no_excess =
     parts_at_most command request s status text no_plan no_solving no_report other (λ same. absurd (no_parts same)) (λ same. absurd (no_excess same))
@@ -262,7 +239,7 @@ module _ (normal : OneNormal) (plans : LegalPlans) (law : OneJudgement) (laws : 
   judged_there answer =
       elim (told_planned request.order s status text answer) [ inl (done, (p, by, is)) ↦ (by.well.0, by.well.1) | inr (short, (j, judged, not_well, is)) ↦ (j, judged) ]
 
-  placed_tells : (command : Command) → IsTrue (solves command) → command ≢ Plan → command ≢ Parts → command ≢ Excess → IsSolvedFor command request s status text → Tells command request s status text
+  placed_tells : (command : Command) → IsTrue (solves command) → command ≢ Plan → command ≢ Tell accounts.Shapes → command ≢ Tell accounts.Excesses → IsSolvedFor command request s status text → Tells command request s status text
   placed_tells command placed other no_parts no_excess (report, of, solved) = record {
     clusters = λ writes. (let told = reported (unplaced report request s status text solved (short_placed command status placed writes)) in
         (told.0, [], nothing_before command, told.1, tells_clusters normal (graph_of s) sound told.0 told.2));
@@ -289,7 +266,7 @@ module _ (normal : OneNormal) (plans : LegalPlans) (law : OneJudgement) (laws : 
     excess = λ is. cc;
   }
 
-  checked_tells : (j : Judgement) → IsTheJudgement (graph_of s) j → text ≡ check_report s j → Tells Check request s status text
+  checked_tells : (j : Judgement) → IsTheJudgement (graph_of s) j → text ≡ check_report s j → Tells (Tell accounts.Judged) request s status text
   checked_tells j judged is = record {
     clusters = λ writes. (j, [], refl, is, tells_clusters normal (graph_of s) sound j judged);
     not_well = λ planned. cc;
@@ -330,39 +307,39 @@ module _ (normal : OneNormal) (plans : LegalPlans) (law : OneJudgement) (laws : 
     excess = λ same. cc;
   }
 
-  parts_tell : IsSoundSketch s → IsPartsReport request s text → Tells Parts request s status text
+  parts_tell : IsSoundSketch s → IsPartsReport request s text → Tells (Tell accounts.Shapes) request s status text
   parts_tell sketch report =
-      parts_at_most Parts request s status text refl refl (λ status writes. writes) other_command (λ same. parts_told normal request s text sketch report) (λ same. absurd (no_excess same))
+      parts_at_most (Tell accounts.Shapes) request s status text refl refl (λ status writes. writes) other_command (λ same. parts_told normal request s text sketch report) (λ same. absurd (no_excess same))
     where
-      other_command : Parts ≢ Plan
+      other_command : Tell accounts.Shapes ≢ Plan
       other_command same = cc
 
-      no_excess : Parts ≢ Excess
+      no_excess : Tell accounts.Shapes ≢ Tell accounts.Excesses
       no_excess same = cc
 
-  excess_tells : IsSoundSketch s → IsExcessReport request s text → Tells Excess request s status text
+  excess_tells : IsSoundSketch s → IsExcessReport request s text → Tells (Tell accounts.Excesses) request s status text
   excess_tells sketch report =
-      parts_at_most Excess request s status text refl refl (λ status writes. writes) other_command (λ same. absurd (no_parts same)) (λ same. excess_told normal request s text sketch report)
+      parts_at_most (Tell accounts.Excesses) request s status text refl refl (λ status writes. writes) other_command (λ same. absurd (no_parts same)) (λ same. excess_told normal request s text sketch report)
     where
-      other_command : Excess ≢ Plan
+      other_command : Tell accounts.Excesses ≢ Plan
       other_command same = cc
 
-      no_parts : Excess ≢ Parts
+      no_parts : Tell accounts.Excesses ≢ Tell accounts.Shapes
       no_parts same = cc
 
   pub tells : (command : Command) → IsSaid command request s status text → Tells command request s status text
-  tells Check (j, judged, is) = checked_tells j judged is
+  tells (Tell accounts.Judged) (sketch, (j, judged, is)) = checked_tells j judged is
   tells Plan (some, answer) = planned_tells some answer
   tells Offers said = offers_tells said
   tells Flips (lists, answer) = flips_tells lists answer
   tells Session said = absurd said
   tells Live said = absurd said
-  tells Migrate said = nothing_told Migrate request s status text refl refl (λ status writes. writes) (λ same. cc) (λ same. cc) (λ same. cc)
+  tells (Tell accounts.Migrated) said = nothing_told (Tell accounts.Migrated) request s status text refl refl (λ status writes. writes) (λ same. cc) (λ same. cc) (λ same. cc)
   tells Verify said = nothing_told Verify request s status text refl refl (λ status writes. writes) (λ same. cc) (λ same. cc) (λ same. cc)
-  tells Spare said = nothing_told Spare request s status text refl refl (λ status writes. writes) (λ same. cc) (λ same. cc) (λ same. cc)
-  tells Derive said = nothing_told Derive request s status text refl refl (λ status writes. writes) (λ same. cc) (λ same. cc) (λ same. cc)
-  tells Parts (sketch, report) = parts_tell sketch report
-  tells Excess (sketch, report) = excess_tells sketch report
+  tells (Tell accounts.Spares) said = nothing_told (Tell accounts.Spares) request s status text refl refl (λ status writes. writes) (λ same. cc) (λ same. cc) (λ same. cc)
+  tells (Tell accounts.Derived) said = nothing_told (Tell accounts.Derived) request s status text refl refl (λ status writes. writes) (λ same. cc) (λ same. cc) (λ same. cc)
+  tells (Tell accounts.Shapes) (sketch, report) = parts_tell sketch report
+  tells (Tell accounts.Excesses) (sketch, report) = excess_tells sketch report
   tells Solve solved = placed_tells Solve refl (λ same. cc) (λ same. cc) (λ same. cc) solved
   tells Dxf solved = placed_tells Dxf refl (λ same. cc) (λ same. cc) (λ same. cc) solved
-  tells Grow solved = placed_tells Grow refl (λ same. cc) (λ same. cc) (λ same. cc) solved
+  tells (Grow n) solved = placed_tells (Grow n) refl (λ same. cc) (λ same. cc) (λ same. cc) solved

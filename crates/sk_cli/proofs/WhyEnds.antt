@@ -18,10 +18,9 @@ use Rattle.sk_residual.specs.Tolerances.{AllHold, IsAbove, everything}
 use Rattle.sk_residual.specs.Turns.{signs, AllAsDrawn, IsTurned}
 use Rattle.sk_residual.proofs.Firsts.{first_inside}
 use Rattle.sk_residual.proofs.OneMeasured.{not_beyond}
-use Rattle.sk_cli.specs.declared.accounts.Account.{Account}
-use Rattle.sk_cli.specs.declared.accounts.Account.TheVariants.{Judged, Spares, Derived, Migrated, Shapes, Excesses}
+use Rattle.sk_request.specs.declared.Account.{Account}
 use Rattle.sk_request.specs.declared.Command.{Command}
-use Rattle.sk_request.specs.declared.Command.TheVariants.{Check, Plan, Solve, Dxf, Offers, Session, Grow, Migrate, Verify, Spare, Flips, Derive, Parts, Live, Excess}
+use Rattle.sk_request.specs.declared.Command.TheVariants.{Tell, Plan, Solve, Dxf, Offers, Session, Grow, Verify, Flips, Live}
 use Rattle.sk_lang.specs.declared.Front.{Front}
 use Rattle.sk_residual.specs.declared.Wanted.TheVariants.{Drawn}
 use Rattle.sk_solve.specs.declared.Placement.{Placement}
@@ -35,7 +34,7 @@ use Rattle.sk_cli.specs.declared.solving.Report.{Report}
 use Rattle.sk_cli.specs.declared.solving.Report.TheVariants.{Places, Drawing, Sums}
 use Rattle.sk_cli.specs.declared.status.Status.{Status}
 use Rattle.sk_cli.specs.declared.status.Status.TheVariants.{Done, Refused, Usage, NotWell, StepFault, Tolerance, NotVerified}
-use Rattle.sk_request.specs.Asking.{Asks, AreOfForm}
+use Rattle.sk_request.specs.Asking.{HasFitSize, Asks, AreOfForm}
 use Rattle.sk_request.specs.Grids.{grid_of, digits_of}
 use Rattle.sk_cli.specs.Solving.{midpoints, status_of, IsMeasured, IsPlacement}
 use Rattle.sk_cli.specs.Outcome.{IsPlanOrReport, IsSolved, IsAnswer, IsAnswerOf, IsAccountAnswer, IsOutcome}
@@ -53,7 +52,6 @@ use Rattle.sk_verify.specs.declared.failure.Failure.{Failure}
 use Rattle.sk_verify.specs.Failing.{IsAccepted, FailsFirst}
 use Rattle.sk_verify.specs.Texts.{failure_line, verified_line}
 use Rattle.sk_worklist.specs.declared.Order.{Order}
-use Rattle.sk_request.proofs.Sizes.{HasFitSize, some_injective}
 
 -- what is placed has the verdict well
 pub never_short : (q : Placement) → status_of q ≡ NotWell → ⊥
@@ -155,9 +153,8 @@ answer_about words bytes text status request outcome asks =
       | inr usage ↦ absurd (usage.0 (request, asks))
     ]
 
-pub sound_about : LowerLaws → (command : Command) (request : Request) (bytes : List ℕ) (s : Sketch) → HasFitSize request → IsSketchOf command request bytes s → IsSoundGraph (graph_of s)
-sound_about laws Grow request bytes s fit (n, size, is) =
-    let fits = fit n size in subst (λ z. IsSoundGraph (graph_of z)) (sym is) (graph_is_sound (datum_sketch n) (laws.made n fits.0 fits.1))
+pub sound_about : LowerLaws → (command : Command) (request : Request) (bytes : List ℕ) (s : Sketch) → HasFitSize command → IsSketchOf command request bytes s → IsSoundGraph (graph_of s)
+sound_about laws (Grow n) request bytes s fit is = subst (λ z. IsSoundGraph (graph_of z)) (sym is) (graph_is_sound (datum_sketch n) (laws.made n fit.0 fit.1))
 sound_about laws Offers request bytes s fit (front, reads, is) = subst (λ z. IsSoundGraph (graph_of z)) (sym is) (graph_is_sound front.sketch (laws.sound (take front.used bytes) front.sketch reads.reads))
 sound_about laws Verify request bytes s fit (front, reads, is) = subst (λ z. IsSoundGraph (graph_of z)) (sym is) (graph_is_sound front.sketch (laws.sound (take front.used bytes) front.sketch reads.reads))
 sound_about laws Flips request bytes s fit (front, lists, reads, is) =
@@ -169,15 +166,10 @@ sound_about laws command request bytes s fit reads = graph_is_sound s (laws.soun
 -- a command that solves a sketch tells of the one that it is about
 pub solved_about : OneSketch → NotBoth → (command : Command) (request : Request) (bytes text : List ℕ) (status : Status) (s : Sketch) → IsAnswerOf command request bytes status text
     → IsTrue (solves command) → IsSketchOf command request bytes s → (report : Report) × IsReportOf command report × IsSolved report request s status text
-solved_about one_sketch not_both Check request bytes text status s answer placed reads = cc
+solved_about one_sketch not_both (Tell account) request bytes text status s answer placed reads = cc
 solved_about one_sketch not_both Plan request bytes text status s answer placed reads = cc
 solved_about one_sketch not_both Offers request bytes text status s answer placed reads = cc
-solved_about one_sketch not_both Migrate request bytes text status s answer placed reads = cc
 solved_about one_sketch not_both Verify request bytes text status s answer placed about = cc
-solved_about one_sketch not_both Spare request bytes text status s answer placed reads = cc
-solved_about one_sketch not_both Derive request bytes text status s answer placed reads = cc
-solved_about one_sketch not_both Parts request bytes text status s answer placed reads = cc
-solved_about one_sketch not_both Excess request bytes text status s answer placed reads = cc
 solved_about one_sketch not_both Flips request bytes text status s answer placed about = cc
 solved_about one_sketch not_both Session request bytes text status s answer placed about = absurd about
 solved_about one_sketch not_both Live request bytes text status s answer placed about = absurd about
@@ -191,9 +183,7 @@ solved_about one_sketch not_both Dxf request bytes text status s answer placed r
       | inl (refused, line) ↦ absurd (not_both bytes s line.0.line line.0.code reads line.1)
       | inr (t, reads', solved) ↦ (Drawing, tt, subst (λ z. IsSolved Drawing request z status text) (one_sketch bytes t s reads' reads) solved)
     ]
-solved_about one_sketch not_both Grow request bytes text status s (n, size, solved) placed (m, size', is) =
-    let same : n ≡ m = some_injective (sym size ∙ size') in
-    (Sums, tt, subst (λ z. IsSolved Sums request z status text) (ap datum_sketch same ∙ sym is) solved)
+solved_about one_sketch not_both (Grow n) request bytes text status s solved placed is = (Sums, tt, subst (λ z. IsSolved Sums request z status text) (sym is) solved)
 
 module _ (law : OneJudgement) (laws : LowerLaws) (report : Report) (request : Request) (s : Sketch) (status : Status) (text : List ℕ) (solved : IsSolved report request s status text) where
   -- a status that is told of a plan has the cause that the plan's placement has
@@ -271,14 +261,9 @@ flipped_not_well law request s lists status text answer =
 
 pub not_well_about : OneSketch → NotBoth → OneJudgement → LowerLaws → (command : Command) (request : Request) (bytes text : List ℕ) (status : Status) (s : Sketch) → IsAnswerOf command request bytes status text
     → IsTrue (plans command) → IsSketchOf command request bytes s → (status ≡ NotWell) ↔ ¬ IsWell (graph_of s)
-not_well_about one_sketch not_both law laws Check request bytes text status s answer planned about = cc
+not_well_about one_sketch not_both law laws (Tell account) request bytes text status s answer planned about = cc
 not_well_about one_sketch not_both law laws Offers request bytes text status s answer planned about = cc
-not_well_about one_sketch not_both law laws Migrate request bytes text status s answer planned about = cc
 not_well_about one_sketch not_both law laws Verify request bytes text status s answer planned about = cc
-not_well_about one_sketch not_both law laws Spare request bytes text status s answer planned about = cc
-not_well_about one_sketch not_both law laws Derive request bytes text status s answer planned about = cc
-not_well_about one_sketch not_both law laws Parts request bytes text status s answer planned about = cc
-not_well_about one_sketch not_both law laws Excess request bytes text status s answer planned about = cc
 not_well_about one_sketch not_both law laws Flips request bytes text status s answer planned about =
     let told = flips_about laws request bytes text status s answer about in flipped_not_well law request s told.0 status text told.1
 not_well_about one_sketch not_both law laws Session request bytes text status s answer planned about = absurd about
@@ -292,23 +277,18 @@ not_well_about one_sketch not_both law laws Solve request bytes text status s an
     let solved = solved_about one_sketch not_both Solve request bytes text status s answer refl about in not_well_both law laws solved.0 request s status text solved.2
 not_well_about one_sketch not_both law laws Dxf request bytes text status s answer planned about =
     let solved = solved_about one_sketch not_both Dxf request bytes text status s answer refl about in not_well_both law laws solved.0 request s status text solved.2
-not_well_about one_sketch not_both law laws Grow request bytes text status s answer planned about =
-    let solved = solved_about one_sketch not_both Grow request bytes text status s answer refl about in not_well_both law laws solved.0 request s status text solved.2
+not_well_about one_sketch not_both law laws (Grow n) request bytes text status s answer planned about =
+    let solved = solved_about one_sketch not_both (Grow n) request bytes text status s answer refl about in not_well_both law laws solved.0 request s status text solved.2
 
 -- an account comes with one of two statuses
-no_other_account : (account : Account) (bytes text : List ℕ) (status : Status) → IsAccountAnswer account bytes status text → status ≢ Done → ¬ (status ≢ Refused)
-no_other_account account bytes text status answer done refused =
-    elim (told_account account bytes status text answer) [ inl told ↦ done told.0 | inr line ↦ refused line.0 ]
+no_other_account : (account : Account) (request : Request) (bytes text : List ℕ) (status : Status) → IsAccountAnswer account request bytes status text → status ≢ Done → ¬ (status ≢ Refused)
+no_other_account account request bytes text status answer done refused =
+    elim (told_account account request bytes status text answer) [ inl told ↦ done told.0 | inr line ↦ refused line.0 ]
 
 -- a status that tells neither that the command did its work nor that the input is refused, nor that a claim fails, comes only of a sketch that is planned
 planned_sketch : (command : Command) (request : Request) (bytes text : List ℕ) (status : Status) → IsAnswerOf command request bytes status text → status ≢ Done → status ≢ Refused → (command ≡ Verify → status ≢ NotVerified)
     → IsTrue (plans command) × ((s : Sketch) × IsSketchOf command request bytes s)
-planned_sketch Check request bytes text status answer done refused unless = absurd (no_other_account Judged bytes text status answer done refused)
-planned_sketch Migrate request bytes text status answer done refused unless = absurd (no_other_account Migrated bytes text status answer done refused)
-planned_sketch Spare request bytes text status answer done refused unless = absurd (no_other_account Spares bytes text status answer done refused)
-planned_sketch Derive request bytes text status answer done refused unless = absurd (no_other_account Derived bytes text status answer done refused)
-planned_sketch Parts request bytes text status answer done refused unless = absurd (no_other_account (Shapes request) bytes text status answer done refused)
-planned_sketch Excess request bytes text status answer done refused unless = absurd (no_other_account (Excesses request) bytes text status answer done refused)
+planned_sketch (Tell account) request bytes text status answer done refused unless = absurd (no_other_account account request bytes text status answer done refused)
 planned_sketch Verify request bytes text status answer done refused unless =
     elim (told_claim bytes status text answer) [
       | inl verified ↦ absurd (done verified.0)
@@ -329,7 +309,7 @@ planned_sketch Solve request bytes text status answer done refused unless =
     elim (told_solve Places request bytes status text answer) [ inl (is, line) ↦ absurd (refused is) | inr (s, reads, solved) ↦ (refl, (s, reads)) ]
 planned_sketch Dxf request bytes text status answer done refused unless =
     elim (told_solve Drawing request bytes status text answer) [ inl (is, line) ↦ absurd (refused is) | inr (s, reads, solved) ↦ (refl, (s, reads)) ]
-planned_sketch Grow request bytes text status (n, size, solved) done refused unless = (refl, (datum_sketch n, (n, size, refl)))
+planned_sketch (Grow n) request bytes text status solved done refused unless = (refl, (datum_sketch n, refl))
 
 -- and where it tells not even that the verdict isn't well, the sketch is solved
 placed_sketch : (command : Command) (request : Request) (bytes text : List ℕ) (status : Status) → IsAnswerOf command request bytes status text → status ≢ Done → status ≢ Refused → status ≢ NotVerified → status ≢ NotWell
@@ -338,14 +318,9 @@ placed_sketch command request bytes text status answer done refused fails short 
     let there = planned_sketch command request bytes text status answer done refused (λ same. fails) in (placed command answer there.0, there.1)
   where
     placed : (command : Command) → IsAnswerOf command request bytes status text → IsTrue (plans command) → IsTrue (solves command)
-    placed Check answer planned = cc
+    placed (Tell account) answer planned = cc
     placed Offers answer planned = cc
-    placed Migrate answer planned = cc
     placed Verify answer planned = cc
-    placed Spare answer planned = cc
-    placed Derive answer planned = cc
-    placed Parts answer planned = cc
-    placed Excess answer planned = cc
     placed Session answer planned = cc
     placed Live answer planned = cc
     placed Plan answer planned =
@@ -360,7 +335,7 @@ placed_sketch command request bytes text status answer done refused fails short 
         ]
     placed Solve answer planned = refl
     placed Dxf answer planned = refl
-    placed Grow answer planned = refl
+    placed (Grow n) answer planned = refl
 
 module _ (one_sketch : OneSketch) (not_both_read : NotBoth) (law : OneJudgement) (laws : LowerLaws) (command : Command) (request : Request) (bytes text : List ℕ) (status : Status) (answer : IsAnswerOf command request bytes status text) where
   pub not_well_exactly : (status ≡ NotWell) ↔ (IsTrue (plans command) × ((s : Sketch) × IsSketchOf command request bytes s × ¬ IsWell (graph_of s)))
@@ -384,7 +359,7 @@ module _ (one_sketch : OneSketch) (not_both_read : NotBoth) (law : OneJudgement)
     (λ (placed, (s, about, why)). ((both s placed about).1 why)),
   )
 
-  module _ (fit : HasFitSize request) where
+  module _ (fit : HasFitSize command) where
     pub fault_exactly : (status ≡ StepFault) ↔ (IsTrue (solves command) × ((s : Sketch) × IsSketchOf command request bytes s × ((p : ThePlan) × IsItsPlan request s p × IsFault request s p)))
     fault_exactly = placed_exactly StepFault (λ e. cc) (λ e. cc) (λ e. cc) (λ e. cc) (λ s. (p : ThePlan) × IsItsPlan request s p × IsFault request s p) (λ s placed about. (
         let solved = solved_about one_sketch not_both_read command request bytes text status s answer placed about in
@@ -399,21 +374,16 @@ module _ (one_sketch : OneSketch) (not_both_read : NotBoth) (law : OneJudgement)
 
 -- no answer is that the words aren't of the form
 no_usage : (command : Command) (request : Request) (bytes text : List ℕ) → ¬ IsAnswerOf command request bytes Usage text
-no_usage Check request bytes text answer = answer
+no_usage (Tell account) request bytes text answer = answer
 no_usage Plan request bytes text answer = answer.2
 no_usage Solve request bytes text answer = solved_told Places request answer.0 Usage text answer.2
 no_usage Dxf request bytes text answer = solved_told Drawing request answer.0 Usage text answer.2
 no_usage Offers request bytes text answer = answer
 no_usage Flips request bytes text answer = answer.3
 no_usage Session request bytes text answer = answer
-no_usage Migrate request bytes text answer = answer
 no_usage Verify request bytes text answer = answer
-no_usage Spare request bytes text answer = answer
-no_usage Derive request bytes text answer = answer
-no_usage Parts request bytes text answer = answer
 no_usage Live request bytes text answer = answer
-no_usage Excess request bytes text answer = answer
-no_usage Grow request bytes text answer = solved_told Sums request (datum_sketch answer.0) Usage text answer.2
+no_usage (Grow n) request bytes text answer = solved_told Sums request (datum_sketch n) Usage text answer
 
 pub usage_both : (words : List (List ℕ)) (bytes text : List ℕ) (status : Status) → IsOutcome words bytes status text → (status ≡ Usage) ↔ ¬ AreOfForm words
 usage_both words bytes text status (inl (request, asks, answer)) =
@@ -421,20 +391,15 @@ usage_both words bytes text status (inl (request, asks, answer)) =
 usage_both words bytes text status (inr (not_form, is, text_is)) = ((λ same. not_form), (λ other. is))
 
 refused_so : OneJudgement → LowerLaws → (command : Command) (request : Request) (bytes text : List ℕ) → IsAnswerOf command request bytes Refused text → IsRefusedInput command request bytes
-refused_so law laws Check request bytes text (r, refuses, is) = (r, refuses)
-refused_so law laws Migrate request bytes text (r, refuses, is) = (r, refuses)
+refused_so law laws (Tell account) request bytes text (r, refuses, is) = (r, refuses)
 refused_so law laws Verify request bytes text (r, at, is) = (r, at)
-refused_so law laws Spare request bytes text (r, refuses, is) = (r, refuses)
-refused_so law laws Derive request bytes text (r, refuses, is) = (r, refuses)
-refused_so law laws Parts request bytes text (r, refuses, is) = (r, refuses)
-refused_so law laws Excess request bytes text (r, refuses, is) = (r, refuses)
 refused_so law laws Plan request bytes text (r, refuses, is) = (r, refuses)
 refused_so law laws Solve request bytes text (r, refuses, is) = (r, refuses)
 refused_so law laws Dxf request bytes text (r, refuses, is) = (r, refuses)
 refused_so law laws Offers request bytes text (r, at, is) = (r, at)
 refused_so law laws Flips request bytes text (r, at, is) = (r, at)
 refused_so law laws Session request bytes text (long, is) = long
-refused_so law laws Grow request bytes text answer = absurd (solved_told Sums request (datum_sketch answer.0) Refused text answer.2)
+refused_so law laws (Grow n) request bytes text answer = absurd (solved_told Sums request (datum_sketch n) Refused text answer)
 refused_so law laws Live request bytes text (replies, (all, none, long, is)) = (
   long,
   λ (other, (front, some, over)). some (all_answered laws.reply (one_solved law laws) request bytes other replies front all over none),
@@ -452,17 +417,12 @@ late_live request bytes text Done (front, over, fits) long never = absurd (never
 late_live request bytes text Refused answer long never = refl
 late_live request bytes text status answer long never = absurd answer
 
-so_refused_account : NotBoth → (account : Account) (bytes text : List ℕ) (status : Status) → IsAccountAnswer account bytes status text → (r : Refusal) → Refuses bytes r.line r.code → status ≡ Refused
-so_refused_account not_both account bytes text status answer r refuses =
-    elim (told_account account bytes status text answer) [ inl (done, (s, reads, told)) ↦ absurd (not_both bytes s r.line r.code reads refuses) | inr refused ↦ refused.0 ]
+so_refused_account : NotBoth → (account : Account) (request : Request) (bytes text : List ℕ) (status : Status) → IsAccountAnswer account request bytes status text → (r : Refusal) → Refuses bytes r.line r.code → status ≡ Refused
+so_refused_account not_both account request bytes text status answer r refuses =
+    elim (told_account account request bytes status text answer) [ inl (done, (s, reads, told)) ↦ absurd (not_both bytes s r.line r.code reads refuses) | inr refused ↦ refused.0 ]
 
 so_refused : OneSketch → NotBoth → LowerLaws → (command : Command) (request : Request) (bytes text : List ℕ) (status : Status) → IsAnswerOf command request bytes status text → IsRefusedInput command request bytes → status ≡ Refused
-so_refused one_sketch not_both laws Check request bytes text status answer (r, refuses) = so_refused_account not_both Judged bytes text status answer r refuses
-so_refused one_sketch not_both laws Migrate request bytes text status answer (r, refuses) = so_refused_account not_both Migrated bytes text status answer r refuses
-so_refused one_sketch not_both laws Spare request bytes text status answer (r, refuses) = so_refused_account not_both Spares bytes text status answer r refuses
-so_refused one_sketch not_both laws Derive request bytes text status answer (r, refuses) = so_refused_account not_both Derived bytes text status answer r refuses
-so_refused one_sketch not_both laws Parts request bytes text status answer (r, refuses) = so_refused_account not_both (Shapes request) bytes text status answer r refuses
-so_refused one_sketch not_both laws Excess request bytes text status answer (r, refuses) = so_refused_account not_both (Excesses request) bytes text status answer r refuses
+so_refused one_sketch not_both laws (Tell account) request bytes text status answer (r, refuses) = so_refused_account not_both account request bytes text status answer r refuses
 so_refused one_sketch not_both laws Plan request bytes text status answer (r, refuses) =
     elim (told_plan request.order bytes status text answer) [ inl refused ↦ refused.0 | inr (s, reads, told) ↦ absurd (not_both bytes s r.line r.code reads refuses) ]
 so_refused one_sketch not_both laws Solve request bytes text status answer (r, refuses) =
@@ -480,7 +440,7 @@ so_refused one_sketch not_both laws Verify request bytes text status answer (r, 
 so_refused one_sketch not_both laws Flips request bytes text status answer (r, at) =
     elim (told_flips request bytes status text answer) [ inl refused ↦ refused.0 | inr (front, lists, reads, told) ↦ absurd (not_flips_and_refused laws bytes (refusal_line r) front lists reads (r, at, refl)) ]
 so_refused one_sketch not_both laws Session request bytes text status answer long = too_long request bytes text status answer long
-so_refused one_sketch not_both laws Grow request bytes text status answer refused = absurd refused
+so_refused one_sketch not_both laws (Grow n) request bytes text status answer refused = absurd refused
 so_refused one_sketch not_both laws Live request bytes text status answer (long, never) = late_live request bytes text status answer long never
 
 pub refused_both : OneSketch → NotBoth → OneJudgement → LowerLaws → (command : Command) (request : Request) (bytes text : List ℕ) (status : Status) → IsAnswerOf command request bytes status text
@@ -568,21 +528,16 @@ module _ (laws : LowerLaws) (request : Request) (bytes text : List ℕ) (status 
 
 -- no other command answers that a claim fails
 only_verify : (command : Command) (request : Request) (bytes text : List ℕ) → IsAnswerOf command request bytes NotVerified text → command ≡ Verify
-only_verify Check request bytes text answer = absurd answer
+only_verify (Tell account) request bytes text answer = absurd answer
 only_verify Plan request bytes text answer = absurd answer.2
 only_verify Solve request bytes text answer = absurd (solved_told Places request answer.0 NotVerified text answer.2)
 only_verify Dxf request bytes text answer = absurd (solved_told Drawing request answer.0 NotVerified text answer.2)
 only_verify Offers request bytes text answer = absurd answer
 only_verify Session request bytes text answer = absurd answer
-only_verify Migrate request bytes text answer = absurd answer
 only_verify Verify request bytes text answer = refl
-only_verify Spare request bytes text answer = absurd answer
 only_verify Flips request bytes text answer = absurd answer.3
-only_verify Derive request bytes text answer = absurd answer
-only_verify Parts request bytes text answer = absurd answer
 only_verify Live request bytes text answer = absurd answer
-only_verify Excess request bytes text answer = absurd answer
-only_verify Grow request bytes text answer = absurd (solved_told Sums request (datum_sketch answer.0) NotVerified text answer.2)
+only_verify (Grow n) request bytes text answer = absurd (solved_told Sums request (datum_sketch n) NotVerified text answer)
 
 pub failing_exactly : LowerLaws → (command : Command) (request : Request) (bytes text : List ℕ) (status : Status) → IsAnswerOf command request bytes status text
     → (status ≡ NotVerified) ↔ ((command ≡ Verify) × ((f : Front) × (c : Claim) × (h : Failure) × HasClaim bytes f c × FailsFirst f.sketch (graph_of f.sketch) c h))
@@ -616,17 +571,12 @@ plans_alone Plan planned other = inl refl
 plans_alone Flips planned other = inr refl
 plans_alone Solve planned other = absurd (other refl)
 plans_alone Dxf planned other = absurd (other refl)
-plans_alone Grow planned other = absurd (other refl)
-plans_alone Check planned other = cc
+plans_alone (Grow n) planned other = absurd (other refl)
+plans_alone (Tell account) planned other = cc
 plans_alone Offers planned other = cc
 plans_alone Session planned other = cc
-plans_alone Migrate planned other = cc
 plans_alone Verify planned other = cc
-plans_alone Spare planned other = cc
-plans_alone Derive planned other = cc
-plans_alone Parts planned other = cc
 plans_alone Live planned other = cc
-plans_alone Excess planned other = cc
 
 -- it does its work exactly where its input is read, and the sketch that it is about is well
 pub done_where_well : OneSketch → NotBoth → OneJudgement → LowerLaws → (command : Command) (request : Request) (bytes text : List ℕ) (status : Status) → IsAnswerOf command request bytes status text

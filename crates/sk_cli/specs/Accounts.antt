@@ -12,17 +12,30 @@ use Rattle.sk_spare.specs.Sparing.{AreSpares}
 use Rattle.sk_spare.specs.SpareReport.{spare_report}
 use Rattle.sk_derive.specs.WideReach.{IsWideNormal}
 use Rattle.sk_derive.specs.DerivedText.{derived_text}
+use Rattle.sk_request.specs.declared.Request.{Request}
 use Rattle.sk_cli.specs.PartsReport.{IsPartsReport}
 use Rattle.sk_cli.specs.ExcessReport.{IsExcessReport}
-use Rattle.sk_cli.specs.declared.accounts.Account.{Account}
-use Rattle.sk_cli.specs.declared.accounts.Account.TheVariants.{Judged, Spares, Derived, Migrated, Shapes, Excesses}
+use Rattle.sk_request.specs.declared.Account.{Account}
+use Rattle.sk_request.specs.declared.Account.TheVariants as accounts
 
--- the check report; or which constraints are spare; or the clusters of a wide normal family; or the sketch itself, in version 2;
--- or its parts and their shapes; or the parts that are over and what is too much in each
-abbrev pub IsAccount : Account → Sketch → List ℕ → Type 0
-IsAccount Judged s text = (j : Judgement) × IsTheJudgement (graph_of s) j × (text ≡ check_report s j)
-IsAccount Spares s text = (spares : List ConId) × AreSpares (graph_of s) spares × (text ≡ spare_report s spares)
-IsAccount Derived s text = (f : Clusters) × IsSound f × IsWideNormal (graph_of s) (bodies f) × (text ≡ derived_text s f)
-IsAccount Migrated s text = text ≡ canonical_2 s
-IsAccount (Shapes request) s text = IsPartsReport request s text
-IsAccount (Excesses request) s text = IsExcessReport request s text
+-- the check report
+abbrev pub IsCheckReport : Sketch → List ℕ → Type 0
+IsCheckReport s text = (j : Judgement) × IsTheJudgement (graph_of s) j × (text ≡ check_report s j)
+
+-- which constraints are spare
+abbrev pub IsSpareReport : Sketch → List ℕ → Type 0
+IsSpareReport s text = (spares : List ConId) × AreSpares (graph_of s) spares × (text ≡ spare_report s spares)
+
+-- the clusters of a wide normal family
+abbrev pub IsDerivedText : Sketch → List ℕ → Type 0
+IsDerivedText s text = (f : Clusters) × IsSound f × IsWideNormal (graph_of s) (bodies f) × (text ≡ derived_text s f)
+
+-- one of these; or the sketch itself, in version 2; or its parts and their shapes, or the parts that are over and what is too much
+-- in each, both as the request says
+abbrev pub IsAccount : Account → Request → Sketch → List ℕ → Type 0
+IsAccount accounts.Judged request s text = IsCheckReport s text
+IsAccount accounts.Migrated request s text = text ≡ canonical_2 s
+IsAccount accounts.Spares request s text = IsSpareReport s text
+IsAccount accounts.Derived request s text = IsDerivedText s text
+IsAccount accounts.Shapes request s text = IsPartsReport request s text
+IsAccount accounts.Excesses request s text = IsExcessReport request s text

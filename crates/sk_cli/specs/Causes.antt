@@ -1,5 +1,5 @@
 -- Why a call ends as it does: the sketch that it is about, its plan, and where the plan places the elements.
-use Rattle.std.specs.Prelude.{◌≡◌, ◌≢◌, ◌⊎◌, ◌<◌, ℕ, List, [], length, Contains, Bool, true, false, Some, Ok, Err}
+use Rattle.std.specs.Prelude.{◌≡◌, ◌≢◌, ◌⊎◌, ◌<◌, ℕ, List, [], length, Contains, Bool, true, false, Ok, Err}
 use Rattle.sk_base.specs.declared.Name.{Name}
 use Rattle.sk_base.specs.declared.Placed.{Placed}
 use Rattle.sk_base.specs.declared.Sketch.{Sketch}
@@ -22,7 +22,7 @@ use Rattle.sk_holding.specs.Items.{Item}
 use Rattle.sk_residual.specs.Tolerances.{AllHold, IsAbove, everything}
 use Rattle.sk_residual.specs.Turns.{signs, IsTurned}
 use Rattle.sk_request.specs.declared.Command.{Command}
-use Rattle.sk_request.specs.declared.Command.TheVariants.{Check, Plan, Solve, Dxf, Offers, Session, Grow, Migrate, Verify, Spare, Flips, Derive, Parts, Live, Excess}
+use Rattle.sk_request.specs.declared.Command.TheVariants.{Tell, Plan, Solve, Dxf, Offers, Session, Grow, Verify, Flips, Live}
 use Rattle.sk_request.specs.declared.Request.{Request}
 use Rattle.sk_cli.specs.declared.solving.Report.{Report}
 use Rattle.sk_cli.specs.declared.solving.Report.TheVariants.{Places, Drawing, Sums}
@@ -38,51 +38,41 @@ use Rattle.sk_cli.specs.VerifyAnswer.{RefusesClaimBehind}
 
 -- it plans a sketch
 abbrev pub plans : Command → Bool
-plans Check = false
+plans (Tell account) = false
 plans Plan = true
 plans Solve = true
 plans Dxf = true
 plans Offers = false
 plans Session = false
-plans Grow = true
-plans Migrate = false
+plans (Grow n) = true
 plans Verify = false
-plans Spare = false
 plans Flips = true
-plans Derive = false
-plans Parts = false
 plans Live = false
-plans Excess = false
 
 -- it ends as the plan of a sketch is placed
 abbrev pub solves : Command → Bool
-solves Check = false
+solves (Tell account) = false
 solves Plan = false
 solves Solve = true
 solves Dxf = true
 solves Offers = false
 solves Session = false
-solves Grow = true
-solves Migrate = false
+solves (Grow n) = true
 solves Verify = false
-solves Spare = false
 solves Flips = false
-solves Derive = false
-solves Parts = false
 solves Live = false
-solves Excess = false
 
 -- the report that a command writes where it places all elements
 abbrev pub IsReportOf : Command → Report → Type 0
 IsReportOf Solve Places = Unit {0}
 IsReportOf Dxf Drawing = Unit {0}
-IsReportOf Grow Sums = Unit {0}
+IsReportOf (Grow n) Sums = Unit {0}
 IsReportOf command report = ⊥
 
 -- the sketch that a command is about: the one that it makes, or what its input, or the front of it, is read as; of `flips`
 -- only where the flips behind it are read too. A session is about no one sketch, nor is `live`.
 abbrev pub IsSketchOf : Command → Request → List ℕ → Sketch → Type 0
-IsSketchOf Grow request bytes s = (n : ℕ) × (request.size ≡ Some n) × (s ≡ datum_sketch n)
+IsSketchOf (Grow n) request bytes s = s ≡ datum_sketch n
 IsSketchOf Offers request bytes s = (front : Front) × ReadsFront bytes front × (s ≡ front.sketch)
 IsSketchOf Verify request bytes s = (front : Front) × ReadsFront bytes front × (s ≡ front.sketch)
 IsSketchOf Flips request bytes s = (front : Front) × (lists : List (List Name)) × ReadsSketchAndFlips bytes front lists × (s ≡ front.sketch)
@@ -101,7 +91,7 @@ IsRefusedInput Flips request bytes = (r : Refusal) × IsRefusedAt RefusesFlipsBe
 IsRefusedInput Verify request bytes = (r : Refusal) × IsRefusedAt RefusesClaimBehind bytes r
 IsRefusedInput Session request bytes = 1048576 < length bytes
 IsRefusedInput Live request bytes = (4294967295 < length bytes) × ¬ EndsInTime request bytes
-IsRefusedInput Grow request bytes = ⊥
+IsRefusedInput (Grow n) request bytes = ⊥
 IsRefusedInput command request bytes = (r : Refusal) × Refuses bytes r.line r.code
 
 module _ (request : Request) (s : Sketch) where

@@ -35,8 +35,9 @@ use Rattle.sk_report.specs.SolveReport.{shape_report}
 use Rattle.sk_session.specs.declared.Reply.{Reply}
 use Rattle.sk_session.specs.declared.Reply.TheVariants as reply
 use Rattle.sk_session.specs.State.{State}
+use Rattle.sk_request.specs.declared.Account.TheVariants.{Judged, Shapes, Excesses}
 use Rattle.sk_request.specs.declared.Command.{Command}
-use Rattle.sk_request.specs.declared.Command.TheVariants.{Check, Plan, Solve, Dxf, Offers, Grow, Flips, Parts, Excess}
+use Rattle.sk_request.specs.declared.Command.TheVariants.{Tell, Plan, Solve, Dxf, Offers, Grow, Flips}
 use Rattle.sk_request.specs.declared.Request.{Request}
 use Rattle.sk_cli.specs.declared.solving.Report.{Report}
 use Rattle.sk_cli.specs.declared.status.Status.{Status}
@@ -70,12 +71,12 @@ IsOneSoundPart j = (length j.parts ≡ 1) × ((p : Part) → Contains j.parts p 
 
 -- a command writes the check report with this status
 abbrev pub WritesCheckReport : Command → Status → Type 0
-WritesCheckReport Check Done = Unit {0}
+WritesCheckReport (Tell Judged) Done = Unit {0}
 WritesCheckReport Offers Done = Unit {0}
 WritesCheckReport Plan NotWell = Unit {0}
 WritesCheckReport Solve NotWell = Unit {0}
 WritesCheckReport Dxf NotWell = Unit {0}
-WritesCheckReport Grow NotWell = Unit {0}
+WritesCheckReport (Grow n) NotWell = Unit {0}
 WritesCheckReport Flips NotWell = Unit {0}
 WritesCheckReport command status = ⊥
 
@@ -157,8 +158,8 @@ pub record Tells (command : Command) (request : Request) (s : Sketch) (status : 
       → (report : Report) × (p : ThePlan) × (at : Placed) × (t : Tolerance) × IsReportOf command report × HoldsAt request s p at t
       × (text ≡ report_words report (digits_of request.bits) s p at t)
   pub failure : IsTrue (solves command) → status ≢ Done → status ≢ NotWell → NamesTheFirst request s text
-  pub parts : command ≡ Parts → TellsParts request s text
-  pub excess : command ≡ Excess → TellsExcess request s text
+  pub parts : command ≡ Tell Shapes → TellsParts request s text
+  pub excess : command ≡ Tell Excesses → TellsExcess request s text
 
 -- the sketch has an element, and the command tells this of it
 abbrev pub TellsOfSome : Command → Request → Sketch → Status → List ℕ → Type 0
@@ -166,7 +167,7 @@ TellsOfSome command request s status text = (0 < length s.elements) × Tells com
 
 -- the reply to a question tells of the sketch what the command of that name does; of other replies nothing is claimed
 abbrev pub TellsAsAsked : Request → Sketch → Reply → List ℕ → Type 0
-TellsAsAsked request s (reply.Checked j) text = TellsOfSome Check request s Done text
+TellsAsAsked request s (reply.Checked j) text = TellsOfSome (Tell Judged) request s Done text
 TellsAsAsked request s (reply.Planned p) text = TellsOfSome Plan request s Done text
 TellsAsAsked request s (reply.NotWell j) text = TellsOfSome Plan request s NotWell text
 TellsAsAsked request s reply.Solve text = (status : Status) × TellsOfSome Solve request s status text

@@ -30,7 +30,7 @@ begun request = record { request = request; state = at_start request.order }
 
 -- the same settings, with `session` for their command
 abbrev pub for_session : Request → Request
-for_session request = record { command = Session; order = request.order; bits = request.bits; within = request.within; layout = request.layout; size = request.size }
+for_session request = record { command = Session; order = request.order; bits = request.bits; within = request.within; layout = request.layout }
 
 -- the line is answered with this text, and the session goes on
 abbrev pub IsSaid : Sat → List ℕ → Sat → List ℕ → Type 0

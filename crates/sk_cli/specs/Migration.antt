@@ -1,7 +1,8 @@
 -- Commands that answer the same to a sketch in either version of the language.
 use Rattle.std.specs.Prelude.{◌≡◌, ℕ, List}
+use Rattle.sk_request.specs.declared.Account.TheVariants.{Migrated}
 use Rattle.sk_request.specs.declared.Command.{Command}
-use Rattle.sk_request.specs.declared.Command.TheVariants.{Offers, Session, Grow, Migrate, Verify, Flips, Live}
+use Rattle.sk_request.specs.declared.Command.TheVariants.{Tell, Offers, Session, Grow, Verify, Flips, Live}
 use Rattle.sk_request.specs.declared.Request.{Request}
 use Rattle.sk_cli.specs.declared.status.Status.TheVariants.{Done}
 use Rattle.sk_request.specs.Asking.{Asks}
@@ -11,7 +12,7 @@ use Rattle.sk_cli.specs.Outcome.{IsOutcome}
 abbrev pub ReadsOneSketch : Command → Type 0
 ReadsOneSketch Offers = ⊥
 ReadsOneSketch Session = ⊥
-ReadsOneSketch Grow = ⊥
+ReadsOneSketch (Grow n) = ⊥
 ReadsOneSketch Verify = ⊥
 ReadsOneSketch Flips = ⊥
 ReadsOneSketch Live = ⊥
@@ -26,5 +27,5 @@ pub record IsMigrated (bytes text : List ℕ) : Type 0 where
   pub words : List (List ℕ)
   pub request : Request
   pub asks : Asks words request
-  pub migrates : request.command ≡ Migrate
+  pub migrates : request.command ≡ Tell Migrated
   pub outcome : IsOutcome words bytes Done text

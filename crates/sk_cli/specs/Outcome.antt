@@ -1,5 +1,5 @@
 -- What a call answers and writes: a status and a text.
-use Rattle.std.specs.Prelude.{◌≡◌, ◌⊎◌, ℕ, List, Some, codes}
+use Rattle.std.specs.Prelude.{◌≡◌, ◌⊎◌, ℕ, List}
 use Rattle.sk_base.specs.declared.Sketch.{Sketch}
 use Rattle.sk_lines.specs.declared.Refusal.{Refusal as OneRefusal}
 use Rattle.sk_lang.specs.Reading.{Reads, Refuses}
@@ -9,10 +9,9 @@ use Rattle.sk_plan.specs.PlanBy.{IsPlanBy}
 use Rattle.sk_gen.specs.DatumSketch.{datum_sketch}
 use Rattle.sk_report.specs.PlanReport.{plan_report}
 use Rattle.sk_report.specs.RefusalLine.{refusal_line}
-use Rattle.sk_cli.specs.declared.accounts.Account.{Account}
-use Rattle.sk_cli.specs.declared.accounts.Account.TheVariants.{Judged, Spares, Derived, Migrated, Shapes, Excesses}
+use Rattle.sk_request.specs.declared.Account.{Account}
 use Rattle.sk_request.specs.declared.Command.{Command}
-use Rattle.sk_request.specs.declared.Command.TheVariants.{Check, Plan, Solve, Dxf, Offers, Session, Grow, Migrate, Verify, Spare, Flips, Derive, Parts, Live, Excess}
+use Rattle.sk_request.specs.declared.Command.TheVariants.{Tell, Plan, Solve, Dxf, Offers, Session, Grow, Verify, Flips, Live}
 use Rattle.sk_request.specs.declared.Request.{Request}
 use Rattle.sk_cli.specs.declared.solving.Report.{Report}
 use Rattle.sk_cli.specs.declared.solving.Report.TheVariants.{Places, Drawing, Sums}
@@ -25,14 +24,12 @@ use Rattle.sk_cli.specs.LiveAnswer.{RepliesInTime, IsLiveAnswer}
 use Rattle.sk_cli.specs.OffersReport.{IsOffersAnswer}
 use Rattle.sk_cli.specs.SessionAnswer.{IsSessionAnswer, RepliesToFront}
 use Rattle.sk_cli.specs.VerifyAnswer.{IsVerifyAnswer}
+pub use Rattle.sk_request.specs.Commands.{usage_line}
 pub use Rattle.sk_cli.specs.Solved.{IsReportNotWell, IsPlacedPlan, IsSolved}
 
-abbrev pub usage_line : List ℕ
-usage_line = codes "usage: sketch check|plan|solve|dxf|offers|session|grow|migrate|verify|spare|flips|derive|parts|live|excess [order=first|last|0..65535] [bits=16|27|38] [within=1..1000000] [place=boxes|points] [frame=base|drawn] [n=3..1000]\n"
-
 -- what is told of the sketch that the text is read as
-abbrev pub IsAccountOf : Account → List ℕ → List ℕ → Type 0
-IsAccountOf account bytes text = (s : Sketch) × Reads bytes s × IsAccount account s text
+abbrev pub IsAccountOf : Account → Request → List ℕ → List ℕ → Type 0
+IsAccountOf account request bytes text = (s : Sketch) × Reads bytes s × IsAccount account request s text
 
 -- the line that names the first faulty line of the text and its code
 abbrev pub IsRefusalText : List ℕ → List ℕ → Type 0
@@ -49,10 +46,10 @@ IsPlanOrReport order s NotWell text = IsReportNotWell s text
 IsPlanOrReport order s status text = ⊥
 
 -- what `check`, `migrate`, `spare`, `derive`, `parts` and `excess` answer to an input, each with its account
-abbrev pub IsAccountAnswer : Account → List ℕ → Status → List ℕ → Type 0
-IsAccountAnswer account bytes Done text = IsAccountOf account bytes text
-IsAccountAnswer account bytes Refused text = IsRefusalText bytes text
-IsAccountAnswer account bytes status text = ⊥
+abbrev pub IsAccountAnswer : Account → Request → List ℕ → Status → List ℕ → Type 0
+IsAccountAnswer account request bytes Done text = IsAccountOf account request bytes text
+IsAccountAnswer account request bytes Refused text = IsRefusalText bytes text
+IsAccountAnswer account request bytes status text = ⊥
 
 -- what `plan` answers to an input
 abbrev pub IsPlanAnswer : Order → List ℕ → Status → List ℕ → Type 0
@@ -65,27 +62,22 @@ IsSolveAnswer report request bytes Refused text = IsRefusalText bytes text
 IsSolveAnswer report request bytes status text = (s : Sketch) × Reads bytes s × IsSolved report request s status text
 
 -- what `grow` answers: what `solve` would do with the datum sketch of that size, with the sums as its report
-abbrev pub IsGrowAnswer : Request → Status → List ℕ → Type 0
-IsGrowAnswer request status text = (n : ℕ) × (request.size ≡ Some n) × IsSolved Sums request (datum_sketch n) status text
+abbrev pub IsGrowAnswer : ℕ → Request → Status → List ℕ → Type 0
+IsGrowAnswer n request status text = IsSolved Sums request (datum_sketch n) status text
 
 -- what a command answers to an input. What `check`, `derive` and `offers` answer is the same for every order, and what
 -- `grow` answers is the same for every input.
 abbrev pub IsAnswerOf : Command → Request → List ℕ → Status → List ℕ → Type 0
-IsAnswerOf Check request bytes status text = IsAccountAnswer Judged bytes status text
+IsAnswerOf (Tell account) request bytes status text = IsAccountAnswer account request bytes status text
 IsAnswerOf Plan request bytes status text = IsPlanAnswer request.order bytes status text
 IsAnswerOf Solve request bytes status text = IsSolveAnswer Places request bytes status text
 IsAnswerOf Dxf request bytes status text = IsSolveAnswer Drawing request bytes status text
 IsAnswerOf Offers request bytes status text = IsOffersAnswer bytes status text
 IsAnswerOf Session request bytes status text = IsSessionAnswer request bytes status text
-IsAnswerOf Grow request bytes status text = IsGrowAnswer request status text
-IsAnswerOf Migrate request bytes status text = IsAccountAnswer Migrated bytes status text
+IsAnswerOf (Grow n) request bytes status text = IsGrowAnswer n request status text
 IsAnswerOf Verify request bytes status text = IsVerifyAnswer bytes status text
-IsAnswerOf Spare request bytes status text = IsAccountAnswer Spares bytes status text
 IsAnswerOf Flips request bytes status text = IsFlipsAnswer request bytes status text
-IsAnswerOf Derive request bytes status text = IsAccountAnswer Derived bytes status text
-IsAnswerOf Parts request bytes status text = IsAccountAnswer (Shapes request) bytes status text
 IsAnswerOf Live request bytes status text = IsLiveAnswer request bytes status text
-IsAnswerOf Excess request bytes status text = IsAccountAnswer (Excesses request) bytes status text
 
 abbrev pub IsAnswer : Request → List ℕ → Status → List ℕ → Type 0
 IsAnswer request bytes status text = IsAnswerOf request.command request bytes status text

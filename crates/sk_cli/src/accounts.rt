@@ -1,9 +1,7 @@
-// What is told of a sketch that is read, whatever its verdict: by `check`, `migrate`, `spare`, `derive`,
-// `parts` and `excess`.
+// The account that a command gives of a sketch that is read, whatever its verdict.
 ghost use Rattle.std.specs.Prelude.{◌<◌, length, IfOk};
 ghost use Rattle.sk_base.specs.SoundSketch.{IsSoundSketch};
-ghost use Rattle.sk_cli.specs.declared.accounts.Account.TheVariants as accounts;
-ghost use Rattle.sk_cli.specs.Accounts.{IsAccount};
+ghost use Rattle.sk_cli.specs.Accounts.{IsAccount, IsCheckReport, IsSpareReport, IsDerivedText};
 ghost use Rattle.sk_cli.specs.Outcome.{IsAccountAnswer};
 
 use crate::answer::{Answer, refused};
@@ -17,54 +15,47 @@ use sk_lang::{read_sketch, write_sketch_2};
 use sk_lines::ReadError;
 use sk_plan::judgement_of;
 use sk_report::check_text;
-use sk_request::Request;
+use sk_request::{Account, Request};
 use sk_spare::{spare, spare_text};
 use std::alloc::Global;
 
-/// What is told of a sketch that is read, whatever its verdict.
-#[derive(Clone, Copy, Debug, PartialEq, Eq)]
-pub enum Account {
-    /// The verdict, and the parts.
-    Judged,
-    /// The constraints that may go.
-    Spares,
-    /// The clusters that merging by derived angles besides leads to.
-    Derived,
-    /// The sketch itself, in the second version of the language.
-    Migrated,
-    /// The verdict, and the parts with their shapes, as the request says.
-    Shapes(Request),
-    /// The parts that are over, and what a minimal choice of each leaves out, measured as the request says.
-    Excesses(Request),
-}
-
-/// The answer to an input whose sketch is given this account of. An order of merges changes something in
-/// shapes and excesses alone, whose request gives it.
-pub fn account_of(alloc: Global, account: Account, bytes: &[u8]) -> Result<Answer, NoMemory>
-    ensures { IfOk result (λ answer. IsAccountAnswer account bytes.now answer.status answer.text) }
+/// The answer to an input whose sketch is given this account of. Of the request only shapes and excesses
+/// take something: how parts are placed.
+pub fn account_of(
+    alloc: Global,
+    account: Account,
+    request: Request,
+    bytes: &[u8],
+) -> Result<Answer, NoMemory>
+    ensures { IfOk result (λ answer. IsAccountAnswer account request bytes.now answer.status answer.text) }
 {
     match read_sketch(alloc, bytes) {
         Ok(sketch) => Ok(Answer {
             status: Status::Done,
-            text: account_text(alloc, account, &sketch)?,
+            text: account_text(alloc, account, request, &sketch)?,
         }),
         Err(ReadError::Refused(refusal)) => refused(alloc, &refusal),
         Err(ReadError::NoMemory) => Err(NoMemory),
     }
 }
 
-fn account_text(alloc: Global, account: Account, sketch: &Sketch) -> Result<Text, NoMemory>
+fn account_text(
+    alloc: Global,
+    account: Account,
+    request: Request,
+    sketch: &Sketch,
+) -> Result<Text, NoMemory>
     requires sound { IsSoundSketch sketch.now }
     requires some { 0 < length sketch.now.elements }
-    ensures { IfOk result (IsAccount account sketch.now) }
+    ensures { IfOk result (IsAccount account request sketch.now) }
 {
     match account {
         Account::Judged => judged(alloc, sketch),
         Account::Spares => spares(alloc, sketch),
         Account::Derived => derived(alloc, sketch),
         Account::Migrated => write_sketch_2(alloc, sketch),
-        Account::Shapes(request) => shapes(alloc, request, sketch),
-        Account::Excesses(request) => excesses(alloc, request, sketch),
+        Account::Shapes => shapes(alloc, request, sketch),
+        Account::Excesses => excesses(alloc, request, sketch),
     }
 }
 
@@ -72,7 +63,7 @@ fn account_text(alloc: Global, account: Account, sketch: &Sketch) -> Result<Text
 fn judged(alloc: Global, sketch: &Sketch) -> Result<Text, NoMemory>
     requires sound { IsSoundSketch sketch.now }
     requires some { 0 < length sketch.now.elements }
-    ensures { IfOk result (IsAccount accounts.Judged sketch.now) }
+    ensures { IfOk result (IsCheckReport sketch.now) }
 {
     let graph = reduce(alloc, sketch)?;
     let judgement = judgement_of(alloc, &graph)?;
@@ -82,7 +73,7 @@ fn judged(alloc: Global, sketch: &Sketch) -> Result<Text, NoMemory>
 /// The report of the sketch's spare constraints.
 fn spares(alloc: Global, sketch: &Sketch) -> Result<Text, NoMemory>
     requires { IsSoundSketch sketch.now }
-    ensures { IfOk result (IsAccount accounts.Spares sketch.now) }
+    ensures { IfOk result (IsSpareReport sketch.now) }
 {
     let graph = reduce(alloc, sketch)?;
     let spares = spare(alloc, &graph)?;
@@ -92,7 +83,7 @@ fn spares(alloc: Global, sketch: &Sketch) -> Result<Text, NoMemory>
 /// The clusters that merges by the three rules, in whatever order, lead to.
 fn derived(alloc: Global, sketch: &Sketch) -> Result<Text, NoMemory>
     requires { IsSoundSketch sketch.now }
-    ensures { IfOk result (IsAccount accounts.Derived sketch.now) }
+    ensures { IfOk result (IsDerivedText sketch.now) }
 {
     let graph = reduce(alloc, sketch)?;
     let family = derive_in_any_order(alloc, &graph)?;

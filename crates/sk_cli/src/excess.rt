@@ -87,15 +87,7 @@ fn excess(alloc: Global, request: Request, own: &Sketch) -> Result<Text, NoMemor
             graph: kept_graph,
             plan,
         } => {
-            let placement = placed(
-                alloc,
-                request.layout,
-                request.bits,
-                request.within,
-                &kept,
-                &kept_graph,
-                &plan,
-            )?;
+            let placement = placed(alloc, request, &kept, &kept_graph, &plan)?;
             placed_text(
                 alloc,
                 request,

@@ -16,7 +16,6 @@ use sk_flips::read_flips;
 use sk_interval::{G16, G27, G38};
 use sk_lang::read_sketch_front;
 use sk_lines::ReadError;
-use sk_place::Layout;
 use sk_request::{Bits, Request};
 use sk_solve::{Alternative, alternatives};
 use sk_tree::Plan;
@@ -52,16 +51,7 @@ fn flipped(
 {
     match plan_or_report(alloc, request.order, s)? {
         Planning::Planned { graph, plan } => {
-            let found = alternatives_on(
-                alloc,
-                request.layout,
-                request.bits,
-                request.within,
-                s,
-                &graph,
-                &plan,
-                lists,
-            )?;
+            let found = alternatives_on(alloc, request, s, &graph, &plan, lists)?;
             Ok(Answer {
                 status: Status::Done,
                 text: alternatives_text(alloc, s, request.bits.count(), found.as_slice())?,
@@ -74,13 +64,11 @@ fn flipped(
     }
 }
 
-/// What comes of each list of steps on the grid of so many binary digits, where no tolerance may be
-/// more than the limit.
+/// What comes of each list of steps, in the layout and on the grid of the request, where no tolerance may
+/// be more than its limit.
 fn alternatives_on(
     alloc: Global,
-    layout: Layout,
-    bits: Bits,
-    limit: u64,
+    request: Request,
     s: &Sketch,
     g: &Graph,
     p: &Plan,
@@ -89,12 +77,28 @@ fn alternatives_on(
     requires sketch { IsSoundSketch s.now }
     requires graph { g.now ≡ graph_of s.now }
     requires legal { IsLegalPlan g.now p.now }
-    ensures { IfOk result (AreAlternatives (grid_of bits) layout (digits_of bits) limit s.now p.now lists.now) }
+    ensures { IfOk result (AreAlternatives (grid_of request.bits) request.layout (digits_of request.bits) request.within s.now p.now lists.now) }
 {
-    match bits {
-        Bits::Sixteen => alternatives::<G16>(alloc, layout, s, g, p, lists, limit),
-        Bits::TwentySeven => alternatives::<G27>(alloc, layout, s, g, p, lists, limit),
-        Bits::ThirtyEight => alternatives::<G38>(alloc, layout, s, g, p, lists, limit),
+    match request.bits {
+        Bits::Sixteen => alternatives::<G16>(alloc, request.layout, s, g, p, lists, request.within),
+        Bits::TwentySeven => alternatives::<G27>(
+            alloc,
+            request.layout,
+            s,
+            g,
+            p,
+            lists,
+            request.within,
+        ),
+        Bits::ThirtyEight => alternatives::<G38>(
+            alloc,
+            request.layout,
+            s,
+            g,
+            p,
+            lists,
+            request.within,
+        ),
     }
 }
 

@@ -1,5 +1,5 @@
 // The command `grow`.
-ghost use Rattle.std.specs.Prelude.{◌≡◌, ◌≤◌, ℕ, Some, IfOk};
+ghost use Rattle.std.specs.Prelude.{◌≤◌, IfOk};
 ghost use Rattle.sk_cli.specs.Outcome.{IsGrowAnswer};
 
 use crate::answer::Answer;
@@ -9,16 +9,12 @@ use sk_gen::datum_sketch;
 use sk_request::Request;
 use std::alloc::Global;
 
-/// The answer of `grow`.
-pub fn grow(alloc: Global, request: Request) -> Result<Answer, NoMemory>
-    requires { (n : ℕ) × (request.size ≡ Some n) × (3 ≤ n) × (n ≤ 1000) }
-    ensures { IfOk result (λ answer. IsGrowAnswer request answer.status answer.text) }
+/// The answer of `grow` for a sketch of `n` elements.
+pub fn grow(alloc: Global, n: u32, request: Request) -> Result<Answer, NoMemory>
+    requires some { 3 ≤ n }
+    requires few { n ≤ 1000 }
+    ensures { IfOk result (λ answer. IsGrowAnswer n request answer.status answer.text) }
 {
-    match request.size {
-        Some(n) => {
-            let sketch = datum_sketch(alloc, n)?;
-            solved(alloc, request, Report::Sums, &sketch)
-        }
-        None => unreachable!(),
-    }
+    let sketch = datum_sketch(alloc, n)?;
+    solved(alloc, request, Report::Sums, &sketch)
 }

@@ -30,6 +30,7 @@ ghost use Rattle.sk_request.specs.declared.Request.{Request};
 ghost use Rattle.sk_cli.specs.declared.status.Status.{Status};
 ghost use Rattle.sk_request.specs.Asking.{Asks, AreOfForm};
 ghost use Rattle.sk_request.specs.declared.Command.{Command};
+ghost use Rattle.sk_request.specs.declared.Account.TheVariants.{Excesses};
 ghost use Rattle.sk_cli.specs.Headline.{Tells, TellsAsAsked, RepliesNext, RepliesNextLive, HoldsAt};
 ghost use Rattle.sk_cli.specs.PrintedClaim.{printed_text, printed_claim};
 ghost use Rattle.sk_lang.specs.Front.{ReadsFront};
@@ -214,7 +215,7 @@ pub fn shapes_are_as_solved()
     ensures kept { (request : Request) (own : Sketch) (text : List ℕ) → IsSoundSketch own → IsExcess request own text
         → (left : List ConId) × AreLeftOut (graph_of own) left × IsByKept request own left text }
     ensures fit { (words : List (List ℕ)) (bytes text : List ℕ) (status : Status) (request : Request) (s : Sketch) → IsOutcome words bytes status text → Asks words request
-        → request.command ≡ Command.Excess → Reads bytes s → FitWhereRepeated request s text }
+        → request.command ≡ Command.Tell Excesses → Reads bytes s → FitWhereRepeated request s text }
     ensures once { (s : Sketch) (j : Judgement) (p q : Part) (of_p of_q : List ConId) (k : ConId) → IsSoundSketch s → IsTheJudgement (graph_of s) j → Contains j.parts p → Contains j.parts q
         → AreLeftOut (graph_of (part_sketch s p.elements)) of_p → AreLeftOut (graph_of (part_sketch s q.elements)) of_q → Contains of_p k → Contains of_q k → p ≡ q }
     ensures weighs { (s : Sketch) (j : Judgement) (p : Part) (left : List ConId) → IsSoundSketch s → IsTheJudgement (graph_of s) j → Contains j.parts p

@@ -22,7 +22,6 @@ mod solving;
 mod status;
 mod top;
 
-pub use accounts::Account;
 pub use alternative::alternative_text;
 pub use law::{
     causes, first_replies_are_a_front, headline, live_answers_as_session, migrated_reads_the_same,

@@ -51,15 +51,7 @@ impl Replier for Sitting {
         if !goes_on(&reply) {
             return Ok(None);
         }
-        let text = reply_text(
-            self.alloc,
-            self.session.sketch(),
-            &reply,
-            self.request.order,
-            self.request.bits,
-            self.request.within,
-            self.request.layout,
-        )?;
+        let text = reply_text(self.alloc, self.request, self.session.sketch(), &reply)?;
         Ok(Some(text))
     }
 }

@@ -8,20 +8,17 @@ ghost use Rattle.sk_cli.specs.Solving.{IsPlacement, LiesWithinBounds};
 
 use sk_base::{Graph, NoMemory, Sketch};
 use sk_interval::{G16, G27, G38};
-use sk_place::Layout;
-use sk_request::Bits;
+use sk_request::{Bits, Request};
 use sk_residual::Wanted;
 use sk_solve::{Placement, placed_on};
 use sk_tree::Plan;
 use std::alloc::Global;
 
-/// How the plan of the sketch is placed on the grid of so many binary digits, where no tolerance may
-/// be more than the limit.
+/// How the plan of the sketch is placed, in the layout and on the grid of the request, where no tolerance
+/// may be more than its limit.
 pub(crate) fn placed(
     alloc: Global,
-    layout: Layout,
-    bits: Bits,
-    limit: u64,
+    request: Request,
     s: &Sketch,
     g: &Graph,
     p: &Plan,
@@ -29,12 +26,36 @@ pub(crate) fn placed(
     requires sketch { IsSoundSketch s.now }
     requires graph { g.now ≡ graph_of s.now }
     requires legal { IsLegalPlan g.now p.now }
-    ensures placement { IfOk result (IsPlacement (grid_of bits) layout (digits_of bits) limit s.now p.now) }
+    ensures placement { IfOk result (IsPlacement (grid_of request.bits) request.layout (digits_of request.bits) request.within s.now p.now) }
     ensures bounded { IfOk result LiesWithinBounds }
 {
-    match bits {
-        Bits::Sixteen => placed_on::<G16>(alloc, layout, Wanted::Drawn, limit, s, g, p),
-        Bits::TwentySeven => placed_on::<G27>(alloc, layout, Wanted::Drawn, limit, s, g, p),
-        Bits::ThirtyEight => placed_on::<G38>(alloc, layout, Wanted::Drawn, limit, s, g, p),
+    match request.bits {
+        Bits::Sixteen => placed_on::<G16>(
+            alloc,
+            request.layout,
+            Wanted::Drawn,
+            request.within,
+            s,
+            g,
+            p,
+        ),
+        Bits::TwentySeven => placed_on::<G27>(
+            alloc,
+            request.layout,
+            Wanted::Drawn,
+            request.within,
+            s,
+            g,
+            p,
+        ),
+        Bits::ThirtyEight => placed_on::<G38>(
+            alloc,
+            request.layout,
+            Wanted::Drawn,
+            request.within,
+            s,
+            g,
+            p,
+        ),
     }
 }

@@ -2,63 +2,41 @@
 ghost use Rattle.std.specs.Prelude.{◌≡◌, ◌≢◌, ◌<◌, length, IfOk};
 ghost use Rattle.sk_base.specs.SoundSketch.{IsSoundSketch};
 ghost use Rattle.sk_session.specs.declared.Reply.TheVariants as a_reply;
-ghost use Rattle.sk_cli.specs.SessionAnswer.{IsReplyText};
+ghost use Rattle.sk_cli.specs.SessionAnswer.{IsReplyText, settings_of};
 ghost use Rattle.sk_cli.specs.Told.{told};
 
 use crate::solving::{Report, solved};
 use sk_base::{NoMemory, Sketch, Text};
 use sk_lang::write_sketch;
-use sk_place::Layout;
 use sk_report::{check_text, code_text, constrained_text, declared_text, done_text, plan_text};
-use sk_request::{Bits, Command, Request};
+use sk_request::{Command, Request};
 use sk_session::Reply;
-use sk_worklist::Order;
 use std::alloc::Global;
 
-/// The text of a reply. The sketch is the session's after the line, and the order, the grid, the
-/// limit, in nanometres and in parts per 10^9, and what places are, are those of its words.
-pub fn reply_text(
-    alloc: Global,
-    s: &Sketch,
-    r: &Reply,
-    order: Order,
-    bits: Bits,
-    within: u64,
-    layout: Layout,
-) -> Result<Text, NoMemory>
+/// The text of a reply. The sketch is the session's after the line, and the request says how it is merged,
+/// placed and measured.
+pub fn reply_text(alloc: Global, request: Request, s: &Sketch, r: &Reply) -> Result<Text, NoMemory>
     requires sound { IsSoundSketch s.now }
     requires some { r.now ≡ a_reply.Solve → 0 < length s.now.elements }
-    ensures { IfOk result (IsReplyText order bits within layout s.now r.now) }
+    ensures { IfOk result (IsReplyText (settings_of request) s.now r.now) }
 {
     match r {
-        Reply::Solve => solve_text(alloc, s, order, bits, within, layout),
+        Reply::Solve => solve_text(alloc, request, s),
         _ => told_text(alloc, s, r),
     }
 }
 
 /// What `solve` writes for the sketch.
-fn solve_text(
-    alloc: Global,
-    s: &Sketch,
-    order: Order,
-    bits: Bits,
-    within: u64,
-    layout: Layout,
-) -> Result<Text, NoMemory>
+fn solve_text(alloc: Global, request: Request, s: &Sketch) -> Result<Text, NoMemory>
     requires sound { IsSoundSketch s.now }
     requires some { 0 < length s.now.elements }
-    ensures { IfOk result (IsReplyText order bits within layout s.now a_reply.Solve) }
+    ensures { IfOk result (IsReplyText (settings_of request) s.now a_reply.Solve) }
 {
-    let request = Request {
+    let solve = Request {
         command: Command::Solve,
-        order,
-        bits,
-        within,
-        layout,
-        size: None,
+        ..request
     };
-    let answer = solved(alloc, request, Report::Places, s)?;
-    Ok(answer.text)
+    Ok(solved(alloc, solve, Report::Places, s)?.text)
 }
 
 /// The text of a reply, but of that to `solve`. The sketch is the session's after the line.

@@ -69,15 +69,7 @@ fn reply_to<K: Sink>(
         → (K.faults sink.new ≡ K.faults sink.old) × (IsErrOf result Status.WriteFault → ⊥) }
 {
     let reply = session.command(line)?;
-    let text = reply_text(
-        alloc,
-        session.sketch(),
-        &reply,
-        request.order,
-        request.bits,
-        request.within,
-        request.layout,
-    )?;
+    let text = reply_text(alloc, request, session.sketch(), &reply)?;
     match write_all(sink, text.as_bytes()) {
         Ok(()) => Ok(goes_on(&reply)),
         Err(_) => Err(Status::WriteFault),

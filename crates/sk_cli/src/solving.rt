@@ -46,15 +46,7 @@ pub(crate) fn solved(
 {
     match plan_or_report(alloc, request.order, s)? {
         Planning::Planned { graph, plan } => {
-            let placement = placed(
-                alloc,
-                request.layout,
-                request.bits,
-                request.within,
-                s,
-                &graph,
-                &plan,
-            )?;
+            let placement = placed(alloc, request, s, &graph, &plan)?;
             Ok(Answer {
                 status: status_of(&placement),
                 text: placement_text(alloc, report, request.bits.count(), s, &plan, &placement)?,

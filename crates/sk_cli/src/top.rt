@@ -3,12 +3,12 @@ ghost use Rattle.std.specs.Prelude.{◌≡◌, ◌↔◌, ◌<◌, ◌≤◌, �
 ghost use Rattle.std.specs.Io.KnownBytes.{Appends};
 ghost use Rattle.sk_io.specs.Causes.{AnswersFault};
 ghost use Rattle.sk_io.specs.Transfer.{TakesUpTo, TakesAtMost};
-ghost use Rattle.sk_request.specs.Asking.{Asks, TakesInput, AskForInput};
+ghost use Rattle.sk_request.specs.Asking.{Asks, HasFitSize, TakesInput, AskForInput};
 ghost use Rattle.sk_cli.specs.Outcome.{IsAnswer, IsWritten};
 ghost use Rattle.sk_cli.specs.Ending.{IsTold, AskForLive, Ends, HasInput, Sends};
 ghost use Rattle.sk_cli.specs.LiveEnding.{LiveTakes};
 
-use crate::accounts::{Account, account_of};
+use crate::accounts::account_of;
 use crate::answer::{Answer, TOO_LONG, refused};
 use crate::claims::claimed;
 use crate::flips::flips;
@@ -130,25 +130,20 @@ fn asks_for_session(request: Request, bytes: &[u8]) -> bool
 /// The answer to an input that is taken whole, but to that of a session.
 fn answer(alloc: Global, request: Request, bytes: &[u8]) -> Result<Answer, NoMemory>
     requires whole { request.command ≡ Command.Live → ⊥ }
-    requires size { request.command ≡ Command.Grow → (n : ℕ) × (request.size ≡ Some n) × (3 ≤ n) × (n ≤ 1000) }
+    requires size { HasFitSize request.command }
     requires long { request.command ≡ Command.Session → 1048576 < length bytes.now }
     ensures { IfOk result (λ answer. IsAnswer request bytes.now answer.status answer.text) }
 {
     match request.command {
-        Command::Check => account_of(alloc, Account::Judged, bytes),
+        Command::Tell(account) => account_of(alloc, account, request, bytes),
         Command::Plan => plan(alloc, request.order, bytes),
         Command::Solve => solve(alloc, request, Report::Places, bytes),
         Command::Dxf => solve(alloc, request, Report::Drawing, bytes),
         Command::Offers => offers(alloc, request.order, bytes),
         Command::Session | Command::Live => refused(alloc, &TOO_LONG),
-        Command::Grow => grow(alloc, request),
-        Command::Migrate => account_of(alloc, Account::Migrated, bytes),
+        Command::Grow(n) => grow(alloc, n, request),
         Command::Verify => claimed(alloc, bytes),
-        Command::Spare => account_of(alloc, Account::Spares, bytes),
         Command::Flips => flips(alloc, request, bytes),
-        Command::Derive => account_of(alloc, Account::Derived, bytes),
-        Command::Parts => account_of(alloc, Account::Shapes(request), bytes),
-        Command::Excess => account_of(alloc, Account::Excesses(request), bytes),
     }
 }
 

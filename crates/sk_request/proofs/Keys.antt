@@ -1,7 +1,7 @@
 -- Keys that are read one after another.
-use Rattle.std.proofs.Common.{◌≡◌, ℕ, ◌+◌, ◌<◌, List, [], ◌∷◌, ◌++◌, length, get_or, take, drop, ap, sym, subst, ◌∙◌}
-use Rattle.std.specs.Prelude.{map, Option, Some, None, IfNone, unwrap_or}
-use Rattle.std.proofs.lemmas.List.Elements.{All-nil, All-cons, All-contains, All-append, Contains-append_right}
+use Rattle.std.proofs.Common.{◌≡◌, ◌≢◌, ℕ, ◌+◌, ◌<◌, List, [], ◌∷◌, ◌++◌, length, get_or, take, drop, refl, ap, sym, subst, ◌∙◌}
+use Rattle.std.specs.Prelude.{map, Bool, true, false, Option, Some, None, IfNone, IsSome, IsTrue, unwrap_or, codes, All}
+use Rattle.std.proofs.lemmas.List.Elements.{All-nil, All-cons, All-head, All-tail, All-weaker, All-contains, All-append, Contains-append_right}
 use Rattle.std.proofs.lemmas.List.{take_more, drop_more, map-append, take-append-drop}
 use Rattle.sk_base.proofs.Members.{contains_head}
 use Rattle.sk_worklist.specs.declared.Order.{Order}
@@ -13,12 +13,48 @@ use Rattle.sk_place.specs.declared.PlaceBy.TheVariants.{Boxes}
 use Rattle.sk_request.specs.declared.bits.Bits.{Bits}
 use Rattle.sk_request.specs.declared.bits.Bits.TheVariants.{ThirtyEight}
 use Rattle.sk_request.specs.declared.command.Command.{Command}
+use Rattle.sk_request.specs.declared.command.Command.TheVariants.{Grow}
+use Rattle.sk_request.specs.declared.command.Traits.{Traits}
+use Rattle.sk_request.specs.Commands.{command_word}
 use Rattle.sk_request.specs.declared.request.Request.{Request}
 use Rattle.sk_request.specs.declared.settings.Settings.{Settings}
-use Rattle.sk_request.specs.Asking.{OrderKey, BitsKey, WithinKey, PlaceKey, FrameKey, SizeKey, key_name, behind, values_of, IsKeyOf, IsOrder, IsBits, IsLimit, IsPlace, IsFrame, IsSize, IsSet, HasSize, Says, HasKeys}
+use Rattle.sk_request.specs.Asking.{Key, OrderKey, BitsKey, WithinKey, PlaceKey, FrameKey, SizeKey, key_name, orders_by, places_by, traits, makes, takes, behind, values_of, IsKeyOf, IsOrder, IsBits, IsLimit, IsPlace, IsFrame, IsSize, IsSet, size_of, IsSized, LacksSize, Says, HasKeys}
 use Rattle.sk_request.specs.Settings.{AreSet, Adds}
 use Rattle.sk_request.proofs.KeyValues.{values_more, set_more, set_back, set_back_alone, said, one_set}
 use Rattle.sk_request.proofs.Numbers.{one_size}
+use Rattle.sk_request.proofs.CommandWords.{same_traits, unmade_size, made_size}
+use Rattle.sk_request.proofs.WithinKeys.{apart}
+
+-- commands of one word take the same keys
+same_takes : (c d : Command) → traits c ≡ traits d → (key : Key) → takes c key ≡ takes d key
+same_takes c d same OrderKey = ap (λ (t : Traits). orders_by t.keys) same
+same_takes c d same BitsKey = ap (λ (t : Traits). places_by t.keys) same
+same_takes c d same WithinKey = ap (λ (t : Traits). places_by t.keys) same
+same_takes c d same PlaceKey = ap (λ (t : Traits). places_by t.keys) same
+same_takes c d same FrameKey = ap (λ (t : Traits). places_by t.keys) same
+same_takes c d same SizeKey = ap (λ (t : Traits). t.makes) same
+
+pub same_keys : (c d : Command) → command_word c ≡ command_word d → (word : List ℕ) → IsKeyOf c word → IsKeyOf d word
+same_keys c d same word (key, taken, some) = (key, sym (same_takes c d (same_traits c d same) key) ∙ taken, some)
+
+-- a word that begins with the name of another key gives no size
+no_size_behind : (key : Key) (word : List ℕ) (found : Option (List ℕ)) → behind (key_name key) word ≡ found → IsSome found → key ≢ SizeKey → behind (codes "n=") word ≡ None
+no_size_behind key word None is some other = cc
+no_size_behind OrderKey word (Some value) is some other = apart 111 110 (codes "rder=") (codes "=") word value refl is
+no_size_behind BitsKey word (Some value) is some other = apart 98 110 (codes "its=") (codes "=") word value refl is
+no_size_behind WithinKey word (Some value) is some other = apart 119 110 (codes "ithin=") (codes "=") word value refl is
+no_size_behind PlaceKey word (Some value) is some other = apart 112 110 (codes "lace=") (codes "=") word value refl is
+no_size_behind FrameKey word (Some value) is some other = apart 102 110 (codes "rame=") (codes "=") word value refl is
+no_size_behind SizeKey word (Some value) is some other = absurd (other refl)
+
+-- the keys of a command that doesn't make its sketch give none
+no_sizes : (command : Command) → makes command ≡ false → (words : List (List ℕ)) → All (λ word. IsKeyOf command word) words → values_of SizeKey words ≡ []
+no_sizes command unmade [] known = refl
+no_sizes command unmade (word ∷ words) known =
+    let key = All-head (λ w. IsKeyOf command w) word words known in
+    let other : key.0 ≢ SizeKey = λ is. (let made : makes command ≡ true = subst (λ k. takes command k ≡ true) is key.1 in let clash : true ≡ false = sym made ∙ unmade in cc) in
+    let none = no_size_behind key.0 word (behind (key_name key.0) word) refl key.2 other in
+    rw none (no_sizes command unmade words (All-tail (λ w. IsKeyOf command w) word words known))
 
 -- one word more
 pub set_step : (command : Command) (words : List (List ℕ)) (word : List ℕ) (before after : Settings) → AreSet command words before → Adds command word before after → AreSet command (words ++ word ∷ []) after
@@ -34,7 +70,7 @@ set_step command words word before after set adds = record {
 
 -- a word that adds nothing stands in no words that are asked with
 pub no_request : (command : Command) (words : List (List ℕ)) (word : List ℕ) (rest : List (List ℕ)) (before : Settings) → AreSet command words before
-    → ((after : Settings) → Adds command word before after → ⊥) → (request : Request) → request.command ≡ command → HasKeys (words ++ word ∷ rest) request → ⊥
+    → ((after : Settings) → Adds command word before after → ⊥) → (request : Request) → command_word request.command ≡ command_word command → HasKeys (words ++ word ∷ rest) request → ⊥
 no_request command words word rest before set none request is keys =
     let P : List ℕ → Type 0 = λ w. IsKeyOf request.command w in
     let known = All-contains P (words ++ word ∷ rest) word keys.known (Contains-append_right words (word ∷ rest) word (contains_head word rest)) in
@@ -48,31 +84,44 @@ no_request command words word rest before set none request is keys =
     (subst (λ vs. Says IsFrame Base vs request.layout.frame) (values_more FrameKey words word rest) keys.frame) set.frame in
     let place = set_back IsPlace Boxes request.layout.by (values_of PlaceKey words) (behind (key_name PlaceKey) word) (values_of PlaceKey rest) before.place
     (subst (λ vs. Says IsPlace Boxes vs request.layout.by) (values_more PlaceKey words word rest) keys.place) set.place in
-    let size = set_back_alone IsSize request.size (values_of SizeKey words) (behind (key_name SizeKey) word) (values_of SizeKey rest) before.size
-    (subst (λ vs. IsSet IsSize vs request.size) (values_more SizeKey words word rest) keys.size) set.size in
+    let size = set_back_alone IsSize (size_of request.command) (values_of SizeKey words) (behind (key_name SizeKey) word) (values_of SizeKey rest) before.size
+    (subst (λ vs. IsSet IsSize vs (size_of request.command)) (values_more SizeKey words word rest) keys.size) set.size in
     none (record { order = order.0; bits = bits.0; within = within.0; place = place.0; frame = frame.0; size = size.0 })
-    (record { known = subst (λ c. IsKeyOf c word) is known; order = order.1; bits = bits.1; within = within.1; place = place.1; frame = frame.1; size = size.1 })
+    (record { known = same_keys request.command command is word known; order = order.1; bits = bits.1; within = within.1; place = place.1; frame = frame.1; size = size.1 })
+
+-- a command with its size is of the same word
+pub sized_word : (named sized : Command) (size : Option ℕ) → IsSized named size sized → command_word named ≡ command_word sized
+sized_word (Grow m) sized size (n, is, same) = ap command_word (sym same)
+sized_word named sized size same = ap command_word (sym same)
+
+sized_set : (named sized : Command) (values : List (List ℕ)) (size : Option ℕ) → (makes named ≡ false → values ≡ []) → IsSet IsSize values size → IsSized named size sized → IsSet IsSize values (size_of sized)
+sized_set (Grow m) sized values size none set (n, is, same) = subst (λ c. IsSet IsSize values (size_of c)) (sym same) (subst (λ s. IsSet IsSize values s) is set)
+sized_set named sized values size none set same =
+    subst (λ c. IsSet IsSize values (size_of c)) (sym same) (subst (λ vs. IsSet IsSize vs None) (sym (none refl)) tt)
 
 -- what the words set is what they say
-pub keys_of : (command : Command) (words : List (List ℕ)) (settings : Settings) (order : Order) (bits : Bits) (within : ℕ) (place : PlaceBy) (frame : FrameBy) → AreSet command words settings
-    → order ≡ unwrap_or settings.order First → bits ≡ unwrap_or settings.bits ThirtyEight → within ≡ unwrap_or settings.within 1000 → place ≡ unwrap_or settings.place Boxes → frame ≡ unwrap_or settings.frame Base → HasSize command settings.size
-    → HasKeys words (record { command = command; order = order; bits = bits; within = within; layout = record { by = place; frame = frame }; size = settings.size })
-keys_of command words settings order bits within place frame set order_is bits_is within_is place_is frame_is sized = record {
-  known = set.known;
+pub keys_of : (named command : Command) (words : List (List ℕ)) (settings : Settings) (order : Order) (bits : Bits) (within : ℕ) (place : PlaceBy) (frame : FrameBy) → AreSet named words settings
+    → order ≡ unwrap_or settings.order First → bits ≡ unwrap_or settings.bits ThirtyEight → within ≡ unwrap_or settings.within 1000 → place ≡ unwrap_or settings.place Boxes → frame ≡ unwrap_or settings.frame Base
+    → IsSized named settings.size command → HasKeys words (record { command = command; order = order; bits = bits; within = within; layout = record { by = place; frame = frame } })
+keys_of named command words settings order bits within place frame set order_is bits_is within_is place_is frame_is sized = record {
+  known = All-weaker (λ w. IsKeyOf named w) (λ w. IsKeyOf command w) (same_keys named command (sized_word named command settings.size sized)) words set.known;
   order = subst (λ o. Says IsOrder First (values_of OrderKey words) o) (sym order_is) (said IsOrder First (values_of OrderKey words) settings.order set.order);
   bits = subst (λ o. Says IsBits ThirtyEight (values_of BitsKey words) o) (sym bits_is) (said IsBits ThirtyEight (values_of BitsKey words) settings.bits set.bits);
   within = subst (λ o. Says IsLimit 1000 (values_of WithinKey words) o) (sym within_is) (said IsLimit 1000 (values_of WithinKey words) settings.within set.within);
   place = subst (λ o. Says IsPlace Boxes (values_of PlaceKey words) o) (sym place_is) (said IsPlace Boxes (values_of PlaceKey words) settings.place set.place);
   frame = subst (λ o. Says IsFrame Base (values_of FrameKey words) o) (sym frame_is) (said IsFrame Base (values_of FrameKey words) settings.frame set.frame);
-  size = set.size;
-  sized = sized;
+  size = sized_set named command (values_of SizeKey words) settings.size (λ unmade. no_sizes named unmade words set.known) set.size sized;
 }
 
 -- where no size is set, the words don't ask for what needs one
-pub no_size : (command : Command) (words : List (List ℕ)) (settings : Settings) → AreSet command words settings → ¬ HasSize command settings.size
-    → (request : Request) → request.command ≡ command → HasKeys words request → ⊥
-no_size command words settings set none request is keys =
-    none (rw (one_set IsSize one_size (values_of SizeKey words) settings.size request.size set.size keys.size, sym is) keys.sized)
+pub no_size : (named : Command) (words : List (List ℕ)) (settings : Settings) → AreSet named words settings → LacksSize named settings.size
+    → (request : Request) → command_word request.command ≡ command_word named → HasKeys words request → ⊥
+no_size (Grow m) words settings set lacks request is keys =
+    let made = made_size request.command (ap (λ (t : Traits). t.makes) (same_traits request.command (Grow m) is)) in
+    let size : Some made.0 ≡ None =
+    ap size_of (sym made.1) ∙ sym (one_set IsSize one_size (values_of SizeKey words) settings.size (size_of request.command) set.size keys.size) ∙ lacks in
+    cc
+no_size named words settings set lacks request is keys = absurd lacks
 
 -- where a loop over the words stands
 module _ {X : Type 0} (bytes : X → List ℕ) (xs : List X) (i : ℕ) (x : X) (within : i < length xs) (is : x ≡ get_or xs i x) where

@@ -2,7 +2,7 @@
 use Rattle.std.proofs.Common.{◌≡◌, ◌⊎◌, inl, inr, refl, ℕ, zero, suc, ◌≤◌, Bool, true, false, List, [], ◌∷◌, Option, None, Some, ap, sym, subst, ◌∙◌, arith}
 use Rattle.std.specs.Prelude.{All, Contains, IsTrue, IsSome, is_some, codes}
 use Rattle.std.specs.Fmt.{decimal}
-use Rattle.std.proofs.lemmas.Bool.{cases_lt}
+use Rattle.std.proofs.lemmas.Bool.{cases_lt, cases_Bool}
 use Rattle.sk_base.proofs.Members.{nat_settles, list_settles}
 use Rattle.sk_worklist.specs.declared.Order.{Order}
 use Rattle.sk_worklist.specs.declared.Order.TheVariants.{First, Last, Stride}
@@ -13,10 +13,14 @@ use Rattle.sk_place.specs.declared.PlaceBy.TheVariants.{Boxes, Points}
 use Rattle.sk_request.specs.declared.bits.Bits.{Bits}
 use Rattle.sk_request.specs.declared.bits.Bits.TheVariants.{Sixteen, TwentySeven, ThirtyEight}
 use Rattle.sk_request.specs.declared.command.Command.{Command}
-use Rattle.sk_request.specs.declared.command.Command.TheVariants.{Check, Plan, Solve, Dxf, Offers, Session, Grow, Migrate, Verify, Spare, Flips, Derive, Parts, Live, Excess}
+use Rattle.sk_request.specs.declared.command.Command.TheVariants.{Grow}
+use Rattle.sk_request.specs.declared.command.Traits.{Traits}
 use Rattle.sk_request.specs.declared.request.Request.{Request}
-use Rattle.sk_request.specs.Commands.{command_word}
-use Rattle.sk_request.specs.Asking.{Key, OrderKey, BitsKey, WithinKey, PlaceKey, FrameKey, SizeKey, key_name, takes, behind, values_of, IsKeyOf, IsNumber, IsOrder, IsBits, IsLimit, IsPlace, IsFrame, IsSize, Says, IsSet, HasSize, HasKeys, AreOfForm}
+use Rattle.sk_request.specs.Commands.{command_word, commands, named}
+use Rattle.sk_request.proofs.CommandWords.{command_listed, named_word, same_traits, unmade_size, made_size}
+use Rattle.sk_request.specs.Asking.{Key, OrderKey, BitsKey, WithinKey, PlaceKey, FrameKey, SizeKey, key_name, makes, takes, behind, values_of, IsKeyOf, IsNumber, IsOrder, IsBits, IsLimit, IsPlace, IsFrame, IsSize, Says, IsSet, size_of, HasKeys, AreOfForm}
+use Rattle.std.proofs.lemmas.List.Elements.{All-weaker}
+use Rattle.sk_request.proofs.Keys.{same_keys}
 use Rattle.sk_base.proofs.Deciding.{Decided, all_decided, both, either, moved, some_in}
 
 bool_decided : (b : Bool) → Decided (b ≡ true)
@@ -106,20 +110,6 @@ module _ {X : Type 0} (Is : List ℕ → X → Type 0) (decide : (value : List �
   said_decided default (v ∷ []) = decide v
   said_decided default (v ∷ w ∷ more) = inr (λ h. h.1)
 
-  -- the same for a key without a default, with what its value must keep to
-  set_decided : (Fits : Option X → Type 0) → Decided (Fits None) → ((x : X) → Fits (Some x)) → (values : List (List ℕ)) → Decided ((x : Option X) × IsSet Is values x × Fits x)
-  set_decided Fits none some [] = moved (λ h. (None, tt, h)) from none
-    where
-      from : (x : Option X) × IsSet Is [] x × Fits x → Fits None
-      from (None, set, fits) = fits
-      from (Some x, set, fits) = absurd set
-  set_decided Fits none some (v ∷ []) = moved (λ (x, h). (Some x, h, some x)) from (decide v)
-    where
-      from : (x : Option X) × IsSet Is (v ∷ []) x × Fits x → (x : X) × Is v x
-      from (None, set, fits) = absurd set
-      from (Some x, set, fits) = (x, set)
-  set_decided Fits none some (v ∷ w ∷ more) = inr (λ h. h.1)
-
 all_keys : List Key
 all_keys = OrderKey ∷ BitsKey ∷ WithinKey ∷ PlaceKey ∷ FrameKey ∷ SizeKey ∷ []
 
@@ -137,64 +127,45 @@ key_decided command word =
     moved (λ (key, key_in, h). (key, h.0, h.1)) (λ (key, taken, some). (key, key_listed key, (taken, some)))
     (some_in (λ key. IsTrue (takes command key) × IsSome (behind (key_name key) word)) (λ key. both (bool_decided (takes command key)) (bool_decided (is_some (behind (key_name key) word)))) all_keys)
 
-all_commands : List Command
-all_commands = Check ∷ Plan ∷ Solve ∷ Dxf ∷ Offers ∷ Session ∷ Grow ∷ Migrate ∷ Verify ∷ Spare ∷ Flips ∷ Derive ∷ Parts ∷ Live ∷ Excess ∷ []
+-- a size, or none, is said
+size_said : (values : List (List ℕ)) → Decided ((n : ℕ) × IsSet IsSize values (Some n))
+size_said [] = inr (λ h. h.1)
+size_said (v ∷ []) = number_decided 3 1000 v
+size_said (v ∷ w ∷ more) = inr (λ h. h.1)
 
-command_listed : (command : Command) → Contains all_commands command
-unfolding all_commands
-command_listed Check = (0, omega arith, refl)
-command_listed Plan = (1, omega arith, refl)
-command_listed Solve = (2, omega arith, refl)
-command_listed Dxf = (3, omega arith, refl)
-command_listed Offers = (4, omega arith, refl)
-command_listed Session = (5, omega arith, refl)
-command_listed Grow = (6, omega arith, refl)
-command_listed Migrate = (7, omega arith, refl)
-command_listed Verify = (8, omega arith, refl)
-command_listed Spare = (9, omega arith, refl)
-command_listed Flips = (10, omega arith, refl)
-command_listed Derive = (11, omega arith, refl)
-command_listed Parts = (12, omega arith, refl)
-command_listed Live = (13, omega arith, refl)
-command_listed Excess = (14, omega arith, refl)
+none_said : (values : List (List ℕ)) → Decided (IsSet IsSize values None)
+none_said [] = inl tt
+none_said (v ∷ []) = inr (λ h. h)
+none_said (v ∷ w ∷ more) = inr (λ h. h)
 
-unsized_decided : (command : Command) → Decided (HasSize command None)
-unsized_decided Check = inl tt
-unsized_decided Plan = inl tt
-unsized_decided Solve = inl tt
-unsized_decided Dxf = inl tt
-unsized_decided Offers = inl tt
-unsized_decided Session = inl tt
-unsized_decided Grow = inr (λ h. h)
-unsized_decided Migrate = inl tt
-unsized_decided Verify = inl tt
-unsized_decided Spare = inl tt
-unsized_decided Flips = inl tt
-unsized_decided Derive = inl tt
-unsized_decided Parts = inl tt
-unsized_decided Live = inl tt
-unsized_decided Excess = inl tt
+-- a command of that word with the size that the values say
+abbrev AsSized : Command → List (List ℕ) → Type 0
+AsSized command values = (sized : Command) × (command_word sized ≡ command_word command) × IsSet IsSize values (size_of sized)
 
-sized_by : (command : Command) (n : ℕ) → HasSize command (Some n)
-sized_by Check n = tt
-sized_by Plan n = tt
-sized_by Solve n = tt
-sized_by Dxf n = tt
-sized_by Offers n = tt
-sized_by Session n = tt
-sized_by Grow n = tt
-sized_by Migrate n = tt
-sized_by Verify n = tt
-sized_by Spare n = tt
-sized_by Flips n = tt
-sized_by Derive n = tt
-sized_by Parts n = tt
-sized_by Live n = tt
-sized_by Excess n = tt
+made_as : (command sized : Command) → command_word sized ≡ command_word command → makes sized ≡ makes command
+made_as command sized same = ap (λ (t : Traits). t.makes) (same_traits sized command same)
 
--- the keys ask for something of the command
+size_decided : (command : Command) (values : List (List ℕ)) → Decided (AsSized command values)
+size_decided command values =
+    elim (cases_Bool (makes command)) [
+      | inl makes_it ↦
+          let made = made_size command makes_it in
+          moved
+          (λ (n, set). (Grow n, sym (ap command_word made.1), set))
+          (λ (sized, same, set). (
+          let grown = made_size sized (made_as command sized same ∙ makes_it) in
+          (grown.0, subst (λ c. IsSet IsSize values (size_of c)) grown.1 set)))
+          (size_said values)
+      | inr makes_none ↦
+          moved
+          (λ set. (command, refl, subst (λ s. IsSet IsSize values s) (sym (unmade_size command makes_none)) set))
+          (λ (sized, same, set). subst (λ s. IsSet IsSize values s) (unmade_size sized (made_as command sized same ∙ makes_none)) set)
+          (none_said values)
+    ]
+
+-- the keys ask for something of the command of that word
 abbrev AskOf : Command → List (List ℕ) → Type 0
-AskOf command keys = (request : Request) × (request.command ≡ command) × HasKeys keys request
+AskOf command keys = (request : Request) × (command_word request.command ≡ command_word command) × HasKeys keys request
 
 record HasParts (command : Command) (keys : List (List ℕ)) : Type 0 where
   known : All (λ word. IsKeyOf command word) keys
@@ -203,7 +174,7 @@ record HasParts (command : Command) (keys : List (List ℕ)) : Type 0 where
   within : (x : ℕ) × Says IsLimit 1000 (values_of WithinKey keys) x
   place : (x : PlaceBy) × Says IsPlace Boxes (values_of PlaceKey keys) x
   frame : (x : FrameBy) × Says IsFrame Base (values_of FrameKey keys) x
-  size : (x : Option ℕ) × IsSet IsSize (values_of SizeKey keys) x × HasSize command x
+  size : AsSized command (values_of SizeKey keys)
 
 parts_decided : (command : Command) (keys : List (List ℕ)) → Decided (HasParts command keys)
 parts_decided command keys =
@@ -214,24 +185,32 @@ parts_decided command keys =
     (both (said_decided IsLimit (λ value. number_decided 1 1000000 value) 1000 (values_of WithinKey keys))
     (both (said_decided IsPlace place_decided Boxes (values_of PlaceKey keys))
     (both (said_decided IsFrame frame_decided Base (values_of FrameKey keys))
-    (set_decided IsSize (λ value. number_decided 3 1000 value) (λ size. HasSize command size) (unsized_decided command) (sized_by command) (values_of SizeKey keys))))))))
+    (size_decided command (values_of SizeKey keys))))))))
 
 ask_decided : (command : Command) (keys : List (List ℕ)) → Decided (AskOf command keys)
 ask_decided command keys =
     moved
     (λ (p : HasParts command keys). (
-      record { command = command; order = p.order.0; bits = p.bits.0; within = p.within.0; layout = record { by = p.place.0; frame = p.frame.0 }; size = p.size.0 },
-      refl,
-      record { known = p.known; order = p.order.1; bits = p.bits.1; within = p.within.1; place = p.place.1; frame = p.frame.1; size = p.size.1; sized = p.size.2 },
+      record { command = p.size.0; order = p.order.0; bits = p.bits.0; within = p.within.0; layout = record { by = p.place.0; frame = p.frame.0 } },
+      p.size.1,
+      record {
+        known = All-weaker (λ word. IsKeyOf command word) (λ word. IsKeyOf p.size.0 word) (same_keys command p.size.0 (sym p.size.1)) keys p.known;
+        order = p.order.1;
+        bits = p.bits.1;
+        within = p.within.1;
+        place = p.place.1;
+        frame = p.frame.1;
+        size = p.size.2;
+      },
     ))
     (λ (request, is, h). record {
-      known = subst (λ c. All (λ word. IsKeyOf c word) keys) is h.known;
+      known = All-weaker (λ word. IsKeyOf request.command word) (λ word. IsKeyOf command word) (same_keys request.command command is) keys h.known;
       order = (request.order, h.order);
       bits = (request.bits, h.bits);
       within = (request.within, h.within);
       place = (request.layout.by, h.place);
       frame = (request.layout.frame, h.frame);
-      size = (request.size, h.size, subst (λ c. HasSize c request.size) is h.sized);
+      size = (request.command, is, h.size);
     })
     (parts_decided command keys)
 
@@ -239,5 +218,6 @@ ask_decided command keys =
 pub form_decided : (words : List (List ℕ)) → Decided (AreOfForm words)
 form_decided [] = inr (λ h. h.1)
 form_decided (first ∷ keys) =
-    moved (λ (command, command_in, (word, (request, is, h))). (request, (word ∙ ap command_word (sym is), h))) (λ (request, (word, h)). (request.command, command_listed request.command, (word, (request, refl, h))))
-    (some_in (λ command. (first ≡ command_word command) × AskOf command keys) (λ command. both (bytes_decided first (command_word command)) (ask_decided command keys)) all_commands)
+    moved (λ (command, command_in, (word, (request, is, h))). (request, (word ∙ sym is, h)))
+    (λ (request, (word, h)). (named request.command, command_listed request.command, (word ∙ sym (named_word request.command), (request, sym (named_word request.command), h))))
+    (some_in (λ command. (first ≡ command_word command) × AskOf command keys) (λ command. both (bytes_decided first (command_word command)) (ask_decided command keys)) commands)

@@ -11,7 +11,7 @@ use Rattle.sk_request.specs.Settings.{Adds}
 same_test : (c a : ℕ) → (c == a) ≡ true → c ≡ a
 same_test c a is = grind (arith, nat_tests)
 
-apart : (a b : ℕ) (name other word value : List ℕ) → (a == b) ≡ false → behind (a ∷ name) word ≡ Some value → behind (b ∷ other) word ≡ None
+pub apart : (a b : ℕ) (name other word value : List ℕ) → (a == b) ≡ false → behind (a ∷ name) word ≡ Some value → behind (b ∷ other) word ≡ None
 apart a b name other [] value differ is = refl
 apart a b name other (c ∷ word) value differ is = elim (cases_Bool (c == a)) [
   | inl same ↦ (let no : (c == b) ≡ false = rw (same_test c a same) differ in rw no refl)

@@ -10,8 +10,13 @@ use Rattle.sk_place.specs.declared.PlaceBy.{PlaceBy}
 use Rattle.sk_place.specs.declared.PlaceBy.TheVariants.{Boxes, Points}
 use Rattle.sk_request.specs.declared.bits.Bits.{Bits}
 use Rattle.sk_request.specs.declared.bits.Bits.TheVariants.{Sixteen, TwentySeven, ThirtyEight}
+use Rattle.sk_request.specs.declared.command.Account.{Account}
+use Rattle.sk_request.specs.declared.command.Account.TheVariants as accounts
 use Rattle.sk_request.specs.declared.command.Command.{Command}
-use Rattle.sk_request.specs.declared.command.Command.TheVariants.{Check, Plan, Solve, Dxf, Offers, Session, Grow, Migrate, Verify, Spare, Flips, Derive, Parts, Live, Excess}
+use Rattle.sk_request.specs.declared.command.Command.TheVariants.{Tell, Plan, Solve, Dxf, Offers, Session, Grow, Verify, Flips, Live}
+use Rattle.sk_request.specs.declared.command.KeySet.{KeySet}
+use Rattle.sk_request.specs.declared.command.KeySet.TheVariants.{Absent, Ordering, Placing}
+use Rattle.sk_request.specs.declared.command.Traits.{Traits}
 use Rattle.sk_request.specs.declared.request.Request.{Request}
 use Rattle.sk_request.specs.Commands.{command_word}
 
@@ -65,59 +70,50 @@ key_name PlaceKey = codes "place="
 key_name FrameKey = codes "frame="
 key_name SizeKey = codes "n="
 
+-- which keys take an order, and which tell how elements are placed
+abbrev pub orders_by : KeySet → Bool
+orders_by Absent = false
+orders_by Ordering = true
+orders_by Placing = true
+
+abbrev pub places_by : KeySet → Bool
+places_by Absent = false
+places_by Ordering = false
+places_by Placing = true
+
+-- which keys the command of an account takes
+abbrev pub account_keys : Account → KeySet
+account_keys accounts.Judged = Ordering
+account_keys accounts.Migrated = Absent
+account_keys accounts.Spares = Absent
+account_keys accounts.Derived = Ordering
+account_keys accounts.Shapes = Placing
+account_keys accounts.Excesses = Placing
+
+-- which keys a command takes beside its size, and whether it makes its sketch
+abbrev pub traits : Command → Traits
+traits (Tell account) = record { keys = account_keys account; makes = false }
+traits Plan = record { keys = Ordering; makes = false }
+traits Solve = record { keys = Placing; makes = false }
+traits Dxf = record { keys = Placing; makes = false }
+traits Offers = record { keys = Ordering; makes = false }
+traits Session = record { keys = Placing; makes = false }
+traits (Grow n) = record { keys = Placing; makes = true }
+traits Verify = record { keys = Absent; makes = false }
+traits Flips = record { keys = Placing; makes = false }
+traits Live = record { keys = Placing; makes = false }
+
 -- it is told in which order to merge
 abbrev pub orders : Command → Bool
-orders Check = true
-orders Plan = true
-orders Solve = true
-orders Dxf = true
-orders Offers = true
-orders Session = true
-orders Grow = true
-orders Migrate = false
-orders Verify = false
-orders Spare = false
-orders Flips = true
-orders Derive = true
-orders Parts = true
-orders Live = true
-orders Excess = true
+orders command = orders_by (traits command).keys
 
 -- it places the elements of a sketch
 abbrev pub places : Command → Bool
-places Check = false
-places Plan = false
-places Solve = true
-places Dxf = true
-places Offers = false
-places Session = true
-places Grow = true
-places Migrate = false
-places Verify = false
-places Spare = false
-places Flips = true
-places Derive = false
-places Parts = true
-places Live = true
-places Excess = true
+places command = places_by (traits command).keys
 
 -- it makes its sketch
 abbrev pub makes : Command → Bool
-makes Check = false
-makes Plan = false
-makes Solve = false
-makes Dxf = false
-makes Offers = false
-makes Session = false
-makes Grow = true
-makes Migrate = false
-makes Verify = false
-makes Spare = false
-makes Flips = false
-makes Derive = false
-makes Parts = false
-makes Live = false
-makes Excess = false
+makes command = (traits command).makes
 
 -- the keys of a command: all but `migrate`, `verify` and `spare` take an order, those that place elements a grid, a limit, what places are and their frame, one that makes a sketch its size
 abbrev pub takes : Command → Key → Bool
@@ -154,10 +150,25 @@ IsSet Is [] None = Unit {0}
 IsSet Is (value ∷ []) (Some x) = Is value x
 IsSet Is _ _ = ⊥
 
--- a sketch that is made has a size
-abbrev pub HasSize : Command → Option ℕ → Type 0
-HasSize Grow None = ⊥
-HasSize command size = Unit {0}
+-- the size of a sketch that is made
+abbrev pub size_of : Command → Option ℕ
+size_of (Grow n) = Some n
+size_of command = None
+
+-- a sketch that is made has from 3 to 1000 elements
+abbrev pub HasFitSize : Command → Type 0
+HasFitSize (Grow n) = (3 ≤ n) × (n ≤ 1000)
+HasFitSize command = Unit {0}
+
+-- a command that makes its sketch with the size that is set; another is as it was
+abbrev pub IsSized : Command → Option ℕ → Command → Type 0
+IsSized (Grow m) size sized = (n : ℕ) × (size ≡ Some n) × (sized ≡ Grow n)
+IsSized command size sized = sized ≡ command
+
+-- a command makes its sketch, and no size is set
+abbrev pub LacksSize : Command → Option ℕ → Type 0
+LacksSize (Grow m) size = size ≡ None
+LacksSize command size = ⊥
 
 -- the words are keys of the command, in any order, and this is what they say. Without them the order is `first`, the
 -- grid has 38 binary digits, the limit is 1000, and places are boxes, told in the frame of the base
@@ -168,8 +179,7 @@ pub record HasKeys (words : List (List ℕ)) (request : Request) : Type 0 where
   pub within : Says IsLimit 1000 (values_of WithinKey words) request.within
   pub place : Says IsPlace Boxes (values_of PlaceKey words) request.layout.by
   pub frame : Says IsFrame Base (values_of FrameKey words) request.layout.frame
-  pub size : IsSet IsSize (values_of SizeKey words) request.size
-  pub sized : HasSize request.command request.size
+  pub size : IsSet IsSize (values_of SizeKey words) (size_of request.command)
 
 -- the first word is that of the command, and the others are its keys
 abbrev pub Asks : List (List ℕ) → Request → Type 0
@@ -182,7 +192,7 @@ AreOfForm words = (request : Request) × Asks words request
 
 -- a command that makes its sketch takes no input
 abbrev pub TakesInput : Command → Type 0
-TakesInput Grow = ⊥
+TakesInput (Grow n) = ⊥
 TakesInput command = Unit {0}
 
 -- the words are of the form, and their command takes the input

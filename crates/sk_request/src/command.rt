@@ -1,14 +1,31 @@
-// The commands by their words.
+// The commands by their words, and what each takes.
 ghost use Rattle.std.specs.Prelude.{◌≡◌, IfSome, IfNone};
-ghost use Rattle.sk_request.specs.Asking.{orders, places, makes};
+ghost use Rattle.sk_request.specs.Asking.{orders, places, makes, traits, account_keys, orders_by, places_by};
 ghost use Rattle.sk_request.specs.declared.command.Command.{Command as AnyCommand};
 ghost use Rattle.sk_request.specs.Commands.{command_word};
+
+/// What a command reports of a sketch, whatever its verdict.
+#[derive(Clone, Copy, Debug, PartialEq, Eq)]
+pub enum Account {
+    /// Its verdict, and its parts.
+    Judged,
+    /// The sketch itself, in the second version of its language.
+    Migrated,
+    /// The constraints that may go.
+    Spares,
+    /// The clusters that merging by derived angles besides leads to.
+    Derived,
+    /// Its verdict, and its parts, each placed by itself.
+    Shapes,
+    /// Its parts that are over, and by how much each says too much.
+    Excesses,
+}
 
 /// What the program does.
 #[derive(Clone, Copy, Debug, PartialEq, Eq)]
 pub enum Command {
-    /// Judges a sketch.
-    Check,
+    /// Reports this of a sketch, whatever its verdict.
+    Tell(Account),
     /// Plans the construction of a sketch.
     Plan,
     /// Places the elements of a sketch.
@@ -19,102 +36,113 @@ pub enum Command {
     Offers,
     /// Answers commands that edit a sketch, one after another.
     Session,
-    /// Makes a sketch, places its elements, and sums up where they lie.
-    Grow,
-    /// Writes a sketch in the second version of its language.
-    Migrate,
+    /// Makes a sketch of so many elements, places them, and sums up where they lie.
+    Grow(u32),
     /// Checks the claim behind a sketch: steps, places and tolerances.
     Verify,
-    /// Lists the constraints of a sketch that may go.
-    Spare,
     /// Turns choices of a sketch's plan over, and places its elements so.
     Flips,
-    /// Lists the clusters of a sketch that derived angles lead to.
-    Derive,
-    /// Places the elements of each part of a sketch by itself.
-    Parts,
     /// Answers commands that edit a sketch, each before the next is asked for.
     Live,
-    /// Tells by how much a sketch says too much in each part that is over.
-    Excess,
+}
+
+/// Which keys a command takes beside the size of a sketch that it makes.
+#[derive(Clone, Copy, Debug, PartialEq, Eq)]
+pub enum KeySet {
+    /// None.
+    Absent,
+    /// The order in which to merge.
+    Ordering,
+    /// The order, and how elements are placed: the grid, the limit, what places are, and their frame.
+    Placing,
+}
+
+impl KeySet {
+    fn orders(self) -> bool
+        ensures { result ≡ orders_by self }
+    {
+        match self {
+            KeySet::Absent => false,
+            KeySet::Ordering | KeySet::Placing => true,
+        }
+    }
+
+    fn places(self) -> bool
+        ensures { result ≡ places_by self }
+    {
+        match self {
+            KeySet::Absent | KeySet::Ordering => false,
+            KeySet::Placing => true,
+        }
+    }
+}
+
+/// What kind of command it is.
+#[derive(Clone, Copy, Debug, PartialEq, Eq)]
+pub struct Traits {
+    pub keys: KeySet,
+    /// It makes its sketch, and so takes a size, which it needs, and no input.
+    pub makes: bool,
+}
+
+impl Account {
+    /// Which keys its command takes.
+    fn keys(self) -> KeySet
+        ensures { result ≡ account_keys self }
+    {
+        match self {
+            Account::Judged | Account::Derived => KeySet::Ordering,
+            Account::Migrated | Account::Spares => KeySet::Absent,
+            Account::Shapes | Account::Excesses => KeySet::Placing,
+        }
+    }
 }
 
 impl Command {
+    /// What kind of command it is.
+    pub fn traits(self) -> Traits
+        ensures { result ≡ traits self }
+    {
+        let (keys, makes) = match self {
+            Command::Tell(account) => (account.keys(), false),
+            Command::Plan | Command::Offers => (KeySet::Ordering, false),
+            Command::Solve | Command::Dxf | Command::Flips => (KeySet::Placing, false),
+            Command::Session | Command::Live => (KeySet::Placing, false),
+            Command::Grow(_) => (KeySet::Placing, true),
+            Command::Verify => (KeySet::Absent, false),
+        };
+        Traits { keys, makes }
+    }
+
     /// Whether it is told in which order to merge.
     pub(crate) fn orders(self) -> bool
         ensures { result ≡ orders self }
     {
-        match self {
-            Command::Check
-            | Command::Plan
-            | Command::Solve
-            | Command::Dxf
-            | Command::Offers
-            | Command::Session
-            | Command::Grow
-            | Command::Flips
-            | Command::Derive
-            | Command::Parts
-            | Command::Live => true,
-            | Command::Excess => true,
-            Command::Migrate | Command::Verify | Command::Spare => false,
-        }
+        self.traits().keys.orders()
     }
 
     /// Whether it places elements, and so takes a grid, a limit, what places are and their frame.
     pub(crate) fn places(self) -> bool
         ensures { result ≡ places self }
     {
-        match self {
-            Command::Solve
-            | Command::Dxf
-            | Command::Session
-            | Command::Grow
-            | Command::Flips
-            | Command::Parts
-            | Command::Live => true,
-            | Command::Excess => true,
-            Command::Check
-            | Command::Plan
-            | Command::Offers
-            | Command::Migrate
-            | Command::Verify
-            | Command::Spare
-            | Command::Derive => false,
-        }
+        self.traits().keys.places()
     }
 
     /// Whether it makes its sketch, and so takes a size and no input.
     pub fn makes(self) -> bool
         ensures { result ≡ makes self }
     {
-        match self {
-            Command::Grow => true,
-            Command::Check
-            | Command::Plan
-            | Command::Solve
-            | Command::Dxf
-            | Command::Offers
-            | Command::Session
-            | Command::Migrate
-            | Command::Verify
-            | Command::Spare
-            | Command::Flips
-            | Command::Derive
-            | Command::Parts
-            | Command::Live => false,
-            | Command::Excess => false,
-        }
+        self.traits().makes
     }
 }
 
-/// The command that the word names.
-pub fn command_of(word: &str) -> Option<Command>
+/// The command that the word names. A sketch that it makes has no element as long as its key isn't read.
+pub(crate) fn command_of(word: &str) -> Option<Command>
     ensures some { IfSome result (λ command. word.now ≡ command_word command) }
     ensures none { IfNone result ((command : AnyCommand) → word.now ≡ command_word command → ⊥) }
 {
     if word == "check" {
-        Some(Command::Check)
+        Some(Command::Tell(Account::Judged))
     } else if word == "plan" {
         Some(Command::Plan)
     } else if word == "solve" {
@@ -126,23 +154,23 @@ pub fn command_of(word: &str) -> Option<Command>
     } else if word == "session" {
         Some(Command::Session)
     } else if word == "grow" {
-        Some(Command::Grow)
+        Some(Command::Grow(0))
     } else if word == "migrate" {
-        Some(Command::Migrate)
+        Some(Command::Tell(Account::Migrated))
     } else if word == "verify" {
         Some(Command::Verify)
     } else if word == "spare" {
-        Some(Command::Spare)
+        Some(Command::Tell(Account::Spares))
     } else if word == "flips" {
         Some(Command::Flips)
     } else if word == "derive" {
-        Some(Command::Derive)
+        Some(Command::Tell(Account::Derived))
     } else if word == "parts" {
-        Some(Command::Parts)
+        Some(Command::Tell(Account::Shapes))
     } else if word == "live" {
         Some(Command::Live)
     } else if word == "excess" {
-        Some(Command::Excess)
+        Some(Command::Tell(Account::Excesses))
     } else {
         None
     }

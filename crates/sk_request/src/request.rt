@@ -1,7 +1,7 @@
 // What the words of the command line ask for.
-ghost use Rattle.std.specs.Prelude.{◌↔◌, map, string_bytes, IfSome, IfNone, IsTrue};
+ghost use Rattle.std.specs.Prelude.{map, string_bytes, IfSome, IfNone};
 ghost use Rattle.sk_request.specs.declared.request.Request.{Request as AnyRequest};
-ghost use Rattle.sk_request.specs.Asking.{Asks, HasSize};
+ghost use Rattle.sk_request.specs.Asking.{Asks, IsSized, LacksSize};
 
 use crate::bits::Bits;
 use crate::command::{Command, command_of};
@@ -14,7 +14,7 @@ const LIMIT: u64 = 1_000;
 
 /// A command, the order of merges, the grid, the most that a tolerance may be, in nanometres for
 /// lengths and heights and in parts per 10^9 for angles, what places are while the plan is placed, and in
-/// which frame they are told, and for a sketch that is made how many elements it has.
+/// which frame they are told.
 #[derive(Clone, Copy, Debug, PartialEq, Eq)]
 pub struct Request {
     pub command: Command,
@@ -22,7 +22,6 @@ pub struct Request {
     pub bits: Bits,
     pub within: u64,
     pub layout: Layout,
-    pub size: Option<u32>,
 }
 
 /// What the words ask for, if they are of the form.
@@ -31,11 +30,9 @@ pub fn request_of(words: &[String]) -> Option<Request>
     ensures none { IfNone result ((request : AnyRequest) → Asks (map string_bytes words.now) request → ⊥) }
 {
     let (first, keys) = words.split_first()?;
-    let command = command_of(first.as_str())?;
-    let settings = settings_of(command, keys)?;
-    if !has_size(command, settings.size) {
-        return None;
-    }
+    let named = command_of(first.as_str())?;
+    let settings = settings_of(named, keys)?;
+    let command = sized(named, settings.size)?;
     Some(Request {
         command,
         order: settings.order.unwrap_or(Order::First),
@@ -45,29 +42,16 @@ pub fn request_of(words: &[String]) -> Option<Request>
             by: settings.place.unwrap_or(PlaceBy::Boxes),
             frame: settings.frame.unwrap_or(FrameBy::Base),
         },
-        size: settings.size,
     })
 }
 
-/// Whether a size is there where one is needed.
-fn has_size(command: Command, size: Option<u32>) -> bool
-    ensures { IsTrue result ↔ HasSize command size }
+/// The command with its size, if one is set where one is needed.
+fn sized(command: Command, size: Option<u32>) -> Option<Command>
+    ensures some { IfSome result (IsSized command size) }
+    ensures none { IfNone result (LacksSize command size) }
 {
     match command {
-        Command::Grow => size.is_some(),
-        Command::Check
-        | Command::Plan
-        | Command::Solve
-        | Command::Dxf
-        | Command::Offers
-        | Command::Session
-        | Command::Migrate
-        | Command::Verify
-        | Command::Spare
-        | Command::Flips
-        | Command::Derive
-        | Command::Parts
-        | Command::Live => true,
-        | Command::Excess => true,
+        Command::Grow(_) => Some(Command::Grow(size?)),
+        _ => Some(command),
     }
 }

@@ -8,6 +8,7 @@ ghost use Rattle.sk_request.specs.declared.bits.Bits.{Bits as AnyBits};
 ghost use Rattle.sk_request.specs.declared.request.Request.{Request as AnyRequest};
 ghost use Rattle.sk_request.specs.declared.settings.Settings.{Settings as OtherSettings};
 ghost use Rattle.sk_request.specs.Asking.{orders, makes, behind, HasKeys, IsNumber, IsOrder, IsBits, IsLimit, IsPlace, IsFrame, IsSize, LeadsWithZero};
+ghost use Rattle.sk_request.specs.Commands.{command_word};
 ghost use Rattle.sk_request.specs.Settings.{AreSet, Adds};
 
 use crate::bits::Bits;
@@ -38,7 +39,7 @@ pub(crate) struct Settings {
 /// What the words set, if they are keys of the command and none stands twice.
 pub(crate) fn settings_of(command: Command, words: &[String]) -> Option<Settings>
     ensures some { IfSome result (AreSet command (map string_bytes words.now)) }
-    ensures none { IfNone result ((request : AnyRequest) → request.command ≡ command → HasKeys (map string_bytes words.now) request → ⊥) }
+    ensures none { IfNone result ((request : AnyRequest) → command_word request.command ≡ command_word command → HasKeys (map string_bytes words.now) request → ⊥) }
 {
     let mut settings = Settings {
         order: None,

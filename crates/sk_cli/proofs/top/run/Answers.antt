@@ -5,7 +5,7 @@ use Rattle.sk_cli.specs.declared.status.Status.TheVariants.{ReadFault, NoMemory}
 use Rattle.sk_request.specs.Asking.{AskForInput}
 use Rattle.sk_cli.proofs.Runs.{usage_ends, answer_ends, nothing_ends, no_form, answer_room, usage_room, no_fault, asked_input, read_told, session_takes, session_ends, session_room, as_live, not_live, live_takes, live_fits}
 use Rattle.sk_cli.proofs.Sessions.{not_counted}
-use Rattle.sk_request.proofs.Sizes.{grow_size}
+use Rattle.sk_request.proofs.Sizes.{size_fits}
 use Rattle.sk_cli.proofs.top.run.Goals as goal
 
 pub returns-in_default-clause-outcome : goal.returns-in_default-clause-outcome
@@ -57,7 +57,7 @@ returns-in-Ok-answer-clause-read g c asks other has =
     (c.in-Ok.ensures.taken (asked_input (map string_bytes c.args.words.now) c.in-Some.request c.in-Some.ensures.some asks))
 
 pub answer-requires-clause-size : goal.answer-requires-clause-size
-answer-requires-clause-size g c = grow_size (map string_bytes c.args.words.now) c.in-Some.request c.in-Some.ensures.some
+answer-requires-clause-size g c = size_fits (map string_bytes c.args.words.now) c.in-Some.request c.in-Some.ensures.some
 
 pub returns-in-Err-ReadFault-clause-untouched : goal.returns-in-Err-ReadFault-clause-untouched
 returns-in-Err-ReadFault-clause-untouched g c other = c.input.ensures.untouched (λ takes. other (c.in-Some.request, c.in-Some.ensures.some, takes))
