@@ -23,7 +23,7 @@ use Rattle.sk_request.specs.Settings.{AreSet, Adds}
 use Rattle.sk_request.proofs.KeyValues.{values_more, set_more, set_back, set_back_alone, said, one_set}
 use Rattle.sk_request.proofs.Numbers.{one_size}
 use Rattle.sk_request.proofs.CommandWords.{same_traits, unmade_size, made_size}
-use Rattle.sk_request.proofs.WithinKeys.{apart}
+use Rattle.sk_request.proofs.OtherKeys.{apart}
 
 -- commands of one word take the same keys
 same_takes : (c d : Command) → traits c ≡ traits d → (key : Key) → takes c key ≡ takes d key

@@ -4,7 +4,7 @@ pub mod KeyValues
 pub mod Keys
 pub mod Numbers
 pub mod OneRequest
+pub mod OtherKeys
 pub mod Sizes
 pub mod SomeRequests
 pub mod Strides
-pub mod WithinKeys

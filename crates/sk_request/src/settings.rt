@@ -1,5 +1,5 @@
 // What the keys of the command line set.
-ghost use Rattle.std.specs.Prelude.{◌≡◌, ◌≤◌, ◌<◌, ◌^◌, ◌≢◌, ℕ, map, string_bytes, None, Some, IfSome, IfNone, IsTrue, ◌↔◌};
+ghost use Rattle.std.specs.Prelude.{◌≡◌, ◌≤◌, ◌<◌, ◌^◌, ◌≢◌, ℕ, map, string_bytes, None, Some, IfSome, IfNone, IsSome, IsTrue, ◌↔◌};
 ghost use Rattle.std.specs.Fmt.{decimal};
 ghost use Rattle.sk_worklist.specs.declared.Order.{Order as AnyOrder};
 ghost use Rattle.sk_place.specs.declared.FrameBy.{FrameBy as AnyFrame};
@@ -7,7 +7,7 @@ ghost use Rattle.sk_place.specs.declared.PlaceBy.{PlaceBy as AnyPlace};
 ghost use Rattle.sk_request.specs.declared.bits.Bits.{Bits as AnyBits};
 ghost use Rattle.sk_request.specs.declared.request.Request.{Request as AnyRequest};
 ghost use Rattle.sk_request.specs.declared.settings.Settings.{Settings as OtherSettings};
-ghost use Rattle.sk_request.specs.Asking.{orders, makes, behind, HasKeys, IsNumber, IsOrder, IsBits, IsLimit, IsPlace, IsFrame, IsSize, LeadsWithZero};
+ghost use Rattle.sk_request.specs.Asking.{behind, HasKeys, IsNumber, IsOrder, IsBits, IsLimit, IsPlace, IsFrame, IsSize, LeadsWithZero};
 ghost use Rattle.sk_request.specs.Commands.{command_word};
 ghost use Rattle.sk_request.specs.Settings.{AreSet, Adds};
 
@@ -62,108 +62,47 @@ impl Settings {
         ensures none { IfNone result ((after : OtherSettings) → Adds command word.now self after → ⊥) }
     {
         if let Some(value) = behind(word, "order=") {
-            return self.with_order(command, value);
+            if !command.orders() {
+                return None;
+            }
+            let order = filled(self.order, order_named(value))?;
+            return Some(Settings { order, ..self });
         }
         if let Some(value) = behind(word, "n=") {
-            return self.with_size(command, value);
+            if !command.makes() {
+                return None;
+            }
+            let size = filled(self.size, size_of(value))?;
+            return Some(Settings { size, ..self });
         }
         if !command.places() {
             return None;
         }
         if let Some(value) = behind(word, "bits=") {
-            return self.with_bits(value);
+            let bits = filled(self.bits, bits_named(value))?;
+            return Some(Settings { bits, ..self });
         }
         if let Some(value) = behind(word, "within=") {
-            return self.with_within(value);
+            let within = filled(self.within, limit_of(value))?;
+            return Some(Settings { within, ..self });
         }
         if let Some(value) = behind(word, "place=") {
-            return self.with_place(value);
+            let place = filled(self.place, place_named(value))?;
+            return Some(Settings { place, ..self });
         }
-        self.with_frame(behind(word, "frame=")?)
+        let frame = filled(self.frame, frame_named(behind(word, "frame=")?))?;
+        Some(Settings { frame, ..self })
     }
+}
 
-    fn with_order(self, command: Command, value: &[u8]) -> Option<Settings>
-        ensures some { IfSome result (λ after. (order : AnyOrder) × IsTrue (orders command) × IsOrder value.now order × (self.order ≡ None) × (after ≡ record self { order = Some order })) }
-        ensures none { IfNone result ((order : AnyOrder) → IsTrue (orders command) → IsOrder value.now order → self.order ≡ None → ⊥) }
-    {
-        if !command.orders() || self.order.is_some() {
-            return None;
-        }
-        let order = order_named(value)?;
-        Some(Settings {
-            order: Some(order),
-            ..self
-        })
-    }
-
-    fn with_bits(self, value: &[u8]) -> Option<Settings>
-        ensures some { IfSome result (λ after. (bits : AnyBits) × IsBits value.now bits × (self.bits ≡ None) × (after ≡ record self { bits = Some bits })) }
-        ensures none { IfNone result ((bits : AnyBits) → IsBits value.now bits → self.bits ≡ None → ⊥) }
-    {
-        if self.bits.is_some() {
-            return None;
-        }
-        let bits = bits_named(value)?;
-        Some(Settings {
-            bits: Some(bits),
-            ..self
-        })
-    }
-
-    fn with_within(self, value: &[u8]) -> Option<Settings>
-        ensures some { IfSome result (λ after. (within : ℕ) × IsLimit value.now within × (self.within ≡ None) × (after ≡ record self { within = Some within })) }
-        ensures none { IfNone result ((within : ℕ) → IsLimit value.now within → self.within ≡ None → ⊥) }
-    {
-        if self.within.is_some() {
-            return None;
-        }
-        let within = limit_of(value)?;
-        Some(Settings {
-            within: Some(within),
-            ..self
-        })
-    }
-
-    fn with_place(self, value: &[u8]) -> Option<Settings>
-        ensures some { IfSome result (λ after. (place : AnyPlace) × IsPlace value.now place × (self.place ≡ None) × (after ≡ record self { place = Some place })) }
-        ensures none { IfNone result ((place : AnyPlace) → IsPlace value.now place → self.place ≡ None → ⊥) }
-    {
-        if self.place.is_some() {
-            return None;
-        }
-        let place = place_named(value)?;
-        Some(Settings {
-            place: Some(place),
-            ..self
-        })
-    }
-
-    fn with_frame(self, value: &[u8]) -> Option<Settings>
-        ensures some { IfSome result (λ after. (frame : AnyFrame) × IsFrame value.now frame × (self.frame ≡ None) × (after ≡ record self { frame = Some frame })) }
-        ensures none { IfNone result ((frame : AnyFrame) → IsFrame value.now frame → self.frame ≡ None → ⊥) }
-    {
-        if self.frame.is_some() {
-            return None;
-        }
-        let frame = frame_named(value)?;
-        Some(Settings {
-            frame: Some(frame),
-            ..self
-        })
-    }
-
-    fn with_size(self, command: Command, value: &[u8]) -> Option<Settings>
-        ensures some { IfSome result (λ after. (size : ℕ) × IsTrue (makes command) × IsSize value.now size × (self.size ≡ None) × (after ≡ record self { size = Some size })) }
-        ensures none { IfNone result ((size : ℕ) → IsTrue (makes command) → IsSize value.now size → self.size ≡ None → ⊥) }
-    {
-        if !command.makes() || self.size.is_some() {
-            return None;
-        }
-        let size = size_of(value)?;
-        Some(Settings {
-            size: Some(size),
-            ..self
-        })
+/// The slot with what was read, where nothing stands in it yet.
+fn filled<T: Copy>(slot: Option<T>, read: Option<T>) -> Option<Option<T>>
+    ensures some { IfSome result (λ after. (slot ≡ None) × IsSome read × (after ≡ read)) }
+    ensures none { IfNone result (slot ≡ None → read ≡ None) }
+{
+    match slot {
+        None => Some(Some(read?)),
+        Some(_) => None,
     }
 }
 
