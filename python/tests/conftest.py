@@ -29,15 +29,27 @@ class Row:
     answer: Answer
 
 
+def read_usage() -> bytes:
+    """The usage line, from its one copy in the tests."""
+    tests = TOP / "crates/sk_acceptance/src/usage.rt"
+    found = re.search(rb'"2\\n(usage: sketch .*)\\n";', tests.read_bytes())
+    assert found, tests
+    return found[1] + b"\n"
+
+
 def read_row(path: Path) -> Row:
     """The row of a file: words, status, the lengths of input and output, and these two."""
     head, body = path.read_bytes().split(b"\n\n", 1)
     found = re.fullmatch(
-        rb"words: (.*)\nstatus: (\d+)\ninput: (\d+) bytes\noutput: (\d+) bytes", head
+        rb"words: (.*)\nstatus: (\d+)\ninput: (\d+) bytes\noutput: (\d+ bytes|the usage line)",
+        head,
     )
     assert found, path
     size = int(found[3])
-    assert len(body) == size + int(found[4]), path
+    if found[4] == b"the usage line":
+        body += read_usage()
+    else:
+        assert found[4] == b"%d bytes" % (len(body) - size), path
     text = body[:size].decode("utf-8", "surrogateescape")
     answer = Answer(Status(int(found[2])), body[size:].decode("ascii"))
     return Row(path.stem, tuple(found[1].decode().split()), text, answer)

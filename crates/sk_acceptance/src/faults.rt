@@ -255,8 +255,8 @@ part 1 over elements 2 held 2 due 1 : A B
 c2 : distance B A 3 conflict off -500000 nm
 ";
 
-/// A call that reads nothing, and one with words that aren't of the form.
-pub const OTHERS: &str = "
+/// A call that reads nothing.
+pub const UNREAD: &str = "
 $ grow n=3
 > 0
 grow 3
@@ -268,9 +268,6 @@ sum x 18000000 nm
 sum y 32000000 nm
 length tolerance 0 nm at c2
 angle tolerance 0 ppb at line X
-$ check check
-> 2
-usage: sketch check|plan|solve|dxf|offers|session|grow|migrate|verify|spare|flips|derive|parts|live|excess [order=first|last|0..65535] [bits=16|27|38] [within=1..1000000] [place=boxes|points] [frame=base|drawn] [n=3..1000]
 ";
 
 /// Whole pieces a call, over devices in memory: before `:` and its words a row has which read fails, how much room there is,

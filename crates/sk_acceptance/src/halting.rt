@@ -1,6 +1,7 @@
 // The adapters over a reader and a writer of std's kind, of which a call fails.
-use crate::faults::{OTHERS, READERS};
+use crate::faults::{READERS, UNREAD};
 use crate::row::{ending_of, ends, parts_of, rows_of, status_of};
+use crate::usage::USAGE;
 use sk_io::{StdSink, StdSource};
 use std::alloc::Global;
 use std::io::{self, ErrorKind, Read, Write};
@@ -127,6 +128,13 @@ fn each_write_fails(
     );
 }
 
+/// Each write of a call that reads nothing fails, and the first read would.
+fn tells_failures_unread(rt: &impl Abort, alloc: Global, line: &str, wanted: &str) {
+    let whole = ending_of(rt, wanted);
+    each_write_fails(rt, alloc, (line, ""), 1, false, whole);
+    each_write_fails(rt, alloc, (line, ""), 1, true, whole);
+}
+
 /// A reader that fails isn't at its end, and a writer that fails, or takes nothing of a piece, has not taken it. A reader that
 /// fails at its first call is no fault of a call that reads nothing.
 #[test]
@@ -138,10 +146,7 @@ fn the_adapters_tell_failures(rt: HostRuntime) {
         each_write_fails(&rt, rt.alloc(), (line, input), 0, false, whole);
         each_write_fails(&rt, rt.alloc(), (line, input), 0, true, whole);
     }
-    for row in rows_of(&rt, OTHERS, '$').split('$') {
-        let (line, input, wanted) = parts_of(&rt, row);
-        let whole = ending_of(&rt, wanted);
-        each_write_fails(&rt, rt.alloc(), (line, input), 1, false, whole);
-        each_write_fails(&rt, rt.alloc(), (line, input), 1, true, whole);
-    }
+    let (line, _, wanted) = parts_of(&rt, rows_of(&rt, UNREAD, '$'));
+    tells_failures_unread(&rt, rt.alloc(), line, wanted);
+    tells_failures_unread(&rt, rt.alloc(), " check check", USAGE);
 }

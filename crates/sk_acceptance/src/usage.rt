@@ -1,7 +1,8 @@
 // Words that aren't of the form: no byte is read.
 use crate::row::{answer_over, ending_of, ends, rows_of};
 
-const USAGE: &str =
+/// What such words come to: the one copy of the usage line in the tests, which those in Python read here too.
+pub const USAGE: &str =
     "2\nusage: sketch check|plan|solve|dxf|offers|session|grow|migrate|verify|spare|flips|derive|parts|live|excess [order=first|last|0..65535] [bits=16|27|38] [within=1..1000000] [place=boxes|points] [frame=base|drawn] [n=3..1000]\n";
 
 /// The words of a call behind each line feed, each word behind a blank; the first row has none, and the second one empty
