@@ -31,7 +31,7 @@ class Row:
 
 def read_usage() -> bytes:
     """The usage line, from its one copy in the tests."""
-    tests = TOP / "crates/sk_acceptance/src/usage.rt"
+    tests = TOP / "crates/sk_test_runs/src/usage.rt"
     found = re.search(rb'"2\\n(usage: sketch .*)\\n";', tests.read_bytes())
     assert found, tests
     return found[1] + b"\n"

@@ -35,7 +35,7 @@ use Rattle.sk_lines.specs.Quantities.{not_negative}
 use Rattle.sk_lines.proofs.Amounts.{limited}
 use Rattle.sk_lines.proofs.FirstCodes.{none_behind}
 use Rattle.sk_lines.specs.Words.{words_in}
-use Rattle.sk_holding.specs.Placing.{HasKind, IsSpotOf}
+use Rattle.sk_measure.specs.Placing.{HasKind, IsSpotOf}
 use Rattle.sk_claims.specs.declared.claim.Claim.{Claim}
 use Rattle.sk_claims.specs.declared.claim.Radius.{Radius}
 use Rattle.sk_claims.specs.declared.claim_line.SoFar.{SoFar}

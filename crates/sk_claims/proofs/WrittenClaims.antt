@@ -16,7 +16,7 @@ use Rattle.sk_base.specs.Spelling.{spaced}
 use Rattle.sk_base.proofs.Members.{contains_none, contains_head, contains_cases, contains_later, mapped_from}
 use Rattle.sk_base.proofs.Pairs.{pairs_head, pairs_tail}
 use Rattle.sk_graph.specs.SketchGraph.{graph_of, node_of, kind_of, drawn_as}
-use Rattle.sk_holding.specs.Placing.{HasKind}
+use Rattle.sk_measure.specs.Placing.{HasKind}
 use Rattle.sk_lines.proofs.ReadBack.{IsLine, lines_in-ended}
 use Rattle.sk_lines.proofs.SolidLines.{IsLineOf, literal, solid, solid_line, words_in_line}
 use Rattle.sk_lines.specs.FirstCode.{first_code}

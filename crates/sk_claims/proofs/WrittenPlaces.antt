@@ -22,7 +22,7 @@ use Rattle.sk_base.specs.Spelling.{spaced, whole_text}
 use Rattle.sk_base.proofs.Finding.{nothing_found}
 use Rattle.sk_graph.specs.SketchGraph.{kind_of, drawn_as}
 use Rattle.sk_entry.specs.Named.{element_named, number_named}
-use Rattle.sk_holding.specs.Placing.{HasKind}
+use Rattle.sk_measure.specs.Placing.{HasKind}
 use Rattle.sk_lines.proofs.SolidLines.{IsSolidWord, IsLineOf, IsSpelled, solid, solid_line, literal, name_spelled}
 use Rattle.sk_lines.specs.FirstCode.{first_code}
 use Rattle.sk_tree.specs.declared.PlanStep.{PlanStep}

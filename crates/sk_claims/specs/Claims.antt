@@ -7,7 +7,7 @@ use Rattle.sk_base.specs.declared.Sketch.{Sketch}
 use Rattle.sk_base.specs.declared.Spot.{Spot}
 use Rattle.sk_base.specs.Places.{place_of}
 use Rattle.sk_entry.specs.Kinds.{is_circle}
-use Rattle.sk_holding.specs.Placing.{IsSpotOf}
+use Rattle.sk_measure.specs.Placing.{IsSpotOf}
 use Rattle.sk_claims.specs.declared.claim.Claim.{Claim}
 use Rattle.sk_claims.specs.declared.claim.Radius.{Radius}
 

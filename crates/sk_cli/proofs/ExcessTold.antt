@@ -16,7 +16,7 @@ use Rattle.sk_family.proofs.GraphStarts.{start_comes}
 use Rattle.sk_graph.specs.SketchGraph.{edge_of, block_of, graph_of}
 use Rattle.sk_graph.proofs.Given.{given_from}
 use Rattle.sk_graph.proofs.Soundness.{graph_is_sound, given_edge_id, given_block_id}
-use Rattle.sk_holding.specs.Placing.{PlacesExactly}
+use Rattle.sk_measure.specs.Placing.{PlacesExactly}
 use Rattle.sk_verdict.specs.declared.Judgement.{Judgement}
 use Rattle.sk_verdict.specs.declared.Part.{Part}
 use Rattle.sk_plan.specs.Judged.{IsTheJudgement}
@@ -25,13 +25,13 @@ use Rattle.sk_parts.proofs.Drawing.{part_is_sound}
 use Rattle.sk_parts.proofs.Sharing.{once_judged}
 use Rattle.sk_tree.specs.declared.Plan.{Plan as ThePlan}
 use Rattle.sk_entry.specs.NumberedConstraint.{constraint_of}
-use Rattle.sk_residual.specs.declared.OffBy.{OffBy}
-use Rattle.sk_residual.specs.declared.Tolerance.{Tolerance}
-use Rattle.sk_residual.specs.Offs.{HasNumber}
-use Rattle.sk_residual.specs.Telling.{IsCompared}
-use Rattle.sk_residual.specs.Turns.{senses}
-use Rattle.sk_residual.proofs.Numbered.{number_there}
-use Rattle.sk_residual.proofs.OneOff.{some_off, some_compared}
+use Rattle.sk_tolerance.specs.declared.OffBy.{OffBy}
+use Rattle.sk_tolerance.specs.declared.Tolerance.{Tolerance}
+use Rattle.sk_tolerance.specs.Offs.{HasNumber}
+use Rattle.sk_tolerance.specs.Telling.{IsCompared}
+use Rattle.sk_tolerance.specs.Turns.{senses}
+use Rattle.sk_tolerance.proofs.Numbered.{number_there}
+use Rattle.sk_tolerance.proofs.OneOff.{some_off, some_compared}
 use Rattle.sk_solve.specs.declared.Placement.TheVariants.{Holds}
 use Rattle.sk_excess.specs.LeftOut.{AreLeftOut}
 use Rattle.sk_excess.specs.KeptSketch.{kept_sketch}

@@ -24,17 +24,17 @@ use Rattle.sk_base.specs.SoundSketch.{IsSoundSketch}
 use Rattle.sk_base.proofs.Members.{contains_none, contains_head, contains_later, contains_mapped, contains_filtered}
 use Rattle.sk_graph.specs.SketchGraph.{graph_of}
 use Rattle.sk_graph.proofs.Soundness.{graph_is_sound}
-use Rattle.sk_holding.specs.Holding.{tolerance_of}
-use Rattle.sk_holding.specs.Items.{Item, normal, constraint, block, Holds, IsOffBy}
-use Rattle.sk_holding.specs.Placing.{PlacesExactly}
-use Rattle.sk_holding.proofs.Widening.{holds_more}
-use Rattle.sk_residual.specs.declared.OffBy.{OffBy}
-use Rattle.sk_residual.specs.declared.Turned.{Turned}
-use Rattle.sk_residual.specs.Telling.{IsCompared}
-use Rattle.sk_residual.specs.Tolerances.{normals, normal_of_kind, constraints, everything, AllHold}
-use Rattle.sk_residual.specs.Turns.{senses, constraint_signs, AllAsDrawn}
-use Rattle.sk_residual.proofs.Merging.{merged_constraints}
-use Rattle.sk_residual.proofs.Worsts.{contains_flat}
+use Rattle.sk_measure.specs.Holding.{tolerance_of}
+use Rattle.sk_measure.specs.Items.{Item, normal, constraint, block, Holds, IsOffBy}
+use Rattle.sk_measure.specs.Placing.{PlacesExactly}
+use Rattle.sk_measure.proofs.Widening.{holds_more}
+use Rattle.sk_tolerance.specs.declared.OffBy.{OffBy}
+use Rattle.sk_tolerance.specs.declared.Turned.{Turned}
+use Rattle.sk_tolerance.specs.Telling.{IsCompared}
+use Rattle.sk_tolerance.specs.Tolerances.{normals, normal_of_kind, constraints, everything, AllHold}
+use Rattle.sk_tolerance.specs.Turns.{senses, constraint_signs, AllAsDrawn}
+use Rattle.sk_tolerance.proofs.Merging.{merged_constraints}
+use Rattle.sk_tolerance.proofs.Worsts.{contains_flat}
 use Rattle.sk_excess.specs.LeftOut.{is_number, is_kept}
 use Rattle.sk_excess.specs.KeptSketch.{kept_sketch}
 use Rattle.sk_excess.proofs.SomeLess.{number_in}

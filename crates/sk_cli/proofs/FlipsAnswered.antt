@@ -9,7 +9,7 @@ use Rattle.sk_base.specs.SoundSketch.{IsSoundSketch}
 use Rattle.sk_lang.specs.declared.Front.{Front}
 use Rattle.sk_tree.specs.declared.Plan.{Plan as ThePlan}
 use Rattle.sk_report.specs.SolveReport.{places_report, solve_report}
-use Rattle.sk_residual.specs.declared.Tolerance.{Tolerance}
+use Rattle.sk_tolerance.specs.declared.Tolerance.{Tolerance}
 use Rattle.sk_solve.specs.declared.Alternative.TheVariants.{Found}
 use Rattle.sk_solve.specs.declared.Placement.{Placement}
 use Rattle.sk_solve.specs.declared.Placement.TheVariants.{Fault, Uncarried, Beyond, Turned, Holds}

@@ -13,8 +13,8 @@ use Rattle.sk_base.specs.SoundSketch.{IsSoundSketch}
 use Rattle.sk_graph.specs.SketchGraph.{node_of, graph_of}
 use Rattle.sk_graph.proofs.Soundness.{graph_is_sound}
 use Rattle.sk_lang.specs.Reading.{Reads}
-use Rattle.sk_worklist.specs.declared.Order.TheVariants.{First}
-use Rattle.sk_worklist.specs.Orders.{place_of, next_call, place_below}
+use Rattle.sk_close_by_order.specs.declared.Order.TheVariants.{First}
+use Rattle.sk_close_by_order.specs.Orders.{place_of, next_call, place_below}
 use Rattle.sk_tree.specs.declared.Plan.{Plan as ThePlan}
 use Rattle.sk_rules.specs.Excess.{held, weight_of}
 use Rattle.sk_verdict.specs.declared.Judgement.{Judgement}
@@ -23,7 +23,7 @@ use Rattle.sk_verdict.specs.Parts.{elem_of}
 use Rattle.sk_plan.specs.Judged.{IsTheJudgement}
 use Rattle.sk_plan.specs.PlanBy.{fresh}
 use Rattle.sk_plan.proofs.SomePlans.{judgement_there}
-use Rattle.sk_residual.specs.Turns.{constraint_signs, step_signs}
+use Rattle.sk_tolerance.specs.Turns.{constraint_signs, step_signs}
 use Rattle.sk_solve.specs.declared.Placement.{Placement}
 use Rattle.sk_solve.specs.declared.Placement.TheVariants as placed
 use Rattle.sk_parts.specs.OwnSketch.{part_sketch}

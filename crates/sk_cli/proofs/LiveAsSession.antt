@@ -7,8 +7,8 @@ use Rattle.sk_request.specs.declared.Command.{Command}
 use Rattle.sk_request.specs.declared.Command.TheVariants.{Live}
 use Rattle.sk_request.specs.declared.Request.{Request}
 use Rattle.sk_request.proofs.OneRequest.{same_request}
-use Rattle.sk_turns.specs.InTime.{in_time}
-use Rattle.sk_turns.proofs.InTimes.{all_in_time}
+use Rattle.sk_live_lines.specs.InTime.{in_time}
+use Rattle.sk_live_lines.proofs.InTimes.{all_in_time}
 use Rattle.sk_cli.specs.declared.status.Status.{Status}
 use Rattle.sk_cli.specs.declared.status.Status.TheVariants.{Done, Refused}
 use Rattle.sk_cli.specs.LiveAnswer.{IsLiveAnswer, for_session}

@@ -9,13 +9,13 @@ use Rattle.sk_io.specs.Transfer.{TakesAtMost}
 use Rattle.sk_io.proofs.Moved.{Appends-more, Consumes-more}
 use Rattle.sk_lines.specs.Lines.{is_line_feed, lines_in, EndsLine}
 use Rattle.sk_request.specs.declared.Request.{Request}
-use Rattle.sk_turns.specs.Answering.{AreAnswered, AnswersSome, HasEnded, Ends, IsTold}
-use Rattle.sk_turns.specs.Heard.{HasHeard, HasRoom, AreWithin, KeepsRoom, GoesOn, EndsTurn, IsDone}
-use Rattle.sk_turns.specs.declared.TurnEnd.{TurnEnd}
-use Rattle.sk_turns.specs.InTime.{in_time, whole_lines}
-use Rattle.sk_turns.proofs.InTimes.{whole_front, none_whole}
-use Rattle.sk_turns.proofs.TurnEnds.{none_taken}
-use Rattle.sk_turns.specs.declared.TurnEnd.TheVariants as turn_end
+use Rattle.sk_live_lines.specs.Answering.{AreAnswered, AnswersSome, HasEnded, Ends, IsTold}
+use Rattle.sk_live_lines.specs.Heard.{HasHeard, HasRoom, AreWithin, KeepsRoom, GoesOn, EndsTurn, IsDone}
+use Rattle.sk_live_lines.specs.declared.TurnEnd.{TurnEnd}
+use Rattle.sk_live_lines.specs.InTime.{in_time, whole_lines}
+use Rattle.sk_live_lines.proofs.InTimes.{whole_front, none_whole}
+use Rattle.sk_live_lines.proofs.TurnEnds.{none_taken}
+use Rattle.sk_live_lines.specs.declared.TurnEnd.TheVariants as turn_end
 use Rattle.sk_cli.specs.declared.status.Status.TheVariants.{Done, Refused, ReadFault, WriteFault, NoMemory}
 use Rattle.sk_cli.specs.LiveAnswer.{Sat, begun, late_line, IsSaid, IsEnd, RepliesInTime}
 use Rattle.sk_cli.specs.LiveEnding.{LiveEnds, LiveTakes, AnswersTaken, AllLiveFit, TellsLate, EndsWith}

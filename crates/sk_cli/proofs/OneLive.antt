@@ -10,7 +10,7 @@ use Rattle.sk_cli.specs.declared.status.Status.{Status}
 use Rattle.sk_cli.specs.declared.status.Status.TheVariants.{Done, Refused}
 use Rattle.sk_cli.specs.LiveAnswer.{RepliesInTime, IsLiveAnswer, late_line}
 use Rattle.sk_cli.specs.SessionAnswer.{AreReplied, EndsSession, at_start}
-use Rattle.sk_turns.specs.Answering.{HasEnded}
+use Rattle.sk_live_lines.specs.Answering.{HasEnded}
 use Rattle.sk_cli.proofs.OneSession.{OneReply, OneSolved, not_ended, same_else_back, sound_else, same_replies}
 
 -- the replies to its lines up to the end, or to all in time, and that the input is too long

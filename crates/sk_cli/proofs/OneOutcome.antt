@@ -10,13 +10,13 @@ use Rattle.sk_cli.specs.Solved.{IsPlacedPlan}
 use Rattle.sk_base.specs.Numbering.{con_exact}
 use Rattle.sk_base.proofs.Finding.{found_in}
 use Rattle.std.proofs.lemmas.Bool.Decides.{nat_tests}
-use Rattle.sk_residual.specs.declared.OffBy.{OffBy}
-use Rattle.sk_residual.specs.declared.Turned.{Turned}
-use Rattle.sk_residual.specs.Offs.{HasNumber}
-use Rattle.sk_residual.specs.Telling.{IsCompared}
-use Rattle.sk_residual.specs.Turns.{senses}
-use Rattle.sk_residual.proofs.Numbered.{number_there}
-use Rattle.sk_residual.proofs.OneOff.{one_off, one_compared}
+use Rattle.sk_tolerance.specs.declared.OffBy.{OffBy}
+use Rattle.sk_tolerance.specs.declared.Turned.{Turned}
+use Rattle.sk_tolerance.specs.Offs.{HasNumber}
+use Rattle.sk_tolerance.specs.Telling.{IsCompared}
+use Rattle.sk_tolerance.specs.Turns.{senses}
+use Rattle.sk_tolerance.proofs.Numbered.{number_there}
+use Rattle.sk_tolerance.proofs.OneOff.{one_off, one_compared}
 use Rattle.sk_excess.specs.KeptSketch.{kept_sketch}
 use Rattle.sk_excess.proofs.Choosing.{one_list as one_left}
 use Rattle.sk_excess.proofs.KeptSketches.{kept_is_sound}
@@ -47,12 +47,12 @@ use Rattle.sk_plan.proofs.OnePlan.{one_plan_by}
 use Rattle.sk_report.specs.PlanReport.{plan_report}
 use Rattle.sk_spare.specs.Sparing.{AreSpares}
 use Rattle.sk_spare.specs.SpareReport.{spare_report}
-use Rattle.sk_derive.specs.WideReach.{IsWideNormal}
-use Rattle.sk_derive.specs.DerivedText.{derived_text}
+use Rattle.sk_close_by_angles.specs.WideReach.{IsWideNormal}
+use Rattle.sk_close_by_angles.specs.DerivedText.{derived_text}
 use Rattle.sk_solve.specs.declared.Alternative.{Alternative}
 use Rattle.sk_solve.specs.Alternatives.{AreAlternatives}
 use Rattle.sk_flips.specs.FlipReading.{ReadsFlips}
-use Rattle.sk_residual.specs.declared.Wanted.TheVariants.{Drawn}
+use Rattle.sk_tolerance.specs.declared.Wanted.TheVariants.{Drawn}
 use Rattle.sk_lang.specs.declared.Front.{Front}
 use Rattle.sk_lang.specs.Front.{ReadsFront, RefusesFront}
 use Rattle.sk_offers.specs.Offering.{starting_table}
@@ -72,7 +72,7 @@ use Rattle.sk_verify.specs.Texts.{failure_line, verified_line}
 use Rattle.sk_verify.proofs.Answering.{not_both as not_both_failing, one_failure}
 use Rattle.sk_claims.proofs.ClaimSoFar.{one_claim, one_refusal as one_claim_refusal, not_both as not_both_claims}
 use Rattle.sk_cli.specs.VerifyAnswer.{HasClaim, IsVerified, IsNotVerified, RefusesClaimBehind, IsVerifyRefusal, IsVerifyAnswer}
-use Rattle.sk_worklist.specs.declared.Order.{Order}
+use Rattle.sk_close_by_order.specs.declared.Order.{Order}
 use Rattle.sk_request.specs.declared.Account.{Account}
 use Rattle.sk_request.specs.declared.Account.TheVariants as accounts
 use Rattle.sk_request.specs.declared.Command.{Command}
@@ -101,7 +101,7 @@ use Rattle.sk_cli.specs.LiveAnswer.{IsLiveAnswer, late_line}
 use Rattle.sk_cli.proofs.OneLive.{told_live, same_live}
 use Rattle.sk_cli.proofs.OneSession.{OneReply, OneSolved, same_replies, front_replies}
 use Rattle.sk_cli.specs.SessionAnswer.{IsSessionAnswer, RepliesToFront, EndsSession, at_start}
-use Rattle.sk_turns.specs.Answering.{HasEnded}
+use Rattle.sk_live_lines.specs.Answering.{HasEnded}
 
 -- the laws of the layers below
 abbrev pub OneSketch : Type 0

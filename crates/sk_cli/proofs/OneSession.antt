@@ -13,7 +13,7 @@ use Rattle.sk_request.specs.declared.Request.{Request}
 use Rattle.sk_cli.specs.declared.solving.Report.TheVariants.{Places}
 use Rattle.sk_cli.specs.declared.status.Status.{Status}
 use Rattle.sk_cli.specs.SessionAnswer.{IsReplyText, IsReplied, AreReplied, EndsSession, solve_with, settings_of}
-use Rattle.sk_turns.specs.Answering.{HasEnded}
+use Rattle.sk_live_lines.specs.Answering.{HasEnded}
 use Rattle.sk_cli.specs.Solved.{IsSolved}
 
 -- a line has one reply, whatever family is kept

@@ -33,8 +33,8 @@ use Rattle.sk_place.specs.Placing.{IsPlaced}
 use Rattle.sk_place.specs.Rounding.{IsWithin, IsBoundedBox, AreBounded, midpoint, rounded, rounded_box}
 use Rattle.sk_place.proofs.Midpoints.{parts_within}
 use Rattle.sk_place.proofs.OnePlacing.{one_list, not_both}
-use Rattle.sk_holding.specs.Placing.{AreSpotsOf, PlacesExactly}
-use Rattle.sk_holding.proofs.InOrder.{exactly_in_order}
+use Rattle.sk_measure.specs.Placing.{AreSpotsOf, PlacesExactly}
+use Rattle.sk_measure.proofs.InOrder.{exactly_in_order}
 use Rattle.sk_cli.specs.Solving.{midpoints}
 use Rattle.sk_solve.proofs.SpotsPlaced.{spots_made}
 use Rattle.sk_place.proofs.SomePlaces.{some_places}

@@ -29,13 +29,13 @@ use Rattle.sk_graph.specs.SketchGraph.{graph_of, node_of}
 use Rattle.sk_tree.specs.declared.Plan.{Plan as ThePlan}
 use Rattle.sk_plan.specs.Judged.{IsTheJudgement, IsWell}
 use Rattle.sk_plan.specs.PlanBy.{IsPlanBy}
-use Rattle.sk_residual.specs.declared.Tolerance.{Tolerance}
-use Rattle.sk_holding.specs.Placing.{PlacesExactly}
-use Rattle.sk_residual.specs.Turns.{signs, AllAsDrawn}
-use Rattle.sk_residual.proofs.Merging.{has_blocks}
-use Rattle.sk_residual.proofs.Worsts.{all_hold_within}
+use Rattle.sk_tolerance.specs.declared.Tolerance.{Tolerance}
+use Rattle.sk_measure.specs.Placing.{PlacesExactly}
+use Rattle.sk_tolerance.specs.Turns.{signs, AllAsDrawn}
+use Rattle.sk_tolerance.proofs.Merging.{has_blocks}
+use Rattle.sk_tolerance.proofs.Worsts.{all_hold_within}
 use Rattle.sk_report.specs.PlanReport.{plan_report}
-use Rattle.sk_worklist.specs.declared.Order.{Order}
+use Rattle.sk_close_by_order.specs.declared.Order.{Order}
 use Rattle.sk_solve.specs.declared.Placement.{Placement}
 use Rattle.sk_solve.specs.declared.Placement.TheVariants.{Fault, Uncarried, Beyond, Turned, Holds}
 use Rattle.sk_request.specs.declared.Request.{Request}

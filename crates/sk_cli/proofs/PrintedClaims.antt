@@ -32,13 +32,13 @@ use Rattle.sk_graph.proofs.Given.{given_from}
 use Rattle.sk_graph.proofs.Soundness.{graph_is_sound, given_edge_id, given_block_id}
 use Rattle.sk_lang.specs.Renumbered.{constraints_from, renumbered}
 use Rattle.sk_place.specs.Rounding.{rounded}
-use Rattle.sk_residual.specs.declared.Tolerance.{Tolerance}
-use Rattle.sk_holding.specs.Placing.{lies, HasKind, IsPlacedAs, AreSpotsOf}
-use Rattle.sk_holding.specs.Items.{Item, constraint, block}
-use Rattle.sk_residual.specs.Tolerances.{number_of, angles, between, normals, rigid, distances, constraints, lengthwise, anglewise, everything}
-use Rattle.sk_residual.proofs.Merging.{block_in}
-use Rattle.sk_holding.proofs.InOrder.{spots_rise}
-use Rattle.sk_residual.proofs.Worsts.{contains_flat, on_distance, on_angle}
+use Rattle.sk_tolerance.specs.declared.Tolerance.{Tolerance}
+use Rattle.sk_measure.specs.Placing.{lies, HasKind, IsPlacedAs, AreSpotsOf}
+use Rattle.sk_measure.specs.Items.{Item, constraint, block}
+use Rattle.sk_tolerance.specs.Tolerances.{number_of, angles, between, normals, rigid, distances, constraints, lengthwise, anglewise, everything}
+use Rattle.sk_tolerance.proofs.Merging.{block_in}
+use Rattle.sk_measure.proofs.InOrder.{spots_rise}
+use Rattle.sk_tolerance.proofs.Worsts.{contains_flat, on_distance, on_angle}
 use Rattle.sk_tree.specs.declared.Plan.{Plan as ThePlan}
 use Rattle.sk_tree.specs.LegalPlan.{numbers_of, IsLegalPlan}
 use Rattle.sk_claims.specs.declared.claim.Radius.{Radius}

@@ -21,8 +21,8 @@ use Rattle.sk_graph.specs.SketchGraph.{node_of, kind_of, drawn_as}
 use Rattle.sk_lines.specs.Lines.{ended_lines}
 use Rattle.sk_report.specs.PlanReport.{step_line, choice_text as printed_choice}
 use Rattle.sk_report.specs.SolveReport.{lying_line, element_line, element_lines}
-use Rattle.sk_residual.specs.declared.Tolerance.{Tolerance}
-use Rattle.sk_holding.specs.Placing.{HasKind, AreSpotsOf}
+use Rattle.sk_tolerance.specs.declared.Tolerance.{Tolerance}
+use Rattle.sk_measure.specs.Placing.{HasKind, AreSpotsOf}
 use Rattle.sk_text.specs.ClusterName.{cluster_name}
 use Rattle.sk_tree.specs.declared.Choice.{Choice}
 use Rattle.sk_tree.specs.declared.Choice.TheVariants.{Turn, Advance, Nothing}

@@ -6,7 +6,7 @@ use Rattle.sk_graph.proofs.Soundness.{graph_is_sound}
 use Rattle.sk_lang.specs.Reading.{Reads}
 use Rattle.sk_report.specs.PlanReport.{plan_report}
 use Rattle.sk_report.specs.SolveReport.{solve_report}
-use Rattle.sk_residual.specs.declared.Tolerance.{Tolerance}
+use Rattle.sk_tolerance.specs.declared.Tolerance.{Tolerance}
 use Rattle.sk_tree.specs.declared.Plan.{Plan as ThePlan}
 use Rattle.sk_plan.specs.PlanBy.{IsPlanBy}
 use Rattle.sk_plan.proofs.OnePlan.{one_plan_by}

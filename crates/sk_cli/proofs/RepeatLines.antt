@@ -14,8 +14,8 @@ use Rattle.sk_base.specs.Spelling.{whole_text}
 use Rattle.sk_base.proofs.Members.{contains_none, contains_head, contains_later, contains_cases}
 use Rattle.sk_claims.proofs.SpelledNumbers.{whole_spelled}
 use Rattle.sk_lines.proofs.SolidLines.{is_solid, AreSolid}
-use Rattle.sk_residual.specs.declared.OffBy.{OffBy}
-use Rattle.sk_residual.specs.declared.Turned.{Turned}
+use Rattle.sk_tolerance.specs.declared.OffBy.{OffBy}
+use Rattle.sk_tolerance.specs.declared.Turned.{Turned}
 use Rattle.sk_report.specs.ExcessReport.{left_words, left_lines, is_repeat, repeat_word, off_unit, turned_words, off_line}
 use Rattle.sk_cli.specs.ExcessReport.{IsOffThere, AreOffsTold}
 use Rattle.sk_cli.specs.Repeats.{AreRepeats}

@@ -7,7 +7,7 @@ use Rattle.sk_session.specs.declared.Reply.{Reply}
 use Rattle.sk_session.specs.declared.Reply.TheVariants as reply
 use Rattle.sk_session.specs.State.{State, sketch_in}
 use Rattle.sk_session.proofs.Asked.{OtherBegins, TellsOf, answers_told}
-use Rattle.sk_worklist.specs.declared.Order.{Order}
+use Rattle.sk_close_by_order.specs.declared.Order.{Order}
 use Rattle.sk_request.specs.declared.Account.TheVariants.{Judged}
 use Rattle.sk_request.specs.declared.Command.TheVariants.{Tell, Plan, Solve, Session, Live}
 use Rattle.sk_request.specs.declared.Request.{Request}
@@ -17,7 +17,7 @@ use Rattle.sk_cli.specs.declared.status.Status.TheVariants.{Done, NotWell}
 use Rattle.sk_request.specs.Asking.{Asks}
 use Rattle.sk_cli.specs.Headline.{TellsAsAsked, RepliesNext, RepliesNextLive}
 use Rattle.sk_cli.specs.Outcome.{IsOutcome, IsSolved}
-use Rattle.sk_turns.specs.InTime.{in_time}
+use Rattle.sk_live_lines.specs.InTime.{in_time}
 use Rattle.sk_cli.specs.LiveAnswer.{RepliesInTime}
 use Rattle.sk_cli.specs.SessionAnswer.{IsReplyText, IsReplied, AreReplied, solve_with, at_start, settings_of}
 use Rattle.sk_cli.proofs.OneOutcome.{OneJudgement, LowerLaws, front_of_outcome, front_of_live}

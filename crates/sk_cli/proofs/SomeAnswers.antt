@@ -18,7 +18,7 @@ use Rattle.sk_offers.specs.OfferLines.{FitsBoard}
 use Rattle.sk_cli.specs.OffersReport.{AreAnswered}
 use Rattle.sk_base.proofs.Deciding.{Decided, moved}
 use Rattle.sk_rules.proofs.SettledRules.{some_named, holds_decided}
-use Rattle.sk_worklist.proofs.SomeShared.{some_shared}
+use Rattle.sk_close_by_order.proofs.SomeShared.{some_shared}
 
 live_decided : (g : Graph) (f : Clusters) (n : Name) → Decided (IsLive f n)
 live_decided g f n = moved (λ (c, named, h). (c, named)) (λ (c, named). (c, named, tt)) (some_named g f n (λ c. Unit {0}) (λ c. inl tt))

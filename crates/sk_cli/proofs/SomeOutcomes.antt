@@ -14,9 +14,9 @@ use Rattle.sk_lang.specs.Reading.{Reads, Refuses}
 use Rattle.sk_graph.specs.SketchGraph.{graph_of}
 use Rattle.sk_graph.proofs.Soundness.{graph_is_sound}
 use Rattle.sk_gen.specs.DatumSketch.{datum_sketch}
-use Rattle.sk_worklist.specs.declared.Order.{Order}
-use Rattle.sk_worklist.specs.declared.Order.TheVariants.{First}
-use Rattle.sk_worklist.specs.Orders.{place_of, next_call, place_below}
+use Rattle.sk_close_by_order.specs.declared.Order.{Order}
+use Rattle.sk_close_by_order.specs.declared.Order.TheVariants.{First}
+use Rattle.sk_close_by_order.specs.Orders.{place_of, next_call, place_below}
 use Rattle.sk_verdict.specs.declared.Judgement.{Judgement}
 use Rattle.sk_tree.specs.declared.Plan.{Plan as ThePlan}
 use Rattle.sk_plan.specs.Judged.{IsTheJudgement}
@@ -26,7 +26,7 @@ use Rattle.sk_report.specs.CheckReport.{part_line, parts_head, check_report}
 use Rattle.sk_report.specs.PlanReport.{plan_report}
 use Rattle.sk_report.specs.RefusalLine.{refusal_line}
 use Rattle.sk_spare.specs.SpareReport.{spare_report}
-use Rattle.sk_derive.specs.DerivedText.{derived_text}
+use Rattle.sk_close_by_angles.specs.DerivedText.{derived_text}
 use Rattle.sk_verify.specs.Texts.{failure_line, verified_line}
 use Rattle.sk_claims.proofs.ClaimSoFar.{some_answer as claim_or_refused}
 use Rattle.sk_claims.proofs.FittingClaims.{read_claim_fits}
@@ -35,7 +35,7 @@ use Rattle.sk_request.specs.declared.Account.{Account}
 use Rattle.sk_request.specs.declared.Account.TheVariants as accounts
 use Rattle.sk_request.specs.declared.Command.{Command}
 use Rattle.sk_request.specs.declared.Command.TheVariants.{Tell, Plan, Solve, Dxf, Offers, Session, Grow, Verify, Flips, Live}
-use Rattle.sk_residual.specs.declared.Wanted.TheVariants.{Drawn}
+use Rattle.sk_tolerance.specs.declared.Wanted.TheVariants.{Drawn}
 use Rattle.sk_solve.specs.declared.Placement.{Placement}
 use Rattle.sk_cli.specs.Solved.{IsPlacedPlan}
 use Rattle.sk_solve.specs.declared.Placement.TheVariants.{Fault, Uncarried, Beyond, Turned, Holds}
@@ -60,7 +60,7 @@ use Rattle.sk_cli.proofs.SomePlacements.{enough_digits, some_placement, some_alt
 use Rattle.sk_plan.proofs.SomePlans.{judgement_there, some_plan_by}
 use Rattle.sk_request.proofs.SomeRequests.{form_decided}
 use Rattle.sk_cli.proofs.SomeSpares.{some_spares}
-use Rattle.sk_derive.proofs.SomeWide.{some_wide}
+use Rattle.sk_close_by_angles.proofs.SomeWide.{some_wide}
 use Rattle.sk_session.proofs.SomeReplies.{GivenByLanguage, well_or_not}
 use Rattle.sk_cli.specs.PartsReport.{IsBelowPart}
 use Rattle.sk_cli.proofs.PartsTold.{never_reported, below_sound, over_or_not, some_told}

@@ -22,13 +22,13 @@ use Rattle.sk_frame.proofs.SoundFrames.{frame_is_sound}
 use Rattle.sk_request.specs.declared.Bits.{Bits}
 use Rattle.sk_request.specs.declared.Bits.TheVariants.{Sixteen, TwentySeven, ThirtyEight}
 use Rattle.sk_request.specs.Grids.{digits_of}
-use Rattle.sk_residual.specs.declared.Wanted.{Wanted}
-use Rattle.sk_residual.specs.declared.Wanted.TheVariants.{Chosen}
-use Rattle.sk_holding.specs.Placing.{PlacesExactly}
-use Rattle.sk_residual.specs.Telling.{spotted_constraint}
-use Rattle.sk_residual.specs.Tolerances.{lengthwise, anglewise, everything}
-use Rattle.sk_residual.specs.Turns.{signs_wanted}
-use Rattle.sk_residual.proofs.Worsts.{worst_lengthwise_named}
+use Rattle.sk_tolerance.specs.declared.Wanted.{Wanted}
+use Rattle.sk_tolerance.specs.declared.Wanted.TheVariants.{Chosen}
+use Rattle.sk_measure.specs.Placing.{PlacesExactly}
+use Rattle.sk_tolerance.specs.Telling.{spotted_constraint}
+use Rattle.sk_tolerance.specs.Tolerances.{lengthwise, anglewise, everything}
+use Rattle.sk_tolerance.specs.Turns.{signs_wanted}
+use Rattle.sk_tolerance.proofs.Worsts.{worst_lengthwise_named}
 use Rattle.sk_solve.specs.declared.Alternative.{Alternative}
 use Rattle.sk_solve.specs.declared.Alternative.TheVariants.{NoChoice}
 use Rattle.sk_solve.specs.declared.Placement.{Placement}
@@ -40,7 +40,7 @@ use Rattle.sk_flips.proofs.FlippedPlans.{flipped_is_legal}
 use Rattle.sk_solve.proofs.InTurn.{is_alternative}
 use Rattle.sk_solve.proofs.SpotsPlaced.{measured_there}
 use Rattle.sk_cli.proofs.PlacedSpots.{laid_exactly}
-use Rattle.sk_residual.proofs.SomeMeasures.{own_everything, own_lengthwise, own_anglewise, some_told, searched, compared}
+use Rattle.sk_tolerance.proofs.SomeMeasures.{own_everything, own_lengthwise, own_anglewise, some_told, searched, compared}
 use Rattle.sk_place.proofs.SomePlaces.{some_places}
 
 some_measured : (wanted : Wanted) (limit : ℕ) (s : Sketch) (p : ThePlan) (at : Placed) → IsSoundGraph (graph_of s) → PlacesExactly (graph_of s) at → (q : Placement) × IsMeasured wanted limit s p at q

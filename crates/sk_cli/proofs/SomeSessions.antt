@@ -8,8 +8,8 @@ use Rattle.sk_graph.specs.SketchGraph.{graph_of}
 use Rattle.sk_lines.specs.declared.Code.TheVariants.{E20}
 use Rattle.sk_lines.specs.Lines.{lines_in}
 use Rattle.sk_report.specs.RefusalLine.{refusal_line}
-use Rattle.sk_worklist.specs.declared.Order.TheVariants as order
-use Rattle.sk_worklist.specs.Orders.{place_of, next_call, place_below}
+use Rattle.sk_close_by_order.specs.declared.Order.TheVariants as order
+use Rattle.sk_close_by_order.specs.Orders.{place_of, next_call, place_below}
 use Rattle.sk_session.specs.declared.Reply.{Reply}
 use Rattle.sk_session.specs.declared.Reply.TheVariants as reply
 use Rattle.sk_entry.specs.Growth.{empty_sketch}
@@ -21,16 +21,16 @@ use Rattle.sk_request.specs.declared.Request.{Request}
 use Rattle.sk_cli.specs.declared.solving.Report.TheVariants.{Places}
 use Rattle.sk_cli.specs.declared.status.Status.{Status}
 use Rattle.sk_cli.specs.declared.status.Status.TheVariants.{Done, Refused}
-use Rattle.sk_turns.specs.InTime.{in_time}
+use Rattle.sk_live_lines.specs.InTime.{in_time}
 use Rattle.sk_cli.specs.LiveAnswer.{RepliesInTime, IsLiveAnswer, late_line}
 use Rattle.sk_cli.specs.SessionAnswer.{solve_with, IsReplyText, at_start, EndsSession, IsSessionAnswer, settings_of}
-use Rattle.sk_turns.specs.Answering.{HasEnded}
+use Rattle.sk_live_lines.specs.Answering.{HasEnded}
 use Rattle.sk_cli.specs.Solved.{IsSolved}
 use Rattle.sk_cli.specs.Told.{told}
 use Rattle.sk_cli.proofs.Sessions.{told_is_text, ends_or_not, Stands, stands_first, stands_next}
 use Rattle.sk_plan.specs.PlanBy.{fresh}
 use Rattle.sk_plan.proofs.SomePlans.{judgement_there, some_plan_by}
-use Rattle.sk_worklist.proofs.SomeRuns.{some_run}
+use Rattle.sk_close_by_order.proofs.SomeRuns.{some_run}
 
 -- `solve` is answered only where there is something to solve
 abbrev pub SomeToSolve : Type 0

@@ -14,8 +14,8 @@ use Rattle.sk_base.proofs.Deciding.{elem_settles, con_settles, Decided, all_deci
 use Rattle.sk_rules.specs.Reach.{IsNormal}
 use Rattle.sk_rules.proofs.Counting.{reached_tight}
 use Rattle.sk_rules.proofs.NormalForm.{normal_same}
-use Rattle.sk_worklist.specs.declared.Order.TheVariants.{First}
-use Rattle.sk_worklist.specs.Orders.{Choosing, place_of, next_call, place_below}
+use Rattle.sk_close_by_order.specs.declared.Order.TheVariants.{First}
+use Rattle.sk_close_by_order.specs.Orders.{Choosing, place_of, next_call, place_below}
 use Rattle.sk_spare.specs.Sparing.{AreSpares, HoldsAll, IsOwner, IsSpare}
 use Rattle.sk_spare.specs.Trying.{trial_graph}
 use Rattle.sk_spare.proofs.Graphs.{sound_trial}

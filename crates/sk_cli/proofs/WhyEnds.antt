@@ -14,15 +14,15 @@ use Rattle.sk_plan.specs.PlanBy.{IsPlanBy}
 use Rattle.sk_plan.proofs.OnePlan.{one_plan_by}
 use Rattle.sk_plan.proofs.PlanTrees.{some_plan_tree}
 use Rattle.sk_place.proofs.OnePlacing.{not_both}
-use Rattle.sk_residual.specs.Tolerances.{AllHold, IsAbove, everything}
-use Rattle.sk_residual.specs.Turns.{signs, AllAsDrawn, IsTurned}
-use Rattle.sk_residual.proofs.Firsts.{first_inside}
-use Rattle.sk_residual.proofs.OneMeasured.{not_beyond}
+use Rattle.sk_tolerance.specs.Tolerances.{AllHold, IsAbove, everything}
+use Rattle.sk_tolerance.specs.Turns.{signs, AllAsDrawn, IsTurned}
+use Rattle.sk_tolerance.proofs.Firsts.{first_inside}
+use Rattle.sk_tolerance.proofs.OneMeasured.{not_beyond}
 use Rattle.sk_request.specs.declared.Account.{Account}
 use Rattle.sk_request.specs.declared.Command.{Command}
 use Rattle.sk_request.specs.declared.Command.TheVariants.{Tell, Plan, Solve, Dxf, Offers, Session, Grow, Verify, Flips, Live}
 use Rattle.sk_lang.specs.declared.Front.{Front}
-use Rattle.sk_residual.specs.declared.Wanted.TheVariants.{Drawn}
+use Rattle.sk_tolerance.specs.declared.Wanted.TheVariants.{Drawn}
 use Rattle.sk_solve.specs.declared.Placement.{Placement}
 use Rattle.sk_solve.specs.declared.Placement.TheVariants.{Fault, Uncarried, Beyond, Turned, Holds}
 use Rattle.sk_request.specs.declared.Request.{Request}
@@ -51,7 +51,7 @@ use Rattle.sk_claims.specs.declared.claim.Claim.{Claim}
 use Rattle.sk_verify.specs.declared.failure.Failure.{Failure}
 use Rattle.sk_verify.specs.Failing.{IsAccepted, FailsFirst}
 use Rattle.sk_verify.specs.Texts.{failure_line, verified_line}
-use Rattle.sk_worklist.specs.declared.Order.{Order}
+use Rattle.sk_close_by_order.specs.declared.Order.{Order}
 
 -- what is placed has the verdict well
 pub never_short : (q : Placement) → status_of q ≡ NotWell → ⊥

@@ -10,8 +10,8 @@ use Rattle.sk_plan.specs.Judged.{IsTheJudgement}
 use Rattle.sk_report.specs.CheckReport.{check_report}
 use Rattle.sk_spare.specs.Sparing.{AreSpares}
 use Rattle.sk_spare.specs.SpareReport.{spare_report}
-use Rattle.sk_derive.specs.WideReach.{IsWideNormal}
-use Rattle.sk_derive.specs.DerivedText.{derived_text}
+use Rattle.sk_close_by_angles.specs.WideReach.{IsWideNormal}
+use Rattle.sk_close_by_angles.specs.DerivedText.{derived_text}
 use Rattle.sk_request.specs.declared.Request.{Request}
 use Rattle.sk_cli.specs.PartsReport.{IsPartsReport}
 use Rattle.sk_cli.specs.ExcessReport.{IsExcessReport}

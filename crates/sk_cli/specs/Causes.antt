@@ -17,10 +17,10 @@ use Rattle.sk_place.specs.declared.StepFault.{StepFault}
 use Rattle.sk_solve.specs.Placements.{IsCarried, IsLaid}
 use Rattle.sk_place.specs.declared.PlaceError.TheVariants as errors
 use Rattle.sk_place.specs.Placing.{IsPlaced}
-use Rattle.sk_residual.specs.declared.Turned.{Turned}
-use Rattle.sk_holding.specs.Items.{Item}
-use Rattle.sk_residual.specs.Tolerances.{AllHold, IsAbove, everything}
-use Rattle.sk_residual.specs.Turns.{signs, IsTurned}
+use Rattle.sk_tolerance.specs.declared.Turned.{Turned}
+use Rattle.sk_measure.specs.Items.{Item}
+use Rattle.sk_tolerance.specs.Tolerances.{AllHold, IsAbove, everything}
+use Rattle.sk_tolerance.specs.Turns.{signs, IsTurned}
 use Rattle.sk_request.specs.declared.Command.{Command}
 use Rattle.sk_request.specs.declared.Command.TheVariants.{Tell, Plan, Solve, Dxf, Offers, Session, Grow, Verify, Flips, Live}
 use Rattle.sk_request.specs.declared.Request.{Request}
@@ -31,7 +31,7 @@ use Rattle.sk_cli.specs.FlipsReport.{ReadsSketchAndFlips, RefusesFlipsBehind}
 use Rattle.sk_cli.specs.Fronts.{IsRefusedAt}
 use Rattle.sk_cli.specs.LiveAnswer.{RepliesInTime}
 use Rattle.sk_cli.specs.SessionAnswer.{EndsSession}
-use Rattle.sk_turns.specs.Answering.{HasEnded}
+use Rattle.sk_live_lines.specs.Answering.{HasEnded}
 use Rattle.sk_cli.specs.OffersReport.{RefusesOffersBehind}
 use Rattle.sk_cli.specs.Solving.{midpoints}
 use Rattle.sk_cli.specs.VerifyAnswer.{RefusesClaimBehind}

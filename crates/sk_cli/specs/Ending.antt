@@ -8,7 +8,7 @@ use Rattle.sk_request.specs.declared.Command.TheVariants.{Live}
 use Rattle.sk_request.specs.declared.Request.{Request}
 use Rattle.sk_request.specs.Asking.{Asks, AskForInput}
 use Rattle.sk_cli.specs.Outcome.{IsOutcome, AreFirstReplies, AreLiveReplies, IsWritten}
-pub use Rattle.sk_turns.specs.Answering.{IsTold}
+pub use Rattle.sk_live_lines.specs.Answering.{IsTold}
 
 -- the words are of the form, and ask for `live`
 abbrev pub AskForLive : List (List ℕ) → Type 0

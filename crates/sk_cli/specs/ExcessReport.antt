@@ -12,11 +12,11 @@ use Rattle.sk_verdict.specs.Judging.{IsOver}
 use Rattle.sk_tree.specs.declared.Plan.{Plan as ThePlan}
 use Rattle.sk_plan.specs.Judged.{IsTheJudgement, IsWell}
 use Rattle.sk_entry.specs.NumberedConstraint.{constraint_of}
-use Rattle.sk_residual.specs.declared.OffBy.{OffBy}
-use Rattle.sk_residual.specs.declared.Tolerance.{Tolerance}
-use Rattle.sk_residual.specs.Offs.{IsOff}
-use Rattle.sk_residual.specs.Telling.{IsCompared}
-use Rattle.sk_residual.specs.Turns.{senses}
+use Rattle.sk_tolerance.specs.declared.OffBy.{OffBy}
+use Rattle.sk_tolerance.specs.declared.Tolerance.{Tolerance}
+use Rattle.sk_tolerance.specs.Offs.{IsOff}
+use Rattle.sk_tolerance.specs.Telling.{IsCompared}
+use Rattle.sk_tolerance.specs.Turns.{senses}
 use Rattle.sk_solve.specs.declared.Placement.{Placement}
 use Rattle.sk_solve.specs.declared.Placement.TheVariants.{Holds}
 use Rattle.sk_parts.specs.OwnSketch.{part_sketch}

@@ -21,13 +21,13 @@ use Rattle.sk_plan.specs.Judged.{IsTheJudgement, IsWell}
 use Rattle.sk_plan.specs.Leaves.{HasLeaves}
 use Rattle.sk_place.specs.declared.BoxFault.{BoxFault}
 use Rattle.sk_place.specs.declared.StepFault.{StepFault}
-use Rattle.sk_residual.specs.declared.Beyond.{Beyond}
-use Rattle.sk_residual.specs.declared.Tolerance.{Tolerance}
-use Rattle.sk_residual.specs.declared.Turned.{Turned}
-use Rattle.sk_residual.specs.First.{IsFirst}
-use Rattle.sk_holding.specs.Placing.{PlacesExactly}
-use Rattle.sk_residual.specs.Tolerances.{AllHoldWithin, IsFirstBeyond, everything}
-use Rattle.sk_residual.specs.Turns.{signs, IsTurned, AllAsDrawn}
+use Rattle.sk_tolerance.specs.declared.Beyond.{Beyond}
+use Rattle.sk_tolerance.specs.declared.Tolerance.{Tolerance}
+use Rattle.sk_tolerance.specs.declared.Turned.{Turned}
+use Rattle.sk_tolerance.specs.First.{IsFirst}
+use Rattle.sk_measure.specs.Placing.{PlacesExactly}
+use Rattle.sk_tolerance.specs.Tolerances.{AllHoldWithin, IsFirstBeyond, everything}
+use Rattle.sk_tolerance.specs.Turns.{signs, IsTurned, AllAsDrawn}
 use Rattle.sk_report.specs.CheckReport.{check_report, parts_head}
 use Rattle.sk_report.specs.FaultLines.{fault_line, frame_fault_line, passed_line, turned_line}
 use Rattle.sk_report.specs.PlanReport.{plan_report}

@@ -13,11 +13,11 @@ use Rattle.sk_session.specs.State.{State}
 use Rattle.sk_session.specs.Replies.{Answers, Only}
 use Rattle.sk_request.specs.declared.Command.TheVariants.{Session}
 use Rattle.sk_request.specs.declared.Request.{Request}
-use Rattle.sk_turns.specs.InTime.{in_time}
+use Rattle.sk_live_lines.specs.InTime.{in_time}
 use Rattle.sk_cli.specs.declared.status.Status.{Status}
 use Rattle.sk_cli.specs.declared.status.Status.TheVariants.{Done, Refused}
 use Rattle.sk_cli.specs.SessionAnswer.{IsReplied, AreReplied, EndsSession, at_start}
-use Rattle.sk_turns.specs.Answering.{HasEnded}
+use Rattle.sk_live_lines.specs.Answering.{HasEnded}
 
 -- a session with the settings of its words
 pub record Sat : Type 0 where

@@ -5,10 +5,10 @@ use Rattle.sk_io.specs.Transfer.{AppendsFront}
 use Rattle.sk_lines.specs.Lines.{lines_in}
 use Rattle.sk_session.specs.State.{State}
 use Rattle.sk_request.specs.declared.Request.{Request}
-use Rattle.sk_turns.specs.Answering.{IsTold, EndsAtLine}
-use Rattle.sk_turns.specs.InTime.{whole_lines}
-use Rattle.sk_turns.specs.declared.TurnEnd.{TurnEnd}
-use Rattle.sk_turns.specs.declared.TurnEnd.TheVariants as turn_end
+use Rattle.sk_live_lines.specs.Answering.{IsTold, EndsAtLine}
+use Rattle.sk_live_lines.specs.InTime.{whole_lines}
+use Rattle.sk_live_lines.specs.declared.TurnEnd.{TurnEnd}
+use Rattle.sk_live_lines.specs.declared.TurnEnd.TheVariants as turn_end
 use Rattle.sk_cli.specs.declared.status.Status.{Status}
 use Rattle.sk_cli.specs.declared.status.Status.TheVariants.{Done, Refused, ReadFault, WriteFault, NoMemory}
 use Rattle.sk_cli.specs.LiveAnswer.{begun, IsSaid, IsEnd, RepliesInTime, IsLiveAnswer, late_line}

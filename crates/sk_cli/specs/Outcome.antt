@@ -3,7 +3,7 @@ use Rattle.std.specs.Prelude.{◌≡◌, ◌⊎◌, ℕ, List}
 use Rattle.sk_base.specs.declared.Sketch.{Sketch}
 use Rattle.sk_lines.specs.declared.Refusal.{Refusal as OneRefusal}
 use Rattle.sk_lang.specs.Reading.{Reads, Refuses}
-use Rattle.sk_worklist.specs.declared.Order.{Order}
+use Rattle.sk_close_by_order.specs.declared.Order.{Order}
 use Rattle.sk_tree.specs.declared.Plan.{Plan as ThePlan}
 use Rattle.sk_plan.specs.PlanBy.{IsPlanBy}
 use Rattle.sk_gen.specs.DatumSketch.{datum_sketch}

@@ -3,7 +3,7 @@ use Rattle.std.specs.Prelude.{◌≡◌}
 use Rattle.sk_base.specs.declared.Sketch.{Sketch}
 use Rattle.sk_graph.specs.SketchGraph.{graph_of}
 use Rattle.sk_plan.specs.PlanBy.{IsPlanBy}
-use Rattle.sk_worklist.specs.declared.Order.{Order}
+use Rattle.sk_close_by_order.specs.declared.Order.{Order}
 use Rattle.sk_cli.specs.declared.planning.Planning.{Planning}
 use Rattle.sk_cli.specs.declared.planning.Planning.TheVariants.{Planned, NotWell}
 use Rattle.sk_cli.specs.Solved.{IsReportNotWell}

@@ -5,7 +5,7 @@ use Rattle.sk_base.specs.declared.Placed.{Placed}
 use Rattle.sk_base.specs.declared.Sketch.{Sketch}
 use Rattle.sk_base.specs.Spelling.{spaced}
 use Rattle.sk_lines.specs.Lines.{ended_lines}
-use Rattle.sk_residual.specs.declared.Tolerance.{Tolerance}
+use Rattle.sk_tolerance.specs.declared.Tolerance.{Tolerance}
 use Rattle.sk_report.specs.PlanReport.{step_line}
 use Rattle.sk_report.specs.SolveReport.{element_lines}
 use Rattle.sk_tree.specs.declared.Plan.{Plan as ThePlan}

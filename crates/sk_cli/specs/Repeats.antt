@@ -8,10 +8,10 @@ use Rattle.sk_graph.specs.SketchGraph.{graph_of}
 use Rattle.sk_verdict.specs.declared.Judgement.{Judgement}
 use Rattle.sk_tree.specs.declared.Plan.{Plan as ThePlan}
 use Rattle.sk_plan.specs.Judged.{IsTheJudgement}
-use Rattle.sk_holding.specs.Placing.{PlacesExactly}
-use Rattle.sk_residual.specs.declared.Tolerance.{Tolerance}
-use Rattle.sk_residual.specs.Tolerances.{AllHoldWithin}
-use Rattle.sk_residual.specs.Turns.{constraint_signs, AllAsDrawn}
+use Rattle.sk_measure.specs.Placing.{PlacesExactly}
+use Rattle.sk_tolerance.specs.declared.Tolerance.{Tolerance}
+use Rattle.sk_tolerance.specs.Tolerances.{AllHoldWithin}
+use Rattle.sk_tolerance.specs.Turns.{constraint_signs, AllAsDrawn}
 use Rattle.sk_excess.specs.LeftOut.{AreLeftOut}
 use Rattle.sk_excess.specs.KeptSketch.{kept_sketch}
 use Rattle.sk_report.specs.ExcessReport.{excess_head, left_words, left_lines, stays_over}

@@ -14,8 +14,8 @@ use Rattle.sk_session.specs.declared.Reply.TheVariants as reply
 use Rattle.sk_entry.specs.Growth.{empty_sketch}
 use Rattle.sk_session.specs.State.{State, sketch_in}
 use Rattle.sk_session.specs.Replies.{Answers}
-use Rattle.sk_worklist.specs.declared.Order.{Order}
-use Rattle.sk_turns.specs.Answering.{HasEnded}
+use Rattle.sk_close_by_order.specs.declared.Order.{Order}
+use Rattle.sk_live_lines.specs.Answering.{HasEnded}
 use Rattle.sk_request.specs.declared.Bits.{Bits}
 use Rattle.sk_request.specs.declared.Command.TheVariants.{Solve}
 use Rattle.sk_request.specs.declared.Request.{Request}

@@ -4,8 +4,8 @@ use Rattle.sk_base.specs.declared.Placed.{Placed}
 use Rattle.sk_base.specs.declared.Sketch.{Sketch}
 use Rattle.sk_tree.specs.declared.Plan.{Plan as ThePlan}
 use Rattle.sk_place.specs.declared.Layout.{Layout}
-use Rattle.sk_residual.specs.declared.Tolerance.{Tolerance}
-use Rattle.sk_residual.specs.declared.Wanted.TheVariants.{Drawn}
+use Rattle.sk_tolerance.specs.declared.Tolerance.{Tolerance}
+use Rattle.sk_tolerance.specs.declared.Wanted.TheVariants.{Drawn}
 use Rattle.sk_report.specs.SolveReport.{shape_report, solve_report}
 use Rattle.sk_report.specs.GrowReport.{grow_report}
 use Rattle.sk_dxf.specs.Entities.{dxf_of}

@@ -9,7 +9,7 @@ use crate::excess::excesses;
 use crate::parts::shapes;
 use crate::status::Status;
 use sk_base::{NoMemory, Sketch, Text};
-use sk_derive::{derive_in_any_order, derive_text};
+use sk_close_by_angles::{derive_in_any_order, derive_text};
 use sk_graph::reduce;
 use sk_lang::{read_sketch, write_sketch_2};
 use sk_lines::ReadError;

@@ -3,7 +3,7 @@ ghost use Rattle.std.specs.Prelude.{◌≡◌, ◌≤◌, ℕ, List, length};
 ghost use Rattle.std.specs.Io.KnownBytes.{Appends};
 ghost use Rattle.sk_io.specs.Causes.{AnswersFault};
 ghost use Rattle.sk_io.specs.Transfer.{TakesAtMost};
-ghost use Rattle.sk_turns.specs.Answering.{IsTold};
+ghost use Rattle.sk_live_lines.specs.Answering.{IsTold};
 ghost use Rattle.sk_cli.specs.LiveAnswer.{late_line};
 ghost use Rattle.sk_cli.specs.LiveEnding.{LiveEnds, LiveTakes, AllLiveFit, TellsLate, EndsWith};
 
@@ -13,9 +13,9 @@ use crate::session::goes_on;
 use crate::status::Status;
 use sk_base::{NoMemory, Text};
 use sk_io::{Sink, Source};
+use sk_live_lines::{Hearing, Replier, TurnEnd, hand_over, turn};
 use sk_request::Request;
 use sk_session::{Closing, Session};
-use sk_turns::{Hearing, Replier, TurnEnd, hand_over, turn};
 use std::alloc::Global;
 use std::marker::Model;
 

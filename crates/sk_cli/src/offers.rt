@@ -7,13 +7,13 @@ ghost use Rattle.sk_cli.specs.OffersReport.{AreAnswered, IsReportOnOffers, IsOff
 use crate::answer::{Answer, refused};
 use crate::status::Status;
 use sk_base::{NoMemory, Sketch, Text};
+use sk_close_by_order::{Chosen, Order};
 use sk_graph::reduce;
 use sk_lang::read_sketch_front;
 use sk_lines::ReadError;
 use sk_offers::{Board, OfferLine, read_offers};
 use sk_report::{answer_text, check_text};
 use sk_verdict::judge;
-use sk_worklist::{Chosen, Order};
 use std::alloc::Global;
 
 /// The answer of `offers` to an input.

@@ -9,8 +9,8 @@ ghost use Rattle.sk_cli.specs.Solving.{IsPlacement, LiesWithinBounds};
 use sk_base::{Graph, NoMemory, Sketch};
 use sk_interval::{G16, G27, G38};
 use sk_request::{Bits, Request};
-use sk_residual::Wanted;
 use sk_solve::{Placement, placed_on};
+use sk_tolerance::Wanted;
 use sk_tree::Plan;
 use std::alloc::Global;
 

@@ -7,10 +7,10 @@ use crate::answer::{Answer, refused};
 use crate::planning::{Planning, plan_or_report};
 use crate::status::Status;
 use sk_base::{NoMemory, Sketch};
+use sk_close_by_order::Order;
 use sk_lang::read_sketch;
 use sk_lines::ReadError;
 use sk_report::plan_text;
-use sk_worklist::Order;
 use std::alloc::Global;
 
 /// The answer of `plan` to an input.

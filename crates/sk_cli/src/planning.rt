@@ -4,10 +4,10 @@ ghost use Rattle.sk_base.specs.SoundSketch.{IsSoundSketch};
 ghost use Rattle.sk_cli.specs.Planning.{IsPlanning};
 
 use sk_base::{Graph, NoMemory, Sketch, Text};
+use sk_close_by_order::Order;
 use sk_plan::{PlanError, Planned, planned_by};
 use sk_report::check_text;
 use sk_tree::Plan;
-use sk_worklist::Order;
 use std::alloc::Global;
 
 /// What comes of planning a sketch.

@@ -15,8 +15,8 @@ use sk_report::{
     fault_text, frame_fault_text, grow_text, passed_text, shape_text, solve_text, turned_text,
 };
 use sk_request::Request;
-use sk_residual::Tolerance;
 use sk_solve::Placement;
+use sk_tolerance::Tolerance;
 use sk_tree::Plan;
 use std::alloc::Global;
 

@@ -12,7 +12,7 @@ use Rattle.sk_rules.specs.declared.Taken.{Taken}
 use Rattle.sk_rules.specs.Merges.{merged}
 use Rattle.sk_rules.specs.Reach.{Reach, Step, stays}
 use Rattle.sk_rules.specs.Taking.{IsTaken, Leads}
-use Rattle.sk_worklist.proofs.Runs.{leads_more}
+use Rattle.sk_close_by_order.proofs.Runs.{leads_more}
 use Rattle.sk_offers.specs.Offering.{Table, IsSoundTable}
 
 -- the board at the start

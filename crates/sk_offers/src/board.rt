@@ -7,14 +7,14 @@ ghost use Rattle.sk_family.specs.Merges.{Falls, names_of};
 ghost use Rattle.sk_rules.specs.Merges.{IsLeastShared};
 ghost use Rattle.sk_rules.specs.Reach.{IsNormal, IsTheOnlyNormal};
 ghost use Rattle.sk_rules.specs.Taking.{Leads};
-ghost use Rattle.sk_worklist.specs.Run.{IsRun, merge_of};
+ghost use Rattle.sk_close_by_order.specs.Run.{IsRun, merge_of};
 ghost use Rattle.sk_offers.specs.Offering.{starting_table, IsAnswer, Follows, IsFirstStale, TakesDown};
 
 use crate::answer::Answer;
 use sk_base::{Graph, List, Name, NoMemory};
+use sk_close_by_order::{Picker, close_family};
 use sk_family::{Family, initial};
 use sk_rules::{Merge, Shared, Taken, applies, do_merge};
-use sk_worklist::{Picker, close_family};
 use std::alloc::Global;
 use std::marker::Model;
 

@@ -18,10 +18,10 @@ use Rattle.sk_graph.specs.SketchGraph.{graph_of}
 use Rattle.sk_family.specs.declared.Merge.{Merge}
 use Rattle.sk_rules.specs.Merges.{merged}
 use Rattle.sk_family.specs.Rules.{IsShared}
-use Rattle.sk_worklist.specs.declared.Order.{Order}
-use Rattle.sk_worklist.specs.Choices.{AreChoices}
-use Rattle.sk_worklist.specs.Orders.{place_of, next_call}
-use Rattle.sk_worklist.proofs.OneRun.{choices_are_one, runs_are_one}
+use Rattle.sk_close_by_order.specs.declared.Order.{Order}
+use Rattle.sk_close_by_order.specs.Choices.{AreChoices}
+use Rattle.sk_close_by_order.specs.Orders.{place_of, next_call}
+use Rattle.sk_close_by_order.proofs.OneRun.{choices_are_one, runs_are_one}
 use Rattle.sk_tree.specs.declared.Choice.{Choice}
 use Rattle.sk_tree.specs.declared.PlanStep.{PlanStep}
 use Rattle.sk_tree.specs.declared.Plan.{Plan}

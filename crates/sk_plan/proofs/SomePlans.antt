@@ -23,11 +23,11 @@ use Rattle.sk_rules.specs.declared.Taken.{Taken}
 use Rattle.sk_rules.specs.Merges.{merged}
 use Rattle.sk_rules.specs.Reach.{Reach, IsNormal, IsClosed, stays}
 use Rattle.sk_rules.specs.Taking.{Leads}
-use Rattle.sk_worklist.specs.declared.Order.{Order}
-use Rattle.sk_worklist.specs.declared.Order.TheVariants.{First}
-use Rattle.sk_worklist.specs.Orders.{place_of, next_call, place_below}
-use Rattle.sk_worklist.specs.Run.{IsRun, merge_of}
-use Rattle.sk_worklist.proofs.Runs.{none_closes}
+use Rattle.sk_close_by_order.specs.declared.Order.{Order}
+use Rattle.sk_close_by_order.specs.declared.Order.TheVariants.{First}
+use Rattle.sk_close_by_order.specs.Orders.{place_of, next_call, place_below}
+use Rattle.sk_close_by_order.specs.Run.{IsRun, merge_of}
+use Rattle.sk_close_by_order.proofs.Runs.{none_closes}
 use Rattle.sk_tree.specs.declared.Plan.{Plan}
 use Rattle.sk_tree.specs.declared.PlanStep.{PlanStep}
 use Rattle.sk_tree.specs.ByNumber.{by_number}
@@ -45,7 +45,7 @@ use Rattle.sk_plan.proofs.TheJudgement.{the_judgement}
 use Rattle.sk_plan.proofs.Joined.{sound_taken, sound_end, reach_more, run_normal}
 use Rattle.sk_plan.proofs.Stepping.{legal_step}
 use Rattle.sk_plan.proofs.WellRuns.{ends_well, run_told}
-use Rattle.sk_worklist.proofs.SomeRuns.{SomeRun, some_run, taken_of}
+use Rattle.sk_close_by_order.proofs.SomeRuns.{SomeRun, some_run, taken_of}
 use Rattle.sk_verdict.proofs.SomeJudgements.{some_judgement}
 
 prefer_tells : (a b : Cluster) → IsPreferred a b ⊎ IsPreferred b a

@@ -19,7 +19,7 @@ use Rattle.sk_family.specs.declared.Merge.{Merge}
 use Rattle.sk_rules.specs.declared.Taken.{Taken}
 use Rattle.sk_rules.specs.Reach.{IsClosed}
 use Rattle.sk_rules.specs.Taking.{Leads}
-use Rattle.sk_worklist.specs.Run.{IsRun, merge_of}
+use Rattle.sk_close_by_order.specs.Run.{IsRun, merge_of}
 use Rattle.sk_tree.specs.declared.Plan.{Plan}
 use Rattle.sk_tree.specs.declared.PlanStep.{PlanStep}
 use Rattle.sk_tree.specs.LegalPlan.{merge_told, taken_told, numbers_of, AreLegalSteps, IsWhole}

@@ -3,9 +3,9 @@ use Rattle.std.specs.Prelude.{ℕ, All, map}
 use Rattle.sk_base.specs.declared.Sketch.{Sketch}
 use Rattle.sk_family.specs.Clusters.{Clusters, initial_clusters}
 use Rattle.sk_graph.specs.SketchGraph.{graph_of}
-use Rattle.sk_worklist.specs.declared.Order.{Order}
-use Rattle.sk_worklist.specs.Orders.{Choosing, place_of, next_call}
-use Rattle.sk_worklist.specs.Run.{IsRun}
+use Rattle.sk_close_by_order.specs.declared.Order.{Order}
+use Rattle.sk_close_by_order.specs.Orders.{Choosing, place_of, next_call}
+use Rattle.sk_close_by_order.specs.Run.{IsRun}
 use Rattle.sk_tree.specs.declared.Plan.{Plan}
 use Rattle.sk_tree.specs.LegalPlan.{IsLegalPlan, merge_told}
 use Rattle.sk_tree.specs.DrawnChoice.{HasDrawnChoice}

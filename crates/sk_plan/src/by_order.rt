@@ -8,9 +8,9 @@ ghost use Rattle.sk_plan.specs.PlanBy.{IsPlanBy};
 use crate::error::PlanError;
 use crate::making::plan_of;
 use sk_base::{Graph, Sketch};
+use sk_close_by_order::{Chosen, Order};
 use sk_graph::reduce;
 use sk_tree::Plan;
-use sk_worklist::{Chosen, Order};
 use std::alloc::Global;
 
 /// The graph of a sketch, and a plan of it.

@@ -5,8 +5,8 @@ ghost use Rattle.sk_tree.specs.LegalPlan.{numbers_of};
 ghost use Rattle.sk_plan.specs.Judged.{HoldsWhatIsDue, IsTheJudgement};
 
 use sk_base::{ConId, Graph, NoMemory};
+use sk_close_any_order::close_in_any_order;
 use sk_family::initial;
-use sk_growth::close_in_any_order;
 use sk_rules::weight_of;
 use sk_verdict::{Judgement, judge};
 use std::alloc::Global;

@@ -11,7 +11,7 @@ ghost use Rattle.sk_rules.specs.declared.Taken.{Taken};
 ghost use Rattle.sk_rules.specs.Reach.{Reach, IsClosed, IsNormal};
 ghost use Rattle.sk_rules.specs.Excess.{has_ends_in, HasTwoEach};
 ghost use Rattle.sk_rules.specs.Taking.{Leads};
-ghost use Rattle.sk_worklist.specs.declared.Order.{Order};
+ghost use Rattle.sk_close_by_order.specs.declared.Order.{Order};
 ghost use Rattle.sk_tree.specs.declared.Plan.{Plan};
 ghost use Rattle.sk_tree.specs.declared.PlanStep.{PlanStep};
 ghost use Rattle.sk_tree.specs.declared.Tree.{Tree};

@@ -5,7 +5,7 @@ ghost use Rattle.sk_base.specs.SoundSketch.{IsSoundSketch};
 ghost use Rattle.sk_family.specs.Clusters.{Clusters, initial_clusters};
 ghost use Rattle.sk_graph.specs.SketchGraph.{graph_of};
 ghost use Rattle.sk_rules.specs.Taking.{Leads};
-ghost use Rattle.sk_worklist.specs.Run.{IsRun};
+ghost use Rattle.sk_close_by_order.specs.Run.{IsRun};
 ghost use Rattle.sk_tree.specs.LegalPlan.{numbers_of, merge_told, taken_told, AreLegalSteps, IsLegalPlan, IsWhole};
 ghost use Rattle.sk_tree.specs.declared.Tree.{Tree};
 ghost use Rattle.sk_tree.specs.PlanTree.{IsPlanTree};
@@ -19,11 +19,11 @@ use crate::error::PlanError;
 use crate::judging::{holds_what_is_due, judgement_of};
 use crate::step::plan_step;
 use sk_base::{Graph, List, NoMemory, Sketch};
+use sk_close_by_order::{Picker, close_family};
 use sk_family::initial;
 use sk_rules::{Taken, do_merge};
 use sk_tree::{Plan, PlanStep, numbers_of};
 use sk_verdict::{Verdict, judge};
-use sk_worklist::{Picker, close_family};
 use std::alloc::Global;
 
 /// The plan of the picker's run on the graph `g` of the sketch `s`. There is one exactly where the

@@ -6,8 +6,8 @@ use Rattle.sk_base.specs.declared.ConId.{ConId}
 use Rattle.sk_base.specs.declared.Sketch.{Sketch}
 use Rattle.sk_base.specs.Spelling.{whole_text}
 use Rattle.sk_entry.specs.NumberedConstraint.{constraint_words}
-use Rattle.sk_residual.specs.declared.OffBy.{OffBy}
-use Rattle.sk_residual.specs.declared.Turned.{Turned}
+use Rattle.sk_tolerance.specs.declared.OffBy.{OffBy}
+use Rattle.sk_tolerance.specs.declared.Turned.{Turned}
 use Rattle.sk_report.specs.PlanReport.{sign_text}
 
 -- how many parts are over

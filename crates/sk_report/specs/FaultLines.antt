@@ -11,9 +11,9 @@ use Rattle.sk_steps.specs.Words.{word_of}
 use Rattle.sk_place.specs.declared.Phase.{Phase}
 use Rattle.sk_place.specs.declared.BoxFault.{BoxFault}
 use Rattle.sk_place.specs.declared.StepFault.{StepFault}
-use Rattle.sk_residual.specs.declared.Beyond.{Beyond}
-use Rattle.sk_residual.specs.declared.Spotted.{Spotted}
-use Rattle.sk_residual.specs.declared.Turned.{Turned}
+use Rattle.sk_tolerance.specs.declared.Beyond.{Beyond}
+use Rattle.sk_tolerance.specs.declared.Spotted.{Spotted}
+use Rattle.sk_tolerance.specs.declared.Turned.{Turned}
 use Rattle.sk_text.specs.ClusterName.{cluster_name}
 use Rattle.sk_entry.specs.NumberedConstraint.{constraint_of}
 use Rattle.sk_report.specs.PlanReport.{sign_text}

@@ -7,7 +7,7 @@ use Rattle.sk_base.specs.declared.Sketch.{Sketch}
 use Rattle.sk_base.specs.declared.Spot.{Spot}
 use Rattle.sk_base.specs.Spelling.{whole_text}
 use Rattle.sk_tree.specs.declared.Plan.{Plan}
-use Rattle.sk_residual.specs.declared.Tolerance.{Tolerance}
+use Rattle.sk_tolerance.specs.declared.Tolerance.{Tolerance}
 use Rattle.sk_report.specs.SolveReport.{tolerance_lines}
 
 -- where a point or a centre lies along x; a line adds nothing

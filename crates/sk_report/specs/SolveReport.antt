@@ -12,8 +12,8 @@ use Rattle.sk_base.specs.Places.{place_of}
 use Rattle.sk_base.specs.ElementNames.{name_of}
 use Rattle.sk_base.specs.Spelling.{whole_text}
 use Rattle.sk_tree.specs.declared.Plan.{Plan}
-use Rattle.sk_residual.specs.declared.Spotted.{Spotted}
-use Rattle.sk_residual.specs.declared.Tolerance.{Tolerance}
+use Rattle.sk_tolerance.specs.declared.Spotted.{Spotted}
+use Rattle.sk_tolerance.specs.declared.Tolerance.{Tolerance}
 
 -- whole numbers, each with a space before it
 abbrev pub numbers_text : List ℤ → List ℕ

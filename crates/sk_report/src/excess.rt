@@ -6,7 +6,7 @@ use crate::fault::sign_text;
 use crate::solve::put_number;
 use sk_base::{ConId, NoMemory, Sketch, Text};
 use sk_entry::put_constraint_words;
-use sk_residual::{OffBy, Turned};
+use sk_tolerance::{OffBy, Turned};
 use std::alloc::Global;
 
 /// Puts a line for each constraint that is left out.

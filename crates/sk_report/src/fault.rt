@@ -8,8 +8,8 @@ use sk_base::{NoMemory, Rule, Sign, Sketch, Text};
 use sk_entry::constraint_of;
 use sk_interval::Cause;
 use sk_place::{BoxFault, Phase, StepFault};
-use sk_residual::{Beyond, Spotted, Turned};
 use sk_text::{cluster_name, put_name};
+use sk_tolerance::{Beyond, Spotted, Turned};
 use std::alloc::Global;
 
 /// The one line that names the faulty step, the quantity that has no interval on that grid, and its

@@ -5,7 +5,7 @@ ghost use Rattle.sk_report.specs.GrowReport.{x_of, y_of, x_sum, y_sum, grow_coun
 
 use crate::solve::{put_named, put_number, put_tolerance};
 use sk_base::{At, NoMemory, Placed, Sketch, Spot, Text};
-use sk_residual::Tolerance;
+use sk_tolerance::Tolerance;
 use sk_tree::Plan;
 use std::alloc::Global;
 

@@ -4,8 +4,8 @@ ghost use Rattle.sk_base.specs.Spelling.{whole_text};
 ghost use Rattle.sk_report.specs.SolveReport.{numbers_text, point_line, circle_line, line_line, centre_line, element_line, element_lines, spotted_words, constraint_or_none, spotted_or_none, length_line, angle_line, tolerance_lines, solve_counts, places_report, shape_report, solve_report};
 
 use sk_base::{At, ConId, Element, NoMemory, Placed, Shape, Sketch, Text, Um};
-use sk_residual::{Spotted, Tolerance};
 use sk_text::{Puts, put_name};
+use sk_tolerance::{Spotted, Tolerance};
 use sk_tree::Plan;
 use std::alloc::Global;
 

@@ -4,8 +4,8 @@ use Rattle.std.specs.Prelude.{map, Bool, true, false, Option, Some, None, IfNone
 use Rattle.std.proofs.lemmas.List.Elements.{All-nil, All-cons, All-head, All-tail, All-weaker, All-contains, All-append, Contains-append_right}
 use Rattle.std.proofs.lemmas.List.{take_more, drop_more, map-append, take-append-drop}
 use Rattle.sk_base.proofs.Members.{contains_head}
-use Rattle.sk_worklist.specs.declared.Order.{Order}
-use Rattle.sk_worklist.specs.declared.Order.TheVariants.{First}
+use Rattle.sk_close_by_order.specs.declared.Order.{Order}
+use Rattle.sk_close_by_order.specs.declared.Order.TheVariants.{First}
 use Rattle.sk_place.specs.declared.FrameBy.{FrameBy}
 use Rattle.sk_place.specs.declared.FrameBy.TheVariants.{Base}
 use Rattle.sk_place.specs.declared.PlaceBy.{PlaceBy}

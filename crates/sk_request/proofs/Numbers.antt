@@ -4,8 +4,8 @@ use Rattle.std.specs.Fmt.{decimal}
 use Rattle.std.specs.Str.Parse.{AllDigits}
 use Rattle.std.specs.Char.{digit_value}
 use Rattle.std.proofs.lemmas.Fmt.{decimal_injective, decimal_is_IsNumeral}
-use Rattle.sk_worklist.specs.declared.Order.{Order}
-use Rattle.sk_worklist.specs.declared.Order.TheVariants.{First, Last, Stride}
+use Rattle.sk_close_by_order.specs.declared.Order.{Order}
+use Rattle.sk_close_by_order.specs.declared.Order.TheVariants.{First, Last, Stride}
 use Rattle.sk_place.specs.declared.FrameBy.{FrameBy}
 use Rattle.sk_place.specs.declared.FrameBy.TheVariants.{Base, Drawn}
 use Rattle.sk_place.specs.declared.PlaceBy.{PlaceBy}

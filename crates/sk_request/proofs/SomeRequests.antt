@@ -4,8 +4,8 @@ use Rattle.std.specs.Prelude.{All, Contains, IsTrue, IsSome, is_some, codes}
 use Rattle.std.specs.Fmt.{decimal}
 use Rattle.std.proofs.lemmas.Bool.{cases_lt, cases_Bool}
 use Rattle.sk_base.proofs.Members.{nat_settles, list_settles}
-use Rattle.sk_worklist.specs.declared.Order.{Order}
-use Rattle.sk_worklist.specs.declared.Order.TheVariants.{First, Last, Stride}
+use Rattle.sk_close_by_order.specs.declared.Order.{Order}
+use Rattle.sk_close_by_order.specs.declared.Order.TheVariants.{First, Last, Stride}
 use Rattle.sk_place.specs.declared.FrameBy.{FrameBy}
 use Rattle.sk_place.specs.declared.FrameBy.TheVariants.{Base, Drawn}
 use Rattle.sk_place.specs.declared.PlaceBy.{PlaceBy}

@@ -2,8 +2,8 @@
 use Rattle.std.specs.Prelude.{◌≡◌, ◌==◌, ◌≤◌, ◌<◌, ℕ, slice_index, length, Bool, true, false, if◌then◌else◌, List, [], ◌∷◌, Option, None, Some, IsTrue, IsSome, All, codes}
 use Rattle.std.specs.List.{filter_map}
 use Rattle.std.specs.Fmt.{decimal}
-use Rattle.sk_worklist.specs.declared.Order.{Order}
-use Rattle.sk_worklist.specs.declared.Order.TheVariants.{First, Last, Stride}
+use Rattle.sk_close_by_order.specs.declared.Order.{Order}
+use Rattle.sk_close_by_order.specs.declared.Order.TheVariants.{First, Last, Stride}
 use Rattle.sk_place.specs.declared.FrameBy.{FrameBy}
 use Rattle.sk_place.specs.declared.FrameBy.TheVariants.{Base, Drawn}
 use Rattle.sk_place.specs.declared.PlaceBy.{PlaceBy}

@@ -6,8 +6,8 @@ ghost use Rattle.sk_request.specs.Asking.{Asks, IsSized, LacksSize};
 use crate::bits::Bits;
 use crate::command::{Command, command_of};
 use crate::settings::settings_of;
+use sk_close_by_order::Order;
 use sk_place::{FrameBy, Layout, PlaceBy};
-use sk_worklist::Order;
 
 /// The limit of tolerance where no key gives it.
 const LIMIT: u64 = 1_000;

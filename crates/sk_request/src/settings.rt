@@ -1,7 +1,7 @@
 // What the keys of the command line set.
 ghost use Rattle.std.specs.Prelude.{◌≡◌, ◌≤◌, ◌<◌, ◌^◌, ◌≢◌, ℕ, map, string_bytes, None, Some, IfSome, IfNone, IsSome, IsTrue, ◌↔◌};
 ghost use Rattle.std.specs.Fmt.{decimal};
-ghost use Rattle.sk_worklist.specs.declared.Order.{Order as AnyOrder};
+ghost use Rattle.sk_close_by_order.specs.declared.Order.{Order as AnyOrder};
 ghost use Rattle.sk_place.specs.declared.FrameBy.{FrameBy as AnyFrame};
 ghost use Rattle.sk_place.specs.declared.PlaceBy.{PlaceBy as AnyPlace};
 ghost use Rattle.sk_request.specs.declared.bits.Bits.{Bits as AnyBits};
@@ -14,8 +14,8 @@ ghost use Rattle.sk_request.specs.Settings.{AreSet, Adds};
 use crate::bits::Bits;
 use crate::command::Command;
 use sk_base::digits_of;
+use sk_close_by_order::Order;
 use sk_place::{FrameBy, PlaceBy};
-use sk_worklist::Order;
 
 const MOST_STRIDE: u64 = 65_535;
 

@@ -17,7 +17,7 @@ use Rattle.sk_lines.specs.declared.Words.{Words}
 use Rattle.sk_plan.specs.Judged.{IsTheJudgement}
 use Rattle.sk_plan.specs.PlanBy.{IsPlanBy}
 use Rattle.sk_verdict.specs.declared.Verdict.TheVariants.{Well}
-use Rattle.sk_worklist.specs.declared.Order.{Order}
+use Rattle.sk_close_by_order.specs.declared.Order.{Order}
 use Rattle.sk_edits.specs.declared.Command.{Command}
 use Rattle.sk_edits.specs.declared.Command.TheVariants.{Change, Undo, Check, Plan, Solve, Write, End}
 use Rattle.sk_edits.specs.declared.Edit.{Edit}

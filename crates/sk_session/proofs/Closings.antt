@@ -3,7 +3,7 @@ use Rattle.std.proofs.Common.{refl, []}
 use Rattle.sk_base.specs.declared.Graph.{Graph}
 use Rattle.sk_family.specs.Clusters.{Clusters}
 use Rattle.sk_rules.specs.Reach.{stays}
-use Rattle.sk_worklist.specs.declared.Order.{Order}
+use Rattle.sk_close_by_order.specs.declared.Order.{Order}
 use Rattle.sk_plan.specs.PlanBy.{fresh}
 use Rattle.sk_session.specs.declared.closing.Closing.{Closing}
 use Rattle.sk_session.specs.declared.closing.Closing.TheVariants.{ByRun, InAnyOrder}

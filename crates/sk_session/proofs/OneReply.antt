@@ -18,7 +18,7 @@ use Rattle.sk_lines.specs.FirstCode.{first_code}
 use Rattle.sk_lines.specs.Keywords.{keyword_of}
 use Rattle.sk_graph.specs.SketchGraph.{graph_of}
 use Rattle.sk_graph.proofs.Soundness.{graph_is_sound}
-use Rattle.sk_worklist.specs.declared.Order.{Order}
+use Rattle.sk_close_by_order.specs.declared.Order.{Order}
 use Rattle.sk_plan.proofs.OnePlan.{one_plan_by}
 use Rattle.sk_plan.proofs.TheJudgement.{one_judgement, well_alone}
 use Rattle.sk_session.specs.declared.closing.Closing.{Closing}

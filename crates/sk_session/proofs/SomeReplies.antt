@@ -36,11 +36,11 @@ use Rattle.sk_rules.specs.Merges.{merged}
 use Rattle.sk_rules.specs.Reach.{Reach, IsNormal, stays, goes}
 use Rattle.sk_rules.proofs.Merging.{can_be_replaced, merge_steps}
 use Rattle.sk_rules.proofs.NormalForm.{normal_same}
-use Rattle.sk_worklist.specs.declared.Order.{Order}
-use Rattle.sk_worklist.specs.Orders.{Choosing, place_of, next_call}
-use Rattle.sk_worklist.specs.Run.{PicksLead, IsRun}
+use Rattle.sk_close_by_order.specs.declared.Order.{Order}
+use Rattle.sk_close_by_order.specs.Orders.{Choosing, place_of, next_call}
+use Rattle.sk_close_by_order.specs.Run.{PicksLead, IsRun}
 use Rattle.sk_neighbours.proofs.Holding.{in_list}
-use Rattle.sk_worklist.proofs.Runs.{choice_can, none_closes, picks_sound, picks_room}
+use Rattle.sk_close_by_order.proofs.Runs.{choice_can, none_closes, picks_sound, picks_room}
 use Rattle.sk_rules.proofs.Takable.{reach_on}
 use Rattle.sk_tree.specs.declared.Plan.{Plan}
 use Rattle.sk_verdict.specs.declared.Judgement.{Judgement}

@@ -6,9 +6,9 @@ use Rattle.sk_family.specs.Clusters.{Clusters, bodies}
 use Rattle.sk_family.specs.declared.Merge.{Merge}
 use Rattle.sk_rules.specs.Reach.{Reach, IsNormal, IsTheOnlyNormal}
 use Rattle.sk_graph.specs.SketchGraph.{graph_of}
-use Rattle.sk_worklist.specs.declared.Order.{Order}
-use Rattle.sk_worklist.specs.Orders.{Choosing, place_of, next_call}
-use Rattle.sk_worklist.specs.Run.{IsRun, IsOnTheWay}
+use Rattle.sk_close_by_order.specs.declared.Order.{Order}
+use Rattle.sk_close_by_order.specs.Orders.{Choosing, place_of, next_call}
+use Rattle.sk_close_by_order.specs.Run.{IsRun, IsOnTheWay}
 use Rattle.sk_plan.specs.PlanBy.{fresh}
 use Rattle.sk_session.specs.declared.closing.Closing.{Closing}
 use Rattle.sk_session.specs.declared.closing.Closing.TheVariants.{ByRun, InAnyOrder}

@@ -7,9 +7,9 @@ ghost use Rattle.sk_rules.specs.Reach.{IsNormal, Reach};
 ghost use Rattle.sk_session.specs.State.{EndsBy, HasBegunBy};
 
 use sk_base::{Graph, NoMemory};
+use sk_close_any_order::close_in_any_order;
+use sk_close_by_order::{Chosen, Order, close_family};
 use sk_family::Family;
-use sk_growth::close_in_any_order;
-use sk_worklist::{Chosen, Order, close_family};
 use std::alloc::Global;
 
 /// How the checks of a session close its kept family. What they answer is the same.

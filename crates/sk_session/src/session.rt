@@ -18,13 +18,13 @@ use crate::done::Done;
 use crate::reduced_sketch::ReducedSketch;
 use crate::reply::Reply;
 use sk_base::{List, NoMemory, Sketch};
+use sk_close_by_order::Order;
 use sk_edits::Edit;
 use sk_entry::empty_sketch;
 use sk_family::{Family, initial};
 use sk_graph::reduce;
 use sk_plan::{PlanError, planned_by};
 use sk_verdict::judge;
-use sk_worklist::Order;
 use std::alloc::Global;
 use std::marker::Model;
 

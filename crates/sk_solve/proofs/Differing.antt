@@ -23,12 +23,12 @@ use Rattle.sk_tree.specs.declared.PlanStep.{PlanStep}
 use Rattle.sk_tree.specs.ByNumber.{by_number}
 use Rattle.sk_tree.specs.LegalPlan.{IsLegalPlan}
 use Rattle.sk_place.specs.declared.Layout.{Layout}
-use Rattle.sk_residual.specs.declared.Tolerance.{Tolerance}
-use Rattle.sk_residual.specs.declared.Turned.{Turned as SignThere}
-use Rattle.sk_residual.specs.declared.Wanted.TheVariants.{Chosen}
-use Rattle.sk_residual.specs.Turns.{choices, as_chosen, constraint_signs, signs_of_step, signs_of_steps, signs_wanted, value_of, AllAsDrawn}
-use Rattle.sk_residual.proofs.Comparisons.{legal_step}
-use Rattle.sk_residual.proofs.Worsts.{contains_flat}
+use Rattle.sk_tolerance.specs.declared.Tolerance.{Tolerance}
+use Rattle.sk_tolerance.specs.declared.Turned.{Turned as SignThere}
+use Rattle.sk_tolerance.specs.declared.Wanted.TheVariants.{Chosen}
+use Rattle.sk_tolerance.specs.Turns.{choices, as_chosen, constraint_signs, signs_of_step, signs_of_steps, signs_wanted, value_of, AllAsDrawn}
+use Rattle.sk_tolerance.proofs.Comparisons.{legal_step}
+use Rattle.sk_tolerance.proofs.Worsts.{contains_flat}
 use Rattle.sk_solve.specs.declared.alternative.Alternative.TheVariants.{Found}
 use Rattle.sk_solve.specs.Alternatives.{placed_signs, IsAlternative}
 use Rattle.sk_flips.specs.Flipping.{is_open, is_open_step, has_choice, turned, flipped_step, flipped}

@@ -7,10 +7,10 @@ use Rattle.sk_base.specs.SoundGraph.{IsSoundGraph}
 use Rattle.sk_graph.specs.SketchGraph.{graph_of}
 use Rattle.sk_tree.specs.declared.Plan.{Plan}
 use Rattle.sk_place.specs.declared.Layout.{Layout}
-use Rattle.sk_residual.specs.declared.Tolerance.{Tolerance}
-use Rattle.sk_residual.specs.Tolerances.{AllHoldWithin}
-use Rattle.sk_residual.proofs.Merging.{has_blocks}
-use Rattle.sk_residual.proofs.Worsts.{all_hold_within}
+use Rattle.sk_tolerance.specs.declared.Tolerance.{Tolerance}
+use Rattle.sk_tolerance.specs.Tolerances.{AllHoldWithin}
+use Rattle.sk_tolerance.proofs.Merging.{has_blocks}
+use Rattle.sk_tolerance.proofs.Worsts.{all_hold_within}
 use Rattle.sk_solve.specs.declared.alternative.Alternative.TheVariants.{Found}
 use Rattle.sk_solve.specs.Alternatives.{IsAlternative}
 use Rattle.sk_solve.specs.Placements.{IsTolerance}

@@ -27,13 +27,13 @@ use Rattle.sk_place.specs.declared.PlaceError.TheVariants as errors
 use Rattle.sk_place.specs.Placing.{IsPlaced}
 use Rattle.sk_place.proofs.OnePlacing.{one_list, one_failure, not_both}
 use Rattle.sk_place.proofs.Results.{ok_inside}
-use Rattle.sk_residual.specs.declared.Spotted.{Spotted}
-use Rattle.sk_residual.specs.declared.Tolerance.{Tolerance}
-use Rattle.sk_residual.specs.Tolerances.{AllHold, IsWorstUnlessNone, lengthwise, anglewise, everything}
-use Rattle.sk_residual.specs.declared.Wanted.{Wanted}
-use Rattle.sk_residual.specs.declared.Wanted.TheVariants.{Chosen}
-use Rattle.sk_residual.specs.Turns.{signs_wanted, IsTurned}
-use Rattle.sk_residual.proofs.OneMeasured.{one_least, one_first, one_beyond, not_beyond, one_worst, not_turned}
+use Rattle.sk_tolerance.specs.declared.Spotted.{Spotted}
+use Rattle.sk_tolerance.specs.declared.Tolerance.{Tolerance}
+use Rattle.sk_tolerance.specs.Tolerances.{AllHold, IsWorstUnlessNone, lengthwise, anglewise, everything}
+use Rattle.sk_tolerance.specs.declared.Wanted.{Wanted}
+use Rattle.sk_tolerance.specs.declared.Wanted.TheVariants.{Chosen}
+use Rattle.sk_tolerance.specs.Turns.{signs_wanted, IsTurned}
+use Rattle.sk_tolerance.proofs.OneMeasured.{one_least, one_first, one_beyond, not_beyond, one_worst, not_turned}
 use Rattle.sk_solve.specs.declared.alternative.Alternative.{Alternative}
 use Rattle.sk_solve.specs.declared.alternative.Alternative.TheVariants as found
 use Rattle.sk_solve.specs.declared.placing.Placement.{Placement}

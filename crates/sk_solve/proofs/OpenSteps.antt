@@ -19,8 +19,8 @@ use Rattle.sk_tree.specs.declared.Choice.TheVariants.{Turn, Advance, Nothing}
 use Rattle.sk_tree.specs.ByNumber.{by_number}
 use Rattle.sk_tree.specs.LegalPlan.{FitsKinds}
 use Rattle.sk_tree.proofs.Ordering.{by_number_some}
-use Rattle.sk_residual.specs.declared.turned.Turned.{Turned}
-use Rattle.sk_residual.specs.Turns.{turn, advance, choices, as_chosen}
+use Rattle.sk_tolerance.specs.declared.turned.Turned.{Turned}
+use Rattle.sk_tolerance.specs.Turns.{turn, advance, choices, as_chosen}
 use Rattle.sk_flips.specs.Flipping.{is_open}
 
 -- three points, or a line with two points

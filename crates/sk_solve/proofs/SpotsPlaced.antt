@@ -29,8 +29,8 @@ use Rattle.sk_frame.specs.FrameMotions.{frame_motion}
 use Rattle.sk_place.specs.Clusters.{nodes_of}
 use Rattle.sk_place.specs.Placing.{IsPlaced}
 use Rattle.sk_place.specs.Rounding.{rounded, rounded_box}
-use Rattle.sk_residual.specs.declared.Wanted.{Wanted}
-use Rattle.sk_holding.specs.Placing.{HasKind, AreSpotsOf}
+use Rattle.sk_tolerance.specs.declared.Wanted.{Wanted}
+use Rattle.sk_measure.specs.Placing.{HasKind, AreSpotsOf}
 use Rattle.sk_solve.specs.declared.placing.Placement.{Placement}
 use Rattle.sk_solve.specs.declared.placing.Placement.TheVariants.{Fault, Uncarried, Beyond, Turned, Holds}
 use Rattle.sk_solve.specs.Placements.{midpoints, IsCarried, AnswersCarried, IsLaid, IsMeasured, IsPlacement, LiesWithinBounds}

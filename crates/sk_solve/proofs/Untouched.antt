@@ -14,11 +14,11 @@ use Rattle.sk_tree.specs.declared.PlanStep.{PlanStep}
 use Rattle.sk_tree.specs.ByNumber.{by_number}
 use Rattle.sk_tree.specs.LegalPlan.{IsLegalPlan}
 use Rattle.sk_place.specs.declared.Layout.{Layout}
-use Rattle.sk_residual.specs.declared.Turned.{Turned as SignThere}
-use Rattle.sk_residual.specs.declared.Wanted.TheVariants.{Drawn, Chosen}
-use Rattle.sk_residual.specs.Telling.{HasCorners}
-use Rattle.sk_residual.specs.Turns.{choices, as_chosen, constraint_signs, signs_of_step, signs_of_steps, signs_wanted}
-use Rattle.sk_residual.proofs.Comparisons.{corners_of}
+use Rattle.sk_tolerance.specs.declared.Turned.{Turned as SignThere}
+use Rattle.sk_tolerance.specs.declared.Wanted.TheVariants.{Drawn, Chosen}
+use Rattle.sk_tolerance.specs.Telling.{HasCorners}
+use Rattle.sk_tolerance.specs.Turns.{choices, as_chosen, constraint_signs, signs_of_step, signs_of_steps, signs_wanted}
+use Rattle.sk_tolerance.proofs.Comparisons.{corners_of}
 use Rattle.sk_solve.specs.declared.placing.Placement.{Placement}
 use Rattle.sk_solve.specs.declared.placing.Placement.TheVariants.{Fault, Uncarried, Beyond, Turned, Holds}
 use Rattle.sk_solve.specs.Alternatives.{alternative_of, IsAlternative}

@@ -7,9 +7,9 @@ use Rattle.sk_tree.specs.declared.Plan.{Plan}
 use Rattle.sk_tree.specs.declared.PlanStep.{PlanStep}
 use Rattle.sk_tree.specs.ByNumber.{by_number}
 use Rattle.sk_place.specs.declared.Layout.{Layout}
-use Rattle.sk_residual.specs.declared.Turned.{Turned as SignThere}
-use Rattle.sk_residual.specs.declared.Wanted.TheVariants.{Chosen}
-use Rattle.sk_residual.specs.Turns.{choices}
+use Rattle.sk_tolerance.specs.declared.Turned.{Turned as SignThere}
+use Rattle.sk_tolerance.specs.declared.Wanted.TheVariants.{Chosen}
+use Rattle.sk_tolerance.specs.Turns.{choices}
 use Rattle.sk_solve.specs.declared.alternative.Alternative.{Alternative}
 use Rattle.sk_solve.specs.declared.alternative.Alternative.TheVariants.{Found, NoChoice, Fault, Uncarried, Passed, Turned}
 use Rattle.sk_solve.specs.declared.placing.Placement.{Placement}

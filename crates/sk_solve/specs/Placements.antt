@@ -23,13 +23,13 @@ use Rattle.sk_frame.specs.FrameMotions.{frame_motion}
 use Rattle.sk_place.specs.declared.PlaceError.TheVariants as errors
 use Rattle.sk_place.specs.Placing.{IsPlaced}
 use Rattle.sk_place.specs.Rounding.{rounded}
-use Rattle.sk_residual.specs.declared.Spotted.{Spotted}
-use Rattle.sk_residual.specs.declared.Tolerance.{Tolerance}
-use Rattle.sk_residual.specs.declared.Wanted.{Wanted}
-use Rattle.sk_holding.specs.Least.{IsLeast}
-use Rattle.sk_residual.specs.First.{IsFirst}
-use Rattle.sk_residual.specs.Tolerances.{AllHold, IsWorstUnlessNone, IsFirstBeyond, lengthwise, anglewise, everything}
-use Rattle.sk_residual.specs.Turns.{signs_wanted, IsTurned, AllAsDrawn}
+use Rattle.sk_tolerance.specs.declared.Spotted.{Spotted}
+use Rattle.sk_tolerance.specs.declared.Tolerance.{Tolerance}
+use Rattle.sk_tolerance.specs.declared.Wanted.{Wanted}
+use Rattle.sk_measure.specs.Least.{IsLeast}
+use Rattle.sk_tolerance.specs.First.{IsFirst}
+use Rattle.sk_tolerance.specs.Tolerances.{AllHold, IsWorstUnlessNone, IsFirstBeyond, lengthwise, anglewise, everything}
+use Rattle.sk_tolerance.specs.Turns.{signs_wanted, IsTurned, AllAsDrawn}
 use Rattle.sk_solve.specs.declared.placing.Placement.{Placement}
 use Rattle.sk_solve.specs.declared.placing.Placement.TheVariants.{Fault, Uncarried, Beyond, Turned, Holds}
 

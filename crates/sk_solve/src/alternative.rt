@@ -10,7 +10,7 @@ use sk_base::{Graph, List, Name, NoMemory, Placed, Sketch};
 use sk_flips::{FlipError, flip_plan};
 use sk_interval::Grid;
 use sk_place::{BoxFault, Layout, StepFault};
-use sk_residual::{Beyond, Tolerance, Turned, Wanted};
+use sk_tolerance::{Beyond, Tolerance, Turned, Wanted};
 use sk_tree::Plan;
 use std::alloc::Global;
 

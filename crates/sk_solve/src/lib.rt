@@ -12,4 +12,4 @@ pub use law::{
     place_is_printed, uncarried_is_out_of_range, untouched_plan_is_drawn, untouched_plan_is_placed,
 };
 pub use placing::{Placement, placed_on};
-pub use sk_residual::first_off;
+pub use sk_tolerance::first_off;

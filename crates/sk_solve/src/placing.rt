@@ -7,7 +7,7 @@ ghost use Rattle.sk_tree.specs.LegalPlan.{IsLegalPlan};
 ghost use Rattle.sk_place.specs.declared.BoxFault.{BoxFault as FaultOfBox};
 ghost use Rattle.sk_place.specs.Clusters.{nodes_of};
 ghost use Rattle.sk_place.specs.Placing.{IsPlaced};
-ghost use Rattle.sk_holding.specs.Placing.{PlacesExactly};
+ghost use Rattle.sk_measure.specs.Placing.{PlacesExactly};
 ghost use Rattle.sk_solve.specs.Placements.{AnswersCarried, IsMeasured, IsPlacement, LiesWithinBounds};
 
 use sk_base::{Graph, NoMemory, Placed, Sketch};
@@ -16,7 +16,7 @@ use sk_interval::Grid;
 use sk_place::{
     BoxFault, Boxes, FrameBy, Layout, MoveError, PlaceError, StepFault, moved, place, round,
 };
-use sk_residual::{Beyond, Tolerance, Turned, Wanted, first_unlike, least, passed};
+use sk_tolerance::{Beyond, Tolerance, Turned, Wanted, first_unlike, least, passed};
 use sk_tree::Plan;
 use std::alloc::Global;
 

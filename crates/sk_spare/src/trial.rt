@@ -11,8 +11,8 @@ ghost use Rattle.sk_spare.specs.Halving.{AreFurther, IsMadeOf, too};
 ghost use Rattle.sk_spare.specs.Trying.{holds_all, some_holds};
 
 use sk_base::{ConId, Elem, Graph, NoMemory};
+use sk_close_any_order::close_in_any_order;
 use sk_family::{Cluster, Family, initial};
-use sk_growth::close_in_any_order;
 use std::alloc::Global;
 
 /// A normal family of the graph.

@@ -14,9 +14,9 @@ use Rattle.sk_base.proofs.Members.{contains_none, contains_head, contains_later,
 use Rattle.sk_base.proofs.Unions.{union_cases}
 use Rattle.sk_tree.specs.DrawnChoice.{HasDrawnChoice}
 use Rattle.sk_family.specs.Clusters.{Clusters, initial_clusters}
-use Rattle.sk_holding.specs.Items.{Item, normal, constraint, block}
-use Rattle.sk_residual.specs.Tolerances.{number_of, normals, normal_of_kind, between, rigid, constraints, everything, AllHoldWithin}
-use Rattle.sk_residual.specs.Turns.{signs, AllAsDrawn}
+use Rattle.sk_measure.specs.Items.{Item, normal, constraint, block}
+use Rattle.sk_tolerance.specs.Tolerances.{number_of, normals, normal_of_kind, between, rigid, constraints, everything, AllHoldWithin}
+use Rattle.sk_tolerance.specs.Turns.{signs, AllAsDrawn}
 use Rattle.sk_tree.specs.declared.PlanStep.{PlanStep}
 use Rattle.sk_tree.specs.LegalPlan.{IsWhole, next_after, AreLegalSteps, IsLegalPlan}
 use Rattle.sk_claims.specs.declared.Claim.{Claim}

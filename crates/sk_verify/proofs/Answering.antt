@@ -9,12 +9,12 @@ use Rattle.sk_base.specs.declared.Name.{Name}
 use Rattle.sk_base.specs.declared.Sketch.{Sketch}
 use Rattle.sk_base.proofs.Members.{contains_head, contains_later}
 use Rattle.sk_family.specs.Clusters.{Clusters, initial_clusters}
-use Rattle.sk_residual.specs.declared.Spotted.{Spotted}
-use Rattle.sk_residual.specs.declared.Spotted.TheVariants as spotted
-use Rattle.sk_residual.specs.declared.Turned.{Turned}
-use Rattle.sk_residual.specs.First.{IsFirst}
-use Rattle.sk_residual.specs.Tolerances.{everything, spotted_as}
-use Rattle.sk_residual.specs.Turns.{signs, IsTurned}
+use Rattle.sk_tolerance.specs.declared.Spotted.{Spotted}
+use Rattle.sk_tolerance.specs.declared.Spotted.TheVariants as spotted
+use Rattle.sk_tolerance.specs.declared.Turned.{Turned}
+use Rattle.sk_tolerance.specs.First.{IsFirst}
+use Rattle.sk_tolerance.specs.Tolerances.{everything, spotted_as}
+use Rattle.sk_tolerance.specs.Turns.{signs, IsTurned}
 use Rattle.sk_tree.specs.declared.PlanStep.{PlanStep}
 use Rattle.sk_claims.specs.declared.Claim.{Claim}
 use Rattle.sk_verify.specs.declared.failure.Failure.{Failure}

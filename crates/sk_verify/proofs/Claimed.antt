@@ -13,11 +13,11 @@ use Rattle.sk_base.proofs.Unions.{union_right}
 use Rattle.sk_tree.specs.DrawnChoice.{HasDrawnChoice}
 use Rattle.sk_family.specs.Clusters.{Clusters, initial_clusters}
 use Rattle.sk_graph.specs.SketchGraph.{graph_of}
-use Rattle.sk_holding.specs.Placing.{PlacesExactly}
-use Rattle.sk_holding.specs.Items.{Item, normal, constraint, block}
-use Rattle.sk_residual.specs.Tolerances.{number_of, normals, normal_of_kind, between, rigid, constraints, AllHoldWithin}
-use Rattle.sk_residual.proofs.Merging.{block_in}
-use Rattle.sk_residual.proofs.Worsts.{contains_flat}
+use Rattle.sk_measure.specs.Placing.{PlacesExactly}
+use Rattle.sk_measure.specs.Items.{Item, normal, constraint, block}
+use Rattle.sk_tolerance.specs.Tolerances.{number_of, normals, normal_of_kind, between, rigid, constraints, AllHoldWithin}
+use Rattle.sk_tolerance.proofs.Merging.{block_in}
+use Rattle.sk_tolerance.proofs.Worsts.{contains_flat}
 use Rattle.sk_tree.specs.declared.PlanStep.{PlanStep}
 use Rattle.sk_tree.specs.LegalPlan.{IsWhole, next_after, AreLegalSteps, IsLegalPlan}
 use Rattle.sk_claims.specs.declared.Claim.{Claim}

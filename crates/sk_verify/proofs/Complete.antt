@@ -17,7 +17,7 @@ use Rattle.sk_base.proofs.Finding.{found_in}
 use Rattle.sk_base.proofs.Members.{mapped_from}
 use Rattle.sk_base.proofs.Pairs.{pairs_tell}
 use Rattle.sk_graph.specs.SketchGraph.{node_of, graph_of}
-use Rattle.sk_holding.specs.Placing.{lies, HasKind, IsPlacedAs, IsSpotOf, PlacesExactly}
+use Rattle.sk_measure.specs.Placing.{lies, HasKind, IsPlacedAs, IsSpotOf, PlacesExactly}
 use Rattle.sk_claims.specs.declared.Claim.{Claim}
 use Rattle.sk_claims.specs.Claims.{IsFitting}
 use Rattle.sk_verify.specs.Failing.{AllTold}

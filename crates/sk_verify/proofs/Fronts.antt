@@ -4,7 +4,7 @@ use Rattle.std.specs.Prelude.{Contains}
 use Rattle.std.proofs.lemmas.List.{take_more, take_all, at_drop_more, take-append-drop}
 use Rattle.std.proofs.lemmas.List.Elements.{Contains-append_cases}
 use Rattle.sk_base.proofs.Members.{contains_none, contains_one}
-use Rattle.sk_residual.specs.First.{IsFirst}
+use Rattle.sk_tolerance.specs.First.{IsFirst}
 
 module _ {X : Type 0} (P : X → Type 0) where
   abbrev pub AllOf : List X → Type 0

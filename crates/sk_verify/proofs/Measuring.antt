@@ -5,12 +5,12 @@ use Rattle.std.specs.List.{flat_map}
 use Rattle.std.proofs.lemmas.List.Elements.{Contains-append_cases}
 use Rattle.std.proofs.lemmas.List.Concat.{flat_map_single}
 use Rattle.sk_base.proofs.Members.{contains_none, contains_one}
-use Rattle.sk_residual.specs.declared.Spotted.{Spotted}
-use Rattle.sk_holding.specs.Items.{Item}
-use Rattle.sk_residual.specs.Tolerances.{AreMerged, spotted_as, number_in}
-use Rattle.sk_residual.specs.First.{earlier}
-use Rattle.sk_residual.proofs.Firsts.{appended, behind, all_so_far, first_there}
-use Rattle.sk_residual.proofs.Merging.{found_in_both}
+use Rattle.sk_tolerance.specs.declared.Spotted.{Spotted}
+use Rattle.sk_measure.specs.Items.{Item}
+use Rattle.sk_tolerance.specs.Tolerances.{AreMerged, spotted_as, number_in}
+use Rattle.sk_tolerance.specs.First.{earlier}
+use Rattle.sk_tolerance.proofs.Firsts.{appended, behind, all_so_far, first_there}
+use Rattle.sk_tolerance.proofs.Merging.{found_in_both}
 use Rattle.sk_claims.specs.declared.Claim.{Claim}
 use Rattle.sk_verify.specs.AsClaimed.{HoldsAsClaimed}
 use Rattle.sk_verify.specs.Failing.{AllHoldAsClaimed, IsFirstOff}

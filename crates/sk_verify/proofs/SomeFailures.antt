@@ -24,14 +24,14 @@ use Rattle.sk_family.specs.declared.Cluster.{Cluster}
 use Rattle.sk_family.specs.Clusters.{Clusters, IsNamed, initial_clusters}
 use Rattle.sk_base.proofs.Deciding.{elem_settles, Decided, both, either, three, moved, denied, implied, is_in, each_decided, node_settles, below_decided, name_below, name_settles}
 use Rattle.sk_graph.specs.SketchGraph.{graph_of}
-use Rattle.sk_residual.specs.declared.Spotted.{Spotted}
-use Rattle.sk_residual.specs.declared.Spotted.TheVariants as spotted
-use Rattle.sk_holding.specs.Holding.{tolerance_of}
-use Rattle.sk_residual.specs.First.{IsFirst}
-use Rattle.sk_holding.specs.Items.{Item, normal, constraint, block, Holds, IsOwnLeast}
-use Rattle.sk_residual.specs.Tolerances.{spotted_as, everything}
-use Rattle.sk_residual.specs.Turns.{signs}
-use Rattle.sk_holding.proofs.Widening.{holds_more}
+use Rattle.sk_tolerance.specs.declared.Spotted.{Spotted}
+use Rattle.sk_tolerance.specs.declared.Spotted.TheVariants as spotted
+use Rattle.sk_measure.specs.Holding.{tolerance_of}
+use Rattle.sk_tolerance.specs.First.{IsFirst}
+use Rattle.sk_measure.specs.Items.{Item, normal, constraint, block, Holds, IsOwnLeast}
+use Rattle.sk_tolerance.specs.Tolerances.{spotted_as, everything}
+use Rattle.sk_tolerance.specs.Turns.{signs}
+use Rattle.sk_measure.proofs.Widening.{holds_more}
 use Rattle.sk_tree.specs.declared.Choice.{Choice}
 use Rattle.sk_tree.specs.declared.Choice.TheVariants.{Turn, Advance, Nothing}
 use Rattle.sk_tree.specs.declared.PlanStep.{PlanStep}
@@ -47,9 +47,9 @@ use Rattle.sk_verify.specs.AsClaimed.{HasItsRadius, IsTold, HoldsAsClaimed, plan
 use Rattle.sk_verify.specs.Failing.{IsComplete, IsAccepted, IsFirstOff, FailsFirst}
 use Rattle.sk_verify.specs.RightSteps.{IsRightStep, AreRight, IsFirstWrong, after}
 use Rattle.sk_verify.proofs.Complete.{told_exactly}
-use Rattle.sk_residual.proofs.Firsts.{all_or_first}
+use Rattle.sk_tolerance.proofs.Firsts.{all_or_first}
 use Rattle.sk_rules.proofs.SettledRules.{triangle_decided, some_named}
-use Rattle.sk_residual.proofs.SomeMeasures.{int_settles, own_everything, compared}
+use Rattle.sk_tolerance.proofs.SomeMeasures.{int_settles, own_everything, compared}
 
 -- ---- steps
 

@@ -6,8 +6,8 @@ use Rattle.sk_base.specs.declared.Graph.{Graph}
 use Rattle.sk_base.specs.declared.Shape.{Shape}
 use Rattle.sk_base.specs.declared.Shape.TheVariants.{Point, Line, Circle}
 use Rattle.sk_base.specs.Places.{place_of}
-use Rattle.sk_holding.specs.Holding.{tolerance_of}
-use Rattle.sk_holding.specs.Items.{Item, normal, constraint, block, Holds}
+use Rattle.sk_measure.specs.Holding.{tolerance_of}
+use Rattle.sk_measure.specs.Items.{Item, normal, constraint, block, Holds}
 use Rattle.sk_tree.specs.declared.Plan.{Plan}
 use Rattle.sk_tree.specs.LegalPlan.{numbers_of}
 use Rattle.sk_claims.specs.declared.Claim.{Claim}

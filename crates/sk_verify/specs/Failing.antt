@@ -6,13 +6,13 @@ use Rattle.sk_base.specs.declared.Graph.{Graph}
 use Rattle.sk_base.specs.declared.Name.{Name}
 use Rattle.sk_base.specs.declared.Sketch.{Sketch}
 use Rattle.sk_family.specs.Clusters.{initial_clusters}
-use Rattle.sk_residual.specs.declared.Spotted.{Spotted}
-use Rattle.sk_residual.specs.declared.Spotted.TheVariants as spotted
-use Rattle.sk_residual.specs.declared.Turned.{Turned}
-use Rattle.sk_residual.specs.First.{IsFirst}
-use Rattle.sk_holding.specs.Items.{Item}
-use Rattle.sk_residual.specs.Tolerances.{spotted_as, everything}
-use Rattle.sk_residual.specs.Turns.{signs, IsTurned, AllAsDrawn}
+use Rattle.sk_tolerance.specs.declared.Spotted.{Spotted}
+use Rattle.sk_tolerance.specs.declared.Spotted.TheVariants as spotted
+use Rattle.sk_tolerance.specs.declared.Turned.{Turned}
+use Rattle.sk_tolerance.specs.First.{IsFirst}
+use Rattle.sk_measure.specs.Items.{Item}
+use Rattle.sk_tolerance.specs.Tolerances.{spotted_as, everything}
+use Rattle.sk_tolerance.specs.Turns.{signs, IsTurned, AllAsDrawn}
 use Rattle.sk_tree.specs.LegalPlan.{IsWhole}
 use Rattle.sk_claims.specs.declared.Claim.{Claim}
 use Rattle.sk_verify.specs.declared.failure.Failure.{Failure}

@@ -5,8 +5,8 @@ use Rattle.sk_base.specs.declared.Elem.{Elem}
 use Rattle.sk_base.specs.declared.Graph.{Graph}
 use Rattle.sk_base.specs.declared.Sketch.{Sketch}
 use Rattle.sk_family.specs.Clusters.{Clusters, initial_clusters}
-use Rattle.sk_residual.specs.declared.Spotted.{Spotted}
-use Rattle.sk_holding.specs.Items.{Item}
+use Rattle.sk_tolerance.specs.declared.Spotted.{Spotted}
+use Rattle.sk_measure.specs.Items.{Item}
 use Rattle.sk_tree.specs.declared.PlanStep.{PlanStep}
 use Rattle.sk_claims.specs.declared.Claim.{Claim}
 use Rattle.sk_verify.specs.declared.failure.Failure.{Failure}

@@ -14,7 +14,7 @@ use crate::told::first_untold;
 use crate::whole::is_whole;
 use sk_base::{Graph, List, NoMemory, Sketch};
 use sk_claims::Claim;
-use sk_residual::{Spotted, first_turned};
+use sk_tolerance::{Spotted, first_turned};
 use sk_tree::{Plan, numbers_of};
 use std::alloc::Global;
 

@@ -1,14 +1,14 @@
 // Whether each line and each constraint holds within the claimed tolerances.
 ghost use Rattle.std.specs.Prelude.{◌≡◌, ◌≤◌, ◌^◌};
 ghost use Rattle.sk_base.specs.SoundGraph.{IsSoundGraph};
-ghost use Rattle.sk_holding.specs.Placing.{IsPlacedAs, PlacesExactly};
-ghost use Rattle.sk_residual.specs.Tolerances.{normal_of_kind, normals, between, rigid, constraints, everything};
+ghost use Rattle.sk_measure.specs.Placing.{IsPlacedAs, PlacesExactly};
+ghost use Rattle.sk_tolerance.specs.Tolerances.{normal_of_kind, normals, between, rigid, constraints, everything};
 ghost use Rattle.sk_verify.specs.Stepping.{IsMeasured};
 
 use sk_base::{Graph, Kind, Node};
 use sk_claims::Claim;
-use sk_holding::{meets, meets_block, meets_normal};
-use sk_residual::{Spotted, earlier};
+use sk_measure::{meets, meets_block, meets_normal};
+use sk_tolerance::{Spotted, earlier};
 
 /// The first line, and else the first constraint, that doesn't hold within the claimed tolerance.
 pub(crate) fn first_unmet(g: &Graph, claim: &Claim) -> Option<Spotted>

@@ -5,7 +5,7 @@ ghost use Rattle.sk_base.specs.SoundGraph.{HasNode};
 ghost use Rattle.sk_base.specs.SoundSketch.{IsSoundSketch};
 ghost use Rattle.sk_tree.specs.DrawnChoice.{HasDrawnChoice};
 ghost use Rattle.sk_graph.specs.SketchGraph.{graph_of};
-ghost use Rattle.sk_residual.specs.Telling.{HasCorners};
+ghost use Rattle.sk_tolerance.specs.Telling.{HasCorners};
 ghost use Rattle.sk_family.specs.Merges.{Falls};
 ghost use Rattle.sk_tree.specs.LegalPlan.{FitsKinds, IsLegalStep, IsLineWithPoints, IsPointWithLines, merge_told};
 ghost use Rattle.sk_verify.specs.RightSteps.{IsRightStep};

@@ -11,10 +11,10 @@ use Rattle.sk_base.proofs.Finding.{found_in}
 use Rattle.sk_base.proofs.Searches.{on_ok}
 use Rattle.sk_graph.specs.SketchGraph.{graph_of}
 use Rattle.sk_entry.specs.NumberedConstraint.{constraint_of}
-use Rattle.sk_residual.specs.declared.OffBy.{OffBy}
-use Rattle.sk_residual.specs.Offs.{IsOff}
-use Rattle.sk_residual.specs.Telling.{IsCompared}
-use Rattle.sk_residual.specs.Turns.{senses}
+use Rattle.sk_tolerance.specs.declared.OffBy.{OffBy}
+use Rattle.sk_tolerance.specs.Offs.{IsOff}
+use Rattle.sk_tolerance.specs.Telling.{IsCompared}
+use Rattle.sk_tolerance.specs.Turns.{senses}
 use Rattle.sk_cli.specs.ExcessReport.{IsOffThere}
 use Rattle.sk_cli.proofs.excess.put_one_off.Goals as goal
 

@@ -1,6 +1,6 @@
 use Rattle.std.proofs.Common.{◌≡◌, ◌≤◌, ◌-◌, [], ℕ, List, length}
 use Rattle.std.specs.Io.KnownBytes.{Consumes}
-use Rattle.sk_turns.specs.Heard.{GoesOn, KeepsRoom}
+use Rattle.sk_live_lines.specs.Heard.{GoesOn, KeepsRoom}
 use Rattle.sk_cli.specs.LiveAnswer.{begun, IsSaid}
 use Rattle.sk_cli.proofs.live.live.Given as goal
 

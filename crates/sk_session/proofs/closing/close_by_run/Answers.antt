@@ -1,7 +1,7 @@
 use Rattle.std.specs.Prelude.{map}
-use Rattle.sk_worklist.specs.Orders.{place_of, next_call}
-use Rattle.sk_worklist.specs.Run.{merge_of}
-use Rattle.sk_worklist.proofs.Runs.{picks_sound, picks_room}
+use Rattle.sk_close_by_order.specs.Orders.{place_of, next_call}
+use Rattle.sk_close_by_order.specs.Run.{merge_of}
+use Rattle.sk_close_by_order.proofs.Runs.{picks_sound, picks_room}
 use Rattle.sk_session.proofs.closing.close_by_run.Goals as goal
 
 pub returns-in_err-close_family-clause-sound : goal.returns-in_err-close_family-clause-sound

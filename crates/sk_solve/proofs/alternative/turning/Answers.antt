@@ -1,7 +1,7 @@
 use Rattle.std.proofs.Common.{sym, subst}
 use Rattle.sk_tree.specs.declared.Plan.{Plan}
 use Rattle.sk_tree.specs.LegalPlan.{IsLegalPlan}
-use Rattle.sk_residual.specs.declared.Wanted.TheVariants.{Chosen}
+use Rattle.sk_tolerance.specs.declared.Wanted.TheVariants.{Chosen}
 use Rattle.sk_solve.specs.contracts.alternative.turning.{G-type}
 use Rattle.sk_solve.specs.Placements.{IsPlacement}
 use Rattle.sk_flips.proofs.FlippedPlans.{flipped_is_legal}

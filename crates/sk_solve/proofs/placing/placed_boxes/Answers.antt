@@ -1,5 +1,5 @@
 use Rattle.std.proofs.Common.{◌∙◌}
-use Rattle.sk_holding.proofs.InOrder.{exactly_in_order}
+use Rattle.sk_measure.proofs.InOrder.{exactly_in_order}
 use Rattle.sk_solve.proofs.SpotsPlaced.{spots_made, placement_of, measured_within, uncarried, uncarried_within}
 use Rattle.sk_solve.proofs.placing.placed_boxes.Goals as goal
 

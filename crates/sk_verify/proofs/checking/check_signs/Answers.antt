@@ -1,6 +1,6 @@
 use Rattle.std.proofs.Common.{subst, sym}
 use Rattle.sk_base.specs.declared.Graph.{Graph}
-use Rattle.sk_holding.specs.Placing.{PlacesExactly}
+use Rattle.sk_measure.specs.Placing.{PlacesExactly}
 use Rattle.sk_tree.specs.declared.Plan.{Plan}
 use Rattle.sk_tree.specs.LegalPlan.{IsLegalPlan}
 use Rattle.sk_verify.proofs.Complete.{told_exactly}

@@ -5,10 +5,10 @@ use Rattle.std.proofs.lemmas.List.Elements.{Contains-get_or}
 use Rattle.sk_base.specs.declared.Block.{Block}
 use Rattle.sk_base.specs.declared.Graph.{Graph}
 use Rattle.sk_base.proofs.Searches.{refused}
-use Rattle.sk_holding.specs.Items.{block}
-use Rattle.sk_residual.specs.Tolerances.{rigid}
-use Rattle.sk_residual.specs.declared.Spotted.TheVariants.{Con}
-use Rattle.sk_holding.proofs.Placings.{block_measurable}
+use Rattle.sk_measure.specs.Items.{block}
+use Rattle.sk_tolerance.specs.Tolerances.{rigid}
+use Rattle.sk_tolerance.specs.declared.Spotted.TheVariants.{Con}
+use Rattle.sk_measure.proofs.Placings.{block_measurable}
 use Rattle.sk_verify.specs.AsClaimed.{HoldsAsClaimed}
 use Rattle.sk_verify.specs.Failing.{AllHoldAsClaimed, IsFirstOff}
 use Rattle.sk_verify.proofs.Measuring.{mapped_more, mapped_there}

@@ -1,5 +1,5 @@
 use Rattle.std.specs.Prelude.{take}
-use Rattle.sk_residual.specs.Tolerances.{rigid}
+use Rattle.sk_tolerance.specs.Tolerances.{rigid}
 use Rattle.sk_verify.specs.Failing.{AllHoldAsClaimed}
 use Rattle.sk_verify.proofs.holding.block_off.Given as goal
 

@@ -1,5 +1,5 @@
-use Rattle.sk_residual.specs.Tolerances.{rigid, between, constraints}
-use Rattle.sk_residual.proofs.Merging.{merged_constraints}
+use Rattle.sk_tolerance.specs.Tolerances.{rigid, between, constraints}
+use Rattle.sk_tolerance.proofs.Merging.{merged_constraints}
 use Rattle.sk_verify.proofs.Measuring.{measured_merged}
 use Rattle.sk_verify.proofs.holding.constraint_off.Goals as goal
 

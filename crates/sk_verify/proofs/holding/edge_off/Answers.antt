@@ -4,10 +4,10 @@ use Rattle.std.proofs.lemmas.List.{take_all}
 use Rattle.std.proofs.lemmas.List.Elements.{Contains-get_or}
 use Rattle.sk_base.specs.declared.Edge.{Edge}
 use Rattle.sk_base.proofs.Searches.{refused}
-use Rattle.sk_holding.specs.Items.{constraint}
-use Rattle.sk_residual.specs.Tolerances.{between}
-use Rattle.sk_residual.specs.declared.Spotted.TheVariants.{Con}
-use Rattle.sk_holding.proofs.Placings.{any_edge, measurable}
+use Rattle.sk_measure.specs.Items.{constraint}
+use Rattle.sk_tolerance.specs.Tolerances.{between}
+use Rattle.sk_tolerance.specs.declared.Spotted.TheVariants.{Con}
+use Rattle.sk_measure.proofs.Placings.{any_edge, measurable}
 use Rattle.sk_verify.specs.Failing.{AllHoldAsClaimed, IsFirstOff}
 use Rattle.sk_verify.proofs.Measuring.{mapped_more, mapped_there}
 use Rattle.sk_verify.proofs.holding.edge_off.Goals as goal

@@ -1,4 +1,4 @@
-use Rattle.sk_residual.specs.Tolerances.{normals, constraints}
+use Rattle.sk_tolerance.specs.Tolerances.{normals, constraints}
 use Rattle.sk_verify.proofs.Measuring.{measured_behind}
 use Rattle.sk_verify.proofs.holding.first_unmet.Goals as goal
 

@@ -3,8 +3,8 @@ use Rattle.std.specs.Prelude.{Contains}
 use Rattle.std.proofs.lemmas.List.{take_all}
 use Rattle.std.proofs.lemmas.List.Elements.{Contains-get_or}
 use Rattle.sk_base.specs.declared.Node.{Node}
-use Rattle.sk_residual.specs.Tolerances.{normals, normal_of_kind}
-use Rattle.sk_holding.proofs.Placings.{any_node}
+use Rattle.sk_tolerance.specs.Tolerances.{normals, normal_of_kind}
+use Rattle.sk_measure.proofs.Placings.{any_node}
 use Rattle.sk_verify.specs.Failing.{AllHoldAsClaimed, IsFirstOff}
 use Rattle.sk_verify.proofs.Measuring.{hold_more, off_there}
 use Rattle.sk_verify.proofs.holding.line_off.Goals as goal

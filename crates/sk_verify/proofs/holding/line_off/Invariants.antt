@@ -1,5 +1,5 @@
 use Rattle.std.specs.Prelude.{take}
-use Rattle.sk_residual.specs.Tolerances.{normals}
+use Rattle.sk_tolerance.specs.Tolerances.{normals}
 use Rattle.sk_verify.specs.Failing.{AllHoldAsClaimed}
 use Rattle.sk_verify.proofs.holding.line_off.Given as goal
 

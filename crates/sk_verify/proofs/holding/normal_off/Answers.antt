@@ -1,7 +1,7 @@
 use Rattle.std.proofs.Common.{refl}
 use Rattle.sk_base.proofs.Searches.{refused}
-use Rattle.sk_holding.specs.Items.{normal}
-use Rattle.sk_residual.specs.declared.Spotted.TheVariants.{Line}
+use Rattle.sk_measure.specs.Items.{normal}
+use Rattle.sk_tolerance.specs.declared.Spotted.TheVariants.{Line}
 use Rattle.sk_verify.proofs.Measuring.{off_one}
 use Rattle.sk_verify.proofs.holding.normal_off.Goals as goal
 

@@ -1,6 +1,6 @@
 use Rattle.std.proofs.Common.{subst}
 use Rattle.sk_base.specs.declared.Graph.{Graph}
-use Rattle.sk_residual.proofs.Comparisons.{corners_at}
+use Rattle.sk_tolerance.proofs.Comparisons.{corners_at}
 use Rattle.sk_tree.specs.LegalPlan.{IsLegalStep}
 use Rattle.sk_verify.proofs.step.is_right.Goals as goal
 

@@ -2,7 +2,7 @@ use Rattle.std.proofs.Common.{List, get_or, refl, subst, rules}
 use Rattle.std.specs.Prelude.{Contains}
 use Rattle.std.proofs.lemmas.List.Elements.{Contains-get_or}
 use Rattle.sk_base.specs.declared.Node.{Node}
-use Rattle.sk_holding.proofs.Placings.{any_node}
+use Rattle.sk_measure.proofs.Placings.{any_node}
 use Rattle.sk_verify.proofs.Fronts.{all_more, all_there}
 use Rattle.sk_verify.proofs.whole.has_nodes.Goals as goal
 

@@ -5,7 +5,7 @@ use Rattle.sk_family.specs.Clusters.{bodies}
 use Rattle.sk_rules.specs.Reach.{Reach}
 use Rattle.sk_graph.specs.SketchGraph.{graph_of}
 use Rattle.sk_plan.specs.Judged.{IsTheJudgement}
-use Rattle.sk_kept.proofs.Outcomes.{on_err}
+use Rattle.sk_open_triples.proofs.Outcomes.{on_err}
 use Rattle.sk_session.specs.State.{State, EndsBy, HasBegunBy, IsHeldUp}
 use Rattle.sk_session.specs.Past.{edits_of}
 use Rattle.sk_session.specs.Replies.{Checks}

@@ -1,6 +1,0 @@
-use Rattle.std.proofs.Common.{take}
-use Rattle.sk_derive.specs.Classes.{AreAlone}
-use Rattle.sk_derive.proofs.classes.lines_alone.Given as goal
-
-abbrev pub invariant-loop-node : goal.invariant-loop-node
-invariant-loop-node l = AreAlone (take l.node-index l.nodes) l.classes.items

@@ -1,5 +1,0 @@
-use Rattle.sk_derive.proofs.OneWideRun.{wide_choices_are_one}
-use Rattle.sk_derive.proofs.law.one_list_of_wide_choices.Goals as goal
-
-pub returns : goal.returns
-returns c = wide_choices_are_one

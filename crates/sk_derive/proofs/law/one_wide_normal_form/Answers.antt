@@ -1,5 +1,0 @@
-use Rattle.sk_derive.proofs.WideForm.{wide_same}
-use Rattle.sk_derive.proofs.law.one_wide_normal_form.Goals as goal
-
-pub returns : goal.returns
-returns c = wide_same

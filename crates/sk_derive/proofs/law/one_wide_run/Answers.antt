@@ -1,8 +1,0 @@
-use Rattle.sk_worklist.proofs.OneRun.{runs_are_one}
-use Rattle.sk_derive.specs.WideChoices.{AreWideChoices}
-use Rattle.sk_derive.proofs.OneWideRun.{wide_choices_are_one}
-use Rattle.sk_derive.proofs.law.one_wide_run.Goals as goal
-
-pub returns : goal.returns
-returns g c h f p ms ns one other last end ours theirs =
-    runs_are_one (AreWideChoices h) (wide_choices_are_one h) g.P.Picker.answer g.P.Picker.after f p ms ns one other last end ours.leads ours.ends theirs.leads theirs.ends

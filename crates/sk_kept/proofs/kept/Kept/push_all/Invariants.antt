@@ -1,5 +1,0 @@
-use Rattle.std.proofs.Common.{◌≡◌, ◌++◌, take}
-use Rattle.sk_kept.proofs.kept.Kept.push_all.Given as goal
-
-abbrev pub invariant-loop-merge : goal.invariant-loop-merge
-invariant-loop-merge l = l.self ≡ l.fn.self ++ take l.merge-index l.merges

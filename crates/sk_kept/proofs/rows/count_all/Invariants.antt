@@ -1,7 +1,0 @@
-use Rattle.std.proofs.Common.{◌≡◌, length, take}
-use Rattle.std.specs.List.{flat_map}
-use Rattle.sk_kept.specs.KeptRows.{merges_at}
-use Rattle.sk_kept.proofs.rows.count_all.Given as goal
-
-abbrev pub invariant-loop-key : goal.invariant-loop-key
-invariant-loop-key l = l.count ≡ length (flat_map (merges_at l.rows) (take l.key-index l.order))

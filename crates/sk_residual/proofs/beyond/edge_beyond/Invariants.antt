@@ -1,7 +1,0 @@
-use Rattle.std.specs.Prelude.{take}
-use Rattle.sk_residual.specs.Tolerances.{between, AllHold}
-use Rattle.sk_residual.proofs.beyond.edge_beyond.Given as goal
-
--- the constraints so far hold within the limit
-abbrev pub invariant-loop-e : goal.invariant-loop-e
-invariant-loop-e l = AllHold l.p (between (take l.e-index l.edges)) l.limit

@@ -1,8 +1,0 @@
-use Rattle.std.specs.Prelude.{take}
-use Rattle.sk_residual.specs.Tolerances.{normals}
-use Rattle.sk_residual.specs.Telling.{IsTold}
-use Rattle.sk_residual.proofs.tolerance.worst_normal.Given as goal
-
--- the worst so far
-abbrev pub invariant-loop-node : goal.invariant-loop-node
-invariant-loop-node l = IsTold l.p (normals (take l.node-index l.nodes)) l.worst

@@ -1,0 +1,32 @@
+use Rattle.std.proofs.Common.{◌≡◌, ◌++◌, ◌∷◌, [], List, get_or, take, pos, refl, rules, subst, arith, true}
+use Rattle.std.proofs.lemmas.Grind.{common_steps}
+use Rattle.std.proofs.lemmas.List.{take_more, take_all}
+use Rattle.sk_base.specs.declared.At.{At}
+use Rattle.sk_base.specs.declared.At.TheVariants.{Point}
+use Rattle.sk_base.specs.declared.Node.{Node}
+use Rattle.sk_base.specs.declared.Spot.{Spot}
+use Rattle.sk_measure.specs.Placing.{AreSpotsOf}
+use Rattle.sk_measure.proofs.InOrder.{spots_more, exactly_in_order}
+use Rattle.sk_measure.proofs.Placings.{any_node}
+use Rattle.sk_test_runs.proofs.tolerances.placed.Goals as goal
+
+pub loop-i-preserved : goal.loop-i-preserved
+loop-i-preserved g c =
+    let nodes : List Node = c.as_slice-nodes.result.now in
+    let n : Node = get_or nodes c.loop-i.i any_node in
+    let at : At = get_or c.args.places.now c.loop-i.i (Point (pos 0) (pos 0)) in
+    let spot : Spot = record { elem = n.elem; at = at } in
+    let passes : c.is_place.result ≡ true = first_of (search (rules, c.if-not-is_place.false), grind (arith, common_steps, c.if-not-is_place.false)) in
+    let more : AreSpotsOf (take c.loop-i.i nodes ++ n ∷ []) (c.loop-i.spots ++ spot ∷ []) =
+    spots_more (take c.loop-i.i nodes) c.loop-i.spots n spot c.loop-i.invariant (record { elem = refl; has_kind = c.is_place.ensures.kind passes; bounded = c.is_place.ensures.bounded passes }) in
+    rw (rw c.expect.ensures at c.push.ensures.ok, take_more nodes c.loop-i.i any_node (omega arith)) more
+
+pub returns-clause-exactly : goal.returns-clause-exactly
+returns-clause-exactly g c =
+    let all : AreSpotsOf c.as_slice-nodes.result.now c.loop-i.spots = subst (λ (xs : List Node). AreSpotsOf xs c.loop-i.spots) (take_all c.loop-i.i c.as_slice-nodes.result.now (omega arith)) c.loop-i.invariant in
+    exactly_in_order c.args.graph.now (record { spots = c.loop-i.spots }) c.requires.nodes_rise (rw c.as_slice-nodes.ensures at all)
+
+pub returns-clause-in_order : goal.returns-clause-in_order
+returns-clause-in_order g c =
+    let all : AreSpotsOf c.as_slice-nodes.result.now c.loop-i.spots = subst (λ (xs : List Node). AreSpotsOf xs c.loop-i.spots) (take_all c.loop-i.i c.as_slice-nodes.result.now (omega arith)) c.loop-i.invariant in
+    rw c.as_slice-nodes.ensures at all
