@@ -1,0 +1,67 @@
+-- Sketches with more constraints.
+use Rattle.std.proofs.Common.{◌≡◌, ◌<◌, List, [], ◌∷◌, length, refl, ap, sym, subst, arith}
+use Rattle.std.specs.Prelude.{All}
+use Rattle.std.proofs.lemmas.List.{append-nil}
+use Rattle.std.proofs.lemmas.List.Elements.{All-nil, All-head, All-tail}
+use Rattle.std.proofs.lemmas.List.Sums.{sum_by-cons}
+use Rattle.sk_base.specs.declared.Constraint.{Constraint}
+use Rattle.sk_base.specs.declared.Rule.{Rule}
+use Rattle.sk_base.specs.declared.Rule.TheVariants as rule
+use Rattle.sk_base.specs.declared.Sketch.{Sketch}
+use Rattle.sk_base.specs.SoundSketch.{IsSoundSketch}
+use Rattle.sk_graph.specs.SketchGraph.{graph_of}
+use Rattle.sk_plan.specs.Judged.{IsWell}
+use Rattle.sk_complete.specs.Weights.{rule_weight, constraint_weight, weight_together}
+use Rattle.sk_complete.specs.DrawnValues.{IsDrawnValue}
+use Rattle.sk_complete.specs.Begun.{Extends}
+use Rattle.sk_complete.specs.Completions.{Completes}
+use Rattle.sk_complete.proofs.Weighing.{missing_weight}
+
+pub extends_itself : (s : Sketch) → IsSoundSketch s → Extends s s
+extends_itself s sound = record {
+  added = [];
+  more = record { elements = refl; constraints = sym (append-nil s.constraints) };
+  drawn = All-nil (λ (c : Constraint). IsDrawnValue s c.rule);
+  sound = sound;
+}
+
+-- each drawn value weighs 1
+drawn_weighs : (s : Sketch) (r : Rule) → IsDrawnValue s r → rule_weight r ≡ 1
+drawn_weighs s (rule.Distance u v len) drawn = refl
+drawn_weighs s (rule.On u v) drawn = refl
+drawn_weighs s (rule.Tangent u v) drawn = refl
+drawn_weighs s (rule.Outside u v) drawn = refl
+drawn_weighs s (rule.Inside u v) drawn = refl
+drawn_weighs s (rule.Angle l m ratio) drawn = refl
+drawn_weighs s (rule.Block pins) drawn = absurd drawn
+
+all_weigh : (s : Sketch) (cs : List Constraint) → All (λ (c : Constraint). IsDrawnValue s c.rule) cs → weight_together cs ≡ length cs
+all_weigh s [] drawn = refl
+all_weigh s (c ∷ cs) drawn =
+    let more = sum_by-cons constraint_weight c cs in
+    let one = drawn_weighs s c.rule (All-head (λ (d : Constraint). IsDrawnValue s d.rule) c cs drawn) in
+    let rest = all_weigh s cs (All-tail (λ (d : Constraint). IsDrawnValue s d.rule) c cs drawn) in
+    omega arith
+
+-- what is well adds just what is missing
+pub completes_well : (s t : Sketch) → 0 < length s.elements → Extends s t → IsWell (graph_of t) → Completes s t
+completes_well s t some extends well = record {
+  added = extends.added;
+  more = extends.more;
+  drawn = extends.drawn;
+  sound = extends.sound;
+  well = well;
+  count =
+      let missing = missing_weight s t extends.added extends.more extends.sound some well in
+      let ones = all_weigh s extends.added extends.drawn in
+      omega arith;
+}
+
+pub completes_itself : (s t : Sketch) → t ≡ s → IsSoundSketch s → 0 < length s.elements → IsWell (graph_of s) → Completes s t
+completes_itself s t same sound some well = subst (λ (z : Sketch). Completes s z) (sym same) (completes_well s s some (extends_itself s sound) well)
+
+pub extends_same : (s t : Sketch) → t ≡ s → IsSoundSketch s → Extends s t
+extends_same s t same sound = subst (λ (z : Sketch). Extends s z) (sym same) (extends_itself s sound)
+
+pub some_elements : (s t : Sketch) → Extends s t → 0 < length s.elements → 0 < length t.elements
+some_elements s t extends some = let level = ap (λ es. length es) extends.more.elements in omega arith

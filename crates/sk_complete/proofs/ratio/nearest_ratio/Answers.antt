@@ -1,0 +1,25 @@
+use Rattle.std.proofs.Common.{FitsSigned, to_z-of_z}
+use Rattle.std.specs.Int.{w128}
+use Rattle.sk_complete.proofs.Ratios.{flat_nearest, steep_nearest}
+use Rattle.sk_complete.proofs.ratio.nearest_ratio.Goals as goal
+
+pub returns-then-across-along-clause-nearest : goal.returns-then-across-along-clause-nearest
+returns-then-across-along-clause-nearest c =
+    let c_fits : FitsSigned w128 c.args.c = c.ranges.c in
+    let d_fits : FitsSigned w128 c.args.d = c.ranges.d in
+    let across = simp to_z-of_z at c.unsigned_abs-across.ensures.value in
+    let along = simp to_z-of_z at c.unsigned_abs-along.ensures.value in
+    let f = c.nearest_fraction-fraction in
+    flat_nearest c.args.c c.args.d f.result.x f.result.y c.ratio_with.result c.unsigned_abs-across.result c.unsigned_abs-along.result
+    across along c.if-across-along.true f.ensures.nearest (simp to_z-of_z at c.ratio_with.ensures.p) c.ratio_with.ensures.q
+
+pub returns-else-across-along-clause-nearest : goal.returns-else-across-along-clause-nearest
+returns-else-across-along-clause-nearest c =
+    let c_fits : FitsSigned w128 c.args.c = c.ranges.c in
+    let d_fits : FitsSigned w128 c.args.d = c.ranges.d in
+    let across = simp to_z-of_z at c.unsigned_abs-across.ensures.value in
+    let along = simp to_z-of_z at c.unsigned_abs-along.ensures.value in
+    let f = c.nearest_fraction-fraction-else-across-along in
+    let r = c.ratio_with-else-across-along in
+    steep_nearest c.args.c c.args.d f.result.x f.result.y r.result c.unsigned_abs-along.result c.unsigned_abs-across.result
+    along across c.if-across-along.false f.ensures.nearest (simp to_z-of_z at r.ensures.p) r.ensures.q

@@ -1,0 +1,80 @@
+-- The values that a drawing has between two of its elements.
+use Rattle.std.specs.Prelude.{◌≡◌, ◌≤◌, ◌<◌, ◌+◌, ◌-◌, ◌*◌, ◌*ℤ◌, ◌&&◌, nat_lt, min, max, ℕ, ℤ, pos, neg_ℤ, nat_le, int_lt, if◌then◌else◌, unsigned_abs}
+use Rattle.sk_base.specs.declared.Ratio.{Ratio}
+use Rattle.sk_base.specs.declared.Rule.{Rule}
+use Rattle.sk_base.specs.declared.Rule.TheVariants.{Distance, On, Tangent, Outside, Inside, Angle, Block}
+use Rattle.sk_base.specs.declared.Shape.{Shape}
+use Rattle.sk_base.specs.declared.Sketch.{Sketch}
+use Rattle.sk_base.specs.Drawn.{is_line, IsLine}
+use Rattle.sk_graph.specs.SketchGraph.{drawn_as}
+use Rattle.sk_orient.specs.declared.Vector.{Vector}
+use Rattle.sk_orient.specs.DrawnSigns.{place_of, direction_of}
+use Rattle.sk_orient.specs.Vectors.{way, cross, dot}
+
+-- a quotient of two whole numbers
+pub record Quotient : Type 0 where
+  pub over : ℕ
+  pub under : ℕ
+
+-- the square of a vector's length
+abbrev pub square : Vector → ℕ
+square v = unsigned_abs (dot v v)
+
+-- the square of how far two points or centres are drawn apart
+abbrev pub between : Shape → Shape → Quotient
+between a b = record { over = square (way (place_of a) (place_of b)); under = 1 }
+
+-- the square of how far a point or centre is drawn from a line
+abbrev pub from_line : Shape → Shape → Quotient
+from_line line p =
+    let height = unsigned_abs (cross (direction_of line) (way (place_of line) (place_of p))) in
+    record { over = height * height; under = square (direction_of line) }
+
+-- the square of how far two elements are drawn apart, one of which has a centre
+abbrev pub apart_squared : Shape → Shape → Quotient
+apart_squared a b = if is_line a then from_line a b else (if is_line b then from_line b a else between a b)
+
+-- r is the root of the quotient, to the nearest whole number, halves up
+pub record IsNearestRoot (q : Quotient) (r : ℕ) : Type 0 where
+  pub low : (2 * r - 1) * (2 * r - 1) * q.under ≤ 4 * q.over
+  pub high : 4 * q.over < (2 * r + 1) * (2 * r + 1) * q.under
+
+-- the two are drawn so many whole micrometres apart
+abbrev pub IsDrawnApart : Shape → Shape → ℕ → Type 0
+IsDrawnApart a b r = IsNearestRoot (apart_squared a b) r
+
+-- how far two numbers are apart
+abbrev pub gap : ℕ → ℕ → ℕ
+gap m n = (m - n) + (n - m)
+
+-- of all fractions with a denominator from 1 to 10,000 none is nearer to a / b than x / y
+pub record IsNearestFraction (a b x y : ℕ) : Type 0 where
+  pub some : 1 ≤ y
+  pub few : y ≤ 10000
+  pub nearest : (z w : ℕ) → 1 ≤ w → w ≤ 10000 → gap (x * b) (a * y) * w ≤ gap (z * b) (a * w) * y
+
+-- the numerator p, below zero where one of two numbers is and the other isn't; where the denominator is 0 it never is
+abbrev pub signed : ℤ → ℤ → ℕ → ℕ → ℤ
+signed c d p q = if (int_lt (c *ℤ d) (pos 0) && nat_lt 0 q) then neg_ℤ (pos p) else pos p
+
+-- The ratio is nearest to the tangent c / d of an angle up to 45 degrees; of a steeper one, its inverse to d / c.
+-- So a right angle is 1/0, also where it is one by rounding.
+abbrev pub IsNearestRatio : ℤ → ℤ → Ratio → Type 0
+IsNearestRatio c d ratio =
+    (x : ℕ) × ((y : ℕ) × (IsNearestFraction (min (unsigned_abs c) (unsigned_abs d)) (max (unsigned_abs c) (unsigned_abs d)) x y
+    × (ratio.p ≡ signed c d (if nat_le (unsigned_abs c) (unsigned_abs d) then x else y) (if nat_le (unsigned_abs c) (unsigned_abs d) then y else x))
+    × (ratio.q ≡ pos (if nat_le (unsigned_abs c) (unsigned_abs d) then y else x))))
+
+-- the ratio is nearest to the tangent of the angle from the one drawn line to the other
+abbrev pub IsDrawnRatio : Shape → Shape → Ratio → Type 0
+IsDrawnRatio l m ratio = IsNearestRatio (cross (direction_of l) (direction_of m)) (dot (direction_of l) (direction_of m)) ratio
+
+-- what a rule between two elements says is what is drawn
+abbrev pub IsDrawnValue : Sketch → Rule → Type 0
+IsDrawnValue s (Distance u v len) = IsDrawnApart (drawn_as s u) (drawn_as s v) (unsigned_abs len.0)
+IsDrawnValue s (On u v) = IsLine (drawn_as s v) × IsDrawnApart (drawn_as s u) (drawn_as s v) 0
+IsDrawnValue s (Tangent u v) = ⊥
+IsDrawnValue s (Outside u v) = ⊥
+IsDrawnValue s (Inside u v) = ⊥
+IsDrawnValue s (Angle l m ratio) = IsDrawnRatio (drawn_as s l) (drawn_as s m) ratio
+IsDrawnValue s (Block pins) = ⊥

@@ -1,0 +1,161 @@
+// The best element of the base for a constraint with one outside it.
+ghost use Rattle.std.specs.Prelude.{IfSome};
+ghost use Rattle.sk_base.specs.SoundSketch.{IsSoundSketch, IsSoundShape};
+
+use crate::firmness::{firmness_of, reach_of};
+use crate::lines::Groups;
+use crate::values::{drawn_size, shape_in};
+use sk_base::{Elem, Shape, Sketch};
+
+/// An element of the base, with what it lacks to the highest grade and how far it is drawn from the one outside: the
+/// least is the best.
+#[derive(Clone, Copy, PartialEq, Eq, PartialOrd, Ord)]
+pub(crate) struct Choice {
+    lack: u128,
+    size: u64,
+    pub elem: Elem,
+}
+
+/// The best choices of those that hold firmly, of the thin ones and of the flat ones.
+#[derive(Clone, Copy)]
+pub(crate) struct Choices {
+    pub firm: Option<Choice>,
+    pub thin: Option<Choice>,
+    pub flat: Option<Choice>,
+}
+
+/// An element as it is drawn.
+#[derive(Clone, Copy)]
+struct Drawn {
+    elem: Elem,
+    shape: Shape,
+}
+
+impl Drawn {
+    fn of(s: &Sketch, elem: Elem) -> Option<Drawn>
+        requires { IsSoundSketch s.now }
+        ensures { IfSome result (λ found. IsSoundShape found.shape) }
+    {
+        match shape_in(s, elem) {
+            Some(shape) => Some(Drawn { elem, shape }),
+            None => None,
+        }
+    }
+}
+
+impl Choices {
+    pub fn none() -> Choices {
+        Choices {
+            firm: None,
+            thin: None,
+            flat: None,
+        }
+    }
+
+    /// Looks through elements of the base for u, an element of a part that shares w with the base.
+    pub fn look_through(&mut self, s: &Sketch, w: Elem, u: Elem, base: &[Elem])
+        requires { IsSoundSketch s.now }
+    {
+        if let Some(shared) = Drawn::of(s, w) {
+            if let Some(outer) = Drawn::of(s, u) {
+                self.look_at_all(s, &shared, &outer, base);
+            }
+        }
+    }
+
+    fn look_at_all(&mut self, s: &Sketch, w: &Drawn, u: &Drawn, base: &[Elem])
+        requires sound { IsSoundSketch s.now }
+        requires w { IsSoundShape w.now.shape }
+        requires u { IsSoundShape u.now.shape }
+    {
+        for elem in base {
+            if let Some(v) = Drawn::of(s, *elem) {
+                self.look_at(w, u, &v);
+            }
+        }
+    }
+
+    /// Takes v where it is better than what was found so far, unless it is the shared element, or all three are lines.
+    fn look_at(&mut self, w: &Drawn, u: &Drawn, v: &Drawn)
+        requires w { IsSoundShape w.now.shape }
+        requires u { IsSoundShape u.now.shape }
+        requires v { IsSoundShape v.now.shape }
+    {
+        if v.elem.0 == w.elem.0 || (w.shape.is_line() && are_lines(u, v)) {
+            return;
+        }
+        let firmness = firmness_of(&w.shape, &u.shape, &v.shape);
+        let grade = firmness.grade();
+        let lack = 16u128.saturating_sub(grade);
+        if grade > 0 {
+            self.firm = better(self.firm, lack, u, v);
+        } else if firmness.is_flat() {
+            self.flat = better(self.flat, lack, u, v);
+        } else {
+            self.thin = better(self.thin, lack, u, v);
+        }
+    }
+}
+
+/// The nearest element of the base for a link of u, which no part joins to it.
+pub(crate) fn link_of(s: &Sketch, classes: &Groups, u: Elem, base: &[Elem]) -> Option<Choice>
+    requires { IsSoundSketch s.now }
+{
+    let mut best = None;
+    if let Some(outer) = Drawn::of(s, u) {
+        for elem in base {
+            if let Some(v) = Drawn::of(s, *elem) {
+                if !are_lines(&outer, &v) || !classes.joins(outer.elem, v.elem) {
+                    best = better(best, 0, &outer, &v);
+                }
+            }
+        }
+    }
+    best
+}
+
+/// The better one of the best so far and v, which lacks so much.
+fn better(best: Option<Choice>, lack: u128, u: &Drawn, v: &Drawn) -> Option<Choice>
+    requires u { IsSoundShape u.now.shape }
+    requires v { IsSoundShape v.now.shape }
+{
+    if is_beyond(best, lack, reach_of(&u.shape, &v.shape)) {
+        return best;
+    }
+    match drawn_size(u.shape, v.shape) {
+        Some(size) => lesser(
+            best,
+            Choice {
+                lack,
+                size,
+                elem: v.elem,
+            },
+        ),
+        None => best,
+    }
+}
+
+/// Whether what lacks so much, or is drawn so far, is no better than the best so far. What is further than n and a half
+/// has a square above n(n + 1).
+fn is_beyond(best: Option<Choice>, lack: u128, reach: u128) -> bool {
+    match best {
+        Some(choice) => {
+            let size = u128::from(choice.size);
+            choice.lack < lack
+                || (choice.lack == lack && size.saturating_mul(size.saturating_add(1)) < reach)
+        }
+        None => false,
+    }
+}
+
+fn are_lines(u: &Drawn, v: &Drawn) -> bool {
+    u.shape.is_line() && v.shape.is_line()
+}
+
+/// The lesser one of the two.
+fn lesser(best: Option<Choice>, choice: Choice) -> Option<Choice> {
+    match best {
+        Some(other) if other <= choice => Some(other),
+        _ => Some(choice),
+    }
+}

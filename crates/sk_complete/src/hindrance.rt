@@ -1,0 +1,73 @@
+// Why no completion is sought, and how much is missing.
+ghost use Rattle.std.specs.Prelude.{◌≡◌, ◌≢◌, ◌≤◌, ◌<◌, ◌-◌, Some, All, IfSome, IsTrue, length};
+ghost use Rattle.sk_base.specs.declared.Constraint.{Constraint as TheConstraint};
+ghost use Rattle.sk_base.specs.declared.Element.{Element as TheElement};
+ghost use Rattle.sk_base.specs.Drawn.{IsLine};
+ghost use Rattle.sk_base.specs.SoundSketch.{IsSoundSketch};
+ghost use Rattle.sk_complete.specs.Weights.{constraint_weight, weight_together, due_for};
+ghost use Rattle.sk_complete.specs.Completions.{Tells};
+
+use crate::completion::Reason;
+use crate::lines::Groups;
+use sk_base::{Constraint, Element, Rule, Sketch};
+
+/// Why no completion is sought of a sketch that isn't over, where so much is missing.
+pub(crate) fn hindrance(s: &Sketch, classes: &Groups, missing: usize) -> Option<Reason>
+    requires { missing ≡ due_for s.now - weight_together s.now.constraints }
+    ensures not_over { result ≢ Some Reason.Over }
+    ensures tells { IfSome result (Tells s.now) }
+{
+    if has_many_lines(s) {
+        Some(Reason::Lines)
+    } else if classes.is_circle {
+        Some(Reason::Angles)
+    } else if missing == 0 {
+        Some(Reason::Enough)
+    } else {
+        None
+    }
+}
+
+/// Whether there are more than two elements, all of them lines.
+fn has_many_lines(s: &Sketch) -> bool
+    ensures { IsTrue result → ((2 < length s.now.elements) × All (λ (e : TheElement). IsLine e.shape) s.now.elements) }
+{
+    s.elements.len() > 2 && are_lines(s.elements.as_slice())
+}
+
+fn are_lines(elements: &[Element]) -> bool
+    ensures { IsTrue result → All (λ (e : TheElement). IsLine e.shape) elements.now }
+{
+    elements.iter().all(|element| element.shape.is_line())
+}
+
+/// What is due for all elements.
+pub(crate) fn due_for(s: &Sketch) -> usize
+    requires { IsSoundSketch s.now }
+    ensures { result ≡ due_for s.now }
+{
+    (2 * s.elements.len()).saturating_sub(3)
+}
+
+/// What the constraints weigh together.
+pub(crate) fn weight_of(constraints: &[Constraint]) -> usize
+    requires few { length constraints.now ≤ 4000 }
+    requires light { All (λ (c : TheConstraint). constraint_weight c ≤ 29) constraints.now }
+    ensures { result ≡ weight_together constraints.now }
+{
+    let mut weight = 0;
+    for constraint in constraints {
+        weight += weight_of_one(constraint);
+    }
+    weight
+}
+
+fn weight_of_one(constraint: &Constraint) -> usize
+    requires { constraint_weight constraint.now ≤ 29 }
+    ensures { result ≡ constraint_weight constraint.now }
+{
+    match &constraint.rule {
+        Rule::Block { pins } => (pins.len().saturating_mul(2)).saturating_sub(3),
+        _ => 1,
+    }
+}
