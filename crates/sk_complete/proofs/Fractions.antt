@@ -20,6 +20,7 @@ pub record IsBest (a b n : ℕ) (f : Fraction) : Type 0 where
   pub some : 1 ≤ f.y
   pub most : f.y ≤ n
   pub best : (z w : ℕ) → 1 ≤ w → w ≤ n → f.off * w ≤ gap (z * b) (a * w) * f.y
+  pub least : (z w : ℕ) → 1 ≤ w → w < f.y → f.off * w < gap (z * b) (a * w) * f.y
 
 -- a nearer one is nearer than what was farther
 carried : (f y1 e y2 w g : ℕ) → 1 ≤ y1 → f * y1 ≤ e * y2 → e * w ≤ g * y1 → f * w ≤ g * y2
@@ -35,6 +36,22 @@ carried f y1 e y2 w g some nearer farther =
   where
     apart : (m n k p q r : ℕ) → 1 ≤ k → (m + 1) * k ≤ n * k → n * k ≡ p → p ≤ q → (e * w) * y2 ≡ q → (e * w) * y2 ≤ r → r ≡ m * k → ⊥
     apart m n k p q r some up one two three four five = (let wide : (m + 1) * k ≡ m * k + k = grind arith in omega (arith, wide))
+
+-- and one that is nearer than another is nearer than what is no nearer than that
+carried_on : (f y1 e y2 w g : ℕ) → 1 ≤ w → f * y1 < e * y2 → e * w ≤ g * y1 → f * w < g * y2
+carried_on f y1 e y2 w g some nearer farther =
+    elim (cases_lt (f * w) (g * y2)) [
+      | inl fine ↦ fine
+      | inr not ↦ absurd (
+          let up = mul-le (g * y2) y1 (f * w) y1 not (omega arith) in
+          let left = mul-le (f * y1 + 1) w (e * y2) w (omega (arith, nearer)) (omega arith) in
+          let right = mul-le (e * w) y2 (g * y1) y2 farther (omega arith) in
+          apart (f * y1 * w) (e * y2 * w) (g * y1 * y2) (g * y2 * y1) (f * w * y1) ((f * y1 + 1) * w) (e * y2 * w) (e * w * y2) (g * y1 * y2) some
+          up (grind arith) (grind arith) left (grind arith) (grind arith) right (grind arith) (grind arith))
+    ]
+  where
+    apart : (p q r i j k l m n : ℕ) → 1 ≤ w → i ≤ j → i ≡ r → j ≡ p → k ≤ l → k ≡ p + w → l ≡ q → m ≤ n → m ≡ q → n ≡ r → ⊥
+    apart p q r i j k l m n some up i_is j_is left k_is l_is right m_is n_is = omega arith
 
 level : (f y w g : ℕ) → w ≡ y → f ≤ g → f * w ≤ g * y
 level f y w g is less = mul-le f w g y less (omega arith)
@@ -53,6 +70,7 @@ first_best a b f over one = record {
   best = λ z w some few. (
       let is : w ≡ f.y = omega (arith, one, some, few) in
       level f.off f.y w (gap (z * b) (a * w)) is (subst (λ v. f.off ≤ gap (z * b) (a * v)) (let back : f.y ≡ w = omega (arith, is) in back) (over.nearest z)));
+  least = λ z w some less. absurd (omega (arith, one, some, less));
 }
 
 pub next_best : (a b n : ℕ) (one other : Fraction) → IsBest a b n one → IsOver a b other → other.y ≡ n + 1
@@ -73,6 +91,7 @@ next_best a b n one other best over is = told (nat_lt (other.off * one.y) (one.o
             | inl last ↦ (let same : w ≡ other.y = omega (arith, is, last, few) in level other.off other.y w (gap (z * b) (a * w)) same (nearest_at z w same))
             | inr early ↦ carried other.off one.y one.off other.y w (gap (z * b) (a * w)) best.some (omega (arith, less)) (best.best z w some early)
           ];
+          least = λ z w some fewer. carried_on other.off one.y one.off other.y w (gap (z * b) (a * w)) some less (best.best z w some (omega (arith, is, fewer)));
         }
     told false test =
         let less : one.off * other.y ≤ other.off * one.y = grind (arith, nat_tests) in
@@ -84,6 +103,7 @@ next_best a b n one other best over is = told (nat_lt (other.off * one.y) (one.o
             | inl last ↦ (let same : w ≡ other.y = omega (arith, is, last, few) in through one.off other.y other.off one.y w (gap (z * b) (a * w)) same less (nearest_at z w same))
             | inr early ↦ best.best z w some early
           ];
+          least = best.least;
         }
 
 pub best_is_nearest : (a b : ℕ) (f : Fraction) → IsBest a b 10000 f → IsNearestFraction a b f.x f.y
@@ -91,4 +111,5 @@ best_is_nearest a b f best = record {
   some = best.some;
   few = best.most;
   nearest = λ z w some few. subst (λ off. off * w ≤ gap (z * b) (a * w) * f.y) best.over.off (best.best z w some few);
+  least = λ z w some less. subst (λ off. off * w < gap (z * b) (a * w) * f.y) best.over.off (best.least z w some less);
 }

@@ -2,6 +2,7 @@ pub mod Weighing
 pub mod Roots
 pub mod Ratios
 pub mod Fractions
+pub mod OneValue
 pub mod Extending
 pub mod Verdicts
 pub mod Drawing

@@ -1,5 +1,5 @@
 -- Ratios nearest to a tangent, flat and steep.
-use Rattle.std.proofs.Common.{◌≡◌, ℕ, ◌<◌, ◌≤◌, Bool, true, false, cond, arith, sym, subst, ◌∙◌, ap}
+use Rattle.std.proofs.Common.{◌≡◌, ◌≢◌, ℕ, ◌<◌, ◌≤◌, Bool, true, false, cond, arith, sym, subst, ◌∙◌, ap}
 use Rattle.std.specs.Prelude.{ℤ, pos, Option, None, Some, IfSome, unsigned_abs, nat_le, min, max, unwrap_or}
 use Rattle.std.proofs.lemmas.Bool.Decides.{nat_tests}
 use Rattle.sk_base.specs.declared.Elem.{Elem}
@@ -11,40 +11,34 @@ use Rattle.sk_base.specs.Drawn.{shape_of}
 use Rattle.sk_graph.specs.SketchGraph.{drawn_as}
 use Rattle.sk_complete.specs.DrawnValues.{IsNearestFraction, IsNearestRatio, IsDrawnRatio, signed}
 
-module _ (c d : ℤ) where
+module _ (c d : ℤ) (turned : c ≢ pos 0) where
   flat_is : (x y : ℕ) (ratio : Ratio) (m n : ℕ) → m ≡ unsigned_abs c → n ≡ unsigned_abs d → m ≤ n → IsNearestFraction m n x y
       → ratio.p ≡ signed c d x y → ratio.q ≡ pos y → IsNearestRatio c d ratio
   flat_is x y ratio m n m_is n_is less nearest p q =
       let test : nat_le (unsigned_abs c) (unsigned_abs d) ≡ true = grind (arith, nat_tests) in
       let low : m ≡ min (unsigned_abs c) (unsigned_abs d) = omega arith in
-      let high : n ≡ max (unsigned_abs c) (unsigned_abs d) = omega arith in (
-        x,
-        (
-          y,
-          (
-            subst (λ k. IsNearestFraction (min (unsigned_abs c) (unsigned_abs d)) k x y) high (subst (λ k. IsNearestFraction k n x y) low nearest),
-            p ∙ ap (λ (t : Bool). signed c d (cond t x y) (cond t y x)) (sym test),
-            q ∙ ap (λ (t : Bool). pos (cond t y x)) (sym test),
-          ),
-        ),
-      )
+      let high : n ≡ max (unsigned_abs c) (unsigned_abs d) = omega arith in record {
+        x = x;
+        y = y;
+        turned = turned;
+        nearest = subst (λ k. IsNearestFraction (min (unsigned_abs c) (unsigned_abs d)) k x y) high (subst (λ k. IsNearestFraction k n x y) low nearest);
+        p = p ∙ ap (λ (t : Bool). signed c d (cond t x y) (cond t y x)) (sym test);
+        q = q ∙ ap (λ (t : Bool). pos (cond t y x)) (sym test);
+      }
 
   steep_is : (x y : ℕ) (ratio : Ratio) (m n : ℕ) → m ≡ unsigned_abs d → n ≡ unsigned_abs c → m < n → IsNearestFraction m n x y
       → ratio.p ≡ signed c d y x → ratio.q ≡ pos x → IsNearestRatio c d ratio
   steep_is x y ratio m n m_is n_is less nearest p q =
       let test : nat_le (unsigned_abs c) (unsigned_abs d) ≡ false = grind (arith, nat_tests) in
       let low : m ≡ min (unsigned_abs c) (unsigned_abs d) = omega arith in
-      let high : n ≡ max (unsigned_abs c) (unsigned_abs d) = omega arith in (
-        x,
-        (
-          y,
-          (
-            subst (λ k. IsNearestFraction (min (unsigned_abs c) (unsigned_abs d)) k x y) high (subst (λ k. IsNearestFraction k n x y) low nearest),
-            p ∙ ap (λ (t : Bool). signed c d (cond t x y) (cond t y x)) (sym test),
-            q ∙ ap (λ (t : Bool). pos (cond t y x)) (sym test),
-          ),
-        ),
-      )
+      let high : n ≡ max (unsigned_abs c) (unsigned_abs d) = omega arith in record {
+        x = x;
+        y = y;
+        turned = turned;
+        nearest = subst (λ k. IsNearestFraction (min (unsigned_abs c) (unsigned_abs d)) k x y) high (subst (λ k. IsNearestFraction k n x y) low nearest);
+        p = p ∙ ap (λ (t : Bool). signed c d (cond t x y) (cond t y x)) (sym test);
+        q = q ∙ ap (λ (t : Bool). pos (cond t y x)) (sym test);
+      }
 
   pub flat_nearest : (x y : ℕ) (r : Option Ratio) (m n : ℕ) → m ≡ unsigned_abs c → n ≡ unsigned_abs d → m ≤ n → IsNearestFraction m n x y
       → IfSome r (λ ratio. ratio.p ≡ signed c d x y) → IfSome r (λ ratio. ratio.q ≡ pos y) → IfSome r (IsNearestRatio c d)

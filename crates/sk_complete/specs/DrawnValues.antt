@@ -1,5 +1,5 @@
 -- The values that a drawing has between two of its elements.
-use Rattle.std.specs.Prelude.{◌≡◌, ◌≤◌, ◌<◌, ◌+◌, ◌-◌, ◌*◌, ◌*ℤ◌, ◌&&◌, nat_lt, min, max, ℕ, ℤ, pos, neg_ℤ, nat_le, int_lt, if◌then◌else◌, unsigned_abs}
+use Rattle.std.specs.Prelude.{◌≡◌, ◌≢◌, ◌≤◌, ◌<◌, ◌+◌, ◌-◌, ◌*◌, ◌*ℤ◌, ◌&&◌, nat_lt, min, max, ℕ, ℤ, pos, neg_ℤ, nat_le, int_lt, if◌then◌else◌, unsigned_abs}
 use Rattle.sk_base.specs.declared.Ratio.{Ratio}
 use Rattle.sk_base.specs.declared.Rule.{Rule}
 use Rattle.sk_base.specs.declared.Rule.TheVariants.{Distance, On, Tangent, Outside, Inside, Angle, Block}
@@ -47,23 +47,27 @@ IsDrawnApart a b r = IsNearestRoot (apart_squared a b) r
 abbrev pub gap : ℕ → ℕ → ℕ
 gap m n = (m - n) + (n - m)
 
--- of all fractions with a denominator from 1 to 10,000 none is nearer to a / b than x / y
+-- of all fractions with a denominator from 1 to 10,000 none is nearer to a / b than x / y, and each with a lesser
+-- denominator is further off: of several that are as near it is the one with the least
 pub record IsNearestFraction (a b x y : ℕ) : Type 0 where
   pub some : 1 ≤ y
   pub few : y ≤ 10000
   pub nearest : (z w : ℕ) → 1 ≤ w → w ≤ 10000 → gap (x * b) (a * y) * w ≤ gap (z * b) (a * w) * y
+  pub least : (z w : ℕ) → 1 ≤ w → w < y → gap (x * b) (a * y) * w < gap (z * b) (a * w) * y
 
 -- the numerator p, below zero where one of two numbers is and the other isn't; where the denominator is 0 it never is
 abbrev pub signed : ℤ → ℤ → ℕ → ℕ → ℤ
 signed c d p q = if (int_lt (c *ℤ d) (pos 0) && nat_lt 0 q) then neg_ℤ (pos p) else pos p
 
--- The ratio is nearest to the tangent c / d of an angle up to 45 degrees; of a steeper one, its inverse to d / c.
--- So a right angle is 1/0, also where it is one by rounding.
-abbrev pub IsNearestRatio : ℤ → ℤ → Ratio → Type 0
-IsNearestRatio c d ratio =
-    (x : ℕ) × ((y : ℕ) × (IsNearestFraction (min (unsigned_abs c) (unsigned_abs d)) (max (unsigned_abs c) (unsigned_abs d)) x y
-    × (ratio.p ≡ signed c d (if nat_le (unsigned_abs c) (unsigned_abs d) then x else y) (if nat_le (unsigned_abs c) (unsigned_abs d) then y else x))
-    × (ratio.q ≡ pos (if nat_le (unsigned_abs c) (unsigned_abs d) then y else x))))
+-- The tangent c / d isn't 0. The ratio is x / y, the fraction nearest to it, where the angle is up to 45 degrees; of a
+-- steeper one it is y / x, with the fraction nearest to d / c. So a right angle is 1/0, also where it is one by rounding.
+pub record IsNearestRatio (c d : ℤ) (ratio : Ratio) : Type 0 where
+  pub x : ℕ
+  pub y : ℕ
+  pub turned : c ≢ pos 0
+  pub nearest : IsNearestFraction (min (unsigned_abs c) (unsigned_abs d)) (max (unsigned_abs c) (unsigned_abs d)) x y
+  pub p : ratio.p ≡ signed c d (if nat_le (unsigned_abs c) (unsigned_abs d) then x else y) (if nat_le (unsigned_abs c) (unsigned_abs d) then y else x)
+  pub q : ratio.q ≡ pos (if nat_le (unsigned_abs c) (unsigned_abs d) then y else x)
 
 -- the ratio is nearest to the tangent of the angle from the one drawn line to the other
 abbrev pub IsDrawnRatio : Shape → Shape → Ratio → Type 0

@@ -1,4 +1,5 @@
-use Rattle.std.proofs.Common.{FitsSigned, to_z-of_z}
+use Rattle.std.proofs.Common.{◌≢◌, FitsSigned, rules, to_z-of_z}
+use Rattle.std.specs.Prelude.{pos}
 use Rattle.std.specs.Int.{w128}
 use Rattle.sk_complete.proofs.Ratios.{flat_nearest, steep_nearest}
 use Rattle.sk_complete.proofs.ratio.nearest_ratio.Goals as goal
@@ -9,8 +10,9 @@ returns-then-across-along-clause-nearest c =
     let d_fits : FitsSigned w128 c.args.d = c.ranges.d in
     let across = simp to_z-of_z at c.unsigned_abs-across.ensures.value in
     let along = simp to_z-of_z at c.unsigned_abs-along.ensures.value in
+    let turned : c.args.c ≢ pos 0 = search rules in
     let f = c.nearest_fraction-fraction in
-    flat_nearest c.args.c c.args.d f.result.x f.result.y c.ratio_with.result c.unsigned_abs-across.result c.unsigned_abs-along.result
+    flat_nearest c.args.c c.args.d turned f.result.x f.result.y c.ratio_with.result c.unsigned_abs-across.result c.unsigned_abs-along.result
     across along c.if-across-along.true f.ensures.nearest (simp to_z-of_z at c.ratio_with.ensures.p) c.ratio_with.ensures.q
 
 pub returns-else-across-along-clause-nearest : goal.returns-else-across-along-clause-nearest
@@ -19,7 +21,8 @@ returns-else-across-along-clause-nearest c =
     let d_fits : FitsSigned w128 c.args.d = c.ranges.d in
     let across = simp to_z-of_z at c.unsigned_abs-across.ensures.value in
     let along = simp to_z-of_z at c.unsigned_abs-along.ensures.value in
+    let turned : c.args.c ≢ pos 0 = search rules in
     let f = c.nearest_fraction-fraction-else-across-along in
     let r = c.ratio_with-else-across-along in
-    steep_nearest c.args.c c.args.d f.result.x f.result.y r.result c.unsigned_abs-along.result c.unsigned_abs-across.result
+    steep_nearest c.args.c c.args.d turned f.result.x f.result.y r.result c.unsigned_abs-along.result c.unsigned_abs-across.result
     along across c.if-across-along.false f.ensures.nearest (simp to_z-of_z at r.ensures.p) r.ensures.q
