@@ -33,7 +33,7 @@ all_kept p [] all = refl
 all_kept p (x ∷ xs) all = rw (all x (contains_head x xs)) (ap (λ ys. x ∷ ys) (all_kept p xs (λ y h. all y (contains_later x xs y h))))
 
 -- all constraints of a graph weigh what all starts weigh
-whole_weight : (g : Graph) → weight_of g (numbers_of g) ≡ sum_by weight (starts g)
+pub whole_weight : (g : Graph) → weight_of g (numbers_of g) ≡ sum_by weight (starts g)
 whole_weight g =
     ap (λ ss. sum_by weight ss) (all_kept (is_owned (numbers_of g)) (starts g)
     (λ s h. found_owned (numbers_of g) s (contains_mapped (λ (t : Start). t.number) (starts g) s h)))

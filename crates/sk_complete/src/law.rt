@@ -1,11 +1,13 @@
 // The laws on completions, each the contract of a function with nothing to do.
-ghost use Rattle.std.specs.Prelude.{◌≡◌, ◌+◌, ◌<◌, List, length, unsigned_abs};
+ghost use Rattle.std.specs.Prelude.{◌≡◌, ◌+◌, ◌<◌, ◌≤◌, All, List, length, unsigned_abs};
 ghost use Rattle.sk_base.specs.declared.Constraint.{Constraint};
 ghost use Rattle.sk_base.specs.declared.Elem.{Elem};
+ghost use Rattle.sk_base.specs.declared.Element.{Element};
 ghost use Rattle.sk_base.specs.declared.Ratio.{Ratio};
 ghost use Rattle.sk_base.specs.declared.Rule.TheVariants.{Angle, Distance};
 ghost use Rattle.sk_base.specs.declared.Sketch.{Sketch};
 ghost use Rattle.sk_base.specs.declared.Um.{Um};
+ghost use Rattle.sk_base.specs.Drawn.{IsLine};
 ghost use Rattle.sk_base.specs.SoundSketch.{IsSoundSketch};
 ghost use Rattle.sk_graph.specs.SketchGraph.{graph_of};
 ghost use Rattle.sk_plan.specs.Judged.{IsWell};
@@ -25,4 +27,13 @@ pub fn exact_weight()
 pub fn one_value()
     ensures length { (s : Sketch) (u v : Elem) (one other : Um) → IsDrawnValue s (Distance u v one) → IsDrawnValue s (Distance u v other) → unsigned_abs one.0 ≡ unsigned_abs other.0 }
     ensures ratio { (s : Sketch) (l m : Elem) (one other : Ratio) → IsDrawnValue s (Angle l m one) → IsDrawnValue s (Angle l m other) → one ≡ other }
+{}
+
+/// Of more than two elements that are all lines no well sketch has just these. And where the constraints weigh what is due
+/// or more, a well sketch with constraints behind them has no more, so there is one only where they make one themselves.
+pub fn none_completes()
+    ensures lines { (s t : Sketch) (added : List Constraint) → HasMore s t added → IsSoundSketch t → 2 < length s.elements → All (λ (e : Element). IsLine e.shape) s.elements
+        → ¬ IsWell (graph_of t) }
+    ensures enough { (s t : Sketch) (added : List Constraint) → HasMore s t added → IsSoundSketch t → 0 < length s.elements → due_for s ≤ weight_together s.constraints
+        → IsWell (graph_of t) → IsWell (graph_of s) }
 {}

@@ -17,4 +17,4 @@ mod root;
 mod values;
 
 pub use completion::{Completion, Reason, complete};
-pub use law::{exact_weight, one_value};
+pub use law::{exact_weight, none_completes, one_value};
