@@ -1,4 +1,4 @@
-use Rattle.std.proofs.Common.{List, sym, subst, ◌∙◌}
+use Rattle.std.proofs.Common.{List, rules, sym, subst, ◌∙◌}
 use Rattle.sk_base.proofs.Searches.{refused}
 use Rattle.sk_family.specs.Clusters.{initial_clusters}
 use Rattle.sk_rules.specs.declared.Taken.{Taken}
@@ -81,3 +81,6 @@ pub returns-in_ok-steps-in-Well-clause-few_angles : goal.returns-in_ok-steps-in-
 returns-in_ok-steps-in-Well-clause-few_angles g c =
     let plan : Plan = record { leaves = c.in_ok-leaves.leaves; steps = c.in_ok-steps-in-Well.steps } in
     plan_few_angles c.args.g.now plan (sound_of c.args.s.now c.args.g.now c.requires.sound c.requires.graph) (returns-in_ok-steps-in-Well-clause-legal g c)
+
+pub returns-in-Over-clause-unasked : goal.returns-in-Over-clause-unasked
+returns-in-Over-clause-unasked g c not = absurd (not (c.if-not-holds_what_is_due.ensures.0 (search rules)))
