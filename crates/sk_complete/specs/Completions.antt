@@ -32,11 +32,15 @@ pub record Completes (s t : Sketch) : Type 0 where
 abbrev pub HasVerdict : Graph → Verdict → Type 0
 HasVerdict g verdict = (j : Judgement) × IsTheJudgement g j × (j.verdict ≡ verdict)
 
+-- more than two elements, all of them lines: however the angles are, the lines may be moved
+abbrev pub HasLinesAlone : Sketch → Type 0
+HasLinesAlone s = (2 < length s.elements) × All (λ (e : Element). IsLine e.shape) s.elements
+
 -- what a reason tells of a sketch that has no completion; of angles that close a circle, and of a search that leads no
 -- further, nothing is said
 abbrev pub Tells : Sketch → Reason → Type 0
 Tells s reason.Over = HasVerdict (graph_of s) Over
-Tells s reason.Lines = (2 < length s.elements) × All (λ (e : Element). IsLine e.shape) s.elements
+Tells s reason.Lines = HasLinesAlone s
 Tells s reason.Angles = Unit {0}
 Tells s reason.Enough = due_for s ≤ weight_together s.constraints
 Tells s reason.Stuck = Unit {0}

@@ -1,10 +1,10 @@
-// Completions of a sketch: what a search proposes is judged, so nothing of the search has to be known but that it adds
+// Completions of a sketch. A search proposes one, and the judgement decides. So of the search it is only known that it adds
 // sound constraints with drawn values.
 ghost use Rattle.std.specs.Prelude.{◌≡◌, ◌≢◌, ◌↔◌, ◌<◌, length, IfOk, IfSome, IsTrue};
 ghost use Rattle.sk_base.specs.SoundSketch.{IsSoundSketch};
 ghost use Rattle.sk_graph.specs.SketchGraph.{graph_of};
 ghost use Rattle.sk_plan.specs.Judged.{IsTheJudgement, IsWell};
-ghost use Rattle.sk_complete.specs.Completions.{Completes, HasVerdict, IsCompletionOf};
+ghost use Rattle.sk_complete.specs.Completions.{Completes, HasLinesAlone, HasVerdict, IsCompletionOf};
 
 use crate::draft::{Draft, copy_sketch};
 use crate::hindrance::{due_for, hindrance, weight_of};
@@ -21,30 +21,31 @@ use std::alloc::Global;
 pub enum Reason {
     /// Some part holds too many constraints.
     Over,
-    /// All elements are lines, and more than two.
+    /// All elements are lines, and there are more than two: no constraint keeps lines in their places.
     Lines,
-    /// The angles of lines and parts close a circle.
+    /// Two parts tell the angle of the same two lines, or more parts do in a ring.
     Angles,
-    /// There are enough constraints, but in several parts.
+    /// The constraints weigh what is due or more, but leave several parts.
     Enough,
-    /// No choice leads on.
+    /// The search found no completion. There may be one.
     Stuck,
 }
 
-/// A sketch with what was missing, or why there is none.
+/// A completed sketch, or why none is given.
 #[derive(Drop)]
 pub enum Completion {
     Done(Sketch),
     Without(Reason),
 }
 
-/// A completion of the sketch, which has an element: the sketch itself where its verdict is well, and `Over` exactly
-/// where its verdict is over.
+/// A completion of the sketch, which has an element: the sketch itself where its verdict is well. The reason is `Over`
+/// exactly where the verdict is over, and `Lines` exactly where it isn't, and more than two elements are lines alone.
 pub fn complete(alloc: Global, s: &Sketch) -> Result<Completion, NoMemory>
     requires sound { IsSoundSketch s.now }
     requires some { 0 < length s.now.elements }
     ensures completes { IfOk result (IsCompletionOf s.now) }
     ensures over { IfOk result (λ c. (c ≡ Completion.Without Reason.Over) ↔ HasVerdict (graph_of s.now) Verdict.Over) }
+    ensures lines { IfOk result (λ c. (c ≡ Completion.Without Reason.Lines) ↔ ((¬ HasVerdict (graph_of s.now) Verdict.Over) × HasLinesAlone s.now)) }
 {
     let judgement = judged(alloc, s)?;
     match judgement.verdict {
@@ -65,6 +66,7 @@ fn completed(alloc: Global, s: &Sketch, judgement: &Judgement) -> Result<Complet
     requires several { judgement.now.verdict ≡ Verdict.Several }
     ensures completes { IfOk result (IsCompletionOf s.now) }
     ensures not_over { IfOk result (λ c. c ≢ Completion.Without Reason.Over) }
+    ensures lines { IfOk result (λ c. (c ≡ Completion.Without Reason.Lines) ↔ HasLinesAlone s.now) }
 {
     let graph = reduce(alloc, s)?;
     let lines = lines_of(alloc, s)?;
@@ -81,7 +83,7 @@ fn completed(alloc: Global, s: &Sketch, judgement: &Judgement) -> Result<Complet
     }
 }
 
-/// What the search comes to from the first base from which it is a completion.
+/// The first completion that the search proposes, base by base.
 fn first_completed(
     alloc: Global,
     s: &Sketch,

@@ -1,23 +1,24 @@
-// Why no completion is sought, and how much is missing.
-ghost use Rattle.std.specs.Prelude.{◌≡◌, ◌≢◌, ◌≤◌, ◌<◌, ◌-◌, Some, All, IfSome, IsTrue, length};
+// What can be said before any search: how much is missing, and why some sketches have no completion.
+ghost use Rattle.std.specs.Prelude.{◌≡◌, ◌≢◌, ◌↔◌, ◌≤◌, ◌-◌, Some, All, IfSome, IsTrue, length};
 ghost use Rattle.sk_base.specs.declared.Constraint.{Constraint as TheConstraint};
 ghost use Rattle.sk_base.specs.declared.Element.{Element as TheElement};
 ghost use Rattle.sk_base.specs.Drawn.{IsLine};
 ghost use Rattle.sk_base.specs.SoundSketch.{IsSoundSketch};
 ghost use Rattle.sk_complete.specs.Weights.{constraint_weight, weight_together, due_for};
-ghost use Rattle.sk_complete.specs.Completions.{Tells};
+ghost use Rattle.sk_complete.specs.Completions.{HasLinesAlone, Tells};
 
 use crate::completion::Reason;
 use crate::lines::Groups;
 use sk_base::{Constraint, Element, Rule, Sketch};
 
-/// Why no completion is sought of a sketch that isn't over, where so much is missing.
+/// Why no completion is sought, if there is a reason. The sketch isn't over, and lacks so much weight.
 pub(crate) fn hindrance(s: &Sketch, classes: &Groups, missing: usize) -> Option<Reason>
     requires { missing ≡ due_for s.now - weight_together s.now.constraints }
     ensures not_over { result ≢ Some Reason.Over }
+    ensures lines { (result ≡ Some Reason.Lines) ↔ HasLinesAlone s.now }
     ensures tells { IfSome result (Tells s.now) }
 {
-    if has_many_lines(s) {
+    if has_lines_alone(s) {
         Some(Reason::Lines)
     } else if classes.is_circle {
         Some(Reason::Angles)
@@ -29,14 +30,14 @@ pub(crate) fn hindrance(s: &Sketch, classes: &Groups, missing: usize) -> Option<
 }
 
 /// Whether there are more than two elements, all of them lines.
-fn has_many_lines(s: &Sketch) -> bool
-    ensures { IsTrue result → ((2 < length s.now.elements) × All (λ (e : TheElement). IsLine e.shape) s.now.elements) }
+fn has_lines_alone(s: &Sketch) -> bool
+    ensures { IsTrue result ↔ HasLinesAlone s.now }
 {
     s.elements.len() > 2 && are_lines(s.elements.as_slice())
 }
 
 fn are_lines(elements: &[Element]) -> bool
-    ensures { IsTrue result → All (λ (e : TheElement). IsLine e.shape) elements.now }
+    ensures { IsTrue result ↔ All (λ (e : TheElement). IsLine e.shape) elements.now }
 {
     elements.iter().all(|element| element.shape.is_line())
 }

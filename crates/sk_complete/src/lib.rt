@@ -1,4 +1,4 @@
-//! What is missing of an open sketch, and no more: drawn distances and angles that make it one rigid whole.
+//! The dimensions that an open sketch lacks, and no more, each with the value that the drawing has.
 #![tactic(auto)]
 
 mod choice;

@@ -6,8 +6,9 @@ use Rattle.sk_verdict.specs.declared.Verdict.TheVariants.{Well, Over, Several}
 use Rattle.sk_complete.specs.declared.completion.Completion.{Completion}
 use Rattle.sk_complete.specs.declared.completion.Completion.TheVariants.{Without}
 use Rattle.sk_complete.specs.declared.completion.Reason.TheVariants as reason
-use Rattle.sk_complete.specs.Completions.{HasVerdict}
+use Rattle.sk_complete.specs.Completions.{HasLinesAlone, HasVerdict}
 use Rattle.sk_complete.proofs.Extending.{completes_itself}
+use Rattle.sk_complete.proofs.Hopeless.{few_lines}
 use Rattle.sk_complete.proofs.Verdicts.{over_not_well, never_over}
 use Rattle.sk_complete.proofs.completion.complete.Goals as goal
 
@@ -21,6 +22,31 @@ pub returns-in-Well-clause-completes : goal.returns-in-Well-clause-completes
 returns-in-Well-clause-completes c =
     completes_itself c.args.s.now c.in_ok-whole-in-Well.whole c.in_ok-whole-in-Well.ensures c.requires.sound c.requires.some
     (c.in_ok-judgement.judgement, c.in_ok-judgement.ensures, c.in-Well.is)
+
+pub returns-in-Over-clause-lines : goal.returns-in-Over-clause-lines
+returns-in-Over-clause-lines c = (
+  λ is. absurd (cc),
+  λ told. absurd (told.0 (c.in_ok-judgement.judgement, c.in_ok-judgement.ensures, c.in-Over.is)),
+)
+
+pub returns-in-Well-clause-lines : goal.returns-in-Well-clause-lines
+returns-in-Well-clause-lines c = (
+  λ is. absurd (cc),
+  λ told. absurd (few_lines c.args.s.now c.requires.sound told.1.0 told.1.1 (c.in_ok-judgement.judgement, c.in_ok-judgement.ensures, c.in-Well.is)),
+)
+
+pub returns-clause-lines : goal.returns-clause-lines
+returns-clause-lines c =
+    IfOk-weaker c.completed.result (λ (d : Completion). (d ≡ Without reason.Lines) ↔ HasLinesAlone c.args.s.now)
+    (λ (d : Completion). (d ≡ Without reason.Lines) ↔ ((¬ HasVerdict (graph_of c.args.s.now) Over) × HasLinesAlone c.args.s.now))
+    (λ d lines. (
+      (λ is. (
+        (λ over. never_over (graph_of c.args.s.now) c.in_ok-judgement.judgement Several c.in_ok-judgement.ensures c.in-Several.is (λ same. cc) over),
+        lines.0 is,
+      )),
+      (λ told. lines.1 told.1),
+    ))
+    c.completed.ensures.lines
 
 pub returns-in-Well-clause-over : goal.returns-in-Well-clause-over
 returns-in-Well-clause-over c = (
