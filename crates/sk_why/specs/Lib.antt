@@ -1,0 +1,2 @@
+pub mod Because
+pub mod Leaving

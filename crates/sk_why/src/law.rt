@@ -1,0 +1,39 @@
+// The laws on what ties some elements, each the contract of a function with nothing to do.
+ghost use Rattle.std.specs.Prelude.{◌≡◌, List, Contains};
+ghost use Rattle.sk_base.specs.declared.Elem.{Elem};
+ghost use Rattle.sk_base.specs.declared.ConId.{ConId};
+ghost use Rattle.sk_base.specs.declared.Graph.{Graph};
+ghost use Rattle.sk_base.specs.SoundGraph.{IsSoundGraph};
+ghost use Rattle.sk_family.specs.Body.{Start, starts};
+ghost use Rattle.sk_rules.specs.JustSome.{with_just};
+ghost use Rattle.sk_spare.specs.Sparing.{without};
+ghost use Rattle.sk_verdict.specs.OneCluster.{IsOneCluster};
+ghost use Rattle.sk_excess.specs.LeftOut.{is_number, kept_graph, AreLeftOut, HasConstraint};
+ghost use Rattle.sk_why.specs.Because.{IsTied, AreBecause, FollowsFrom};
+
+/// What ties the elements are constraints of the graph, and they alone tie them. Without any one of them they don't.
+pub fn because_ties()
+    ensures enough { (g : Graph) (elements : List Elem) (because : List ConId) → IsSoundGraph g → IsTied g elements → AreBecause g elements because
+        → IsTied (with_just (is_number because) g) elements }
+    ensures minimal { (g : Graph) (elements : List Elem) (because : List ConId) (k : ConId) → IsSoundGraph g → AreBecause g elements because → Contains because k
+        → ¬ IsTied (without k (with_just (is_number because) g)) elements }
+    ensures constraints { (g : Graph) (elements : List Elem) (because : List ConId) (k : ConId) → AreBecause g elements because → Contains because k → HasConstraint g k }
+{}
+
+/// Of a graph just one list ties the elements: neither an order nor a choice has a part in it.
+pub fn one_because()
+    ensures some { (g : Graph) (elements : List Elem) → IsSoundGraph g → (because : List ConId) × AreBecause g elements because }
+    ensures one { (g : Graph) (elements : List Elem) (one other : List ConId) → IsSoundGraph g → AreBecause g elements one → AreBecause g elements other → one ≡ other }
+{}
+
+/// What a constraint that is left out follows from are kept constraints, and in the graph of all nodes they alone tie its
+/// elements. Without any one of them they don't. And there is just one such list.
+pub fn follows()
+    ensures enough { (g : Graph) (left because : List ConId) (c : ConId) (s : Start) → IsSoundGraph g → IsOneCluster g → AreLeftOut g left → FollowsFrom g left c because
+        → Contains (starts g) s → s.number ≡ c → IsTied (with_just (is_number because) g) s.elements }
+    ensures minimal { (g : Graph) (left because : List ConId) (c k : ConId) (s : Start) → IsSoundGraph g → FollowsFrom g left c because
+        → Contains (starts g) s → s.number ≡ c → Contains because k → ¬ IsTied (without k (with_just (is_number because) g)) s.elements }
+    ensures kept { (g : Graph) (left because : List ConId) (c k : ConId) → FollowsFrom g left c because → Contains because k → HasConstraint (kept_graph left g) k }
+    ensures some { (g : Graph) (left : List ConId) (c : ConId) → IsSoundGraph g → HasConstraint g c → (because : List ConId) × FollowsFrom g left c because }
+    ensures one { (g : Graph) (left one other : List ConId) (c : ConId) → IsSoundGraph g → FollowsFrom g left c one → FollowsFrom g left c other → one ≡ other }
+{}
