@@ -23,7 +23,7 @@ use Rattle.sk_base.specs.SoundSketch.{IsSoundSketch, IsSoundRule}
 use Rattle.sk_base.proofs.Members.{contains_head, contains_later, contains_mapped, mapped_from}
 use Rattle.sk_base.proofs.Numbers.{found_elem}
 use Rattle.sk_base.proofs.Pairs.{pairs_map, pairs_weaken}
-use Rattle.sk_family.specs.Body.{Start, starts, starting, initial_bodies}
+use Rattle.sk_family.specs.Body.{starts, starting, initial_bodies}
 use Rattle.sk_graph.specs.SketchGraph.{graph_of, node_of, kind_of}
 use Rattle.sk_graph.proofs.Soundness.{graph_is_sound}
 use Rattle.sk_rules.specs.Excess.{weight, weight_of}

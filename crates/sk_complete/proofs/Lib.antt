@@ -3,6 +3,7 @@ pub mod Roots
 pub mod Ratios
 pub mod Fractions
 pub mod OneValue
+pub mod DrawnRules
 pub mod Hopeless
 pub mod Extending
 pub mod Verdicts

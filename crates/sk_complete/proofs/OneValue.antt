@@ -1,10 +1,12 @@
 -- What is drawn between two elements is one value: one root, one fraction, one ratio.
-use Rattle.std.proofs.Common.{◌≡◌, ◌≢◌, ℕ, zero, suc, ◌+◌, ◌*◌, ◌-◌, ◌<◌, ◌≤◌, Bool, inl, inr, refl, arith, ap, sym, subst, ◌∙◌}
-use Rattle.std.specs.Prelude.{ℤ, pos, unsigned_abs, nat_le, min, max, cond}
+use Rattle.std.proofs.Common.{◌≡◌, ◌≢◌, ℕ, zero, suc, ◌+◌, ◌*◌, ◌-◌, ◌<◌, ◌≤◌, Bool, true, false, inl, inr, refl, arith, ap, sym, subst, ◌∙◌}
+use Rattle.std.specs.Prelude.{ℤ, pos, neg_ℤ, Option, None, Some, IfNone, ◌*ℤ◌, ◌&&◌, int_lt, nat_lt, unsigned_abs, nat_le, min, max, cond}
+use Rattle.std.proofs.lemmas.Bool.Decides.{nat_tests}
 use Rattle.std.proofs.lemmas.Bool.{cases_lt}
 use Rattle.std.proofs.lemmas.Int.{ints}
 use Rattle.std.proofs.lemmas.Nat.{mul-le}
 use Rattle.sk_base.specs.declared.Ratio.{Ratio}
+use Rattle.sk_base.specs.SoundSketch.{IsSoundRatio}
 use Rattle.sk_complete.specs.DrawnValues.{Quotient, IsNearestRoot, IsNearestFraction, IsNearestRatio, gap, signed}
 
 -- a factor is taken away
@@ -154,3 +156,30 @@ one_ratio c d one other p q =
     above_none : (m n : ℕ) → m ≢ 0 → 1 ≤ max m n
     above_none zero n not = absurd (not refl)
     above_none (suc m) n not = omega arith
+
+-- a ratio of which the nearest fraction is 0 isn't sound
+module _ (c d : ℤ) (x y m n : ℕ) (some : 1 ≤ n) (nearest : IsNearestFraction m n x y) where
+  pub none_flat : m ≡ unsigned_abs c → n ≡ unsigned_abs d → m ≤ n → x ≡ 0 → (ratio : Ratio) → IsSoundRatio ratio → ¬ IsNearestRatio c d ratio
+  none_flat m_is n_is less none ratio sound is =
+      let test : nat_le (unsigned_abs c) (unsigned_abs d) ≡ true = grind (arith, nat_tests) in
+      let low : min (unsigned_abs c) (unsigned_abs d) ≡ m = omega arith in
+      let high : max (unsigned_abs c) (unsigned_abs d) ≡ n = omega arith in
+      let here : IsNearestFraction m n is.x is.y = subst (λ k. IsNearestFraction m k is.x is.y) high (subst (λ k. IsNearestFraction k (max (unsigned_abs c) (unsigned_abs d)) is.x is.y) low is.nearest) in
+      let over = one_numerator m n less some is.x is.y x y here nearest in
+      sound.0 (is.p ∙ ap (λ (t : Bool). signed c d (cond t is.x is.y) (cond t is.y is.x)) test ∙ ap (λ (k : ℕ). signed c d k is.y) (over ∙ none) ∙ nothing (int_lt (c *ℤ d) (pos 0) && nat_lt 0 is.y))
+    where
+      nothing : (t : Bool) → cond t (neg_ℤ (pos 0)) (pos 0) ≡ pos 0
+      nothing true = refl
+      nothing false = refl
+
+-- what comes of an answer that isn't there
+pub none_when : {P : Type 0} (r : Option Ratio) (x : ℕ) → (x ≡ 0 → P) → IfNone r (x ≡ 0) → IfNone r P
+none_when None x then none = then none
+none_when (Some ratio) x then none = tt
+
+pub some_along : (c : ℤ) (m n : ℕ) → c ≢ pos 0 → m ≡ unsigned_abs c → m ≤ n → 1 ≤ n
+some_along c m n turned is less = (let size : unsigned_abs c ≢ 0 = λ none. turned (omega (arith, ints, none)) in above m n (λ none. size (sym is ∙ none)) less)
+  where
+    above : (m n : ℕ) → m ≢ 0 → m ≤ n → 1 ≤ n
+    above zero n not less = absurd (not refl)
+    above (suc m) n not less = omega arith

@@ -1,6 +1,6 @@
 -- Ratios nearest to a tangent, flat and steep.
 use Rattle.std.proofs.Common.{◌≡◌, ◌≢◌, ℕ, ◌<◌, ◌≤◌, Bool, true, false, cond, arith, sym, subst, ◌∙◌, ap}
-use Rattle.std.specs.Prelude.{ℤ, pos, Option, None, Some, IfSome, unsigned_abs, nat_le, min, max, unwrap_or}
+use Rattle.std.specs.Prelude.{ℤ, pos, Option, None, Some, IfNone, IfSome, unsigned_abs, nat_le, min, max, unwrap_or}
 use Rattle.std.proofs.lemmas.Bool.Decides.{nat_tests}
 use Rattle.sk_base.specs.declared.Elem.{Elem}
 use Rattle.sk_base.specs.declared.Ratio.{Ratio}
@@ -8,6 +8,7 @@ use Rattle.sk_base.specs.declared.Shape.{Shape}
 use Rattle.sk_base.specs.declared.Shape.TheVariants.{Point}
 use Rattle.sk_base.specs.declared.Sketch.{Sketch}
 use Rattle.sk_base.specs.Drawn.{shape_of}
+use Rattle.sk_base.specs.SoundSketch.{IsSoundRatio}
 use Rattle.sk_graph.specs.SketchGraph.{drawn_as}
 use Rattle.sk_complete.specs.DrawnValues.{IsNearestFraction, IsNearestRatio, IsDrawnRatio, signed}
 
@@ -49,6 +50,12 @@ module _ (c d : ℤ) (turned : c ≢ pos 0) where
       → IfSome r (λ ratio. ratio.p ≡ signed c d y x) → IfSome r (λ ratio. ratio.q ≡ pos x) → IfSome r (IsNearestRatio c d)
   steep_nearest x y None m n m_is n_is less nearest p q = tt
   steep_nearest x y (Some ratio) m n m_is n_is less nearest p q = steep_is x y ratio m n m_is n_is less nearest p q
+
+-- no ratio is nearest to the same tangent
+pub ratio_none : (r : Option Ratio) (m n c d : ℤ) → m ≡ c → n ≡ d → IfNone r ((ratio : Ratio) → IsSoundRatio ratio → ¬ IsNearestRatio m n ratio) → IfNone r ((ratio : Ratio) → IsSoundRatio ratio → ¬ IsNearestRatio c d ratio)
+ratio_none r m n c d across along none =
+    subst (λ (k : ℤ). IfNone r ((ratio : Ratio) → IsSoundRatio ratio → ¬ IsNearestRatio c k ratio)) along
+    (subst (λ (k : ℤ). IfNone r ((ratio : Ratio) → IsSoundRatio ratio → ¬ IsNearestRatio k n ratio)) across none)
 
 -- the angle of two lines is that of their shapes
 pub ratio_drawn : (s : Sketch) (l m : Elem) (a b : Shape) (ratio : Ratio) → shape_of s l ≡ Some a → shape_of s m ≡ Some b → IsDrawnRatio a b ratio → IsDrawnRatio (drawn_as s l) (drawn_as s m) ratio

@@ -1,11 +1,13 @@
 -- The values that a drawing has between two of its elements.
-use Rattle.std.specs.Prelude.{◌≡◌, ◌≢◌, ◌≤◌, ◌<◌, ◌+◌, ◌-◌, ◌*◌, ◌*ℤ◌, ◌&&◌, nat_lt, min, max, ℕ, ℤ, pos, neg_ℤ, nat_le, int_lt, if◌then◌else◌, unsigned_abs}
+use Rattle.std.specs.Prelude.{◌≡◌, ◌⊎◌, false, true, ◌≢◌, ◌≤◌, ◌<◌, ◌+◌, ◌-◌, ◌*◌, ◌*ℤ◌, ◌&&◌, nat_lt, min, max, ℕ, ℤ, pos, neg_ℤ, nat_le, int_lt, if◌then◌else◌, unsigned_abs}
+use Rattle.sk_base.specs.declared.Elem.{Elem}
 use Rattle.sk_base.specs.declared.Ratio.{Ratio}
 use Rattle.sk_base.specs.declared.Rule.{Rule}
 use Rattle.sk_base.specs.declared.Rule.TheVariants.{Distance, On, Tangent, Outside, Inside, Angle, Block}
 use Rattle.sk_base.specs.declared.Shape.{Shape}
 use Rattle.sk_base.specs.declared.Sketch.{Sketch}
 use Rattle.sk_base.specs.Drawn.{is_line, IsLine}
+use Rattle.sk_base.specs.SoundSketch.{IsSoundRule}
 use Rattle.sk_graph.specs.SketchGraph.{drawn_as}
 use Rattle.sk_orient.specs.declared.Vector.{Vector}
 use Rattle.sk_orient.specs.DrawnSigns.{place_of, direction_of}
@@ -82,3 +84,29 @@ IsDrawnValue s (Outside u v) = ⊥
 IsDrawnValue s (Inside u v) = ⊥
 IsDrawnValue s (Angle l m ratio) = IsDrawnRatio (drawn_as s l) (drawn_as s m) ratio
 IsDrawnValue s (Block pins) = ⊥
+
+-- a point or a centre stands before a line, and of two of a kind the one with the lesser number
+abbrev pub StandsBefore : Sketch → Elem → Elem → Type 0
+StandsBefore s x y =
+    ((is_line (drawn_as s x) ≡ false) × (is_line (drawn_as s y) ≡ true))
+    ⊎ ((is_line (drawn_as s x) ≡ is_line (drawn_as s y)) × (x.0 < y.0))
+
+-- the rule names the two, in this order
+abbrev pub Joins : Elem → Elem → Rule → Type 0
+Joins x y (Distance u v len) = (u ≡ x) × (v ≡ y)
+Joins x y (On u v) = (u ≡ x) × (v ≡ y)
+Joins x y (Tangent u v) = (u ≡ x) × (v ≡ y)
+Joins x y (Outside u v) = (u ≡ x) × (v ≡ y)
+Joins x y (Inside u v) = (u ≡ x) × (v ≡ y)
+Joins x y (Angle l m ratio) = (l ≡ x) × (m ≡ y)
+Joins x y (Block pins) = ⊥
+
+-- the rule is sound, and says of the two, in their order, what is drawn
+pub record IsDrawnRule (s : Sketch) (u v : Elem) (rule : Rule) : Type 0 where
+  pub first : Elem
+  pub second : Elem
+  pub these : ((first ≡ u) × (second ≡ v)) ⊎ ((first ≡ v) × (second ≡ u))
+  pub before : StandsBefore s first second
+  pub joins : Joins first second rule
+  pub sound : IsSoundRule s rule
+  pub drawn : IsDrawnValue s rule

@@ -8,7 +8,7 @@ ghost use Rattle.sk_family.specs.Starts.{IsFree};
 ghost use Rattle.sk_graph.specs.SketchGraph.{graph_of};
 ghost use Rattle.sk_complete.specs.Drafts.{IsDraftOf, GrowsBy};
 
-use crate::values::drawn_rule;
+use crate::values::drawn_value;
 use sk_base::{ConId, Constraint, Edge, Elem, Graph, List, NoMemory, Sketch, copy_constraint};
 use sk_family::{Family, initial};
 use sk_graph::edge;
@@ -73,7 +73,7 @@ impl Draft {
         requires draft { IsDraftOf s.now self.old.sketch self.old.family }
         ensures { OnOk result (IsDraftOf s.now self.new.sketch self.new.family) }
     {
-        let Some(rule) = drawn_rule(s, u, v) else {
+        let Some(rule) = drawn_value(s, u, v) else {
             return Ok(false);
         };
         let Some(number) = next_number(self.sketch.constraints.as_slice()) else {

@@ -18,3 +18,4 @@ mod values;
 
 pub use completion::{Completion, Reason, complete};
 pub use law::{exact_weight, none_completes, one_value};
+pub use values::drawn_value;

@@ -1,5 +1,6 @@
 // The ratio that is nearest to a drawn angle.
-ghost use Rattle.std.specs.Prelude.{◌≡◌, ◌≢◌, ◌≤◌, ◌*ℤ◌, ℕ, pos, IfSome, ◌&&◌, int_lt, nat_lt, unsigned_abs};
+ghost use Rattle.std.specs.Prelude.{◌≡◌, ◌≢◌, ◌≤◌, ◌*ℤ◌, ℕ, pos, IfNone, IfSome, ◌&&◌, int_lt, nat_lt, unsigned_abs};
+ghost use Rattle.sk_base.specs.declared.Ratio.{Ratio as TheRatio};
 ghost use Rattle.sk_base.specs.SoundSketch.{IsSoundRatio};
 ghost use Rattle.sk_complete.specs.DrawnValues.{IsNearestRatio, signed};
 
@@ -12,6 +13,7 @@ pub(crate) fn nearest_ratio(c: i128, d: i128) -> Option<Ratio>
     requires d_few { unsigned_abs d ≤ 8000000000000000000 }
     ensures sound { IfSome result IsSoundRatio }
     ensures nearest { IfSome result (IsNearestRatio c d) }
+    ensures none { IfNone result ((ratio : TheRatio) → IsSoundRatio ratio → ¬ IsNearestRatio c d ratio) }
 {
     if c == 0 {
         return None;
@@ -36,6 +38,7 @@ fn ratio_with(c: i128, d: i128, p: u128, q: u128) -> Option<Ratio>
     ensures sound { IfSome result IsSoundRatio }
     ensures p { IfSome result (λ ratio. ratio.p ≡ signed c d p q) }
     ensures q { IfSome result (λ ratio. ratio.q ≡ pos q) }
+    ensures none { IfNone result (p ≡ 0) }
 {
     if p == 0 {
         None

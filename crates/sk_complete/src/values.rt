@@ -1,9 +1,12 @@
-// What is drawn between two elements, as a rule.
-ghost use Rattle.std.specs.Prelude.{◌≡◌, ◌≢◌, ◌<◌, IfSome, Some};
+// What is drawn between two elements, as the rule that says it.
+ghost use Rattle.std.specs.Prelude.{◌≡◌, ◌≢◌, ◌<◌, IfNone, IfSome, None, Some, unsigned_abs};
+ghost use Rattle.sk_base.specs.declared.Ratio.{Ratio as TheRatio};
+ghost use Rattle.sk_base.specs.declared.Rule.{Rule as TheRule};
+ghost use Rattle.sk_base.specs.declared.Um.{Um as TheUm};
 ghost use Rattle.sk_base.specs.Drawn.{HasCentre, IsLine, shape_of};
-ghost use Rattle.sk_base.specs.SoundSketch.{IsSoundSketch, IsSoundRule, IsSoundShape, IsSoundRatio, AreLines};
+ghost use Rattle.sk_base.specs.SoundSketch.{IsSoundSketch, IsSoundRule, IsSoundShape, IsSoundRatio, IsLength, AreLines};
 ghost use Rattle.sk_orient.specs.DrawnSigns.{IsOnPaper};
-ghost use Rattle.sk_complete.specs.DrawnValues.{IsDrawnValue, IsDrawnRatio};
+ghost use Rattle.sk_complete.specs.DrawnValues.{IsDrawnApart, IsDrawnRatio, IsDrawnRule, IsDrawnValue, Joins};
 
 use crate::ratio::nearest_ratio;
 use crate::root::drawn_apart;
@@ -13,12 +16,13 @@ use sk_orient::{cross, direction, dot};
 /// The greatest length, in micrometres.
 const MOST: u64 = 1_000_000_000;
 
-/// The rule that says what is drawn between two elements, the lesser number first where both are lines or neither is.
-/// None where they are one, are drawn at one place or parallel, or further apart than a length may be.
-pub(crate) fn drawn_rule(s: &Sketch, u: Elem, v: Elem) -> Option<Rule>
+/// The rule that says what is drawn between two elements: of a point or centre and a line it names the line behind, else
+/// the lesser number first. A distance is in micrometres. None exactly where no sound rule says it: they are one, are
+/// drawn at one place or parallel, or are further apart than a length may be.
+pub fn drawn_value(s: &Sketch, u: Elem, v: Elem) -> Option<Rule>
     requires { IsSoundSketch s.now }
-    ensures sound { IfSome result (IsSoundRule s.now) }
-    ensures drawn { IfSome result (IsDrawnValue s.now) }
+    ensures some { IfSome result (IsDrawnRule s.now u v) }
+    ensures none { IfNone result ((rule : TheRule) → ¬ IsDrawnRule s.now u v rule) }
 {
     if u.0 < v.0 {
         rule_between(s, u, v)
@@ -33,8 +37,8 @@ pub(crate) fn drawn_rule(s: &Sketch, u: Elem, v: Elem) -> Option<Rule>
 fn rule_between(s: &Sketch, u: Elem, v: Elem) -> Option<Rule>
     requires sketch { IsSoundSketch s.now }
     requires order { u.0 < v.0 }
-    ensures sound { IfSome result (IsSoundRule s.now) }
-    ensures drawn { IfSome result (IsDrawnValue s.now) }
+    ensures some { IfSome result (IsDrawnRule s.now u v) }
+    ensures none { IfNone result ((rule : TheRule) → ¬ IsDrawnRule s.now u v rule) }
 {
     let a = shape_in(s, u)?;
     let b = shape_in(s, v)?;
@@ -55,6 +59,7 @@ fn rule_between(s: &Sketch, u: Elem, v: Elem) -> Option<Rule>
 pub(crate) fn shape_in(s: &Sketch, e: Elem) -> Option<Shape>
     requires { IsSoundSketch s.now }
     ensures is { IfSome result (λ shape. shape_of s.now e ≡ Some shape) }
+    ensures none { IfNone result (shape_of s.now e ≡ None) }
     ensures sound { IfSome result IsSoundShape }
 {
     match s.look_up(e) {
@@ -74,6 +79,8 @@ fn beside(s: &Sketch, p: Elem, line: Elem, a: Shape, b: Shape) -> Option<Rule>
     requires line { IsLine b }
     ensures sound { IfSome result (IsSoundRule s.now) }
     ensures drawn { IfSome result (IsDrawnValue s.now) }
+    ensures joins { IfSome result (Joins p line) }
+    ensures none { IfNone result (((len : TheUm) → IsLength len → ¬ IsDrawnApart a b (unsigned_abs len.0)) × ¬ IsDrawnApart a b 0) }
 {
     match drawn_apart(&a, &b) {
         0 => Some(Rule::On { u: p, v: line }),
@@ -96,6 +103,8 @@ fn apart(s: &Sketch, u: Elem, v: Elem, a: Shape, b: Shape) -> Option<Rule>
     requires centre { HasCentre a }
     ensures sound { IfSome result (IsSoundRule s.now) }
     ensures drawn { IfSome result (IsDrawnValue s.now) }
+    ensures joins { IfSome result (Joins u v) }
+    ensures none { IfNone result ((len : TheUm) → IsLength len → ¬ IsDrawnApart a b (unsigned_abs len.0)) }
 {
     match drawn_apart(&a, &b) {
         0 => None,
@@ -118,6 +127,8 @@ fn turned(s: &Sketch, l: Elem, m: Elem, a: Shape, b: Shape) -> Option<Rule>
     requires lines { AreLines a b }
     ensures sound { IfSome result (IsSoundRule s.now) }
     ensures drawn { IfSome result (IsDrawnValue s.now) }
+    ensures joins { IfSome result (Joins l m) }
+    ensures none { IfNone result ((ratio : TheRatio) → IsSoundRatio ratio → ¬ IsDrawnRatio a b ratio) }
 {
     let ratio = drawn_ratio(a, b)?;
     Some(Rule::Angle { l, m, ratio })
@@ -129,6 +140,7 @@ fn drawn_ratio(a: Shape, b: Shape) -> Option<Ratio>
     requires b { IsOnPaper b }
     ensures sound { IfSome result IsSoundRatio }
     ensures drawn { IfSome result (IsDrawnRatio a b) }
+    ensures none { IfNone result ((ratio : TheRatio) → IsSoundRatio ratio → ¬ IsDrawnRatio a b ratio) }
 {
     let first = direction(&a);
     let second = direction(&b);

@@ -1,6 +1,7 @@
 use Rattle.std.proofs.Common.{◌≢◌, FitsSigned, rules, to_z-of_z}
 use Rattle.std.specs.Prelude.{pos}
 use Rattle.std.specs.Int.{w128}
+use Rattle.sk_complete.proofs.OneValue.{none_flat, none_when, some_along}
 use Rattle.sk_complete.proofs.Ratios.{flat_nearest, steep_nearest}
 use Rattle.sk_complete.proofs.ratio.nearest_ratio.Goals as goal
 
@@ -26,3 +27,15 @@ returns-else-across-along-clause-nearest c =
     let r = c.ratio_with-else-across-along in
     steep_nearest c.args.c c.args.d turned f.result.x f.result.y r.result c.unsigned_abs-along.result c.unsigned_abs-across.result
     along across c.if-across-along.false f.ensures.nearest (simp to_z-of_z at r.ensures.p) r.ensures.q
+
+pub returns-then-across-along-clause-none : goal.returns-then-across-along-clause-none
+returns-then-across-along-clause-none c =
+    let c_fits : FitsSigned w128 c.args.c = c.ranges.c in
+    let d_fits : FitsSigned w128 c.args.d = c.ranges.d in
+    let turned : c.args.c ≢ pos 0 = search rules in
+    let across = simp to_z-of_z at c.unsigned_abs-across.ensures.value in
+    let along = simp to_z-of_z at c.unsigned_abs-along.ensures.value in
+    let f = c.nearest_fraction-fraction in
+    none_when (c.ratio_with.result) (f.result.x) (λ none. none_flat c.args.c c.args.d f.result.x f.result.y c.unsigned_abs-across.result c.unsigned_abs-along.result
+    (some_along c.args.c c.unsigned_abs-across.result c.unsigned_abs-along.result turned across c.if-across-along.true) f.ensures.nearest across along c.if-across-along.true none)
+    c.ratio_with.ensures.none
