@@ -1,8 +1,8 @@
 // Which elements a part joins to the base.
 use crate::lines::Groups;
 use sk_base::{Elem, NoMemory};
-use sk_triangles::is_marked;
 use sk_family::Cluster;
+use sk_triangles::is_marked;
 use std::alloc::Global;
 
 /// An element of a part that shares one element with the base, that element, and the class of the part's lines.

@@ -1,7 +1,7 @@
 // Which elements are lines, and groups of elements.
 use sk_base::{Elem, NoMemory, Sketch};
-use sk_triangles::{is_marked, mark};
 use sk_family::Cluster;
+use sk_triangles::{is_marked, mark};
 use std::alloc::Global;
 
 /// A mark at the number of each line.

@@ -5,8 +5,8 @@ use crate::choice::{Choice, Choices, link_of};
 use crate::hinges::{Hinge, class_of, hinges_of};
 use crate::lines::Groups;
 use sk_base::{Elem, NoMemory, Sketch};
-use sk_triangles::{is_marked, mark};
 use sk_family::Cluster;
+use sk_triangles::{is_marked, mark};
 use std::alloc::Global;
 
 /// An element outside the base, and one of the base.
