@@ -2,6 +2,7 @@
 ghost use Rattle.sk_orient.specs.DrawnSigns.{IsOnPaper};
 ghost use Rattle.sk_orient.specs.Vectors.{IsShort};
 
+use crate::root::{height, length_squared};
 use sk_base::Shape;
 use sk_orient::{Vector, cross, direction, dot, place, way};
 
@@ -57,7 +58,7 @@ fn along_line(w: &Shape, u: &Shape, v: &Shape) -> Firmness
     } else if v.is_line() {
         sine(direction(w), direction(v))
     } else {
-        cosine(direction(w), way(place(u), place(v)))
+        cosine(direction(w), between(u, v))
     }
 }
 
@@ -67,7 +68,7 @@ fn about_point(w: &Shape, line: &Shape, p: &Shape) -> Firmness
     requires line { IsOnPaper line.now }
     requires p { IsOnPaper p.now }
 {
-    cosine(direction(line), way(place(w), place(p)))
+    cosine(direction(line), between(w, p))
 }
 
 /// The three are points: the sine of the angle at the end of the longer side.
@@ -76,44 +77,47 @@ fn of_three(w: &Shape, u: &Shape, v: &Shape) -> Firmness
     requires u { IsOnPaper u.now }
     requires v { IsOnPaper v.now }
 {
-    let first = way(place(w), place(u));
-    let second = way(place(w), place(v));
-    let across = way(place(u), place(v));
+    let first = between(w, u);
+    let second = between(w, v);
+    let across = between(u, v);
     let height = cross(first, second).unsigned_abs();
     Firmness {
         over: height.saturating_mul(height),
-        under: square(first)
-            .max(square(second))
-            .saturating_mul(square(across)),
+        under: length_squared(first)
+            .max(length_squared(second))
+            .saturating_mul(length_squared(across)),
     }
 }
 
+/// The way from the place of the one to that of the other.
+fn between(a: &Shape, b: &Shape) -> Vector
+    requires a { IsOnPaper a.now }
+    requires b { IsOnPaper b.now }
+    ensures { IsShort 2000000000 result }
+{
+    way(place(a), place(b))
+}
+
 fn sine(one: Vector, other: Vector) -> Firmness
-    requires one { IsShort 2305843009213693952 one }
-    requires other { IsShort 2305843009213693952 other }
+    requires one { IsShort 2000000000 one }
+    requires other { IsShort 2000000000 other }
 {
     let height = cross(one, other).unsigned_abs();
     Firmness {
         over: height.saturating_mul(height),
-        under: square(one).saturating_mul(square(other)),
+        under: length_squared(one).saturating_mul(length_squared(other)),
     }
 }
 
 fn cosine(one: Vector, other: Vector) -> Firmness
-    requires one { IsShort 2305843009213693952 one }
-    requires other { IsShort 2305843009213693952 other }
+    requires one { IsShort 2000000000 one }
+    requires other { IsShort 2000000000 other }
 {
     let length = dot(one, other).unsigned_abs();
     Firmness {
         over: length.saturating_mul(length),
-        under: square(one).saturating_mul(square(other)),
+        under: length_squared(one).saturating_mul(length_squared(other)),
     }
-}
-
-fn square(v: Vector) -> u128
-    requires { IsShort 2305843009213693952 v }
-{
-    dot(v, v).unsigned_abs()
 }
 
 /// The square of how far the two are drawn apart, rounded down; 0 for two lines.
@@ -126,7 +130,7 @@ pub(crate) fn reach_of(u: &Shape, v: &Shape) -> u128
     } else if v.is_line() {
         off_line(v, u)
     } else {
-        square(way(place(u), place(v)))
+        length_squared(between(u, v))
     }
 }
 
@@ -134,9 +138,8 @@ fn off_line(line: &Shape, p: &Shape) -> u128
     requires line { IsOnPaper line.now }
     requires p { IsOnPaper p.now }
 {
-    let along = direction(line);
-    let height = cross(along, way(place(line), place(p))).unsigned_abs();
-    match square(along) {
+    let height = height(line, p);
+    match length_squared(direction(line)) {
         0 => 0,
         length => height.saturating_mul(height) / length,
     }

@@ -47,7 +47,7 @@ fn off_line(line: &Shape, p: &Shape) -> u64
 }
 
 /// How high the point or centre stands over the line, times the line's length.
-fn height(line: &Shape, p: &Shape) -> u128
+pub(crate) fn height(line: &Shape, p: &Shape) -> u128
     requires line { IsOnPaper line.now }
     requires p { IsOnPaper p.now }
     ensures value { result ≡ unsigned_abs (cross (direction_of line.now) (way (place_of line.now) (place_of p.now))) }
@@ -66,7 +66,7 @@ fn centres_apart(a: &Shape, b: &Shape) -> u64
 }
 
 /// The square of the vector's length.
-fn length_squared(v: Vector) -> u128
+pub(crate) fn length_squared(v: Vector) -> u128
     requires { IsShort 2000000000 v }
     ensures value { result ≡ square v }
     ensures few { result ≤ 8000000000000000000 }
