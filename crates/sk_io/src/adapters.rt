@@ -11,8 +11,8 @@ use crate::source::Source;
 use std::io::{Read, Write};
 use std::marker::Model;
 
-/// A reader of std's, which contracts see as how often it was asked, how often it gave nothing, and how
-/// often it has failed. It tells nothing of content.
+/// A reader of std's. Contracts see how often this adapter was read, how often such a read gave nothing or failed, and
+/// how often one failed. They tell nothing of content, nor of how often the reader itself is asked.
 #[derive(Drop)]
 pub struct StdSource<R: Read> {
     inner: R,
@@ -77,8 +77,8 @@ impl<R: Read> Source for StdSource<R> {
     }
 }
 
-/// A writer of std's, which contracts see as how often a write or a flush has failed, or a write has taken
-/// nothing of a piece. It tells nothing of content, nor of what is held back.
+/// A writer of std's. Contracts see how often a write or a flush has failed, or a write has taken nothing of a piece.
+/// They tell nothing of content, nor of what is held back.
 #[derive(Drop)]
 pub struct StdSink<W: Write> {
     inner: W,
