@@ -4,8 +4,8 @@ use Rattle.std.specs.Prelude.{if◌then◌else◌, fold, Option, None, Some, Con
 use Rattle.sk_request.specs.declared.command.Account.TheVariants as accounts
 use Rattle.sk_request.specs.declared.command.Command.{Command}
 use Rattle.sk_request.specs.declared.command.Command.TheVariants.{Tell, Plan, Solve, Dxf, Offers, Session, Grow, Verify, Flips, Live}
-use Rattle.sk_request.specs.Commands.{command_word, commands, named}
-use Rattle.sk_request.specs.Asking.{traits, makes, size_of}
+use Rattle.sk_request.specs.Commands.{command_word, commands, without_size}
+use Rattle.sk_request.specs.Asking.{traits, makes, size_in}
 
 -- words with different first letters differ
 pub other_letter : (c d : ℕ) (xs ys : List ℕ) → c < d → c ∷ xs ≡ d ∷ ys → ⊥
@@ -21,7 +21,7 @@ by_letters n =
 abbrev letters : List ℕ → ℕ
 letters word = fold (λ n c. n + c) 0 word
 
-by_word : (c : Command) → by_letters (letters (command_word c)) ≡ named c
+by_word : (c : Command) → by_letters (letters (command_word c)) ≡ without_size c
 by_word (Tell accounts.Judged) = refl
 by_word (Tell accounts.Migrated) = refl
 by_word (Tell accounts.Spares) = refl
@@ -39,7 +39,7 @@ by_word Flips = refl
 by_word Live = refl
 
 -- each is listed
-pub command_listed : (c : Command) → Contains commands (named c)
+pub command_listed : (c : Command) → Contains commands (without_size c)
 command_listed (Tell accounts.Judged) = (0, omega arith, refl)
 command_listed Plan = (1, omega arith, refl)
 command_listed Solve = (2, omega arith, refl)
@@ -57,20 +57,20 @@ command_listed Live = (13, omega arith, refl)
 command_listed (Tell accounts.Excesses) = (14, omega arith, refl)
 
 -- a word names a command but for its size
-pub one_named : (c d : Command) → command_word c ≡ command_word d → named c ≡ named d
-one_named c d same = sym (by_word c) ∙ ap (λ word. by_letters (letters word)) same ∙ by_word d
+pub one_without_size : (c d : Command) → command_word c ≡ command_word d → without_size c ≡ without_size d
+one_without_size c d same = sym (by_word c) ∙ ap (λ word. by_letters (letters word)) same ∙ by_word d
 
 -- what doesn't hang on the size
-pub named_word : (c : Command) → command_word (named c) ≡ command_word c
-named_word (Grow n) = refl
-named_word c = refl
+pub word_without_size : (c : Command) → command_word (without_size c) ≡ command_word c
+word_without_size (Grow n) = refl
+word_without_size c = refl
 
-pub named_traits : (c : Command) → traits (named c) ≡ traits c
-named_traits (Grow n) = refl
-named_traits c = refl
+pub traits_without_size : (c : Command) → traits (without_size c) ≡ traits c
+traits_without_size (Grow n) = refl
+traits_without_size c = refl
 
 pub same_traits : (c d : Command) → command_word c ≡ command_word d → traits c ≡ traits d
-same_traits c d same = sym (named_traits c) ∙ ap traits (one_named c d same) ∙ named_traits d
+same_traits c d same = sym (traits_without_size c) ∙ ap traits (one_without_size c d same) ∙ traits_without_size d
 
 -- a command by its name and its size
 abbrev grown : Option ℕ → Command
@@ -81,16 +81,16 @@ abbrev with_size : Command → Option ℕ → Command
 with_size (Grow m) size = grown size
 with_size c size = c
 
-whole : (c : Command) → with_size (named c) (size_of c) ≡ c
+whole : (c : Command) → with_size (without_size c) (size_in c) ≡ c
 whole (Grow n) = refl
 whole c = refl
 
-pub one_command : (c d : Command) → command_word c ≡ command_word d → size_of c ≡ size_of d → c ≡ d
+pub one_command : (c d : Command) → command_word c ≡ command_word d → size_in c ≡ size_in d → c ≡ d
 one_command c d same size =
-    sym (whole c) ∙ ap (λ e. with_size e (size_of c)) (one_named c d same) ∙ ap (λ s. with_size (named d) s) size ∙ whole d
+    sym (whole c) ∙ ap (λ e. with_size e (size_in c)) (one_without_size c d same) ∙ ap (λ s. with_size (without_size d) s) size ∙ whole d
 
 -- a command has a size exactly where it makes its sketch
-pub unmade_size : (c : Command) → makes c ≡ false → size_of c ≡ None
+pub unmade_size : (c : Command) → makes c ≡ false → size_in c ≡ None
 unmade_size (Grow n) no_size = cc
 unmade_size c no_size = refl
 

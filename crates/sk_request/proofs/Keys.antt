@@ -18,7 +18,7 @@ use Rattle.sk_request.specs.declared.command.Traits.{Traits}
 use Rattle.sk_request.specs.Commands.{command_word}
 use Rattle.sk_request.specs.declared.request.Request.{Request}
 use Rattle.sk_request.specs.declared.settings.Settings.{Settings}
-use Rattle.sk_request.specs.Asking.{Key, OrderKey, BitsKey, WithinKey, PlaceKey, FrameKey, SizeKey, key_name, orders_by, places_by, traits, makes, takes, behind, values_of, IsKeyOf, IsOrder, IsBits, IsLimit, IsPlace, IsFrame, IsSize, IsSet, size_of, IsSized, LacksSize, Says, HasKeys}
+use Rattle.sk_request.specs.Asking.{Key, OrderKey, BitsKey, WithinKey, PlaceKey, FrameKey, SizeKey, key_name, orders_by, places_by, traits, makes, takes, behind, values_of, IsKeyOf, IsOrder, IsBits, IsLimit, IsPlace, IsFrame, IsSize, IsSet, size_in, IsSized, LacksSize, Says, HasKeys}
 use Rattle.sk_request.specs.Settings.{AreSet, Adds}
 use Rattle.sk_request.proofs.KeyValues.{values_more, set_more, set_back, set_back_alone, said, one_set}
 use Rattle.sk_request.proofs.Numbers.{one_size}
@@ -84,8 +84,8 @@ no_request command words word rest before set none request is keys =
     (subst (λ vs. Says IsFrame Base vs request.layout.frame) (values_more FrameKey words word rest) keys.frame) set.frame in
     let place = set_back IsPlace Boxes request.layout.by (values_of PlaceKey words) (behind (key_name PlaceKey) word) (values_of PlaceKey rest) before.place
     (subst (λ vs. Says IsPlace Boxes vs request.layout.by) (values_more PlaceKey words word rest) keys.place) set.place in
-    let size = set_back_alone IsSize (size_of request.command) (values_of SizeKey words) (behind (key_name SizeKey) word) (values_of SizeKey rest) before.size
-    (subst (λ vs. IsSet IsSize vs (size_of request.command)) (values_more SizeKey words word rest) keys.size) set.size in
+    let size = set_back_alone IsSize (size_in request.command) (values_of SizeKey words) (behind (key_name SizeKey) word) (values_of SizeKey rest) before.size
+    (subst (λ vs. IsSet IsSize vs (size_in request.command)) (values_more SizeKey words word rest) keys.size) set.size in
     none (record { order = order.0; bits = bits.0; within = within.0; place = place.0; frame = frame.0; size = size.0 })
     (record { known = same_keys request.command command is word known; order = order.1; bits = bits.1; within = within.1; place = place.1; frame = frame.1; size = size.1 })
 
@@ -94,10 +94,10 @@ pub sized_word : (named sized : Command) (size : Option ℕ) → IsSized named s
 sized_word (Grow m) sized size (n, is, same) = ap command_word (sym same)
 sized_word named sized size same = ap command_word (sym same)
 
-sized_set : (named sized : Command) (values : List (List ℕ)) (size : Option ℕ) → (makes named ≡ false → values ≡ []) → IsSet IsSize values size → IsSized named size sized → IsSet IsSize values (size_of sized)
-sized_set (Grow m) sized values size none set (n, is, same) = subst (λ c. IsSet IsSize values (size_of c)) (sym same) (subst (λ s. IsSet IsSize values s) is set)
+sized_set : (named sized : Command) (values : List (List ℕ)) (size : Option ℕ) → (makes named ≡ false → values ≡ []) → IsSet IsSize values size → IsSized named size sized → IsSet IsSize values (size_in sized)
+sized_set (Grow m) sized values size none set (n, is, same) = subst (λ c. IsSet IsSize values (size_in c)) (sym same) (subst (λ s. IsSet IsSize values s) is set)
 sized_set named sized values size none set same =
-    subst (λ c. IsSet IsSize values (size_of c)) (sym same) (subst (λ vs. IsSet IsSize vs None) (sym (none refl)) tt)
+    subst (λ c. IsSet IsSize values (size_in c)) (sym same) (subst (λ vs. IsSet IsSize vs None) (sym (none refl)) tt)
 
 -- what the words set is what they say
 pub keys_of : (named command : Command) (words : List (List ℕ)) (settings : Settings) (order : Order) (bits : Bits) (within : ℕ) (place : PlaceBy) (frame : FrameBy) → AreSet named words settings
@@ -119,7 +119,7 @@ pub no_size : (named : Command) (words : List (List ℕ)) (settings : Settings) 
 no_size (Grow m) words settings set lacks request is keys =
     let made = made_size request.command (ap (λ (t : Traits). t.makes) (same_traits request.command (Grow m) is)) in
     let size : Some made.0 ≡ None =
-    ap size_of (sym made.1) ∙ sym (one_set IsSize one_size (values_of SizeKey words) settings.size (size_of request.command) set.size keys.size) ∙ lacks in
+    ap size_in (sym made.1) ∙ sym (one_set IsSize one_size (values_of SizeKey words) settings.size (size_in request.command) set.size keys.size) ∙ lacks in
     cc
 no_size named words settings set lacks request is keys = absurd lacks
 

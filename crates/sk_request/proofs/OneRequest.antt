@@ -11,7 +11,7 @@ use Rattle.sk_request.specs.declared.bits.Bits.{Bits}
 use Rattle.sk_request.specs.declared.bits.Bits.TheVariants.{ThirtyEight}
 use Rattle.sk_request.specs.declared.command.Command.{Command}
 use Rattle.sk_request.specs.declared.request.Request.{Request}
-use Rattle.sk_request.specs.Asking.{OrderKey, BitsKey, WithinKey, PlaceKey, FrameKey, SizeKey, values_of, IsOrder, IsBits, IsLimit, IsPlace, IsFrame, IsSize, size_of, Asks}
+use Rattle.sk_request.specs.Asking.{OrderKey, BitsKey, WithinKey, PlaceKey, FrameKey, SizeKey, values_of, IsOrder, IsBits, IsLimit, IsPlace, IsFrame, IsSize, size_in, Asks}
 use Rattle.sk_request.proofs.CommandWords.{one_command}
 use Rattle.sk_request.proofs.KeyValues.{one_said, one_set}
 use Rattle.sk_request.proofs.Numbers.{one_order, one_bits, one_limit, one_place, one_frame, one_size}
@@ -26,7 +26,7 @@ same_request (command ∷ keys) one other first second =
     let frame_is = one_said IsFrame one_frame Base (values_of FrameKey keys) one.layout.frame other.layout.frame first.1.frame second.1.frame in
     let lay : PlaceBy → FrameBy → Layout = λ b f. record { by = b; frame = f } in
     let layout_is : one.layout ≡ other.layout = ap (λ b. lay b one.layout.frame) by_is ∙ ap (λ f. lay other.layout.by f) frame_is in
-    let size_is = one_set IsSize one_size (values_of SizeKey keys) (size_of one.command) (size_of other.command) first.1.size second.1.size in
+    let size_is = one_set IsSize one_size (values_of SizeKey keys) (size_in one.command) (size_in other.command) first.1.size second.1.size in
     let command_is = one_command one.command other.command (sym first.0 ∙ second.0) size_is in
     let make : Command → Order → Bits → ℕ → Layout → Request = λ c o b w p. record { command = c; order = o; bits = b; within = w; layout = p } in
     ap (λ c. make c one.order one.bits one.within one.layout) command_is ∙ ap (λ o. make other.command o one.bits one.within one.layout) order_is

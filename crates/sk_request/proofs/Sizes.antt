@@ -3,9 +3,9 @@ use Rattle.std.proofs.Common.{ℕ, List, [], ◌∷◌}
 use Rattle.sk_request.specs.declared.command.Command.{Command}
 use Rattle.sk_request.specs.declared.command.Command.TheVariants.{Grow}
 use Rattle.sk_request.specs.declared.request.Request.{Request}
-use Rattle.sk_request.specs.Asking.{SizeKey, values_of, IsSize, IsSet, size_of, HasFitSize, Asks}
+use Rattle.sk_request.specs.Asking.{SizeKey, values_of, IsSize, IsSet, size_in, HasFitSize, Asks}
 
-set_fits : (command : Command) (values : List (List ℕ)) → IsSet IsSize values (size_of command) → HasFitSize command
+set_fits : (command : Command) (values : List (List ℕ)) → IsSet IsSize values (size_in command) → HasFitSize command
 set_fits (Grow n) [] set = absurd set
 set_fits (Grow n) (v ∷ []) set = (set.1, set.2)
 set_fits (Grow n) (v ∷ w ∷ more) set = absurd set

@@ -16,9 +16,9 @@ use Rattle.sk_request.specs.declared.command.Command.{Command}
 use Rattle.sk_request.specs.declared.command.Command.TheVariants.{Grow}
 use Rattle.sk_request.specs.declared.command.Traits.{Traits}
 use Rattle.sk_request.specs.declared.request.Request.{Request}
-use Rattle.sk_request.specs.Commands.{command_word, commands, named}
-use Rattle.sk_request.proofs.CommandWords.{command_listed, named_word, same_traits, unmade_size, made_size}
-use Rattle.sk_request.specs.Asking.{Key, OrderKey, BitsKey, WithinKey, PlaceKey, FrameKey, SizeKey, key_name, makes, takes, behind, values_of, IsKeyOf, IsNumber, IsOrder, IsBits, IsLimit, IsPlace, IsFrame, IsSize, Says, IsSet, size_of, HasKeys, AreOfForm}
+use Rattle.sk_request.specs.Commands.{command_word, commands, without_size}
+use Rattle.sk_request.proofs.CommandWords.{command_listed, word_without_size, same_traits, unmade_size, made_size}
+use Rattle.sk_request.specs.Asking.{Key, OrderKey, BitsKey, WithinKey, PlaceKey, FrameKey, SizeKey, key_name, makes, takes, behind, values_of, IsKeyOf, IsNumber, IsOrder, IsBits, IsLimit, IsPlace, IsFrame, IsSize, Says, IsSet, size_in, HasKeys, AreOfForm}
 use Rattle.std.proofs.lemmas.List.Elements.{All-weaker}
 use Rattle.sk_request.proofs.Keys.{same_keys}
 use Rattle.sk_base.proofs.Deciding.{Decided, all_decided, both, either, moved, some_in}
@@ -140,7 +140,7 @@ none_said (v ∷ w ∷ more) = inr (λ h. h)
 
 -- a command of that word with the size that the values say
 abbrev AsSized : Command → List (List ℕ) → Type 0
-AsSized command values = (sized : Command) × (command_word sized ≡ command_word command) × IsSet IsSize values (size_of sized)
+AsSized command values = (sized : Command) × (command_word sized ≡ command_word command) × IsSet IsSize values (size_in sized)
 
 made_as : (command sized : Command) → command_word sized ≡ command_word command → makes sized ≡ makes command
 made_as command sized same = ap (λ (t : Traits). t.makes) (same_traits sized command same)
@@ -154,7 +154,7 @@ size_decided command values =
           (λ (n, set). (Grow n, sym (ap command_word made.1), set))
           (λ (sized, same, set). (
           let grown = made_size sized (made_as command sized same ∙ makes_it) in
-          (grown.0, subst (λ c. IsSet IsSize values (size_of c)) grown.1 set)))
+          (grown.0, subst (λ c. IsSet IsSize values (size_in c)) grown.1 set)))
           (size_said values)
       | inr makes_none ↦
           moved
@@ -219,5 +219,5 @@ pub form_decided : (words : List (List ℕ)) → Decided (AreOfForm words)
 form_decided [] = inr (λ h. h.1)
 form_decided (first ∷ keys) =
     moved (λ (command, command_in, (word, (request, is, h))). (request, (word ∙ sym is, h)))
-    (λ (request, (word, h)). (named request.command, command_listed request.command, (word ∙ sym (named_word request.command), (request, sym (named_word request.command), h))))
+    (λ (request, (word, h)). (without_size request.command, command_listed request.command, (word ∙ sym (word_without_size request.command), (request, sym (word_without_size request.command), h))))
     (some_in (λ command. (first ≡ command_word command) × AskOf command keys) (λ command. both (bytes_decided first (command_word command)) (ask_decided command keys)) commands)

@@ -15,7 +15,7 @@ use Rattle.sk_request.specs.declared.command.Account.TheVariants as accounts
 use Rattle.sk_request.specs.declared.command.Command.{Command}
 use Rattle.sk_request.specs.declared.command.Command.TheVariants.{Tell, Plan, Solve, Dxf, Offers, Session, Grow, Verify, Flips, Live}
 use Rattle.sk_request.specs.declared.command.KeySet.{KeySet}
-use Rattle.sk_request.specs.declared.command.KeySet.TheVariants.{Absent, Ordering, Placing}
+use Rattle.sk_request.specs.declared.command.KeySet.TheVariants.{NoKeys, Ordering, Placing}
 use Rattle.sk_request.specs.declared.command.Traits.{Traits}
 use Rattle.sk_request.specs.declared.request.Request.{Request}
 use Rattle.sk_request.specs.Commands.{command_word}
@@ -72,20 +72,20 @@ key_name SizeKey = codes "n="
 
 -- which keys take an order, and which tell how elements are placed
 abbrev pub orders_by : KeySet → Bool
-orders_by Absent = false
+orders_by NoKeys = false
 orders_by Ordering = true
 orders_by Placing = true
 
 abbrev pub places_by : KeySet → Bool
-places_by Absent = false
+places_by NoKeys = false
 places_by Ordering = false
 places_by Placing = true
 
 -- which keys the command of an account takes
 abbrev pub account_keys : Account → KeySet
 account_keys accounts.Judged = Ordering
-account_keys accounts.Migrated = Absent
-account_keys accounts.Spares = Absent
+account_keys accounts.Migrated = NoKeys
+account_keys accounts.Spares = NoKeys
 account_keys accounts.Derived = Ordering
 account_keys accounts.Shapes = Placing
 account_keys accounts.Excesses = Placing
@@ -99,7 +99,7 @@ traits Dxf = record { keys = Placing; makes = false }
 traits Offers = record { keys = Ordering; makes = false }
 traits Session = record { keys = Placing; makes = false }
 traits (Grow n) = record { keys = Placing; makes = true }
-traits Verify = record { keys = Absent; makes = false }
+traits Verify = record { keys = NoKeys; makes = false }
 traits Flips = record { keys = Placing; makes = false }
 traits Live = record { keys = Placing; makes = false }
 
@@ -151,9 +151,9 @@ IsSet Is (value ∷ []) (Some x) = Is value x
 IsSet Is _ _ = ⊥
 
 -- the size of a sketch that is made
-abbrev pub size_of : Command → Option ℕ
-size_of (Grow n) = Some n
-size_of command = None
+abbrev pub size_in : Command → Option ℕ
+size_in (Grow n) = Some n
+size_in command = None
 
 -- a sketch that is made has from 3 to 1000 elements
 abbrev pub HasFitSize : Command → Type 0
@@ -179,7 +179,7 @@ pub record HasKeys (words : List (List ℕ)) (request : Request) : Type 0 where
   pub within : Says IsLimit 1000 (values_of WithinKey words) request.within
   pub place : Says IsPlace Boxes (values_of PlaceKey words) request.layout.by
   pub frame : Says IsFrame Base (values_of FrameKey words) request.layout.frame
-  pub size : IsSet IsSize (values_of SizeKey words) (size_of request.command)
+  pub size : IsSet IsSize (values_of SizeKey words) (size_in request.command)
 
 -- the first word is that of the command, and the others are its keys
 abbrev pub Asks : List (List ℕ) → Request → Type 0

@@ -27,9 +27,9 @@ command_word Flips = codes "flips"
 command_word Live = codes "live"
 
 -- a command without its size
-abbrev pub named : Command → Command
-named (Grow n) = Grow 0
-named command = command
+abbrev pub without_size : Command → Command
+without_size (Grow n) = Grow 0
+without_size command = command
 
 -- all commands without their sizes, in the order of the usage line
 abbrev pub commands : List Command

@@ -49,8 +49,8 @@ pub enum Command {
 /// Which keys a command takes beside the size of a sketch that it makes.
 #[derive(Clone, Copy, Debug, PartialEq, Eq)]
 pub enum KeySet {
-    /// None.
-    Absent,
+    /// No key.
+    NoKeys,
     /// The order in which to merge.
     Ordering,
     /// The order, and how elements are placed: the grid, the limit, what places are, and their frame.
@@ -62,7 +62,7 @@ impl KeySet {
         ensures { result ≡ orders_by self }
     {
         match self {
-            KeySet::Absent => false,
+            KeySet::NoKeys => false,
             KeySet::Ordering | KeySet::Placing => true,
         }
     }
@@ -71,13 +71,13 @@ impl KeySet {
         ensures { result ≡ places_by self }
     {
         match self {
-            KeySet::Absent | KeySet::Ordering => false,
+            KeySet::NoKeys | KeySet::Ordering => false,
             KeySet::Placing => true,
         }
     }
 }
 
-/// What kind of command it is.
+/// What a command takes: its keys, and whether it makes its sketch.
 #[derive(Clone, Copy, Debug, PartialEq, Eq)]
 pub struct Traits {
     pub keys: KeySet,
@@ -92,14 +92,14 @@ impl Account {
     {
         match self {
             Account::Judged | Account::Derived => KeySet::Ordering,
-            Account::Migrated | Account::Spares => KeySet::Absent,
+            Account::Migrated | Account::Spares => KeySet::NoKeys,
             Account::Shapes | Account::Excesses => KeySet::Placing,
         }
     }
 }
 
 impl Command {
-    /// What kind of command it is.
+    /// What it takes.
     pub fn traits(self) -> Traits
         ensures { result ≡ traits self }
     {
@@ -109,7 +109,7 @@ impl Command {
             Command::Solve | Command::Dxf | Command::Flips => (KeySet::Placing, false),
             Command::Session | Command::Live => (KeySet::Placing, false),
             Command::Grow(_) => (KeySet::Placing, true),
-            Command::Verify => (KeySet::Absent, false),
+            Command::Verify => (KeySet::NoKeys, false),
         };
         Traits { keys, makes }
     }
@@ -136,7 +136,7 @@ impl Command {
     }
 }
 
-/// The command that the word names. A sketch that it makes has no element as long as its key isn't read.
+/// The command that the word names. The size of `grow` is 0 here: its key is read later.
 pub(crate) fn command_of(word: &str) -> Option<Command>
     ensures some { IfSome result (λ command. word.now ≡ command_word command) }
     ensures none { IfNone result ((command : AnyCommand) → word.now ≡ command_word command → ⊥) }

@@ -95,7 +95,7 @@ impl Settings {
     }
 }
 
-/// The slot with what was read, where nothing stands in it yet.
+/// The slot with what was read. None where something stands in it already, or nothing was read.
 fn filled<T: Copy>(slot: Option<T>, read: Option<T>) -> Option<Option<T>>
     ensures some { IfSome result (λ after. (slot ≡ None) × IsSome read × (after ≡ read)) }
     ensures none { IfNone result (slot ≡ None → read ≡ None) }
