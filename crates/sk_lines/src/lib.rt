@@ -21,6 +21,6 @@ pub use law::quantities_are_sound;
 pub use lines::{bytes_at, check_end, is_word, split_line, split_words, word, words_under};
 pub use ratio::angle_ratio;
 pub use reading::{LineReader, read_lines};
-pub use split::{words_before, words_of};
+pub use split::words_of;
 pub use version::Version;
 pub use words::{LexFault, Word, Words};

@@ -21,7 +21,7 @@ pub fn words_of(alloc: Global, line: &[u8]) -> Result<Words, LexFault>
 }
 
 /// The words of a line that stand before a place. The whole line is tested.
-pub fn words_before(alloc: Global, line: &[u8], end: usize) -> Result<Words, LexFault>
+pub(crate) fn words_before(alloc: Global, line: &[u8], end: usize) -> Result<Words, LexFault>
     requires { end ≤ length line.now }
     ensures words { IfOk result (λ words. map (bytes_of line.now) words.items ≡ words_in (take end line.now)) }
     ensures order { IfOk result (λ words. StandInOrder 0 words.items end) }

@@ -48,7 +48,7 @@ pub enum Command {
 
 /// Which keys a command takes beside the size of a sketch that it makes.
 #[derive(Clone, Copy, Debug, PartialEq, Eq)]
-pub enum KeySet {
+pub(crate) enum KeySet {
     /// No key.
     NoKeys,
     /// The order in which to merge.
@@ -79,10 +79,10 @@ impl KeySet {
 
 /// What a command takes: its keys, and whether it makes its sketch.
 #[derive(Clone, Copy, Debug, PartialEq, Eq)]
-pub struct Traits {
-    pub keys: KeySet,
+pub(crate) struct Traits {
+    pub(crate) keys: KeySet,
     /// It makes its sketch, and so takes a size, which it needs, and no input.
-    pub makes: bool,
+    pub(crate) makes: bool,
 }
 
 impl Account {
@@ -100,7 +100,7 @@ impl Account {
 
 impl Command {
     /// What it takes.
-    pub fn traits(self) -> Traits
+    pub(crate) fn traits(self) -> Traits
         ensures { result ≡ traits self }
     {
         let (keys, makes) = match self {

@@ -8,6 +8,6 @@ mod request;
 mod settings;
 
 pub use bits::Bits;
-pub use command::{Account, Command, KeySet, Traits};
+pub use command::{Account, Command};
 pub use law::one_request;
 pub use request::{Request, request_of};
