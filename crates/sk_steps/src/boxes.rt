@@ -60,7 +60,7 @@ impl<G: Grid> BoxOf<G> {
     }
 
     /// The box of a point.
-    pub fn point(&self) -> PointBox<G>
+    pub(crate) fn point(&self) -> PointBox<G>
         requires { kind_of self.now ≡ Kind.Point }
         ensures { self.now ≡ BoxOf.Point result.x result.y }
     {
@@ -71,7 +71,7 @@ impl<G: Grid> BoxOf<G> {
     }
 
     /// The box of a line.
-    pub fn line(&self) -> LineBox<G>
+    pub(crate) fn line(&self) -> LineBox<G>
         requires { kind_of self.now ≡ Kind.Line }
         ensures { self.now ≡ BoxOf.Line result.a result.b result.c }
     {

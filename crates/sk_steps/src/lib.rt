@@ -14,7 +14,7 @@ mod third;
 mod turn;
 mod what;
 
-pub use boxes::{BoxOf, Given, LineBox, PointBox};
+pub use boxes::{BoxOf, Given};
 pub use carrying::carry;
 pub use frames::{Motion, Pair};
 pub use leaf::{leaf_boxes, opposite, pin_box};
