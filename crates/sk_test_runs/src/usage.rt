@@ -84,7 +84,16 @@ const NO_FORMS: &str = "
  parts order=00
  parts bits=20
  parts within=0
- parts n=3";
+ parts n=3
+ live n=3
+ live order=00
+ live place=point
+ excess excess
+ excess order=00
+ excess bits=20
+ excess within=0
+ excess n=3
+ dxf n=3";
 
 /// The first read would fail, so a call that reads would end with another status.
 #[test]
