@@ -26,7 +26,7 @@ use Rattle.sk_close_any_order.specs.declared.growth.Joining.TheVariants.{One, Bo
 use Rattle.sk_close_any_order.specs.Grown.{IsMarkedIn, MarksTwo, Joins, HasGrown, IsGrown}
 use Rattle.sk_triangles.specs.Marks.{IsMarked}
 use Rattle.sk_rules.specs.Merges.{CanTake}
-use Rattle.sk_neighbours.specs.Indexed.{IsHeld, IsIndex, KeepsLines, IsThird, Represents}
+use Rattle.sk_neighbours.specs.Indexed.{IsHeld, IsIndex, KeepsLines, IsThirdAt, Represents}
 use Rattle.sk_neighbours.proofs.Representing.{represents_left}
 use Rattle.sk_family.proofs.Parts.{parts, in_parts, from_parts, parts_left, parts_right, parts_cases}
 
@@ -216,7 +216,7 @@ module _ (ix : Index) (g : Graph) (f : Clusters) (sound : IsSound f) (names : Li
     )
 
     can_both : (z : Cluster) → IsHeld ix z → z.name ≢ x.name → (a b c : Elem) → IsMarkedIn marks x.elements a → Contains x.elements b → Contains z.elements b → IsMarkedIn marks z.elements c
-        → a ≢ b → IsThird ix a b c → body_of z ≢ made_of names f.live → CanMerge g (made_of names f.live ∷ body_of x ∷ body_of z ∷ [])
+        → a ≢ b → IsThirdAt ix a b c → body_of z ≢ made_of names f.live → CanMerge g (made_of names f.live ∷ body_of x ∷ body_of z ∷ [])
     can_both z z_held other a b c (a_x, a_m) b_x b_z (c_z, c_m) a_b (c_a, c_b, lines) z_other = (
       (λ same. other_body (sym same)),
       (λ same. other (ap (λ (d : Cluster). d.name) (one_of_body f sound z x (not_taken z z_held).0 (not_taken x x_held).0 (sym same)))),

@@ -9,7 +9,7 @@ use Rattle.sk_rules.specs.Reach.{Reach}
 use Rattle.sk_neighbours.specs.declared.Index.{Index}
 use Rattle.sk_close_any_order.specs.declared.growth.Joining.{Joining}
 use Rattle.sk_close_any_order.specs.declared.growth.Joining.TheVariants.{One, Both}
-use Rattle.sk_neighbours.specs.Indexed.{IsHeld, IsThird, Represents}
+use Rattle.sk_neighbours.specs.Indexed.{IsHeld, IsThirdAt, Represents}
 use Rattle.sk_triangles.specs.Marks.{IsMarked}
 
 -- it is one of these, and marked
@@ -23,7 +23,7 @@ MarksTwo marks es = (a : Elem) × (b : Elem) × (a ≢ b) × IsMarkedIn marks es
 -- another cluster of that name holds b, and a marked third corner beside a and b
 abbrev pub MeetsAt : Index → List Bool → Cluster → Elem → Elem → Name → Type 0
 MeetsAt ix marks x a b n =
-    (z : Cluster) × IsHeld ix z × (z.name ≡ n) × (n ≢ x.name) × (a ≢ b) × Contains z.elements b × ((c : Elem) × IsMarkedIn marks z.elements c × IsThird ix a b c)
+    (z : Cluster) × IsHeld ix z × (z.name ≡ n) × (n ≢ x.name) × (a ≢ b) × Contains z.elements b × ((c : Elem) × IsMarkedIn marks z.elements c × IsThirdAt ix a b c)
 
 -- some corner of x leads to it
 abbrev pub MakesThird : Index → List Bool → Cluster → Elem → Name → Type 0

@@ -8,7 +8,7 @@ ghost use Rattle.sk_family.specs.Clusters.{IsLive, IsSound, HasElements};
 ghost use Rattle.sk_rules.specs.Merges.{CanTake};
 ghost use Rattle.sk_triangles.specs.Marks.{IsMarked};
 ghost use Rattle.sk_close_any_order.specs.Grown.{IsMarkedIn, MakesThird, MeetsAt, Joins, HasGrown, IsGrown};
-ghost use Rattle.sk_neighbours.specs.Indexed.{IsHeld, IsIndex, IsThird, Represents};
+ghost use Rattle.sk_neighbours.specs.Indexed.{IsHeld, IsIndex, IsThirdAt, Represents};
 
 use sk_base::{Elem, Graph, List, Name, NoMemory};
 use sk_family::{Cluster, Family};
@@ -291,7 +291,7 @@ impl Growth {
         ensures name { IsTrue result → z.now.name ≢ x.now.name }
         ensures differ { IsTrue result → a ≢ b }
         ensures b { IsTrue result → Contains z.now.elements b }
-        ensures third { IsTrue result → (c : Element) × IsMarkedIn self.now.marks.items z.now.elements c × IsThird index.now a b c }
+        ensures third { IsTrue result → (c : Element) × IsMarkedIn self.now.marks.items z.now.elements c × IsThirdAt index.now a b c }
     {
         a != b
             && z.name != x.name
@@ -300,7 +300,7 @@ impl Growth {
     }
 
     fn has_third(&self, index: &Index, a: Elem, b: Elem, elements: &[Elem]) -> bool
-        ensures { IsTrue result → (c : Element) × IsMarkedIn self.now.marks.items elements.now c × IsThird index.now a b c }
+        ensures { IsTrue result → (c : Element) × IsMarkedIn self.now.marks.items elements.now c × IsThirdAt index.now a b c }
     {
         for c in elements {
             if self.is_third(index, a, b, *c) {
@@ -311,7 +311,7 @@ impl Growth {
     }
 
     fn is_third(&self, index: &Index, a: Elem, b: Elem, c: Elem) -> bool
-        ensures { IsTrue result ↔ (IsMarked self.now.marks.items c × IsThird index.now a b c) }
+        ensures { IsTrue result ↔ (IsMarked self.now.marks.items c × IsThirdAt index.now a b c) }
     {
         self.has(c) && is_third(index, a, b, c)
     }

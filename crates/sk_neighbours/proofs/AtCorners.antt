@@ -9,7 +9,7 @@ use Rattle.sk_triangles.specs.Growing.{FromSome}
 use Rattle.sk_family.specs.declared.Cluster.{Cluster}
 use Rattle.sk_family.specs.declared.Merge.{Merge}
 use Rattle.sk_neighbours.specs.declared.index.Index.{Index}
-use Rattle.sk_neighbours.specs.Indexed.{IsThird}
+use Rattle.sk_neighbours.specs.Indexed.{IsThirdAt}
 use Rattle.sk_neighbours.specs.declared.triples.Third.{Third}
 use Rattle.sk_neighbours.specs.Triples.{AtCorner, IsPlaced, IsTripleOf}
 use Rattle.sk_neighbours.specs.Walked.{MeetAny, MeetAt, Meets}
@@ -40,7 +40,7 @@ corner_met ix third x a ends same m = (
       (d, d_x, (z, z_held, d_z, z_x, (b, b_z, ((a_b, makes), end_of y.name a b, (same (end_of y.name a b)).1 (y, y_held, a_y, y_x, (b, b_y, refl)), refl, (placed, m_is)))))),
 )
 
-pub met_at : (third : Third) (ix : Index) (ends : List End) (x : Name) (a d : Elem) (z : Name) (b : Elem) (here : List End) → ((e : End) → Contains here e ↔ (Contains ends e × (e.elem ≡ b))) → (a ≢ b) × IsThird ix a b d → (m : Merge)
+pub met_at : (third : Third) (ix : Index) (ends : List End) (x : Name) (a d : Elem) (z : Name) (b : Elem) (here : List End) → ((e : End) → Contains here e ↔ (Contains ends e × (e.elem ≡ b))) → (a ≢ b) × IsThirdAt ix a b d → (m : Merge)
     → FromSome (Meets third x z) here m ↔ MeetAt third ix ends x a d z b m
 met_at third ix ends x a d z b here here_is corners m = (
   (λ (e, e_here, meets). (let (e_in, at) = (here_is e).0 e_here in (corners, e, e_in, at, meets))),

@@ -11,7 +11,7 @@ use Rattle.sk_base.specs.Rising.{IsRising}
 use Rattle.sk_base.specs.SoundGraph.{HasNode}
 use Rattle.sk_family.specs.declared.Cluster.{Cluster}
 use Rattle.sk_neighbours.specs.declared.index.Index.{Index}
-use Rattle.sk_triangles.specs.Marks.{IsMarked, IsThird as IsThirdOf, IsThirdIn as IsThirdOfBoth}
+use Rattle.sk_triangles.specs.Marks.{IsMarked, IsThird}
 
 -- the keys of the clusters that hold the element
 abbrev pub keys_in : Option (List ℕ) → List ℕ
@@ -52,12 +52,8 @@ abbrev pub IsLast : List Cluster → Cluster → Type 0
 IsLast clusters c = slice_get clusters (length clusters - 1) ≡ Some c
 
 -- c can be the third corner beside a and b
-abbrev pub IsThird : Index → Elem → Elem → Elem → Type 0
-IsThird ix a b c = IsThirdOf (lines_in ix) a b c
-
--- some element that is in both can
-abbrev pub IsThirdIn : Index → Elem → Elem → List Elem → List Elem → Type 0
-IsThirdIn ix a b xs zs = IsThirdOfBoth (lines_in ix) a b xs zs
+abbrev pub IsThirdAt : Index → Elem → Elem → Elem → Type 0
+IsThirdAt ix a b c = IsThird (lines_in ix) a b c
 
 -- the cluster of the one key is below that of the other
 abbrev pub RisesIn : Slab Cluster → ℕ → ℕ → Type 0

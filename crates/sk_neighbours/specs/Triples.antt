@@ -9,7 +9,7 @@ use Rattle.sk_family.specs.declared.Merge.{Merge}
 use Rattle.sk_family.specs.declared.Merge.TheVariants.{Three}
 use Rattle.sk_family.specs.Rules.{IsShared}
 use Rattle.sk_neighbours.specs.declared.index.Index.{Index}
-use Rattle.sk_neighbours.specs.Indexed.{IsHeld, IsThird}
+use Rattle.sk_neighbours.specs.Indexed.{IsHeld, IsThirdAt}
 use Rattle.sk_neighbours.specs.declared.triples.Third.{Third}
 use Rattle.sk_neighbours.specs.declared.triples.Third.TheVariants.{Below, Either}
 
@@ -24,7 +24,7 @@ IsTripleOf x y z m = (IsBelow z y × (m ≡ Three x y z)) ⊎ (IsBelow y z × (m
 
 -- some corner of y and z and one of z and x make a triangle with a
 abbrev pub MeetsBeside : Index → Elem → Cluster → Cluster → Cluster → Type 0
-MeetsBeside ix a x y z = (b : Elem) × (c : Elem) × (a ≢ b) × IsShared y.elements z.elements b × IsShared z.elements x.elements c × IsThird ix a b c
+MeetsBeside ix a x y z = (b : Elem) × (c : Elem) × (a ≢ b) × IsShared y.elements z.elements b × IsShared z.elements x.elements c × IsThirdAt ix a b c
 
 -- the triple of x, a second cluster and a third one below it, which meet in three corners, where a is that
 -- of x and the second

@@ -4,10 +4,11 @@ use Rattle.sk_base.specs.declared.Elem.{Elem}
 use Rattle.sk_base.specs.declared.Name.{Name}
 use Rattle.sk_triangles.specs.declared.End.{End}
 use Rattle.sk_triangles.specs.Growing.{FromSome}
+use Rattle.sk_triangles.specs.Marks.{IsThirdIn}
 use Rattle.sk_family.specs.declared.Cluster.{Cluster}
 use Rattle.sk_family.specs.declared.Merge.{Merge}
 use Rattle.sk_neighbours.specs.declared.index.Index.{Index}
-use Rattle.sk_neighbours.specs.Indexed.{IsThird, IsThirdIn}
+use Rattle.sk_neighbours.specs.Indexed.{IsThirdAt, lines_in}
 use Rattle.sk_neighbours.specs.declared.triples.Third.{Third}
 use Rattle.sk_neighbours.specs.declared.triples.Third.TheVariants.{Below, Either}
 use Rattle.sk_neighbours.specs.Triples.{IsPlaced, IsTripleOf}
@@ -20,7 +21,7 @@ limit_of Either x y = x
 
 -- another cluster than y, which shares with x a corner that makes a triangle with a and b
 abbrev pub IsThirdCluster : Index → Cluster → Cluster → Cluster → Elem → Elem → Type 0
-IsThirdCluster ix x y z a b = (a ≢ b) × (z.name ≢ y.name) × IsThirdIn ix a b x.elements z.elements
+IsThirdCluster ix x y z a b = (a ≢ b) × (z.name ≢ y.name) × IsThirdIn (lines_in ix) a b x.elements z.elements
 
 -- the triple of x, y and z, where b is the corner of y and z
 abbrev pub WithThird : Index → Cluster → Cluster → Elem → Elem → Cluster → Merge → Type 0
@@ -40,7 +41,7 @@ Meets third x z e m = IsPlaced third e.name z × IsTripleOf x e.name z m
 
 -- the triples of x and z with the corner d, z and one of the ends at b, and x and that one with the corner a
 abbrev pub MeetAt : Third → Index → List End → Name → Elem → Elem → Name → Elem → Merge → Type 0
-MeetAt third ix ends x a d z b m = ((a ≢ b) × IsThird ix a b d) × (e : End) × Contains ends e × (e.elem ≡ b) × Meets third x z e m
+MeetAt third ix ends x a d z b m = ((a ≢ b) × IsThirdAt ix a b d) × (e : End) × Contains ends e × (e.elem ≡ b) × Meets third x z e m
 
 -- with any corner b of z
 abbrev pub MeetAny : Third → Index → List End → Name → Elem → Elem → Cluster → Merge → Type 0

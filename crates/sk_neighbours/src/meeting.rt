@@ -4,7 +4,7 @@ ghost use Rattle.std.specs.Prelude.{◌≢◌, ◌↔◌, IsTrue, OnOk};
 ghost use Rattle.std.specs.List.Sorted.{IsNonDecreasingBy};
 ghost use Rattle.sk_triangles.specs.Ends.{end_number};
 ghost use Rattle.sk_triangles.specs.Growing.{FromSome, GrowsBy};
-ghost use Rattle.sk_neighbours.specs.Indexed.{IsIndex, IsThird};
+ghost use Rattle.sk_neighbours.specs.Indexed.{IsIndex, IsThirdAt};
 ghost use Rattle.sk_neighbours.specs.Triples.{AtCorner};
 ghost use Rattle.sk_neighbours.specs.Walked.{MeetAny, MeetAt, Meets};
 
@@ -132,7 +132,7 @@ fn add_meeting_at(
 }
 
 fn are_corners(index: &Index, a: Elem, b: Elem, d: Elem) -> bool
-    ensures { IsTrue result ↔ ((a ≢ b) × IsThird index.now a b d) }
+    ensures { IsTrue result ↔ ((a ≢ b) × IsThirdAt index.now a b d) }
 {
     a != b && is_third(index, a, b, d)
 }
