@@ -12,7 +12,7 @@ use Rattle.sk_session.specs.Replies.{Answers}
 use Rattle.sk_request.specs.declared.Request.{Request}
 use Rattle.sk_cli.specs.declared.solving.Report.TheVariants.{Places}
 use Rattle.sk_cli.specs.declared.status.Status.{Status}
-use Rattle.sk_cli.specs.SessionAnswer.{IsReplyText, IsReplied, AreReplied, EndsSession, solve_with, settings_of}
+use Rattle.sk_cli.specs.SessionAnswer.{IsReplyText, IsReplied, AreReplied, EndsSession, solve_with, session_keys}
 use Rattle.sk_live_lines.specs.Answering.{HasEnded}
 use Rattle.sk_cli.specs.Solved.{IsSolved}
 
@@ -36,7 +36,7 @@ each_a_front xs ys more less longer shorter =
 
 module _ (one_reply : OneReply) (one_solved : OneSolved) (request : Request) where
   same_text : (s : Sketch) → IsSoundSketch s → (r : Reply) (text another : List ℕ)
-      → IsReplyText (settings_of request) s r text → IsReplyText (settings_of request) s r another → text ≡ another
+      → IsReplyText (session_keys request) s r text → IsReplyText (session_keys request) s r another → text ≡ another
   same_text s sound reply.Blank text another first second = first ∙ sym second
   same_text s sound reply.Done text another first second = first ∙ sym second
   same_text s sound (reply.Declared e) text another first second = first ∙ sym second
@@ -46,7 +46,7 @@ module _ (one_reply : OneReply) (one_solved : OneSolved) (request : Request) whe
   same_text s sound (reply.Planned p) text another first second = first ∙ sym second
   same_text s sound (reply.NotWell j) text another first second = first ∙ sym second
   same_text s sound reply.Solve text another (status, first) (other, second) =
-      one_solved (solve_with (settings_of request)) s sound status other text another first second
+      one_solved (solve_with (session_keys request)) s sound status other text another first second
   same_text s sound reply.Write text another first second = first ∙ sym second
   same_text s sound reply.End text another first second = first ∙ sym second
 
@@ -74,9 +74,9 @@ module _ (one_reply : OneReply) (one_solved : OneSolved) (request : Request) whe
       let rest_is : before ++ after ≡ before' ++ after' = cc in
       let answers' : Answers old' line r' next' = subst (λ (z : List ℕ). Answers old' z r' next') (sym line_is) here'.answers in
       let one = one_reply old old' next next' line r r' sound same here.answers answers' in
-      let said : IsReplyText (settings_of request) (sketch_in next) r first' =
-      subst (λ (z : Reply). IsReplyText (settings_of request) (sketch_in next) z first') (sym one.0)
-      (subst (λ (edits : List Edit). IsReplyText (settings_of request) (sketch_of edits) r' first') one.1.edits here'.says) in
+      let said : IsReplyText (session_keys request) (sketch_in next) r first' =
+      subst (λ (z : Reply). IsReplyText (session_keys request) (sketch_in next) z first') (sym one.0)
+      (subst (λ (edits : List Edit). IsReplyText (session_keys request) (sketch_of edits) r' first') one.1.edits here'.says) in
       let text_is = same_text (sketch_in next) here.sound r first first' here.says said in
       let rests = front_replies before after before' after' next next' here.sound one.1 rest_is end end' rest rest' further further' over' in
       (rests.0, is' ∙ ap (λ z. first' ++ z) rests.1 ∙ sym (append_assoc first' rest rests.0) ∙ ap (λ z. z ++ rests.0) (sym (is ∙ ap (λ z. z ++ rest) text_is)))

@@ -19,7 +19,7 @@ use Rattle.sk_cli.specs.Headline.{TellsAsAsked, RepliesNext, RepliesNextLive}
 use Rattle.sk_cli.specs.Outcome.{IsOutcome, IsSolved}
 use Rattle.sk_live_lines.specs.InTime.{in_time}
 use Rattle.sk_cli.specs.LiveAnswer.{RepliesInTime}
-use Rattle.sk_cli.specs.SessionAnswer.{IsReplyText, IsReplied, AreReplied, solve_with, at_start, settings_of}
+use Rattle.sk_cli.specs.SessionAnswer.{IsReplyText, IsReplied, AreReplied, solve_with, at_start, session_keys}
 use Rattle.sk_cli.proofs.OneOutcome.{OneJudgement, LowerLaws, front_of_outcome, front_of_live}
 use Rattle.sk_cli.proofs.Printed.{OneNormal}
 use Rattle.sk_cli.proofs.Sessions.{Stands, stands_next, front_at, ends_or_not, end_has_none}
@@ -32,12 +32,12 @@ order_kept begins request (line ∷ lines) old new text (r, next, first, rest, h
     order_kept begins request lines next new rest further ∙ (answers_told begins old next line r here.answers).0
 
 -- what is solved depends on no more than the order, the grid, the limit and what places are
-solved_as : (request : Request) (s : Sketch) (status : Status) (text : List ℕ) → IsSolved Places (solve_with (settings_of request)) s status text → IsSolved Places request s status text
+solved_as : (request : Request) (s : Sketch) (status : Status) (text : List ℕ) → IsSolved Places (solve_with (session_keys request)) s status text → IsSolved Places request s status text
 solved_as request s status text (inl (p, q, placed, status_is, text_is)) = inl (p, q, record { plan = placed.plan; placed = placed.placed }, status_is, text_is)
 solved_as request s status text (inr short) = inr short
 
 module _ (normal : OneNormal) (plans : LegalPlans) (law : OneJudgement) (laws : LowerLaws) (begins : OtherBegins) (request : Request) where
-  tells_asked : (s : Sketch) → IsSoundSketch s → (r : Reply) (text : List ℕ) → TellsOf request.order s r → IsReplyText (settings_of request) s r text → TellsAsAsked request s r text
+  tells_asked : (s : Sketch) → IsSoundSketch s → (r : Reply) (text : List ℕ) → TellsOf request.order s r → IsReplyText (session_keys request) s r text → TellsAsAsked request s r text
   tells_asked s sound (reply.Checked j) text (some, judged) says = (some, tells normal plans law laws request s Done text (graph_is_sound s sound) (Tell Judged) (sound, (j, judged, says)))
   tells_asked s sound (reply.Planned p) text (some, plan) says =
       (some, tells normal plans law laws request s Done text (graph_is_sound s sound) Plan (some, (p, plan, says)))

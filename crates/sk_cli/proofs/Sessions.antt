@@ -18,23 +18,23 @@ use Rattle.sk_request.specs.declared.Bits.{Bits}
 use Rattle.sk_request.specs.declared.Request.{Request}
 use Rattle.sk_cli.specs.declared.status.Status.{Status}
 use Rattle.sk_cli.specs.declared.status.Status.TheVariants.{Done, WriteFault, NoMemory}
-use Rattle.sk_cli.specs.SessionAnswer.{Settings, IsReplyText, IsReplied, AreReplied, at_start, RepliesToFront, settings_of}
+use Rattle.sk_cli.specs.SessionAnswer.{SessionKeys, IsReplyText, IsReplied, AreReplied, at_start, RepliesToFront, session_keys}
 use Rattle.sk_cli.specs.SessionEnding.{SessionEnds, IsStopped}
 use Rattle.sk_cli.specs.Told.{told}
 
 -- the text of a reply that is told
-pub told_is_text : (settings : Settings) (s : Sketch) (r : Reply) (text : List ℕ) → r ≢ reply.Solve → text ≡ told s r → IsReplyText settings s r text
-told_is_text settings s reply.Blank text other is = is
-told_is_text settings s reply.Done text other is = is
-told_is_text settings s (reply.Declared e) text other is = is
-told_is_text settings s (reply.Constrained k) text other is = is
-told_is_text settings s (reply.Refused code) text other is = is
-told_is_text settings s (reply.Checked j) text other is = is
-told_is_text settings s (reply.Planned p) text other is = is
-told_is_text settings s (reply.NotWell j) text other is = is
-told_is_text settings s reply.Solve text other is = absurd (other refl)
-told_is_text settings s reply.Write text other is = is
-told_is_text settings s reply.End text other is = is
+pub told_is_text : (keys : SessionKeys) (s : Sketch) (r : Reply) (text : List ℕ) → r ≢ reply.Solve → text ≡ told s r → IsReplyText keys s r text
+told_is_text keys s reply.Blank text other is = is
+told_is_text keys s reply.Done text other is = is
+told_is_text keys s (reply.Declared e) text other is = is
+told_is_text keys s (reply.Constrained k) text other is = is
+told_is_text keys s (reply.Refused code) text other is = is
+told_is_text keys s (reply.Checked j) text other is = is
+told_is_text keys s (reply.Planned p) text other is = is
+told_is_text keys s (reply.NotWell j) text other is = is
+told_is_text keys s reply.Solve text other is = absurd (other refl)
+told_is_text keys s reply.Write text other is = is
+told_is_text keys s reply.End text other is = is
 
 -- each reply ends the session or doesn't
 pub ends_or_not : (r : Reply) → (r ≡ reply.End) ⊎ (r ≢ reply.End)
@@ -60,7 +60,7 @@ not_counted answered before now fault none =
 
 -- the reply that ends the session has no text
 pub end_has_none : (request : Request) (old : State) (line : List ℕ) (new : State) (r : Reply) (text : List ℕ) → IsReplied request old line new r text → r ≡ reply.End → text ≡ []
-end_has_none request old line new r text replied is = subst (λ (z : Reply). IsReplyText (settings_of request) (sketch_in new) z text) is replied.says
+end_has_none request old line new r text replied is = subst (λ (z : Reply). IsReplyText (session_keys request) (sketch_in new) z text) is replied.says
 
 -- one more line is answered
 pub replied_more : (request : Request) (old : State) (before : List (List ℕ)) (mid : State) (text : List ℕ) → AreReplied request old before mid text

@@ -23,7 +23,7 @@ use Rattle.sk_cli.specs.declared.status.Status.{Status}
 use Rattle.sk_cli.specs.declared.status.Status.TheVariants.{Done, Refused}
 use Rattle.sk_live_lines.specs.InTime.{in_time}
 use Rattle.sk_cli.specs.LiveAnswer.{RepliesInTime, IsLiveAnswer, late_line}
-use Rattle.sk_cli.specs.SessionAnswer.{solve_with, IsReplyText, at_start, EndsSession, IsSessionAnswer, settings_of}
+use Rattle.sk_cli.specs.SessionAnswer.{solve_with, IsReplyText, at_start, EndsSession, IsSessionAnswer, session_keys}
 use Rattle.sk_live_lines.specs.Answering.{HasEnded}
 use Rattle.sk_cli.specs.Solved.{IsSolved}
 use Rattle.sk_cli.specs.Told.{told}
@@ -63,13 +63,13 @@ solve_or_not reply.End = inr (λ same. cc)
 
 module _ (language : GivenByLanguage) (some_to_solve : SomeToSolve) (solved : SomeSolved) (request : Request) (bytes : List ℕ) where
   -- the text of a reply
-  said : (s : Sketch) (r : Reply) → IsSoundSketch s → (r ≡ reply.Solve → 0 < length s.elements) → (text : List ℕ) × IsReplyText (settings_of request) s r text
+  said : (s : Sketch) (r : Reply) → IsSoundSketch s → (r ≡ reply.Solve → 0 < length s.elements) → (text : List ℕ) × IsReplyText (session_keys request) s r text
   said s r sound some =
       elim (solve_or_not r) [
-        | inr other ↦ (told s r, told_is_text (settings_of request) s r (told s r) other refl)
+        | inr other ↦ (told s r, told_is_text (session_keys request) s r (told s r) other refl)
         | inl is ↦ (
-            let found = solved (solve_with (settings_of request)) s sound (some is) in
-            (found.1, subst (λ z. IsReplyText (settings_of request) s z found.1) (sym is) (found.0, found.2)))
+            let found = solved (solve_with (session_keys request)) s sound (some is) in
+            (found.1, subst (λ z. IsReplyText (session_keys request) s z found.1) (sym is) (found.0, found.2)))
       ]
 
   -- from a state on the lines are answered up to the end

@@ -19,16 +19,16 @@ use Rattle.sk_cli.specs.declared.status.Status.TheVariants.{Done, Refused}
 use Rattle.sk_cli.specs.SessionAnswer.{IsReplied, AreReplied, EndsSession, at_start}
 use Rattle.sk_live_lines.specs.Answering.{HasEnded}
 
--- a session with the settings of its words
+-- a session with the keys of its words
 pub record Sat : Type 0 where
   pub request : Request
   pub state : State
 
--- a session with these settings before its first line
+-- a session with these keys before its first line
 abbrev pub begun : Request → Sat
 begun request = record { request = request; state = at_start request.order }
 
--- the same settings, with `session` for their command
+-- the same keys, with `session` for their command
 abbrev pub for_session : Request → Request
 for_session request = record { command = Session; order = request.order; bits = request.bits; within = request.within; layout = request.layout }
 

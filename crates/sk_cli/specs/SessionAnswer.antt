@@ -25,30 +25,30 @@ use Rattle.sk_cli.specs.declared.status.Status.TheVariants.{Done, Refused}
 use Rattle.sk_cli.specs.Solved.{IsSolved}
 use Rattle.sk_cli.specs.Told.{told}
 
--- how a session merges, places and measures, whatever its command
-pub record Settings : Type 0 where
+-- what the keys of a session say: how it merges, places and measures
+pub record SessionKeys : Type 0 where
   pub order : Order
   pub bits : Bits
   pub within : ℕ
   pub layout : Layout
 
-abbrev pub settings_of : Request → Settings
-settings_of request = record { order = request.order; bits = request.bits; within = request.within; layout = request.layout }
+abbrev pub session_keys : Request → SessionKeys
+session_keys request = record { order = request.order; bits = request.bits; within = request.within; layout = request.layout }
 
--- `solve` with these settings
-abbrev pub solve_with : Settings → Request
-solve_with settings = record { command = Solve; order = settings.order; bits = settings.bits; within = settings.within; layout = settings.layout }
+-- `solve` with these keys
+abbrev pub solve_with : SessionKeys → Request
+solve_with keys = record { command = Solve; order = keys.order; bits = keys.bits; within = keys.within; layout = keys.layout }
 
 -- the text of a reply: to `solve` what the command writes for the sketch, whatever its status, else what is told
-abbrev pub IsReplyText : Settings → Sketch → Reply → List ℕ → Type 0
-IsReplyText settings s reply.Solve text = (status : Status) × IsSolved Places (solve_with settings) s status text
-IsReplyText settings s r text = text ≡ told s r
+abbrev pub IsReplyText : SessionKeys → Sketch → Reply → List ℕ → Type 0
+IsReplyText keys s reply.Solve text = (status : Status) × IsSolved Places (solve_with keys) s status text
+IsReplyText keys s r text = text ≡ told s r
 
 -- the line is answered with this reply, the sketch is a sound one, and this is the reply's text
 pub record IsReplied (request : Request) (old : State) (line : List ℕ) (new : State) (r : Reply) (text : List ℕ) : Type 0 where
   pub answers : Answers old line r new
   pub sound : IsSoundSketch (sketch_in new)
-  pub says : IsReplyText (settings_of request) (sketch_in new) r text
+  pub says : IsReplyText (session_keys request) (sketch_in new) r text
 
 -- the lines are answered in turn, none of them by the end, and this is the text of the replies, one behind another
 abbrev pub AreReplied : Request → State → List (List ℕ) → State → List ℕ → Type 0

@@ -100,7 +100,7 @@ pub fn first_replies_are_a_front()
     datum_sketch_is_sound();
 }
 
-/// What `live` answers to an input that a session may have is what `session` answers with the same settings, so words that ask for the
+/// What `live` answers to an input that a session may have is what `session` answers with the same keys, so words that ask for the
 /// one and words that ask for the other have one outcome.
 pub fn live_answers_as_session()
     ensures outcome { (words other : List (List ℕ)) (request : Request) (bytes text : List ℕ) (status : Status) → Asks words request → request.command ≡ Command.Live

@@ -19,7 +19,7 @@ use sk_session::{Closing, Session};
 use std::alloc::Global;
 use std::marker::Model;
 
-/// A session with the settings of its words, which contracts see as both.
+/// A session with the keys of its words, which contracts see as both.
 #[derive(Drop)]
 pub struct Sitting {
     alloc: Global,

@@ -2,7 +2,7 @@
 ghost use Rattle.std.specs.Prelude.{◌≡◌, ◌≢◌, ◌<◌, length, IfOk};
 ghost use Rattle.sk_base.specs.SoundSketch.{IsSoundSketch};
 ghost use Rattle.sk_session.specs.declared.Reply.TheVariants as a_reply;
-ghost use Rattle.sk_cli.specs.SessionAnswer.{IsReplyText, settings_of};
+ghost use Rattle.sk_cli.specs.SessionAnswer.{IsReplyText, session_keys};
 ghost use Rattle.sk_cli.specs.Told.{told};
 
 use crate::solving::{Report, solved};
@@ -18,7 +18,7 @@ use std::alloc::Global;
 pub fn reply_text(alloc: Global, request: Request, s: &Sketch, r: &Reply) -> Result<Text, NoMemory>
     requires sound { IsSoundSketch s.now }
     requires some { r.now ≡ a_reply.Solve → 0 < length s.now.elements }
-    ensures { IfOk result (IsReplyText (settings_of request) s.now r.now) }
+    ensures { IfOk result (IsReplyText (session_keys request) s.now r.now) }
 {
     match r {
         Reply::Solve => solve_text(alloc, request, s),
@@ -30,7 +30,7 @@ pub fn reply_text(alloc: Global, request: Request, s: &Sketch, r: &Reply) -> Res
 fn solve_text(alloc: Global, request: Request, s: &Sketch) -> Result<Text, NoMemory>
     requires sound { IsSoundSketch s.now }
     requires some { 0 < length s.now.elements }
-    ensures { IfOk result (IsReplyText (settings_of request) s.now a_reply.Solve) }
+    ensures { IfOk result (IsReplyText (session_keys request) s.now a_reply.Solve) }
 {
     let solve = Request {
         command: Command::Solve,
