@@ -30,8 +30,7 @@ IsSpareReport s text = (spares : List ConId) × AreSpares (graph_of s) spares ×
 abbrev pub IsDerivedText : Sketch → List ℕ → Type 0
 IsDerivedText s text = (f : Clusters) × IsSound f × IsWideNormal (graph_of s) (bodies f) × (text ≡ derived_text s f)
 
--- one of these; or the sketch itself, in version 2; or its parts and their shapes, or the parts that are over and what is too much
--- in each, both as the request says
+-- what an account writes of the sketch; `Shapes` and `Excesses` as the request says
 abbrev pub IsAccount : Account → Request → Sketch → List ℕ → Type 0
 IsAccount accounts.Judged request s text = IsCheckReport s text
 IsAccount accounts.Migrated request s text = text ≡ canonical_2 s

@@ -19,8 +19,8 @@ use sk_request::{Account, Request};
 use sk_spare::{spare, spare_text};
 use std::alloc::Global;
 
-/// The answer to an input whose sketch is given this account of. Of the request only shapes and excesses
-/// take something: how parts are placed.
+/// The answer that gives this account of the input's sketch. Only `Shapes` and `Excesses` look at the request: how parts
+/// are placed.
 pub fn account_of(
     alloc: Global,
     account: Account,

@@ -1,4 +1,4 @@
-//! The tables of the acceptance tests: what is asked, and what it is to come to, as texts that were worked out by hand.
+//! The tables of the tests of `sk_test_runs`: what is asked, and what it is to come to, as texts that were worked out by hand.
 #![tactic(auto)]
 
 pub mod blocks;
