@@ -23,7 +23,7 @@ use sk_family::{Family, names_in_order};
 use sk_neighbours::{
     Index, Third, add_all_triples, add_holders_of_all, add_triples_at, add_triples_of_all,
 };
-use sk_open_triples::{Heir, Kept, is_same};
+use sk_open_triples::{Heir, OpenTriples, is_same};
 use sk_rules::Merge;
 use std::alloc::Global;
 
@@ -39,7 +39,7 @@ pub struct Worklist {
     clear: Name,
     /// The triples whose greatest cluster is below this name are kept, in order.
     covered: Name,
-    kept: Kept,
+    kept: OpenTriples,
     /// The merged clusters that kept triples may still name.
     gone: List<Name>,
     /// The one cluster that isn't covered, where it is known how it came about, and what it has more
@@ -58,7 +58,7 @@ impl Worklist {
             index: Index::of(alloc, family, graph)?,
             clear: Name::Con(0),
             covered: Name::Con(0),
-            kept: Kept::new(alloc),
+            kept: OpenTriples::new(alloc),
             gone: List::new(alloc),
             heir: None,
             fresh: List::new(alloc),

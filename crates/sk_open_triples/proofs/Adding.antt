@@ -1,4 +1,4 @@
--- What is added at a turn to the triples that are kept.
+-- What is added at a turn to the open triples.
 use Rattle.std.proofs.Common.{◌≡◌, Bool, true, false, List, ◌++◌, ◌∙◌, ap}
 use Rattle.std.specs.Prelude.{◌↔◌, AllPairs, Contains, None, Some, not}
 use Rattle.std.proofs.lemmas.List.Elements.{filter-append}

@@ -18,16 +18,16 @@ use Rattle.std.specs.List.{dedup}
 use Rattle.std.specs.List.Retain.{IsFiltered, DiffersFromLast}
 use Rattle.std.specs.List.Sorted.{IsPermutation}
 use Rattle.std.proofs.lemmas.List.Filters.{dedup_is}
-use Rattle.std.proofs.lemmas.List.Kept.{Contains-dedup_nat, Contains-from_dedup}
+use Rattle.std.proofs.lemmas.List.OpenTriples.{Contains-dedup_nat, Contains-from_dedup}
 use Rattle.std.proofs.lemmas.List.Sorted.{Contains-permutation, IsPermutation-sym}
 use Rattle.sk_triangles.specs.Growing.{FromSome, GrowsBy}
 use Rattle.sk_triangles.proofs.Growing.{grows_step}
 use Rattle.sk_open_triples.proofs.Writing.{row_written, row_beside}
 use Rattle.sk_open_triples.specs.declared.mentions.Mentions.{Mentions}
-use Rattle.sk_open_triples.specs.declared.row.KeptRow.{KeptRow}
+use Rattle.sk_open_triples.specs.declared.row.OpenRow.{OpenRow}
 use Rattle.sk_open_triples.specs.declared.lower_pairs.LowerPair.{LowerPair}
 use Rattle.sk_open_triples.specs.Avoiding.{names_one_of, avoiding}
-use Rattle.sk_open_triples.specs.KeptRows.{AreDropped, AreRows, IsDroppedAt, Mention, keys_of, merges_at, merges_in, merges_of, triple_of}
+use Rattle.sk_open_triples.specs.OpenRows.{AreDropped, AreRows, IsDroppedAt, Mention, keys_of, merges_at, merges_in, merges_of, triple_of}
 
 -- in a row
 module _ (gone : List Name) (x : Name) where
@@ -61,11 +61,11 @@ avoids_again gone ms = sym (filter_both (λ (m : Merge). not (names_one_of gone 
     told true = refl
     told false = refl
 
-pub dropped_none : (gone : List Name) (keys : List ℕ) (rows : List KeptRow) → AreDropped gone (take 0 keys) rows rows
+pub dropped_none : (gone : List Name) (keys : List ℕ) (rows : List OpenRow) → AreDropped gone (take 0 keys) rows rows
 dropped_none gone keys rows = record { as_many = refl; each = λ k. inr (refl, contains_none k) }
 
 -- a row that is written anew changes what stands under its key alone
-module _ (rows : List KeptRow) (key : ℕ) (was row : KeptRow) (key_in : key < length rows) where
+module _ (rows : List OpenRow) (key : ℕ) (was row : OpenRow) (key_in : key < length rows) where
   pub row_there : merges_of (get_or rows key was) ≡ merges_at rows key
   row_there = sym (ap merges_in (slice_get-get_or rows key was key_in))
 
@@ -76,7 +76,7 @@ module _ (rows : List KeptRow) (key : ℕ) (was row : KeptRow) (key_in : key < l
     others = λ k other. row_beside rows key row k other;
   }
 
-pub dropped_more : (gone : List Name) (keys : List ℕ) (old mid new : List KeptRow) (i d : ℕ) → i < length keys → IsDroppedAt gone (get_or keys i d) mid new → AreDropped gone (take i keys) old mid
+pub dropped_more : (gone : List Name) (keys : List ℕ) (old mid new : List OpenRow) (i d : ℕ) → i < length keys → IsDroppedAt gone (get_or keys i d) mid new → AreDropped gone (take i keys) old mid
     → AreDropped gone (take (i + 1) keys) old new
 dropped_more gone keys old mid new i d i_in one so_far = record {
   as_many = one.as_many ∙ so_far.as_many;
@@ -102,7 +102,7 @@ dropped_more gone keys old mid new i d i_in one so_far = record {
           | inr last ↦ other (sym (contains_one (get_or keys i d) k last))
         ]
 
-pub dropped_all : (gone : List Name) (keys : List ℕ) (old new : List KeptRow) (i : ℕ) → length keys ≤ i → AreDropped gone (take i keys) old new → AreDropped gone keys old new
+pub dropped_all : (gone : List Name) (keys : List ℕ) (old new : List OpenRow) (i : ℕ) → length keys ≤ i → AreDropped gone (take i keys) old new → AreDropped gone keys old new
 dropped_all gone keys old new i over so_far = subst (λ l. AreDropped gone l old new) (take_all i keys over) so_far
 
 -- a merge that names a gone cluster has its name
@@ -122,7 +122,7 @@ names_some gone (Three x y z) is = told (is_named gone x) (is_named gone y) (is_
     told false false false a_is b_is c_is h = absurd (cc)
 
 -- the keys of the gone names tell all that names them
-module _ (gone : List Name) (old new : List KeptRow) (order : List ℕ) (mentions : Mentions) (are : AreRows old order mentions) (keys : List ℕ)
+module _ (gone : List Name) (old new : List OpenRow) (order : List ℕ) (mentions : Mentions) (are : AreRows old order mentions) (keys : List ℕ)
     (keys_are : (k : ℕ) → Contains keys k ↔ FromSome (Mention mentions) gone k) (dropped : AreDropped gone keys old new) where
   untold : (k : ℕ) → ¬ Contains keys k → (m : Merge) → Contains (merges_at old k) m → not (names_one_of gone m) ≡ true
   untold k apart m m_in = told (names_one_of gone m) refl
@@ -189,6 +189,6 @@ keys_told mentions names none all once none_is grows same k = (
 )
 
 -- such keys are keys of rows
-pub keys_of_rows : (gone : List Name) (rows : List KeptRow) (order : List ℕ) (mentions : Mentions) → AreRows rows order mentions → (keys : List ℕ) → ((k : ℕ) → Contains keys k ↔ FromSome (Mention mentions) gone k)
+pub keys_of_rows : (gone : List Name) (rows : List OpenRow) (order : List ℕ) (mentions : Mentions) → AreRows rows order mentions → (keys : List ℕ) → ((k : ℕ) → Contains keys k ↔ FromSome (Mention mentions) gone k)
     → (k : ℕ) → Contains keys k → k < length rows
 keys_of_rows gone rows order mentions are keys keys_are k k_in = (let (n, n_in, mention) = (keys_are k).0 k_in in are.keys_within n k mention)

@@ -21,10 +21,10 @@ use Rattle.sk_open_triples.specs.MergeOrder.{ComesFirst}
 use Rattle.sk_open_triples.specs.Inherited.{Inherits, IsBeside}
 use Rattle.sk_open_triples.specs.HandedOn.{IsAdded, IsOfHeirIn, HasGreatest}
 use Rattle.sk_open_triples.specs.Avoiding.{IsTriple, avoiding, names_one_of}
-use Rattle.sk_open_triples.specs.KeptRows.{AreBefore, AreRows, AreTold, GainsKey, HasLowerPair, InheritsElse, IsGrownRow, IsRowOf, Mention, but, keys_of, merges_at, merges_in, merges_of, triple_of}
+use Rattle.sk_open_triples.specs.OpenRows.{AreBefore, AreRows, AreTold, GainsKey, HasLowerPair, InheritsElse, IsGrownRow, IsRowOf, Mention, but, keys_of, merges_at, merges_in, merges_of, triple_of}
 use Rattle.sk_open_triples.specs.declared.heir.Heir.{Heir}
 use Rattle.sk_open_triples.specs.declared.mentions.Mentions.{Mentions}
-use Rattle.sk_open_triples.specs.declared.row.KeptRow.{KeptRow}
+use Rattle.sk_open_triples.specs.declared.row.OpenRow.{OpenRow}
 use Rattle.sk_open_triples.specs.declared.lower_pairs.LowerPair.{LowerPair}
 use Rattle.sk_open_triples.proofs.Dropping.{row_goes}
 use Rattle.sk_open_triples.proofs.Inheritance.{beside_names, flat_contains, flat_from}
@@ -76,7 +76,7 @@ not_gone gone x y z is = (
     told false false false h (inr one) = absurd (cc)
 
 -- what the heir has instead of the core's triples under other keys
-pub inherited_else : (rows : List KeptRow) (order : List ℕ) (mentions : Mentions) → AreRows rows order mentions → (key : ℕ) (heir : Heir) (gone : List Name) (m : Merge)
+pub inherited_else : (rows : List OpenRow) (order : List ℕ) (mentions : Mentions) → AreRows rows order mentions → (key : ℕ) (heir : Heir) (gone : List Name) (m : Merge)
     → FromSome (InheritsElse rows key heir gone) (keys_of mentions heir.core) m ↔ FromSome (Inherits heir gone) (flat_map (merges_at rows) (but key order)) m
 inherited_else rows order mentions are key heir gone m = (
   (λ (k, k_in, (other, (t, t_in, is))). (t, flat_contains (merges_at rows) (but key order) k t (but_has key order k (are.placed k t t_in) other) t_in, is)),
@@ -85,15 +85,15 @@ inherited_else rows order mentions are key heir gone m = (
       (k, are.told k t t_at heir.core (beside_names t heir.core p q beside), ((but_from key order k k_in).1, (t, t_at, (p, q, beside, p_stays, q_stays, is)))))),
 )
 
-module _ (rows : List KeptRow) (order : List ℕ) (mentions : Mentions) (are : AreRows rows order mentions) (heir : Heir) (key : ℕ) (key_in : key < length rows) (of_core : IsRowOf rows heir.core key)
-    (found all : List Merge) (row : KeptRow) (grown : IsGrownRow heir.name of_core.row.lower_pairs.items all row) where
+module _ (rows : List OpenRow) (order : List ℕ) (mentions : Mentions) (are : AreRows rows order mentions) (heir : Heir) (key : ℕ) (key_in : key < length rows) (of_core : IsRowOf rows heir.core key)
+    (found all : List Merge) (row : OpenRow) (grown : IsGrownRow heir.name of_core.row.lower_pairs.items all row) where
   abbrev own : List LowerPair
   own = of_core.row.lower_pairs.items
 
   abbrev rest : List Merge
   rest = flat_map (merges_at rows) (but key order)
 
-  abbrev new : List KeptRow
+  abbrev new : List OpenRow
   new = set rows key row
 
   abbrev order' : List ℕ
@@ -214,7 +214,7 @@ module _ (rows : List KeptRow) (order : List ℕ) (mentions : Mentions) (are : A
       ];
     }
 
-pub row_within : (rows : List KeptRow) (x : Name) (key : ℕ) → IsRowOf rows x key → key < length rows
+pub row_within : (rows : List OpenRow) (x : Name) (key : ℕ) → IsRowOf rows x key → key < length rows
 row_within rows x key of_name = slice_get_within rows key of_name.row of_name.there
 
 -- pairs in order, under one name
@@ -278,7 +278,7 @@ pub triples_of : (x : Name) (ms : List Merge) → ((m : Merge) → Contains ms m
 triples_of x ms right m m_in = (let (y, z, is) = right m m_in in (x, y, z, is))
 
 -- what was found, with what the heir inherits, are triples of the heir
-pub still_right : (heir : Heir) (gone : List Name) (rows : List KeptRow) (key : ℕ) (ks : List ℕ) (found all : List Merge) → ((m : Merge) → Contains found m → HasGreatest heir.name m)
+pub still_right : (heir : Heir) (gone : List Name) (rows : List OpenRow) (key : ℕ) (ks : List ℕ) (found all : List Merge) → ((m : Merge) → Contains found m → HasGreatest heir.name m)
     → GrowsBy (FromSome (InheritsElse rows key heir gone) ks) found all → (m : Merge) → Contains all m → HasGreatest heir.name m
 still_right heir gone rows key ks found all right grows m m_in =
     elim ((grows m).0 m_in) [

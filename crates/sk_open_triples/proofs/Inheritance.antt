@@ -13,10 +13,10 @@ use Rattle.sk_family.specs.declared.Merge.TheVariants.{Two, Three}
 use Rattle.sk_family.specs.Merges.{names_of}
 use Rattle.sk_triangles.specs.Growing.{FromSome}
 use Rattle.sk_open_triples.specs.declared.heir.Heir.{Heir}
-use Rattle.sk_open_triples.specs.declared.row.KeptRow.{KeptRow}
+use Rattle.sk_open_triples.specs.declared.row.OpenRow.{OpenRow}
 use Rattle.sk_open_triples.specs.declared.lower_pairs.LowerPair.{LowerPair}
 use Rattle.sk_open_triples.specs.Inherited.{Inherits, IsBeside}
-use Rattle.sk_open_triples.specs.KeptRows.{InheritsFrom, merges_at, merges_in, merges_of, triple_of}
+use Rattle.sk_open_triples.specs.OpenRows.{InheritsFrom, merges_at, merges_in, merges_of, triple_of}
 
 pub flat_contains : {X : Type 0} (f : ℕ → List X) (ks : List ℕ) (k : ℕ) (x : X) → Contains ks k → Contains (f k) x → Contains (flat_map f ks) x
 flat_contains f [] k x k_in x_in = absurd (contains_none k k_in)
@@ -78,5 +78,5 @@ module _ {X : Type 0} (f : ℕ → List X) (ks : List ℕ) (i d : ℕ) (i_in : i
   pub item_later : (k : ℕ) → length (f (get_or ks i d)) ≤ k → slice_get (flat_map f (drop i ks)) k ≡ slice_get (flat_map f (drop (i + 1) ks)) (k - length (f (get_or ks i d)))
   item_later k past = ap (λ l. slice_get (flat_map f l) k) split ∙ place_behind (f (get_or ks i d)) (flat_map f (drop (i + 1) ks)) k past
 
-pub row_of_key : (rows : List KeptRow) (key : ℕ) (d : KeptRow) → key < length rows → merges_of (get_or rows key d) ≡ merges_at rows key
+pub row_of_key : (rows : List OpenRow) (key : ℕ) (d : OpenRow) → key < length rows → merges_of (get_or rows key d) ≡ merges_at rows key
 row_of_key rows key d key_in = sym (ap merges_in (slice_get-get_or rows key d key_in))

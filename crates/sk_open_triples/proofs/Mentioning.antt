@@ -8,7 +8,7 @@ use Rattle.sk_base.proofs.Members.{contains_head, contains_one, nat_settles}
 use Rattle.sk_base.specs.declared.Name.{Name}
 use Rattle.sk_base.specs.declared.Name.TheVariants.{Con, Step}
 use Rattle.sk_open_triples.specs.declared.mentions.Mentions.{Mentions}
-use Rattle.sk_open_triples.specs.KeptRows.{keys_at, keys_of, AddsKey, GainsKey}
+use Rattle.sk_open_triples.specs.OpenRows.{keys_at, keys_of, AddsKey, GainsKey}
 
 pub adds_none : (lists mid : List (List ℕ)) (key : ℕ) → ((q : ℕ) → keys_at mid q ≡ keys_at lists q) → AddsKey lists mid key
 adds_none lists mid key same = record {

@@ -14,12 +14,12 @@ use Rattle.sk_family.specs.declared.Merge.{Merge}
 use Rattle.sk_family.specs.Merges.{names_of}
 use Rattle.sk_open_triples.proofs.Writing.{row_written, row_beside}
 use Rattle.sk_open_triples.specs.declared.mentions.Mentions.{Mentions}
-use Rattle.sk_open_triples.specs.declared.row.KeptRow.{KeptRow}
+use Rattle.sk_open_triples.specs.declared.row.OpenRow.{OpenRow}
 use Rattle.sk_open_triples.specs.declared.lower_pairs.LowerPair.{LowerPair}
-use Rattle.sk_open_triples.specs.KeptRows.{AreAlike, AreRows, AreUnchanged, GainsKey, IsLastRow, IsPutAt, Mention, merges_at, merges_in, merges_of, triple_of}
+use Rattle.sk_open_triples.specs.OpenRows.{AreAlike, AreRows, AreUnchanged, GainsKey, IsLastRow, IsPutAt, Mention, merges_at, merges_in, merges_of, triple_of}
 
 -- a row without a triple changes nothing
-at_pushed : (rows : List KeptRow) (row : KeptRow) → merges_of row ≡ [] → (k : ℕ) → merges_at (rows ++ row ∷ []) k ≡ merges_at rows k
+at_pushed : (rows : List OpenRow) (row : OpenRow) → merges_of row ≡ [] → (k : ℕ) → merges_at (rows ++ row ∷ []) k ≡ merges_at rows k
 at_pushed [] row none zero = none
 at_pushed [] row none (suc k) = refl
 at_pushed (r ∷ rows) row none zero = refl
@@ -30,11 +30,11 @@ flat_same f g [] same = refl
 flat_same f g (k ∷ ks) same =
     ap (λ l. l ++ flat_map f ks) (same k (contains_head k ks)) ∙ ap (λ l. g k ++ l) (flat_same f g ks (λ j j_in. same j (contains_later k ks j j_in)))
 
-pub alike_itself : (rows : List KeptRow) (order : List ℕ) → AreAlike rows order rows order
+pub alike_itself : (rows : List OpenRow) (order : List ℕ) → AreAlike rows order rows order
 alike_itself rows order = record { same = refl; still = λ m are. are }
 
-module _ (rows : List KeptRow) (row : KeptRow) (none : merges_of row ≡ []) (order : List ℕ) where
-  abbrev more : List KeptRow
+module _ (rows : List OpenRow) (row : OpenRow) (none : merges_of row ≡ []) (order : List ℕ) where
+  abbrev more : List OpenRow
   more = rows ++ row ∷ []
 
   longer : length more ≡ length rows + 1
@@ -75,7 +75,7 @@ module _ (rows : List KeptRow) (row : KeptRow) (none : merges_of row ≡ []) (or
       here : flat_map (merges_at more) (length rows ∷ []) ≡ []
       here = append-nil (merges_at more (length rows)) ∙ at_pushed rows row none (length rows) ∙ ap merges_in (slice_get_past rows (length rows) (omega arith))
 
-  there : (rs : List KeptRow) → slice_get (rs ++ row ∷ []) (length rs) ≡ Some row
+  there : (rs : List OpenRow) → slice_get (rs ++ row ∷ []) (length rs) ≡ Some row
   there [] = refl
   there (r ∷ rs) = there rs
 
@@ -83,7 +83,7 @@ module _ (rows : List KeptRow) (row : KeptRow) (none : merges_of row ≡ []) (or
   is_last x named = record { front = order; last = refl; is_row = record { row = row; there = there rows; has_name = named } }
 
 -- more keys of names do no harm
-pub still_told : (rows : List KeptRow) (order : List ℕ) (old new : Mentions) (key : ℕ) → AreRows rows order old → key < length rows → GainsKey old new key → AreRows rows order new
+pub still_told : (rows : List OpenRow) (order : List ℕ) (old new : Mentions) (key : ℕ) → AreRows rows order old → key < length rows → GainsKey old new key → AreRows rows order new
 still_told rows order old new key are key_in gains = record {
   differ = are.differ;
   within = are.within;
@@ -100,14 +100,14 @@ last_differs (x ∷ front) key differ k k_in =
       | inr later ↦ last_differs front key (pairs_tail (λ (i j : ℕ). i ≢ j) x (front ++ key ∷ []) differ) k later
     ]
 
-module _ (rows : List KeptRow) (order : List ℕ) (mentions : Mentions) (are : AreRows rows order mentions) (x : Name) (key : ℕ) (last : IsLastRow rows order x key) where
+module _ (rows : List OpenRow) (order : List ℕ) (mentions : Mentions) (are : AreRows rows order mentions) (x : Name) (key : ℕ) (last : IsLastRow rows order x key) where
   key_placed : Contains order key
   key_placed = subst (λ l. Contains l key) (sym last.last) (Contains-append_right last.front (key ∷ []) key (contains_head key []))
 
   pub key_within : key < length rows
   key_within = are.within key key_placed
 
-  module _ (new : List KeptRow) (m : Merge) (put : IsPutAt key m rows new) where
+  module _ (new : List OpenRow) (m : Merge) (put : IsPutAt key m rows new) where
     pub put_view : flat_map (merges_at new) order ≡ flat_map (merges_at rows) order ++ m ∷ []
     put_view =
         let front = last.front in
@@ -145,7 +145,7 @@ map_pushed : (x : Name) (ps : List LowerPair) (p : LowerPair) → map (triple_of
 map_pushed x [] p = refl
 map_pushed x (q ∷ ps) p = ap (λ l. triple_of x q ∷ l) (map_pushed x ps p)
 
-pub put_at : (rows : List KeptRow) (key : ℕ) (was row : KeptRow) (p : LowerPair) → key < length rows → slice_get rows key ≡ Some was → row.greatest ≡ was.greatest → row.lower_pairs.items ≡ was.lower_pairs.items ++ p ∷ []
+pub put_at : (rows : List OpenRow) (key : ℕ) (was row : OpenRow) (p : LowerPair) → key < length rows → slice_get rows key ≡ Some was → row.greatest ≡ was.greatest → row.lower_pairs.items ≡ was.lower_pairs.items ++ p ∷ []
     → IsPutAt key (triple_of was.greatest p) rows (set rows key row)
 put_at rows key was row p key_in was_is same more = record {
   as_many = length-set rows key row;
@@ -155,7 +155,7 @@ put_at rows key was row p key_in was_is same more = record {
 }
 
 -- of the last key in order, whose row has the name
-pub last_row : (rows : List KeptRow) (order : List ℕ) (x : Name) (key : ℕ) (row : KeptRow) → slice_get order (length order - 1) ≡ Some key → slice_get rows key ≡ Some row → row.greatest ≡ x → IsLastRow rows order x key
+pub last_row : (rows : List OpenRow) (order : List ℕ) (x : Name) (key : ℕ) (row : OpenRow) → slice_get order (length order - 1) ≡ Some key → slice_get rows key ≡ Some row → row.greatest ≡ x → IsLastRow rows order x key
 last_row rows order x key row last_is row_is named =
     elim (last_or_none order) [
       | inl none ↦ (let clash : None ≡ Some key = sym (ap (λ l. slice_get l (length l - 1)) none) ∙ last_is in absurd (cc))
@@ -180,7 +180,7 @@ all_named mentions x y z key at_x at_y at_z n n_in =
       ]
     ]
 
-pub unchanged_at : (rows : List KeptRow) (key : ℕ) (d row : KeptRow) → key < length rows → merges_of row ≡ merges_of (get_or rows key d) → AreUnchanged rows (set rows key row)
+pub unchanged_at : (rows : List OpenRow) (key : ℕ) (d row : OpenRow) → key < length rows → merges_of row ≡ merges_of (get_or rows key d) → AreUnchanged rows (set rows key row)
 unchanged_at rows key d row key_in same = record {
   as_many = length-set rows key row;
   each = λ k. elim (nat_settles k key) [
@@ -189,7 +189,7 @@ unchanged_at rows key d row key_in same = record {
   ];
 }
 
-pub still_rows : (rows new : List KeptRow) (order : List ℕ) (mentions : Mentions) → AreRows rows order mentions → AreUnchanged rows new → AreRows new order mentions
+pub still_rows : (rows new : List OpenRow) (order : List ℕ) (mentions : Mentions) → AreRows rows order mentions → AreUnchanged rows new → AreRows new order mentions
 still_rows rows new order mentions are same = record {
   differ = are.differ;
   within = λ k k_in. subst (λ l. k < l) (sym same.as_many) (are.within k k_in);
@@ -199,7 +199,7 @@ still_rows rows new order mentions are same = record {
 }
 
 -- a new row, at the end of the order or not there yet
-module _ (rows more : List KeptRow) (order : List ℕ) (row : KeptRow) (none : merges_of row ≡ []) (more_is : more ≡ rows ++ row ∷ []) where
+module _ (rows more : List OpenRow) (order : List ℕ) (row : OpenRow) (none : merges_of row ≡ []) (more_is : more ≡ rows ++ row ∷ []) where
   pub added_alike : (order' : List ℕ) → order' ≡ order → AreAlike rows order more order'
   added_alike order' same = subst (λ l. AreAlike rows order more l) (sym same) (subst (λ rs. AreAlike rows order rs order) (sym more_is) (row_added rows row none order))
 
@@ -214,8 +214,8 @@ module _ (rows more : List KeptRow) (order : List ℕ) (row : KeptRow) (none : m
         (subst (λ l. IsLastRow more l row.greatest (length rows)) (sym (order_is ∙ ap (λ k. order ++ k ∷ []) key_is)) (subst (λ rs. IsLastRow rs (order ++ length rows ∷ []) row.greatest (length rows)) (sym more_is) (is_last rows row none order row.greatest refl)))
 
 -- what was put at the end of the last row
-pub put_last : (rows slice : List KeptRow) → slice ≡ rows → (order : List ℕ) (x : Name) (key : ℕ) → IsLastRow rows order x key → (p : LowerPair) (new : List KeptRow)
-    → ((row : KeptRow) → slice_get slice key ≡ Some row → IsPutAt key (triple_of row.greatest p) slice new) → IsPutAt key (triple_of x p) rows new
+pub put_last : (rows slice : List OpenRow) → slice ≡ rows → (order : List ℕ) (x : Name) (key : ℕ) → IsLastRow rows order x key → (p : LowerPair) (new : List OpenRow)
+    → ((row : OpenRow) → slice_get slice key ≡ Some row → IsPutAt key (triple_of row.greatest p) slice new) → IsPutAt key (triple_of x p) rows new
 put_last rows slice slice_is order x key last p new put =
     subst (λ rs. IsPutAt key (triple_of x p) rs new) slice_is (subst (λ n. IsPutAt key (triple_of n p) slice new) last.is_row.has_name (put last.is_row.row (ap (λ rs. slice_get rs key) slice_is ∙ last.is_row.there)))
 

@@ -29,7 +29,7 @@ use Rattle.sk_open_triples.specs.contracts.lower_pairs.LowerPairOrd.TheImpl as o
 use Rattle.sk_open_triples.specs.contracts.lower_pairs.LowerPairPartialEq.TheImpl as equal_pairs
 use Rattle.sk_open_triples.specs.contracts.lower_pairs.LowerPairEq.TheImpl as pairs_laws
 use Rattle.sk_open_triples.specs.Avoiding.{IsTriple}
-use Rattle.sk_open_triples.specs.KeptRows.{AreBefore}
+use Rattle.sk_open_triples.specs.OpenRows.{AreBefore}
 use Rattle.sk_open_triples.specs.MergeOrder.{ComesFirst}
 
 name_less : (m n : Name) → names.ghosts.cmp m n ≡ Less → IsBelow m n

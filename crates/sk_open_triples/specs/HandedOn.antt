@@ -1,4 +1,4 @@
--- What is found of the clusters that aren't covered is added to what is kept.
+-- What is found of the clusters that aren't covered is added to the open triples.
 use Rattle.std.specs.Prelude.{◌≡◌, ◌↔◌, ◌⊎◌, ◌++◌, List, Contains, AllPairs, Option, None, Some, false}
 use Rattle.sk_base.specs.declared.Name.{Name}
 use Rattle.sk_family.specs.declared.Merge.{Merge}

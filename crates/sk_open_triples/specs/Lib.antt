@@ -1,5 +1,5 @@
 pub mod MergeOrder
 pub mod Avoiding
 pub mod Inherited
-pub mod KeptRows
+pub mod OpenRows
 pub mod HandedOn

@@ -5,7 +5,7 @@ ghost use Rattle.sk_triangles.specs.Growing.{FromSome, GrowsBy};
 ghost use Rattle.sk_family.specs.declared.Merge.{Merge as AnyMerge};
 ghost use Rattle.sk_open_triples.specs.declared.lower_pairs.LowerPair.{LowerPair as AnyPair};
 ghost use Rattle.sk_open_triples.specs.Avoiding.{IsTriple};
-ghost use Rattle.sk_open_triples.specs.KeptRows.{AreBefore, HasLowerPair, triple_of};
+ghost use Rattle.sk_open_triples.specs.OpenRows.{AreBefore, HasLowerPair, triple_of};
 
 use crate::order::is_among;
 use sk_base::{List, Name, NoMemory};

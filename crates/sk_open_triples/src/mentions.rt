@@ -5,7 +5,7 @@ ghost use Rattle.sk_triangles.specs.Growing.{FromSome};
 ghost use Rattle.sk_family.specs.declared.Merge.{Merge as AnyMerge};
 ghost use Rattle.sk_family.specs.Merges.{names_of};
 ghost use Rattle.sk_open_triples.specs.Avoiding.{IsTriple};
-ghost use Rattle.sk_open_triples.specs.KeptRows.{AddsKey, AreTold, GainsKey, Mention, keys_at, keys_of, triple_of};
+ghost use Rattle.sk_open_triples.specs.OpenRows.{AddsKey, AreTold, GainsKey, Mention, keys_at, keys_of, triple_of};
 
 use crate::lower_pairs::LowerPair;
 use sk_base::{List, Name, NoMemory};

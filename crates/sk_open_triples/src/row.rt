@@ -4,7 +4,7 @@ ghost use Rattle.sk_base.specs.ClusterNames.{IsBelow};
 ghost use Rattle.sk_triangles.specs.Growing.{FromSome, GrowsBy};
 ghost use Rattle.sk_open_triples.specs.Avoiding.{avoiding};
 ghost use Rattle.sk_open_triples.specs.Inherited.{Inherits};
-ghost use Rattle.sk_open_triples.specs.KeptRows.{InheritsFrom, merges_of};
+ghost use Rattle.sk_open_triples.specs.OpenRows.{InheritsFrom, merges_of};
 
 use crate::heir::{Heir, add_if_inherited};
 use crate::lower_pairs::LowerPair;
@@ -15,12 +15,12 @@ use std::alloc::Global;
 
 /// A cluster, and the two lower ones of each triple in which it is the greatest.
 #[derive(Drop)]
-pub(crate) struct KeptRow {
+pub(crate) struct OpenRow {
     pub greatest: Name,
     pub lower_pairs: Vec<LowerPair>,
 }
 
-impl KeptRow {
+impl OpenRow {
     /// The triple at the place.
     pub fn merge(&self, place: usize) -> Merge
         requires { place < length (merges_of self.now) }

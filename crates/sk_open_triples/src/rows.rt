@@ -4,19 +4,19 @@ ghost use Rattle.std.specs.List.{flat_map};
 ghost use Rattle.sk_base.specs.ClusterNames.{IsBelow};
 ghost use Rattle.sk_triangles.specs.Growing.{FromSome, GrowsBy};
 ghost use Rattle.sk_family.specs.declared.Merge.{Merge as AnyMerge};
-ghost use Rattle.sk_open_triples.specs.declared.row.KeptRow.{KeptRow as AnyRow};
+ghost use Rattle.sk_open_triples.specs.declared.row.OpenRow.{OpenRow as AnyRow};
 ghost use Rattle.sk_open_triples.specs.HandedOn.{HasGreatest};
-ghost use Rattle.sk_open_triples.specs.KeptRows.{AreAlike, AreDropped, AreUnchanged, InheritsElse, IsDroppedAt, IsGrownRow, IsLastRow, IsPutAt, IsRowOf, but, merges_at, triple_of};
+ghost use Rattle.sk_open_triples.specs.OpenRows.{AreAlike, AreDropped, AreUnchanged, InheritsElse, IsDroppedAt, IsGrownRow, IsLastRow, IsPutAt, IsRowOf, but, merges_at, triple_of};
 
 use crate::heir::{Heir, is_same};
 use crate::lower_pairs::{LowerPair, add_lower_pairs_of, lower_pairs_in_order};
-use crate::row::KeptRow;
+use crate::row::OpenRow;
 use sk_base::{List, Name, NoMemory};
 use sk_family::Merge;
 use std::alloc::Global;
 
 /// How many triples the rows in order have.
-pub(crate) fn count_all(rows: &[KeptRow], order: &[usize]) -> Result<usize, NoMemory>
+pub(crate) fn count_all(rows: &[OpenRow], order: &[usize]) -> Result<usize, NoMemory>
     requires { (k : ℕ) → Contains order.now k → k < length rows.now }
     ensures { IfOk result (λ count. count ≡ length (flat_map (merges_at rows.now) order.now)) }
 {
@@ -38,7 +38,7 @@ fn sum_of(one: usize, other: usize) -> Result<usize, NoMemory>
 }
 
 /// How many triples the row with that key has.
-fn count_at(rows: &[KeptRow], key: usize) -> usize
+fn count_at(rows: &[OpenRow], key: usize) -> usize
     requires { key < length rows.now }
     ensures { result ≡ length (merges_at rows.now key) }
 {
@@ -46,7 +46,7 @@ fn count_at(rows: &[KeptRow], key: usize) -> usize
 }
 
 /// The triple at the place among those of the rows in order.
-pub(crate) fn merge_at(rows: &[KeptRow], order: &[usize], place: usize) -> Merge
+pub(crate) fn merge_at(rows: &[OpenRow], order: &[usize], place: usize) -> Merge
     requires keys { (k : ℕ) → Contains order.now k → k < length rows.now }
     requires place { place < length (flat_map (merges_at rows.now) order.now) }
     ensures { slice_get (flat_map (merges_at rows.now) order.now) place ≡ Some result }
@@ -63,7 +63,7 @@ pub(crate) fn merge_at(rows: &[KeptRow], order: &[usize], place: usize) -> Merge
 }
 
 /// The triple at the place among those of the row with that key.
-fn merge_in(rows: &[KeptRow], key: usize, place: usize) -> Merge
+fn merge_in(rows: &[OpenRow], key: usize, place: usize) -> Merge
     requires key { key < length rows.now }
     requires place { place < length (merges_at rows.now key) }
     ensures { slice_get (merges_at rows.now key) place ≡ Some result }
@@ -74,7 +74,7 @@ fn merge_in(rows: &[KeptRow], key: usize, place: usize) -> Merge
 /// Adds what the heir has instead of the triples of its core in the rows with these keys, but for that
 /// of one key.
 pub(crate) fn add_inherited_from(
-    rows: &[KeptRow],
+    rows: &[OpenRow],
     keys: &[usize],
     but: usize,
     heir: Heir,
@@ -92,7 +92,7 @@ pub(crate) fn add_inherited_from(
 }
 
 fn add_inherited_at(
-    rows: &[KeptRow],
+    rows: &[OpenRow],
     key: usize,
     but: usize,
     heir: Heir,
@@ -112,7 +112,7 @@ fn add_inherited_at(
 /// The key of the last row in order, if it is of the cluster, or of a new one.
 pub(crate) fn last_row_of(
     alloc: Global,
-    rows: &mut Vec<KeptRow>,
+    rows: &mut Vec<OpenRow>,
     order: &mut Vec<usize>,
     greatest: Name,
 ) -> Result<usize, NoMemory>
@@ -126,7 +126,7 @@ pub(crate) fn last_row_of(
 }
 
 /// The key of the last row in order, if it is of the cluster.
-fn last_key_of(rows: &[KeptRow], order: &[usize], greatest: Name) -> Option<usize>
+fn last_key_of(rows: &[OpenRow], order: &[usize], greatest: Name) -> Option<usize>
     ensures { IfSome result (IsLastRow rows.now order.now greatest) }
 {
     let key = order.last()?;
@@ -141,7 +141,7 @@ fn last_key_of(rows: &[KeptRow], order: &[usize], greatest: Name) -> Option<usiz
 /// Adds a row without a triple at the end.
 fn add_row(
     alloc: Global,
-    rows: &mut Vec<KeptRow>,
+    rows: &mut Vec<OpenRow>,
     order: &mut Vec<usize>,
     greatest: Name,
 ) -> Result<usize, NoMemory>
@@ -149,7 +149,7 @@ fn add_row(
     ensures last { IfOk result (IsLastRow rows.new.items order.new.items greatest) }
 {
     let key = rows.len();
-    rows.push(KeptRow {
+    rows.push(OpenRow {
         greatest,
         lower_pairs: Vec::new(alloc),
     })?;
@@ -158,7 +158,7 @@ fn add_row(
 }
 
 /// Appends the triple to the row with that key.
-pub(crate) fn push_at(rows: &mut [KeptRow], key: usize, pair: LowerPair) -> Result<(), NoMemory>
+pub(crate) fn push_at(rows: &mut [OpenRow], key: usize, pair: LowerPair) -> Result<(), NoMemory>
     requires { key < length rows.old }
     ensures put { OnOk result ((row : AnyRow) → slice_get rows.old key ≡ Some row → IsPutAt key (triple_of row.greatest pair) rows.old rows.new) }
     ensures err { OnErr result (AreUnchanged rows.old rows.new) }
@@ -170,7 +170,7 @@ pub(crate) fn push_at(rows: &mut [KeptRow], key: usize, pair: LowerPair) -> Resu
 /// The key of a row of the cluster, which is added at the end where none of these is one.
 pub(crate) fn key_of_row(
     alloc: Global,
-    rows: &mut Vec<KeptRow>,
+    rows: &mut Vec<OpenRow>,
     order: &mut Vec<usize>,
     keys: &[usize],
     greatest: Name,
@@ -185,7 +185,7 @@ pub(crate) fn key_of_row(
 }
 
 /// The one of these keys that a row of the cluster has.
-fn key_among(rows: &[KeptRow], keys: &[usize], greatest: Name) -> Option<usize>
+fn key_among(rows: &[OpenRow], keys: &[usize], greatest: Name) -> Option<usize>
     ensures { IfSome result (IsRowOf rows.now greatest) }
 {
     for key in keys {
@@ -196,7 +196,7 @@ fn key_among(rows: &[KeptRow], keys: &[usize], greatest: Name) -> Option<usize>
     None
 }
 
-fn is_row_of(rows: &[KeptRow], key: usize, greatest: Name) -> bool
+fn is_row_of(rows: &[OpenRow], key: usize, greatest: Name) -> bool
     ensures { IsTrue result → IsRowOf rows.now greatest key }
 {
     match rows.get(key) {
@@ -218,11 +218,11 @@ pub(crate) fn put_last(alloc: Global, order: &[usize], key: usize) -> Result<Vec
 /// A row of the name, with what the row of that key has and these triples of the name, in order.
 pub(crate) fn grown_row(
     alloc: Global,
-    rows: &[KeptRow],
+    rows: &[OpenRow],
     key: usize,
     name: Name,
     found: &[Merge],
-) -> Result<KeptRow, NoMemory>
+) -> Result<OpenRow, NoMemory>
     requires within { key < length rows.now }
     requires right { (m : AnyMerge) → Contains found.now m → HasGreatest name m }
     ensures { IfOk result (λ row. (was : AnyRow) → slice_get rows.now key ≡ Some was → IsGrownRow name was.lower_pairs.items found.now row) }
@@ -231,14 +231,14 @@ pub(crate) fn grown_row(
     let mut all = List::new(alloc);
     all.extend(rows[key].lower_pairs.as_slice())?;
     add_lower_pairs_of(found, &mut all)?;
-    Ok(KeptRow {
+    Ok(OpenRow {
         greatest: name,
         lower_pairs: lower_pairs_in_order(alloc, all.as_slice())?,
     })
 }
 
 /// Drops the merges that name one of these from the rows with these keys.
-pub(crate) fn drop_at_all(alloc: Global, rows: &mut [KeptRow], keys: &[usize], names: &[Name])
+pub(crate) fn drop_at_all(alloc: Global, rows: &mut [OpenRow], keys: &[usize], names: &[Name])
     requires in_order { AllPairs IsBelow names.now }
     requires within { (k : ℕ) → Contains keys.now k → k < length rows.old }
     ensures { AreDropped names.now keys.now rows.old rows.new }
@@ -249,7 +249,7 @@ pub(crate) fn drop_at_all(alloc: Global, rows: &mut [KeptRow], keys: &[usize], n
 }
 
 /// The same from the row with that key.
-fn drop_at(alloc: Global, rows: &mut [KeptRow], key: usize, names: &[Name])
+fn drop_at(alloc: Global, rows: &mut [OpenRow], key: usize, names: &[Name])
     requires in_order { AllPairs IsBelow names.now }
     requires within { key < length rows.old }
     ensures { IsDroppedAt names.now key rows.old rows.new }

@@ -2,7 +2,7 @@ use Rattle.std.proofs.Common.{List, get_or, subst, sym}
 use Rattle.std.proofs.lemmas.List.Elements.{Contains-get_or}
 use Rattle.sk_triangles.specs.Growing.{GrowsBy}
 use Rattle.sk_triangles.proofs.Growing.{grows_start, grows_step, grows_end, grows_one}
-use Rattle.sk_open_triples.specs.KeptRows.{HasLowerPair}
+use Rattle.sk_open_triples.specs.OpenRows.{HasLowerPair}
 use Rattle.sk_open_triples.specs.declared.lower_pairs.LowerPair.{LowerPair}
 use Rattle.sk_open_triples.proofs.Handing.{one_pairs}
 use Rattle.sk_open_triples.proofs.lower_pairs.add_lower_pairs_of.Goals as goal

@@ -1,7 +1,7 @@
 use Rattle.std.proofs.Common.{◌∙◌, ◌++◌, [], ℕ, List, ap, refl, subst, sym}
 use Rattle.sk_triangles.specs.Growing.{FromSome, GrowsBy}
 use Rattle.sk_triangles.proofs.Growing.{grows_end}
-use Rattle.sk_open_triples.specs.KeptRows.{Mention}
+use Rattle.sk_open_triples.specs.OpenRows.{Mention}
 use Rattle.sk_open_triples.proofs.Dropping.{keys_more, keys_told}
 use Rattle.sk_open_triples.proofs.Outcomes.{both_ok}
 use Rattle.sk_open_triples.proofs.mentions.keys_of_all.Goals as goal

@@ -1,5 +1,5 @@
 use Rattle.std.proofs.Common.{◌≡◌, ℕ, ◌+◌, ◌-◌, length}
-use Rattle.sk_open_triples.specs.KeptRows.{keys_at}
+use Rattle.sk_open_triples.specs.OpenRows.{keys_at}
 use Rattle.sk_open_triples.proofs.mentions.make_room.Given as goal
 
 abbrev pub invariant-loop-alloc : goal.invariant-loop-alloc

@@ -2,7 +2,7 @@ use Rattle.std.proofs.Common.{List, get_or, subst}
 use Rattle.std.proofs.lemmas.List.{take_all}
 use Rattle.std.proofs.lemmas.List.Elements.{Contains-get_or}
 use Rattle.sk_family.specs.declared.Merge.{Merge}
-use Rattle.sk_open_triples.specs.KeptRows.{AreTold}
+use Rattle.sk_open_triples.specs.OpenRows.{AreTold}
 use Rattle.sk_open_triples.proofs.Handing.{told_more, told_none}
 use Rattle.sk_open_triples.proofs.Pushing.{gains_then}
 use Rattle.sk_open_triples.proofs.mentions.mention_heir.Goals as goal

@@ -1,5 +1,5 @@
 use Rattle.std.proofs.Common.{take}
-use Rattle.sk_open_triples.specs.KeptRows.{AreTold, GainsKey, Mention}
+use Rattle.sk_open_triples.specs.OpenRows.{AreTold, GainsKey, Mention}
 use Rattle.sk_open_triples.proofs.mentions.mention_heir.Given as goal
 
 abbrev pub invariant-loop-merge : goal.invariant-loop-merge

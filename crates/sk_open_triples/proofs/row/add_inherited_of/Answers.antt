@@ -3,7 +3,7 @@ use Rattle.sk_family.specs.declared.Merge.{Merge}
 use Rattle.sk_triangles.specs.Growing.{GrowsBy}
 use Rattle.sk_triangles.proofs.Growing.{grows_start, grows_step, grows_end}
 use Rattle.sk_open_triples.specs.Inherited.{Inherits}
-use Rattle.sk_open_triples.specs.KeptRows.{InheritsFrom}
+use Rattle.sk_open_triples.specs.OpenRows.{InheritsFrom}
 use Rattle.sk_open_triples.proofs.row.add_inherited_of.Goals as goal
 
 pub loop-pair-init : goal.loop-pair-init

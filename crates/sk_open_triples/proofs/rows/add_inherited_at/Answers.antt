@@ -4,7 +4,7 @@ use Rattle.sk_family.specs.declared.Merge.{Merge}
 use Rattle.sk_triangles.specs.Growing.{FromSome, GrowsBy}
 use Rattle.sk_triangles.proofs.Growing.{grows_none, grows_same}
 use Rattle.sk_open_triples.specs.Inherited.{Inherits}
-use Rattle.sk_open_triples.specs.KeptRows.{InheritsAt, InheritsElse, merges_of}
+use Rattle.sk_open_triples.specs.OpenRows.{InheritsAt, InheritsElse, merges_of}
 use Rattle.sk_open_triples.proofs.Inheritance.{row_of_key}
 use Rattle.sk_open_triples.proofs.rows.add_inherited_at.Goals as goal
 

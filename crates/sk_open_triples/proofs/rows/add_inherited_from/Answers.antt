@@ -1,6 +1,6 @@
 use Rattle.std.proofs.Common.{get_or}
 use Rattle.std.proofs.lemmas.List.Elements.{Contains-get_or}
-use Rattle.sk_open_triples.specs.KeptRows.{InheritsElse}
+use Rattle.sk_open_triples.specs.OpenRows.{InheritsElse}
 use Rattle.sk_triangles.proofs.Growing.{grows_start, grows_step, grows_end}
 use Rattle.sk_open_triples.proofs.rows.add_inherited_from.Goals as goal
 

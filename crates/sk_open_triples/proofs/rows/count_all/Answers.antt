@@ -2,7 +2,7 @@ use Rattle.std.proofs.Common.{◌∙◌, get_or, length, ap, arith}
 use Rattle.std.specs.List.{flat_map}
 use Rattle.std.proofs.lemmas.List.{take_all}
 use Rattle.std.proofs.lemmas.List.Elements.{Contains-get_or}
-use Rattle.sk_open_triples.specs.KeptRows.{merges_at}
+use Rattle.sk_open_triples.specs.OpenRows.{merges_at}
 use Rattle.sk_open_triples.proofs.Inheritance.{front_length}
 use Rattle.sk_open_triples.proofs.rows.count_all.Goals as goal
 

@@ -1,5 +1,5 @@
 use Rattle.std.proofs.Common.{take}
-use Rattle.sk_open_triples.specs.KeptRows.{AreDropped}
+use Rattle.sk_open_triples.specs.OpenRows.{AreDropped}
 use Rattle.sk_open_triples.proofs.rows.drop_at_all.Given as goal
 
 abbrev pub invariant-loop-key : goal.invariant-loop-key

@@ -2,7 +2,7 @@ use Rattle.std.proofs.Common.{◌∙◌, ◌+◌, ◌-◌, ◌<◌, ◌≤◌, g
 use Rattle.std.specs.Prelude.{slice_get}
 use Rattle.std.specs.List.{flat_map}
 use Rattle.std.proofs.lemmas.List.Elements.{Contains-get_or}
-use Rattle.sk_open_triples.specs.KeptRows.{merges_at}
+use Rattle.sk_open_triples.specs.OpenRows.{merges_at}
 use Rattle.sk_open_triples.proofs.Inheritance.{rest_length, item_here, item_later}
 use Rattle.sk_open_triples.proofs.rows.merge_at.Goals as goal
 

@@ -1,7 +1,7 @@
 use Rattle.std.proofs.Common.{◌≡◌, ◌<◌, length, drop}
 use Rattle.std.specs.Prelude.{slice_get}
 use Rattle.std.specs.List.{flat_map}
-use Rattle.sk_open_triples.specs.KeptRows.{merges_at}
+use Rattle.sk_open_triples.specs.OpenRows.{merges_at}
 use Rattle.sk_open_triples.proofs.rows.merge_at.Given as goal
 
 abbrev pub invariant-loop-key : goal.invariant-loop-key

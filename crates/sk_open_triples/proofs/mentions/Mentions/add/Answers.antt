@@ -2,7 +2,7 @@ use Rattle.std.proofs.Common.{refl, sym, subst}
 use Rattle.std.specs.Prelude.{Contains}
 use Rattle.sk_base.proofs.Searches.{on_ok}
 use Rattle.sk_open_triples.specs.declared.mentions.Mentions.{Mentions}
-use Rattle.sk_open_triples.specs.KeptRows.{keys_of}
+use Rattle.sk_open_triples.specs.OpenRows.{keys_of}
 use Rattle.sk_open_triples.proofs.Mentioning.{gains_in_constraints, gains_in_steps}
 use Rattle.sk_open_triples.proofs.mentions.Mentions.add.Goals as goal
 

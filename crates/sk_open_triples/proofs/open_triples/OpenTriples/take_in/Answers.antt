@@ -5,7 +5,7 @@ use Rattle.sk_family.specs.declared.Merge.{Merge}
 use Rattle.sk_open_triples.specs.declared.heir.Heir.{Heir}
 use Rattle.sk_open_triples.specs.HandedOn.{IsTakenIn, IsToAdd, AreFoundFor}
 use Rattle.sk_open_triples.proofs.Adding.{taken_anew, taken_by_heir}
-use Rattle.sk_open_triples.proofs.kept.Kept.take_in.Goals as goal
+use Rattle.sk_open_triples.proofs.open_triples.OpenTriples.take_in.Goals as goal
 
 pub returns-in_ok-hand_on-in-Some : goal.returns-in_ok-hand_on-in-Some
 returns-in_ok-hand_on-in-Some c =

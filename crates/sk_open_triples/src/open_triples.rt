@@ -1,16 +1,16 @@
-// The triples that are kept from one turn to the next, in rows: one for each greatest cluster.
+// The open triples in rows: one for each greatest cluster.
 ghost use Rattle.std.specs.Prelude.{◌≡◌, ◌<◌, ◌++◌, ◌∷◌, [], AllPairs, Contains, IfOk, OnOk, Some, length, slice_get};
 ghost use Rattle.sk_base.specs.ClusterNames.{IsBelow};
 ghost use Rattle.sk_family.specs.declared.Merge.{Merge as AnyMerge};
 ghost use Rattle.sk_open_triples.specs.Avoiding.{IsTriple, avoiding};
 ghost use Rattle.sk_open_triples.specs.HandedOn.{IsAdded, IsOfHeirIn, AreFoundFor, IsTakenIn, IsToAdd, HasGreatest};
-ghost use Rattle.sk_open_triples.specs.KeptRows.{triple_of};
+ghost use Rattle.sk_open_triples.specs.OpenRows.{triple_of};
 
 use crate::heir::Heir;
 use crate::lower_pairs::LowerPair;
 use crate::mentions::{Mentions, keys_of_all, mention_all, mention_heir};
 use crate::order::in_order;
-use crate::row::KeptRow;
+use crate::row::OpenRow;
 use crate::rows::{
     add_inherited_from, count_all, drop_at_all, grown_row, key_of_row, last_row_of, merge_at,
     push_at, put_last,
@@ -23,18 +23,18 @@ use std::marker::Model;
 /// Triples, which contracts see as a list of merges. A row keeps its key, its place among the rows,
 /// while it changes its place in the order.
 #[derive(Drop)]
-pub struct Kept {
+pub struct OpenTriples {
     alloc: Global,
-    rows: Vec<KeptRow>,
+    rows: Vec<OpenRow>,
     order: Vec<usize>,
     mentions: Mentions,
 }
 
-impl Model for Kept {
+impl Model for OpenTriples {
     ghost use Rattle.std.specs.Prelude.{List as Items};
     ghost use Rattle.std.specs.List.{flat_map};
     ghost use Rattle.sk_family.specs.declared.Merge.{Merge};
-    ghost use Rattle.sk_open_triples.specs.KeptRows.{AreRows, merges_at};
+    ghost use Rattle.sk_open_triples.specs.OpenRows.{AreRows, merges_at};
 
     ghost Value = { Items Merge };
 
@@ -43,11 +43,11 @@ impl Model for Kept {
     ghost invariant = { λ k. AreRows k.rows.items k.order.items k.mentions };
 }
 
-impl Kept {
+impl OpenTriples {
     pub fn new(alloc: Global) -> Self
         ensures { result ≡ [] }
     {
-        Kept {
+        OpenTriples {
             alloc,
             rows: Vec::new(alloc),
             order: Vec::new(alloc),

@@ -3,9 +3,9 @@ use Rattle.std.specs.Prelude.{filter, map, not}
 use Rattle.std.proofs.lemmas.Fn.{filter_same}
 use Rattle.sk_base.specs.ClusterNames.{is_named}
 use Rattle.sk_open_triples.specs.declared.lower_pairs.LowerPair.{LowerPair}
-use Rattle.sk_open_triples.specs.KeptRows.{triple_of}
+use Rattle.sk_open_triples.specs.OpenRows.{triple_of}
 use Rattle.sk_open_triples.proofs.Dropping.{row_goes, row_stays}
-use Rattle.sk_open_triples.proofs.row.KeptRow.drop_naming.Goals as goal
+use Rattle.sk_open_triples.proofs.row.OpenRow.drop_naming.Goals as goal
 
 pub returns-then-is_among : goal.returns-then-is_among
 returns-then-is_among c =

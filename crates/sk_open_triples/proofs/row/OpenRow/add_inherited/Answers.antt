@@ -4,9 +4,9 @@ use Rattle.sk_triangles.specs.Growing.{FromSome, GrowsBy}
 use Rattle.sk_triangles.proofs.Growing.{grows_same}
 use Rattle.sk_open_triples.specs.declared.lower_pairs.LowerPair.{LowerPair}
 use Rattle.sk_open_triples.specs.Inherited.{Inherits}
-use Rattle.sk_open_triples.specs.KeptRows.{InheritsFrom, triple_of}
+use Rattle.sk_open_triples.specs.OpenRows.{InheritsFrom, triple_of}
 use Rattle.sk_open_triples.proofs.Inheritance.{inherited_by_row}
-use Rattle.sk_open_triples.proofs.row.KeptRow.add_inherited.Goals as goal
+use Rattle.sk_open_triples.proofs.row.OpenRow.add_inherited.Goals as goal
 
 pub returns : goal.returns
 returns c =
