@@ -1,4 +1,4 @@
-//! Closing a family where the order of its merges doesn't matter.
+//! Merges clusters until no rule holds, in whatever order is quickest.
 #![tactic(auto)]
 
 mod any_order;

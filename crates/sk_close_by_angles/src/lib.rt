@@ -1,4 +1,4 @@
-//! Closing a family by a third rule besides, which adds up the angles of lines.
+//! Merges clusters by a third rule too: lines whose angle follows along a chain of lines.
 #![tactic(auto)]
 
 mod classes;

@@ -1,5 +1,5 @@
-//! Lines that come piece by piece, each answered before more is asked for. What a line is answered is a matter of the
-//! replier; here it is cut off the pieces, handed over, and its reply written and flushed.
+//! Answers lines that come piece by piece: each line of a piece is answered before the next piece is read. What a line is
+//! answered is a matter of the replier; here it is cut off the pieces and handed over, and its reply is written and flushed.
 #![tactic(auto)]
 
 mod ending;

@@ -1,4 +1,4 @@
-//! Where three clusters meet in three corners, from what each has beside a corner.
+//! Finds every three clusters of which each two share another element: a walk over (cluster, corner, other element).
 #![tactic(auto)]
 
 mod corners;
