@@ -11,6 +11,7 @@ use Rattle.sk_family.specs.Clusters.{Clusters, IsSound, bodies, replaced, IsWith
 use Rattle.sk_family.proofs.Naming.{below_asymmetric, below_chain, below_others, is_it_below}
 use Rattle.sk_family.specs.declared.Merge.{Merge}
 use Rattle.sk_family.specs.declared.Merge.TheVariants.{Two, Three}
+use Rattle.sk_family.specs.Merges.{greatest_of}
 use Rattle.sk_rules.specs.Reach.{IsClosed}
 use Rattle.sk_rules.proofs.Merging.{closed_by_merges}
 use Rattle.sk_neighbours.specs.declared.Index.{Index}
@@ -19,7 +20,7 @@ use Rattle.sk_neighbours.specs.Indexed.{Represents}
 use Rattle.sk_triangles.specs.Growing.{GrowsBy}
 use Rattle.sk_neighbours.specs.Partners.{Partner}
 use Rattle.sk_neighbours.specs.Triples.{TriplesOf}
-use Rattle.sk_close_any_order.specs.Settling.{IsAny, IsSettledBelow, IsNextMerge, MergesOf, greatest_of}
+use Rattle.sk_close_any_order.specs.Settling.{IsAny, IsSettledBelow, IsNextMerge, MergesOf}
 use Rattle.sk_neighbours.proofs.Gathered.{partners_found, triples_found}
 use Rattle.sk_rules.proofs.Takable.{can_pair, can_triple, pair_can, triple_can}
 use Rattle.sk_family.proofs.Lasting.{named_before, not_next, live_below_next}

@@ -6,15 +6,12 @@ use Rattle.sk_base.specs.ClusterNames.{IsBelow}
 use Rattle.sk_family.specs.declared.Cluster.{Cluster}
 use Rattle.sk_family.specs.Clusters.{Clusters}
 use Rattle.sk_family.specs.declared.Merge.{Merge}
-use Rattle.sk_family.specs.declared.Merge.TheVariants.{Two, Three}
+use Rattle.sk_family.specs.declared.Merge.TheVariants.{Two}
+use Rattle.sk_family.specs.Merges.{greatest_of}
 use Rattle.sk_neighbours.specs.declared.Index.{Index}
 use Rattle.sk_rules.specs.Merges.{CanTake}
 use Rattle.sk_neighbours.specs.Partners.{Partner}
 use Rattle.sk_neighbours.specs.Triples.{TriplesOf}
-
-abbrev pub greatest_of : Merge → Name
-greatest_of (Two x y) = x
-greatest_of (Three x y z) = x
 
 -- no merge whose greatest cluster is below the name may be taken
 abbrev pub IsSettledBelow : Graph → Clusters → Name → Type 0

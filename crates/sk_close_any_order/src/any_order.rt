@@ -8,10 +8,11 @@ ghost use Rattle.sk_base.specs.Rising.{IsRising};
 ghost use Rattle.sk_base.specs.SoundGraph.{HasRisingEdges};
 ghost use Rattle.sk_family.specs.Body.{initial_bodies};
 ghost use Rattle.sk_family.specs.Clusters.{ByName, IsSound, bodies, replaced};
+ghost use Rattle.sk_family.specs.Merges.{greatest_of};
 ghost use Rattle.sk_rules.specs.Reach.{Reach, IsClosed, IsNormal, IsTheOnlyNormal};
 ghost use Rattle.sk_rules.specs.Merges.{CanTake};
 ghost use Rattle.sk_neighbours.specs.Indexed.{AllRise, IsIndex, Represents};
-ghost use Rattle.sk_close_any_order.specs.Settling.{IsAny, IsNext, MergesOf, greatest_of};
+ghost use Rattle.sk_close_any_order.specs.Settling.{IsAny, IsNext, MergesOf};
 
 use crate::growth::Growth;
 use sk_base::{Graph, List, Name, NoMemory};

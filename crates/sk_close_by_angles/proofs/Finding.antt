@@ -29,13 +29,14 @@ use Rattle.sk_family.specs.Body.{Body}
 use Rattle.sk_family.specs.Clusters.{Clusters, ByName, IsSound}
 use Rattle.sk_family.specs.declared.Merge.{Merge}
 use Rattle.sk_family.specs.declared.Merge.TheVariants.{Two, Three}
+use Rattle.sk_family.specs.Merges.{greatest_of}
 use Rattle.sk_open_triples.specs.MergeOrder.{ComesFirst}
 use Rattle.sk_triangles.proofs.Fronts.{front_more, front_all, front_before}
 use Rattle.sk_close_by_angles.specs.Ties.{AreTied, itself, further, HaveTiedLines}
 use Rattle.sk_close_by_angles.specs.Classes.{class_of, AreClasses, IsClassAmong}
 use Rattle.sk_close_by_angles.specs.WideChoices.{CanTakeByTie, AreTieMerges}
 use Rattle.sk_close_by_angles.specs.MergeRows.{merges_with}
-use Rattle.sk_close_by_angles.specs.TieMerges.{IsTieMergeOf, first_name, AreBelow, FindsOf, FindsAmong, AddsWhere, IsTiedTo, TieWith}
+use Rattle.sk_close_by_angles.specs.TieMerges.{IsTieMergeOf, AreBelow, FindsOf, FindsAmong, AddsWhere, IsTiedTo, TieWith}
 use Rattle.sk_close_by_angles.proofs.Tying.{tied_start}
 
 module _ (g : Graph) (f : List Body) (classes : List ℕ) (are : AreClasses g f classes) where
@@ -160,7 +161,7 @@ module _ (g : Graph) (f : Clusters) (a : Cluster) (ns tied : List Name) (old new
     ])),
   )
 
-  before_row : (m : Merge) (n : Name) → IsBelow (first_name m) a.name → ComesFirst m (Two a.name n)
+  before_row : (m : Merge) (n : Name) → IsBelow (greatest_of m) a.name → ComesFirst m (Two a.name n)
   before_row (Two p q) n h = inl h
   before_row (Three p q r) n h = inl h
 
@@ -224,7 +225,7 @@ module _ (g : Graph) (f : Clusters) (xs : List Cluster) (i : ℕ) (a : Cluster) 
   all_below rise m m_in =
       let found = (so_far m).0 m_in in
       let of_d = found.2 in
-      subst (λ n. IsBelow (first_name n) a.name) (sym of_d.4) (subst (λ (z : Cluster). ByName found.0 z) (sym a_is) (front_before xs i a i_in ByName rise found.0 found.1))
+      subst (λ n. IsBelow (greatest_of n) a.name) (sym of_d.4) (subst (λ (z : Cluster). ByName found.0 z) (sym a_is) (front_before xs i a i_in ByName rise found.0 found.1))
 
 pub found_by_all : (g : Graph) (f : Clusters) (xs : List Cluster) (i : ℕ) → length xs ≤ i → (found : List Merge)
     → ((m : Merge) → Contains found m ↔ ((d : Cluster) × Contains (take i xs) d × IsTieMergeOf g f d f.live m))

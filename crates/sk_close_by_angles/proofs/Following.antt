@@ -17,6 +17,7 @@ use Rattle.sk_family.proofs.Bodies.{holder_of}
 use Rattle.sk_family.proofs.Naming.{among_named, named_among, unnamed_true, not_named, one_of_name, below_asymmetric}
 use Rattle.sk_family.specs.declared.Merge.{Merge}
 use Rattle.sk_family.specs.declared.Merge.TheVariants.{Two, Three}
+use Rattle.sk_family.specs.Merges.{greatest_of}
 use Rattle.sk_rules.specs.Merges.{merged}
 use Rattle.sk_rules.specs.Reach.{stays, goes}
 use Rattle.sk_rules.proofs.Merging.{replaced_replaces}
@@ -27,7 +28,7 @@ use Rattle.sk_family.proofs.Lasting.{live_below_next}
 use Rattle.sk_close_by_angles.specs.Ties.{AreTied, itself, HaveTiedLines, SharesPoint, MeetsByTie, wide_rule}
 use Rattle.sk_close_by_angles.specs.Classes.{class_of, AreClasses}
 use Rattle.sk_close_by_angles.specs.WideChoices.{CanTakeByTie, AreTieMerges}
-use Rattle.sk_close_by_angles.specs.TieMerges.{AreBelow, FindsOf, IsTieMergeOf, first_name}
+use Rattle.sk_close_by_angles.specs.TieMerges.{AreBelow, FindsOf, IsTieMergeOf}
 use Rattle.sk_close_by_angles.specs.FollowedTies.{AreTies, IsAfterOne, FindsOfLast}
 use Rattle.sk_close_by_angles.proofs.Tying.{tied_covered, tied_start}
 use Rattle.sk_close_by_angles.proofs.Finding.{tied_one}
@@ -163,7 +164,7 @@ module _ (g : Graph) (f : Clusters) (sound : IsSound f) (x y : Name) (falls : Is
     pub kept_below : (merges : List Merge) → AreTieMerges g f merges → AreBelow (kept merges) (Step f.next_step)
     kept_below merges all m m_in = below m (kept_can merges all m m_in).0
       where
-        below : (m : Merge) → CanTakeByTie g f m → IsBelow (first_name m) (Step f.next_step)
+        below : (m : Merge) → CanTakeByTie g f m → IsBelow (greatest_of m) (Step f.next_step)
         below (Two p q) (falls, (a, b, a_is, b_is, meets)) = subst (λ n. IsBelow n (Step f.next_step)) a_is.has_name (live_below_next f sound a a_is.lives)
         below (Three p q r) (falls, never) = absurd never
 

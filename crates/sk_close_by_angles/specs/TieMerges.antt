@@ -6,7 +6,8 @@ use Rattle.sk_base.specs.ClusterNames.{IsBelow}
 use Rattle.sk_family.specs.declared.cluster.Cluster.{Cluster}
 use Rattle.sk_family.specs.Clusters.{Clusters, IsNamed, bodies}
 use Rattle.sk_family.specs.declared.Merge.{Merge}
-use Rattle.sk_family.specs.declared.Merge.TheVariants.{Two, Three}
+use Rattle.sk_family.specs.declared.Merge.TheVariants.{Two}
+use Rattle.sk_family.specs.Merges.{greatest_of}
 use Rattle.sk_triangles.specs.Growing.{GrowsBy, FromSome}
 use Rattle.sk_close_by_angles.specs.Ties.{HaveTiedLines, MeetsByTie}
 
@@ -14,13 +15,9 @@ use Rattle.sk_close_by_angles.specs.Ties.{HaveTiedLines, MeetsByTie}
 abbrev pub IsTieMergeOf : Graph → Clusters → Cluster → List Cluster → Merge → Type 0
 IsTieMergeOf g f a below m = (b : Cluster) × Contains below b × IsBelow b.name a.name × MeetsByTie g (bodies f) a.elements b.elements × (m ≡ Two a.name b.name)
 
-abbrev pub first_name : Merge → Name
-first_name (Two x y) = x
-first_name (Three x y z) = x
-
--- each of the merges has its first name below this one
+-- each of the merges has its greatest name below this one
 abbrev pub AreBelow : List Merge → Name → Type 0
-AreBelow merges n = (m : Merge) → Contains merges m → IsBelow (first_name m) n
+AreBelow merges n = (m : Merge) → Contains merges m → IsBelow (greatest_of m) n
 
 -- new has what old has, and the merges of a with these clusters
 abbrev pub FindsOf : Graph → Clusters → Cluster → List Cluster → List Merge → List Merge → Type 0

@@ -12,6 +12,11 @@ abbrev pub names_of : Merge → List Name
 names_of (Two x y) = x ∷ y ∷ []
 names_of (Three x y z) = x ∷ y ∷ z ∷ []
 
+-- the first name, which is above the others where they fall
+abbrev pub greatest_of : Merge → Name
+greatest_of (Two x y) = x
+greatest_of (Three x y z) = x
+
 -- each name is above the next
 abbrev pub Falls : Merge → Type 0
 Falls (Two x y) = IsBelow y x

@@ -3,9 +3,10 @@ use Rattle.std.specs.Prelude.{Option}
 use Rattle.sk_family.specs.Body.{initial_bodies}
 use Rattle.sk_family.specs.Clusters.{Clusters, bodies, IsWithin}
 use Rattle.sk_family.specs.declared.Merge.{Merge}
+use Rattle.sk_family.specs.Merges.{greatest_of}
 use Rattle.sk_rules.specs.Reach.{stays}
 use Rattle.sk_rules.proofs.NormalForm.{normal_same}
-use Rattle.sk_close_any_order.specs.Settling.{IsNext, IsNextMerge, IsSettledBelow, greatest_of}
+use Rattle.sk_close_any_order.specs.Settling.{IsNext, IsNextMerge, IsSettledBelow}
 use Rattle.sk_rules.proofs.Takable.{reach_on, two_live}
 use Rattle.sk_close_any_order.proofs.Settled.{settled_at_first, within_at_first, settled_after, within_after, next_can, next_within, settled_to_next, closed_without_next}
 use Rattle.sk_close_any_order.proofs.any_order.close_in_any_order.Goals as goal
