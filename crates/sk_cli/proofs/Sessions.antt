@@ -12,9 +12,6 @@ use Rattle.sk_session.specs.declared.Reply.{Reply}
 use Rattle.sk_session.specs.declared.Reply.TheVariants as reply
 use Rattle.sk_session.specs.State.{State, sketch_in}
 use Rattle.sk_session.specs.Replies.{Answers}
-use Rattle.sk_close_by_order.specs.declared.Order.{Order}
-use Rattle.sk_place.specs.declared.Layout.{Layout}
-use Rattle.sk_request.specs.declared.Bits.{Bits}
 use Rattle.sk_request.specs.declared.Request.{Request}
 use Rattle.sk_cli.specs.declared.status.Status.{Status}
 use Rattle.sk_cli.specs.declared.status.Status.TheVariants.{Done, WriteFault, NoMemory}

@@ -1,5 +1,5 @@
 -- Words and an input have an outcome.
-use Rattle.std.proofs.Common.{◌≡◌, ◌≢◌, ◌⊎◌, inl, inr, refl, ℕ, ◌≤◌, ◌<◌, List, [], ◌++◌, Some, length, take, arith}
+use Rattle.std.proofs.Common.{◌≡◌, ◌≢◌, ◌⊎◌, inl, inr, refl, ℕ, ◌≤◌, ◌<◌, List, [], ◌++◌, length, take, arith}
 use Rattle.std.specs.Prelude.{drop, Contains}
 use Rattle.sk_base.specs.declared.Name.{Name}
 use Rattle.sk_base.specs.declared.ConId.{ConId}

@@ -1,6 +1,6 @@
 -- Each command has its own word.
 use Rattle.std.proofs.Common.{◌≡◌, ◌==◌, ◌<◌, ◌+◌, ℕ, List, ◌∷◌, refl, sym, ap, ◌∙◌, arith}
-use Rattle.std.specs.Prelude.{if◌then◌else◌, fold, Option, None, Some, Contains, Bool, true, false}
+use Rattle.std.specs.Prelude.{if◌then◌else◌, fold, Option, None, Some, Contains, true, false}
 use Rattle.sk_request.specs.declared.command.Account.TheVariants as accounts
 use Rattle.sk_request.specs.declared.command.Command.{Command}
 use Rattle.sk_request.specs.declared.command.Command.TheVariants.{Tell, Plan, Solve, Dxf, Offers, Session, Grow, Verify, Flips, Live}

@@ -1,6 +1,6 @@
 -- Keys that are read one after another.
 use Rattle.std.proofs.Common.{◌≡◌, ◌≢◌, ℕ, ◌+◌, ◌<◌, List, [], ◌∷◌, ◌++◌, length, get_or, take, drop, refl, ap, sym, subst, ◌∙◌}
-use Rattle.std.specs.Prelude.{map, Bool, true, false, Option, Some, None, IfNone, IsSome, IsTrue, unwrap_or, codes, All}
+use Rattle.std.specs.Prelude.{map, true, false, Option, Some, None, IfNone, IsSome, unwrap_or, codes, All}
 use Rattle.std.proofs.lemmas.List.Elements.{All-nil, All-cons, All-head, All-tail, All-weaker, All-contains, All-append, Contains-append_right}
 use Rattle.std.proofs.lemmas.List.{take_more, drop_more, map-append, take-append-drop}
 use Rattle.sk_base.proofs.Members.{contains_head}
@@ -22,7 +22,7 @@ use Rattle.sk_request.specs.Asking.{Key, OrderKey, BitsKey, WithinKey, PlaceKey,
 use Rattle.sk_request.specs.Settings.{AreSet, Adds}
 use Rattle.sk_request.proofs.KeyValues.{values_more, set_more, set_back, set_back_alone, said, one_set}
 use Rattle.sk_request.proofs.Numbers.{one_size}
-use Rattle.sk_request.proofs.CommandWords.{same_traits, unmade_size, made_size}
+use Rattle.sk_request.proofs.CommandWords.{same_traits, made_size}
 use Rattle.sk_request.proofs.OtherKeys.{apart}
 
 -- commands of one word take the same keys
