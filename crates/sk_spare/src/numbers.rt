@@ -6,7 +6,7 @@ use sk_base::{ConId, List, NoMemory};
 use std::alloc::Global;
 
 /// Whether the number is one of these.
-pub(crate) fn is_among(numbers: &[ConId], number: ConId) -> bool
+pub fn is_among(numbers: &[ConId], number: ConId) -> bool
     ensures computed { result ≡ is_number numbers.now number }
     ensures decides { IsTrue result ↔ Contains numbers.now number }
 {

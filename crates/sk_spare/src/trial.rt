@@ -82,7 +82,7 @@ fn adopt_start(family: &mut Family, graph: &Graph, number: ConId) -> Result<(), 
 }
 
 /// Whether one of the clusters holds all of these elements.
-pub(crate) fn some_holds(clusters: &[Cluster], elements: &[Elem]) -> bool
+pub fn some_holds(clusters: &[Cluster], elements: &[Elem]) -> bool
     ensures { result ≡ some_holds clusters.now elements.now }
 {
     clusters
