@@ -1,4 +1,4 @@
-"""The pages: every link leads somewhere, and the first page is short."""
+"""The pages: every link leads somewhere, tables name what is there, and the first page is short."""
 from __future__ import annotations
 
 import re
@@ -12,6 +12,7 @@ PAGES = [
     for form in ("*.md", "crates/*/*.md", "python/**/*.md", "docs/*.md", "*s/README.md", "checker/*.md")
     for page in sorted(TOP.glob(form))
 ]
+CRATES = sorted(it.parent for it in TOP.glob("crates/*/src"))
 LINK = re.compile(r"!?\[(?:[^\[\]]|!\[[^\]]*\]\([^)]*\))*\]\(([^()\s]+)\)")
 PICTURE = re.compile(r"!\[[^\]]*\]\(([^()\s]+)\)")
 
@@ -54,6 +55,20 @@ def test_every_link_leads_somewhere(page: Path) -> None:
         to = (page.parent / path).resolve() if path else page
         assert to.exists(), f"{link}: there is no such file"
         assert not anchor or anchor in anchors(to), f"{link}: there is no such heading"
+
+
+def modules(crate: Path) -> list[str]:
+    """The modules of a crate, by the first file of its sources."""
+    [first] = [it for it in (crate / "src" / "lib.rt", crate / "src" / "main.rt") if it.exists()]
+    return re.findall(r"^(?:pub )?mod (\w+);", first.read_text(), re.MULTILINE)
+
+
+@pytest.mark.parametrize("crate", CRATES, ids=lambda it: it.name)
+def test_a_table_names_the_modules_of_a_crate(crate: Path) -> None:
+    page = (crate / "README.md").read_text()
+    tables = re.findall(r"^\| module \|.*\n\|[-|]+\n((?:\|.*\n)+)", page, re.MULTILINE)
+    cells = [line.split("|")[1] for table in tables for line in table.splitlines()]
+    assert sorted(re.findall(r"`(\w+)`", " ".join(cells))) == sorted(modules(crate))
 
 
 def test_the_first_page_is_short() -> None:

@@ -1,0 +1,65 @@
+"""docs/CRATES.md, made of the head of each crate's README: its first sentence, and its first table."""
+import dataclasses
+import pathlib
+import re
+
+CRATES = pathlib.Path(__file__).resolve().parent.parent / "crates"
+READING = {
+    "Texts": "sk_base sk_io sk_text sk_lines sk_entry sk_lang sk_live_lines",
+    "The graph, and clusters that merge": "sk_orient sk_graph sk_family sk_rules sk_triangles sk_neighbours"
+    " sk_open_triples sk_close_by_order sk_close_any_order sk_close_by_angles sk_verdict sk_offers",
+    "Plans": "sk_tree sk_plan",
+    "Places": "sk_root sk_interval sk_steps sk_place sk_frame sk_measure sk_tolerance sk_flips sk_solve",
+    "What is too much, and what is missing": "sk_parts sk_spare sk_excess sk_why sk_complete",
+    "Claims": "sk_claims sk_verify",
+    "Sessions": "sk_edits sk_session",
+    "What is written": "sk_report sk_dxf sk_gen",
+    "The program": "sk_request sk_cli sketch sk_c",
+    "Tests": "sk_test_units sk_test_tables sk_test_runs",
+}
+BEFORE = """\
+# The crates, in the order of reading
+
+For whoever looks for the crate that has something: what each does, which words it defines, and what it proves.
+`tools/pages` makes this page of the first sentence and the first table of each crate's README, so change it there.
+[The architecture](ARCHITECTURE.md) says how they stand on each other.
+"""
+
+
+@dataclasses.dataclass(frozen=True)
+class Head:
+    """What the head of a README says of its crate; `defines` is empty where contracts above cite nothing of it."""
+
+    does: str
+    defines: str
+    proves: str
+
+
+def head_of(crate):
+    """The head of the crate's README. Raises ValueError where it isn't of the form."""
+    text = (CRATES / crate / "README.md").read_text()
+    title, first, table = text.split("\n\n")[:3]
+    sentence = re.match(r".*?\.(?=\s|$)", first.replace("\n", " "))
+    rows = dict(re.findall(r"^\| (defines|proves) \| (.*) \|$", table, re.MULTILINE))
+    if not title.startswith("# ") or sentence is None or "proves" not in rows:
+        raise ValueError(f"crates/{crate}/README.md: no first sentence, or no table of what it defines and proves")
+    return Head(sentence[0], rows.get("defines", ""), rows["proves"])
+
+
+def row(crate):
+    """The row of a crate."""
+    head = head_of(crate)
+    return f"| [`{crate}`](../crates/{crate}/README.md) | {head.does} | {head.defines} | {head.proves} |"
+
+
+def page():
+    """The page. Raises ValueError where READING hasn't each crate just once, or a README's head isn't of the form."""
+    read = " ".join(READING.values()).split()
+    if sorted(read) != sorted(it.name for it in CRATES.iterdir() if (it / "src").is_dir()):
+        raise ValueError("tools/crates_page.py: READING has not each crate just once")
+    parts = [BEFORE]
+    for title, crates in READING.items():
+        rows = "\n".join(row(it) for it in crates.split())
+        head = "| crate | does | defines | proves, by the contract of |\n|---|---|---|---|"
+        parts.append(f"## {title}\n\n{head}\n{rows}\n")
+    return "\n".join(parts)
