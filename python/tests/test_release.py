@@ -23,6 +23,7 @@ sys.path.insert(0, str(TOP / "tools"))
 from packing.gate import Gate  # noqa: E402
 from packing.made import Made, gate_text  # noqa: E402
 from packing.refusal import Refused  # noqa: E402
+from packing.staging import stage_pages  # noqa: E402
 from packing.wheel import PYTHON, make_wheel  # noqa: E402
 
 TRIANGLE = (TOP / "examples" / "triangle.sketch").read_text()
@@ -112,6 +113,13 @@ def within(root: Path) -> dict[str, str]:
         "PYTHONPATH": str(root / "usr/lib/python3/dist-packages"),
         "PYTHONDONTWRITEBYTECODE": "1",
     }
+
+
+def test_the_pages_of_the_crates_lie_where_the_others_lead(tmp_path: Path) -> None:
+    stage_pages(tmp_path, TOP)
+    for page in (tmp_path / "docs" / "CRATES.md", tmp_path / "docs" / "CLAIMS.md"):
+        ends = re.findall(r"\]\(([^)#]*\.md)[^)]*\)", page.read_text())
+        assert len(ends) > 5 and all((page.parent / it).exists() for it in ends), page.name
 
 
 def test_a_release_has_a_tarball_a_package_a_wheel_and_checksums(dist: Path) -> None:

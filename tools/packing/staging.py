@@ -55,12 +55,18 @@ def stage(root: Path, places: Places, made: Made) -> None:
         put(made.library / name, root / places.libraries / name)
     _stage_flags(root, places, made)
     _stage_editors(root / places.shared, made.tree / "editors")
-    for name in PAGES:
-        put(made.tree / name, root / places.pages / name)
+    stage_pages(root / places.pages, made.tree)
     for name in ("freecad", "checker"):
         put(made.tree / name, root / places.shared / "pertxogai" / name)
     (root / places.pages / "GATE").write_text(made.gate)
     _stage_manual(root / places.shared / "man", made.tree / "man")
+
+
+def stage_pages(folder: Path, tree: Path) -> None:
+    """Puts what is read by people, and the pages of the crates that it leads to."""
+    crates = [str(it.relative_to(tree)) for it in sorted(tree.glob("crates/*/README.md"))]
+    for name in [*PAGES, *crates]:
+        put(tree / name, folder / name)
 
 
 def _stage_flags(root: Path, places: Places, made: Made) -> None:
