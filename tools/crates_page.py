@@ -1,9 +1,11 @@
 """docs/CRATES.md, made of the head of each crate's README: its first sentence, and its first table."""
-import dataclasses
-import pathlib
-import re
+from __future__ import annotations
 
-CRATES = pathlib.Path(__file__).resolve().parent.parent / "crates"
+import re
+from dataclasses import dataclass
+from pathlib import Path
+
+CRATES = Path(__file__).resolve().parent.parent / "crates"
 READING = {
     "Texts": "sk_base sk_io sk_text sk_lines sk_entry sk_lang sk_live_lines",
     "The graph, and clusters that merge": "sk_orient sk_graph sk_family sk_rules sk_triangles sk_neighbours"
@@ -17,6 +19,7 @@ READING = {
     "The program": "sk_request sk_cli sketch sk_c",
     "Tests": "sk_test_units sk_test_tables sk_test_runs",
 }
+"""The crates in the order of reading, by what they are about."""
 BEFORE = """\
 # The crates, in the order of reading
 
@@ -26,37 +29,36 @@ For whoever looks for the crate that has something: what each does, which words 
 """
 
 
-@dataclasses.dataclass(frozen=True)
+@dataclass(frozen=True)
 class Head:
-    """What the head of a README says of its crate; `defines` is empty where contracts above cite nothing of it."""
+    """What the head of a README says of its crate; `defines` may be empty."""
 
     does: str
     defines: str
     proves: str
 
 
-def head_of(crate):
+def head_of(crate: str) -> Head:
     """The head of the crate's README. Raises ValueError where it isn't of the form."""
-    text = (CRATES / crate / "README.md").read_text()
-    title, first, table = text.split("\n\n")[:3]
+    title, first, table = (CRATES / crate / "README.md").read_text().split("\n\n")[:3]
     sentence = re.match(r".*?\.(?=\s|$)", first.replace("\n", " "))
     rows = dict(re.findall(r"^\| (defines|proves) \| (.*) \|$", table, re.MULTILINE))
     if not title.startswith("# ") or sentence is None or "proves" not in rows:
-        raise ValueError(f"crates/{crate}/README.md: no first sentence, or no table of what it defines and proves")
+        raise ValueError(f"crates/{crate}/README.md: no first sentence, or no table of what it proves")
     return Head(sentence[0], rows.get("defines", ""), rows["proves"])
 
 
-def row(crate):
+def row(crate: str) -> str:
     """The row of a crate."""
     head = head_of(crate)
     return f"| [`{crate}`](../crates/{crate}/README.md) | {head.does} | {head.defines} | {head.proves} |"
 
 
-def page():
-    """The page. Raises ValueError where READING hasn't each crate just once, or a README's head isn't of the form."""
+def page() -> str:
+    """The page. Raises ValueError where READING hasn't each crate just once, or a head isn't of the form."""
     read = " ".join(READING.values()).split()
     if sorted(read) != sorted(it.name for it in CRATES.iterdir() if (it / "src").is_dir()):
-        raise ValueError("tools/crates_page.py: READING has not each crate just once")
+        raise ValueError("tools/crates_page.py: READING hasn't each crate just once")
     parts = [BEFORE]
     for title, crates in READING.items():
         rows = "\n".join(row(it) for it in crates.split())
