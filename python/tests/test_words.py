@@ -18,6 +18,7 @@ from pertxogai.language.refusal import Code
 from pertxogai.program import Program, Status
 
 sys.path.insert(0, str(TOP / "tools"))
+import crates_page  # noqa: E402
 from words import table  # noqa: E402
 
 LANGUAGE = (TOP / "docs" / "LANGUAGE.md").read_text()
@@ -111,6 +112,24 @@ def test_each_word_of_a_line_is_one_of_the_language(
 def test_what_is_made_of_the_table_is_up_to_date() -> None:
     for name, text in script("pages").pages().items():
         assert (TOP / name).read_text() == text, f"{name}: run tools/pages"
+
+
+HEADS = [
+    "# a\n\nNo table.\n\n## Next\n",
+    "# a\n\nNo end of a sentence\n\n| | |\n|---|---|\n| proves | nothing |\n",
+    "# a\n\nNothing of proofs.\n\n| | |\n|---|---|\n| defines | words |\n",
+]
+
+
+@pytest.mark.parametrize("text", HEADS)
+def test_a_head_of_another_form_is_refused_by_name(
+    text: str, tmp_path: Path, monkeypatch: pytest.MonkeyPatch
+) -> None:
+    (tmp_path / "a").mkdir()
+    (tmp_path / "a" / "README.md").write_text(text)
+    monkeypatch.setattr(crates_page, "CRATES", tmp_path)
+    with pytest.raises(ValueError, match=r"crates/a/README\.md"):
+        crates_page.head_of("a")
 
 
 @pytest.mark.skipif(shutil.which("man") is None, reason="Debian's man-db is missing")
