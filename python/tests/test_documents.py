@@ -71,6 +71,18 @@ def test_a_table_names_the_modules_of_a_crate(crate: Path) -> None:
     assert sorted(re.findall(r"`(\w+)`", " ".join(cells))) == sorted(modules(crate))
 
 
+def calls(crate: Path) -> list[str]:
+    """The functions that a crate shows, but for those of its types."""
+    shown = re.findall(r"^pub use [\w:]+?::(\w+|\{[^}]*\});", (crate / "src" / "lib.rt").read_text(), re.MULTILINE)
+    return [name for names in shown for name in re.findall(r"\w+", names) if name.islower()]
+
+
+@pytest.mark.parametrize("crate", [it for it in CRATES if (it / "src" / "lib.rt").exists()], ids=lambda it: it.name)
+def test_each_call_that_a_crate_shows_is_on_its_page(crate: Path) -> None:
+    named = re.findall(r"`([^`\n]+)`", (crate / "README.md").read_text())
+    assert set(calls(crate)) <= {word for it in named for word in re.findall(r"\w+", it)}
+
+
 def test_the_first_page_is_short() -> None:
     assert len((TOP / "README.md").read_text().splitlines()) <= 200
 
