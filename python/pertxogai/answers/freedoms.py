@@ -34,21 +34,22 @@ WAYS: dict[Line, Way] = {X_AXIS: (ONE, ZERO), Y_AXIS: (ZERO, ONE)}
 
 @dataclass(frozen=True)
 class Whole:
-    """How the whole may still be moved against the datum: along x, along y, in how many ways
-    without turning, of two, and in how many with it, of three."""
+    """How the whole may still be moved against the datum: along x, along y, in how many ways that
+    differ by where they take a point, of three, and whether one of these is a turn."""
 
     along_x: bool
     along_y: bool
-    shifts: int
     ways: int
+    turns: bool
 
     def text(self) -> str:
         """What it may be, as one says it; nothing where it is tied."""
+        shifts = self.ways - self.turns
         along = ""
-        if self.shifts == 1:
+        if shifts == 1:
             along = " along x" if self.along_x else " along y" if self.along_y else ""
-        found = [f"moved{along}"] if self.shifts else []
-        return " and ".join([*found, *(["turned"] if self.ways > self.shifts else [])])
+        found = [f"moved{along}"] if shifts else []
+        return " and ".join([*found, *(["turned"] if self.turns else [])])
 
 
 @dataclass(frozen=True)
@@ -238,16 +239,24 @@ class _Places:
 
     def whole(self, slopes: Iterable[Mapping[Hashable, int]]) -> Whole:
         """How the whole may be moved: by which motions no equation changes, and no point of it
-        that is the origin."""
-        changes = [[_change(slope, motion) for motion in (self._shift(False), self._shift(True),
-                                                          self._turn())] for slope in slopes]
+        that is the origin. A motion is so far along x, along y, and about the origin; two are one
+        where they take each point the same way, as a turn about the only point is none."""
+        motions = self._shift(False), self._shift(True), self._turn()
+        changes = [[_change(slope, motion) for motion in motions] for slope in slopes]
         if any(knot == ORIGIN_KNOT and ref != ORIGIN for ref, knot in self.facts.refs.items()):
             changes += [[1, 0, 0], [0, 1, 0]]
-        x, y = (not any(each[place] for each in changes) for place in (0, 1))
-        return Whole(x, y, 2 - _rank(each[:2] for each in changes), 3 - _rank(changes))
+        moves = [[motion.get(key, 0) for motion in motions] for key in motions[0]]
+        ways = _rank([*changes, *moves]) - _rank(changes)
+        along_x, along_y, about = (not any(each[place] for each in changes) for place in range(3))
+        shifts = 2 - _rank(each[:2] for each in changes)
+        # A point that has its distance from the origin alone turns about it, and isn't moved.
+        only_turns = ways == 1 and about and not along_x and not along_y
+        return Whole(along_x, along_y, ways, ways > shifts or only_turns)
 
     def _shift(self, upwards: bool) -> dict[Hashable, int]:
-        return {Coordinate(DATUM, upwards, knot): 1 for knot in self._spots}
+        """So far along an axis, of each coordinate of each point but the origin."""
+        return {Coordinate(DATUM, each, knot): int(each == upwards)
+                for knot in self._spots.keys() - {ORIGIN_KNOT} for each in (False, True)}
 
     def _turn(self) -> dict[Hashable, int]:
         """A turn about the origin."""
