@@ -74,6 +74,16 @@ def test_what_moves_the_whole_is_no_dimension_that_is_missing() -> None:
     assert (alone.lacks, alone.excess) == (0, 0)
 
 
+@pytest.mark.parametrize("text", [
+    # The end of L has two freedoms, and its direction takes one.
+    "segment L Origin 40 40\nangle L 45deg\n",
+    # Two points have four freedoms; a direction, a level and a length take three.
+    "segment L Origin 40 40\nsegment M L.end 70 40\nangle L 45deg\nhorizontal M\nlength M 30\n",
+])
+def test_a_shape_that_begins_in_the_origin_may_not_be_moved(text: str) -> None:
+    assert plate_of(text).truth.lacks == 1
+
+
 def test_an_answer_that_is_so() -> None:
     assert causes(plate_of()) == set()
     assert causes(plate_of(PLATE.replace("x Hole 45\n", "")), 1, verdict="open", lacks=1) == set()

@@ -152,10 +152,12 @@ def _excess(blocks: list[Matrix], number: int) -> int:
 
 
 def _moves(model: Model, at: Vector, whole: Matrix) -> int:
-    """In how many ways the whole may be moved and turned."""
+    """In how many ways the whole may be moved and turned: where a drawn point is the origin, it
+    may be turned alone."""
     moves = np.zeros((3, model.index.size))
+    is_pinned = any(unknown == "Origin" != name for name, unknown in model.sheet.unknown.items())
     for place in model.index.points.values():
-        moves[0, place] = moves[1, place + 1] = 1
+        moves[0, place] = moves[1, place + 1] = int(not is_pinned)
         moves[2, place], moves[2, place + 1] = -at[place + 1].real, at[place].real
     sizes = np.linalg.norm(whole, axis=1, keepdims=True)
     turned = (whole / np.where(sizes > ZERO, sizes, 1)) @ moves.T
