@@ -331,20 +331,19 @@ def _named(words: list[str], kind: str) -> set[tuple[str, ...]]:
 def _turns_alike(model: Model, exact: Vector) -> bool:
     """Whether each three points are drawn the way round that they lie, so that the drawing chooses
     the shape that was meant wherever its words leave two."""
-    def spots(at: Vector) -> Vector:
-        plane = model.plane(at)
-        return np.array([complex(x.real, y.real) for x, y in map(plane.spot, model.sheet.drawn)])
-
-    drawn = spots(model.index.vector(model.sheet.drawn, model.sheet.radii))
-    before, after = _turns(spots(exact)), _turns(drawn)
+    drawn = model.index.vector(model.sheet.drawn, model.sheet.radii)
+    before, after = turns(model, exact), turns(model, drawn)
     return not ((np.abs(before) > HOLDS_MM) & (before * after <= 0)).any()
 
 
-def _turns(spots: Vector) -> Matrix:
-    """For each three points twice their triangle's area, above 0 where they go round to the left."""
+def turns(model: Model, at: Vector) -> Matrix:
+    """For each three points twice their triangle's area at a vector, above 0 where they go round to
+    the left."""
+    plane = model.plane(at)
+    spots = np.array([complex(x.real, y.real) for x, y in map(plane.spot, model.sheet.drawn)])
     ways = spots[None, :] - spots[:, None]
-    turns: Matrix = (np.conj(ways)[:, :, None] * ways[:, None, :]).imag
-    return turns
+    found: Matrix = (np.conj(ways)[:, :, None] * ways[:, None, :]).imag
+    return found
 
 
 def _holds(model: Model, exact: Vector, wrong: frozenset[str]) -> bool:
@@ -358,4 +357,4 @@ def _holds(model: Model, exact: Vector, wrong: frozenset[str]) -> bool:
     return all(abs(row.off) < HOLDS_MM for row in model.ruler.implied(plane))
 
 
-__all__ = ["Index", "Kind", "Made", "NotMade", "Sheet", "made"]
+__all__ = ["Index", "Kind", "Made", "NotMade", "Sheet", "made", "turns"]

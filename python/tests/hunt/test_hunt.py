@@ -91,11 +91,38 @@ def test_an_answer_that_is_so() -> None:
 
 def test_a_word_that_is_off_is_found() -> None:
     assert max(each.nm for each in offs(PLATE, placed(999))) == pytest.approx(999)
-    assert causes(plate_of(), places=placed(999)) == set()
-    assert causes(plate_of(), places=placed(2500)) == {Cause.GOOD_BUT_OFF}
+    assert causes(plate_of(), places=placed(1003)) == set()
+    assert causes(plate_of(), places=placed(1020)) == {Cause.GOOD_BUT_OFF}
     tilted = "segment A 0 0 40 0\nangle A 30deg\n"
-    at = {"A": {"start": {"x_nm": 0, "y_nm": 0}, "end": {"x_nm": 40 * 10 ** 6, "y_nm": 0}}}
-    assert offs(tilted, at)[0].ppb == pytest.approx(0.5e9)
+    assert offs(tilted, level_edge(40, 0))[0].ppb == pytest.approx(0.5e9)
+
+
+def level_edge(length_mm: int, end_y_nm: int) -> dict[str, object]:
+    """The places of a segment A from the origin, of which the end lies so high."""
+    end = {"x_nm": length_mm * 10 ** 6, "y_nm": end_y_nm}
+    return {"A": {"start": {"x_nm": 0, "y_nm": 0}, "end": end}}
+
+
+@pytest.mark.parametrize("length_mm, end_y_nm, is_off", [
+    (4, 900, True),  # 225,000 parts per 10^9 of a short edge
+    (4, 6, False),  # 1,500 of them, which is rounding
+    (4, 9, True),
+    (1000, 900, False),  # 900 of them
+    (1000, 1100, True),
+])
+def test_a_direction_is_off_by_its_parts_per_billion(length_mm: int, end_y_nm: int, is_off: bool) -> None:
+    text = f"segment A 0 0 {length_mm} 0\ncoincident A.start Origin\nhorizontal A\nlength A {length_mm}\n"
+    found = causes(plate_of(text), places=level_edge(length_mm, end_y_nm))
+    assert (Cause.GOOD_BUT_OFF in found) is is_off
+
+
+def test_a_part_that_lies_mirrored_is_found() -> None:
+    """Each corner of the plate, drawn above its lower edge, lies as far below it."""
+    places: dict[str, object] = {
+        name: {end: {"x_nm": x * 10 ** 6, "y_nm": -y * 10 ** 6} for end, (x, y) in zip(("start", "end"), ends)}
+        for name, ends in CORNERS.items()}
+    plain = PLATE[:PLATE.index("circle")] + PLATE[PLATE.index("coincident"):PLATE.index("x Hole")]
+    assert causes(plate_of(plain), places=places) == {Cause.GOOD_BUT_TURNED_OVER}
 
 
 def test_a_verdict_that_is_not_so_is_found() -> None:
@@ -105,6 +132,7 @@ def test_a_verdict_that_is_not_so_is_found() -> None:
     assert causes(whole, 1, verdict="open", lacks=1) == {Cause.LACKS_UNTRUE}
     assert causes(loose) == {Cause.WELL_LACKS, Cause.GOOD_BUT_LACKS}
     assert causes(loose, 1, verdict="open", lacks=2) == {Cause.LACKS_UNTRUE}
+    assert causes(loose, 1, verdict="open", lacks=0) == {Cause.LACKS_UNTOLD}
     assert causes(twice) == {Cause.REPEAT_SILENT}
     assert causes(twice, repeats=["constraint 11 (length PlateTop 120)"]) == set()
     assert causes(twice, 1, verdict="over", spare=[]) == {Cause.OVER_UNLISTED}

@@ -9,16 +9,22 @@ from typing import Any
 import numpy as np
 
 from .asking import Answer
-from .making import Made
-from .plane import Plane, Vector, real
-from .reading import Spot, Word, read
+from .making import Made, turns
+from .plane import Plane, Vector, real, size
+from .reading import LEVELS, Spot, Word, read
 from .rows import Row
 from .truth import Model, Untold, truth
 
 LIMIT_NM = LIMIT_PPB = 1000.0
-SLACK = 2.0
+SLACK, SLACK_NM = 1.01, 3.0
 """Floats, and places that were rounded to whole nanometres, may be off by so much more."""
+ROUNDING_NM, ROUNDING_PPB = 4.0, 1e7
+"""On a line so short that whole nanometres turn it by more than the limit, an end that lies so near is
+right; no line is so short that this turns it further."""
 NM = 1e6
+STEP_MM = 1e-6
+FLAT_MM2 = 1e-6
+"""Three points of which the triangle is no larger lie on one line."""
 
 
 class Cause(Enum):
@@ -27,6 +33,7 @@ class Cause(Enum):
     GOOD_BUT_OFF = "good, and a word is off"
     GOOD_BUT_SIZELESS = "good, and a circle's size follows from nothing"
     GOOD_BUT_LACKS = "good, and dimensions are missing"
+    GOOD_BUT_TURNED_OVER = "good, and mirrored against the drawing"
     WELL_LACKS = "well, and dimensions are missing"
     WELL_CONTRADICTS = "well, and its words contradict each other"
     REPEAT_SILENT = "well, and a repeat is passed over in silence"
@@ -34,6 +41,7 @@ class Cause(Enum):
     OVER_UNLISTED = "over, and nothing is listed that may go"
     NEEDED_LISTED = "what is needed is listed as what may go"
     LACKS_UNTRUE = "lacks so many, which isn't so"
+    LACKS_UNTOLD = "open, and it isn't told that dimensions are missing"
     REPEAT_CALLED_CONFLICT = "a repeat is called a contradiction"
     CONFLICT_CALLED_REPEAT = "a contradiction is called a repeat"
     CONFLICT_SILENT = "a contradiction is passed over in silence"
@@ -94,6 +102,18 @@ def _good(made: Made, answer: Answer) -> Iterator[Found]:
         yield Found(Cause.GOOD_BUT_SIZELESS, " ".join(sorted(sizeless)))
     elif made.truth.lacks:
         yield Found(Cause.GOOD_BUT_LACKS, f"{made.truth.lacks}")
+    if _is_turned_over(made.text, answer.said.get("places") or {}):
+        yield Found(Cause.GOOD_BUT_TURNED_OVER)
+
+
+def _is_turned_over(text: str, places: dict[str, Any]) -> bool:
+    """Whether each three points that don't lie on one line go round the other way than they are
+    drawn."""
+    model = Model.of(read(text))
+    drawn, placed = (turns(model, at) for at in (model.index.vector(model.sheet.drawn, model.sheet.radii),
+                                                 _vector(model, places)))
+    told = (np.abs(drawn) > FLAT_MM2) & (np.abs(placed) > FLAT_MM2)
+    return bool(told.any()) and not (drawn * placed > 0)[told].any()
 
 
 def _well(made: Made, answer: Answer) -> Iterator[Found]:
@@ -113,6 +133,8 @@ def _open(made: Made, answer: Answer) -> Iterator[Found]:
     lacks = answer.said["by_rank"]["lacks"]
     if lacks and lacks != made.truth.lacks:
         yield Found(Cause.LACKS_UNTRUE, f"told {lacks}, true {made.truth.lacks}")
+    elif lacks != made.truth.lacks:
+        yield Found(Cause.LACKS_UNTOLD, f"true {made.truth.lacks}")
     if made.contradicts() and not _speaks(answer):
         yield Found(Cause.CONFLICT_SILENT, _listed(made, made.truth.spare))
 
@@ -196,8 +218,17 @@ def offs(text: str, places: dict[str, Any]) -> list[Off]:
     found = [_off(f"the shapes of {text[:20]}..", row) for row in model.ruler.implied(plane)]
     found += _shared(model, places)
     for word in model.sheet.words:
-        found += [_off(_told(model, word), row) for row in model.ruler.rows(plane, word)]
+        found += [_off(_told(model, word), row) for row in _measured(model, plane, word)]
     return sorted(found, key=lambda each: -each.beyond)
+
+
+def _measured(model: Model, plane: Plane, word: Word) -> list[Row]:
+    """The numbers of a word: a level edge is off by its direction."""
+    rows = model.ruler.rows(plane, word)
+    if word.kind not in LEVELS or len(word.names) > 1:
+        return rows
+    arm = max(real(size(plane.way(word.names[0]))), STEP_MM)
+    return [Row(row.off / arm, arm) for row in rows]
 
 
 def _told(model: Model, word: Word) -> str:
@@ -209,9 +240,10 @@ def _off(line: str, row: Row) -> Off:
     if row.arm is None:
         return Off(line, off * NM, None, off * NM / LIMIT_NM)
     sine = 2 - off if row.backward else off
-    # A direction of a short line is as exact as its ends are.
     arm = row.arm if np.isfinite(row.arm) else 1e3
-    return Off(line, sine * arm * NM, sine * 1e9, min(sine * arm * NM / LIMIT_NM, sine * 1e9 / LIMIT_PPB))
+    nm, ppb = sine * arm * NM, sine * 1e9
+    is_rounding = nm <= ROUNDING_NM + SLACK_NM and ppb <= ROUNDING_PPB
+    return Off(line, nm, ppb, 0.0 if is_rounding else ppb / LIMIT_PPB)
 
 
 def _vector(model: Model, places: dict[str, Any]) -> Vector:
