@@ -1,15 +1,12 @@
 #!/usr/bin/env python3
-"""Checks a claim about a sketch by whole numbers alone.
-
-    sketch_claim.py [--explain] [FILE]     reads FILE, or standard input
+"""Checks a claim about a sketch by whole numbers alone: sketch_claim.py [--explain] [FILE], or standard input.
 
 The input is a sketch up to its `end`, and behind it a claim: the steps of a construction, a place for each element, and
 two tolerances. The answer is that of `sketch verify`, in the same words and with the same status:
-
     0  verified steps K length T nm angle W ppb     1  refused line N CODE word     9  verify fails WHAT
 
-With --explain, lines before it say what was computed of each step, constraint and sign. Status 3 says that FILE can't be
-read. README.md beside this file says what an accepted claim means."""
+With --explain, lines before it say what was computed of each step, constraint and sign. Status 2 is for other words than
+these, 3 where FILE can't be read. README.md beside this file says what an accepted claim means."""
 import re
 import sys
 from collections import namedtuple
@@ -341,10 +338,13 @@ def answer(data, explain=lambda said: None):
 
 
 if __name__ == "__main__":
-    files = [word for word in sys.argv[1:] if word != "--explain"]
+    files = sys.argv[2:] if sys.argv[1:2] == ["--explain"] else sys.argv[1:]
+    if len(files) > 1 or files and files[0].startswith("-"):
+        print("usage: sketch_claim.py [--explain] [FILE]", file=sys.stderr)
+        sys.exit(2)
     try:
         data = (open(files[0], "rb") if files else sys.stdin.buffer).read(2**20 + 1)
     except OSError: sys.exit(3)
-    status, line = answer(data, print if "--explain" in sys.argv else lambda said: None)
+    status, line = answer(data, print if "--explain" in sys.argv[1:2] else lambda said: None)
     print(line)
     sys.exit(status)

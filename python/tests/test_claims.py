@@ -154,6 +154,25 @@ def test_both_explain_each_step_each_constraint_and_each_sign(program: Program, 
         assert explained([in_c], data) == checkers.explained(data)
 
 
+@pytest.mark.parametrize("more", [["one", "two"], ["--explain", "one", "two"], ["--help"],
+                                  ["--explain", "--explain"], ["one", "--explain"]])
+def test_other_words_than_one_file_are_told_the_usage(more: list[str], in_c: Path) -> None:
+    for words in ([sys.executable, checkers.CHECKER / "sketch_claim.py"], [in_c]):
+        run = subprocess.run([*words, *more], input=TRIANGLE.encode(), capture_output=True, check=False)
+        assert (run.returncode, run.stdout) == (2, b"")
+        assert run.stderr.startswith(b"usage: sketch_claim")
+        assert run.stderr.endswith(b" [--explain] [FILE]\n")
+
+
+def test_a_file_is_read_as_standard_input_is(in_c: Path, tmp_path: Path) -> None:
+    claim = tmp_path / "a.claim"
+    claim.write_text(TRIANGLE)
+    for words in ([sys.executable, checkers.CHECKER / "sketch_claim.py"], [in_c]):
+        for path, status, said in ((claim, 0, f"{VERIFIED}\n"), (tmp_path / "none", 3, "")):
+            run = subprocess.run([*words, path], capture_output=True, check=False, text=True)
+            assert (run.returncode, run.stdout) == (status, said)
+
+
 def test_it_is_one_file_of_at_most_350_lines_on_the_standard_library() -> None:
     source = Path(checkers.CHECKER, "sketch_claim.py").read_text().splitlines()
     assert len(source) <= 350
