@@ -12,7 +12,7 @@ from pathlib import Path
 
 import pytest
 
-from pertxogai.answers import Asked, ask_styles
+from pertxogai.answers import Asked, Question, ask_styles
 from pertxogai.answers.solution import solution_of
 from pertxogai.drawing import Drawing, read_drawing
 from pertxogai.measure import Unit, greatest, measure
@@ -67,7 +67,7 @@ class Case:
 @pytest.fixture(scope="module", params=SHOWN)
 def case(request, program):
     drawing = read_drawing((DRAWINGS / f"{request.param}.drawing").read_text())
-    asked = ask_styles(drawing, program, False)
+    asked = ask_styles(Question(drawing, program))
     assert isinstance(asked.solved, Solved)
     return Case(drawing, asked)
 

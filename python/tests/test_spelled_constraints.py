@@ -8,7 +8,7 @@ from __future__ import annotations
 
 import pytest
 
-from pertxogai.answers.asking import ask
+from pertxogai.answers.asking import Question, ask
 from pertxogai.answers.solution import solution_of
 from pertxogai.drawing import read_drawing
 from pertxogai.measure import Unit, measure
@@ -120,7 +120,7 @@ def test_constraint_in_each_style(case, program):
 
 def measured(drawing, style: Style, program) -> bool:
     """Whether the style is well and placed; what is placed is within 2 nm of all constraints."""
-    asked = ask(axes_of(drawing), style, program)
+    asked = ask(Question(drawing, program), axes_of(drawing), style)
     answer = program.ask(["solve"], asked.spelled.sketch.text())
     if asked.verdict is not Verdict.WELL or answer.status is not Status.DONE:
         return False

@@ -11,7 +11,7 @@ from math import atan, cos, pi, sin
 import pytest
 
 from pertxogai.answers import judge
-from pertxogai.answers.asking import Place, ask, placed
+from pertxogai.answers.asking import Place, Question, ask, placed
 from pertxogai.answers.solution import solution_of
 from pertxogai.drawing import Degrees, PointRef, Slope, Which, read_drawing, um_of_mm
 from pertxogai.language import Angle
@@ -138,7 +138,7 @@ def ref_of(word: str) -> PointRef:
 @pytest.mark.parametrize("case, style", NAMED)
 def test_a_word_is_well_and_placed(case, style, program):
     drawing = read_drawing(case.text)
-    asked = placed(ask(axes_of(drawing), style, program), program)
+    asked = placed(ask(Question(drawing, program), axes_of(drawing), style), program)
     assert asked.verdict is Verdict.WELL, asked.spelled.sketch.text()
     assert isinstance(asked.solved, Solved) and asked.place is Place.BOXES, asked.solved
     solution = solution_of(drawing, asked, asked.solved)

@@ -1,6 +1,6 @@
 """What a designer is told: the program's answers with the drawing's names, and what a person asks
 next."""
-from pertxogai.answers.asking import Asked, Place, ask_styles
+from pertxogai.answers.asking import Asked, Place, Question, ask_styles
 from pertxogai.answers.excess import Excess, Rest, TooMuch, too_much
 from pertxogai.answers.faults import Amount, Failure
 from pertxogai.answers.judgement import (
@@ -12,6 +12,6 @@ from pertxogai.answers.surplus import Surplus, Then
 from pertxogai.answers.warnings import Departure, Warning
 
 __all__ = ["Amount", "Asked", "Departure", "DrawingRefused", "Excess", "Failure", "Joint",
-           "Judgement", "LeftOut", "Missing", "Names", "Piece", "Place", "Rest", "Surplus", "Then",
+           "Judgement", "LeftOut", "Missing", "Names", "Piece", "Place", "Question", "Rest", "Surplus", "Then",
            "Tie", "TooMuch", "Warning", "ask_styles", "judge", "judge_at_once", "too_much",
            "weighed", "with_choices", "with_counts"]

@@ -10,11 +10,13 @@ from enum import Enum
 from itertools import islice
 
 from pertxogai.answers.contradicting import contradictions, too_many
+from pertxogai.answers.freedoms import freedoms
 from pertxogai.answers.freezing import frozen_choices
 from pertxogai.answers.growing import growths
 from pertxogai.answers.within import within
 from pertxogai.drawing import Drawing
 from pertxogai.language import Refusal
+from pertxogai.measure import Limit
 from pertxogai.program import Asks, Status
 from pertxogai.reports import (
     CheckReport, Fault, NotAReport, Part, Refused, Solved, Verdict, read_answer, read_check,
@@ -39,6 +41,15 @@ class Place(Enum):
 
     BOXES = "boxes"
     POINTS = "points"
+
+
+@dataclass(frozen=True)
+class Question:
+    """A drawing that a program is asked about, and within what it has to hold."""
+
+    drawing: Drawing
+    program: Asks
+    limit: Limit = Limit()
 
 
 @dataclass(frozen=True)
@@ -69,8 +80,8 @@ class Asked:
         return () if self.check is None else self.check.parts
 
 
-def ask_styles(drawing: Drawing, program: Asks, freeze: bool,
-               before: Drawing = Drawing(), quick: bool = False) -> Asked:
+def ask_styles(question: Question, freeze: bool = False, before: Drawing = Drawing(),
+               quick: bool = False) -> Asked:
     """The first reading and style that is well and placed; else one that is well; else one that is
     over; else the one with the fewest parts. With `freeze`, what is open is asked again with
     lengths and radii as they are drawn. What an edit has left of the drawing before isn't spelled
@@ -78,22 +89,22 @@ def ask_styles(drawing: Drawing, program: Asks, freeze: bool,
     none is called well then."""
     best: Asked | None = None
     seen: list[list[Equation]] = []
-    for spellings in readings(drawing, before):
+    for spellings in readings(question.drawing, before):
         if spellings.axes.equations in seen:
             continue
         seen.append(spellings.axes.equations)
-        asked = _best_style(spellings, program, quick)
+        asked = _best_style(question, spellings, quick)
         if isinstance(asked.solved, Solved):
             return asked
         if best is None or _worth(asked) > _worth(best):
             best = asked
     assert best is not None
     if freeze and best.verdict is Verdict.OPEN:
-        return _frozen(best, program)
+        return _frozen(question, best)
     return best
 
 
-def _best_style(spellings: Spellings, program: Asks, quick: bool) -> Asked:
+def _best_style(question: Question, spellings: Spellings, quick: bool) -> Asked:
     """The first style that is placed, else the best; what is linear and told twice is told so to
     the program. What is open isn't asked again with its lines in another order: which parts remain
     doesn't depend on that, as is proved."""
@@ -105,7 +116,7 @@ def _best_style(spellings: Spellings, program: Asks, quick: bool) -> Asked:
         lines = sorted(spelled.sketch.text().splitlines())
         if lines in still_open:
             continue
-        asked = placed(_ask(rails, spelled, program, Care()), program)
+        asked = placed(_ask(question, rails, spelled, Care()), question.program)
         if asked.verdict is Verdict.OPEN and not asked.grown:
             still_open.append(lines)
         if twice and asked.verdict is Verdict.WELL:
@@ -117,7 +128,7 @@ def _best_style(spellings: Spellings, program: Asks, quick: bool) -> Asked:
             best = asked
     if best is not None and (best.verdict is Verdict.OVER or not twice):
         return best
-    return placed(ask(axes, Style.VALUES, program, Care(insist=True)), program)
+    return placed(ask(question, axes, Style.VALUES, Care(insist=True)), question.program)
 
 
 def _styles(spellings: Spellings, styles: Sequence[Style]) -> Iterator[tuple[Rails, Spelled]]:
@@ -131,30 +142,31 @@ def _styles(spellings: Spellings, styles: Sequence[Style]) -> Iterator[tuple[Rai
             yield spellings.rails(style), spelled
 
 
-def finer(asked: Asked, program: Asks) -> Asked:
+def finer(question: Question, asked: Asked) -> Asked:
     """The same with angles told as finely as can be, where that is still well and placed."""
     if not asked.spelled.coarse:
         return asked
-    fine = placed(ask(asked.axes, asked.spelled.style, program, Care(fine=True)), program)
+    fine = placed(ask(question, asked.axes, asked.spelled.style, Care(fine=True)),
+                  question.program)
     return replace(fine, grown=asked.grown + fine.grown,
                    frozen=asked.frozen) if _worth(fine) >= _worth(asked) else asked
 
 
-def ask(axes: Axes, style: Style, program: Asks, care: Care = Care()) -> Asked:
+def ask(question: Question, axes: Axes, style: Style, care: Care = Care()) -> Asked:
     """One style, with what grows from placed parts."""
     rails = Rails(axes, style)
-    return _ask(rails, written(axes, rails, style, care), program, care)
+    return _ask(question, rails, written(axes, rails, style, care), care)
 
 
-def _ask(rails: Rails, spelled: Spelled, program: Asks, care: Care) -> Asked:
+def _ask(question: Question, rails: Rails, spelled: Spelled, care: Care) -> Asked:
     """One spelling, and those in which more is told by what the program has placed."""
-    asked = _answered(rails, spelled, program)
+    asked = _answered(rails, spelled, question.program)
     for _ in range(ROUNDS):
-        more = _grown(asked, program, care) if asked.verdict is Verdict.OPEN else None
+        more = _grown(asked, question.program, care) if asked.verdict is Verdict.OPEN else None
         if more is None:
             break
         asked = more
-    return _contradicted(asked, program, care)
+    return _contradicted(question, asked, care)
 
 
 def _grown(asked: Asked, program: Asks, care: Care) -> Asked | None:
@@ -174,28 +186,30 @@ def _grown(asked: Asked, program: Asks, care: Care) -> Asked | None:
     return found
 
 
-def _contradicted(asked: Asked, program: Asks, care: Care) -> Asked:
+def _contradicted(question: Question, asked: Asked, care: Care) -> Asked:
     """The same; where something couldn't be spelled, and contradicts what is placed, with that
-    told so."""
+    told so. What says nothing that others say contradicts none, by rank: it has no shape."""
     if not asked.spelled.left_out or asked.verdict is Verdict.OVER:
         return asked
-    off = _off(asked, program)
+    free = freedoms(question.drawing)
+    off = tuple(each for each in _off(question, asked)
+                if free is None or each.owners & free.among())
     if not off:
         return asked
     spelled = written(asked.axes, asked.rails, asked.spelled.style, replace(care, off=off))
-    return replace(_answered(asked.rails, spelled, program), grown=asked.grown, off=off)
+    return replace(_answered(asked.rails, spelled, question.program), grown=asked.grown, off=off)
 
 
-def _off(asked: Asked, program: Asks) -> tuple[Contradiction, ...]:
+def _off(question: Question, asked: Asked) -> tuple[Contradiction, ...]:
     """What couldn't be spelled and contradicts what is placed, by boxes or by points. Where what is
     well has no places, what of it is too many by rank."""
     for place in Place:
         keys = f"place={place.value}", within(asked.spelled)
         text = asked.spelled.sketch.text()
-        report = read_parts(written_by(program, "parts", text, *keys))
+        report = read_parts(written_by(question.program, "parts", text, *keys))
         if asked.verdict is Verdict.OPEN or isinstance(report.parts[0].shape, Solved):
-            return contradictions(asked.rails, asked.spelled, report)
-    return tuple(too_many(asked.axes, asked.spelled))
+            return contradictions(asked.rails, asked.spelled, report, question.limit)
+    return tuple(too_many(question.drawing, asked.spelled))
 
 
 def written_by(program: Asks, command: str, text: str, *keys: str) -> str:
@@ -256,14 +270,14 @@ def counted(asked: Asked, program: Asks) -> Asked:
     return replace(asked, check=check)
 
 
-def _frozen(asked: Asked, program: Asks) -> Asked:
+def _frozen(question: Question, asked: Asked) -> Asked:
     """What is open, with one length or radius after the other as drawn, while that leaves fewer
     parts."""
     for _ in range(FREEZES):
         best = asked
         for choice in frozen_choices(asked.axes, asked.rails):
-            trial = ask(choice.axes, asked.spelled.style, program)
-            trial = replace(placed(trial, program), grown=asked.grown + trial.grown,
+            trial = ask(question, choice.axes, asked.spelled.style)
+            trial = replace(placed(trial, question.program), grown=asked.grown + trial.grown,
                             frozen=asked.frozen | {choice.owner})
             if trial.verdict is not Verdict.OVER and _worth(trial) > _worth(best):
                 best = trial

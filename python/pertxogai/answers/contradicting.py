@@ -5,24 +5,23 @@ from __future__ import annotations
 from collections.abc import Iterator
 from fractions import Fraction
 
-from pertxogai.answers.freedoms import freedoms_of
+from pertxogai.answers.freedoms import freedoms
 from pertxogai.answers.growing import distance, measured
 from pertxogai.answers.placing import Plate
-from pertxogai.measure.limit import DEFAULT
+from pertxogai.drawing import Drawing
+from pertxogai.drawing.places import NM_PER_UM
+from pertxogai.measure import Limit
 from pertxogai.reports import PartsReport, Solved
-from pertxogai.spelling.axes import Axes
 from pertxogai.spelling.facts import Middle, Owner
 from pertxogai.spelling.rails import Rails, Span
 from pertxogai.spelling.writing import Contradiction, Spelled
 from pertxogai.values import Form, LinearSystem, Number
 
-REPEATS_UM = Fraction(DEFAULT, 1000)
-"""What is off by no more repeats the others: the limit of `excess`."""
-
-
-def contradictions(rails: Rails, spelled: Spelled,
-                   report: PartsReport) -> tuple[Contradiction, ...]:
-    """What couldn't be spelled, and is off by the parts that are placed."""
+def contradictions(rails: Rails, spelled: Spelled, report: PartsReport,
+                   limit: Limit) -> tuple[Contradiction, ...]:
+    """What couldn't be spelled, and is off by the parts that are placed; what is off within the
+    limit repeats the others."""
+    repeats_um = Fraction(limit.amount, NM_PER_UM)
     known = LinearSystem()
     for number, form in enumerate(measured(rails, spelled, report)):
         known.add(form, number)
@@ -32,21 +31,21 @@ def contradictions(rails: Rails, spelled: Spelled,
         rest = known.reduced(form)
         if rest.terms:
             known.add(form, -1)
-        elif not -REPEATS_UM <= rest.number <= REPEATS_UM and owners & spelled.left_out:
+        elif not -repeats_um <= rest.number <= repeats_um and owners & spelled.left_out:
             found.append(Contradiction(rest.number, owners, said - owners))
     told = frozenset[Owner]().union(*(each.owners for each in found))
     return (*found, *(Contradiction(off, frozenset({owner}), said - {owner})
                       for owner, off in _middles(rails, spelled, report)
-                      if off > REPEATS_UM and owner in spelled.left_out - told))
+                      if off > repeats_um and owner in spelled.left_out - told))
 
 
-def too_many(axes: Axes, spelled: Spelled) -> Iterator[Contradiction]:
+def too_many(drawing: Drawing, spelled: Spelled) -> Iterator[Contradiction]:
     """Each constraint, and each arc of which the ends couldn't be spelled, though the rest is just
     enough, and one is too many of those by rank: nothing tells how far it is off. Else it may say
     where the whole lies, as a mirror in an axis that nothing else is told from."""
     said = spelled.left_out.union(*spelled.owners)
-    free = freedoms_of(axes)
-    among = frozenset[Owner]().union(*(free.excess if free is not None else ()))
+    free = freedoms(drawing)
+    among = free.among() if free is not None else frozenset[Owner]()
     for owner in sorted(spelled.left_out & among):
         if owner.number:
             yield Contradiction(None, frozenset({owner}), said - {owner})

@@ -11,14 +11,12 @@ from pertxogai import language
 from pertxogai.answers.asking import Place, written_by
 from pertxogai.answers.naming import Names
 from pertxogai.answers.own_lines import off_um
-from pertxogai.measure.limit import DEFAULT
+from pertxogai.measure import Limit
+from pertxogai.measure.limit import MOST
 from pertxogai.program import Asks
 from pertxogai.reports import Excessive, OverPart, read_excess
 from pertxogai.spelling.facts import Owner
 
-REPEATS_NM = REPEATS_PPB = DEFAULT
-"""What is off by no more nanometres of the drawing, or an angle by no more parts per 10^9, repeats
-the others: the limit that the language has where none is told."""
 CHOICES = 4
 """So many more choices of what is left out are tried at most, where the others have no places."""
 
@@ -57,23 +55,25 @@ class TooMuch:
     helps: int = 0
 
 
-def too_much(names: Names, program: Asks, dispensable: Collection[int] = ()) -> TooMuch:
+def too_much(names: Names, program: Asks, dispensable: Collection[int] = (),
+             limit: Limit = Limit()) -> TooMuch:
     """What is left out of a drawing: the last dimensions without which the others have places;
     where no such are found without more lines of help, the last ones. `dispensable`: the places
     of dimensions of which each may go by itself, so that it isn't needed in part where it is the
-    only one that is left out; several needn't go together. Raises ProgramError."""
-    first = found = _choice(names, program, dispensable, frozenset())
+    only one that is left out; several needn't go together. What is off within the limit repeats the
+    others. Raises ProgramError."""
+    first = found = _choice(names, program, dispensable, frozenset(), limit)
     kept: frozenset[int] = frozenset()
     for _ in range(CHOICES):
         if found.rest is not Rest.NO_PLACES:
             break
         kept |= {each.number for each in found.dimensions if each.conflicts is None}
-        found = _choice(names, program, dispensable, kept)
+        found = _choice(names, program, dispensable, kept, limit)
     return found if found.rest is Rest.PLACED and found.helps <= first.helps else first
 
 
 def _choice(names: Names, program: Asks, dispensable: Collection[int],
-            kept: Collection[int]) -> TooMuch:
+            kept: Collection[int], limit: Limit) -> TooMuch:
     """What is left out where the program is asked with the lines of the sketch in the order of the
     dimensions that say them, since it leaves out the last ones; with the lines of help, and those
     that are to be kept where they can be, first."""
@@ -83,8 +83,8 @@ def _choice(names: Names, program: Asks, dispensable: Collection[int],
                    key=lambda place: (said[place] not in {0, *kept}, said[place]))
     lines = tuple(spelled.sketch.constraints[place] for place in order)
     sketch = replace(spelled.sketch, constraints=lines)
-    parts = _over_parts(sketch, REPEATS_NM * spelled.scale, program)
-    measured = _angles_by_their_limit(sketch, spelled.scale, _left_out(parts), program)
+    parts = _over_parts(sketch, min(MOST, limit.amount * spelled.scale), program)
+    measured = _angles_by_their_limit(sketch, spelled.scale, _left_out(parts), program, limit)
     left = {order[each.number - 1]: each for each in measured}
     helps = sum(said[place] == 0 for place in left)
     found = tuple(_dimensions(names, left))
@@ -117,12 +117,13 @@ def _said_by(owners: frozenset[Owner]) -> int:
 
 
 def _angles_by_their_limit(sketch: language.Sketch, scale: int, left: Sequence[Excessive],
-                           program: Asks) -> Sequence[Excessive]:
+                           program: Asks, limit: Limit) -> Sequence[Excessive]:
     """What is left out by the limit of lengths, which grows with the sketch, that is so many times
     as large as the drawing; the angles as the program measures them by their own."""
     if scale == 1 or not any(map(_is_angle, left)):
         return left
-    strict = {each.number: each for each in _left_out(_over_parts(sketch, REPEATS_PPB, program))}
+    strict = {each.number: each
+              for each in _left_out(_over_parts(sketch, limit.amount, program))}
     return [strict[each.number] if _is_angle(each) else each for each in left]
 
 

@@ -3,7 +3,8 @@ from __future__ import annotations
 
 from dataclasses import dataclass, replace
 
-from pertxogai.answers.asking import Asked, Place, ask_styles, counted, finer, written_by
+from pertxogai.answers.asking import (
+    Asked, Place, Question, ask_styles, counted, finer, written_by)
 from pertxogai.answers.faults import Failure, failure
 from pertxogai.answers.limits import check_fits
 from pertxogai.answers.missing import Missing, loose, missing
@@ -17,7 +18,6 @@ from pertxogai.answers.within import Wider, within
 from pertxogai.choices import Tried, beneath, tried
 from pertxogai.drawing import Circle, Drawing, moved
 from pertxogai.measure import Deviation, Limit, Solution, Unit, measure
-from pertxogai.measure.limit import DEFAULT
 from pertxogai.program import Asks
 from pertxogai.reports import Shape, Solved, Verdict, read_plan
 from pertxogai.spelling.facts import RadiusOf
@@ -25,9 +25,6 @@ from pertxogai.spelling.style import Style
 
 FINE_NM = 2
 """What is off by more is asked for again with finer angles."""
-HOLDS = DEFAULT
-"""What was left out holds where it is off by no more nanometres, or parts per 10^9: then it repeats
-the rest, by the limit that `too_much` has."""
 
 
 @dataclass(frozen=True)
@@ -37,10 +34,11 @@ class LeftOut:
 
     name: str
     off: Deviation | None
+    limit: Limit = Limit()
 
     def holds(self) -> bool:
-        """Whether it was measured, and holds within the limit."""
-        return self.off is not None and self.off.amount <= HOLDS
+        """Whether it was measured, and holds within the limit: then it repeats the rest."""
+        return self.off is not None and self.off.amount <= self.limit.amount
 
 
 @dataclass(frozen=True)
@@ -55,7 +53,8 @@ class Judgement:
     rounded. grown: those told by a value that was read off a placed part. repeats: those that tell
     of one point that it is itself. unsized: where it is placed, the circles of which neither a
     dimension nor the places tell the size. tried: where it is well and has no places, or some that
-    don't meet a constraint, what came of other choices of the steps of its construction."""
+    don't meet a constraint, what came of other choices of the steps of its construction. limit:
+    within what each constraint has to hold."""
 
     verdict: Verdict
     asked: Asked
@@ -69,6 +68,7 @@ class Judgement:
     warnings: tuple[Warning, ...] = ()
     unsized: tuple[str, ...] = ()
     tried: Tried | None = None
+    limit: Limit = Limit()
 
     @property
     def style(self) -> Style:
@@ -100,8 +100,8 @@ class Judgement:
         """What couldn't be spelled, as it was measured all the same."""
         owners = sorted(each for each in self.asked.spelled.left_out if each.number)
         return tuple(LeftOut(self.names.owner(each),
-                             None if each.shape else worst(self.deviations, each.number))
-                     for each in owners)
+                             None if each.shape else worst(self.deviations, each.number),
+                             self.limit) for each in owners)
 
     @property
     def frozen(self) -> tuple[str, ...]:
@@ -153,12 +153,12 @@ def judge(drawing: Drawing, program: Asks, freeze: bool = False,
     is placed too where that is wider than the language's own. `freeze`: whether lengths and radii
     that nothing tells may be taken as they are drawn. Raises as `judge_at_once`."""
     asks = Remembering(Wider(program, limit))
-    judged = with_counts(judge_at_once(drawing, asks, freeze), asks)
-    return with_choices(weighed(judged, asks), asks, limit)
+    judged = with_counts(judge_at_once(drawing, asks, freeze, limit=limit), asks)
+    return with_choices(weighed(judged, asks), asks)
 
 
 def judge_at_once(drawing: Drawing, program: Asks, freeze: bool = False,
-                  before: Drawing = Drawing()) -> Judgement:
+                  before: Drawing = Drawing(), limit: Limit = Limit()) -> Judgement:
     """The same, but that the counts of what is well aren't asked for, and that what may go is
     named as the program names it, and not measured: that takes many more questions. `before`: the
     drawing that an edit has made this one from. Raises ProgramError; DrawingRefused where the
@@ -167,38 +167,38 @@ def judge_at_once(drawing: Drawing, program: Asks, freeze: bool = False,
     larger than the language holds."""
     moved(drawing, before)  # From then on the drawing has the meetings of the one before.
     check_fits(drawing)
-    asked = ask_styles(drawing, program, freeze, before)
+    asked = ask_styles(Question(drawing, program, limit), freeze, before)
     names = Names(drawing, asked.spelled, asked.axes.facts.refs)
-    judged = Judgement(asked.verdict, asked, names)
+    judged = Judgement(asked.verdict, asked, names, limit=limit)
     if asked.check is None:
         return _placed(judged, before, program)
     if asked.verdict is Verdict.OPEN:
-        return replace(judged, missing=missing(names, asked.check))
+        return replace(judged, missing=missing(names, asked.check, asked.axes.repeats()))
     return replace(judged, surplus=tuple(Surplus(number, drawing.called(number), None)
-                                         for number in spare_at_once(asked, program)))
+                                         for number in spare_at_once(drawing, asked, program)))
 
 
-def with_choices(judged: Judgement, program: Asks, limit: Limit = Limit()) -> Judgement:
+def with_choices(judged: Judgement, program: Asks) -> Judgement:
     """The judgement with what comes of other choices of its steps: of those beneath a step that
     fails, and of all where a constraint isn't met. Raises ProgramError."""
     if judged.verdict is not Verdict.WELL or judged.asked.solved is None:
         return judged
-    if judged.solution is not None and not any(limit.beyond(judged.deviations)):
+    if judged.solution is not None and not any(judged.limit.beyond(judged.deviations)):
         return judged
     text = judged.asked.spelled.sketch.text()
     plan = read_plan(written_by(program, "plan", text))
     steps = plan.steps if judged.failure is None else beneath(plan, judged.failure.fault)
     keys = [f"place={judged.place.value}", within(judged.asked.spelled)]
     found = tried(judged.asked.spelled.sketch, steps, program, keys,
-                  lambda shape: _is_met(judged, shape, limit))
+                  lambda shape: _is_met(judged, shape))
     return replace(judged, tried=replace(found, scale=judged.asked.spelled.scale))
 
 
-def _is_met(judged: Judgement, shape: Shape, limit: Limit) -> bool:
+def _is_met(judged: Judgement, shape: Shape) -> bool:
     """Whether each constraint of a drawing is met where a shape of its sketch lies."""
     drawing = judged.names.drawing
     solution = solution_of(drawing, judged.asked, shape)
-    return not any(limit.beyond(measure(drawing, solution)))
+    return not any(judged.limit.beyond(measure(drawing, solution)))
 
 
 def with_counts(judged: Judgement, program: Asks) -> Judgement:
@@ -213,7 +213,7 @@ def _placed(judged: Judgement, before: Drawing, program: Asks) -> Judgement:
         judged = _measured(judged, before)
         if not any(each.amount > FINE_NM for each in judged.deviations):
             return judged
-        asked = finer(judged.asked, program)
+        asked = finer(Question(judged.names.drawing, program, judged.limit), judged.asked)
         if asked is judged.asked:
             return judged
         fine = _measured(replace(judged, asked=asked,
@@ -245,8 +245,8 @@ def weighed(judged: Judgement, program: Asks) -> Judgement:
     `judge_at_once`."""
     if judged.verdict is not Verdict.OVER:
         return judged
-    drawing, asked = judged.names.drawing, judged.asked
-    return replace(judged, surplus=what_may_go(drawing, asked, program),
+    drawing = judged.names.drawing
+    return replace(judged, surplus=what_may_go(Question(drawing, program, judged.limit), judged.asked),
                    loose=loose(judged.names))
 
 

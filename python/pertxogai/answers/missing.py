@@ -2,12 +2,14 @@
 pieces."""
 from __future__ import annotations
 
+from collections.abc import Collection
 from dataclasses import dataclass
 from enum import Enum
 
 from pertxogai.answers.freedoms import Whole, freedoms
 from pertxogai.answers.naming import Names
 from pertxogai.reports import CheckReport, Part
+from pertxogai.spelling.facts import Owner
 
 
 class Tie(Enum):
@@ -54,9 +56,9 @@ class Missing:
     excess: tuple[tuple[str, ...], ...] = ()
 
 
-def missing(names: Names, check: CheckReport) -> Missing:
+def missing(names: Names, check: CheckReport, repeats: Collection[Owner] = ()) -> Missing:
     """What is missing: how much, by the rank of what the drawing says; and between which of the
-    program's parts."""
+    program's parts. repeats: what is said to repeat others already."""
     free = freedoms(names.drawing)
     pieces = tuple(Piece(part.number, names.elements(part.elements)) for part in check.parts)
     shown = [place for place, piece in enumerate(pieces) if piece.elements]
@@ -64,8 +66,9 @@ def missing(names: Names, check: CheckReport) -> Missing:
     shown_pieces = tuple(pieces[place] for place in shown)
     if free is None:
         return Missing(0, shown_pieces, joints)
+    numbers = {owner.number for owner in repeats if not owner.shape}
     excess = tuple(names.owners(owner for owner in each if not owner.shape)
-                   for each in free.excess)
+                   for each in free.too_many(numbers))
     return Missing(free.lacks, shown_pieces, joints, free.whole, tuple(filter(None, excess)))
 
 
@@ -74,9 +77,7 @@ def loose(names: Names) -> tuple[str, ...]:
     free = freedoms(names.drawing)
     if free is None or len(names.spelled.points) < 3:
         return ()
-    firsts = {knot: ref for ref, knot in reversed(names.refs.items())}
-    return tuple(each.text(str(firsts[each.knot])) for each in free.loose
-                 if each.knot in firsts)
+    return tuple(each.text() for each in free.loose)
 
 
 def _joint(names: Names, parts: tuple[Part, ...], pieces: tuple[Piece, ...], shown: list[int],
