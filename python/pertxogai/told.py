@@ -2,15 +2,16 @@
 
 from __future__ import annotations
 
-from collections.abc import Iterator
+from collections.abc import Iterator, Sequence
 
-from pertxogai.answers import Judgement, Surplus
+from pertxogai.answers import Judgement, Surplus, Then
 from pertxogai.drawing import Circle, Drawing, PointRef
 from pertxogai.drawing.geometry import Arc
 from pertxogai.choices import tried_json, tried_lines
 from pertxogai.good import Lack, reasons_against, reasons_json
 from pertxogai.judged_drawing import JudgedDrawing
-from pertxogai.measure import Deviation, Solution
+from pertxogai.measure import Deviation, Solution, Unit, amount_text
+from pertxogai.measure.limit import units_text
 from pertxogai.reports import CheckReport, Part, Solved
 from pertxogai.upright import upright
 
@@ -133,8 +134,7 @@ def _left_out_lines(judgement: Judgement) -> Iterator[str]:
         if each.off is None:
             yield f"  left out: {each.name}"
         elif not each.holds():
-            yield (f"  left out: {each.name}, and measured: off by {each.off.amount} "
-                   f"{each.off.unit.value}")
+            yield f"  left out: {each.name}, and measured: off by {amount_text(each.off)}"
 
 
 def _placed_lines(judged: JudgedDrawing) -> Iterator[str]:
@@ -142,12 +142,13 @@ def _placed_lines(judged: JudgedDrawing) -> Iterator[str]:
     solved = judged.judgement.asked.solved
     if judged.judgement.solution is None or not isinstance(solved, Solved):
         return
-    yield (f"  placed within {judged.judgement.length_tolerance_nm} nm and "
-           f"{solved.angle_tolerance_ppb} ppb")
+    tolerance_nm = judged.judgement.length_tolerance_nm
+    assert tolerance_nm is not None
+    yield (f"  placed within {units_text(tolerance_nm, Unit.NM)} and "
+           f"{units_text(solved.angle_tolerance_ppb, Unit.PPB)}")
     off = [each for each in judged.worst() if each.amount]
     for each in off:
-        yield (f"  measured: at most {each.amount} {each.unit.value} off, "
-               f"{each.called(judged.drawing)}")
+        yield f"  measured: at most {amount_text(each)} off, {each.called(judged.drawing)}"
     if not off:
         yield "  measured: each constraint holds exactly"
 
@@ -196,14 +197,24 @@ def _surplus_lines(judgement: Judgement) -> Iterator[str]:
     """What may go, how far it is off, and what the rest is then."""
     yield from (f"  over as it was measured, which isn't certified: {what} can't be spelled, and the "
                 "rest is enough" for what in judgement.measured_off)
-    if judgement.surplus:
-        yield ("  what to do: take one of these away, and ask again (each was tried; what is needed "
-               "by rank isn't listed)")
+    yield from _advice_on(judgement.surplus)
     for each in judgement.surplus:
-        off = "" if each.off is None else f": off by {each.off.amount} {each.off.unit.value}"
+        off = "" if each.off is None else f": off by {amount_text(each.off)}"
         then = "" if each.then is None else f"; the rest is {each.then.value} without it"
         yield f"    {each.name}{off}{then}"
     yield from (f"  lacks a dimension all the same: {what} (by rank)" for what in judgement.loose)
+
+
+def _advice_on(surplus: Sequence[Surplus]) -> Iterator[str]:
+    """What to do with what may go."""
+    if surplus and all(each.then is Then.OVER for each in surplus):
+        yield "  what to do: none of these is enough by itself; take one away, and ask again"
+    elif any(each.then is None for each in surplus):
+        yield ("  what to do: take one of these away, and ask again (what is needed by rank isn't "
+               "listed; the first were tried)")
+    elif surplus:
+        yield ("  what to do: take one of these away, and ask again (each was tried; what is needed "
+               "by rank isn't listed)")
 
 
 def _check(judgement: Judgement) -> CheckReport:
