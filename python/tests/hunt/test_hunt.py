@@ -144,12 +144,16 @@ def listed(number: int, repeats: bool | None) -> dict[str, object]:
 
 def test_what_is_listed_wrongly_is_found() -> None:
     twice = plate_of(PLATE + "length PlateTop 120\n", Kind.REPEATED)
-    assert causes(twice, 1, verdict="over", spare=[listed(11, True)]) == set()
-    assert causes(twice, 1, verdict="over", spare=[listed(11, True), listed(7, None)]) == {Cause.NEEDED_LISTED}
-    assert causes(twice, 1, verdict="over", spare=[listed(11, False)]) == {Cause.REPEAT_CALLED_CONFLICT}
+    # Of the two widths and the two uprights each may go.
+    rest = [listed(number, None) for number in (2, 4, 6)]
+    assert causes(twice, 1, verdict="over", spare=[*rest, listed(11, True)]) == set()
+    assert causes(twice, 1, verdict="over", spare=rest) == {Cause.SPARE_UNLISTED}
+    needed = [*rest, listed(11, True), listed(7, None)]
+    assert causes(twice, 1, verdict="over", spare=needed) == {Cause.NEEDED_LISTED}
+    assert causes(twice, 1, verdict="over", spare=[*rest, listed(11, False)]) == {Cause.REPEAT_CALLED_CONFLICT}
     against = Made(Kind.CONTRADICTING, 0, twice.text.replace("Top 120", "Top 130"), twice.exact, twice.truth,
                    frozenset({"length PlateTop 130"}))
-    assert causes(against, 1, verdict="over", spare=[listed(11, True)]) == {Cause.CONFLICT_CALLED_REPEAT}
+    assert causes(against, 1, verdict="over", spare=[*rest, listed(11, True)]) == {Cause.CONFLICT_CALLED_REPEAT}
     assert causes(against, 1, verdict="open", lacks=0) == {Cause.CONFLICT_SILENT}
     assert causes(against, 1) == {Cause.WELL_CONTRADICTS}
 

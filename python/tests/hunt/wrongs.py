@@ -39,6 +39,7 @@ class Cause(Enum):
     REPEAT_SILENT = "well, and a repeat is passed over in silence"
     OVER_INDEPENDENT = "over, and nothing is said twice"
     OVER_UNLISTED = "over, and nothing is listed that may go"
+    SPARE_UNLISTED = "over, and what may go by itself isn't listed"
     NEEDED_LISTED = "what is needed is listed as what may go"
     LACKS_UNTRUE = "lacks so many, which isn't so"
     LACKS_UNTOLD = "open, and it isn't told that dimensions are missing"
@@ -145,8 +146,11 @@ def _over(made: Made, answer: Answer) -> Iterator[Found]:
     if not made.truth.excess:
         yield Found(Cause.OVER_INDEPENDENT)
         return
+    left = _unlisted(made, spare)
     if not spare:
         yield Found(Cause.OVER_UNLISTED)
+    elif left:
+        yield Found(Cause.SPARE_UNLISTED, _listed(made, left))
     needed = [each["name"] for each in spare if _is_needed(made, each["number"])]
     if needed:
         yield Found(Cause.NEEDED_LISTED, "; ".join(needed))
@@ -188,10 +192,9 @@ def _listed(made: Made, numbers: frozenset[int]) -> str:
     return "; ".join(sheet.lines[sheet.words[number - 1].line] for number in sorted(numbers))
 
 
-def missed(made: Made, answer: Answer) -> int:
-    """How many words that may go by themselves aren't listed, where a verdict is `over`."""
-    numbers = {each["number"] for each in answer.names("spare")}
-    return len(made.truth.alone - numbers) if answer.verdict == "over" else 0
+def _unlisted(made: Made, spare: list[dict[str, Any]]) -> frozenset[int]:
+    """The words that may go by themselves and aren't listed."""
+    return made.truth.alone - {each["number"] for each in spare}
 
 
 @dataclass(frozen=True)
@@ -271,4 +274,4 @@ def _shared(model: Model, places: dict[str, Any]) -> list[Off]:
     return found
 
 
-__all__ = ["Cause", "Found", "Off", "Plane", "Reach", "missed", "offs", "reach", "wrongs"]
+__all__ = ["Cause", "Found", "Off", "Plane", "Reach", "offs", "reach", "wrongs"]
