@@ -1,5 +1,5 @@
 from pertxogai.program import Program
-from pertxogai.reports import read_answer
+from pertxogai.program.reports import read_answer
 
 words, text = ["solve"], open("examples/triangle.sketch").read()
 answer = Program.find().ask(words, text)

@@ -1,5 +1,5 @@
-from pertxogai.answers import judge
 from pertxogai.drawing import read_drawing
+from pertxogai.judging import judge
 from pertxogai.program import Program
 
 plate = read_drawing("rectangle Plate 0 0 118 79\nlength PlateBottom 120\nlength PlateRight 80\n")

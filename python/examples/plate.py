@@ -1,8 +1,8 @@
 """A plate of a width and a height in mm, with a hole in its middle: plate.py 120 80"""
 import sys
 
-from pertxogai.answers import judge
 from pertxogai.drawing import PointRef, Which, read_drawing, write_drawing
+from pertxogai.judging import judge
 from pertxogai.program import Program
 
 WORDS = """

@@ -1,7 +1,7 @@
 """A triangle by its three sides, in mm: triangle.py 4 5 3 OUT.svg"""
 import sys
 
-from pertxogai.judged import concerned, judge_sketch
+from pertxogai.judging.judged_sketch import concerned, judge_sketch
 from pertxogai.language import Distance, Point, Sketch, micrometres
 from pertxogai.program import Program
 

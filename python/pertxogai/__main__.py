@@ -1,6 +1,6 @@
 """`python3 -m pertxogai`, which ./pertxogai calls."""
 import sys
 
-from .commands import main
+from pertxogai.commands import main
 
 sys.exit(main())

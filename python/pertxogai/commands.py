@@ -12,26 +12,27 @@ from enum import IntEnum
 from pathlib import Path
 from typing import TypeAlias
 
-from . import __version__
-from .answers import DrawingRefused, Judgement, judge
-from .certifying import NotAccepted, checked, claim_of, scale_of
-from .drawing_sheet import DrawingSheet, NoPlaces
-from .dxf import MissingLibrary, Release
-from .found import FileRefusal
-from .good import GoodJudgement, NotGood, good_of, good_sketch_of, reasons_against
-from .inputs import DesignerDrawing, Input, InputRefused, SketchText, kind_of, read_inputs
-from .judged import JudgedSketch, TextRefused, judge_sketch
-from .judged_drawing import JudgedDrawing
-from .language import NotHeld, Refusal
-from .measure import Limit
-from .measure.limit import DEFAULT, MOST as MOST_LIMIT
-from .page.command import add_page
-from .program import Asks, Program, ProgramError
-from .saving import saving
-from .shown import shown
-from .sketch_sheet import SketchSheet
-from .sketch_told import sketch_json, sketch_told
-from .told import drawing_json, told
+from pertxogai import __version__
+from pertxogai.board.command import add_page
+from pertxogai.files.atomic import written_whole
+from pertxogai.files.contents import FileRefusal
+from pertxogai.files.kinds import (
+    DesignerDrawing, Input, InputRefused, SketchText, kind_of, read_inputs)
+from pertxogai.files.printable import printable
+from pertxogai.judging import DrawingRefused, Judgement, judge
+from pertxogai.judging.claims import NotAccepted, checked, claim_of, scale_of
+from pertxogai.judging.good import GoodJudgement, NotGood, good_of, good_sketch_of, reasons_against
+from pertxogai.judging.judged_drawing import JudgedDrawing
+from pertxogai.judging.judged_sketch import JudgedSketch, TextRefused, judge_sketch
+from pertxogai.judging.measure import Limit
+from pertxogai.judging.measure.limit import DEFAULT, MOST as MOST_LIMIT
+from pertxogai.language import NotHeld, Refusal
+from pertxogai.output.drawing_sheet import DrawingSheet, NoPlaces
+from pertxogai.output.drawing_text import drawing_json, drawing_lines
+from pertxogai.output.dxf import MissingLibrary, Release
+from pertxogai.output.sketch_sheet import SketchSheet
+from pertxogai.output.sketch_text import sketch_json, sketch_lines
+from pertxogai.program import Program, ProgramError, Solver
 
 EPILOG = """exit status: 0 where all is good (the program says well and places it, every constraint is
 met within --within as it is measured, nothing is left out, every size is told), or is drawn as it
@@ -53,7 +54,7 @@ Commands: TypeAlias = "argparse._SubParsersAction[argparse.ArgumentParser]"
 class Exit(IntEnum):
     """The exit statuses of ./pertxogai."""
 
-    GOOD = 0  #: all is good, as `pertxogai.good` says it, or is drawn as it was asked for
+    GOOD = 0  #: all is good, as `pertxogai.judging.good` says it, or is drawn as it was asked for
     NOT_GOOD = 1  #: something isn't, and a line says what
     BAD_INPUT = 2  #: the words or a file can't be read, or nothing can be written
     NO_ANSWER = 3  #: the program gave no answer
@@ -90,7 +91,7 @@ def main(words: Sequence[str] | None = None) -> int:
 
 
 def _complain(error: Exception | str, status: Exit) -> Exit:
-    print(f"pertxogai: {shown(' '.join(str(error).split()))}", file=sys.stderr)
+    print(f"pertxogai: {printable(' '.join(str(error).split()))}", file=sys.stderr)
     return status
 
 
@@ -180,12 +181,12 @@ def _judge(options: argparse.Namespace) -> Exit:
         )
     else:
         for it in judged:
-            print("\n".join(sketch_told(it) if isinstance(it, JudgedSketch) else told(it)))
+            print("\n".join(sketch_lines(it) if isinstance(it, JudgedSketch) else drawing_lines(it)))
     return Exit.NOT_GOOD if any(map(reasons_against, judged)) else Exit.GOOD
 
 
 def _judged(
-    found: Input, program: Asks, options: argparse.Namespace
+    found: Input, program: Solver, options: argparse.Namespace
 ) -> JudgedSketch | JudgedDrawing:
     if isinstance(found, SketchText):
         return judge_sketch(found.name, found.text, program, options.within)
@@ -193,7 +194,7 @@ def _judged(
 
 
 def _judged_drawing(
-    found: DesignerDrawing, program: Asks, options: argparse.Namespace
+    found: DesignerDrawing, program: Solver, options: argparse.Namespace
 ) -> JudgedDrawing:
     return JudgedDrawing(
         found.name,
@@ -206,7 +207,7 @@ def _judged_drawing(
 
 
 def _judgement(
-    found: DesignerDrawing, program: Asks, options: argparse.Namespace
+    found: DesignerDrawing, program: Solver, options: argparse.Namespace
 ) -> Judgement:
     """The judgement on a drawing. Raises CommandError where no sketch can be made of it, or the
     program refuses the one that was made."""
@@ -253,7 +254,7 @@ def _draw(options: argparse.Namespace) -> Exit:
     found = _chosen(read_inputs(options.file), options.sketch)
     sheet = _sheet(found, options)
     text = sheet.picture().svg if suffix == ".svg" else _dxf(sheet, Release(options.release))
-    with saving(options.output, options.file) as file:
+    with written_whole(options.output, options.file) as file:
         file.write(text.encode("utf-8", "replace"))
     return Exit.GOOD if sheet.is_good() else Exit.NOT_GOOD
 
@@ -265,13 +266,13 @@ def _certify(options: argparse.Namespace) -> Exit:
     judged = _judged(found, program, options)
     good = good_sketch_of(judged) if isinstance(judged, JudgedSketch) else good_of(judged)
     if isinstance(good, NotGood):
-        print(shown(f"{judged.name}: isn't good, so no claim is written: {good}"))
+        print(printable(f"{judged.name}: isn't good, so no claim is written: {good}"))
         return Exit.NOT_GOOD
     try:
         claim = claim_of(good, program).text()
     except NotAccepted as error:
         raise CommandError(f"{judged.name}: {error}") from None
-    with saving(options.output, options.file) as file:
+    with written_whole(options.output, options.file) as file:
         file.write(claim.encode("ascii"))
     if scale_of(good) > 1:
         print(f"the sketch of the claim is {scale_of(good)} times as large as the drawing")

@@ -7,14 +7,14 @@ from fractions import Fraction
 
 import pytest
 
-from pertxogai.answers import Departure, DrawingRefused, Then, Tie, judge
-from pertxogai.answers.faults import Unit as Measure
-from pertxogai.answers.warnings import warnings
 from pertxogai.drawing import PointRef, Which, read_drawing
-from pertxogai.measure import Solution, Unit
-from pertxogai.reports import Verdict, read_excess
+from pertxogai.judging import DepartureKind, DrawingRefused, Then, Tie, judge
+from pertxogai.judging.departures import warnings
+from pertxogai.judging.faults import Unit as Measure
+from pertxogai.judging.measure import Solution, Unit
+from pertxogai.output.drawing_text import JudgedDrawing, drawing_json, drawing_lines
+from pertxogai.program.reports import Verdict, read_excess
 from pertxogai.spelling import Style
-from pertxogai.told import JudgedDrawing, drawing_json, told
 
 PLATE = """rectangle Plate 0 0 61 39
 coincident PlateBottom.start Origin
@@ -234,14 +234,14 @@ def test_an_edge_that_turned_about_is_warned_of(program):
             "length Base 40\nx Base.end Step.end -10\n")
     found = judge(read_drawing(text), program)
     assert [(each.departure, each.shapes)
-            for each in found.warnings] == [(Departure.TURNED, ("Step",))]
+            for each in found.warnings] == [(DepartureKind.TURNED, ("Step",))]
 
 
 def test_a_corner_on_the_other_side_is_warned_of(program):
     text = ("segment Base 0 0 40 0\nsegment Up Base.end 41 20\ncoincident Base.start Origin\nhorizontal Base\n"
             "length Base 40\ny Base.end Up.end -20\nvertical Up\n")
     found = judge(read_drawing(text), program)
-    assert Departure.OTHER_SIDE in [each.departure for each in found.warnings]
+    assert DepartureKind.OTHER_SIDE in [each.departure for each in found.warnings]
 
 
 CAM = """arc Base 0 0 -20 0 20 0
@@ -381,7 +381,7 @@ def test_a_drawing_of_too_many_points_is_refused_before_the_program_is_asked():
 
 def test_what_to_do_is_told_of_five_pairs_at_most(program):
     drawing = read_drawing("\n".join(f"point P{each} {each} {each * each}" for each in range(9)))
-    lines = list(told(JudgedDrawing("loose", drawing, judge(drawing, program))))
+    lines = list(drawing_lines(JudgedDrawing("loose", drawing, judge(drawing, program))))
     assert sum(line.startswith("  what to do: pieces 1 and") for line in lines) == 5
     assert lines[-1] == "  and 3 more pairs of pieces"
 

@@ -6,8 +6,8 @@ from pathlib import Path
 import pytest
 
 import checkers
-from pertxogai.certifying import checked
 from pertxogai.commands import main
+from pertxogai.judging.claims import checked
 from pertxogai.language import Claim
 from pertxogai.program import Program
 from test_claims import TRIANGLE

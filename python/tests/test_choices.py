@@ -5,19 +5,19 @@ import json
 from dataclasses import replace
 
 import pytest
-from conftest import TOP
 
-from pertxogai.answers import judge
-from pertxogai.choices import Tried, beneath, change, tried, tried_lines
+from conftest import TOP
 from pertxogai.commands import main
 from pertxogai.drawing import read_drawing
-from pertxogai.good import Lack, reasons_against
-from pertxogai.judged import judge_sketch
-from pertxogai.judged_drawing import JudgedDrawing
+from pertxogai.judging import judge
+from pertxogai.judging.choices import Tried, beneath, change, tried, tried_lines
+from pertxogai.judging.good import Lack, reasons_against
+from pertxogai.judging.judged_drawing import JudgedDrawing
+from pertxogai.judging.judged_sketch import judge_sketch
 from pertxogai.language import Sketch
+from pertxogai.output.drawing_text import drawing_json, drawing_lines
 from pertxogai.program import Answer, Status
-from pertxogai.reports import read_fault, read_plan
-from pertxogai.told import drawing_json, told
+from pertxogai.program.reports import read_fault, read_plan
 
 EXAMPLE = (TOP / "examples" / "faults" / "other-choice.sketch").read_text()
 """C is drawn above A B, and D below: 5.4 mm apart, so that nothing lies 2 mm from both. With C
@@ -151,7 +151,7 @@ def test_a_sketch_that_another_choice_places(program, monkeypatch, capsys, tmp_p
 def test_a_drawing_that_another_choice_places(program):
     drawing = read_drawing(LINES)
     judged = JudgedDrawing("it", drawing, judge(drawing, program))
-    lines = list(told(judged))
+    lines = list(drawing_lines(judged))
     assert "    draw C on the other side of the line through A and B" in lines
     assert drawing_json(judged)["other_choice"]["changes"] == [
         "draw C on the other side of the line through A and B"]
@@ -186,7 +186,7 @@ def test_where_no_choice_places_it_that_is_told(program):
     drawing = read_drawing(text)
     judged = JudgedDrawing("it", drawing, judge(drawing, program))
     assert judged.judgement.tried.found is None and judged.judgement.tried.whole
-    line, = (line for line in told(judged) if "no other choice" in line)
+    line, = (line for line in drawing_lines(judged) if "no other choice" in line)
     assert line.strip() == ("no other choice of the steps beneath has places that meet all of it: "
                             f"{judged.judgement.tried.lists} were tried, all")
 
@@ -199,4 +199,4 @@ def test_a_constraint_that_another_choice_meets(program):
     judged = JudgedDrawing("it", drawing, judge(drawing, program))
     assert [each.lack for each in reasons_against(judged)] == [Lack.OFF]
     assert judged.judgement.tried.lists > 0 and judged.judgement.tried.found is None
-    assert any("no other choice of its steps meets all of it" in line for line in told(judged))
+    assert any("no other choice of its steps meets all of it" in line for line in drawing_lines(judged))

@@ -10,8 +10,8 @@ from pathlib import Path
 
 import ezdxf
 import pytest
-from conftest import TOP
 
+from conftest import TOP
 from pertxogai.commands import main
 
 EXAMPLES = TOP / "examples"

@@ -16,13 +16,13 @@ from pathlib import Path
 
 import pytest
 
-from pertxogai.answers import Then, judge
 from pertxogai.drawing import (
     Coincident, Drawing, PointRef, Which, constraints, read_drawing, um_of_mm, write_drawing)
-from pertxogai.good import Lack, reasons_against
-from pertxogai.judged_drawing import JudgedDrawing
-from pertxogai.measure import Unit
-from pertxogai.reports import Verdict
+from pertxogai.judging import Then, judge
+from pertxogai.judging.good import Lack, reasons_against
+from pertxogai.judging.judged_drawing import JudgedDrawing
+from pertxogai.judging.measure import Unit
+from pertxogai.program.reports import Verdict
 
 DRAWINGS = sorted((Path(__file__).parent / "drawings").glob("*.drawing"))
 WITHIN_NM = 2

@@ -8,9 +8,9 @@ import ezdxf
 import pytest
 
 from pertxogai.drawing import read_drawing
-from pertxogai.dxf import MissingLibrary, Release, dxf_text, marks_of
-from pertxogai.picture import Bow, Dot, Ink, Manner, Ring, Stroke, scene_of_designed
-from pertxogai.reports import CircleEntity, LineEntity, PointEntity
+from pertxogai.output.dxf import MissingLibrary, Release, dxf_text, marks_of
+from pertxogai.output.picture import Bow, Dot, Ink, Manner, Ring, Stroke, scene_of_designed
+from pertxogai.program.reports import CircleEntity, LineEntity, PointEntity
 
 MARKS = (
     Dot((1, 2)),

@@ -9,13 +9,12 @@ from typing import Any
 
 import pytest
 
-from test_freecad import constraints, document, geometry, segment, written
-
-from pertxogai.answers import judge
 from pertxogai.commands import main
 from pertxogai.drawing import PointRef, Which, read_drawing
-from pertxogai.freecad import read_freecad
-from pertxogai.solvespace import read_solvespace
+from pertxogai.files.freecad import read_freecad
+from pertxogai.files.solvespace import read_solvespace
+from pertxogai.judging import judge
+from test_freecad import constraints, document, geometry, segment, written
 
 FILES = Path(__file__).parent / "files"
 MM = 1_000_000

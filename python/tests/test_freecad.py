@@ -11,23 +11,23 @@ from pertxogai.drawing import (
     Arc, Circle, Coincident, Degrees, Diameter, PointRef, Radius, Segment, Which, XDistance,
     YDistance)
 from pertxogai.drawing.soundness import faults
-from pertxogai.found import Apart, FileRefusal, FoundSketch
-from pertxogai.freecad import read_freecad
-from pertxogai.inputs import read_inputs
-from pertxogai.measure import Solution, Unit, greatest, measure
+from pertxogai.files.contents import FileRefusal, FileSketch, NotDrivingCause
+from pertxogai.files.freecad import read_freecad
+from pertxogai.files.kinds import read_inputs
+from pertxogai.judging.measure import Solution, Unit, greatest, measure
 
 FILES = Path(__file__).parent / "files"
 FACTS = [line.split() for line in (FILES / "freecad.facts").read_text().splitlines()]
 SOLVED = [(fact[0], fact[1]) for fact in FACTS if fact[3] == "0"]
 
 
-def found(file: str, sketch: str = "Sketch") -> FoundSketch:
+def found(file: str, sketch: str = "Sketch") -> FileSketch:
     """A sketch of a file of the stock."""
     sketches = {one.name: one for one in read_freecad(FILES / f"{file}.FCStd")}
     return sketches[sketch]
 
 
-def stored(one: FoundSketch) -> Solution:
+def stored(one: FileSketch) -> Solution:
     """The places that the file has, in nm."""
     drawing = one.drawing
     points = {}
@@ -93,12 +93,12 @@ def test_inches() -> None:
 def test_reference_dimensions_stand_aside() -> None:
     aside = found("reference").aside
     assert [(each.name, each.why) for each in aside] == [
-        ("diagonal", Apart.REFERENCE), ("Constraint13", Apart.REFERENCE)]
+        ("diagonal", NotDrivingCause.REFERENCE), ("Constraint13", NotDrivingCause.REFERENCE)]
     assert all(len(each.constraints) == 1 for each in aside)
 
 
 def test_what_was_switched_off_stands_aside() -> None:
-    assert [(each.number, each.why) for each in found("inactive").aside] == [(12, Apart.OFF)]
+    assert [(each.number, each.why) for each in found("inactive").aside] == [(12, NotDrivingCause.OFF)]
 
 
 def test_what_a_drawing_has_not_is_named() -> None:

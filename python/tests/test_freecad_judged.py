@@ -8,10 +8,10 @@ from pathlib import Path
 
 import pytest
 
-from pertxogai.answers import judge
-from pertxogai.freecad import read_freecad
-from pertxogai.measure import Unit
-from pertxogai.reports import Verdict
+from pertxogai.files.freecad import read_freecad
+from pertxogai.judging import judge
+from pertxogai.judging.measure import Unit
+from pertxogai.program.reports import Verdict
 
 FILES = Path(__file__).parent / "files"
 FREE_RADIUS = {"cam"}

@@ -10,10 +10,10 @@ from pathlib import Path
 import pytest
 
 from pertxogai.drawing import Arc, Circle, PointRef, Which
-from pertxogai.found import FileRefusal
-from pertxogai.freecad import read_freecad
-from pertxogai.freecad.writing import write_places
-from pertxogai.measure import Frame, Solution
+from pertxogai.files.contents import FileRefusal
+from pertxogai.files.freecad import read_freecad
+from pertxogai.files.freecad.writing import write_places
+from pertxogai.judging.measure import Frame, Solution
 
 FILES = Path(__file__).parent / "files"
 NAMES = sorted(path.stem for path in FILES.glob("*.FCStd") if path.stem != "empty")

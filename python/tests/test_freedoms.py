@@ -4,8 +4,8 @@ from __future__ import annotations
 
 import pytest
 
-from pertxogai.answers.freedoms import freedoms
 from pertxogai.drawing import read_drawing
+from pertxogai.judging.freedoms import freedoms
 
 TRIANGLE = ("segment A 0 0 40 2/segment B A.end 38 30/segment C B.end A.start/"
             "length A 40/length B 30/length C 45")

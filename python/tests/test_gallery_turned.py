@@ -7,7 +7,7 @@ import pytest
 
 from pertxogai.language import Circle, Line, PlacedLine, Point, Sketch
 from pertxogai.program import Status
-from pertxogai.reports import Solved, read_answer
+from pertxogai.program.reports import Solved, read_answer
 
 GALLERY = sorted((Path(__file__).parents[2] / "examples").glob("*.sketch"))
 WORDS = ["solve", "frame=drawn"]

@@ -7,20 +7,20 @@ from dataclasses import FrozenInstanceError, replace
 from pathlib import Path
 
 import pytest
-from conftest import TOP
 
-from pertxogai.answers import judge
+from conftest import TOP
 from pertxogai.commands import Exit, main
 from pertxogai.drawing import Drawing, PointRef, Which, read_drawing
-from pertxogai.drawing_sheet import DrawingSheet, NoPlaces
-from pertxogai.dxf import Release
-from pertxogai.good import (
+from pertxogai.judging import judge
+from pertxogai.judging.good import (
     GoodJudgement, GoodSketch, Lack, NotGood, good_of, good_sketch_of, reasons_against)
-from pertxogai.judged import judge_sketch
-from pertxogai.judged_drawing import JudgedDrawing
-from pertxogai.measure import Deviation, Limit, Solution, Unit, amount_text
-from pertxogai.measure.limit import is_direction
-from pertxogai.reports import Verdict
+from pertxogai.judging.judged_drawing import JudgedDrawing
+from pertxogai.judging.judged_sketch import judge_sketch
+from pertxogai.judging.measure import Deviation, Limit, Solution, Unit, amount_text
+from pertxogai.judging.measure.limit import is_direction
+from pertxogai.output.drawing_sheet import DrawingSheet, NoPlaces
+from pertxogai.output.dxf import Release
+from pertxogai.program.reports import Verdict
 
 FILES = Path(__file__).parent / "files"
 PLATE = ("rectangle Plate 0 0 61 39\ncircle Hole 30 20 5\ncoincident PlateBottom.start Origin\n"

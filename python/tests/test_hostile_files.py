@@ -11,11 +11,11 @@ from collections.abc import Callable
 from pathlib import Path
 
 import pytest
-from conftest import TOP
-from test_freecad import constraints, document, geometry, segment, written
 
-from pertxogai.freecad import read_freecad
-from pertxogai.inputs import InputRefused, read_inputs
+from conftest import TOP
+from pertxogai.files.freecad import read_freecad
+from pertxogai.files.kinds import InputRefused, read_inputs
+from test_freecad import constraints, document, geometry, segment, written
 
 MOST_SECONDS = 5
 MOST_MEMORY = 500 << 20

@@ -6,41 +6,12 @@ from decimal import Decimal
 from fractions import Fraction
 
 import pytest
-from conftest import EXAMPLES, ROWS, TOP, Row
 
+from conftest import EXAMPLES, ROWS, TOP, Row
 from pertxogai.language import (
-    Angle,
-    Ask,
-    Block,
-    BlockPlace,
-    Circle,
-    Claim,
-    ClusterName,
-    Code,
-    Distance,
-    Drop,
-    Erase,
-    Flip,
-    Flips,
-    Inside,
-    Line,
-    NotAName,
-    NotHeld,
-    Offer,
-    Offers,
-    On,
-    Outside,
-    Point,
-    Refusal,
-    Session,
-    SetLength,
-    SetRatio,
-    Sketch,
-    Tangent,
-    micrometres,
-    mm_text,
-    nearest_ratio,
-)
+    Angle, Ask, Block, BlockPlace, Circle, Claim, ClusterName, Code, Distance, Drop, Erase, Flip,
+    Flips, Inside, Line, NotAName, NotHeld, Offer, Offers, On, Outside, Point, Refusal, Session,
+    SetLength, SetRatio, Sketch, Tangent, micrometres, mm_text, nearest_ratio)
 from pertxogai.program import Status
 
 PARSERS = {"flips": Flips, "offers": Offers, "verify": Claim}

@@ -10,7 +10,7 @@ from math import isqrt
 import pytest
 
 from pertxogai.drawing import Arc, Circle, PointRef, Which, read_drawing
-from pertxogai.measure import (
+from pertxogai.judging.measure import (
     Because, Frame, MissingPlace, Solution, Unit, greatest, measure, measure_placed)
 
 SHAPES = """\

@@ -9,8 +9,8 @@ import pytest
 from pertxogai.drawing import (
     Arc, Coincident, Horizontal, Pair, Perpendicular, PointRef, ShapeRef, Tangent, Vertical, Which)
 from pertxogai.drawing.soundness import faults
-from pertxogai.found import FileRefusal
-from pertxogai.outline import Outline, read_outline
+from pertxogai.files.contents import FileRefusal
+from pertxogai.files.dxf import Outline, read_outline
 
 ezdxf = pytest.importorskip("ezdxf")
 START, END = Which.START, Which.END

@@ -6,35 +6,21 @@ import re
 import xml.etree.ElementTree as ElementTree
 
 import pytest
-from conftest import EXAMPLES, TOP
 
+from conftest import EXAMPLES, TOP
 from pertxogai.drawing import PointRef, Which, read_drawing
-from pertxogai.judged import judge_sketch
+from pertxogai.judging.judged_sketch import judge_sketch
+from pertxogai.judging.measure import Frame, Solution
 from pertxogai.language import Sketch
-from pertxogai.measure import Frame, Solution
-from pertxogai.picture import (
-    Bow,
-    Dot,
-    Ink,
-    LengthBar,
-    Manner,
-    Marking,
-    Ring,
-    Scene,
-    Square,
-    Stroke,
-    Tag,
-    picture_of,
-    picture_of_designed,
-    picture_of_drawing,
-    picture_of_parts,
-    picture_of_shape,
-)
-from pertxogai.picture.page import Figure, Page
-from pertxogai.picture.placed import LaidLine, Motion, as_drawn, as_placed, laid_on, segments
-from pertxogai.picture.plane import crosses, crossing, overlaps
-from pertxogai.picture.texts import Texts
-from pertxogai.reports import Spare, read_parts, read_solve
+from pertxogai.output.picture import (
+    Bow, Dot, Ink, LengthBar, Manner, Marking, Ring, Scene, Square, Stroke, Tag, picture_of,
+    picture_of_designed, picture_of_drawing, picture_of_parts, picture_of_shape)
+from pertxogai.output.picture.page import Figure, Page
+from pertxogai.output.picture.placed import (
+    LaidLine, Motion, as_drawn, as_placed, laid_on, segments)
+from pertxogai.output.picture.plane import crosses, crossing, overlaps
+from pertxogai.output.picture.texts import Texts
+from pertxogai.program.reports import Spare, read_parts, read_solve
 
 SVG = "{http://www.w3.org/2000/svg}"
 TRIANGLE = Sketch.parse(

@@ -12,12 +12,12 @@ from pathlib import Path
 
 import pytest
 
-from pertxogai.answers import Asked, Question, ask_styles
-from pertxogai.answers.solution import solution_of
 from pertxogai.drawing import Drawing, read_drawing
-from pertxogai.measure import Unit, greatest, measure
+from pertxogai.judging import Question, Trial, first_good
+from pertxogai.judging.measure import Unit, greatest, measure
+from pertxogai.judging.settled import solution_of
 from pertxogai.program import Status
-from pertxogai.reports import Solved, read_solve
+from pertxogai.program.reports import Solved, read_solve
 
 DRAWINGS = Path(__file__).parent / "drawings"
 SEEN_NM = 2
@@ -49,7 +49,7 @@ class Case:
     """A drawing that is well, and what the program was asked of it."""
 
     drawing: Drawing
-    asked: Asked
+    asked: Trial
 
     def seen(self, program, text: str) -> int | None:
         """The greatest deviation in nm where this text is placed; None where it isn't, or
@@ -67,7 +67,7 @@ class Case:
 @pytest.fixture(scope="module", params=SHOWN)
 def case(request, program):
     drawing = read_drawing((DRAWINGS / f"{request.param}.drawing").read_text())
-    asked = ask_styles(Question(drawing, program))
+    asked = first_good(Question(drawing, program))
     assert isinstance(asked.solved, Solved)
     return Case(drawing, asked)
 

@@ -9,21 +9,14 @@ from collections.abc import Callable
 from pathlib import Path
 
 import pytest
-from conftest import EXCERPTS, EXCESS_ROWS, FRAME_ROWS, LARGE_ROWS, ROWS, Row
 
-from pertxogai.library import BUILD, Library, quickest
-from pertxogai.program import BUILD as PROGRAM
+from conftest import EXCERPTS, EXCESS_ROWS, FRAME_ROWS, LARGE_ROWS, ROWS, Row
 from pertxogai.program import (
-    Answer,
-    MissingProgram,
-    Program,
-    ProgramCrashed,
-    ProgramError,
-    ProgramSpoke,
-    ProgramTimedOut,
-    Status,
-)
-from pertxogai.reports import NotAReport, read_answer
+    Answer, MissingProgram, Program, ProgramCrashed, ProgramError, ProgramSpoke, ProgramTimedOut,
+    Status)
+from pertxogai.program.library import BUILD, Library, quickest
+from pertxogai.program.reports import NotAReport, read_answer
+from pertxogai.program.running import BUILD as PROGRAM
 
 TRIANGLE = (
     "sketch 1\npoint A 0 0\npoint B 4 0\npoint C 4 3\n"
@@ -212,7 +205,7 @@ def test_a_program_that_wants_much_memory(tmp_path) -> None:
 def test_a_lower_limit_of_memory_is_kept(tmp_path) -> None:
     """A shell that allows less than the package asks for: `ulimit -v`, which no call may raise."""
     telling = script(tmp_path, "cat; ulimit -v")  # the limit stands before the text comes to its end
-    limited = ("ulimit -v 1000000; exec /usr/bin/python3 -c 'from pertxogai.process import *;"
+    limited = ("ulimit -v 1000000; exec /usr/bin/python3 -c 'from pertxogai.program.process import *;"
                "print(run_process([\"%s\"], b\"\", Limits(20, %s)).written.decode(), end=\"\")'")
     here = {**os.environ, "PYTHONPATH": str(PROGRAM.parents[3] / "python")}
     for mib, kib in (4096, 1_000_000), (64, 65_536):
@@ -222,7 +215,7 @@ def test_a_lower_limit_of_memory_is_kept(tmp_path) -> None:
 
 def test_a_worker_of_the_board_keeps_a_lower_limit_of_memory() -> None:
     here = {**os.environ, "PYTHONPATH": str(PROGRAM.parents[3] / "python")}
-    line = ("ulimit -v 1000000; exec /usr/bin/python3 -c 'from pertxogai.page.worker import limit_memory; import resource;"
+    line = ("ulimit -v 1000000; exec /usr/bin/python3 -c 'from pertxogai.board.worker import limit_memory; import resource;"
             "limit_memory(4096); print(resource.getrlimit(resource.RLIMIT_AS)[0] // 1024)'")
     assert subprocess.run(["sh", "-c", line], capture_output=True, text=True, env=here).stdout == "1000000\n"
 
@@ -235,7 +228,7 @@ def test_a_program_that_is_missing(tmp_path, monkeypatch) -> None:
     assert Program.find().path == str(tmp_path / "sketch")
     assert Program.find("/bin/cat").path == "/bin/cat"
     monkeypatch.delenv("PERTXOGAI_SKETCH")
-    monkeypatch.setattr("pertxogai.program.BUILD", tmp_path / "unbuilt")
+    monkeypatch.setattr("pertxogai.program.running.BUILD", tmp_path / "unbuilt")
     monkeypatch.setenv("PATH", str(tmp_path))
     assert Program.find().path == str(tmp_path / "sketch")
     monkeypatch.setenv("PATH", "/nowhere")
@@ -315,7 +308,7 @@ def test_the_library_behind_the_same_call(library: str, monkeypatch) -> None:
 def test_the_library_that_the_repository_builds(library: str, monkeypatch) -> None:
     assert BUILD == Path(__file__).resolve().parents[2] / "c" / "out" / "libsketch.so"
     monkeypatch.delenv("PERTXOGAI_LIBRARY", raising=False)
-    monkeypatch.setattr("pertxogai.library.BUILD", Path(library))
+    monkeypatch.setattr("pertxogai.program.library.BUILD", Path(library))
     assert Library.find().path == library
     monkeypatch.setenv("PERTXOGAI_LIBRARY", "gone.so")
     with pytest.raises(MissingProgram, match="gone.so"):
@@ -327,7 +320,7 @@ def test_a_library_that_is_none(monkeypatch, tmp_path) -> None:
         with pytest.raises(MissingProgram, match="no libsketch"):
             Library.find(path)
     monkeypatch.delenv("PERTXOGAI_LIBRARY", raising=False)
-    monkeypatch.setattr("pertxogai.library.BUILD", tmp_path / "unbuilt")
+    monkeypatch.setattr("pertxogai.program.library.BUILD", tmp_path / "unbuilt")
     monkeypatch.setattr("ctypes.util.find_library", lambda name: None)
     with pytest.raises(MissingProgram, match="c/build"):
         Library.find()

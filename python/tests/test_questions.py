@@ -6,18 +6,18 @@ from dataclasses import dataclass, field
 
 import pytest
 
-from pertxogai.answers import judge
 from pertxogai.drawing import read_drawing
-from pertxogai.measure import Limit
-from pertxogai.program import Answer, Asks
-from pertxogai.reports import Verdict
+from pertxogai.judging import judge
+from pertxogai.judging.measure import Limit
+from pertxogai.program import Answer, Solver
+from pertxogai.program.reports import Verdict
 
 
 @dataclass
 class Counts:
     """A program, and what it was asked."""
 
-    program: Asks
+    program: Solver
     asked: list[str] = field(default_factory=list)
 
     def ask(self, words: Sequence[str], text: str) -> Answer:
@@ -51,7 +51,7 @@ def test_what_contradicts_in_two_places_is_found_by_few_questions(program):
 class Keys:
     """A program, and the keys that it was asked with."""
 
-    program: Asks
+    program: Solver
     asked: set[str] = field(default_factory=set)
 
     def ask(self, words: Sequence[str], text: str) -> Answer:

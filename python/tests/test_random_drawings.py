@@ -6,10 +6,10 @@ import random
 
 import pytest
 
-from pertxogai.answers.limits import DrawingRefused, check_fits
+from pertxogai.board.offers import Offer, offers
 from pertxogai.drawing import Drawing, DrawingRefusal, read_drawing
+from pertxogai.judging.limits import DrawingRefused, check_fits
 from pertxogai.language import Sketch
-from pertxogai.page.offers import Offer, offers
 from pertxogai.spelling import Care, Rails, Spelled, Style, readings, written
 
 X = (0, 0, 10, 20, 30, -10, 7, 12.5)

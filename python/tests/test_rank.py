@@ -7,11 +7,11 @@ from fractions import Fraction
 
 import pytest
 
-from pertxogai.answers.equations import Plane, Unknowns
-from pertxogai.answers.freedoms import Freedoms, freedoms
-from pertxogai.answers.jets import EXACT, FLOATS, Steps
-from pertxogai.answers.like_places import LENGTHS, like_places
 from pertxogai.drawing import AngleBetween, read_drawing
+from pertxogai.judging.equations import Plane, Unknowns
+from pertxogai.judging.freedoms import Freedoms, freedoms
+from pertxogai.judging.jets import EXACT, FLOATS, Steps
+from pertxogai.judging.like_places import LENGTHS, like_places
 
 TRIANGLE = "segment A 0 0 40 1\nsegment B A.end 38 30\nsegment C B.end A.start\n"
 QUADRILATERAL = ("segment A 0 0 40 1\nsegment B A.end 42 30\nsegment C B.end 1 33\n"
@@ -192,13 +192,13 @@ def test_directions_that_contradict_are_left_general() -> None:
 
 
 def test_a_rank_that_takes_too_long_is_not_told(monkeypatch: pytest.MonkeyPatch) -> None:
-    monkeypatch.setattr("pertxogai.answers.freedoms.Steps", lambda: Steps(10))
+    monkeypatch.setattr("pertxogai.judging.freedoms.Steps", lambda: Steps(10))
     assert freedoms(read_drawing(TRIANGLE + "length A 41\n")) is None
 
 
 def test_a_right_angle_more_is_the_same_turned() -> None:
-    from pertxogai.answers.trigonometry import way_of
     from pertxogai.drawing import Degrees, Slope
+    from pertxogai.judging.trigonometry import way_of
 
     ahead, left = way_of(Degrees(Fraction(60)))
     assert abs(ahead - Fraction(1, 2)) < Fraction(1, 10 ** 75)

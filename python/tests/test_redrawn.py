@@ -9,15 +9,15 @@ from pathlib import Path
 
 import pytest
 
-from pertxogai.answers import judge, judge_at_once, with_counts
+from pertxogai.board.edits import Move
 from pertxogai.drawing import (
     Circle, Drawing, DrawingUnsound, Place, PointRef, Which, checked, read_drawing, write_drawing)
-from pertxogai.program import Answer, Asks, Status
-from pertxogai.reports import NotAReport, Verdict, read_check
-from pertxogai.spelling import Spellings, Style, readings
+from pertxogai.judging import judge, judge_at_once, with_counts
+from pertxogai.program import Answer, Solver, Status
+from pertxogai.program.reports import NotAReport, Verdict, read_check
+from pertxogai.spelling import Interpretation, Style, readings
 from pertxogai.spelling.facts import Stays
 from pertxogai.spelling.lowering import lowered
-from pertxogai.page.edits import Move
 
 DRAWINGS = sorted((Path(__file__).parent / "drawings").glob("*.drawing"))
 WAYS = [(Fraction(1), Fraction(2)), (Fraction(-70_000), Fraction(40_000))]
@@ -79,7 +79,7 @@ def test_what_is_left_is_taken_over(monkeypatch) -> None:
     drawing = read_drawing(PLATE)
     spelled(drawing)
     made = []
-    monkeypatch.setattr(Spellings, "of", lambda said: made.append(said))
+    monkeypatch.setattr(Interpretation, "of", lambda said: made.append(said))
     circle = drawing.shape("H")
     at = Place(Fraction(41_000), Fraction(33_500))
     shapes = (*drawing.geometry[:-1], replace(circle, centre=at))
@@ -157,7 +157,7 @@ def test_readings_that_are_read_again_are_the_same() -> None:
 class Counts:
     """A program, and what it was asked."""
 
-    program: Asks
+    program: Solver
     asked: list[tuple[str, ...]] = field(default_factory=list)
 
     def ask(self, words: Sequence[str], text: str) -> Answer:

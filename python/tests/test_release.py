@@ -13,11 +13,11 @@ from types import ModuleType
 from typing import Any
 
 import pytest
-from conftest import TOP
 
+from conftest import TOP
 from pertxogai import __version__
-from pertxogai.library import BUILD as LIBRARY
 from pertxogai.program import Program
+from pertxogai.program.library import BUILD as LIBRARY
 
 sys.path.insert(0, str(TOP / "tools"))
 from packing.gate import Gate  # noqa: E402
@@ -208,7 +208,7 @@ def test_the_wheel_works_by_itself(dist: Path, program: Program, tmp_path: Path)
     here = {"PATH": f"{tmp_path}/own/bin:/bin", "PERTXOGAI_SKETCH": program.path}
     judged = run("pertxogai", "judge", "part.drawing", env=here, cwd=tmp_path)
     assert judged.stdout.startswith("part: well"), judged.stderr
-    asked = "import pertxogai.page as page; print(page.__file__)"
+    asked = "import pertxogai.board as page; print(page.__file__)"
     where = done(python, "-c", asked, env=here)
     assert (Path(where.strip()).parent / "static/index.html").is_file()
 

@@ -2,79 +2,19 @@
 from __future__ import annotations
 
 import pytest
-from conftest import EXAMPLES, EXCESS_ROWS, FRAME_ROWS, LARGE_ROWS, ROWS, Row
 
+from conftest import EXAMPLES, EXCESS_ROWS, FRAME_ROWS, LARGE_ROWS, ROWS, Row
 from pertxogai.language import (
-    Choice,
-    ClusterName,
-    Claim,
-    Distance,
-    Flip,
-    Flips,
-    Offer,
-    Offers,
-    Point,
-    Session,
-    Sketch,
-)
+    Choice, Claim, ClusterName, Distance, Flip, Flips, Offer, Offers, Point, Session, Sketch)
 from pertxogai.program import Answer, Status
-from pertxogai.reports import (
-    Accepted,
-    AtConstraint,
-    AtLine,
-    Cause,
-    CheckReport,
-    CircleEntity,
-    ClaimFails,
-    Code,
-    ConstraintFault,
-    Excessive,
-    Failing,
-    FrameFault,
-    Idle,
-    LineEntity,
-    LineFault,
-    NoAnswer,
-    NoChoice,
-    NotAReport,
-    NumberFault,
-    Off,
-    Part,
-    Phase,
-    PointEntity,
-    RangeFault,
-    Refused,
-    RefusedEdit,
-    Shape,
-    Solved,
-    Spare,
-    Stale,
-    StepAt,
-    Taken,
-    Turned,
-    TurnedFault,
-    Unit,
-    Usage,
-    Verdict,
-    Verified,
-    read_answer,
-    read_check,
-    read_derive,
-    read_dxf,
-    read_excess,
-    read_fault,
-    read_flips,
-    read_offers,
-    read_parts,
-    read_plan,
-    read_session,
-    read_solve,
-    read_spare,
-    read_verify,
-    write_derive,
-    write_dxf,
-    write_spare,
-)
+from pertxogai.program.reports import (
+    Accepted, AtConstraint, AtLine, Cause, CheckReport, CircleEntity, ClaimFails, Code,
+    ConstraintFault, Excessive, Failing, FrameFault, Idle, LineEntity, LineFault, NoAnswer,
+    NoChoice, NotAReport, NumberFault, Off, Part, Phase, PointEntity, RangeFault, Refused,
+    RefusedEdit, Shape, Solved, Spare, Stale, StepAt, Taken, Turned, TurnedFault, Unit, Usage,
+    Verdict, Verified, read_answer, read_check, read_derive, read_dxf, read_excess, read_fault,
+    read_flips, read_offers, read_parts, read_plan, read_session, read_solve, read_spare,
+    read_verify, write_derive, write_dxf, write_spare)
 
 TRIANGLE = """verdict well
 elements 3

@@ -6,25 +6,25 @@ from pathlib import Path
 import pytest
 
 from pertxogai.drawing import (
-    AngleBetween, Arc, Circle, Degrees, Fixed, Length, Midpoint, ORIGIN, Pair, PointLineDistance,
-    PointOn, PointRef, ShapeRef, Symmetric, Tangent, Which, X_AXIS, XDistance, Y_AXIS)
+    ORIGIN, X_AXIS, Y_AXIS, AngleBetween, Arc, Circle, Degrees, Fixed, Length, Midpoint, Pair,
+    PointLineDistance, PointOn, PointRef, ShapeRef, Symmetric, Tangent, Which, XDistance)
 from pertxogai.drawing.soundness import faults
-from pertxogai.found import Apart, FileRefusal, FoundSketch
-from pertxogai.measure import Solution, Unit, greatest, measure
-from pertxogai.solvespace import read_solvespace, write_solvespace
-from pertxogai.solvespace.writing import write_places
+from pertxogai.files.contents import FileRefusal, FileSketch, NotDrivingCause
+from pertxogai.files.solvespace import read_solvespace, write_solvespace
+from pertxogai.files.solvespace.writing import write_places
+from pertxogai.judging.measure import Solution, Unit, greatest, measure
 
 FILES = Path(__file__).parent / "files"
 NAMES = sorted(path.stem for path in FILES.glob("*.slvs"))
 
 
-def found(name: str) -> FoundSketch:
+def found(name: str) -> FileSketch:
     """The one sketch of a file of the stock."""
     (one,) = read_solvespace(FILES / f"{name}.slvs")
     return one
 
 
-def stored(one: FoundSketch) -> Solution:
+def stored(one: FileSketch) -> Solution:
     """The places that the file has, in nm."""
     points = {ref: (one.drawing.drawn(ref).x_um * 1000, one.drawing.drawn(ref).y_um * 1000)
               for ref in one.drawing.points()}
@@ -86,7 +86,7 @@ def test_forms(name: str, constraint: object) -> None:
 
 
 def test_a_reference_dimension_stands_aside() -> None:
-    assert [(each.number, each.why) for each in found("pinned").aside] == [(6, Apart.REFERENCE)]
+    assert [(each.number, each.why) for each in found("pinned").aside] == [(6, NotDrivingCause.REFERENCE)]
 
 
 def test_what_a_drawing_has_not_is_named() -> None:

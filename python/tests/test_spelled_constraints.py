@@ -8,12 +8,12 @@ from __future__ import annotations
 
 import pytest
 
-from pertxogai.answers.asking import Question, ask
-from pertxogai.answers.solution import solution_of
 from pertxogai.drawing import read_drawing
-from pertxogai.measure import Unit, measure
+from pertxogai.judging.measure import Unit, measure
+from pertxogai.judging.settled import solution_of
+from pertxogai.judging.trials import Question, ask
 from pertxogai.program import Status
-from pertxogai.reports import Verdict, read_solve
+from pertxogai.program.reports import Verdict, read_solve
 from pertxogai.spelling import Style, axes_of
 
 BAR = "segment S 0 0 40 1; "

@@ -10,13 +10,13 @@ from math import atan, cos, pi, sin
 
 import pytest
 
-from pertxogai.answers import judge
-from pertxogai.answers.asking import Place, Question, ask, placed
-from pertxogai.answers.solution import solution_of
 from pertxogai.drawing import Degrees, PointRef, Slope, Which, read_drawing, um_of_mm
+from pertxogai.judging import judge
+from pertxogai.judging.measure import Unit, measure
+from pertxogai.judging.settled import solution_of
+from pertxogai.judging.trials import PlaceBy, Question, ask, placed
 from pertxogai.language import Angle
-from pertxogai.measure import Unit, measure
-from pertxogai.reports import Solved, Verdict
+from pertxogai.program.reports import Solved, Verdict
 from pertxogai.spelling import Care, Rails, Style, axes_of, spell, written
 from pertxogai.spelling.facts import Owner
 from pertxogai.spelling.lean import SQUARE, Lean
@@ -140,7 +140,7 @@ def test_a_word_is_well_and_placed(case, style, program):
     drawing = read_drawing(case.text)
     asked = placed(ask(Question(drawing, program), axes_of(drawing), style), program)
     assert asked.verdict is Verdict.WELL, asked.spelled.sketch.text()
-    assert isinstance(asked.solved, Solved) and asked.place is Place.BOXES, asked.solved
+    assert isinstance(asked.solved, Solved) and asked.place is PlaceBy.BOXES, asked.solved
     solution = solution_of(drawing, asked, asked.solved)
     assert all(each.amount <= 2 for each in measure(drawing, solution) if each.unit is Unit.NM)
     for word, x, y in case.places:

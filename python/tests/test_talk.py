@@ -6,15 +6,16 @@ import subprocess
 import time
 
 import pytest
-from conftest import EXAMPLES
-from test_program import script
 
+from conftest import EXAMPLES
 from pertxogai.language import Angle, Ask, Distance, Drop, Erase, Line, Point, SetLength, Sketch
 from pertxogai.language.refusal import Code
-from pertxogai.program import MissingProgram, Program, ProgramCrashed, ProgramSpoke
-from pertxogai.program import ProgramTimedOut, Status
-from pertxogai.reports import Accepted, CheckReport, RefusedEdit, Solved, Verdict, read_session
-from pertxogai.talk import Talk, TalkEnded
+from pertxogai.program import (
+    MissingProgram, Program, ProgramCrashed, ProgramSpoke, ProgramTimedOut, Status)
+from pertxogai.program.live import LiveEnded, LiveProgram
+from pertxogai.program.reports import (
+    Accepted, CheckReport, RefusedEdit, Solved, Verdict, read_session)
+from test_program import script
 
 LINES = [
     "undo",
@@ -44,14 +45,14 @@ LINES = [
 
 def test_each_reply_comes_before_the_next_line(program: Program) -> None:
     """The same replies as a session gives to all lines at once."""
-    with Talk.start(program) as talk:
+    with LiveProgram.start(program) as talk:
         replies = tuple(talk.say(line) for line in LINES)
     assert replies == read_session(program.ask(["session"], "\n".join(LINES)).text)
     assert (replies[0], replies[1]) == (RefusedEdit(Code.S3), Accepted("A"))
 
 
 def test_values_are_lines_too(program: Program) -> None:
-    with Talk.start(program) as talk:
+    with LiveProgram.start(program) as talk:
         for line in Point("A", 0, 0), Point("B", 4000, 0), Line("L", 0, 0, 1000, 0):
             assert talk.say(line) == Accepted(line.name)
         assert talk.say(Distance("A", "B", 4000)) == Accepted("c1")
@@ -70,21 +71,21 @@ def test_values_are_lines_too(program: Program) -> None:
 
 @pytest.mark.parametrize("line", ["", " \t", "# a comment", "\r", "   # and blanks"])
 def test_a_blank_line_has_no_reply(line: str, program: Program) -> None:
-    with Talk.start(program) as talk:
+    with LiveProgram.start(program) as talk:
         assert talk.say(line) is None
         assert talk.say("point A 0 0") == Accepted("A")
 
 
 @pytest.mark.parametrize("line", ["\x0c", "\xa0", "#" * 201, " " * 201, "\r\r", "# \u20ac"])
 def test_a_line_that_only_looks_blank_has_one(line: str, program: Program) -> None:
-    with Talk.start(program) as talk:
+    with LiveProgram.start(program) as talk:
         reply = talk.say(line)
         assert isinstance(reply, RefusedEdit) and reply.code in (Code.E15, Code.E19)
         assert talk.say("point A 0 0") == Accepted("A")
 
 
 def test_keys_are_those_of_a_session(program: Program) -> None:
-    with Talk.start(program, ["bits=16", "frame=drawn"]) as talk:
+    with LiveProgram.start(program, ["bits=16", "frame=drawn"]) as talk:
         talk.say("point A 3 4")
         solved = talk.say("solve")
         assert isinstance(solved, Solved) and solved.bits == 16
@@ -95,7 +96,7 @@ def test_keys_are_those_of_a_session(program: Program) -> None:
 def test_an_example_is_judged_as_it_grows(path, program: Program) -> None:
     """The verdict of each example, line by line, is that of the command."""
     sketch = Sketch.parse(path.read_text())
-    with Talk.start(program) as talk:
+    with LiveProgram.start(program) as talk:
         for line in (*sketch.elements, *sketch.constraints):
             assert isinstance(talk.say(line), Accepted)
         report = talk.say(Ask.CHECK)
@@ -104,35 +105,35 @@ def test_an_example_is_judged_as_it_grows(path, program: Program) -> None:
 
 
 def test_the_end(program: Program) -> None:
-    talk = Talk.start(program)
+    talk = LiveProgram.start(program)
     assert talk.say("point A 0 0") == Accepted("A")
     assert talk.end() is Status.DONE
-    with pytest.raises(TalkEnded) as over:
+    with pytest.raises(LiveEnded) as over:
         talk.say("check")
     assert over.value.status is Status.DONE and "\n" not in str(over.value)
-    with Talk.start(program) as other:
+    with LiveProgram.start(program) as other:
         assert other.say("end # of it") is None
-        with pytest.raises(TalkEnded):
+        with pytest.raises(LiveEnded):
             other.end()
 
 
 def test_what_is_no_line(program: Program) -> None:
-    with Talk.start(program) as talk:
+    with LiveProgram.start(program) as talk:
         with pytest.raises(ValueError, match="line feed"):
             talk.say("point A 0 0\npoint B 0 0")
         assert talk.say("point A 0 0") == Accepted("A")
 
 
 def test_words_that_are_not_of_the_form(program: Program) -> None:
-    talk = Talk.start(program, ["bits=20"])
-    with pytest.raises(TalkEnded, match="usage: sketch") as ended:
+    talk = LiveProgram.start(program, ["bits=20"])
+    with pytest.raises(LiveEnded, match="usage: sketch") as ended:
         talk.say("point A 0 0")
     assert ended.value.status is Status.USAGE
 
 
 def test_a_thousand_lines(program: Program) -> None:
     """Each is written after the reply to the one before; how long that takes, bench/run tells."""
-    with Talk.start(program) as talk:
+    with LiveProgram.start(program) as talk:
         for number in range(1000):
             assert talk.say(f"point P{number} {number} 0") == Accepted(f"P{number}")
 
@@ -163,17 +164,17 @@ def test_an_input_of_twenty_megabytes(program: Program) -> None:
 
 def test_a_program_that_is_missing(tmp_path) -> None:
     with pytest.raises(MissingProgram, match="can't be run"):
-        Talk.start(Program(str(tmp_path / "gone")))
+        LiveProgram.start(Program(str(tmp_path / "gone")))
 
 
 def fails(kind: type[Exception], program: Program, *inside: str) -> None:
     """A talk fails so at its first line, and is over then; what was started is stopped."""
-    talk = Talk.start(program)
+    talk = LiveProgram.start(program)
     with pytest.raises(kind) as error:
         talk.say("point A 0 0")
     assert "\n" not in str(error.value) and all(it in str(error.value) for it in inside)
     assert talk.process.poll() is not None
-    with pytest.raises(TalkEnded):
+    with pytest.raises(LiveEnded):
         talk.say("check")
 
 
@@ -181,7 +182,7 @@ def test_a_program_that_crashes(tmp_path) -> None:
     crash = "read line; echo 'out of luck' >&2; kill -SEGV $$"
     fails(ProgramCrashed, Program(script(tmp_path, crash)), "signal 11", "out of luck", "point A")
     fails(ProgramCrashed, Program(script(tmp_path, "exit 77")), "status 77")
-    fails(TalkEnded, Program(script(tmp_path, "read line; echo ok; exit 5")), "status 5", "'ok'")
+    fails(LiveEnded, Program(script(tmp_path, "read line; echo ok; exit 5")), "status 5", "'ok'")
 
 
 def test_a_program_that_hangs(tmp_path) -> None:
@@ -191,7 +192,7 @@ def test_a_program_that_hangs(tmp_path) -> None:
     fails(ProgramTimedOut, Program(script(tmp_path, deaf), seconds=0.3), "more seconds")
     mute = "exec >&-; exec sleep 30"
     fails(ProgramTimedOut, Program(script(tmp_path, mute), seconds=0.3), "0.3 s")
-    endless = Talk.start(Program(script(tmp_path, "exec sleep 30"), seconds=0.3))
+    endless = LiveProgram.start(Program(script(tmp_path, "exec sleep 30"), seconds=0.3))
     with pytest.raises(ProgramTimedOut):
         endless.end()
     assert time.monotonic() - begin < 10

@@ -6,10 +6,10 @@ from math import sqrt
 
 import pytest
 
-from pertxogai.answers import judge
 from pertxogai.drawing import PointRef, Which, read_drawing
-from pertxogai.good import GoodJudgement, Lack, good_of, reasons_against
-from pertxogai.judged_drawing import JudgedDrawing
+from pertxogai.judging import judge
+from pertxogai.judging.good import GoodJudgement, Lack, good_of, reasons_against
+from pertxogai.judging.judged_drawing import JudgedDrawing
 
 SIDES = ("segment A 0 0 40 2\nsegment B A.end 38 30\nsegment C B.end A.start\nlength A 40\n"
          "length B 30\nlength C 45\n")

@@ -3,7 +3,7 @@ from __future__ import annotations
 
 from fractions import Fraction
 
-from pertxogai.values import Form, LinearSystem, Told
+from pertxogai.spelling.linear import Form, LinearSystem, Redundant
 
 
 def form(number=0, **terms):
@@ -37,13 +37,13 @@ def test_a_repeat_names_what_it_follows_from():
     system.add(form(-2, x=1, y=-1), 0)
     system.add(form(-3, y=1, z=-1), 1)
     system.add(form(-9, w=1), 2)
-    assert system.add(form(-5, x=1, z=-1), 3) == Told(frozenset({0, 1, 3}), Fraction(0))
+    assert system.add(form(-5, x=1, z=-1), 3) == Redundant(frozenset({0, 1, 3}), Fraction(0))
 
 
 def test_a_contradiction_tells_by_how_much():
     system = LinearSystem()
     system.add(form(-2, x=1), 0)
-    assert system.add(form(-7, x=1), 1) == Told(frozenset({0, 1}), Fraction(-5))
+    assert system.add(form(-7, x=1), 1) == Redundant(frozenset({0, 1}), Fraction(-5))
 
 
 def test_sources_are_the_equations_that_fix_a_value():

@@ -12,8 +12,8 @@ from pathlib import Path
 from types import ModuleType
 
 import pytest
-from conftest import TOP
 
+from conftest import TOP
 from pertxogai.language.refusal import Code
 from pertxogai.program import Program, Status
 

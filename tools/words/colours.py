@@ -1,10 +1,9 @@
 """Which words stand out in an editor, and as what: of sketches, and of drawings in a designer's words."""
 from dataclasses import dataclass
 
+from .table import CONSTRAINTS, EDITS, ELEMENTS, ENDS, QUESTIONS, STEP_WORDS, TAILS, Line
 from pertxogai.drawing.constraint_lines import ConstraintWord
 from pertxogai.drawing.shape_lines import Flag, ShapeWord
-
-from .table import CONSTRAINTS, EDITS, ELEMENTS, ENDS, QUESTIONS, STEP_WORDS, TAILS, Line
 
 
 @dataclass(frozen=True)

@@ -1,8 +1,7 @@
 """The manual page pertxogai(1): the commands of the Python package."""
-from pertxogai.commands import EPILOG
-
 from .options import commands, options
 from .roff import chapter, head, shown, terms
+from pertxogai.commands import EPILOG
 
 ABOUT = "judges, places and draws sketches by the proved program sketch"
 SAYS = (

@@ -1,36 +1,35 @@
 """A designer's words: shapes, constraints, and the text `part.drawing` that keeps them."""
 
+from pertxogai.drawing.changes import moved
 from pertxogai.drawing.constraints import (
     AngleBetween, AngleValue, Coincident, Collinear, Concentric, Constraint, Degrees, Diameter,
     Distance, Equal, Fixed, Horizontal, Length, Midpoint, Parallel, ParallelDistance,
     Perpendicular, PointLineDistance, PointOn, Radius, Ratio, Sense, Symmetric, Tangent, Vertical,
     XDistance, YDistance)
+from pertxogai.drawing.drawing import Drawing, Note
 from pertxogai.drawing.geometry import (
-    Arc, Axis, Circle, Datum, Origin, Point, Segment, Shape, Spot)
-from pertxogai.drawing.conveniences import Said, polyline, rectangle
+    Anchor, Arc, Axis, Circle, Datum, Origin, Point, Segment, Shape)
 from pertxogai.drawing.meetings import Meetings
-from pertxogai.drawing.moved import moved
-from pertxogai.drawing.reading import read_drawing
-from pertxogai.drawing.refusal import DrawingRefusal, DrawingUnsound, WordFault
+from pertxogai.drawing.named_shapes import NamedShapes, points_of, spot_of
 from pertxogai.drawing.places import Place, place_mm, um_of_mm
+from pertxogai.drawing.reading import read_drawing
 from pertxogai.drawing.references import (
     DATUM_NAMES, ORIGIN, X_AXIS, Y_AXIS, Pair, PointRef, ShapeRef, Which)
+from pertxogai.drawing.refusal import DrawingRefusal, DrawingUnsound, WordFault
 from pertxogai.drawing.senses import Slope, Touch, Turn, run_um, touch, turn, way
-from pertxogai.drawing.scene import Scene, points_of, spot_of
-from pertxogai.drawing.sketching import Drawing, Note
+from pertxogai.drawing.shorthands import Expansion, polyline, rectangle
 from pertxogai.drawing.soundness import checked, ends_made_one, faults
 from pertxogai.drawing.wording import line_of, words_of
 from pertxogai.drawing.writing import write_drawing
 
-__all__ = [
-    "AngleBetween", "AngleValue", "Arc", "Axis", "Circle", "Coincident", "Collinear",
-    "Concentric", "Constraint", "DATUM_NAMES", "Datum", "Degrees", "Diameter", "Distance",
-    "Drawing", "DrawingRefusal", "DrawingUnsound", "Equal", "Fixed", "Horizontal", "Length",
-    "Meetings", "Midpoint", "Note", "ORIGIN", "Origin", "Pair", "Parallel", "ParallelDistance",
-    "Perpendicular", "Place", "Point", "PointLineDistance", "PointOn", "PointRef", "Radius",
-    "Ratio", "Said", "Scene", "Segment", "Sense", "Shape", "ShapeRef", "Slope", "Spot",
-    "Symmetric", "Tangent", "Touch", "Turn", "Vertical", "Which", "WordFault", "XDistance",
-    "X_AXIS", "YDistance", "Y_AXIS", "checked", "ends_made_one", "faults", "line_of", "moved",
-    "place_mm", "points_of", "polyline", "read_drawing", "rectangle", "run_um", "spot_of", "touch", "turn", "um_of_mm",
-    "way", "words_of", "write_drawing",
-]
+__all__ = ["Anchor", "AngleBetween", "AngleValue", "Arc", "Axis", "Circle", "Coincident",
+           "Collinear", "Concentric", "Constraint", "DATUM_NAMES", "Datum", "Degrees", "Diameter",
+           "Distance", "Drawing", "DrawingRefusal", "DrawingUnsound", "Equal", "Expansion",
+           "Fixed", "Horizontal", "Length", "Meetings", "Midpoint", "NamedShapes", "Note",
+           "ORIGIN", "Origin", "Pair", "Parallel", "ParallelDistance", "Perpendicular", "Place",
+           "Point", "PointLineDistance", "PointOn", "PointRef", "Radius", "Ratio", "Segment",
+           "Sense", "Shape", "ShapeRef", "Slope", "Symmetric", "Tangent", "Touch", "Turn",
+           "Vertical", "Which", "WordFault", "XDistance", "X_AXIS", "YDistance", "Y_AXIS",
+           "checked", "ends_made_one", "faults", "line_of", "moved", "place_mm", "points_of",
+           "polyline", "read_drawing", "rectangle", "run_um", "spot_of", "touch", "turn",
+           "um_of_mm", "way", "words_of", "write_drawing"]

@@ -4,25 +4,25 @@ from __future__ import annotations
 
 from typing import assert_never
 
+from pertxogai.drawing.checks import (
+    MOST_UM, check_line, check_point, check_rim, check_size, is_rim, standing)
 from pertxogai.drawing.constraints import (
     AngleBetween, AngleValue, Coincident, Collinear, Concentric, Constraint, Degrees, Diameter,
     Distance, Equal, Fixed, Horizontal, Length, Midpoint, Parallel, ParallelDistance,
     Perpendicular, PointLineDistance, PointOn, Radius, Sense, Symmetric, Tangent, Vertical,
     XDistance, YDistance)
 from pertxogai.drawing.geometry import Point
-from pertxogai.drawing.kinds import (
-    MOST_UM, check_line, check_point, check_rim, check_size, is_rim, standing)
+from pertxogai.drawing.named_shapes import NamedShapes
 from pertxogai.drawing.numbers import MOST_MM, MOST_RATIO, angle_text, mm_text
 from pertxogai.drawing.references import DATUM_NAMES, Pair, PointRef, ShapeRef, Which
 from pertxogai.drawing.refusal import WordFault
-from pertxogai.drawing.scene import Scene
 
 Measured = (AngleBetween | Length | Distance | XDistance | YDistance | PointLineDistance
             | ParallelDistance | Radius | Diameter)
 """The constraints that carry a value."""
 
 
-def check_constraint(scene: Scene, constraint: Constraint) -> None:
+def check_constraint(scene: NamedShapes, constraint: Constraint) -> None:
     """Raises WordFault unless the constraint's shapes, points and values are what it takes."""
     match constraint:
         case Coincident(first, second):
@@ -49,7 +49,7 @@ def check_constraint(scene: Scene, constraint: Constraint) -> None:
             _check_shapes(scene, constraint)
 
 
-def _check_shapes(scene: Scene, constraint: Parallel | Collinear | Perpendicular | Tangent
+def _check_shapes(scene: NamedShapes, constraint: Parallel | Collinear | Perpendicular | Tangent
                   | Equal | Concentric | Horizontal | Vertical) -> None:
     """Constraints of two shapes."""
     match constraint:
@@ -71,7 +71,7 @@ def _check_shapes(scene: Scene, constraint: Parallel | Collinear | Perpendicular
             assert_never(constraint)
 
 
-def _check_measured(scene: Scene, constraint: Measured) -> None:
+def _check_measured(scene: NamedShapes, constraint: Measured) -> None:
     match constraint:
         case AngleBetween(line, other, value, sense):
             _check_lines(scene, line, other)
@@ -100,7 +100,7 @@ def _check_measured(scene: Scene, constraint: Measured) -> None:
             assert_never(constraint)
 
 
-def _check_points(scene: Scene, first: PointRef, second: PointRef) -> None:
+def _check_points(scene: NamedShapes, first: PointRef, second: PointRef) -> None:
     check_point(scene, first)
     check_point(scene, second)
     if first == second:
@@ -118,7 +118,7 @@ def _check_different(first: ShapeRef, second: ShapeRef) -> None:
         raise WordFault(second.name, "stands twice: write two different shapes")
 
 
-def _check_lines(scene: Scene, first: ShapeRef, second: ShapeRef) -> None:
+def _check_lines(scene: NamedShapes, first: ShapeRef, second: ShapeRef) -> None:
     check_line(scene, first)
     check_line(scene, second)
     _check_different(first, second)
@@ -126,13 +126,13 @@ def _check_lines(scene: Scene, first: ShapeRef, second: ShapeRef) -> None:
         raise WordFault(second.name, "is an axis as the other is: write a segment for one of them")
 
 
-def _check_rims(scene: Scene, first: ShapeRef, second: ShapeRef) -> None:
+def _check_rims(scene: NamedShapes, first: ShapeRef, second: ShapeRef) -> None:
     check_rim(scene, first)
     check_rim(scene, second)
     _check_different(first, second)
 
 
-def _check_point_on(scene: Scene, point: PointRef, curve: ShapeRef) -> None:
+def _check_point_on(scene: NamedShapes, point: PointRef, curve: ShapeRef) -> None:
     check_point(scene, point)
     if not is_rim(scene, curve):
         check_line(scene, curve)
@@ -144,7 +144,7 @@ def _check_not_own(point: PointRef, shape: ShapeRef) -> None:
         raise WordFault(str(point), f"is a point of {shape.name} itself: write another point")
 
 
-def _check_touching(scene: Scene, first: ShapeRef, second: ShapeRef) -> None:
+def _check_touching(scene: NamedShapes, first: ShapeRef, second: ShapeRef) -> None:
     for each in (first, second):
         if not is_rim(scene, each):
             check_line(scene, each)
@@ -154,7 +154,7 @@ def _check_touching(scene: Scene, first: ShapeRef, second: ShapeRef) -> None:
                                      "`collinear`")
 
 
-def _check_ends(scene: Scene, first: ShapeRef, second: ShapeRef, at: Pair | None) -> None:
+def _check_ends(scene: NamedShapes, first: ShapeRef, second: ShapeRef, at: Pair | None) -> None:
     if at is None:
         return
     for point, shape in ((at.first, first), (at.second, second)):
@@ -164,7 +164,7 @@ def _check_ends(scene: Scene, first: ShapeRef, second: ShapeRef, at: Pair | None
                                         f"{shape.name}.end")
 
 
-def _check_equal(scene: Scene, first: ShapeRef, second: ShapeRef) -> None:
+def _check_equal(scene: NamedShapes, first: ShapeRef, second: ShapeRef) -> None:
     if is_rim(scene, first) or is_rim(scene, second):
         _check_rims(scene, first, second)
         return
@@ -173,7 +173,7 @@ def _check_equal(scene: Scene, first: ShapeRef, second: ShapeRef) -> None:
     _check_different(first, second)
 
 
-def _check_symmetric(scene: Scene, first: PointRef, second: PointRef,
+def _check_symmetric(scene: NamedShapes, first: PointRef, second: PointRef,
                      about: ShapeRef | PointRef) -> None:
     _check_points(scene, first, second)
     if isinstance(about, ShapeRef):
@@ -184,7 +184,7 @@ def _check_symmetric(scene: Scene, first: PointRef, second: PointRef,
         raise WordFault(str(about), "stands twice: write a third point, or a segment")
 
 
-def _check_fixed(scene: Scene, what: PointRef | ShapeRef) -> None:
+def _check_fixed(scene: NamedShapes, what: PointRef | ShapeRef) -> None:
     if isinstance(what, PointRef):
         check_point(scene, what)
     else:

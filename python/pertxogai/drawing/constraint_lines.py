@@ -6,12 +6,12 @@ from collections.abc import Callable, Iterable
 from enum import Enum
 from fractions import Fraction
 
+from pertxogai.drawing.checks import check_line
 from pertxogai.drawing.constraints import (
     AngleBetween, Coincident, Collinear, Concentric, Constraint, Diameter, Distance, Equal, Fixed,
     Horizontal, Length, Midpoint, Parallel, ParallelDistance, Perpendicular, PointLineDistance,
     PointOn, Radius, Sense, Symmetric, Tangent, Vertical, XDistance, YDistance)
 from pertxogai.drawing.cursor import Cursor
-from pertxogai.drawing.kinds import check_line
 from pertxogai.drawing.numbers import has_sign, is_number, read_angle, read_um
 from pertxogai.drawing.references import ORIGIN, X_AXIS, Pair, PointRef, ShapeRef, Which
 from pertxogai.drawing.refusal import WordFault

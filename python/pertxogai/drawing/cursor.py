@@ -5,13 +5,13 @@ from __future__ import annotations
 from collections.abc import Sequence
 from fractions import Fraction
 
-from pertxogai.drawing.geometry import Arc, Circle, Origin, Point, Spot
-from pertxogai.drawing.kinds import check_point, points_told, standing
+from pertxogai.drawing.checks import check_point, points_told, standing
+from pertxogai.drawing.geometry import Anchor, Arc, Circle, Origin, Point
+from pertxogai.drawing.named_shapes import NamedShapes
 from pertxogai.drawing.numbers import is_number, read_um
 from pertxogai.drawing.places import Place
 from pertxogai.drawing.references import PointRef, ShapeRef, Which
 from pertxogai.drawing.refusal import WordFault
-from pertxogai.drawing.scene import Scene
 
 
 class Cursor:
@@ -19,7 +19,7 @@ class Cursor:
 
     Each call that takes a word raises WordFault where it isn't what is meant."""
 
-    def __init__(self, scene: Scene, words: Sequence[str]) -> None:
+    def __init__(self, scene: NamedShapes, words: Sequence[str]) -> None:
         self.scene = scene
         self._words = words
         self._taken = 1
@@ -59,7 +59,7 @@ class Cursor:
         """A place, by two numbers."""
         return Place(self.um("a number for x"), self.um("a number for y"))
 
-    def spot(self, meant: str) -> Spot:
+    def spot(self, meant: str) -> Anchor:
         """A place by two numbers, or the name of a point that stands."""
         if is_number(self.peek()):
             return self.place()

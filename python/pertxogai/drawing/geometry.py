@@ -15,7 +15,7 @@ from fractions import Fraction
 from pertxogai.drawing.places import Place
 from pertxogai.drawing.references import PointRef
 
-Spot = Place | PointRef
+Anchor = Place | PointRef
 """A drawn place of a shape's own, or the point of an earlier shape that it shares."""
 
 
@@ -34,8 +34,8 @@ class Segment:
     """A straight edge from `start` to `end`; its direction is from start to end."""
 
     name: str
-    start: Spot
-    end: Spot
+    start: Anchor
+    end: Anchor
     construction: bool = False
     outer: bool = False
 
@@ -45,7 +45,7 @@ class Circle:
     """A whole circle; `radius_um` is the drawn radius, in micrometres, above 0."""
 
     name: str
-    centre: Spot
+    centre: Anchor
     radius_um: Fraction
     construction: bool = False
     outer: bool = False
@@ -61,9 +61,9 @@ class Arc:
     """
 
     name: str
-    centre: Spot
-    start: Spot
-    end: Spot
+    centre: Anchor
+    start: Anchor
+    end: Anchor
     construction: bool = False
     outer: bool = False
 

@@ -12,7 +12,7 @@ from pertxogai.drawing.places import Place
 from pertxogai.drawing.references import ORIGIN, Pair, PointRef, ShapeRef, Which
 
 if TYPE_CHECKING:
-    from pertxogai.drawing.sketching import Drawing
+    from pertxogai.drawing.drawing import Drawing
 
 
 class Meetings:

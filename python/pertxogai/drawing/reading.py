@@ -12,14 +12,14 @@ from dataclasses import dataclass
 from pertxogai.drawing.constraint_checks import check_constraint
 from pertxogai.drawing.constraint_lines import ConstraintWord, read_constraints
 from pertxogai.drawing.constraints import Constraint
-from pertxogai.drawing.conveniences import Said
 from pertxogai.drawing.cursor import Cursor
+from pertxogai.drawing.drawing import Drawing, Note
 from pertxogai.drawing.geometry import Shape
+from pertxogai.drawing.named_shapes import NamedShapes
 from pertxogai.drawing.names import nearest
 from pertxogai.drawing.refusal import DrawingRefusal, WordFault
-from pertxogai.drawing.scene import Scene
 from pertxogai.drawing.shape_lines import Flag, ShapeWord, read_shape
-from pertxogai.drawing.sketching import Drawing, Note
+from pertxogai.drawing.shorthands import Expansion
 from pertxogai.drawing.soundness import check_name
 from pertxogai.drawing.writing import HEADER
 
@@ -70,7 +70,7 @@ class _Reader:
         self._marks: list[_Mark] = []
         self._loose: list[str] = []
         self._names: set[str] = set()
-        self._scene = Scene()
+        self._scene = NamedShapes()
         self._began = False
 
     def take(self, line: str) -> None:
@@ -110,7 +110,7 @@ class _Reader:
         self._ask(word, words, name.strip() if colon else None)
         return True
 
-    def _draw(self, said: Said) -> None:
+    def _draw(self, said: Expansion) -> None:
         self.shapes.extend(said.shapes)
         self._constraints.extend(said.constraints)
         if len(self.shapes) > MOST_SHAPES:

@@ -10,12 +10,12 @@ from dataclasses import dataclass
 from enum import Enum
 from fractions import Fraction
 
-from pertxogai.drawing.constraints import (AngleBetween, Degrees, Ratio, Sense, Tangent, XDistance,
-                                           YDistance)
+from pertxogai.drawing.constraints import (
+    AngleBetween, Degrees, Ratio, Sense, Tangent, XDistance, YDistance)
+from pertxogai.drawing.drawing import Drawing
 from pertxogai.drawing.geometry import Axis
 from pertxogai.drawing.places import Place
 from pertxogai.drawing.references import PointRef, ShapeRef, Which
-from pertxogai.drawing.sketching import Drawing
 
 Way = tuple[Fraction, Fraction]
 """A direction by its two components, of any length."""

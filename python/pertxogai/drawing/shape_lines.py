@@ -5,11 +5,11 @@ from __future__ import annotations
 from dataclasses import replace
 from enum import Enum
 
-from pertxogai.drawing.conveniences import Said, polyline, rectangle
 from pertxogai.drawing.cursor import Cursor
-from pertxogai.drawing.geometry import Arc, Circle, Point, Segment, Shape, Spot
+from pertxogai.drawing.geometry import Anchor, Arc, Circle, Point, Segment, Shape
 from pertxogai.drawing.names import check_shape_name, nearest
 from pertxogai.drawing.refusal import WordFault
+from pertxogai.drawing.shorthands import Expansion, polyline, rectangle
 from pertxogai.drawing.soundness import check_shape
 
 
@@ -31,7 +31,7 @@ class Flag(Enum):
     OUTER = "outer"
 
 
-def read_shape(word: ShapeWord, flags: frozenset[Flag], words: Cursor) -> Said:
+def read_shape(word: ShapeWord, flags: frozenset[Flag], words: Cursor) -> Expansion:
     """What a line that draws says; the cursor stands behind its first word. The shapes are put
     to the cursor's scene."""
     name = words.word("a name")
@@ -62,16 +62,16 @@ def _flagged(shape: Shape, flags: frozenset[Flag]) -> Shape:
     return replace(shape, construction=Flag.CONSTRUCTION in flags, outer=Flag.OUTER in flags)
 
 
-def _drawn(word: ShapeWord, name: str, words: Cursor) -> Said:
+def _drawn(word: ShapeWord, name: str, words: Cursor) -> Expansion:
     match word:
         case ShapeWord.POINT:
-            return Said((Point(name, words.place()),))
+            return Expansion((Point(name, words.place()),))
         case ShapeWord.SEGMENT:
-            return Said((Segment(name, words.spot("its start"), words.spot("its end")),))
+            return Expansion((Segment(name, words.spot("its start"), words.spot("its end")),))
         case ShapeWord.CIRCLE:
-            return Said((Circle(name, words.spot("its centre"), words.um("its drawn radius")),))
+            return Expansion((Circle(name, words.spot("its centre"), words.um("its drawn radius")),))
         case ShapeWord.ARC:
-            return Said((Arc(name, words.spot("its centre"), words.spot("its start"),
+            return Expansion((Arc(name, words.spot("its centre"), words.spot("its start"),
                              words.spot("its end")),))
         case ShapeWord.POLYLINE:
             corners = _corners(words)
@@ -82,8 +82,8 @@ def _drawn(word: ShapeWord, name: str, words: Cursor) -> Said:
                              words.spot("the opposite corner"))
 
 
-def _corners(words: Cursor) -> tuple[Spot, ...]:
-    corners: list[Spot] = []
+def _corners(words: Cursor) -> tuple[Anchor, ...]:
+    corners: list[Anchor] = []
     while words.left() and words.peek() != "closed":
         corners.append(words.spot("a corner"))
     return tuple(corners)

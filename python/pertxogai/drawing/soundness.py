@@ -6,16 +6,16 @@ from bisect import bisect_left
 from collections.abc import Iterator
 from fractions import Fraction
 
+from pertxogai.drawing.checks import MOST_UM, check_point, check_size
 from pertxogai.drawing.constraint_checks import check_constraint
 from pertxogai.drawing.constraints import Constraint
-from pertxogai.drawing.geometry import Arc, Circle, Segment, Shape, Spot
-from pertxogai.drawing.kinds import MOST_UM, check_point, check_size
+from pertxogai.drawing.drawing import Drawing
+from pertxogai.drawing.geometry import Anchor, Arc, Circle, Segment, Shape
+from pertxogai.drawing.named_shapes import NamedShapes, points_of, shares, spot_of
 from pertxogai.drawing.names import check_constraint_name, check_shape_name
 from pertxogai.drawing.numbers import MOST_MM, mm_text
 from pertxogai.drawing.references import PointRef, Which
 from pertxogai.drawing.refusal import DrawingUnsound, WordFault
-from pertxogai.drawing.scene import Scene, points_of, shares, spot_of
-from pertxogai.drawing.sketching import Drawing
 
 
 def faults(drawing: Drawing, sound: Drawing = Drawing()) -> tuple[DrawingUnsound, ...]:
@@ -34,7 +34,7 @@ def checked(drawing: Drawing, sound: Drawing = Drawing()) -> Drawing:
 
 
 def _shape_faults(drawing: Drawing, sound: Drawing) -> Iterator[DrawingUnsound]:
-    scene = Scene()
+    scene = NamedShapes()
     known = {id(each) for each in sound.geometry if not shares(each)}
     for shape in drawing.geometry:
         try:
@@ -92,7 +92,7 @@ def check_name(name: str, taken: set[str]) -> None:
     taken.add(name)
 
 
-def check_shape(scene: Scene, shape: Shape) -> None:
+def check_shape(scene: NamedShapes, shape: Shape) -> None:
     """Raises WordFault unless the shape may be added to those that stand."""
     check_shape_name(shape.name)
     if scene.has(shape.name):
@@ -110,7 +110,7 @@ def check_shape(scene: Scene, shape: Shape) -> None:
             raise WordFault(shape.name, "ends where it starts: draw a circle, or its ends apart")
 
 
-def _place(scene: Scene, spot: Spot) -> tuple[Fraction, Fraction]:
+def _place(scene: NamedShapes, spot: Anchor) -> tuple[Fraction, Fraction]:
     if isinstance(spot, PointRef):
         check_point(scene, spot)
         spot = scene.drawn(spot)

@@ -4,20 +4,20 @@ from __future__ import annotations
 
 from typing import assert_never
 
+from pertxogai.cached import cached_on
 from pertxogai.drawing.constraints import (
     AngleBetween, Coincident, Collinear, Concentric, Constraint, Diameter, Distance, Equal, Fixed,
     Horizontal, Length, Midpoint, Parallel, ParallelDistance, Perpendicular, PointLineDistance,
     PointOn, Radius, Sense, Symmetric, Tangent, Vertical, XDistance, YDistance)
-from pertxogai.drawing.geometry import Arc, Circle, Point, Segment, Shape, Spot
+from pertxogai.drawing.geometry import Anchor, Arc, Circle, Point, Segment, Shape
 from pertxogai.drawing.numbers import angle_text, mm_text
 from pertxogai.drawing.references import ORIGIN, X_AXIS, PointRef
-from pertxogai.kept import kept
 
 Valued = Length | Distance | PointLineDistance | ParallelDistance | Radius | Diameter
 """The constraints whose value stands last and has no sign."""
 
 
-@kept
+@cached_on
 def line_of(item: Shape | Constraint) -> str:
     """The line of a shape or a constraint, as a designer writes it."""
     if isinstance(item, Point | Segment | Circle | Arc):
@@ -44,13 +44,13 @@ def _shape(shape: Shape) -> str:
             assert_never(shape)
 
 
-def _spot(spot: Spot) -> str:
+def _spot(spot: Anchor) -> str:
     if isinstance(spot, PointRef):
         return str(spot)
     return f"{mm_text(spot.x_um)} {mm_text(spot.y_um)}"
 
 
-@kept
+@cached_on
 def words_of(constraint: Constraint) -> str:
     """The line of a constraint without its name."""
     match constraint:

@@ -2,7 +2,7 @@
 
 from __future__ import annotations
 
-from pertxogai.drawing.sketching import Drawing, Note
+from pertxogai.drawing.drawing import Drawing, Note
 from pertxogai.drawing.wording import line_of
 
 HEADER = "drawing 1"

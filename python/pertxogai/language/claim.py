@@ -6,13 +6,13 @@ import re
 from collections.abc import Sequence
 from dataclasses import dataclass
 
-from .clusters import Choice, ClusterName, Step, read_cluster
-from .elements import Circle, Line, Point
-from .names import is_name
-from .places import Placed, PlacedCircle, PlacedLine, PlacedPoint
-from .refusal import Code, Faulty
-from .rows import read_lines_behind, rows_of
-from .sketch import Sketch, read_sketch
+from pertxogai.language.clusters import Choice, ClusterName, Step, read_cluster
+from pertxogai.language.elements import Circle, Line, Point
+from pertxogai.language.lines import read_lines_behind, rows_of
+from pertxogai.language.names import is_name
+from pertxogai.language.places import Placed, PlacedCircle, PlacedLine, PlacedPoint
+from pertxogai.language.refusal import Code, Faulty
+from pertxogai.language.sketch import Sketch, read_sketch
 
 MOST_PLACE_NM = 1 << 60
 MOST_NORMAL_PPB = 2_000_000_000

@@ -3,8 +3,8 @@ from __future__ import annotations
 
 from dataclasses import dataclass
 
-from .names import checked_name
-from .numbers import checked_length_um, checked_ratio, checked_um, mm_text
+from pertxogai.language.names import checked_name
+from pertxogai.language.numbers import checked_length_um, checked_ratio, checked_um, mm_text
 
 MOST_PLACES = 16
 

@@ -1,9 +1,10 @@
 """What a sketch has declared so far, and what may be added to it."""
 from __future__ import annotations
 
-from .constraints import Angle, Block, Constraint, Distance, Inside, On, Outside, Tangent
-from .elements import Circle, Element, Line, Point
-from .refusal import Code, Faulty
+from pertxogai.language.constraints import (
+    Angle, Block, Constraint, Distance, Inside, On, Outside, Tangent)
+from pertxogai.language.elements import Circle, Element, Line, Point
+from pertxogai.language.refusal import Code, Faulty
 
 MOST_ELEMENTS = 2_000
 MOST_CONSTRAINTS = 4_000

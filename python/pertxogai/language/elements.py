@@ -4,9 +4,9 @@ from __future__ import annotations
 
 from dataclasses import dataclass
 
-from ..kept import kept
-from .names import checked_name
-from .numbers import checked_length_um, checked_um, mm_text
+from pertxogai.cached import cached_on
+from pertxogai.language.names import checked_name
+from pertxogai.language.numbers import checked_length_um, checked_um, mm_text
 
 
 @dataclass(frozen=True)
@@ -22,7 +22,7 @@ class Point:
         for um in (self.x_um, self.y_um):
             checked_um(um)
 
-    @kept
+    @cached_on
     def text(self) -> str:
         """The line of the language."""
         return f"point {self.name} {mm_text(self.x_um)} {mm_text(self.y_um)}"
@@ -51,7 +51,7 @@ class Line:
     def _places(self) -> tuple[int, int, int, int]:
         return self.x1_um, self.y1_um, self.x2_um, self.y2_um
 
-    @kept
+    @cached_on
     def text(self) -> str:
         """The line of the language."""
         return " ".join(["line", self.name, *map(mm_text, self._places())])

@@ -3,23 +3,13 @@ from __future__ import annotations
 
 from collections.abc import Callable, Sequence
 
-from .constraints import (
-    MOST_PLACES,
-    Angle,
-    Block,
-    BlockPlace,
-    Constraint,
-    Distance,
-    Inside,
-    On,
-    Outside,
-    Tangent,
-)
-from .declared import Declared
-from .elements import Circle, Element, Line, Point
-from .names import is_name
-from .numbers import read_ratio, read_um
-from .refusal import Code, Faulty
+from pertxogai.language.constraints import (
+    MOST_PLACES, Angle, Block, BlockPlace, Constraint, Distance, Inside, On, Outside, Tangent)
+from pertxogai.language.declared import Declared
+from pertxogai.language.elements import Circle, Element, Line, Point
+from pertxogai.language.names import is_name
+from pertxogai.language.numbers import read_ratio, read_um
+from pertxogai.language.refusal import Code, Faulty
 
 _COUNTS = {
     "point": 4,

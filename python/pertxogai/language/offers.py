@@ -5,10 +5,10 @@ import re
 from collections.abc import Sequence
 from dataclasses import dataclass
 
-from .clusters import ClusterName, read_cluster
-from .refusal import Code, Faulty
-from .rows import read_lines_behind, rows_of
-from .sketch import Sketch, read_sketch
+from pertxogai.language.clusters import ClusterName, read_cluster
+from pertxogai.language.lines import read_lines_behind, rows_of
+from pertxogai.language.refusal import Code, Faulty
+from pertxogai.language.sketch import Sketch, read_sketch
 
 MOST_WORKERS = 64
 _WORKER = re.compile("[1-9][0-9]?")

@@ -6,20 +6,14 @@ from collections.abc import Sequence
 from dataclasses import dataclass
 from enum import Enum
 
-from .constraints import Constraint
-from .elements import Element
-from .entries import (
-    check_shape,
-    is_element,
-    read_constraint,
-    read_element,
-    read_length,
-    read_tangent,
-)
-from .names import checked_name, is_name
-from .numbers import checked_length_um, checked_ratio, mm_text
-from .refusal import Code, Faulty
-from .rows import rows_of, sound_rows
+from pertxogai.language.constraints import Constraint
+from pertxogai.language.elements import Element
+from pertxogai.language.entries import (
+    check_shape, is_element, read_constraint, read_element, read_length, read_tangent)
+from pertxogai.language.lines import rows_of, sound_rows
+from pertxogai.language.names import checked_name, is_name
+from pertxogai.language.numbers import checked_length_um, checked_ratio, mm_text
+from pertxogai.language.refusal import Code, Faulty
 
 MOST_NUMBER = 9_999_999
 _NUMBER = re.compile("[1-9][0-9]{0,6}")

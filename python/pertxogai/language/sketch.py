@@ -4,13 +4,13 @@ from __future__ import annotations
 from collections.abc import Iterable, Sequence
 from dataclasses import dataclass
 
-from ..kept import kept
-from .constraints import Constraint
-from .declared import Declared
-from .elements import Element
-from .entries import check_shape, is_element, read_constraint, read_element
-from .refusal import Code, Faulty, Refusal, Refused
-from .rows import Row, has_word, rows_of, sound_rows
+from pertxogai.cached import cached_on
+from pertxogai.language.constraints import Constraint
+from pertxogai.language.declared import Declared
+from pertxogai.language.elements import Element
+from pertxogai.language.entries import check_shape, is_element, read_constraint, read_element
+from pertxogai.language.lines import Row, has_word, rows_of, sound_rows
+from pertxogai.language.refusal import Code, Faulty, Refusal, Refused
 
 
 @dataclass(frozen=True)
@@ -39,7 +39,7 @@ class Sketch:
         if not self.elements:
             raise Refusal(Refused(2, Code.E18))
 
-    @kept
+    @cached_on
     def text(self) -> str:
         """The text in canonical spelling: header, elements, constraints, `end`. Comments aren't
         kept."""

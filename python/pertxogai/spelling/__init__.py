@@ -5,19 +5,19 @@ from __future__ import annotations
 from collections.abc import Iterator
 from dataclasses import dataclass, replace
 
+from pertxogai.cached import cached_on
 from pertxogai.drawing import Drawing
-from pertxogai.kept import kept
 from pertxogai.spelling.axes import Axes
 from pertxogai.spelling.crossings import with_crossings
 from pertxogai.spelling.facts import Facts
 from pertxogai.spelling.half_arcs import with_half_arcs
+from pertxogai.spelling.interpretation import Interpretation
 from pertxogai.spelling.lines import Lines
 from pertxogai.spelling.lowering import lowered
 from pertxogai.spelling.middles import with_ways
 from pertxogai.spelling.polygons import with_polygons
 from pertxogai.spelling.rails import Rails
 from pertxogai.spelling.slots import with_slots
-from pertxogai.spelling.spellings import Spellings
 from pertxogai.spelling.style import Style
 from pertxogai.spelling.writing import Care, Spelled, written
 
@@ -45,7 +45,7 @@ READINGS = (Reading(), Reading(middles=True), Reading(slots=False), Reading(ways
 
 def axes_of(drawing: Drawing, reading: Reading = READINGS[0]) -> Axes:
     """What a drawing says of x and y."""
-    return Spellings.of(_read(lowered(drawing), reading)).axes
+    return Interpretation.of(_read(lowered(drawing), reading)).axes
 
 
 def axes_said(drawing: Drawing) -> Axes:
@@ -59,7 +59,7 @@ def _met(heard: Facts) -> Facts:
     return with_half_arcs(with_crossings(replace(heard, own=dict(heard.own))))
 
 
-def readings(drawing: Drawing, before: Drawing = Drawing()) -> Iterator[Spellings]:
+def readings(drawing: Drawing, before: Drawing = Drawing()) -> Iterator[Interpretation]:
     """How a drawing is spelled by each reading that takes it otherwise than those before. What an
     edit has left of the drawing before is taken over."""
     heard = lowered(drawing, before)
@@ -70,13 +70,13 @@ def readings(drawing: Drawing, before: Drawing = Drawing()) -> Iterator[Spelling
         if facts not in seen:
             seen.append(facts)
             known = (each.redrawn(facts) for each in _made(before))
-            found = next((each for each in known if each), None) or Spellings.of(facts)
+            found = next((each for each in known if each), None) or Interpretation.of(facts)
             _made(drawing).append(found)
             yield found
 
 
-@kept
-def _made(drawing: Drawing) -> list[Spellings]:
+@cached_on
+def _made(drawing: Drawing) -> list[Interpretation]:
     """What was spelled of a drawing so far."""
     return []
 
@@ -89,5 +89,5 @@ def _read(heard: Facts, reading: Reading) -> Facts:
     return with_slots(facts) if reading.slots else facts
 
 
-__all__ = ["Axes", "Care", "READINGS", "Rails", "Reading", "Spelled", "Spellings", "Style",
+__all__ = ["Axes", "Care", "Interpretation", "READINGS", "Rails", "Reading", "Spelled", "Style",
            "axes_of", "axes_said", "readings", "spell", "written"]

@@ -14,9 +14,9 @@ from pertxogai.spelling.facts import (
     DATUM, ORIGIN_KNOT, Apart, Fact, Facts, HalfOf, Knot, Leans, LengthOf, Line, Middle, Mirror,
     Off, Owner, RadiusOf, Shift, Sized, Stays)
 from pertxogai.spelling.lean import SQUARE, Lean
+from pertxogai.spelling.linear import Form, LinearSystem, Number, Redundant
 from pertxogai.spelling.lines import Lines
 from pertxogai.spelling.settling import Settling
-from pertxogai.values import Form, LinearSystem, Number, Told
 
 
 class Coordinate(NamedTuple):
@@ -79,7 +79,7 @@ class Axes:
         self.system = LinearSystem(rank)
         self._frames_of: dict[Knot, set[int]] = {}
         self.equations: list[Equation] = []
-        self.told: list[tuple[Equation, Told]] = []
+        self.told: list[tuple[Equation, Redundant]] = []
         self.loose: list[Apart | Off] = []
         self._lines_say()
         for fact in facts.facts:
@@ -116,7 +116,7 @@ class Axes:
                     for (frame, upwards, first, second), sign in self._signs.items())
         return other if is_so else None
 
-    def surplus(self) -> list[tuple[Equation, Told]]:
+    def surplus(self) -> list[tuple[Equation, Redundant]]:
         """The equations that say nothing new, but for radii that are told again as they are."""
         return [(equation, told) for equation, told in self.told
                 if told.amount or not all(isinstance(key, RadiusOf)

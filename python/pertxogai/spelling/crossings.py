@@ -6,8 +6,8 @@ from collections.abc import Hashable
 from dataclasses import fields, replace
 
 from pertxogai.spelling.facts import Between, Fact, Facts, Knot, Leans, LengthOf, Lies, Line
+from pertxogai.spelling.linear import Form
 from pertxogai.spelling.lines import Crossing, Lines
-from pertxogai.values import Form
 
 
 def with_crossings(facts: Facts) -> Facts:

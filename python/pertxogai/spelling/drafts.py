@@ -10,20 +10,20 @@ from math import lcm
 
 from pertxogai import language
 from pertxogai.spelling.facts import Owner
-from pertxogai.values import Number
+from pertxogai.spelling.linear import Number
 
-Spot = tuple[Number, Number]
+PointUm = tuple[Number, Number]
 SCALES = (1, 2, 4, 5, 8, 10, 16, 20, 25, 40, 50, 80, 100, 125, 160, 200, 250, 400, 500, 625, 800,
           1000)
 ROOM_UM = Fraction(250_000_000)
 """How large a drawing may become, in micrometres: a quarter of what the language holds."""
 
 
-Said = Callable[[], frozenset[Owner]]
+Owners = Callable[[], frozenset[Owner]]
 """Who says something; it is called only where that is asked for."""
 
 
-def said_by(owners: Iterable[Owner]) -> Said:
+def said_by(owners: Iterable[Owner]) -> Owners:
     """Owners that are known."""
     known = frozenset(owners)
     return lambda: known
@@ -36,7 +36,7 @@ class Draft:
 
     first: str
     second: str
-    said: Said
+    said: Owners
     value_um: Number | None = None
     ratio: tuple[int, int] | None = None
 
@@ -64,8 +64,8 @@ class Sheet:
     """The elements and constraints so far; points and lines by their names, in micrometres of the
     drawing. told: the constraints of all drafts by scale, once they are told."""
 
-    points: dict[str, Spot] = field(default_factory=dict)
-    lines: dict[str, tuple[Spot, Spot]] = field(default_factory=dict)
+    points: dict[str, PointUm] = field(default_factory=dict)
+    lines: dict[str, tuple[PointUm, PointUm]] = field(default_factory=dict)
     drafts: list[Draft] = field(default_factory=list)
     told: dict[int, Worded] = field(default_factory=dict)
 

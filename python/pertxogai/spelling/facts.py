@@ -10,7 +10,7 @@ from typing import NamedTuple
 
 from pertxogai.drawing import Place, PointRef, ShapeRef
 from pertxogai.spelling.lean import Lean
-from pertxogai.values import Form, Number
+from pertxogai.spelling.linear import Form, Number
 
 
 @dataclass(frozen=True, order=True)

@@ -12,7 +12,7 @@ from pertxogai.spelling.directions import Directions
 from pertxogai.spelling.facts import (
     ORIGIN_KNOT, Apart, Facts, Knot, Leans, Lies, Line, Middle, Mirror, OneLine, Owner, Shift)
 from pertxogai.spelling.lean import SQUARE, Lean
-from pertxogai.values import Number
+from pertxogai.spelling.linear import Number
 
 
 @dataclass(frozen=True)

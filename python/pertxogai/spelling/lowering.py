@@ -5,20 +5,20 @@ from dataclasses import replace
 from fractions import Fraction
 from math import atan2, cos, hypot, pi, sin, sqrt
 
+from pertxogai.cached import cached_on
 from pertxogai.drawing import (
     X_AXIS, Y_AXIS, AngleBetween, Arc, Axis, Circle, Coincident, Collinear, Concentric, Constraint,
     Degrees, Diameter, Distance, Drawing, Equal, Fixed, Horizontal, Length, Midpoint, Origin, Pair,
     Parallel, ParallelDistance, Perpendicular, PointLineDistance, PointOn, PointRef, Radius,
     Segment, Sense, Shape, ShapeRef, Slope, Symmetric, Tangent, Touch, Vertical, Which, XDistance,
     YDistance, moved, points_of, run_um, touch, turn)
-from pertxogai.drawing.spoken import named
-from pertxogai.kept import kept
+from pertxogai.drawing.mentions import named
 from pertxogai.spelling.facts import (
     ORIGIN_KNOT, Apart, Between, Fact, Facts, Knot, Leans, LengthOf, Lies, Middle, Mirror, Off,
     OneLine, Owner, RadiusOf, Shift, Sized, Stays)
 from pertxogai.spelling.knots import knots_of
 from pertxogai.spelling.lean import SQUARE, Lean
-from pertxogai.values import Form, Number, small
+from pertxogai.spelling.linear import Form, Number, small
 
 LEVEL = Lean()
 RIMS = (Circle, Arc)
@@ -37,7 +37,7 @@ def lowered(drawing: Drawing, before: Drawing = Drawing()) -> Facts:
     return facts
 
 
-@kept
+@cached_on
 def _known(drawing: Drawing) -> list[Facts]:
     """The facts of a drawing, once they are found."""
     return []

@@ -11,7 +11,7 @@ from pertxogai.drawing import Slope
 from pertxogai.spelling.axes import Axes, Frame
 from pertxogai.spelling.facts import Facts, Knot, Leans, Line, Owner
 from pertxogai.spelling.lean import SQUARE, Lean
-from pertxogai.values import Form
+from pertxogai.spelling.linear import Form
 
 
 def with_implied(axes: Axes) -> Facts | None:

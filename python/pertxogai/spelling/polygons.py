@@ -13,7 +13,7 @@ from math import atan2, pi
 from pertxogai.spelling.facts import (
     Apart, Between, Fact, Facts, Knot, Leans, LengthOf, Line, Middle, RadiusOf, Sized)
 from pertxogai.spelling.lean import SQUARE, Lean
-from pertxogai.values import Form
+from pertxogai.spelling.linear import Form
 
 
 @dataclass(frozen=True)

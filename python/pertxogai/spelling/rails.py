@@ -10,8 +10,8 @@ from functools import cached_property
 
 from pertxogai.spelling.axes import Axes, Coordinate, Equation, rank
 from pertxogai.spelling.facts import DATUM, Knot, Line, Owner
+from pertxogai.spelling.linear import Form, LinearSystem, Number, small
 from pertxogai.spelling.style import Style
-from pertxogai.values import Form, LinearSystem, Number, small
 
 
 @dataclass(frozen=True)

@@ -5,7 +5,7 @@ from collections.abc import Iterator
 from typing import TYPE_CHECKING
 
 from pertxogai.spelling.facts import DATUM, Apart, Knot
-from pertxogai.values import Form
+from pertxogai.spelling.linear import Form
 
 if TYPE_CHECKING:
     from pertxogai.spelling.axes import Axes, Frame

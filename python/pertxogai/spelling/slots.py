@@ -9,7 +9,7 @@ from dataclasses import dataclass, replace
 
 from pertxogai.spelling.facts import Apart, Between, Facts, Knot, Leans, Line, Sized
 from pertxogai.spelling.lean import SQUARE, Lean
-from pertxogai.values import Form, LinearSystem
+from pertxogai.spelling.linear import Form, LinearSystem
 
 
 @dataclass(frozen=True)

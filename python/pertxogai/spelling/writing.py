@@ -9,12 +9,12 @@ from math import atan2, cos, hypot, pi, sin
 
 from pertxogai import language
 from pertxogai.spelling.axes import Axes, Coordinate, Equation, Frame
-from pertxogai.spelling.drafts import Draft, Rounded, Said, Sheet, Spot, said_by
+from pertxogai.spelling.drafts import Draft, Owners, PointUm, Rounded, Sheet, said_by
 from pertxogai.spelling.facts import DATUM, ORIGIN_KNOT, Between, Knot, Leans, Line, Owner
 from pertxogai.spelling.lean import SQUARE, Lean
+from pertxogai.spelling.linear import Form, Number, Redundant
 from pertxogai.spelling.rails import Rail, Rails, Run
 from pertxogai.spelling.style import Style
-from pertxogai.values import Form, Number, Told
 
 LEVEL = Lean()
 HALF_SQUARE = Lean(Fraction(45))
@@ -80,7 +80,7 @@ class Spelled:
     style: Style
     sketch: language.Sketch
     scale: int
-    said: tuple[Said, ...]
+    said: tuple[Owners, ...]
     points: dict[Knot, str]
     tracks: dict[str, Track | None]
     headings: tuple[Heading, ...]
@@ -123,7 +123,7 @@ class Writer:
         self.helps: dict[str, Lean] = {}
         self.behind: dict[str, Behind] = {}
         self.points: dict[Knot, str] = {}
-        self.ways: dict[Knot, Spot] = dict(axes.facts.drawn)
+        self.ways: dict[Knot, PointUm] = dict(axes.facts.drawn)
         self.left_out: set[Owner] = set()
         self.coarse = False
         self.bars: list[Rail] = []
@@ -280,7 +280,7 @@ class Writer:
                 shift = height - off
                 self.ways[coordinate.knot] = (x + a * shift, y + b * shift)
 
-    def _upright(self, rail: Rail) -> Spot:
+    def _upright(self, rail: Rail) -> PointUm:
         """The direction of the axis along which heights over a rail are told."""
         a, b = _unit(self._frame(rail).way)
         return (-b, a) if rail.upwards else (a, b)
@@ -316,7 +316,7 @@ class Writer:
 
     # -- constraints
 
-    def _say(self, first: str, second: str, said: Said, value: Number | None = None) -> None:
+    def _say(self, first: str, second: str, said: Owners, value: Number | None = None) -> None:
         self.sheet.drafts.append(Draft(first, second, said,
                                        max(value, -value) if value else None))
 
@@ -392,7 +392,7 @@ class Writer:
         return frozenset(owner for each in members[1:]
                          for owner in self.rails.owners(members[0], each))
 
-    def _angle(self, first: Track, second: Track, lean: Lean, by: Said) -> None:
+    def _angle(self, first: Track, second: Track, lean: Lean, by: Owners) -> None:
         def said() -> frozenset[Owner]:
             return by() - {Owner(0)}
 
@@ -459,7 +459,7 @@ class Writer:
                        if value == offset and not track.datum()), None)
         for coordinate, value in members.items():
             if coordinate.knot in self.points:
-                said: Said = partial(self.rails.owners, anchor, coordinate)
+                said: Owners = partial(self.rails.owners, anchor, coordinate)
                 if coordinate == anchor:
                     said = partial(self._rail_owners, track)
                 self._say(self.points[coordinate.knot], self.names[track], said, value - offset)
@@ -468,7 +468,7 @@ class Writer:
         """Puts the points of a line that leans on it."""
         for member in self.axes.lines.members(line):
             if member.knot in self.points:
-                said: Said = partial(self._direction_owners, line, line)
+                said: Owners = partial(self._direction_owners, line, line)
                 if member.owner:
                     said = said_by({member.owner})
                 self._say(self.points[member.knot], self.names[line], said)
@@ -503,7 +503,7 @@ class Writer:
         rail, end, from_line = self._over_rail(run)
         return _is_behind(self._height(rail, end), from_line)
 
-    def _say_height(self, knot: Knot, rail: Rail, said: Said, height: Number) -> None:
+    def _say_height(self, knot: Knot, rail: Rail, said: Owners, height: Number) -> None:
         """Says how high over a rail a point is. A height has the side on which the point is drawn;
         where that is the other one, it is told from a line of help that both are before."""
         drawn, name = self._height(rail, knot), self.names[rail]
@@ -617,7 +617,7 @@ class Writer:
         for lean, said in ((known, owners), (leans.lean, {leans.owner})):
             self.sheet.drafts.append(Draft(*names, said_by(said), ratio=(lean + turn).ratio()))
 
-    def _told_height(self, equation: Equation, told: Told, circuit: frozenset[Owner]) -> bool:
+    def _told_height(self, equation: Equation, told: Redundant, circuit: frozenset[Owner]) -> bool:
         for key, factor in equation.form.terms.items():
             rail = self.rails.rail(key) if isinstance(key, Coordinate) else None
             if rail is None or not isinstance(key, Coordinate):
@@ -634,7 +634,7 @@ class Writer:
                 return True
         return False
 
-    def _told_size(self, number: int, equation: Equation, told: Told,
+    def _told_size(self, number: int, equation: Equation, told: Redundant,
                    circuit: frozenset[Owner]) -> None:
         """A length or radius that is told twice, as a distance of two points of its own, told
         twice; as much longer both times as is needed where one of them is no length."""
@@ -688,7 +688,7 @@ def _is_behind(drawn: Number, height: Number) -> bool:
     return bool(height) and (drawn if height > 0 else -drawn) < 1
 
 
-def _unit(way: Spot) -> Spot:
+def _unit(way: PointUm) -> PointUm:
     """A drawn direction of length 1, near enough for a drawing; exact along the axes."""
     a, b = way
     if not a or not b:

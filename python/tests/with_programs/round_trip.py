@@ -123,7 +123,7 @@ def check_freecad(directory: Path) -> Iterator[tuple[str, bool]]:
 def check_solvespace(directory: Path) -> Iterator[tuple[str, bool]]:
     """A line for each of SolveSpace's files, and whether it is as expected."""
     sys.path.insert(0, str(TOP / "python"))
-    from pertxogai.solvespace import read_solvespace
+    from pertxogai.files.solvespace import read_solvespace
 
     def stored(path: Path) -> dict[str, tuple[float, float]]:
         drawing = read_solvespace(path)[0].drawing
@@ -151,9 +151,9 @@ def check_rough(directory: Path) -> Iterator[tuple[str, bool]]:
     a millimetre: whether it is placed where FreeCAD solved it, as FreeCAD itself has it."""
     sys.path.insert(0, str(TOP / "python"))
     from pertxogai.drawing import Arc, Circle
-    from pertxogai.freecad import read_freecad
-    from pertxogai.freecad.writing import write_places
-    from pertxogai.measure import Solution
+    from pertxogai.files.freecad import read_freecad
+    from pertxogai.files.freecad.writing import write_places
+    from pertxogai.judging.measure import Solution
 
     chance = random.Random(1)
     paths = [path for path in sorted(FILES.glob("*.FCStd"))

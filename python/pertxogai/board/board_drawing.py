@@ -1,0 +1,168 @@
+"""What the program answers on a document: the judgement, its plan, its other shapes, its claim."""
+from __future__ import annotations
+
+from dataclasses import dataclass, replace
+from functools import cached_property
+
+from pertxogai.board.construction import Construction
+from pertxogai.board.drawing_json import Sight
+from pertxogai.board.judgement_json import places_shown
+from pertxogai.board.panel import Untold
+from pertxogai.board.placed_elements import elements_placed
+from pertxogai.board.placed_parts import LaidPart, parts_laid, shown_between
+from pertxogai.board.shortage import shortage
+from pertxogai.drawing import Drawing
+from pertxogai.judging import Judgement, TooMuch, judge_at_once, too_much, weighed, with_choices
+from pertxogai.judging.judged_drawing import JudgedDrawing
+from pertxogai.judging.measure import Solution
+from pertxogai.judging.settled import solution_of
+from pertxogai.language import Refusal
+from pertxogai.language.claim import Claim
+from pertxogai.language.flips import Flip, Flips
+from pertxogai.output.picture.drawings import DrawnPlaces
+from pertxogai.program import ProgramError, Solver, Status
+from pertxogai.program.reports import (
+    ClaimFails, Flipped, Plan, Refused, Shape, Solved, Verdict, Verified, read_answer, read_flips,
+    read_plan, read_verify)
+
+
+class NotPlaced(Exception):
+    """What is asked for needs a drawing that is well and placed. The message is one line."""
+
+
+@dataclass
+class BoardDrawing:
+    """A drawing and the judgement on it, by a program that is asked for more. before: the drawing
+    that an edit has made this one from. sight, told: what the page was told of it last, and of the
+    judgement on it; None where that was trouble."""
+
+    drawing: Drawing
+    program: Solver
+    before: Drawing = Drawing()
+    sight: Sight | None = None
+    told: dict[str, object] | None = None
+
+    @cached_property
+    def judgement(self) -> Judgement:
+        """The judgement, in which what may go isn't measured. Raises ProgramError, Refusal,
+        NotHeld."""
+        return judge_at_once(self.drawing, self.program, before=self.before)
+
+    @cached_property
+    def too_much(self) -> TooMuch | Untold:
+        """Where the drawing is over, what is left out of it, or why that can't be told. Raises as
+        `judgement`."""
+        if self.judgement.verdict is not Verdict.OVER:
+            return TooMuch(())
+        known = () if isinstance(self.weighing, Untold) else self.weighing.surplus
+        dispensable = {each.number for each in known if each.off is not None}
+        try:
+            return too_much(self.judgement.names, self.program, dispensable)
+        except ProgramError as error:
+            return Untold.by(error)
+
+    @cached_property
+    def weighing(self) -> Judgement | Untold:
+        """The judgement with what may go measured, and with what comes of other choices where it
+        is well and isn't met, or why that can't be told. Raises as `judgement`."""
+        judgement = self.judgement
+        try:
+            return with_choices(weighed(judgement, self.program), self.program)
+        except ProgramError as error:
+            return Untold.by(error)
+
+    @property
+    def weighed(self) -> Judgement:
+        """The judgement, with what may go measured, and what comes of other choices, where the
+        program does that. Raises as `judgement`."""
+        return self.judgement if isinstance(self.weighing, Untold) else self.weighing
+
+    def with_file(self, judgement: Judgement, left_out: tuple[str, ...],
+                  name: str = "") -> JudgedDrawing:
+        """The drawing with a judgement on it, what of its file it can't say, and its name."""
+        return JudgedDrawing(name, self.drawing, judgement, left_out)
+
+    @property
+    def text(self) -> str:
+        """The drawing in the language."""
+        return self.judgement.asked.spelled.sketch.text()
+
+    @cached_property
+    def parts(self) -> tuple[LaidPart, ...]:
+        """Where the drawing is open, each part laid on it."""
+        if self.judgement.verdict is not Verdict.OPEN:
+            return ()
+        return parts_laid(self.judgement, self.program)
+
+    def shown(self) -> Solution | None:
+        """Where all is shown: as it is placed, or as the parts of what is open are laid; None for
+        where it is drawn."""
+        if self.judgement.solution is None and self.parts:
+            return shown_between(self.drawing, self.parts)
+        return self.judgement.solution
+
+    def placed(self, before: BoardDrawing | None) -> dict[str, object] | None:
+        """Where all lies as it is placed, as the page is told it; as it was told of a drawing
+        before, where all of that is placed so."""
+        solution = self.judgement.solution
+        if before and before.told and solution == before.judgement.solution:
+            known = before.told["placed"]
+            return known if isinstance(known, dict) else None
+        return None if solution is None else places_shown(DrawnPlaces(self.drawing, solution))
+
+    def solved(self) -> Solved:
+        """The places. Raises NotPlaced."""
+        solved = self.judgement.asked.solved
+        if not isinstance(solved, Solved) or self.judgement.solution is None:
+            raise NotPlaced("the drawing isn't well and placed, so there is nothing to show of it")
+        return solved
+
+    @cached_property
+    def plan(self) -> Plan:
+        """The plan of what is well. Raises NotPlaced."""
+        if self.judgement.verdict is not Verdict.WELL:
+            raise NotPlaced("the drawing isn't well, so there is no plan of it")
+        return read_plan(self.program.ask(["plan"], self.text).text)
+
+    @cached_property
+    def short(self) -> str:
+        """By how much the dimensions beneath a fault miss each other; empty where there is no
+        fault, or that isn't known. Raises as `judgement`."""
+        if self.judgement.failure is None:
+            return ""
+        try:
+            return shortage(self.judgement, self.plan, self.program)
+        except ProgramError:
+            return ""
+
+    def construction(self) -> Construction:
+        """The steps to be watched. Raises NotPlaced."""
+        return Construction(self.judgement, self.plan,
+                            elements_placed(self.judgement, self.solved()))
+
+    def flipped(self, steps: tuple[int, ...]) -> Judgement | Flipped:
+        """The judgement with the places of the other shape, in which the choices of these steps
+        are turned over; else what the program answers instead. Raises NotPlaced, Refusal."""
+        solved = self.solved()
+        text = Flips(self.judgement.asked.spelled.sketch, (Flip(steps),)).text()
+        report = self.program.ask(["flips", f"place={self.judgement.place.value}"], text)
+        if report.status is not Status.DONE:
+            refused = read_answer(("flips",), report)
+            raise Refusal(refused) if isinstance(refused, Refused) else NotPlaced(report.text)
+        (answer,) = read_flips(report.text)
+        if not isinstance(answer.answer, Shape):
+            return answer
+        other = Solved(answer.answer.places, answer.answer.tolerances, solved.steps, solved.bits)
+        asked = replace(self.judgement.asked, solved=other)
+        return replace(self.judgement, asked=asked,
+                       solution=solution_of(self.drawing, asked, other))
+
+    def claim(self) -> Claim:
+        """What is shown, as a claim. Raises NotPlaced."""
+        solved = self.solved()
+        return Claim(self.judgement.asked.spelled.sketch, self.plan.steps, solved.places,
+                     solved.length_tolerance_nm, solved.angle_tolerance_ppb)
+
+    def verified(self) -> Verified | ClaimFails:
+        """What the program says of that claim. Raises NotPlaced."""
+        return read_verify(self.program.ask(["verify"], self.claim().text()).text)

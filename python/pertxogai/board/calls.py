@@ -1,0 +1,267 @@
+"""The calls of the page: each takes an object of JSON and gives one."""
+from __future__ import annotations
+
+import json
+from collections.abc import Callable, Mapping
+from dataclasses import dataclass, field
+from fractions import Fraction
+from typing import TypeAlias
+
+from pertxogai.board.board_drawing import BoardDrawing, NotPlaced
+from pertxogai.board.document import read_document, write_document
+from pertxogai.board.drawing_json import sight_of
+from pertxogai.board.edit_fields import read_edit
+from pertxogai.board.edits import Move
+from pertxogai.board.fields import FieldRefused, Fields
+from pertxogai.board.judgement_json import (
+    excess_shown, judgement_shown, places_shown, without_known)
+from pertxogai.board.offers import offers
+from pertxogai.board.opened_files import opened
+from pertxogai.board.overlaid import laid_over
+from pertxogai.board.overlap import Overlapping
+from pertxogai.board.panel import Asides, Untold, lines_shown
+from pertxogai.drawing import Drawing, DrawingRefusal, DrawingUnsound, Place, WordFault, checked
+from pertxogai.files.contents import FileRefusal
+from pertxogai.files.kinds import InputRefused
+from pertxogai.judging import DrawingRefused, with_counts
+from pertxogai.judging.good import reasons_against
+from pertxogai.judging.measure import PointNm
+from pertxogai.language import NotHeld, Refusal
+from pertxogai.language.flips import Flip
+from pertxogai.output.drawing_sheet import DrawingSheet, NoPlaces
+from pertxogai.output.drawing_text import spare_json
+from pertxogai.output.dxf import MissingLibrary, Release
+from pertxogai.output.picture.drawings import DrawnPlaces
+from pertxogai.program import ProgramError, Solver, Status
+from pertxogai.program.reports import Flipped, NoChoice
+
+Json: TypeAlias = dict[str, object]
+KEPT = 4
+"""So many judgements are kept, for the calls that follow one."""
+
+
+@dataclass
+class Desk:
+    """What answers the calls, with the last judgements by the texts of their drawings."""
+
+    program: Solver
+    kept: dict[str, BoardDrawing] = field(default_factory=dict)
+    attending: Overlapping = field(init=False)
+
+    def __post_init__(self) -> None:
+        self.attending = Overlapping(self.program)
+
+    def answer(self, name: str, given: object) -> Json:
+        """What a call gives: `refused` and `trouble` are told in it."""
+        call = CALLS.get(name)
+        if call is None:
+            return trouble("call", f"{name!r} is no call of the board")
+        self.attending.begin()
+        try:
+            return call(self, Fields.of(given))
+        except DrawingRefusal as refusal:
+            return {"refused": {"line": refusal.line, "message": str(refusal)}}
+        except (WordFault, DrawingUnsound) as fault:
+            return trouble("edit", str(fault))
+        except NoPlaces as error:
+            return trouble("call", f"{error}; see the verdict, or export SVG, which shows it as "
+                           "drawn")
+        except (FieldRefused, InputRefused, FileRefusal, NotPlaced, DrawingRefused) as error:
+            return trouble("call", str(error))
+        except (ProgramError, MissingLibrary) as error:
+            return trouble("program", str(error))
+        except (Refusal, NotHeld) as error:
+            return trouble("language", f"the program takes no such sketch: {error}")
+
+    def text(self, name: str, given: object) -> str:
+        """What a call gives, as JSON."""
+        return json.dumps(self.answer(name, given))
+
+    def judged(self, text: str) -> BoardDrawing:
+        """The drawing of a text, with a program to ask. Raises DrawingRefusal."""
+        return self.keep(text, self.kept.get(text) or BoardDrawing(read_document(text), self.attending))
+
+    def keep(self, text: str, judged: BoardDrawing) -> BoardDrawing:
+        """Keeps a drawing by its text, as the latest; the one that was asked for longest ago
+        goes."""
+        self.kept.pop(text, None)
+        self.kept[text] = judged
+        while len(self.kept) > KEPT:
+            del self.kept[next(iter(self.kept))]
+        return judged
+
+    def edited(self, drawing: Drawing, known: BoardDrawing, given: Fields) -> Json:
+        """What is told of a drawing that an edit has made of a known one, kept by its text as
+        what that reads as; where the page `knows` what was told of that one, without what is as it
+        was. Raises DrawingUnsound."""
+        judged = BoardDrawing(checked(drawing, known.drawing), self.attending, known.drawing)
+        text = self.attending.meanwhile(lambda: write_document(drawing))
+        found = _whole(judged, given.texts("left_out"), known, given.flag("knows"))
+        self.keep(text.value, judged)
+        return {"text": text.value, **found}
+
+
+def trouble(kind: str, message: str) -> Json:
+    """Why a call has no answer: what kind of trouble, and one line that says what to do."""
+    return {"trouble": {"kind": kind, "message": " ".join(message.split())}}
+
+
+def _judge(desk: Desk, given: Fields) -> Json:
+    """The drawing of a text, and the judgement on it."""
+    text = given.text("text")
+    return {"text": text, **_whole(desk.judged(text), given.texts("left_out"))}
+
+
+def _whole(judged: BoardDrawing, left_out: tuple[str, ...], before: BoardDrawing | None = None,
+           is_known: bool = False) -> Json:
+    """The judgement, and what is drawn, by what was drawn before; where that `is_known` on the
+    page, without what is as it was. left_out: what the drawing can't say of its file."""
+    answer: Json = {"judgement": None}
+    shown, sight = None, before.sight if before else None
+    try:
+        if judged.drawing.geometry:
+            shown = judged.shown()
+            judged.told = judgement_shown(judged.with_file(judged.judgement, left_out),
+                                          judged.parts, judged.placed(before), judged.short)
+            known = before.told if before and is_known else None
+            answer["judgement"] = without_known(judged.told, known)
+    except DrawingRefused as error:
+        answer |= trouble("language", str(error))
+    except ProgramError as error:
+        answer |= trouble("program", str(error))
+    except (Refusal, NotHeld) as error:
+        answer |= trouble("language", f"the program takes no such sketch: {error}")
+    found = sight_of(judged.drawing, shown, sight)
+    judged.sight = None if "trouble" in answer else found
+    return {**answer, "drawing": found.told(sight if is_known else None)}
+
+
+def _edit(desk: Desk, given: Fields) -> Json:
+    """The text that an edit makes of a text, and all that `judge` tells of it."""
+    known = desk.judged(given.text("text"))
+    edit = read_edit(known.drawing, Fields.of(given.values.get("edit")))
+    return desk.edited(edit.on(known.drawing), known, given)
+
+
+def _offers(desk: Desk, given: Fields) -> Json:
+    """Which constraints fit some points and shapes."""
+    found = offers(desk.judged(given.text("text")).drawing, given.texts("names"))
+    return {"offers": [{"words": list(each.words), "sign": each.sign, "value": each.value}
+                       for each in found]}
+
+
+def _weigh(desk: Desk, given: Fields) -> Json:
+    """What is left out of a drawing that is over, and what may go instead, each with how far it is
+    off without it; where one of these can't be told, the other, and why. Of one that is well and
+    isn't met, what comes of other choices."""
+    judged = desk.judged(given.text("text"))
+    judgement, left, weighing = judged.weighed, judged.too_much, judged.weighing
+    unweighed = weighing if isinstance(weighing, Untold) else None
+    return {"spare": [spare_json(each) for each in judgement.surplus],
+            "excess": excess_shown(judgement, left),
+            "lines": lines_shown(judged.with_file(judgement, given.texts("left_out")),
+                                 Asides(left, unweighed, judged.short))}
+
+
+def _plan(desk: Desk, given: Fields) -> Json:
+    """The construction, step by step."""
+    return {"construction": desk.judged(given.text("text")).construction().shown()}
+
+
+def _flips(desk: Desk, given: Fields) -> Json:
+    """The other shape, in which the choices of some steps are turned over."""
+    judged = desk.judged(given.text("text"))
+    found = judged.flipped(_steps(given))
+    if isinstance(found, Flipped):
+        return trouble("flip", "this step has no choice that could be turned over"
+                       if isinstance(found.answer, NoChoice) else
+                       "turned over, this choice leaves the part no places with these dimensions")
+    here = judged.judgement.solution
+    assert here is not None
+    return {"placed": places_shown(DrawnPlaces(judged.drawing, laid_over(found, here)))}
+
+
+def _redraw(desk: Desk, given: Fields) -> Json:
+    """The text with all points drawn where they are placed, or where they are in another
+    shape: `steps` are turned over."""
+    judged = desk.judged(given.text("text"))
+    steps = _steps(given)
+    judged.solved()
+    found = judged.flipped(steps) if steps else judged.judgement
+    if isinstance(found, Flipped) or found.solution is None:
+        return trouble("flip", "the other shape has no places, so nothing is drawn so")
+    solution = found.solution
+    moves = tuple((ref, _place(solution.spot(ref))) for ref in judged.drawing.points())
+    radii = tuple((name, Fraction(solution.radius(name)) / 1000) for name in solution.radii)
+    return desk.edited(Move(moves, radii).on(judged.drawing), judged, given)
+
+
+def _steps(given: Fields) -> tuple[int, ...]:
+    """The steps whose choices are turned over. Raises FieldRefused where no list of flips takes
+    them."""
+    steps = given.wholes("steps")
+    try:
+        return Flip(steps).steps
+    except ValueError as error:
+        raise FieldRefused(f"'steps': {error}") from None
+
+
+def _place(spot: PointNm) -> Place:
+    """A place in nm, to the next micrometre."""
+    x, y = (Fraction(round(Fraction(each) / 1000)) for each in spot)
+    return Place(x, y)
+
+
+def _verify(desk: Desk, given: Fields) -> Json:
+    """What the program says of the claim that is shown, and the claim."""
+    judged = desk.judged(given.text("text"))
+    return {"said": judged.verified().text().strip(), "claim": judged.claim().text()}
+
+
+def _dxf(desk: Desk, given: Fields) -> Json:
+    """The shapes as placed in DXF, by the version of `release`. Raises NoPlaces."""
+    try:
+        release = Release(given.text("release"))
+    except ValueError:
+        known = ", ".join(each.value for each in Release)
+        raise FieldRefused(f"'release' has to be one of {known}") from None
+    return {"dxf": _sheet(desk, given).dxf(release)}
+
+
+def _svg(desk: Desk, given: Fields) -> Json:
+    """A picture as SVG."""
+    return {"svg": _sheet(desk, given).picture().svg}
+
+
+def _sheet(desk: Desk, given: Fields) -> DrawingSheet:
+    judged = desk.judged(given.text("text"))
+    judgement = with_counts(judged.weighed, desk.attending)
+    whole = judged.with_file(judgement, given.texts("left_out"), given.text("name"))
+    return DrawingSheet(whole, False)
+
+
+def _program_dxf(desk: Desk, given: Fields) -> Json:
+    """What the program itself writes as DXF of the sketch, byte by byte, where the drawing is
+    good. Raises NotPlaced where it isn't."""
+    judged = desk.judged(given.text("text"))
+    whole = judged.with_file(judged.judgement, given.texts("left_out"))
+    if why := "; ".join(each.text for each in reasons_against(whole)):
+        raise NotPlaced(f"no DXF is written of what isn't good: {why}")
+    words = ["dxf", f"place={judged.judgement.place.value}"]
+    report = desk.program.ask(words, judged.text)
+    if report.status is not Status.DONE:
+        raise NotPlaced("the program places nothing of the drawing as it stands, so it writes no "
+                        "DXF: see the verdict")
+    return {"dxf": report.text}
+
+
+def _open(desk: Desk, given: Fields) -> Json:
+    """The sketches of a file."""
+    return {"sketches": opened(given.text("name"), given.text("data"))}
+
+
+CALLS: Mapping[str, Callable[[Desk, Fields], Json]] = {
+    "judge": _judge, "edit": _edit, "offers": _offers, "weigh": _weigh, "plan": _plan,
+    "flips": _flips, "redraw": _redraw, "verify": _verify, "dxf": _dxf, "svg": _svg,
+    "program-dxf": _program_dxf, "open": _open,
+}

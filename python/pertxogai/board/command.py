@@ -1,0 +1,51 @@
+"""The words of `./pertxogai page`."""
+from __future__ import annotations
+
+import argparse
+from contextlib import suppress
+from typing import TYPE_CHECKING, TypeAlias
+
+from pertxogai.output.dxf import MissingLibrary
+from pertxogai.program import Program
+
+if TYPE_CHECKING:
+    from pertxogai.commands import Exit
+
+Commands: TypeAlias = "argparse._SubParsersAction[argparse.ArgumentParser]"
+WHAT = "opens a drawing board in the browser, on this machine alone"
+MOST_SECONDS = 86_400
+SECONDS = "how long a call of the board may take (default: %(default)g)"
+
+
+def add_page(commands: Commands) -> None:
+    """Adds the command."""
+    parser = commands.add_parser("page", help=WHAT, description=WHAT)
+    parser.set_defaults(act=_page)
+    parser.add_argument("--port", type=int, help="the port (default: your usual one, or any)")
+    parser.add_argument("--no-browser", action="store_true", help="print the address alone")
+    parser.add_argument("--program", metavar="PATH", help="the program `sketch`")
+    parser.add_argument("--seconds", type=float, default=10.0, help=SECONDS)
+
+
+def _page(options: argparse.Namespace) -> Exit:
+    """Serves until Ctrl+C. Raises CommandError, MissingLibrary, ProgramError."""
+    from dataclasses import replace
+
+    from pertxogai.commands import CommandError, Exit
+
+    try:
+        from pertxogai.board.serve import serve
+    except ImportError as error:
+        raise MissingLibrary(f"the board needs {error.name or 'flask'}: install Debian's "
+                             "python3-flask, or start it with a Python that has it") from None
+    if not 0 < options.seconds <= MOST_SECONDS:
+        raise CommandError(f"--seconds takes a number above 0 and up to {MOST_SECONDS}")
+    program = replace(Program.find(options.program), seconds=options.seconds)
+    try:
+        with suppress(KeyboardInterrupt):
+            serve(program, options.port, not options.no_browser)
+    except (OSError, OverflowError) as error:
+        raise CommandError(f"the board can't have port {options.port}: {error}; choose another "
+                           "by --port, or none") from None
+    print("the board is stopped")
+    return Exit.GOOD

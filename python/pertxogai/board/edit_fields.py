@@ -1,0 +1,54 @@
+"""The edits, read from the object of JSON that a call is given."""
+from __future__ import annotations
+
+from pertxogai.board.anchors import point_of, spot_of
+from pertxogai.board.edits import (
+    Ask, Call, Construction, Draw, Edit, Erase, Move, Rename, Shift, Value)
+from pertxogai.board.fields import FieldRefused, Fields
+from pertxogai.board.new_names import Figure
+from pertxogai.drawing import Drawing, Place
+
+
+def read_edit(drawing: Drawing, given: Fields) -> Edit:
+    """The edit that an object tells by its `do`. Raises FieldRefused, and WordFault where it
+    names what doesn't stand."""
+    match given.text("do"):
+        case "draw":
+            return _draw(drawing, given)
+        case "move":
+            return _move(drawing, given)
+        case "shift":
+            points = tuple(point_of(drawing.scene, each) for each in given.texts("points"))
+            return Shift(given.texts("shapes"), points, given.um("dx"), given.um("dy"))
+        case "erase":
+            return Erase(given.texts("shapes"), given.wholes("constraints"))
+        case "ask":
+            return Ask(given.texts("words"),
+                       given.text("value") if given.has("value") else None)
+        case "value":
+            return Value(given.whole("number"), given.text("value"))
+        case "call":
+            return Call(given.whole("number"), given.text("name"))
+        case "rename":
+            return Rename(given.text("old"), given.text("new"))
+        case "construction":
+            return Construction(given.texts("shapes"), given.flag("construction"))
+        case other:
+            raise FieldRefused(f"{other!r} is no edit of the board")
+
+
+def _draw(drawing: Drawing, given: Fields) -> Draw:
+    try:
+        figure = Figure(given.text("figure"))
+    except ValueError:
+        raise FieldRefused(f"{given.text('figure')!r} is no figure that is drawn") from None
+    spots = tuple(spot_of(drawing.scene, each) for each in given.objects("spots"))
+    radius = given.um("radius") if given.has("radius") else None
+    return Draw(figure, spots, radius, given.flag("construction"))
+
+
+def _move(drawing: Drawing, given: Fields) -> Move:
+    moves = tuple((point_of(drawing.scene, each.text("of")), Place(each.um("x"), each.um("y")))
+                  for each in given.objects("points"))
+    radii = tuple((each.text("of"), each.um("radius")) for each in given.objects("radii"))
+    return Move(moves, radii)

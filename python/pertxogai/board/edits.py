@@ -1,0 +1,216 @@
+"""The edits of the board: each makes another drawing of one. All raise WordFault or DrawingUnsound
+where the drawing's words don't allow it."""
+from __future__ import annotations
+
+from collections.abc import Iterator
+from contextlib import contextmanager
+from dataclasses import dataclass, replace
+from fractions import Fraction
+
+from pertxogai.board.anchors import leader_of, renamed, with_spot
+from pertxogai.board.line_reader import asked, drawn, valued
+from pertxogai.board.new_names import Figure, free_name
+from pertxogai.board.removal import without
+from pertxogai.board.typed import value_word
+from pertxogai.drawing import (
+    Anchor, Circle, Constraint, Drawing, DrawingUnsound, Note, Place, PointRef, WordFault,
+    points_of)
+from pertxogai.drawing.checks import standing
+from pertxogai.drawing.numbers import mm_text
+
+
+@dataclass(frozen=True)
+class Draw:
+    """Draws a figure through spots, under a free name: a segment or a rectangle from corner to
+    corner, a circle from its centre with a radius, an arc from its centre, counter-clockwise
+    from start to end."""
+
+    figure: Figure
+    spots: tuple[Anchor, ...]
+    radius_um: Fraction | None = None
+    construction: bool = False
+
+    def on(self, drawing: Drawing) -> Drawing:
+        """The drawing with it."""
+        name = free_name(drawing, self.figure)
+        words = [self.figure.value, name, *(_words(spot) for spot in self.spots)]
+        if self.radius_um is not None:
+            words.append(mm_text(self.radius_um))
+        said = drawn(drawing.geometry, " ".join(words).split())
+        shapes = tuple(replace(shape, construction=self.construction) for shape in said.shapes)
+        count = len(drawing.geometry)
+        notes = tuple(replace(note, before=note.before + len(shapes))
+                      if note.before >= count > 0 else note for note in drawing.notes)
+        return Drawing((*drawing.geometry, *shapes),
+                       (*drawing.constraints, *said.constraints), notes)
+
+
+@dataclass(frozen=True)
+class Move:
+    """Draws points elsewhere: each, and all that share its place."""
+
+    moves: tuple[tuple[PointRef, Place], ...]
+    radii: tuple[tuple[str, Fraction], ...] = ()
+
+    def on(self, drawing: Drawing) -> Drawing:
+        """The drawing with its points there."""
+        shapes = {shape.name: shape for shape in drawing.geometry}
+        for ref, place in self.moves:
+            leader = leader_of(drawing, ref)
+            if leader.shape in shapes:
+                shapes[leader.shape] = with_spot(shapes[leader.shape], leader.which, place)
+        for name, radius in self.radii:
+            rim = shapes.get(name)
+            if isinstance(rim, Circle):
+                shapes[name] = replace(rim, radius_um=radius)
+        return replace(drawing, geometry=tuple(shapes.values()))
+
+
+@dataclass(frozen=True)
+class Shift:
+    """Draws whole shapes, and points, a way further."""
+
+    shapes: tuple[str, ...]
+    points: tuple[PointRef, ...]
+    dx_um: Fraction
+    dy_um: Fraction
+
+    def on(self, drawing: Drawing) -> Drawing:
+        """The drawing with them there."""
+        leaders = {leader_of(drawing, ref): None for ref in self._refs(drawing)}
+        return Move(tuple((ref, self._there(drawing.drawn(ref))) for ref in leaders)).on(drawing)
+
+    def _refs(self, drawing: Drawing) -> tuple[PointRef, ...]:
+        shapes = [each for each in drawing.geometry if each.name in self.shapes]
+        return (*self.points, *(ref for shape in shapes for ref in points_of(shape)))
+
+    def _there(self, place: Place) -> Place:
+        return Place(place.x_um + self.dx_um, place.y_um + self.dy_um)
+
+
+@dataclass(frozen=True)
+class Erase:
+    """Takes shapes away, with all that is asked of them, and constraints by their places."""
+
+    shapes: tuple[str, ...]
+    constraints: tuple[int, ...]
+
+    def on(self, drawing: Drawing) -> Drawing:
+        """The drawing without them."""
+        return without(drawing, frozenset(self.shapes), frozenset(self.constraints))
+
+
+@dataclass(frozen=True)
+class Ask:
+    """Asks for what a line says, as `length Bottom`, and the value behind it, as `40`."""
+
+    words: tuple[str, ...]
+    value: str | None = None
+
+    def on(self, drawing: Drawing) -> Drawing:
+        """The drawing with that constraint, the last. Raises DrawingUnsound, with the words, where
+        the value isn't what they take."""
+        if self.value is None:
+            more = asked(drawing, list(self.words))
+        else:
+            with faults_of(" ".join(self.words)):
+                more = asked(drawing, [*self.words, value_word(self.value)])
+        return replace(drawing, constraints=(*drawing.constraints, *more),
+                       notes=_behind(drawing, len(more)))
+
+
+@dataclass(frozen=True)
+class Value:
+    """Gives the constraint at a place, from 1, another value."""
+
+    number: int
+    value: str
+
+    def on(self, drawing: Drawing) -> Drawing:
+        """The drawing with that value. Raises DrawingUnsound, with what the constraint is called,
+        where that isn't what it takes."""
+        old = _constraint(drawing, self.number)
+        with faults_of(drawing.called(self.number)):
+            return _with(drawing, self.number, valued(drawing, old, self.value))
+
+
+@dataclass(frozen=True)
+class Call:
+    """Names the constraint at a place, from 1; takes its name away where it is empty."""
+
+    number: int
+    name: str
+
+    def on(self, drawing: Drawing) -> Drawing:
+        """The drawing with that name."""
+        old = _constraint(drawing, self.number)
+        name = " ".join(self.name.split()) or None
+        return _with(drawing, self.number, replace(old, name=name))
+
+
+@dataclass(frozen=True)
+class Rename:
+    """Gives a shape another name, wherever it is spoken of."""
+
+    old: str
+    new: str
+
+    def on(self, drawing: Drawing) -> Drawing:
+        """The drawing with that name."""
+        standing(drawing.scene, self.old, self.old)
+        return replace(
+            drawing,
+            geometry=tuple(renamed(each, self.old, self.new) for each in drawing.geometry),
+            constraints=tuple(renamed(each, self.old, self.new) for each in drawing.constraints),
+        )
+
+
+@dataclass(frozen=True)
+class Construction:
+    """Makes shapes construction, or edges of the part again."""
+
+    shapes: tuple[str, ...]
+    construction: bool
+
+    def on(self, drawing: Drawing) -> Drawing:
+        """The drawing with them so."""
+        return replace(drawing, geometry=tuple(
+            replace(each, construction=self.construction) if each.name in self.shapes else each
+            for each in drawing.geometry))
+
+
+@contextmanager
+def faults_of(where: str) -> Iterator[None]:
+    """Has a word at fault told with what it is said of. Raises DrawingUnsound."""
+    try:
+        yield
+    except WordFault as fault:
+        raise DrawingUnsound(where, fault.word, fault.what) from None
+
+
+Edit = (Draw | Move | Shift | Erase | Ask | Value | Call | Rename | Construction)
+
+
+def _words(spot: Anchor) -> str:
+    if isinstance(spot, PointRef):
+        return str(spot)
+    return f"{mm_text(spot.x_um)} {mm_text(spot.y_um)}"
+
+
+def _constraint(drawing: Drawing, number: int) -> Constraint:
+    if not 1 <= number <= len(drawing.constraints):
+        raise WordFault(f"constraint {number}", "doesn't stand")
+    return drawing.constraints[number - 1]
+
+
+def _with(drawing: Drawing, number: int, constraint: Constraint) -> Drawing:
+    constraints = list(drawing.constraints)
+    constraints[number - 1] = constraint
+    return replace(drawing, constraints=tuple(constraints))
+
+
+def _behind(drawing: Drawing, more: int) -> tuple[Note, ...]:
+    """The notes once constraints are added: those at the end of the text stay there."""
+    end = len(drawing.geometry) + len(drawing.constraints)
+    return tuple(replace(note, before=note.before + more)
+                 if note.before >= end else note for note in drawing.notes)

@@ -1,0 +1,106 @@
+"""The judgement on a drawing, as one object of JSON for the page. Lengths are millimetres to look
+at; what was measured stays in whole nanometres."""
+from __future__ import annotations
+
+from collections.abc import Iterable, Mapping
+
+from pertxogai.board.motion import PointMm
+from pertxogai.board.panel import Asides, Untold, alone_of, excess_told, lines_shown
+from pertxogai.board.placed_parts import LaidPart
+from pertxogai.drawing import Arc, Circle, PointRef
+from pertxogai.judging import Judgement, TooMuch
+from pertxogai.judging.good import reasons_json
+from pertxogai.judging.judged_drawing import JudgedDrawing
+from pertxogai.judging.parts import parts_of_points, parts_of_shapes
+from pertxogai.output.drawing_text import spare_json
+from pertxogai.output.picture.drawings import DrawnPlaces
+from pertxogai.program.reports import Verdict
+
+Json = dict[str, object]
+LONG = "placed", "laid", "colours", "language"
+"""What of a judgement isn't told again to a page that knows it."""
+
+
+def judgement_shown(judged: JudgedDrawing, parts: Iterable[LaidPart], placed: Json | None,
+                    short: str = "") -> Json:
+    """What is judged, and where it is shown, as it is placed and by its parts; and by how much the
+    dimensions beneath a fault miss each other. What is left out of what is over isn't told yet."""
+    judgement = judged.judgement
+    return {
+        "verdict": judgement.verdict.value,
+        **reasons_json(judged),
+        "lines": lines_shown(judged, Asides(short=short)),
+        "spare": [spare_json(each) for each in judgement.surplus],
+        "excess": [],
+        "placed": placed,
+        "laid": [_laid(part) for part in parts],
+        "colours": _colours(judgement),
+        "missing": _missing(judgement),
+        "failure": _failure(judgement),
+        "language": judgement.asked.spelled.sketch.text(),
+    }
+
+
+def without_known(judgement: Json, known: Json | None) -> Json:
+    """A judgement without what is long, and is as it was in one that the page knows."""
+    return {what: now for what, now in judgement.items()
+            if known is None or what not in LONG or now != known[what]}
+
+
+def excess_shown(judgement: Judgement, left: TooMuch | Untold) -> list[Json]:
+    """The dimensions that are left out, each as it is told."""
+    if isinstance(left, Untold):
+        return []
+    alone = alone_of(judgement, left.dimensions)
+    return [{"number": each.number, "conflicts": each.conflicts,
+             "told": excess_told(each, alone)} for each in left.dimensions]
+
+
+def places_shown(where: DrawnPlaces) -> Json:
+    """Where all points lie, and how large the rims are."""
+    drawing = where.drawing
+    rims = [shape.name for shape in drawing.geometry if isinstance(shape, (Circle, Arc))]
+    return {"part": None, "points": _points({ref: where.at(ref) for ref in drawing.points()}),
+            "radii": {name: where.radius(name) for name in rims}}
+
+
+def _laid(part: LaidPart) -> Json:
+    return {"part": part.number, "points": _points(part.points), "radii": part.radii}
+
+
+def _points(points: Mapping[PointRef, PointMm]) -> Json:
+    return {str(ref): list(spot) for ref, spot in points.items()}
+
+
+def _colours(judgement: Judgement) -> Json:
+    """The parts of the points and shapes, by their names; none of what is all of one part."""
+    if judgement.verdict is Verdict.WELL:
+        return {}
+    return {**parts_of_points(judgement), **parts_of_shapes(judgement)}
+
+
+def _missing(judgement: Judgement) -> Json | None:
+    found = judgement.missing
+    if found is None:
+        return None
+    return {
+        "count": found.count,
+        "pieces": [{"number": piece.number, "elements": list(piece.elements)}
+                   for piece in found.pieces],
+        "joints": [{"first": joint.first.number, "second": joint.second.number,
+                    "tie": joint.tie.name.lower(), "do": joint.tie.value,
+                    "shared": list(joint.shared)} for joint in found.joints],
+    }
+
+
+def _failure(judgement: Judgement) -> Json | None:
+    """A fault: the program's words, what is beneath it, where, and by how much it misses."""
+    found = judgement.failure
+    if found is None:
+        return None
+    amount = None
+    if found.amount is not None:
+        low, high = found.amount.low, found.amount.high
+        amount = {"low": float(low), "high": float(high), "unit": found.amount.unit.value}
+    return {"text": found.text.strip(), "dimensions": list(found.dimensions),
+            "at": list(found.at), "amount": amount}

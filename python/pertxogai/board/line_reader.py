@@ -1,0 +1,39 @@
+"""Lines of the text that are read against a drawing that stands."""
+from __future__ import annotations
+
+from dataclasses import replace
+
+from pertxogai.board.typed import value_word
+from pertxogai.drawing import Constraint, Drawing, NamedShapes, Shape, WordFault, words_of
+from pertxogai.drawing.constraint_checks import check_constraint
+from pertxogai.drawing.constraint_lines import ConstraintWord, read_constraints
+from pertxogai.drawing.cursor import Cursor
+from pertxogai.drawing.shape_lines import ShapeWord, read_shape
+from pertxogai.drawing.shorthands import Expansion
+
+
+def asked(drawing: Drawing, words: list[str]) -> tuple[Constraint, ...]:
+    """The constraints of a line's words. Raises WordFault."""
+    scene = drawing.scene
+    try:
+        word = ConstraintWord(words[0])
+    except (ValueError, IndexError):
+        raise WordFault(" ".join(words[:1]), "is no word that asks") from None
+    found = read_constraints(word, Cursor(scene, words), None)
+    for constraint in found:
+        check_constraint(scene, constraint)
+    return found
+
+
+def valued(drawing: Drawing, constraint: Constraint, value: str) -> Constraint:
+    """A constraint with another value, as it is written. Raises WordFault."""
+    if not hasattr(constraint, "value_um") and not hasattr(constraint, "value"):
+        raise WordFault(words_of(constraint), "has no value that could be changed")
+    words = words_of(constraint).split()[:-1]
+    (found,) = asked(drawing, [*words, value_word(value)])
+    return replace(found, name=constraint.name)
+
+
+def drawn(shapes: tuple[Shape, ...], words: list[str]) -> Expansion:
+    """What a line draws behind the shapes that stand. Raises WordFault."""
+    return read_shape(ShapeWord(words[0]), frozenset(), Cursor(NamedShapes(shapes), words))

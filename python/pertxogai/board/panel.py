@@ -1,0 +1,270 @@
+"""The verdict in words: the lines of the panel beside the board, and what each of them selects."""
+from __future__ import annotations
+
+from collections.abc import Iterator, Sequence
+from dataclasses import dataclass
+from fractions import Fraction
+
+from pertxogai.board.faulted import fault_told
+from pertxogai.drawing.numbers import mm_text
+from pertxogai.judging import Excess, Judgement, Surplus, TooMuch
+from pertxogai.judging.choices import change
+from pertxogai.judging.faults import Failure
+from pertxogai.judging.good import Lack, reasons_against
+from pertxogai.judging.judged_drawing import JudgedDrawing
+from pertxogai.judging.measure import Unit, amount_text, units_text
+from pertxogai.program import ProgramError
+from pertxogai.program.reports import Solved, Verdict
+
+MOST_PIECES, MOST_JOINTS = 40, 20
+"""So many of them at most are told."""
+ROUNDING_UM = Fraction(2, 1000)
+"""Within what a repeat is isn't told where it is no more: places are whole nanometres."""
+
+
+@dataclass(frozen=True)
+class Line:
+    """A line: how it is set, the list of this name that it stands in, what it selects, the
+    constraint that it selects, or that it takes away, what of the file is told no longer once it is
+    done, and the part whose colour it has."""
+
+    text: str
+    kind: str = ""
+    list: str = ""
+    selects: tuple[str, ...] = ()
+    constraint: int | None = None
+    takes: int | None = None
+    forgets: str = ""
+    part: int | None = None
+
+
+@dataclass(frozen=True)
+class Untold:
+    """Why something of what is over can't be told, in one line."""
+
+    why: str
+
+    @staticmethod
+    def by(error: ProgramError) -> Untold:
+        """The program gave no answer."""
+        return Untold(" ".join(str(error).split()))
+
+
+@dataclass(frozen=True)
+class Asides:
+    """What is told beside a judgement. left: what is left out of what is over. unweighed: why what
+    may go isn't measured, where that failed. short: by how much the dimensions beneath a fault
+    miss each other, where that is known."""
+
+    left: TooMuch | Untold = TooMuch(())
+    unweighed: Untold | None = None
+    short: str = ""
+
+
+def lines_shown(judged: JudgedDrawing, asides: Asides = Asides()) -> list[dict[str, object]]:
+    """All lines, each with what it has."""
+    lines = *_told(judged, asides), *_left_out(judged), *_notes(judged.judgement)
+    return [{name: value for name, value in vars(line).items() if value not in ("", (), None)}
+            for line in lines]
+
+
+def _told(judged: JudgedDrawing, asides: Asides) -> Iterator[Line]:
+    judgement = judged.judgement
+    if judgement.failure is not None:
+        return _fault(judgement, judgement.failure, asides.short)
+    if judgement.verdict is Verdict.WELL:
+        return _well(judged)
+    if judgement.verdict is Verdict.OPEN:
+        return _open(judgement)
+    return _over(judgement, asides.left, asides.unweighed)
+
+
+def _well(judged: JudgedDrawing) -> Iterator[Line]:
+    """Why it isn't good, if it isn't; and how exactly it is placed."""
+    solved = judged.judgement.asked.solved
+    assert isinstance(solved, Solved)
+    unmet = [each for each in reasons_against(judged) if each.lack is not Lack.LEFT_OUT]
+    if unmet:
+        yield Line("The count is right, and it is placed, but not all is met or told:")
+    for reason in unmet:
+        yield Line(reason.text, list="what isn’t met", constraint=reason.constraint)
+    yield from _choices(judged.judgement)
+    within = (units_text(solved.length_tolerance_nm, Unit.NM),
+              units_text(solved.angle_tolerance_ppb, Unit.PPB))
+    count = "" if unmet else "Just as many dimensions as fix it. "
+    yield Line(f"{count}Placed within {within[0]} and {within[1]}.")
+    off = [each for each in judged.worst() if each.amount]
+    for each in off:
+        yield Line(f"measured: at most {amount_text(each)} off, "
+                   f"{each.called(judged.drawing)}", "quiet")
+    if not off:
+        yield Line("measured: each constraint holds exactly", "quiet")
+
+
+def _left_out(judged: JudgedDrawing) -> Iterator[Line]:
+    """What the drawing's file has beside, as long as that isn't done."""
+    if judged.not_drawn:
+        yield Line("Left out of the file, since a drawing can’t say it:")
+    for what in judged.not_drawn:
+        yield Line(what, list="left out of the file", forgets=what)
+
+
+def _open(judgement: Judgement) -> Iterator[Line]:
+    """What is missing, its pieces, and what ties them."""
+    found = judgement.missing
+    assert found is not None
+    plural = "s" if found.count > 1 else ""
+    yield Line(f"Lacks {found.count} dimension{plural} at least, by rank." if found.count
+               else "It doesn’t hold together by triangles.")
+    if found.whole is not None and found.whole.ways:
+        yield Line("It isn’t tied to the datum: the whole may still be "
+                   f"{found.whole.text()}, by rank.", "quiet")
+    for piece in found.pieces[:MOST_PIECES]:
+        yield Line(f"piece {piece.number}: {' '.join(piece.elements)}", list="pieces",
+                   selects=piece.elements, part=piece.number)
+    yield from _more(len(found.pieces) - MOST_PIECES, "pieces")
+    for joint in found.joints[:MOST_JOINTS]:
+        shared = f" share {' '.join(joint.shared)}" if joint.shared else ""
+        yield Line(f"pieces {joint.first.number} and {joint.second.number}{shared}: "
+                   f"{joint.tie.value}", list="what to do", selects=joint.shared)
+    yield from _more(len(found.joints) - MOST_JOINTS, "what to do")
+
+
+def _more(count: int, which: str) -> Iterator[Line]:
+    """That a list has so many lines more, which aren't told."""
+    if count > 0:
+        yield Line(f"and {count} more", "quiet", list=which)
+
+
+def _over(judgement: Judgement, left: TooMuch | Untold,
+          unweighed: Untold | None) -> Iterator[Line]:
+    """What is left out, and what becomes of the others; and what may go instead."""
+    listed = () if isinstance(left, Untold) else left.dimensions
+    numbers = {each.number for each in listed if not each.in_part}
+    others = [each for each in judgement.surplus if each.number not in numbers]
+    yield Line(_head(left, bool(others)))
+    alone = alone_of(judgement, listed)
+    for each in listed:
+        yield Line(f"{each.name}: {excess_told(each, alone)}", list="left out",
+                   takes=None if each.in_part else each.number)
+    if listed and others:
+        yield Line("Or one of these may go instead:" if len(listed) == 1
+                   else "Or one of these may go instead of one of them:")
+    for other in others:
+        then = "" if other.then is None else f"; the rest is {other.then.value} then"
+        yield Line(f"{other.name}: {_surplus(other)}{then}", list="spare constraints",
+                   takes=other.number)
+    yield from _beside_over(judgement, left, unweighed)
+
+
+def _beside_over(judgement: Judgement, left: TooMuch | Untold,
+                 unweighed: Untold | None) -> Iterator[Line]:
+    """What is lacking all the same, and what of what is over can't be told."""
+    for what in judgement.measured_off:
+        yield Line(f"Over as it was measured, which isn’t certified: {what} can’t be spelled, and the "
+                   "rest is enough.", "quiet")
+    for what in judgement.loose:
+        yield Line(f"A dimension is lacking all the same: {what}, by rank.")
+    if unweighed is not None:
+        yield Line(f"What may go can’t be measured: {unweighed.why}", "quiet")
+    if isinstance(left, Untold):
+        yield Line(f"What is left out can’t be told: {left.why}", "quiet")
+    elif left.helps:
+        yield Line("A line of help is too much too.")
+
+
+def _head(left: TooMuch | Untold, has_others: bool) -> str:
+    """What the first list of what is over is."""
+    if isinstance(left, TooMuch) and left.dimensions:
+        return f"Too many dimensions. {left.rest.value}"
+    return ("Too many dimensions. One of these may go:" if has_others
+            else "Too many dimensions, and none can go by itself.")
+
+
+def alone_of(judgement: Judgement, listed: Sequence[Excess]) -> Surplus | None:
+    """The only dimension that is left out as one that may go by itself, if it is; None where
+    several are left out, which are measured on other places than one that goes alone."""
+    if len(listed) != 1:
+        return None
+    return next((each for each in judgement.surplus if each.number == listed[0].number), None)
+
+
+def excess_told(each: Excess, alone: Surplus | None = None) -> str:
+    """What a dimension that is left out is: a repeat of the others, or a contradiction, by how
+    much, and which way the others are off it, where that is known. alone: the same as one that may
+    go by itself, if it is (`alone_of`)."""
+    return "in part too much: " * each.in_part + _excess(each, alone)
+
+
+def _excess(each: Excess, alone: Surplus | None) -> str:
+    if each.conflicts is None:
+        return "left out; not measured"
+    if not each.conflicts:
+        return _repeat(each.off_um or Fraction(0))
+    if each.off_um:
+        way = "more" if each.off_um > 0 else "less"
+        return f"a contradiction by {_mm(each.off_um)}, the others make it {way}"
+    return _surplus(alone) if alone is not None and alone.repeats() is False else "a contradiction"
+
+
+def _repeat(off_um: Fraction) -> str:
+    """A repeat, and within what, where that is more than rounding."""
+    return "a repeat" if abs(off_um) <= ROUNDING_UM else f"a repeat, within {_mm(off_um)}"
+
+
+def _mm(um: Fraction) -> str:
+    return f"{mm_text(abs(um))}\u00a0mm"
+
+
+def _surplus(each: Surplus) -> str:
+    """What of a dimension that may go is known: a repeat, or a contradiction by how much."""
+    if each.off is None:
+        return "may go"
+    off_um = Fraction(each.off.amount, 1000) if each.off.unit is Unit.NM else None
+    if each.repeats():
+        return _repeat(off_um or Fraction(0))
+    by = amount_text(each.off) if off_um is None else _mm(off_um)
+    return f"a contradiction by {by}"
+
+
+def _fault(judgement: Judgement, failure: Failure, short: str) -> Iterator[Line]:
+    """What has no place, and why, and the dimensions beneath."""
+    drawing = judgement.names.drawing
+    yield Line("The count is right, but the way it is drawn there are no places by these "
+               "dimensions.")
+    yield Line(fault_told(judgement, failure, short))
+    yield from _choices(judgement)
+    if failure.dimensions:
+        yield Line("Look at:")
+    numbers = {drawing.called(number): number for number in range(1, len(drawing.constraints) + 1)}
+    for name in failure.dimensions:
+        yield Line(name, list="dimensions beneath the fault", constraint=numbers.get(name))
+
+
+def _choices(judgement: Judgement) -> Iterator[Line]:
+    """What comes of drawing it the other way round, where that was tried."""
+    tried, sketch = judgement.tried, judgement.asked.spelled.sketch
+    if tried is None or tried.found is None and not tried.lists:
+        return
+    if tried.found is None:
+        count = "all of them" if tried.whole else "not all"
+        yield Line(f"No other choice of its steps will do: {tried.lists} were tried, {count}.",
+                   "quiet")
+        return
+    yield Line("The other way round it has places, and meets them:")
+    for step in tried.found.steps:
+        yield Line(change(sketch, step, judgement.names.element), list="what to draw otherwise")
+
+
+def _notes(judgement: Judgement) -> Iterator[Line]:
+    """What is to be known beside the verdict."""
+    for warning in judgement.warnings:
+        yield Line(f"look: {warning.text()}", "warning", selects=warning.shapes)
+    unsized = () if judgement.solution is not None else judgement.undimensioned
+    for what, names in (
+            ("couldn’t be spelled", judgement.left_out), ("taken as drawn", judgement.frozen),
+            ("told by a rounded value", judgement.rounded),
+            ("repeats others, and may go", judgement.repeats),
+            ("its size is told by nothing, so it is as drawn", unsized),
+            ("told by a value that was read off a placed part", judgement.grown)):
+        yield from (Line(f"{what}: {name}", "note") for name in names)

@@ -1,0 +1,101 @@
+"""One worker: a process that answers calls, a line of JSON each, until its input ends.
+
+`python -m pertxogai.board.worker PROGRAM SECONDS MEMORY_MIB`
+"""
+from __future__ import annotations
+
+import gc
+import json
+import resource
+import select
+import sys
+from collections.abc import Sequence
+from dataclasses import dataclass, field, replace
+from time import monotonic
+
+from pertxogai.board.calls import Desk, trouble
+from pertxogai.program import Answer, Program, ProgramTimedOut
+
+MEBIBYTE = 1 << 20
+PAUSE = 0.5
+"""Seconds without a call in which rubbish is collected."""
+MOST_RUBBISH = 100_000
+"""So many more things than when it was collected last, and it is collected behind the call."""
+
+
+@dataclass
+class WithDeadline:
+    """The program, with one limit of time over all that a call asks of it."""
+
+    program: Program
+    seconds: float
+    ends: float = 0.0
+    answered: dict[tuple[tuple[str, ...], str], Answer] = field(default_factory=dict)
+    """What was answered in this call."""
+
+    def begin(self) -> None:
+        """A call begins now."""
+        self.ends = monotonic() + self.seconds
+        self.answered.clear()
+
+    def ask(self, words: Sequence[str], text: str) -> Answer:
+        """Asks within what is left of the time, and what was asked in this call already not again.
+        Raises ProgramError."""
+        key = tuple(words), text
+        if key not in self.answered:
+            self.answered[key] = self._ask(words, text)
+        return self.answered[key]
+
+    def _ask(self, words: Sequence[str], text: str) -> Answer:
+        left = self.ends - monotonic()
+        try:
+            if left > 0:
+                return replace(self.program, seconds=left).ask(words, text)
+        except ProgramTimedOut:
+            pass
+        raise ProgramTimedOut(f"the call took over {self.seconds:g} s and was stopped: draw less "
+                              "at once, or judge the file by ./pertxogai judge")
+
+
+def main(words: Sequence[str]) -> None:
+    """Answers calls from standard input on standard output. Rubbish is collected while no call
+    comes, since that takes longer than a call may."""
+    path, seconds, memory_mib = words
+    limit_memory(int(memory_mib))
+    program = WithDeadline(Program(path, memory_mib=int(memory_mib) or None), float(seconds))
+    desk = Desk(program)
+    gc.disable()
+    gc.freeze()
+    while line := sys.stdin.readline():
+        program.begin()
+        print(json.dumps(_answer(desk, line)), flush=True)
+        if gc.get_count()[0] > MOST_RUBBISH or not select.select([sys.stdin], [], [], PAUSE)[0]:
+            gc.collect()
+
+
+def _answer(desk: Desk, line: str) -> dict[str, object]:
+    """The answer to a line; a fault of this side is told as one, and ends nothing."""
+    began = monotonic()
+    try:
+        call = json.loads(line)
+        found = desk.answer(call["call"], call["given"])
+        return {**found, "ms": round((monotonic() - began) * 1000)}
+    except MemoryError:
+        return trouble("memory", "the call took more memory than it may: draw less at once")
+    except RecursionError:
+        return trouble("call", "what was given is nested too deeply")
+    except Exception as error:  # pylint: disable=broad-except
+        return trouble("fault", f"a fault of the board, please tell it: {error!r}")
+
+
+def limit_memory(mib: int) -> None:
+    """Limits this process, and what it starts, where `mib` isn't 0. A lower limit that stands
+    already, as by `ulimit -v`, is kept."""
+    if mib:
+        standing = resource.getrlimit(resource.RLIMIT_AS)
+        lower = [each for each in standing if each != resource.RLIM_INFINITY]
+        resource.setrlimit(resource.RLIMIT_AS, (min([mib * MEBIBYTE, *lower]), standing[1]))
+
+
+if __name__ == "__main__":
+    main(sys.argv[1:])

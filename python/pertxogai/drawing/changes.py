@@ -1,0 +1,65 @@
+"""What an edit draws elsewhere, where it leaves the rest of a drawing as it was."""
+
+from __future__ import annotations
+
+from weakref import ref
+
+from pertxogai.cached import cached_on
+from pertxogai.drawing.constraints import (
+    Coincident, Concentric, Constraint, Perpendicular, PointOn, Tangent)
+from pertxogai.drawing.drawing import Drawing
+from pertxogai.drawing.geometry import Shape
+from pertxogai.drawing.named_shapes import points_of, spot_of
+from pertxogai.drawing.references import PointRef
+
+JOINING = Coincident, Concentric, Perpendicular, PointOn, Tangent
+"""Which points are one depends on these alone, and on the shapes."""
+
+
+def moved(drawing: Drawing, before: Drawing) -> frozenset[str] | None:
+    """The shapes that are drawn elsewhere than in the drawing before, and those that have a point
+    of them or one that is told to be one with theirs; None where the shapes are others, or where
+    other points are told to be one."""
+    known = _known(drawing)
+    if not known or known[0][0]() is not before:
+        known[:] = [(ref(before), _moved(drawing, before))]
+    return known[0][1]
+
+
+@cached_on
+def _known(drawing: Drawing) -> list[tuple[ref[Drawing], frozenset[str] | None]]:
+    """What was found against the drawing that was asked for last, which isn't kept by that."""
+    return []
+
+
+def _moved(drawing: Drawing, before: Drawing) -> frozenset[str] | None:
+    if len(drawing.geometry) != len(before.geometry) or _joining(drawing) != _joining(before):
+        return None
+    found = set()
+    for shape, old in zip(drawing.geometry, before.geometry):
+        if shape is not old:
+            if _structure(shape) != _structure(old):
+                return None
+            found.add(shape.name)
+        elif any(spot is not None and spot.shape in found for spot in _shared(shape)):
+            found.add(shape.name)
+    drawing.meets_as(before)
+    found |= {led.shape for led, leader in drawing.meetings.led() if leader.shape in found}
+    return frozenset(found)
+
+
+@cached_on
+def _joining(drawing: Drawing) -> tuple[Constraint, ...]:
+    return tuple(each for each in drawing.constraints if isinstance(each, JOINING))
+
+
+def _structure(shape: Shape) -> tuple[object, ...]:
+    """What of a shape isn't where it is drawn."""
+    return type(shape), shape.name, shape.outer, _shared(shape)
+
+
+@cached_on
+def _shared(shape: Shape) -> tuple[PointRef | None, ...]:
+    """The points of others that a shape has for its own, each at its place."""
+    spots = (spot_of(shape, each.which) for each in points_of(shape))
+    return tuple(spot if isinstance(spot, PointRef) else None for spot in spots)

@@ -1,0 +1,98 @@
+"""A whole drawing: its shapes, its constraints, its notes, and what they say at a look."""
+
+from __future__ import annotations
+
+from collections.abc import Iterator
+from dataclasses import dataclass
+from fractions import Fraction
+from functools import cached_property
+
+from pertxogai.cached import cached_on
+from pertxogai.drawing.constraints import Constraint
+from pertxogai.drawing.geometry import Datum, Shape
+from pertxogai.drawing.meetings import Meetings
+from pertxogai.drawing.named_shapes import NamedShapes, points_of, shares, spot_of
+from pertxogai.drawing.places import Place
+from pertxogai.drawing.references import Pair, PointRef
+from pertxogai.drawing.wording import words_of
+
+
+@dataclass(frozen=True)
+class Note:
+    """A note of the designer: the words behind a `#`.
+
+    `before` is the place, from 0, of the shape or constraint that it stands at, counted over all
+    shapes and then all constraints; their number is the end of the drawing. `beside` is true
+    where it stands in the line itself, and false where it has a line of its own above.
+    """
+
+    text: str
+    before: int
+    beside: bool = False
+
+
+@dataclass(frozen=True)
+class Drawing:
+    """What a designer drew and asked for.
+
+    The origin, the x axis and the y axis are there from the start, and aren't among `geometry`.
+    Whatever made a drawing, `pertxogai.drawing.checked` says whether it is sound; the methods
+    here are for sound drawings and raise KeyError at a name that isn't there.
+    """
+
+    geometry: tuple[Shape, ...] = ()
+    constraints: tuple[Constraint, ...] = ()
+    notes: tuple[Note, ...] = ()
+
+    @cached_property
+    def scene(self) -> NamedShapes:
+        """The shapes by their names."""
+        return NamedShapes(self.geometry)
+
+    @cached_property
+    def meetings(self) -> Meetings:
+        """Which points are one."""
+        return Meetings(self)
+
+    def meets_as(self, before: Drawing) -> None:
+        """Takes over which points are one from a drawing in which the same are."""
+        vars(self).setdefault("meetings", before.meetings.redrawn(self))
+
+    @cached_property
+    def wordings(self) -> tuple[str, ...]:
+        """The words of each constraint, without its name, in their order."""
+        return tuple(map(words_of, self.constraints))
+
+    def shape(self, name: str) -> Shape | Datum:
+        """The shape of that name, or that part of the datum; KeyError where there is none."""
+        return self.scene.shape(name)
+
+    def has(self, name: str) -> bool:
+        """Whether a shape, or a part of the datum, has that name."""
+        return self.scene.has(name)
+
+    def called(self, number: int) -> str:
+        """What the constraint at place `number`, from 1, is called: by the name that its owner
+        gave it, else by its place and its words, as `constraint 7 (length Bottom 120)`."""
+        name = self.constraints[number - 1].name
+        return name or f"constraint {number} ({self.wordings[number - 1]})"
+
+    def drawn(self, ref: PointRef) -> Place:
+        """Where a point is drawn."""
+        return self.scene.drawn(ref)
+
+    def drawn_radius_um(self, name: str) -> Fraction:
+        """The drawn radius of a circle or an arc, in micrometres."""
+        return self.scene.drawn_radius_um(name)
+
+    def points(self) -> Iterator[PointRef]:
+        """Every point of every shape, in their order, without the datum's origin."""
+        for shape in self.geometry:
+            yield from points_of(shape)
+
+    @cached_on
+    def shared(self) -> tuple[Pair, ...]:
+        """Each point that a shape shares with an earlier one, with the earlier one's point."""
+        spots = ((ref, spot_of(shape, ref.which)) for shape in self.geometry if shares(shape)
+                 for ref in points_of(shape))
+        return tuple(Pair(ref, spot) for ref, spot in spots if isinstance(spot, PointRef))

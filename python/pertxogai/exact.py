@@ -1,0 +1,99 @@
+"""Exact comparisons with square roots, and the least whole number that holds."""
+
+from __future__ import annotations
+
+from collections.abc import Callable
+from dataclasses import dataclass
+from fractions import Fraction
+
+Number = int | Fraction
+"""A whole number or a fraction; never a float. Whole numbers are the faster."""
+
+Vector = tuple[Number, Number]
+"""A place, or a way from one to another, by two components."""
+
+
+def between(first: Vector, second: Vector) -> Vector:
+    """The way from the first place to the second."""
+    return second[0] - first[0], second[1] - first[1]
+
+
+def dot(first: Vector, second: Vector) -> Number:
+    """The scalar product."""
+    return first[0] * second[0] + first[1] * second[1]
+
+
+def cross(first: Vector, second: Vector) -> Number:
+    """Twice the area that the two ways span, above 0 where the second turns to the left."""
+    return first[0] * second[1] - first[1] * second[0]
+
+
+def square(way: Vector) -> Number:
+    """The square of the length."""
+    return dot(way, way)
+
+
+@dataclass(frozen=True)
+class Root:
+    """The number `sign` times the square root of `square`, which isn't negative."""
+
+    sign: int
+    square: Number
+
+    def at_most(self, limit: Number) -> bool:
+        """Whether the number is at most the limit."""
+        if self.sign >= 0:
+            return limit >= 0 and self.square <= limit * limit
+        return limit >= 0 or self.square >= limit * limit
+
+    def at_least(self, limit: Number) -> bool:
+        """Whether the number is at least the limit."""
+        return Root(-1 if self.sign >= 0 else 1, self.square).at_most(-limit)
+
+
+def quotient(above: Number, below_square: Number) -> Root:
+    """The number `above` divided by the root of `below_square`, which is above 0."""
+    above_square = above * above
+    return Root(-1 if above < 0 else 1, above_square if below_square == 1
+                else Fraction(above_square) / below_square)
+
+
+def least(holds: Callable[[int], bool]) -> int:
+    """The least whole number, from 0, for which it holds; it holds for all greater ones too."""
+    if holds(0):
+        return 0
+    high = 1
+    while not holds(high):
+        high *= 2
+    low = high // 2
+    while high - low > 1:
+        middle = (low + high) // 2
+        low, high = (low, middle) if holds(middle) else (middle, high)
+    return high
+
+
+def off(root: Root, wanted: Number) -> int:
+    """The least whole number T with the root within T of the number that is wanted."""
+    return least(lambda t: root.at_most(wanted + t) and root.at_least(wanted - t))
+
+
+def length(way: Vector) -> Root:
+    """The length of a way."""
+    return Root(1, square(way))
+
+
+def apart(first: Vector, second: Vector) -> int:
+    """The least whole number within which two places are one."""
+    return off(length(between(first, second)), 0)
+
+
+def roots_apart(first: Number, second: Number) -> int:
+    """The least whole number T within which the roots of two numbers are equal."""
+    greater, lesser = max(first, second), min(first, second)
+    # root(greater) <= root(lesser) + t, squared: greater - lesser - t*t <= root(4*t*t*lesser)
+    return least(lambda t: Root(1, 4 * t * t * lesser).at_least(greater - lesser - t * t))
+
+
+def whole_up(value: Number) -> int:
+    """The least whole number that is at least the size of the value."""
+    return -(-abs(value.numerator) // value.denominator)

@@ -1,0 +1,255 @@
+"""The vertices and edges of a shape that FreeCAD stored as Open Cascade's text (`.brp`).
+
+Only what a sketch can refer to is read: places of vertices, and of edges their straight or
+circular curve. Edges and vertices are counted as FreeCAD counts them, Edge1, Vertex1 and so on:
+in the order in which a walk through the shape meets them first.
+"""
+
+from __future__ import annotations
+
+import math
+from collections.abc import Iterator
+from dataclasses import dataclass, field
+
+from pertxogai.files.freecad.space import Motion, Vector, add, scaled
+from pertxogai.files.limits import SOLIDS_LINES, SOLIDS_PARTS, Count
+
+_SECTIONS = ("Locations", "Curve2ds", "Curves", "Polygon3D", "PolygonOnTriangulations", "Surfaces",
+             "Triangulations", "TShapes")
+_PARTS = frozenset({"Ve", "Ed", "Wi", "Fa", "Sh", "So", "CS", "Co"})
+_TRIMMED, _TRIMMED_LENGTH = "8", 3
+_AROUND = {_TRIMMED: _TRIMMED_LENGTH, "9": 5}
+_FIXED = {1: 7, 2: 14, 3: 15, 4: 14, 5: 15}
+_MOST_DEPTH = 50
+
+
+class BadShape(Exception):
+    """The text isn't read as a shape."""
+
+
+@dataclass(frozen=True)
+class Straight:
+    """A straight edge, from place to place."""
+
+    start: Vector
+    end: Vector
+
+
+@dataclass(frozen=True)
+class Round:
+    """A circular edge: its centre, its axis, its ends, its radius; a whole circle where these
+    are one place."""
+
+    centre: Vector
+    axis: Vector
+    start: Vector
+    end: Vector
+    radius: float
+    whole: bool
+
+
+Edge = Straight | Round | None
+"""An edge; nothing where its curve is another one."""
+
+
+@dataclass(frozen=True)
+class Solid:
+    """The vertices and edges of a shape."""
+
+    vertices: tuple[Vector, ...]
+    edges: tuple[Edge, ...]
+
+
+@dataclass(frozen=True)
+class _Child:
+    """A part within a part: its number, and the number of its motion."""
+
+    part: int
+    motion: int
+
+
+@dataclass(frozen=True)
+class _Part:
+    """A part of a shape: its word, its lines, and the parts within."""
+
+    word: str
+    lines: tuple[str, ...]
+    children: tuple[_Child, ...]
+
+
+@dataclass
+class Budget:
+    """What may still be read of the shapes of a file: lines, and parts that are met."""
+
+    lines: Count = field(default_factory=lambda: Count("lines in its stored shapes", SOLIDS_LINES))
+    parts: Count = field(default_factory=lambda: Count("parts in its stored shapes", SOLIDS_PARTS))
+
+
+def read_solid(text: str, budget: Budget) -> Solid:
+    """The vertices and edges of a shape's text. Raises BadShape, and TooMuch where the budget is
+    spent."""
+    budget.lines.add(text.count("\n"))
+    try:
+        sections = _sections(text)
+        motions = _motions(sections["Locations"])
+        curves = tuple(_curves(" ".join(sections["Curves"]).split()))
+        return _Walk(motions, curves, sections["TShapes"], budget.parts).solid()
+    except (LookupError, ValueError, ArithmeticError, StopIteration):
+        raise BadShape("its shape isn't stored as FreeCAD stores it") from None
+
+
+def _sections(text: str) -> dict[str, list[str]]:
+    """The lines of each section."""
+    sections: dict[str, list[str]] = {}
+    lines: list[str] = []
+    for line in text.splitlines():
+        words = line.split()
+        if len(words) == 2 and words[0] in _SECTIONS:
+            lines = sections[words[0]] = []
+        else:
+            lines.append(line)
+    return sections
+
+
+def _motions(lines: list[str]) -> list[Motion]:
+    """The motions by their numbers; 0 is none."""
+    motions = [Motion()]
+    words = iter(" ".join(lines).split())
+    for kind in words:
+        if kind == "1":
+            rows = [[float(next(words)) for _ in range(4)] for _ in range(3)]
+            first, second, third = ((row[0], row[1], row[2]) for row in rows)
+            motions.append(Motion((first, second, third), (rows[0][3], rows[1][3], rows[2][3])))
+            continue
+        whole = Motion()
+        while (number := int(next(words))) != 0:
+            for _ in range(min(abs(power := int(next(words))), 8)):
+                one = motions[number] if power > 0 else motions[number].inverse()
+                whole = whole.after(one)
+        motions.append(whole)
+    return motions
+
+
+def _curves(words: list[str]) -> Iterator[tuple[int, list[float]]]:
+    """The curves: the kind of each, and its numbers where it is straight (1) or round (2); a piece
+    of a curve counts as the curve."""
+    place = 0
+    while place < len(words):
+        end = place + _length(words, place)
+        while words[place] == _TRIMMED:
+            place += _TRIMMED_LENGTH
+        kind = int(words[place])
+        yield kind, [float(word) for word in words[place + 1:end]] if kind in (1, 2) else []
+        place = end
+
+
+def _length(words: list[str], place: int) -> int:
+    """How many words the curve has that begins at a place. Raises ValueError where its counts
+    are none."""
+    begin = place
+    while words[place] in _AROUND:
+        place += _AROUND[words[place]]
+    kind = int(words[place])
+    if kind in _FIXED:
+        return place - begin + _FIXED[kind]
+    rational = _count(words[place + 1])
+    if kind == 6:
+        return place - begin + 3 + (_count(words[place + 2]) + 1) * (3 + rational)
+    if kind == 7:
+        poles, knots = _count(words[place + 4]), _count(words[place + 5])
+        return place - begin + 6 + poles * (3 + rational) + 2 * knots
+    raise ValueError(kind)
+
+
+def _count(word: str) -> int:
+    """A count among the words of a curve. Raises ValueError where it is below 0."""
+    if not word.isdecimal():
+        raise ValueError(word)
+    return int(word)
+
+
+class _Walk:
+    """A walk through the parts of a shape."""
+
+    def __init__(self, motions: list[Motion], curves: tuple[tuple[int, list[float]], ...],
+                 lines: list[str], met: Count) -> None:
+        self._motions = motions
+        self._curves = curves
+        self._parts = list(_parts(lines))
+        self._root = _children(lines[-1])[0] if lines[-1].strip() else _children(lines[-2])[0]
+        self._met: dict[tuple[int, Motion], str] = {}
+        self._count = met
+
+    def solid(self) -> Solid:
+        """All that the walk meets."""
+        self._visit(self._root, Motion(), 0)
+        vertices = tuple(motion.place(self._vertex(part))
+                         for (part, motion), word in self._met.items() if word == "Ve")
+        edges = tuple(self._edge(part, motion)
+                      for (part, motion), word in self._met.items() if word == "Ed")
+        return Solid(vertices, edges)
+
+    def _visit(self, child: _Child, above: Motion, depth: int) -> None:
+        self._count.add()
+        if depth > _MOST_DEPTH:
+            raise BadShape("its shape has parts within each other that are too many")
+        part = self._part(child.part)
+        motion = above.after(self._motions[child.motion]) if child.motion else above
+        if part.word in ("Ve", "Ed"):
+            self._met.setdefault((child.part, motion), part.word)
+        for within in part.children:
+            self._visit(within, motion, depth + 1)
+
+    def _part(self, number: int) -> _Part:
+        """A part by its number; they are written from the last to the first."""
+        return self._parts[len(self._parts) - number]
+
+    def _vertex(self, number: int) -> Vector:
+        x, y, z = (float(word) for word in self._part(number).lines[1].split())
+        return (x, y, z)
+
+    def _edge(self, number: int, motion: Motion) -> Edge:
+        for line in self._part(number).lines[1:]:
+            words = line.split()
+            if words[:1] == ["1"] and len(words) == 5:
+                within = motion.after(self._motions[int(words[2])])
+                kind, numbers = self._curves[int(words[1]) - 1]
+                return _placed(kind, numbers, within, float(words[3]), float(words[4]))
+        return None
+
+
+def _parts(lines: list[str]) -> Iterator[_Part]:
+    """The parts, each from its word to a line that ends in a star."""
+    word = ""
+    gathered: list[str] = []
+    for line in lines:
+        if line.strip() in _PARTS:
+            word, gathered = line.strip(), []
+        elif line.rstrip().endswith("*"):
+            yield _Part(word, tuple(gathered), tuple(_children(line)))
+        else:
+            gathered.append(line)
+
+
+def _children(line: str) -> list[_Child]:
+    """The parts that a line names: `+16 0 -15 0 *`."""
+    words = line.replace("*", " ").split()
+    return [_Child(int(words[place].lstrip("+-io")), int(words[place + 1]))
+            for place in range(0, len(words) - 1, 2)]
+
+
+def _placed(kind: int, numbers: list[float], motion: Motion, first: float, last: float) -> Edge:
+    """The edge of a curve between two of its parameters."""
+    vectors = [(numbers[i], numbers[i + 1], numbers[i + 2]) for i in range(0, len(numbers) - 2, 3)]
+    if kind == 1:
+        at, along = vectors
+        return Straight(*(motion.place(add(at, scaled(along, value))) for value in (first, last)))
+    if kind == 2:
+        centre, axis, right, up = vectors[:4]
+        radius = numbers[12]
+        start, end = (motion.place(add(centre, add(scaled(right, radius * math.cos(value)),
+                                                   scaled(up, radius * math.sin(value)))))
+                      for value in (first, last))
+        whole = abs(last - first - 2 * math.pi) < 1e-9
+        return Round(motion.place(centre), motion.way(axis), start, end, radius, whole)
+    return None

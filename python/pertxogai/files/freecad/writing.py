@@ -1,0 +1,156 @@
+"""Placed coordinates written back into a copy of a FreeCAD file.
+
+The numbers of the sketch's own shapes change, in `Document.xml`; every other byte of that and
+every other member of the zip stays as it is. FreeCAD finds the edges anew when it recomputes.
+"""
+
+from __future__ import annotations
+
+import copy
+import math
+import re
+from collections.abc import Mapping
+from decimal import Decimal
+from fractions import Fraction
+from pathlib import Path
+from typing import IO
+from zipfile import ZipFile
+
+from pertxogai.drawing import Arc, Circle, Point, PointRef, Segment, Shape, Which
+from pertxogai.files.atomic import written_whole
+from pertxogai.files.contents import FileRefusal
+from pertxogai.files.freecad.archive import DOCUMENT, open_archive, pieces_of, read_member
+from pertxogai.files.freecad.markup import Kept, Node
+from pertxogai.files.freecad.reading import SKETCH, objects_of
+from pertxogai.files.freecad.shapes import body_of, params_of, read_shapes
+from pertxogai.judging.good import GoodJudgement
+from pertxogai.judging.measure import Solution
+from pertxogai.judging.measure.upright import upright
+
+MOST_WRITTEN = 1 << 30
+"""The most bytes, unpacked, of a file that is copied."""
+
+_TAG = re.compile(rb"<(?:[^\"'>]|\"[^\"]*\"|'[^']*')*>")
+_NM_PER_MM = 10 ** 6
+_DIGITS = 16
+
+Written = dict[str, str]
+"""New values of attributes by their names."""
+
+
+def write_freecad(path: Path, out: Path, good: Mapping[str, GoodJudgement]) -> None:
+    """Copies a file to `out` with the shapes of each sketch that is named where its judgement,
+    which is good, has them. Raises FileRefusal as `write_places`."""
+    write_places(path, out, {name: each.solution for name, each in good.items()})
+
+
+def write_places(path: Path, out: Path, solutions: Mapping[str, Solution]) -> None:
+    """Copies a file to `out` with the shapes of each sketch that is named where its solution has
+    them. A shape of which a point or the radius wasn't placed stays as it is.
+
+    Raises FileRefusal where the file can't be read or copied, and where `out` is the file.
+    """
+    with open_archive(path) as archive:
+        document = read_member(path, archive, DOCUMENT)
+        if sum(info.file_size for info in archive.infolist()) > MOST_WRITTEN:
+            raise FileRefusal(f"{path}: has more than {MOST_WRITTEN >> 30} GB: too much to copy")
+        changed = _changed(path, document, solutions)
+        with written_whole(out, path) as stream:
+            _copy(path, archive, stream, changed)
+
+
+def _changed(path: Path, document: bytes, solutions: Mapping[str, Solution]) -> bytes:
+    """The document with the shapes of the named sketches placed anew."""
+    edits: dict[int, Written] = {}
+    for kept in objects_of(path, document):
+        if kept.kind == SKETCH and kept.name in solutions:
+            edits.update(_edits(kept, upright(solutions[kept.name])))
+    pieces, done = [], 0
+    for begin, values in sorted(edits.items()):
+        tag = _TAG.match(document, begin)
+        if tag is None:
+            raise FileRefusal(f"{path}: its {DOCUMENT} is written otherwise than FreeCAD does")
+        pieces += [document[done:begin], _rewritten(tag.group(), values)]
+        done = tag.end()
+    return b"".join([*pieces, document[done:]])
+
+
+def _edits(kept: Kept, solution: Solution) -> dict[int, Written]:
+    """For each tag of a sketch that changes, by the byte where it begins, its new values."""
+    nodes = kept.list_of("Geometry")
+    edits = {}
+    for one in read_shapes(nodes)[0]:
+        if one.shape is not None:
+            body = body_of(nodes[one.number])
+            values = _values(one.shape, body, solution)
+            if values is not None:
+                edits[body.begin] = values
+    return edits
+
+
+def _values(shape: Shape, body: Node, solution: Solution) -> Written | None:
+    """The new values of a shape; nothing where it wasn't placed whole."""
+    try:
+        match shape:
+            case Point(name):
+                return _spot(solution, name, Which.AT, "")
+            case Segment(name):
+                return (_spot(solution, name, Which.START, "Start")
+                        | _spot(solution, name, Which.END, "End"))
+            case Circle(name):
+                return (_spot(solution, name, Which.CENTRE, "Center")
+                        | {"Radius": _mm(Fraction(solution.radii[name]))})
+            case Arc(name):
+                return (_spot(solution, name, Which.CENTRE, "Center")
+                        | {"Radius": _mm(Fraction(solution.radii[name]))}
+                        | _ends(solution, name, body))
+    except KeyError:
+        return None
+
+
+def _spot(solution: Solution, name: str, which: Which, word: str) -> Written:
+    """The values of a point; KeyError where it wasn't placed."""
+    x, y = solution.points[PointRef(name, which)]
+    return {word + "X": _mm(Fraction(x)), word + "Y": _mm(Fraction(y))}
+
+
+def _ends(solution: Solution, name: str, body: Node) -> Written:
+    """The angles of an arc's ends."""
+    centre = solution.points[PointRef(name, Which.CENTRE)]
+    start, end = (solution.points[PointRef(name, which)] for which in (Which.START, Which.END))
+    first, last = params_of(body, _angle(centre, start), _angle(centre, end))
+    return {"StartAngle": f"{first:.{_DIGITS}f}", "EndAngle": f"{last:.{_DIGITS}f}"}
+
+
+def _angle(centre: tuple[int | Fraction, int | Fraction],
+           end: tuple[int | Fraction, int | Fraction]) -> float:
+    """The angle of the way from a centre to an end, in radians."""
+    return math.atan2(end[1] - centre[1], end[0] - centre[0])
+
+
+def _mm(value_nm: Fraction) -> str:
+    """Millimetres of nanometres, with as many digits as FreeCAD writes."""
+    exact = Decimal(value_nm.numerator) / Decimal(value_nm.denominator * _NM_PER_MM)
+    return f"{exact:.{_DIGITS}f}"
+
+
+def _rewritten(tag: bytes, values: Written) -> bytes:
+    """A tag with new values of some of its attributes."""
+    for name, value in values.items():
+        tag = re.sub(rb"(\s" + name.encode("ascii") + rb"\s*=\s*[\"'])[^\"']*",
+                     rb"\g<1>" + value.encode("ascii"), tag, count=1)
+    return tag
+
+
+def _copy(path: Path, archive: ZipFile, stream: IO[bytes], document: bytes) -> None:
+    """Writes a zip with the members of another, and the document anew."""
+    with ZipFile(stream, "w") as written:
+        written.comment = archive.comment
+        for info in archive.infolist():
+            kept = copy.copy(info)
+            if info.filename == DOCUMENT:
+                written.writestr(kept, document, info.compress_type)
+                continue
+            with written.open(kept, "w") as sink:
+                for piece in pieces_of(path, archive, info):
+                    sink.write(piece)

@@ -1,0 +1,138 @@
+"""The files that the commands read, by the ending of their names."""
+from __future__ import annotations
+
+from collections.abc import Callable, Mapping
+from dataclasses import dataclass
+from pathlib import Path
+
+from pertxogai.drawing import Drawing, DrawingRefusal, read_drawing
+from pertxogai.files.contents import FileRefusal, FileSketch
+from pertxogai.files.limits import TEXT_BYTES, read_bytes
+from pertxogai.files.printable import printable
+from pertxogai.judging.good import GoodJudgement
+
+
+class InputRefused(Exception):
+    """A file can't be read as a sketch. The message is one line, and says what to do."""
+
+
+@dataclass(frozen=True)
+class SketchText:
+    """A text of the sketch language, as it stands in the file: whether it is one, the program
+    says."""
+
+    name: str
+    text: str
+
+
+@dataclass(frozen=True)
+class DesignerDrawing:
+    """A designer's drawing, what of the file couldn't be said in it, the file's own name of it,
+    and which of the file's constraints only measure or are switched off."""
+
+    name: str
+    drawing: Drawing
+    left_out: tuple[str, ...] = ()
+    key: str = ""
+    aside: tuple[str, ...] = ()
+
+
+Input = SketchText | DesignerDrawing
+
+
+@dataclass(frozen=True)
+class Kind:
+    """A kind of file: the ending of its name, what it is, what reads it, and what copies it with
+    good sketches. What reads it has the limits of `limits`."""
+
+    suffix: str
+    what: str
+    read: Callable[[Path], tuple[Input, ...]]
+    write: Callable[[Path, Path, Mapping[str, GoodJudgement]], None] | None = None
+
+
+def kind_of(path: Path) -> Kind | None:
+    """What kind of file it is by its name; None where it isn't known."""
+    return next((it for it in KINDS if it.suffix.lower() == path.suffix.lower()), None)
+
+
+def read_inputs(path: Path) -> tuple[Input, ...]:
+    """The sketches of a file. Raises InputRefused."""
+    kind = kind_of(path)
+    if kind is None:
+        known = ", ".join(f"{it.suffix} ({it.what})" for it in KINDS)
+        raise InputRefused(
+            f"{path}: the ending {path.suffix or 'of its name'} isn't known: rename it to one of"
+            f" {known}"
+        )
+    try:
+        return kind.read(path)
+    except OSError as error:
+        raise InputRefused(f"{path}: can't be read: {error.strerror or error}") from None
+    except (DrawingRefusal, FileRefusal) as refusal:
+        raise InputRefused(_named(path, str(refusal))) from None
+
+
+def _named(path: Path, refusal: str) -> str:
+    return refusal if refusal.startswith(str(path)) else f"{path}: {refusal}"
+
+
+def _read_sketch(path: Path) -> tuple[Input, ...]:
+    with open(path, "rb") as source:
+        data = source.read(TEXT_BYTES + 1)  # One more than the program takes: it refuses that.
+    return (SketchText(printable(path.stem), data.decode("utf-8", "surrogateescape")),)
+
+
+def _read_drawing(path: Path) -> tuple[Input, ...]:
+    text = read_bytes(path, TEXT_BYTES).decode("utf-8", "surrogateescape")
+    return (DesignerDrawing(printable(path.stem), read_drawing(text)),)
+
+
+def _read_freecad(path: Path) -> tuple[Input, ...]:
+    from pertxogai.files.freecad.reading import read_freecad
+
+    return tuple(map(_found, read_freecad(path)))
+
+
+def _read_solvespace(path: Path) -> tuple[Input, ...]:
+    from pertxogai.files.solvespace.reading import read_solvespace
+
+    return tuple(map(_found, read_solvespace(path)))
+
+
+def _read_outline(path: Path) -> tuple[Input, ...]:
+    from pertxogai.files.dxf.reading import read_outline
+
+    return (_found(read_outline(path).accepted()),)
+
+
+def _found(found: FileSketch) -> DesignerDrawing:
+    aside = tuple(printable(f"{each.name} ({each.why.value})") for each in found.aside)
+    return DesignerDrawing(
+        printable(found.label or found.name),
+        found.drawing,
+        tuple(printable(str(each)) for each in found.left_out),
+        found.name,
+        aside,
+    )
+
+
+def _write_freecad(path: Path, out: Path, good: Mapping[str, GoodJudgement]) -> None:
+    from pertxogai.files.freecad.writing import write_freecad
+
+    write_freecad(path, out, good)
+
+
+def _write_solvespace(path: Path, out: Path, good: Mapping[str, GoodJudgement]) -> None:
+    from pertxogai.files.solvespace.writing import write_solvespace
+
+    write_solvespace(path, out, good)
+
+
+KINDS = (
+    Kind(".sketch", "the sketch language", _read_sketch),
+    Kind(".drawing", "a designer's drawing", _read_drawing),
+    Kind(".FCStd", "FreeCAD", _read_freecad, _write_freecad),
+    Kind(".slvs", "SolveSpace", _read_solvespace, _write_solvespace),
+    Kind(".dxf", "a DXF drawing", _read_outline),
+)

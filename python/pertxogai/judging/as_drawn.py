@@ -1,0 +1,50 @@
+"""Lengths and radii that nothing tells, taken as they are drawn.
+
+One constraint that needs such a value is then not spelled but only measured, since the value takes
+its place. """
+from __future__ import annotations
+
+from collections.abc import Iterator
+from dataclasses import dataclass
+from fractions import Fraction
+from math import isqrt
+
+from pertxogai.spelling.axes import Axes, Equation
+from pertxogai.spelling.facts import Facts, Knot, Line, Owner
+from pertxogai.spelling.linear import Form, Number
+from pertxogai.spelling.rails import Rails, Size
+
+
+@dataclass(frozen=True)
+class Frozen:
+    """Axes with one more value, and the constraint that is only measured now."""
+
+    axes: Axes
+    owner: Owner
+
+
+def frozen_choices(axes: Axes, rails: Rails) -> Iterator[Frozen]:
+    """Each way to take an untold distance as it is drawn: in turn, what needs it is only
+    measured."""
+    for fact in axes.loose:
+        rest = rails.symbols(fact.value)
+        if len(rest.terms) == 1 and isinstance(next(iter(rest.terms)), Size):
+            drawn = _drawn(axes.facts, *fact.ends())
+            equation = Equation(rails.unfold(rest) - Form(number=drawn), frozenset({fact.owner}))
+            yield Frozen(axes.replaced(None, equation, fact), fact.owner)
+
+
+def _drawn(facts: Facts, first: Knot, second: Knot | Line) -> Fraction:
+    """How far a point is drawn from a point, or from a line, in micrometres."""
+    x, y = facts.drawn[first]
+    if isinstance(second, Knot):
+        u, v = facts.drawn[second]
+        return _root((u - x) ** 2 + (v - y) ** 2)
+    a, b = facts.direction(second)
+    u, v = facts.drawn[facts.own[second][0]]
+    aside = a * (y - v) - b * (x - u)
+    return max(aside, -aside) / _root(a * a + b * b)
+
+
+def _root(square: Number) -> Fraction:
+    return Fraction(isqrt(int(square * 10 ** 24)), 10 ** 12)

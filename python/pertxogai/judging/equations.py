@@ -1,0 +1,336 @@
+"""What each word of a drawing asks, and what its shapes ask by themselves, as numbers that are 0
+where it holds: millimetres, or the sine of an angle. With their slopes, at any place of the points.
+
+The unknowns are the coordinates of each point that isn't shared with an earlier one, and the radii
+of circles."""
+from __future__ import annotations
+
+from collections.abc import Iterator
+from dataclasses import dataclass
+from fractions import Fraction
+from functools import cached_property
+from typing import Generic
+
+from pertxogai.drawing import (
+    ORIGIN, X_AXIS, Y_AXIS, AngleBetween, Arc, Axis, Circle, Coincident, Collinear, Concentric,
+    Constraint, Diameter, Distance, Drawing, Equal, Fixed, Horizontal, Length, Midpoint, Origin,
+    Pair, Parallel, ParallelDistance, Perpendicular, PointLineDistance, PointOn, PointRef, Radius,
+    Segment, Shape, ShapeRef, Symmetric, Tangent, Touch, Vertical, Which, XDistance, YDistance,
+    points_of, run_um, touch, turn)
+from pertxogai.drawing.places import UM_PER_MM
+from pertxogai.judging.jets import Jet, N, Numbers
+from pertxogai.judging.trigonometry import way_of
+from pertxogai.spelling.facts import Owner
+
+Way = tuple[Jet[N], Jet[N]]
+
+
+@dataclass(frozen=True)
+class Unknowns:
+    """Which places of the vector the points' coordinates have, x and then y, and the radii."""
+
+    drawing: Drawing
+    points: dict[PointRef, int]
+    radii: dict[str, int]
+    size: int
+
+    @staticmethod
+    def of(drawing: Drawing) -> Unknowns:
+        """Those of a drawing. A point that is the origin has none."""
+        earlier = {pair.first: pair.second for pair in drawing.shared()}
+        points: dict[PointRef, int] = {}
+        size = 0
+        for ref in drawing.points():
+            leader = ref
+            while leader in earlier:
+                leader = earlier[leader]
+            if leader == ORIGIN:
+                continue
+            if leader not in points:
+                points[leader], size = size, size + 2
+            points[ref] = points[leader]
+        rims = [each.name for each in drawing.geometry if isinstance(each, Circle)]
+        radii = {name: size + place for place, name in enumerate(rims)}
+        return Unknowns(drawing, points, radii, size + len(rims))
+
+    def drawn(self) -> list[Fraction]:
+        """The vector as it is drawn, in millimetres; points that are one where the first is."""
+        found = [Fraction(0)] * self.size
+        for ref, place in self.points.items():
+            at = self.drawing.meetings.drawn(ref)
+            found[place:place + 2] = at.x_um / UM_PER_MM, at.y_um / UM_PER_MM
+        for name, place in self.radii.items():
+            found[place] = self.drawing.drawn_radius_um(name) / UM_PER_MM
+        return found
+
+    def pins_the_origin(self) -> bool:
+        """Whether a point of a shape is the origin itself."""
+        return any(ref not in self.points for ref in self.drawing.points())
+
+
+@dataclass(frozen=True)
+class Plane(Generic[N]):
+    """A drawing at a vector, by numbers of a kind."""
+
+    unknowns: Unknowns
+    vector: list[N]
+    numbers: Numbers[N]
+
+    @property
+    def drawing(self) -> Drawing:
+        """What is drawn."""
+        return self.unknowns.drawing
+
+    @cached_property
+    def _nothing(self) -> Jet[N]:
+        return self.number(Fraction(0))
+
+    def number(self, value: Fraction) -> Jet[N]:
+        """A number that doesn't change."""
+        return Jet(self.numbers.of(value), {})
+
+    def mm(self, value_um: Fraction) -> Jet[N]:
+        """Micrometres in millimetres."""
+        return self.number(value_um / UM_PER_MM)
+
+    def unknown(self, place: int) -> Jet[N]:
+        """An unknown."""
+        return Jet(self.vector[place], {place: self.numbers.of(Fraction(1))})
+
+    def spot(self, ref: PointRef) -> Way[N]:
+        """Where a point lies."""
+        place = self.unknowns.points.get(ref)
+        if place is None:
+            return self._nothing, self._nothing
+        return self.unknown(place), self.unknown(place + 1)
+
+    def ends(self, shape: ShapeRef) -> tuple[Way[N], Way[N]]:
+        """Where a segment or an arc starts and ends."""
+        start, end = (self.spot(PointRef(shape.name, each)) for each in (Which.START, Which.END))
+        return start, end
+
+    def is_line(self, shape: ShapeRef) -> bool:
+        """Whether it is a segment or an axis."""
+        return isinstance(self.drawing.shape(shape.name), (Segment, Axis))
+
+    def way(self, line: ShapeRef) -> Way[N]:
+        """The direction of a line."""
+        if line in (X_AXIS, Y_AXIS):
+            one = self.number(Fraction(1))
+            return (one, self._nothing) if line == X_AXIS else (self._nothing, one)
+        return between(*self.ends(line))
+
+    def centre(self, rim: ShapeRef) -> Way[N]:
+        """The centre of a rim."""
+        return self.spot(PointRef(rim.name, Which.CENTRE))
+
+    def radius(self, rim: ShapeRef) -> Jet[N]:
+        """The radius of a circle, or of an arc by its start."""
+        place = self.unknowns.radii.get(rim.name)
+        if place is not None:
+            return self.unknown(place)
+        return self.size(between(self.centre(rim), self.ends(rim)[0]))
+
+    def size(self, way: Way[N]) -> Jet[N]:
+        """The length of a way."""
+        return dot(way, way).root(self.numbers)
+
+    def aside(self, point: Way[N], line: ShapeRef) -> Jet[N]:
+        """How far a place is to the left of a line."""
+        way = self.way(line)
+        begin = self.spot(ORIGIN) if line in (X_AXIS, Y_AXIS) else self.ends(line)[0]
+        return cross(way, between(begin, point)) / self.size(way)
+
+    # -- what is asked
+
+    def all(self) -> Iterator[tuple[Owner, Jet[N]]]:
+        """What the shapes ask, and then all words, and who asks it."""
+        yield from self.of_shapes()
+        for number, constraint in enumerate(self.drawing.constraints, 1):
+            yield from ((Owner(number), jet) for jet in self.asked(constraint))
+
+    def of_shapes(self) -> Iterator[tuple[Owner, Jet[N]]]:
+        """What the shapes ask: both ends of an arc lie on its circle, and what is given from
+        outside lies where it is drawn."""
+        for number, shape in enumerate(self.drawing.geometry, 1):
+            owner = Owner(number, True)
+            if isinstance(shape, Arc):
+                arc = ShapeRef(shape.name)
+                yield owner, self.size(between(self.centre(arc), self.ends(arc)[1])) - self.radius(arc)
+            if shape.outer:
+                yield from ((owner, jet) for jet in self._stays(shape))
+
+    def asked(self, constraint: Constraint) -> list[Jet[N]]:
+        """What a constraint asks."""
+        match constraint:
+            case Coincident(first, second):
+                return self._one(first, second)
+            case Concentric(first, second):
+                return list(between(self.centre(first), self.centre(second)))
+            case PointOn() | Midpoint() | Symmetric():
+                return self._of_points(constraint)
+            case Horizontal() | Vertical() | XDistance() | YDistance():
+                return [self._run(constraint)]
+            case Parallel() | Perpendicular() | AngleBetween() | Collinear():
+                return self._of_lines(constraint)
+            case Tangent():
+                return self._tangent(constraint)
+            case Fixed(what):
+                return list(self._fixed(what))
+            case _:
+                return [self._size(constraint)]
+
+    def _one(self, first: PointRef, second: PointRef) -> list[Jet[N]]:
+        """That two points are one."""
+        return list(between(self.spot(first), self.spot(second)))
+
+    def _met(self, at: Pair | None) -> list[Jet[N]]:
+        """That two ends are one; nothing where they are by how they are drawn."""
+        if at is None:
+            return []
+        places = self.unknowns.points
+        same = places.get(at.first) == places.get(at.second)
+        return [] if same else self._one(at.first, at.second)
+
+    def _of_points(self, constraint: PointOn | Midpoint | Symmetric) -> list[Jet[N]]:
+        match constraint:
+            case PointOn(point, curve) if self.is_line(curve):
+                return [self.aside(self.spot(point), curve)]
+            case PointOn(point, curve):
+                return [self.size(between(self.centre(curve), self.spot(point))) - self.radius(curve)]
+            case Midpoint(point, segment):
+                return list(between(self._middle(*self.ends(segment)), self.spot(point)))
+            case Symmetric(first, second, PointRef() as about):
+                return list(between(self._middle(self.spot(first), self.spot(second)),
+                                    self.spot(about)))
+            case Symmetric(first, second, ShapeRef() as about):
+                one, other, way = self.spot(first), self.spot(second), self.way(about)
+                return [self.aside(self._middle(one, other), about),
+                        dot(way, between(one, other)) / self.size(way)]
+        raise AssertionError(constraint)
+
+    def _middle(self, first: Way[N], second: Way[N]) -> Way[N]:
+        half = self.numbers.of(Fraction(1, 2))
+        return (first[0] + second[0]).times(half), (first[1] + second[1]).times(half)
+
+    def _run(self, constraint: Horizontal | Vertical | XDistance | YDistance) -> Jet[N]:
+        """How far two points are apart along an axis, less what is asked."""
+        upwards = isinstance(constraint, (Horizontal, YDistance))
+        match constraint:
+            case XDistance(first, second) | YDistance(first, second):
+                wanted = run_um(self.drawing, constraint)
+            case Horizontal(Pair(first, second)) | Vertical(Pair(first, second)):
+                wanted = Fraction(0)
+            case Horizontal(ShapeRef() as line) | Vertical(ShapeRef() as line):
+                return self.way(line)[upwards]
+        return between(self.spot(first), self.spot(second))[upwards] - self.mm(wanted)
+
+    def _of_lines(self, constraint: Parallel | Perpendicular | AngleBetween | Collinear
+                  ) -> list[Jet[N]]:
+        one, other = self.way(constraint.first), self.way(constraint.second)
+        match constraint:
+            case Parallel():
+                return [cross(one, other) / (self.size(one) * self.size(other))]
+            case Perpendicular(at=pair):
+                return self._met(pair) + [dot(one, other) / (self.size(one) * self.size(other))]
+            case AngleBetween():
+                return [self._turned(one, constraint, other)]
+            case Collinear(first, second):
+                first, second = (second, first) if second in (X_AXIS, Y_AXIS) else (first, second)
+                return [self.aside(end, first) for end in self.ends(second)]
+        raise AssertionError(constraint)
+
+    def _turned(self, first: Way[N], angle: AngleBetween, second: Way[N]) -> Jet[N]:
+        """By how much the second way isn't the first, turned."""
+        ahead, left = (self.number(each) for each in way_of(turn(self.drawing, angle)))
+        wanted = (first[0] * ahead - first[1] * left, first[0] * left + first[1] * ahead)
+        return cross(wanted, second) / (self.size(wanted) * self.size(second))
+
+    def _tangent(self, tangent: Tangent) -> list[Jet[N]]:
+        contact = self.drawing.meetings.contact(tangent)
+        first, second = tangent.first, tangent.second
+        lines = self.is_line(first), self.is_line(second)
+        if all(lines):
+            return self._of_lines(Collinear(first, second))
+        if contact is not None:
+            one, other = (self._normal(first, contact.first), self._normal(second, contact.second))
+            return self._met(tangent.at) + [cross(one, other) / (self.size(one) * self.size(other))]
+        if any(lines):
+            line, rim = (first, second) if lines[0] else (second, first)
+            return [abs(self.aside(self.centre(rim), line)) - self.radius(rim)]
+        apart = self.size(between(self.centre(first), self.centre(second)))
+        reach, other_reach = self.radius(first), self.radius(second)
+        inside = touch(self.drawing, tangent) is Touch.INSIDE
+        return [apart - (abs(reach - other_reach) if inside else reach + other_reach)]
+
+    def _normal(self, shape: ShapeRef, end: PointRef) -> Way[N]:
+        """What is square to a shape at a point of it."""
+        if self.is_line(shape):
+            x, y = self.way(shape)
+            return -y, x
+        return between(self.centre(shape), self.spot(end))
+
+    def _size(self, constraint: Length | Distance | PointLineDistance | ParallelDistance | Radius
+              | Diameter | Equal) -> Jet[N]:
+        match constraint:
+            case Length(segment, value):
+                return self.size(self.way(segment)) - self.mm(value)
+            case Distance(first, second, value):
+                return self.size(between(self.spot(first), self.spot(second))) - self.mm(value)
+            case PointLineDistance(point, line, value):
+                return abs(self.aside(self.spot(point), line)) - self.mm(value)
+            case ParallelDistance(one, other, value):
+                one, other = (other, one) if other in (X_AXIS, Y_AXIS) else (one, other)
+                return abs(self.aside(self.ends(other)[0], one)) - self.mm(value)
+            case Radius(rim, value):
+                return self.radius(rim) - self.mm(value)
+            case Diameter(rim, value):
+                return self.radius(rim) - self.mm(value / 2)
+            case Equal(one, other) if self.is_line(one):
+                return self.size(self.way(one)) - self.size(self.way(other))
+            case Equal(one, other):
+                return self.radius(one) - self.radius(other)
+        raise AssertionError(constraint)
+
+    def _fixed(self, what: PointRef | ShapeRef) -> Iterator[Jet[N]]:
+        if isinstance(what, PointRef):
+            yield from self._stays_at(what)
+            return
+        shape = self.drawing.shape(what.name)
+        if not isinstance(shape, (Origin, Axis)):
+            yield from self._stays(shape)
+
+    def _stays(self, shape: Shape) -> Iterator[Jet[N]]:
+        """That a shape lies where it is drawn: of an arc the last radius has its direction."""
+        refs = points_of(shape)
+        for ref in refs[:2]:
+            yield from self._stays_at(ref)
+        if isinstance(shape, Arc):
+            arc = ShapeRef(shape.name)
+            way = between(self.centre(arc), self.ends(arc)[1])
+            wanted = between(*(self._drawn(ref) for ref in (refs[0], refs[2])))
+            yield cross(wanted, way) / (self.size(wanted) * self.size(way))
+        if isinstance(shape, Circle):
+            yield self.radius(ShapeRef(shape.name)) - self.mm(shape.radius_um)
+
+    def _stays_at(self, ref: PointRef) -> list[Jet[N]]:
+        return list(between(self._drawn(ref), self.spot(ref)))
+
+    def _drawn(self, ref: PointRef) -> Way[N]:
+        place = self.drawing.drawn(ref)
+        return self.mm(place.x_um), self.mm(place.y_um)
+
+
+def between(first: Way[N], second: Way[N]) -> Way[N]:
+    """The way from one place to another."""
+    return second[0] - first[0], second[1] - first[1]
+
+
+def cross(first: Way[N], second: Way[N]) -> Jet[N]:
+    """Above 0 where the second lies to the left of the first."""
+    return first[0] * second[1] - first[1] * second[0]
+
+
+def dot(first: Way[N], second: Way[N]) -> Jet[N]:
+    """Above 0 where the second lies ahead along the first."""
+    return first[0] * second[0] + first[1] * second[1]

@@ -1,0 +1,104 @@
+"""Where a step has no places: which dimensions meet there, and by how much they miss each
+other."""
+from __future__ import annotations
+
+from dataclasses import dataclass
+from enum import Enum
+from fractions import Fraction
+
+from pertxogai.judging.naming import Names
+from pertxogai.program.reports import (
+    ConstraintFault, Fault, FrameFault, LineFault, NumberFault, Phase, Plan, RangeFault, StepAt,
+    TurnedFault)
+
+UNDER_A_ROOT = ("base", "height", "reach")
+"""Roots of square millimetres."""
+DIVIDED_BY_A_LENGTH = ("foot", "ex", "ey", "tilt")
+"""Quotients by millimetres."""
+
+
+class Unit(Enum):
+    """What an amount is measured in."""
+
+    SQUARE_MM = "mm²"
+    MM = "mm"
+    NONE = ""
+
+    @property
+    def power(self) -> int:
+        """How often a length goes into it."""
+        return 2 if self is Unit.SQUARE_MM else 1 if self is Unit.MM else 0
+
+
+@dataclass(frozen=True)
+class Amount:
+    """The number that has no root, or by which can't be divided: between two ends."""
+
+    low: Fraction
+    high: Fraction
+    unit: Unit
+
+
+@dataclass(frozen=True)
+class Failure:
+    """The program's fault, whole, with the designer's names: the dimensions beneath the step or
+    the constraint that it names, the points and segments at which the step meets, and the number
+    that failed."""
+
+    fault: Fault
+    text: str
+    dimensions: tuple[str, ...]
+    at: tuple[str, ...]
+    amount: Amount | None
+
+
+def failure(names: Names, fault: Fault, plan: Plan) -> Failure:
+    """A fault told with the designer's names."""
+    match fault:
+        case NumberFault():
+            low, high = fault.ends()
+            unit = _unit(fault.at)
+            size = names.spelled.scale ** unit.power
+            return _of_step(names, fault, plan, fault.at.step,
+                            Amount(low / size, high / size, unit))
+        case RangeFault():
+            return _of_step(names, fault, plan, fault.at.step, None)
+        case FrameFault(_, element):
+            return Failure(fault, fault.text(), (), names.elements([element]), None)
+        case ConstraintFault(number):
+            return Failure(fault, fault.text(), names.constraint(number), (), None)
+        case LineFault(name):
+            return Failure(fault, fault.text(), (), names.elements([name]), None)
+        case TurnedFault(of):
+            if of.is_step:
+                return _of_step(names, fault, plan, of.number, None)
+            return Failure(fault, fault.text(), names.constraint(of.number), (), None)
+
+
+def _of_step(names: Names, fault: Fault, plan: Plan, step: int, amount: Amount | None) -> Failure:
+    found = next(each for each in plan.steps if each.number == step)
+    owners = {owner for number in _leaves(plan, step)
+              for owner in names.spelled.owners[number - 1]}
+    return Failure(fault, fault.text(), names.owners(owners), names.elements(found.at), amount)
+
+
+def _leaves(plan: Plan, step: int) -> list[int]:
+    """The numbers of the constraints beneath a step."""
+    found: list[int] = []
+    steps = {each.number: each for each in plan.steps}
+    waiting = [step]
+    while waiting:
+        for cluster in steps[waiting.pop()].joins:
+            if cluster.is_step:
+                waiting.append(cluster.number)
+            else:
+                found.append(cluster.number)
+    return sorted(found)
+
+
+def _unit(at: StepAt) -> Unit:
+    """What the number is told in that was under a root, or divided."""
+    if at.quantity in UNDER_A_ROOT or (at.phase is not Phase.BUILD
+                                       and at.quantity in ("cos", "sin")):
+        return Unit.SQUARE_MM
+    return Unit.MM if at.quantity in DIVIDED_BY_A_LENGTH else Unit.NONE

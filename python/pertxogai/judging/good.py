@@ -1,0 +1,220 @@
+"""Whether a judgement is good, so that a part may be cut by it: one type, which can be made of no
+other.
+
+What is well and placed, and of which each constraint holds as it is measured, is good; what isn't
+has the reasons why. The exit status, the page, the JSON, the pictures, the files that are written
+and the macro of FreeCAD ask this, and nothing else."""
+
+from __future__ import annotations
+
+from collections.abc import Collection, Iterator
+from dataclasses import dataclass
+from enum import Enum
+
+from pertxogai.drawing import ORIGIN, Drawing
+from pertxogai.judging.judged_drawing import JudgedDrawing
+from pertxogai.judging.judged_sketch import JudgedSketch
+from pertxogai.judging.measure.deviation import Deviation, Unit
+from pertxogai.judging.measure.limit import amount_text
+from pertxogai.judging.measure.measuring import measured
+from pertxogai.judging.measure.solution import MissingPlace, Solution
+from pertxogai.judging.settled import settled
+from pertxogai.judging.trials import Trial
+from pertxogai.program.reports import Solved, Verdict
+from pertxogai.spelling.facts import ORIGIN_KNOT, Knot
+
+
+class Lack(Enum):
+    """Why a judgement isn't good; the values are for JSON."""
+
+    VERDICT = "verdict"
+    """The program says another verdict than well."""
+    NO_PLACES = "no places"
+    """It is well, and has no places."""
+    EMPTY = "empty"
+    """Nothing is drawn."""
+    LEFT_OUT = "left out"
+    """The drawing can't say something that its file has."""
+    UNMEASURED = "unmeasured"
+    """A point that a constraint speaks of has no place."""
+    OFF = "off"
+    """A constraint doesn't hold within the limit."""
+    NO_SIZE = "no size"
+    """Nothing tells the size of a circle."""
+    NOT_PRINTED = "not printed"
+    """What is said of it isn't what the program has printed of this drawing."""
+
+
+@dataclass(frozen=True)
+class Reason:
+    """One thing for which a judgement isn't good, in a line; the place of the constraint that it
+    is about, from 1, and how far that is off, where it is about one."""
+
+    lack: Lack
+    text: str
+    constraint: int | None = None
+    off: Deviation | None = None
+
+
+class NotGood(Exception):
+    """A judgement isn't good. The message is one line."""
+
+    def __init__(self, reasons: tuple[Reason, ...]) -> None:
+        super().__init__("; ".join(each.text for each in reasons))
+        self.reasons = reasons
+
+
+@dataclass(frozen=True)
+class GoodJudgement:
+    """A judgement on a drawing that is good: the program says well and places it, every point lies
+    where that was printed, every constraint of the designer and all that the shapes imply is measured within the limit, nothing of the file
+    is left out, and every size is told. Making one of anything else raises NotGood."""
+
+    judged: JudgedDrawing
+
+    def __post_init__(self) -> None:
+        reasons = tuple(_against(self.judged))
+        if reasons:
+            raise NotGood(reasons)
+
+    @property
+    def drawing(self) -> Drawing:
+        """What is drawn."""
+        return self.judged.drawing
+
+    @property
+    def solution(self) -> Solution:
+        """Where it is placed, in whole nanometres in the datum's frame."""
+        assert self.judged.judgement.solution is not None
+        return self.judged.judgement.solution
+
+
+@dataclass(frozen=True)
+class GoodSketch:
+    """A sketch of the language that is good: the program says well, and places it within the limit
+    that it was asked for. Making one of anything else raises NotGood."""
+
+    judged: JudgedSketch
+
+    def __post_init__(self) -> None:
+        reasons = tuple(_against_sketch(self.judged))
+        if reasons:
+            raise NotGood(reasons)
+
+    @property
+    def solved(self) -> Solved:
+        """Where it is placed."""
+        assert self.judged.solved is not None
+        return self.judged.solved
+
+
+def good_of(judged: JudgedDrawing) -> GoodJudgement | NotGood:
+    """The judgement as a good one, or why it isn't."""
+    try:
+        return GoodJudgement(judged)
+    except NotGood as why:
+        return why
+
+
+def good_sketch_of(judged: JudgedSketch) -> GoodSketch | NotGood:
+    """The judged sketch as a good one, or why it isn't."""
+    try:
+        return GoodSketch(judged)
+    except NotGood as why:
+        return why
+
+
+def reasons_against(judged: JudgedDrawing | JudgedSketch) -> tuple[Reason, ...]:
+    """Why a judgement isn't good; nothing where it is."""
+    found = good_of(judged) if isinstance(judged, JudgedDrawing) else good_sketch_of(judged)
+    return found.reasons if isinstance(found, NotGood) else ()
+
+
+def reasons_json(judged: JudgedDrawing | JudgedSketch) -> dict[str, object]:
+    """Whether a judgement is good, and why not, for JSON."""
+    reasons = reasons_against(judged)
+    return {"good": not reasons, "why_not": [_json(each) for each in reasons]}
+
+
+def _json(reason: Reason) -> dict[str, object]:
+    off = reason.off
+    return {"why": reason.lack.value, "text": reason.text, "constraint": reason.constraint,
+            "off": off.amount if off else None, "unit": off.unit.value if off else None}
+
+
+def _against(judged: JudgedDrawing) -> Iterator[Reason]:
+    """Why the judgement on a drawing isn't good."""
+    if not judged.drawing.geometry:
+        yield Reason(Lack.EMPTY, "nothing is drawn in it that could be judged")
+    judgement = judged.judgement
+    if judgement.names.drawing != judged.drawing or judgement.verdict is not judgement.asked.verdict:
+        yield Reason(Lack.NOT_PRINTED, "the judgement is of another drawing")
+        return
+    solved = judgement.asked.solved
+    yield from _unplaced(judgement.verdict, solved, judgement.solution is not None)
+    for what in judged.not_drawn:
+        yield Reason(Lack.LEFT_OUT, f"left out of the file: {what}")
+    if judgement.solution is not None and isinstance(solved, Solved):
+        yield from _not_printed(judged, judgement.solution, solved)
+        yield from _measured(judged, judgement.solution)
+
+
+def _not_printed(judged: JudgedDrawing, solution: Solution, solved: Solved) -> Iterator[Reason]:
+    """What isn't where the program has printed it; and the circles of which nothing tells the
+    size."""
+    asked = judged.judgement.asked
+    printed = {each.name for each in solved.places}
+    lost = [ref for ref, knot in asked.axes.facts.refs.items()
+            if ref != ORIGIN and not _is_printed(asked, knot, printed)]
+    yield from (Reason(Lack.NOT_PRINTED, f"the program has printed no place of {ref}")
+                for ref in lost)
+    if lost:
+        return
+    found = settled(judged.drawing, asked, solved)
+    if found.solution != solution:
+        yield Reason(Lack.NOT_PRINTED, "the places aren't those that the program has printed")
+    for name in found.unsized:
+        yield Reason(Lack.NO_SIZE, f"nothing tells the size of {name}")
+
+
+def _is_printed(asked: Trial, knot: Knot, printed: Collection[str]) -> bool:
+    """Whether a point's place is printed: itself, or of the origin both axes, which meet there."""
+    if asked.spelled.points.get(knot) in printed:
+        return True
+    axes = {each.rail.upwards for each in asked.spelled.headings
+            if each.rail is not None and each.rail.datum() and each.name in printed}
+    return knot == ORIGIN_KNOT and len(axes) == 2
+
+
+def _unplaced(verdict: Verdict, solved: object, placed: bool) -> Iterator[Reason]:
+    if verdict is not Verdict.WELL:
+        yield Reason(Lack.VERDICT, f"it is {verdict.value}")
+    elif not isinstance(solved, Solved) or not placed:
+        yield Reason(Lack.NO_PLACES, "it has no places")
+
+
+def _measured(judged: JudgedDrawing, solution: Solution) -> Iterator[Reason]:
+    """The constraints that don't hold on the places, as they are measured here: lengths before
+    directions, and those that are off most first."""
+    drawing = judged.drawing
+    try:
+        deviations = measured(drawing, solution)
+    except MissingPlace as missing:
+        yield Reason(Lack.UNMEASURED, str(missing))
+        return
+    for each in sorted(judged.limit.beyond(deviations), key=_order):
+        text = f"{each.called(drawing)} is off by {amount_text(each)}"
+        yield Reason(Lack.OFF, text, each.number, each)
+
+
+def _order(off: Deviation) -> tuple[bool, int]:
+    return off.unit is Unit.PPB, -off.amount
+
+
+def _against_sketch(judged: JudgedSketch) -> Iterator[Reason]:
+    """Why a judged sketch isn't good."""
+    solved, most = judged.solved, judged.limit.amount
+    yield from _unplaced(judged.check.verdict, solved, solved is not None)
+    if solved and max(solved.length_tolerance_nm, solved.angle_tolerance_ppb) > most:
+        yield Reason(Lack.OFF, f"it is placed within {solved.length_tolerance_nm} nm and "
+                     f"{solved.angle_tolerance_ppb} ppb")

@@ -1,0 +1,181 @@
+"""A sketch and all that the program answers to it: one call for people who script CAD."""
+from __future__ import annotations
+
+from collections.abc import Iterator
+from dataclasses import dataclass
+
+from pertxogai.judging.choices import Tried, beneath, tried, tried_lines
+from pertxogai.judging.measure.limit import Limit
+from pertxogai.language import ClusterName, Constraint, Refusal, Sketch
+from pertxogai.output.picture import (
+    Picture, picture_of_drawing, picture_of_parts, picture_of_shape)
+from pertxogai.program import Answer, Solver, Status
+from pertxogai.program.reports import (
+    Cause, CheckReport, ConstraintFault, ExcessReport, Fault, FrameFault, NotAReport, NumberFault,
+    PartsReport, Plan, RangeFault, Refused, Solved, Spare, TurnedFault, Verdict, read_answer,
+    read_check, read_excess, read_fault, read_parts, read_plan, read_refusal, read_solve,
+    read_spare)
+
+
+MOST_SHOWN = 8
+"""The most constraints that a picture tells below it."""
+
+
+class TextRefused(Exception):
+    """The program refuses a text. The message is one line: the name of the sketch, and `told`:
+    where, the code, the line itself, and what to do."""
+
+    def __init__(self, name: str, refused: Refused, text: str) -> None:
+        lines = text.split("\n")
+        shown = (
+            f": {lines[refused.line - 1].strip()[:60]!r}" if 0 < refused.line <= len(lines) else ""
+        )
+        self.told = (
+            f"refused line {refused.line} {refused.code.name}"
+            f" {refused.code.word}{shown}: {refused.code.advice}; see 'How a text is refused' in"
+            " docs/LANGUAGE.md"
+        )
+        super().__init__(f"{name}: {self.told}")
+        self.refused = refused
+
+
+@dataclass(frozen=True)
+class JudgedSketch:
+    """A sketch and what the program answers to it: parts and verdict; places or a fault where
+    it is well; the spare constraints where it is over, and what is left out of each part that is,
+    with how far that is off; and the parts, each by itself, where it isn't well. limit: within
+    what each constraint has to hold, as the program was asked. tried: where a step fails, what
+    came of other choices of the steps beneath. Whether it is good is for `pertxogai.judging.good` to
+    say."""
+
+    name: str
+    sketch: Sketch
+    check: CheckReport
+    solved: Solved | None = None
+    fault: Fault | None = None
+    plan: Plan | None = None
+    spare: tuple[Spare, ...] = ()
+    excess: ExcessReport | None = None
+    parts: PartsReport | None = None
+    limit: Limit = Limit()
+    tried: Tried | None = None
+
+    def picture(self, as_drawn: bool = False) -> Picture:
+        """As it is placed; part by part where it isn't well; and as it is drawn where it has no
+        places."""
+        if self.solved and not as_drawn:
+            return picture_of_shape(self.sketch, self.solved, self.name)
+        if self.parts and not as_drawn:
+            return picture_of_parts(self.sketch, self.parts, self.spare, self.name)
+        return picture_of_drawing(self.sketch, self.name, tuple(self._below(as_drawn)))
+
+    def _below(self, as_drawn: bool) -> Iterator[str]:
+        """What a picture of it as it is drawn tells of its fault."""
+        if self.fault and not as_drawn:
+            yield f"as drawn, has no places: {self.fault.text().strip()}"
+            yield from (f"of {constraint.text()}" for constraint in concerned(self)[:MOST_SHOWN])
+            yield from tried_lines(self.sketch, self.tried)
+            yield f"what to do: {what_to_do(self.fault, self.tried)}"
+
+    def _repr_svg_(self) -> str:
+        return self.picture().svg
+
+
+def judge_sketch(
+    name: str, given: Sketch | str, asks: Solver, limit: Limit = Limit()
+) -> JudgedSketch:
+    """Asks the program what there is to say of a sketch, or of a text. Raises TextRefused and
+    ProgramError."""
+    text = given if isinstance(given, str) else given.text()
+    check = read_check(_written(name, "check", text, asks))
+    try:
+        sketch = Sketch.parse(text)
+    except Refusal as refusal:
+        raise NotAReport(
+            f"the program reads what pertxogai doesn't ({refusal}): they are of different versions"
+        ) from None
+    if check.verdict is Verdict.WELL:
+        return _placed(name, sketch, check, text, asks, limit)
+    within = f"within={limit.amount}"
+    parts = read_parts(_written(name, "parts", text, asks, within))
+    if check.verdict is Verdict.OPEN:
+        return JudgedSketch(name, sketch, check, parts=parts, limit=limit)
+    spare = read_spare(_written(name, "spare", text, asks))
+    excess = read_excess(_written(name, "excess", text, asks, within))
+    return JudgedSketch(name, sketch, check, None, None, None, spare, excess, parts, limit)
+
+
+def _written(name: str, command: str, text: str, asks: Solver, *keys: str) -> str:
+    """What a command writes, where it does its work. Raises TextRefused and NotAReport."""
+    return _done(name, asks.ask([command, *keys], text), text).text
+
+
+def _placed(
+    name: str, sketch: Sketch, check: CheckReport, text: str, asks: Solver, limit: Limit
+) -> JudgedSketch:
+    within = f"within={limit.amount}"
+    answer = asks.ask(["solve", within], text)
+    if answer.status in (Status.FAULT, Status.TOLERANCE):
+        plan = read_plan(_written(name, "plan", text, asks))
+        fault = read_fault(answer.text)
+        turned = tried(sketch, beneath(plan, fault), asks, [within])
+        return JudgedSketch(name, sketch, check, None, fault, plan, limit=limit, tried=turned)
+    solved = read_solve(_done(name, answer, text).text)
+    return JudgedSketch(name, sketch, check, solved, limit=limit)
+
+
+def _done(name: str, answer: Answer, text: str) -> Answer:
+    """The answer, where the command did its work. Raises TextRefused and NotAReport."""
+    if answer.status is Status.REFUSED:
+        raise TextRefused(name, read_refusal(answer.text), text)
+    if answer.status is not Status.DONE:
+        read_answer(("check",), answer)
+        raise NotAReport(
+            f"the program ended with status {answer.status.value}, which doesn't fit what it was"
+            " asked"
+        )
+    return answer
+
+
+def concerned(judged: JudgedSketch) -> tuple[Constraint, ...]:
+    """The constraints that a fault is about: that which is beyond its limit, or all that its
+    step has joined."""
+    fault, constraints = judged.fault, judged.sketch.constraints
+    if isinstance(fault, ConstraintFault):
+        return (constraints[fault.constraint - 1],)
+    if isinstance(fault, TurnedFault) and not fault.of.is_step:
+        return (constraints[fault.of.number - 1],)
+    if isinstance(fault, (NumberFault, RangeFault)):
+        return _joined(judged.plan, fault.at.step)
+    return _joined(judged.plan, fault.of.number) if isinstance(fault, TurnedFault) else ()
+
+
+def _joined(plan: Plan | None, step: int) -> tuple[Constraint, ...]:
+    """The constraints of the clusters that a step joins, where these are its own leaves."""
+    if plan is None:
+        return ()
+    joined = plan.steps[step - 1].joins
+    return tuple(
+        leaf.constraint for leaf in plan.leaves if ClusterName(False, leaf.number) in joined
+    )
+
+
+def what_to_do(fault: Fault, turned: Tried | None = None) -> str:
+    """What helps against a fault, in a sentence. turned: what came of other choices."""
+    if turned and turned.found:
+        return "draw it so, or change a length: with the drawn choices it has no places"
+    if isinstance(fault, NumberFault) and fault.cause is Cause.GAP:
+        return (
+            "with these choices of steps no shape has these dimensions, on any grid: change a"
+            " length of them"
+        )
+    if isinstance(fault, NumberFault):
+        return (
+            "two places can't be told apart, or lines are parallel: change a length, or"
+            " dimension it otherwise"
+        )
+    if isinstance(fault, RangeFault):
+        return "the proportions are beyond the grid: look for a slip in the lengths"
+    if isinstance(fault, FrameFault):
+        return "it is placed too far from 0 0: draw it nearer, or leave frame=drawn away"
+    return "take a finer grid (bits=38) or a greater within="

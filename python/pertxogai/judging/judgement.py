@@ -1,0 +1,257 @@
+"""What becomes of a drawing: the program's verdict with its reasons, in the designer's words."""
+from __future__ import annotations
+
+from dataclasses import dataclass, replace
+
+from pertxogai.drawing import Circle, Drawing, moved
+from pertxogai.judging.choices import Tried, beneath, tried
+from pertxogai.judging.departures import Departure, warnings
+from pertxogai.judging.faults import Failure, failure
+from pertxogai.judging.limits import check_fits
+from pertxogai.judging.measure.deviation import Deviation, Unit
+from pertxogai.judging.measure.limit import Limit
+from pertxogai.judging.measure.measuring import measure
+from pertxogai.judging.measure.solution import Solution
+from pertxogai.judging.missing import Missing, loose, missing
+from pertxogai.judging.naming import Names
+from pertxogai.judging.printed import is_tied
+from pertxogai.judging.remembering import Remembering
+from pertxogai.judging.settled import settled, solution_of
+from pertxogai.judging.surplus import Surplus, spare_at_once, what_may_go, worst
+from pertxogai.judging.trials import (
+    PlaceBy, Question, Trial, counted, finer, first_good, written_by)
+from pertxogai.judging.within import Wider, within
+from pertxogai.program import Solver
+from pertxogai.program.reports import Shape, Solved, Verdict, read_plan
+from pertxogai.spelling.facts import RadiusOf
+from pertxogai.spelling.style import Style
+
+FINE_NM = 2
+"""What is off by more is asked for again with finer angles."""
+
+
+@dataclass(frozen=True)
+class LeftOut:
+    """What couldn't be spelled, by its name, and how far it is off on the places of the rest;
+    None where there are no places, or an arc's ends are meant."""
+
+    name: str
+    off: Deviation | None
+    limit: Limit = Limit()
+
+    def holds(self) -> bool:
+        """Whether it was measured, and holds within the limit: then it repeats the rest."""
+        return self.off is not None and self.off.amount <= self.limit.amount
+
+
+@dataclass(frozen=True)
+class Judgement:
+    """The program's verdict on a drawing and all that goes with it.
+
+    style: how it was spelled. pieces and missing: where it is open. surplus: where it is over,
+    each dimension that may go; loose: what is lacking all the same. solution: where it is placed, in the datum's frame, in whole
+    nanometres; place: by boxes or by points. failure: why it isn't, though it is well. deviations:
+    of each constraint on those places. left_out: constraints that couldn't be spelled. frozen:
+    those left to their drawn values, to be measured. rounded: those of which the value had to be
+    rounded. grown: those told by a value that was read off a placed part. repeats: those that tell
+    of one point that it is itself. unsized: where it is placed, the circles of which neither a
+    dimension nor the places tell the size. tried: where it is well and has no places, or some that
+    don't meet a constraint, what came of other choices of the steps of its construction. limit:
+    within what each constraint has to hold."""
+
+    verdict: Verdict
+    asked: Trial
+    names: Names
+    missing: Missing | None = None
+    surplus: tuple[Surplus, ...] = ()
+    loose: tuple[str, ...] = ()
+    solution: Solution | None = None
+    failure: Failure | None = None
+    deviations: tuple[Deviation, ...] = ()
+    warnings: tuple[Departure, ...] = ()
+    unsized: tuple[str, ...] = ()
+    tried: Tried | None = None
+    limit: Limit = Limit()
+
+    @property
+    def style(self) -> Style:
+        """How the drawing was spelled."""
+        return self.asked.spelled.style
+
+    @property
+    def place(self) -> PlaceBy:
+        """How the program was told to place it."""
+        return self.asked.place
+
+    @property
+    def length_tolerance_nm(self) -> int | None:
+        """Within how many nanometres of the drawing the program places it: its sketch is so many
+        times as large."""
+        solved = self.asked.solved
+        if not isinstance(solved, Solved):
+            return None
+        return -(-solved.length_tolerance_nm // self.asked.spelled.scale)
+
+    @property
+    def left_out(self) -> tuple[str, ...]:
+        """What couldn't be spelled, but for what holds where the rest is placed, and so repeats
+        it."""
+        return tuple(each.name for each in self.left_out_measured if not each.holds())
+
+    @property
+    def left_out_measured(self) -> tuple[LeftOut, ...]:
+        """What couldn't be spelled, as it was measured all the same."""
+        owners = sorted(each for each in self.asked.spelled.left_out if each.number)
+        return tuple(LeftOut(self.names.owner(each),
+                             None if each.shape else worst(self.deviations, each.number),
+                             self.limit) for each in owners)
+
+    @property
+    def frozen(self) -> tuple[str, ...]:
+        """What is only measured, since a length or radius that it needs was taken as drawn."""
+        return self.names.owners(self.asked.frozen)
+
+    @property
+    def grown(self) -> tuple[str, ...]:
+        """What is told by a value that was read off a placed part."""
+        return self.names.owners(owner for each in self.asked.grown for owner in each.owners)
+
+    @property
+    def measured_off(self) -> tuple[str, ...]:
+        """What couldn't be spelled and makes the drawing over only as it was measured where the
+        rest is placed, or as the rest is just enough without it: that isn't certified."""
+        return self.names.owners(owner for each in self.asked.off for owner in each.owners)
+
+    @property
+    def rounded(self) -> tuple[str, ...]:
+        """What is told by a rounded value."""
+        numbers = [each.number for each in self.asked.spelled.rounded]
+        return self.names.owners(owner for number in numbers
+                                 for owner in self.asked.spelled.owners[number - 1])
+
+    @property
+    def repeats(self) -> tuple[str, ...]:
+        """What says again what follows already, and is no line of a sketch: a direction, a size, a
+        point that is itself; and what couldn't be spelled and holds where the rest is placed."""
+        held = tuple(each.name for each in self.left_out_measured if each.holds())
+        return self.names.owners(self.asked.axes.repeats()) + held
+
+    @property
+    def undimensioned(self) -> tuple[str, ...]:
+        """The circles of which nothing tells the radius, where it is placed; else those of which
+        nothing speaks. They are shown as they are drawn."""
+        if self.solution is not None:
+            return self.unsized
+        axes = self.asked.axes
+        said = {key for equation in axes.equations for key in equation.form.terms}
+        said |= {key for fact in axes.loose for key in fact.value.terms}
+        return tuple(shape.name for shape in self.names.drawing.geometry
+                     if isinstance(shape, Circle) and RadiusOf(shape.name) not in said)
+
+
+def judge(drawing: Drawing, program: Solver, freeze: bool = False,
+          limit: Limit = Limit()) -> Judgement:
+    """What the program says of a drawing, with the counts of what is well, how far each dimension
+    is off that may go, and which other choices meet what isn't met within the limit, by which it
+    is placed too where that is wider than the language's own. `freeze`: whether lengths and radii
+    that nothing tells may be taken as they are drawn. Raises as `judge_at_once`."""
+    asks = Remembering(Wider(program, limit))
+    judged = with_counts(judge_at_once(drawing, asks, freeze, limit=limit), asks)
+    return with_choices(weighed(judged, asks), asks)
+
+
+def judge_at_once(drawing: Drawing, program: Solver, freeze: bool = False,
+                  before: Drawing = Drawing(), limit: Limit = Limit()) -> Judgement:
+    """The same, but that the counts of what is well aren't asked for, and that what may go is
+    named as the program names it, and not measured: that takes many more questions. `before`: the
+    drawing that an edit has made this one from. Raises ProgramError; DrawingRefused where the
+    drawing has more points or constraints than the program takes, or makes both ends of a shape
+    one; Refusal where the program refuses the spelled sketch; NotHeld where a place or length is
+    larger than the language holds."""
+    moved(drawing, before)  # From then on the drawing has the meetings of the one before.
+    check_fits(drawing)
+    asked = first_good(Question(drawing, program, limit), freeze, before)
+    names = Names(drawing, asked.spelled, asked.axes.facts.refs)
+    judged = Judgement(asked.verdict, asked, names, limit=limit)
+    if asked.check is None:
+        return _placed(judged, before, program)
+    if asked.verdict is Verdict.OPEN:
+        return replace(judged, missing=missing(names, asked.check, asked.axes.repeats()))
+    return replace(judged, surplus=tuple(Surplus(number, drawing.called(number), None)
+                                         for number in spare_at_once(drawing, asked, program)))
+
+
+def with_choices(judged: Judgement, program: Solver) -> Judgement:
+    """The judgement with what comes of other choices of its steps: of those beneath a step that
+    fails, and of all where a constraint isn't met. Raises ProgramError."""
+    if judged.verdict is not Verdict.WELL or judged.asked.solved is None:
+        return judged
+    if judged.solution is not None and not any(judged.limit.beyond(judged.deviations)):
+        return judged
+    text = judged.asked.spelled.sketch.text()
+    plan = read_plan(written_by(program, "plan", text))
+    steps = plan.steps if judged.failure is None else beneath(plan, judged.failure.fault)
+    keys = [f"place={judged.place.value}", within(judged.asked.spelled)]
+    found = tried(judged.asked.spelled.sketch, steps, program, keys,
+                  lambda shape: _is_met(judged, shape))
+    return replace(judged, tried=replace(found, scale=judged.asked.spelled.scale))
+
+
+def _is_met(judged: Judgement, shape: Shape) -> bool:
+    """Whether each constraint of a drawing is met where a shape of its sketch lies."""
+    drawing = judged.names.drawing
+    solution = solution_of(drawing, judged.asked, shape)
+    return not any(judged.limit.beyond(measure(drawing, solution)))
+
+
+def with_counts(judged: Judgement, program: Solver) -> Judgement:
+    """The judgement with the program's parts and counts also of what is well. Raises
+    ProgramError."""
+    return replace(judged, asked=counted(judged.asked, program))
+
+
+def _placed(judged: Judgement, before: Drawing, program: Solver) -> Judgement:
+    solved = judged.asked.solved
+    if isinstance(solved, Solved):
+        judged = _measured(judged, before)
+        if not any(each.amount > FINE_NM for each in judged.deviations):
+            return judged
+        asked = finer(Question(judged.names.drawing, program, judged.limit), judged.asked)
+        if asked is judged.asked:
+            return judged
+        fine = _measured(replace(judged, asked=asked,
+                                 names=replace(judged.names, spelled=asked.spelled)), before)
+        return min((judged, fine), key=_greatest)
+    if solved is None:
+        return judged
+    plan = read_plan(written_by(program, "plan", judged.asked.spelled.sketch.text()))
+    return replace(judged, failure=failure(judged.names, solved, plan))
+
+
+def _measured(judged: Judgement, before: Drawing) -> Judgement:
+    """With the places in the datum's frame, and all that is measured on them."""
+    if not isinstance(judged.asked.solved, Solved):
+        return judged
+    drawing = judged.names.drawing
+    found = settled(drawing, judged.asked, judged.asked.solved)
+    solution, is_free = found.solution, not is_tied(judged.asked.axes, judged.asked.spelled)
+    return replace(judged, solution=solution, deviations=measure(drawing, solution, before),
+                   warnings=warnings(drawing, solution, is_free), unsized=found.unsized)
+
+
+def _greatest(judged: Judgement) -> int:
+    return max((each.amount for each in judged.deviations if each.unit is Unit.NM), default=0)
+
+
+def weighed(judged: Judgement, program: Solver) -> Judgement:
+    """The judgement with each dimension that may go tried, and measured on the rest. Raises as
+    `judge_at_once`."""
+    if judged.verdict is not Verdict.OVER:
+        return judged
+    drawing = judged.names.drawing
+    return replace(judged, surplus=what_may_go(Question(drawing, program, judged.limit), judged.asked),
+                   loose=loose(judged.names))
+
+
+__all__ = ["Judgement", "Surplus", "judge", "judge_at_once", "weighed", "with_choices",
+           "with_counts"]

@@ -1,0 +1,99 @@
+"""Where a drawing is open: how many dimensions it lacks at least, and between which of its
+pieces."""
+from __future__ import annotations
+
+from collections.abc import Collection
+from dataclasses import dataclass
+from enum import Enum
+
+from pertxogai.judging.freedoms import Whole, freedoms
+from pertxogai.judging.naming import Names
+from pertxogai.program.reports import CheckReport, Part
+from pertxogai.spelling.facts import Owner
+
+
+class Tie(Enum):
+    """How two pieces hang together, and so what ties them."""
+
+    LOOSE = "loose: give one of them two dimensions from the other, and one more"
+    LONE = "loose: give the one that is a single point or line two dimensions from the other"
+    LONE_PAIR = "loose: give a dimension between them"
+    HINGE = "they turn about a point: give an angle, or a distance between points of both"
+    SLIDE = "they slide along a line: give a distance between points of both, not across that line"
+
+
+@dataclass(frozen=True)
+class Piece:
+    """A part that is rigid by itself: the points and segments that the designer knows in it."""
+
+    number: int
+    elements: tuple[str, ...]
+
+
+@dataclass(frozen=True)
+class Joint:
+    """Two pieces, how they hang together, and the points or segments that they share."""
+
+    first: Piece
+    second: Piece
+    tie: Tie
+    shared: tuple[str, ...]
+
+
+@dataclass(frozen=True)
+class Missing:
+    """At least `count` dimensions are missing, by the rank of what the drawing says, sizes of
+    circles among them; 0 where it isn't known that one is, as where the drawing is rigid in a way
+    that merging doesn't find. `joints`: each piece but the first, with one before it that it hangs
+    at, where there is one. `whole`: how all of it may still be moved against the datum, which
+    isn't counted; None where that isn't known. `excess`: constraints of which one is too many all
+    the same, by rank: it says what the others say, or contradicts it."""
+
+    count: int
+    pieces: tuple[Piece, ...]
+    joints: tuple[Joint, ...]
+    whole: Whole | None = None
+    excess: tuple[tuple[str, ...], ...] = ()
+
+
+def missing(names: Names, check: CheckReport, repeats: Collection[Owner] = ()) -> Missing:
+    """What is missing: how much, by the rank of what the drawing says; and between which of the
+    program's parts. repeats: what is said to repeat others already."""
+    free = freedoms(names.drawing)
+    pieces = tuple(Piece(part.number, names.elements(part.elements)) for part in check.parts)
+    shown = [place for place, piece in enumerate(pieces) if piece.elements]
+    joints = tuple(_joint(names, check.parts, pieces, shown, place) for place in shown[1:])
+    shown_pieces = tuple(pieces[place] for place in shown)
+    if free is None:
+        return Missing(0, shown_pieces, joints)
+    numbers = {owner.number for owner in repeats if not owner.shape}
+    excess = tuple(names.owners(owner for owner in each if not owner.shape)
+                   for each in free.too_many(numbers))
+    return Missing(free.lacks, shown_pieces, joints, free.whole, tuple(filter(None, excess)))
+
+
+def loose(names: Names) -> tuple[str, ...]:
+    """What is lacking of single points, though the drawing is over."""
+    free = freedoms(names.drawing)
+    if free is None or len(names.spelled.points) < 3:
+        return ()
+    return tuple(each.text() for each in free.loose)
+
+
+def _joint(names: Names, parts: tuple[Part, ...], pieces: tuple[Piece, ...], shown: list[int],
+           place: int) -> Joint:
+    mine = set(parts[place].elements)
+    first = next((other for other in shown if other < place and mine & set(parts[other].elements)),
+                 shown[0])
+    shared = [name for name in parts[place].elements if name in parts[first].elements]
+    tie = _loose(parts[first], parts[place])
+    if shared:
+        tie = Tie.SLIDE if shared[0] in names.spelled.tracks else Tie.HINGE
+    return Joint(pieces[first], pieces[place], tie, names.elements(shared))
+
+
+def _loose(first: Part, second: Part) -> Tie:
+    """What ties two parts that share nothing: a single point or line can't turn, so it takes one
+    dimension less than a part of several."""
+    lone = sum(len(part.elements) == 1 for part in (first, second))
+    return (Tie.LOOSE, Tie.LONE, Tie.LONE_PAIR)[lone]

@@ -1,0 +1,83 @@
+"""How far a constraint is off on one placed piece of a drawing that is open."""
+from __future__ import annotations
+
+from collections.abc import Mapping
+from contextlib import suppress
+
+from pertxogai.drawing import (
+    ORIGIN, X_AXIS, Y_AXIS, Arc, Circle, Constraint, Drawing, Fixed, Horizontal, PointRef,
+    Vertical, XDistance, YDistance)
+from pertxogai.drawing.mentions import named
+from pertxogai.judging.measure.amounts import amounts
+from pertxogai.judging.measure.deviation import Deviation, Unit
+from pertxogai.judging.measure.placed import Placed
+from pertxogai.judging.measure.solution import Frame, MissingPlace, Solution
+from pertxogai.judging.printed import PointNm, PrintedPlaces
+from pertxogai.judging.trials import Trial, written_by
+from pertxogai.program import Solver
+from pertxogai.program.reports import Solved, read_parts
+from pertxogai.spelling.facts import DATUM, RadiusOf
+from pertxogai.spelling.linear import Number
+
+UPRIGHT = Horizontal, Vertical, XDistance, YDistance
+"""What speaks of the datum's directions."""
+DATUM_NAMES = {ORIGIN.shape, X_AXIS.name, Y_AXIS.name}
+
+
+def off_in_pieces(drawing: Drawing, number: int, asked: Trial, program: Solver) -> Deviation | None:
+    """How far a constraint is off on the first placed piece that has all that it speaks of, where
+    `asked` is of the drawing without it; None where none has. Raises ProgramError."""
+    constraint = drawing.constraints[number - 1]
+    report = read_parts(written_by(program, "parts", asked.spelled.sketch.text()))
+    for part in report.parts:
+        if isinstance(part.shape, Solved):
+            piece = _Piece(drawing, asked, PrintedPlaces.of(part.shape.places, asked.spelled.scale))
+            with suppress(MissingPlace):
+                if piece.lies_as_needed(constraint):
+                    placed = Placed(drawing, piece.solution())
+                    return Deviation(number, constraint, amounts(placed, constraint)[0], Unit.NM)
+    return None
+
+
+class _Piece:
+    """A placed piece of a drawing, in micrometres, in a frame of its own."""
+
+    def __init__(self, drawing: Drawing, asked: Trial, plate: PrintedPlaces) -> None:
+        self.drawing, self.asked, self.plate = drawing, asked, plate
+        self.right = plate.axis(asked.spelled.headings, DATUM)
+
+    def lies_as_needed(self, constraint: Constraint) -> bool:
+        """Whether the piece lies to the datum as a constraint needs it."""
+        if isinstance(constraint, Fixed) or DATUM_NAMES.intersection(named(constraint)):
+            return self.right is not None and len(self._axes()) == 2
+        return self.right is not None or not isinstance(constraint, UPRIGHT)
+
+    def _axes(self) -> list[str]:
+        """The lines of the datum's axes in the piece."""
+        return [each.name for each in self.asked.spelled.headings
+                if each.rail is not None and each.rail.datum() and each.name in self.plate.lines]
+
+    def solution(self) -> Solution:
+        """The places of the piece, in nanometres of the drawing."""
+        return Solution(dict(self._points()), dict(self._radii()),
+                        Frame(self._origin(), self.right or (1, 0)))
+
+    def _origin(self) -> PointNm:
+        """Where the datum's axes meet: they are square to each other."""
+        feet = [self.plate.foot(name) for name in self._axes()]
+        return sum(x for x, _ in feet) * 1000, sum(y for _, y in feet) * 1000
+
+    def _points(self) -> Mapping[PointRef, PointNm]:
+        found = {}
+        for ref, knot in self.asked.axes.facts.refs.items():
+            name = self.asked.spelled.points.get(knot)
+            if name in self.plate.points and name is not None:
+                x, y = self.plate.points[name]
+                found[ref] = x * 1000, y * 1000
+        return found
+
+    def _radii(self) -> Mapping[str, Number]:
+        """The radii that are told."""
+        rims = [each.name for each in self.drawing.geometry if isinstance(each, (Circle, Arc))]
+        sizes = {name: self.asked.rails.size(RadiusOf(name)) for name in rims}
+        return {name: size * 1000 for name, size in sizes.items() if size is not None}

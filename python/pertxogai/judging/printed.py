@@ -1,0 +1,131 @@
+"""Printed places in the frame of the drawing's datum, exactly, and then rounded to whole
+nanometres."""
+from __future__ import annotations
+
+from collections.abc import Sequence
+from dataclasses import dataclass
+from fractions import Fraction
+from math import cos, isqrt, sin
+
+from pertxogai.judging.turning import axis_of, drawn_axis, known_at
+from pertxogai.language import Placed, PlacedLine, PlacedPoint
+from pertxogai.spelling.axes import Axes
+from pertxogai.spelling.facts import DATUM
+from pertxogai.spelling.linear import Number
+from pertxogai.spelling.writing import Heading, Spelled
+
+PointNm = tuple[Number, Number]
+DIGITS = 10 ** 24
+
+
+@dataclass(frozen=True)
+class PrintedPlaces:
+    """Printed points and lines by their names, in micrometres of the drawing."""
+
+    points: dict[str, PointNm]
+    lines: dict[str, tuple[Number, Number, Number]]
+
+    @staticmethod
+    def of(places: Sequence[Placed], scale: int) -> PrintedPlaces:
+        """The places of a sketch that is so many times as large as the drawing."""
+        per = 1000 * scale
+        points: dict[str, PointNm] = {each.name: (_divided(each.x_nm, per), _divided(each.y_nm, per))
+                                   for each in places if isinstance(each, PlacedPoint)}
+        lines = {each.name: _line(each, per) for each in places if isinstance(each, PlacedLine)}
+        return PrintedPlaces(points, lines)
+
+    def axis(self, headings: Sequence[Heading], frame: int) -> PointNm | None:
+        """The direction of a frame's first axis; None where none of its lines is here."""
+        mine = [each for each in headings if each.frame == frame and each.name in self.lines]
+        mine.sort(key=lambda each: each.quarters is None)
+        if not mine:
+            return None
+        a, b, _ = self.lines[mine[0].name]
+        ahead, left = b, -a
+        if mine[0].quarters is None:
+            c, s = Fraction(cos(mine[0].radians)), Fraction(sin(mine[0].radians))
+            return _of_length_one(ahead * c + left * s, left * c - ahead * s)
+        return (ahead, left) if mine[0].quarters == 0 else (left, -ahead)
+
+    def height(self, line: str, point: str) -> Number:
+        """How far a point is from a line, in micrometres."""
+        a, b, c = self.lines[line]
+        x, y = self.points[point]
+        aside = a * x + b * y - c
+        return max(aside, -aside)
+
+    def foot(self, line: str) -> PointNm:
+        """The line's place nearest to 0 0."""
+        a, b, c = self.lines[line]
+        return a * c, b * c
+
+
+def _divided(value: int, by: int) -> Number:
+    """A quotient, whole where it can be."""
+    whole, rest = divmod(value, by)
+    return Fraction(value, by) if rest else whole
+
+
+def _line(line: PlacedLine, per: int) -> tuple[Number, Number, Number]:
+    a, b = _of_length_one(Fraction(line.a_ppb), Fraction(line.b_ppb))
+    return a, b, _divided(line.c_nm, per)
+
+
+def _of_length_one(a: Fraction, b: Fraction) -> PointNm:
+    if not a or not b:
+        return (a > 0) - (a < 0), (b > 0) - (b < 0)
+    square = a * a + b * b
+    size = Fraction(isqrt(int(square * DIGITS)), 10 ** 12)
+    return a / size, b / size
+
+
+def along(axis: PointNm, upwards: bool, spot: PointNm) -> Number:
+    """A place along an axis, or `upwards` along its left."""
+    (a, b), (x, y) = axis, spot
+    if b == 0:
+        value = y if upwards else x
+        return value if a == 1 else a * value
+    return a * y - b * x if upwards else a * x + b * y
+
+
+def in_datum(axes: Axes, spelled: Spelled, plate: PrintedPlaces) -> dict[str, tuple[int, int]]:
+    """Each point in the datum's frame, in whole nanometres. Where the drawing isn't tied to an
+    axis, the first point has its drawn coordinate there; where it has no direction, its first
+    segment runs as it is drawn."""
+    spots = {knot: plate.points[name] for knot, name in spelled.points.items()
+             if name in plate.points}
+    axis = plate.axis(spelled.headings, DATUM)
+    if axis is None:
+        told = axis_of(axes, spots) or drawn_axis(axes, spots)
+        axis = (1, 0) if told is None else _of_length_one(*map(Fraction, told))
+    shift = [_shift(axes, spelled, plate, axis, upwards) for upwards in (False, True)]
+    found = {}
+    for name, spot in plate.points.items():
+        x, y = (along(axis, upwards, spot) + shift[upwards] for upwards in (False, True))
+        found[name] = (_whole(x * 1000), _whole(y * 1000))
+    return found
+
+
+def is_tied(axes: Axes, spelled: Spelled) -> bool:
+    """Whether the drawing says which way it lies to the datum's axes; else all of it may turn."""
+    spots = {knot: (Fraction(x), Fraction(y)) for knot, (x, y) in axes.facts.drawn.items()
+             if knot in spelled.points}
+    return spelled.tied() or axis_of(axes, spots) is not None
+
+
+def _shift(axes: Axes, spelled: Spelled, plate: PrintedPlaces, axis: PointNm, upwards: bool) -> Number:
+    """How far the printed places are moved along an axis: by a line that is the datum's, a point
+    of which the coordinate is told, or the first point, which stays where it is drawn."""
+    for each in spelled.headings:
+        rail = each.rail
+        if rail and rail.datum() and rail.upwards == upwards and each.name in plate.lines:
+            return -along(axis, upwards, plate.foot(each.name))
+    knots = {knot: name for knot, name in spelled.points.items() if name in plate.points}
+    told = known_at(axes, upwards, knots)
+    knot = next(iter(knots)) if told is None else told[0]
+    at = axes.facts.drawn[knot][upwards] if told is None else told[1]
+    return at - along(axis, upwards, plate.points[knots[knot]])
+
+
+def _whole(value: Number) -> int:
+    return value if isinstance(value, int) else (2 * value.numerator + value.denominator) // (2 * value.denominator)

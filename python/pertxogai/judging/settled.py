@@ -1,0 +1,69 @@
+"""Where the designer's points lie, and how large the rims are: in whole nanometres, in the datum's
+frame."""
+from __future__ import annotations
+
+from dataclasses import dataclass
+
+from pertxogai.drawing import ORIGIN, Arc, Circle, Drawing, PointRef
+from pertxogai.judging.measure.solution import PointNm, Solution
+from pertxogai.judging.printed import PrintedPlaces, in_datum
+from pertxogai.judging.sizes import Sizes
+from pertxogai.judging.trials import Trial
+from pertxogai.program.reports import Shape
+from pertxogai.spelling.facts import ORIGIN_KNOT, RadiusOf
+from pertxogai.spelling.linear import Number
+
+
+@dataclass(frozen=True)
+class Settled:
+    """The places of a drawing, and the circles of which nothing tells the size, which are as they
+    are drawn."""
+
+    solution: Solution
+    unsized: tuple[str, ...]
+
+
+def settled(drawing: Drawing, asked: Trial, shape: Shape) -> Settled:
+    """What was printed for a drawing, carried to the datum's frame and rounded there."""
+    points = _points(asked, shape)
+    radii: dict[str, int] = {}
+    unsized = []
+    sizes = _sizes(asked, points)
+    for rim in drawing.geometry:
+        if isinstance(rim, (Circle, Arc)):
+            radius = _radius(asked, sizes, rim.name)
+            if radius is None:
+                unsized.append(rim.name)
+                radius = _whole(drawing.drawn_radius_um(rim.name) * 1000)
+            radii[rim.name] = radius
+    return Settled(Solution(points, radii), tuple(unsized))
+
+
+def solution_of(drawing: Drawing, asked: Trial, shape: Shape) -> Solution:
+    """The places alone."""
+    return settled(drawing, asked, shape).solution
+
+
+def _points(asked: Trial, shape: Shape) -> dict[PointRef, PointNm]:
+    """Where each of the designer's points lies."""
+    spelled = asked.spelled
+    at = in_datum(asked.axes, spelled, PrintedPlaces.of(shape.places, spelled.scale))
+    return {ref: at[spelled.points[knot]] if knot in spelled.points else (0, 0)
+            for ref, knot in asked.axes.facts.refs.items() if ref != ORIGIN}
+
+
+def _sizes(asked: Trial, points: dict[PointRef, PointNm]) -> Sizes:
+    """What the placed points tell of sizes."""
+    facts = asked.axes.facts
+    spots = {knot: points[ref] for ref, knot in facts.refs.items() if ref != ORIGIN}
+    return Sizes(facts, {**spots, ORIGIN_KNOT: (0, 0)})
+
+
+def _radius(asked: Trial, sizes: Sizes, name: str) -> int | None:
+    """A radius that is told; else the one that the places tell; else None."""
+    told = asked.rails.size(RadiusOf(name))
+    return sizes.radius_nm(name) if told is None else _whole(told * 1000)
+
+
+def _whole(value: Number) -> int:
+    return (2 * value.numerator + value.denominator) // (2 * value.denominator)

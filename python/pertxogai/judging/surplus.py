@@ -1,0 +1,256 @@
+"""What may go of a drawing that is over: what the designer may take away so that less is said
+twice, by the rank of what the drawing says. Each is tried: the program is asked what the rest is
+then, and how far the one is off is measured where the rest is placed."""
+from __future__ import annotations
+
+from collections.abc import Collection, Iterable, Iterator, Sequence
+from contextlib import suppress
+from dataclasses import dataclass, replace
+from enum import Enum
+from fractions import Fraction
+
+from pertxogai.drawing import ORIGIN, Coincident, Drawing
+from pertxogai.exact import whole_up
+from pertxogai.judging.freedoms import Freedoms, freedoms
+from pertxogai.judging.measure.deviation import Deviation, Unit, greatest
+from pertxogai.judging.measure.limit import Limit
+from pertxogai.judging.measure.measuring import measure
+from pertxogai.judging.pieces_measured import off_in_pieces
+from pertxogai.judging.remembering import Remembering
+from pertxogai.judging.settled import solution_of
+from pertxogai.judging.trials import Question, Trial, first_good, written_by
+from pertxogai.program import Answer, Solver
+from pertxogai.program.reports import Solved, Verdict, read_spare
+from pertxogai.spelling import Axes, Spelled, axes_said
+from pertxogai.spelling.facts import Owner
+
+CALLS = 1000
+"""The most calls of the program for it."""
+WORK = 6000
+"""The most constraints, over all drawings that are tried; what is left is listed untried."""
+
+
+class Then(Enum):
+    """What the rest is without a dimension."""
+
+    WELL = "well"
+    NO_PLACES = "well, but it has no places"
+    OPEN = "open"
+    OVER = "over still"
+    """Another dimension has to go too."""
+
+
+@dataclass(frozen=True)
+class Surplus:
+    """A dimension that may go, what the rest is then, and how far the dimension is off where the
+    rest is placed: a repeat where `amount` is within the limit. off: None where the rest has no
+    places, or says less than with it. then: None where it wasn't tried."""
+
+    number: int
+    name: str
+    off: Deviation | None
+    then: Then | None = None
+    limit: Limit = Limit()
+
+    def repeats(self) -> bool | None:
+        """Whether it says the same as the others; None where that can't be told."""
+        return None if self.off is None else self.off.amount <= self.limit.amount
+
+
+def what_may_go(question: Question, asked: Trial) -> tuple[Surplus, ...]:
+    """What may go of a drawing that is over by what was asked of it: contradictions first, those
+    that are off by least before others. Where the rank can't be told, what the program names.
+    Raises ProgramError."""
+    drawing = question.drawing
+    free = freedoms(drawing)
+    if free is None:
+        return _named(drawing, spare_at_once(drawing, asked, question.program))
+    numbers = _spare_by_rank(drawing, free)
+    trials = _Trials(question, free)
+    with suppress(_Enough):
+        trials.try_all(numbers)
+    untried = [number for number in numbers if number not in trials.found]
+    found = [*trials.found.values(), *_named(drawing, untried)]
+    return tuple(sorted(_consistent(found, free.excess), key=_order))
+
+
+def _named(drawing: Drawing, numbers: Iterable[int]) -> tuple[Surplus, ...]:
+    """Dimensions that weren't tried."""
+    return tuple(Surplus(number, drawing.called(number), None) for number in numbers)
+
+
+def _spare_by_rank(drawing: Drawing, free: Freedoms) -> list[int]:
+    """The constraints without which less is said twice; one without which a corner comes apart
+    only where there is no other."""
+    numbers = [number for number in range(1, len(drawing.constraints) + 1) if free.fewer([number])]
+    others = [number for number in numbers
+              if not (_is_corner(drawing, number) and free.freed([number]))]
+    return others or numbers
+
+
+def _is_corner(drawing: Drawing, number: int) -> bool:
+    """Whether a constraint joins points of two shapes."""
+    joins = drawing.constraints[number - 1]
+    return isinstance(joins, Coincident) and ORIGIN not in (joins.first, joins.second)
+
+
+def _consistent(found: Sequence[Surplus], excess: int) -> Iterator[Surplus]:
+    """What may go. Where one alone is too much and one repeats the rest, so do all: one that is
+    off by more is so on another shape of its rest, and that isn't told."""
+    repeats = excess == 1 and any(each.repeats() for each in found)
+    for each in found:
+        yield replace(each, off=None) if repeats and each.repeats() is False else each
+
+
+def _order(each: Surplus) -> tuple[int, int, int]:
+    """Contradictions, by how far they are off; then what isn't measured; then repeats."""
+    kind = {False: 0, None: 1, True: 2}[each.repeats()]
+    return kind, each.off.amount if each.off is not None and not kind else 0, each.number
+
+
+def spare_at_once(drawing: Drawing, asked: Trial, program: Solver) -> list[int]:
+    """The places of the constraints that the program calls spare in one spelling, but for those
+    that are needed by rank."""
+    owners = _spare(asked.spelled, program).union(*_circuits(asked.axes))
+    numbers = sorted({owner.number for owner in owners if owner.number and not owner.shape})
+    free = freedoms(drawing)
+    if free is None:
+        return numbers
+    return [number for number in numbers if free.fewer([number])]
+
+
+def _spare(spelled: Spelled, program: Solver) -> set[Owner]:
+    spare = read_spare(written_by(program, "spare", spelled.sketch.text()))
+    return {owner for each in spare for owner in spelled.owners[each.number - 1]}
+
+
+def _circuits(axes: Axes) -> list[frozenset[Owner]]:
+    """Who tells again what others tell, with these others, of each that tells nothing new."""
+    found = [equation.owners.union(*(axes.equations[mark].owners for mark in told.marks))
+             for equation, told in axes.surplus()]
+    return found + [axes.directions.owners(leans.first, leans.second) | {leans.owner}
+                    for leans in axes.conflicts()]
+
+
+class _Enough(Exception):
+    """The program was called as often as may be, or enough was tried."""
+
+
+class _Counted:
+    """A program that may be called so many times."""
+
+    def __init__(self, program: Solver) -> None:
+        self._program = program
+        self._left = CALLS
+
+    def ask(self, words: Sequence[str], text: str) -> Answer:
+        """What the program answers. Raises _Enough."""
+        self._left -= 1
+        if self._left < 0:
+            raise _Enough
+        return self._program.ask(words, text)
+
+
+class _Trials:
+    """A drawing that is over, tried without some of its constraints. found: what may go, by its
+    place."""
+
+    def __init__(self, question: Question, free: Freedoms) -> None:
+        self.drawing, self.free, self.limit = question.drawing, free, question.limit
+        self.program = _Counted(Remembering(question.program))
+        self.found: dict[int, Surplus] = {}
+        self._known: dict[frozenset[int], Trial] = {}
+        self._work = WORK
+
+    def try_all(self, numbers: Sequence[int]) -> None:
+        """Tries the rest without each of some constraints, and without some of the last that are
+        too many beside it. Raises _Enough."""
+        last = self._last(numbers)
+        for number in numbers:
+            others = self._others(number, last)
+            self.found[number] = self._tried(number, others)
+
+    def _last(self, numbers: Sequence[int]) -> list[int]:
+        """The last constraints without which nothing is said twice, and nothing more is free where
+        there are such."""
+        gone: list[int] = []
+        for frees in (False, True):
+            for number in reversed(numbers):
+                more = [*gone, number]
+                if self.free.fewer(more) > self.free.fewer(gone) and (
+                        frees or self.free.freed(more) == self.free.freed(gone)):
+                    gone = more
+        return gone
+
+    def _others(self, number: int, last: Sequence[int]) -> frozenset[int]:
+        """Those of the last that have to go beside a constraint: the one nearest to it may stay, of
+        those that may; best so that nothing more is free."""
+        if self.free.fewer([number]) == self.free.excess:
+            return frozenset()
+        near = sorted(last, key=lambda other: abs(other - number))
+        rests = [frozenset(last) - {other, number} for other in near]
+        rests = [rest for rest in rests if self.free.fewer([number, *rest]) == self.free.excess]
+        return min(rests, key=lambda rest: self.free.freed([number, *rest]),
+                   default=frozenset(last) - {number})
+
+    def _tried(self, number: int, others: frozenset[int]) -> Surplus:
+        """What is to be said of a constraint that goes beside others."""
+        gone = others | {number}
+        asked = self._without(gone)
+        off = None
+        if asked.verdict is not Verdict.OVER and not self.free.freed(gone):
+            off = self._off(number, gone, asked)
+        then = Then.OVER if others else _then(asked)
+        return Surplus(number, self.drawing.called(number), off, then, self.limit)
+
+    def _without(self, gone: frozenset[int]) -> Trial:
+        """What the program says of the drawing without some constraints. Raises _Enough."""
+        if gone not in self._known:
+            rest = without(self.drawing, gone)
+            self._work -= len(rest.constraints)
+            if self._work < 0 and self._known:
+                raise _Enough
+            self._known[gone] = first_good(Question(rest, self.program, self.limit), quick=True)
+        return self._known[gone]
+
+    def _off(self, number: int, gone: frozenset[int], asked: Trial) -> Deviation | None:
+        """How far a constraint is off on the places of the rest, or of a piece of it."""
+        if asked.verdict is Verdict.OPEN:
+            return (off_in_pieces(self.drawing, number, asked, self.program)
+                    or self._off_by_sums(number, gone))
+        if not isinstance(asked.solved, Solved):
+            return None
+        places = solution_of(without(self.drawing, gone), asked, asked.solved)
+        return worst(measure(self.drawing, places), number)
+
+    def _off_by_sums(self, number: int, gone: frozenset[int]) -> Deviation | None:
+        """How far a constraint is off what the rest says of x and y; None where it says nothing
+        of that."""
+        others = gone - {number}
+        owner = Owner(number - sum(other < number for other in others))
+        rest = axes_said(without(self.drawing, gone)).system
+        said = axes_said(without(self.drawing, others)).equations
+        values = [rest.reduced(each.form) for each in said if owner in each.owners]
+        off = [Fraction(max(each.number, -each.number)) for each in values if not each.terms]
+        return Deviation(number, self.drawing.constraints[number - 1], whole_up(max(off) * 1000),
+                         Unit.NM) if off else None
+
+
+def _then(asked: Trial) -> Then:
+    """What a rest is by what was asked of it."""
+    if asked.verdict is Verdict.WELL:
+        return Then.WELL if isinstance(asked.solved, Solved) else Then.NO_PLACES
+    return Then.OPEN if asked.verdict is Verdict.OPEN else Then.OVER
+
+
+def without(drawing: Drawing, gone: Collection[int]) -> Drawing:
+    """The drawing without the constraints of these places, from 1."""
+    return Drawing(drawing.geometry, tuple(
+        each for number, each in enumerate(drawing.constraints, 1) if number not in gone))
+
+
+def worst(deviations: Iterable[Deviation], number: int) -> Deviation | None:
+    """The deviation of a constraint that counts: in nanometres, before that of an angle."""
+    mine = [each for each in deviations if each.number == number]
+    lengths = [each for each in mine if each.unit is Unit.NM]
+    return greatest(lengths, Unit.NM) or greatest(mine, Unit.PPB)

@@ -1,0 +1,295 @@
+"""Asks the program for one style after the other, and takes the first that is well and placed.
+
+Where what is linear is told twice, each dimension is spelled by itself, so that the program says
+what is spare. """
+from __future__ import annotations
+
+from collections.abc import Iterator, Sequence
+from dataclasses import dataclass, replace
+from enum import Enum
+from itertools import islice
+
+from pertxogai.drawing import Drawing
+from pertxogai.judging.as_drawn import frozen_choices
+from pertxogai.judging.contradicting import contradictions, too_many
+from pertxogai.judging.freedoms import freedoms
+from pertxogai.judging.from_parts import growths
+from pertxogai.judging.measure.limit import Limit
+from pertxogai.judging.within import within
+from pertxogai.language import Refusal
+from pertxogai.program import Solver, Status
+from pertxogai.program.reports import (
+    CheckReport, Fault, NotAReport, Part, Refused, Solved, Verdict, read_answer, read_check,
+    read_fault, read_parts)
+from pertxogai.spelling import Axes, Care, Interpretation, Rails, Spelled, Style, readings, written
+from pertxogai.spelling.axes import Equation
+from pertxogai.spelling.facts import Owner
+from pertxogai.spelling.writing import Contradiction
+
+ROUNDS = 80
+"""So many values at most are read off placed parts."""
+GROWTHS = 6
+"""So many things at most are tried as the next value, where the first leaves the drawing over."""
+FREEZES = 4
+"""So many lengths and radii at most are taken as drawn."""
+SOLVED_FIRST = (Style.VALUES, Style.VALUES_NEAR, Style.GRID, Style.FEET)
+ONE_BY_ONE = (Style.GRID, Style.FEET, Style.VALUES, Style.VALUES_NEAR)
+
+
+class PlaceBy(Enum):
+    """How the program places: with the key `place`."""
+
+    BOXES = "boxes"
+    POINTS = "points"
+
+
+@dataclass(frozen=True)
+class Question:
+    """A drawing that a program is asked about, and within what it has to hold."""
+
+    drawing: Drawing
+    program: Solver
+    limit: Limit = Limit()
+
+
+@dataclass(frozen=True)
+class Trial:
+    """What the program answered to one style of a drawing: of what is well, the places or the
+    fault, and what `check` says where it was asked (`counted`); else what `check` says. grown:
+    equations that placed parts told. frozen: who is only measured. off: what couldn't be spelled,
+    and was told as a contradiction by what was measured."""
+
+    spelled: Spelled
+    axes: Axes
+    rails: Rails
+    check: CheckReport | None = None
+    grown: tuple[Equation, ...] = ()
+    frozen: frozenset[Owner] = frozenset()
+    off: tuple[Contradiction, ...] = ()
+    place: PlaceBy = PlaceBy.BOXES
+    solved: Solved | Fault | None = None
+
+    @property
+    def verdict(self) -> Verdict:
+        """The program's verdict."""
+        return Verdict.WELL if self.check is None else self.check.verdict
+
+    @property
+    def parts(self) -> tuple[Part, ...]:
+        """The parts that `check` told; none where it wasn't asked."""
+        return () if self.check is None else self.check.parts
+
+
+def first_good(question: Question, freeze: bool = False, before: Drawing = Drawing(),
+               quick: bool = False) -> Trial:
+    """The first reading and style that is well and placed; else one that is well; else one that is
+    over; else the one with the fewest parts. With `freeze`, what is open is asked again with
+    lengths and radii as they are drawn. What an edit has left of the drawing before isn't spelled
+    anew. `quick`: whether of what says something twice the first style that is over will do, since
+    none is called well then."""
+    best: Trial | None = None
+    seen: list[list[Equation]] = []
+    for spellings in readings(question.drawing, before):
+        if spellings.axes.equations in seen:
+            continue
+        seen.append(spellings.axes.equations)
+        asked = _best_style(question, spellings, quick)
+        if isinstance(asked.solved, Solved):
+            return asked
+        if best is None or _worth(asked) > _worth(best):
+            best = asked
+    assert best is not None
+    if freeze and best.verdict is Verdict.OPEN:
+        return _frozen(question, best)
+    return best
+
+
+def _best_style(question: Question, spellings: Interpretation, quick: bool) -> Trial:
+    """The first style that is placed, else the best; what is linear and told twice is told so to
+    the program. What is open isn't asked again with its lines in another order: which parts remain
+    doesn't depend on that, as is proved."""
+    best: Trial | None = None
+    still_open: list[list[str]] = []
+    axes = spellings.axes
+    twice = bool(axes.surplus() or axes.conflicts())
+    for rails, spelled in _styles(spellings, ONE_BY_ONE if twice else SOLVED_FIRST):
+        lines = sorted(spelled.sketch.text().splitlines())
+        if lines in still_open:
+            continue
+        asked = placed(_ask(question, rails, spelled, Care()), question.program)
+        if asked.verdict is Verdict.OPEN and not asked.grown:
+            still_open.append(lines)
+        if twice and asked.verdict is Verdict.WELL:
+            continue
+        if isinstance(asked.solved, Solved) or (
+                quick and twice and asked.verdict is Verdict.OVER):
+            return asked
+        if best is None or _worth(asked) > _worth(best):
+            best = asked
+    if best is not None and (best.verdict is Verdict.OVER or not twice):
+        return best
+    return placed(ask(question, axes, Style.VALUES, Care(insist=True)), question.program)
+
+
+def _styles(spellings: Interpretation, styles: Sequence[Style]) -> Iterator[tuple[Rails, Spelled]]:
+    """Each style in turn, but for those in which the same is said as in one before."""
+    said: set[tuple[bool | Style, str]] = set()
+    for style in styles:
+        spelled = spellings.spelled(style)
+        key = style.solves() or style, spelled.sketch.text()
+        if key not in said:
+            said.add(key)
+            yield spellings.rails(style), spelled
+
+
+def finer(question: Question, asked: Trial) -> Trial:
+    """The same with angles told as finely as can be, where that is still well and placed."""
+    if not asked.spelled.coarse:
+        return asked
+    fine = placed(ask(question, asked.axes, asked.spelled.style, Care(fine=True)),
+                  question.program)
+    return replace(fine, grown=asked.grown + fine.grown,
+                   frozen=asked.frozen) if _worth(fine) >= _worth(asked) else asked
+
+
+def ask(question: Question, axes: Axes, style: Style, care: Care = Care()) -> Trial:
+    """One style, with what grows from placed parts."""
+    rails = Rails(axes, style)
+    return _ask(question, rails, written(axes, rails, style, care), care)
+
+
+def _ask(question: Question, rails: Rails, spelled: Spelled, care: Care) -> Trial:
+    """One spelling, and those in which more is told by what the program has placed."""
+    asked = _answered(rails, spelled, question.program)
+    for _ in range(ROUNDS):
+        more = _grown(asked, question.program, care) if asked.verdict is Verdict.OPEN else None
+        if more is None:
+            break
+        asked = more
+    return _contradicted(question, asked, care)
+
+
+def _grown(asked: Trial, program: Solver, care: Care) -> Trial | None:
+    """The same with one more value that is read off placed parts: the first that leaves it not
+    over, of a few; None where there is none."""
+    text = asked.spelled.sketch.text()
+    parts = read_parts(written_by(program, "parts", text, within(asked.spelled)))
+    found: Trial | None = None
+    for more in islice(growths(asked.axes, asked.rails, asked.spelled, parts), GROWTHS):
+        rails = Rails(more.axes, asked.spelled.style)
+        spelled = written(more.axes, rails, asked.spelled.style, care)
+        trial = replace(_answered(rails, spelled, program),
+                        grown=(*asked.grown, more.equation))
+        if trial.verdict is not Verdict.OVER:
+            return trial
+        found = found or trial
+    return found
+
+
+def _contradicted(question: Question, asked: Trial, care: Care) -> Trial:
+    """The same; where something couldn't be spelled, and contradicts what is placed, with that
+    told so. What says nothing that others say contradicts none, by rank: it has no shape."""
+    if not asked.spelled.left_out or asked.verdict is Verdict.OVER:
+        return asked
+    free = freedoms(question.drawing)
+    off = tuple(each for each in _off(question, asked)
+                if free is None or each.owners & free.among())
+    if not off:
+        return asked
+    spelled = written(asked.axes, asked.rails, asked.spelled.style, replace(care, off=off))
+    return replace(_answered(asked.rails, spelled, question.program), grown=asked.grown, off=off)
+
+
+def _off(question: Question, asked: Trial) -> tuple[Contradiction, ...]:
+    """What couldn't be spelled and contradicts what is placed, by boxes or by points. Where what is
+    well has no places, what of it is too many by rank."""
+    for place in PlaceBy:
+        keys = f"place={place.value}", within(asked.spelled)
+        text = asked.spelled.sketch.text()
+        report = read_parts(written_by(question.program, "parts", text, *keys))
+        if asked.verdict is Verdict.OPEN or isinstance(report.parts[0].shape, Solved):
+            return contradictions(asked.rails, asked.spelled, report, question.limit)
+    return tuple(too_many(question.drawing, asked.spelled))
+
+
+def written_by(program: Solver, command: str, text: str, *keys: str) -> str:
+    """What a command wrote of a text that `check` has taken. Raises ProgramError, which says why
+    where there is no whole report."""
+    words = command, *keys
+    answer = program.ask(words, text)
+    if answer.status is not Status.DONE:
+        read_answer(words, answer)
+        raise NotAReport(f"the program ended {command} with status {answer.status.value}, which "
+                         "doesn't fit what it was asked")
+    return answer.text
+
+
+def _told(program: Solver, spelled: Spelled, place: PlaceBy) -> CheckReport | Solved | Fault:
+    """What `solve` says: the places of what is well, or its fault; of what isn't well, what
+    `check` says of it. Raises Refusal where the program refuses the text, as one that is too
+    large."""
+    words = "solve", f"place={place.value}", within(spelled)
+    answer = program.ask(words, spelled.sketch.text())
+    if answer.status in (Status.FAULT, Status.TOLERANCE):
+        return read_fault(answer.text)
+    report = read_answer(words, answer)
+    if isinstance(report, Refused):
+        raise Refusal(report)
+    if isinstance(report, Solved):
+        return report
+    if isinstance(report, CheckReport) and report.verdict is not Verdict.WELL:
+        return report
+    raise NotAReport("the program ended solve with a status that doesn't fit what it was asked")
+
+
+def _answered(rails: Rails, spelled: Spelled, program: Solver) -> Trial:
+    """One spelling, and what the program says of it: asked once, by boxes."""
+    told = _told(program, spelled, PlaceBy.BOXES)
+    if isinstance(told, CheckReport):
+        return Trial(spelled, rails.axes, rails, told)
+    return Trial(spelled, rails.axes, rails, solved=told)
+
+
+def placed(asked: Trial, program: Solver) -> Trial:
+    """The places of what is well: where there are none by boxes, by points."""
+    if asked.solved is None or isinstance(asked.solved, Solved):
+        return asked
+    told = _told(program, asked.spelled, PlaceBy.POINTS)
+    if isinstance(told, CheckReport):
+        raise NotAReport("the program faults by boxes what it doesn't call well by points")
+    return replace(asked, place=PlaceBy.POINTS, solved=told)
+
+
+def counted(asked: Trial, program: Solver) -> Trial:
+    """The same, with what `check` says of what is well: its parts and its counts."""
+    if asked.check is not None:
+        return asked
+    check = read_check(written_by(program, "check", asked.spelled.sketch.text()))
+    if check.verdict is not Verdict.WELL:
+        raise NotAReport("the program checks as not well what it calls well by solve")
+    return replace(asked, check=check)
+
+
+def _frozen(question: Question, asked: Trial) -> Trial:
+    """What is open, with one length or radius after the other as drawn, while that leaves fewer
+    parts."""
+    for _ in range(FREEZES):
+        best = asked
+        for choice in frozen_choices(asked.axes, asked.rails):
+            trial = ask(question, choice.axes, asked.spelled.style)
+            trial = replace(placed(trial, question.program), grown=asked.grown + trial.grown,
+                            frozen=asked.frozen | {choice.owner})
+            if trial.verdict is not Verdict.OVER and _worth(trial) > _worth(best):
+                best = trial
+        if best is asked or best.verdict is Verdict.WELL:
+            return best
+        asked = best
+    return asked
+
+
+def _worth(asked: Trial) -> tuple[int, bool, int, int]:
+    """What is well and placed before what is well, then what is over, then what leaves less out,
+    then the fewer parts."""
+    order = {Verdict.WELL: 2, Verdict.OVER: 1, Verdict.OPEN: 0}
+    return (order[asked.verdict], isinstance(asked.solved, Solved),
+            -len(asked.spelled.left_out), -len(asked.parts))

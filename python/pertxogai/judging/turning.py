@@ -1,0 +1,139 @@
+"""Which way the datum's x axis runs among the printed places, where no line of the sketch says it:
+two placed points of which the drawing says how the way between them lies to the axes.
+
+Where all else is lengths, the shape is rigid by itself, and such a way is all that holds it to the
+axes; no line of the sketch needs it. """
+from __future__ import annotations
+
+from collections import defaultdict
+from collections.abc import Hashable, Iterator, Mapping
+from dataclasses import dataclass
+from fractions import Fraction
+from itertools import chain, combinations
+from math import cos, isqrt, sin
+
+from pertxogai.spelling.axes import Axes, Coordinate
+from pertxogai.spelling.facts import DATUM, Knot
+from pertxogai.spelling.lean import Lean
+from pertxogai.spelling.linear import Number
+
+PointNm = tuple[Number, Number]
+DIGITS = 10 ** 12
+
+
+@dataclass(frozen=True)
+class Told:
+    """A way between two points, as the drawing tells it along the datum's x axis and to its left:
+    both runs, one of them (the other is None), or the direction alone."""
+
+    first: Knot
+    second: Knot
+    along: Number | None = None
+    across: Number | None = None
+    direction: PointNm | None = None
+
+
+def axis_of(axes: Axes, spots: Mapping[Knot, PointNm]) -> PointNm | None:
+    """The direction of the datum's x axis among the printed places, by the longest way that tells
+    it; None where none does, so that the drawing may turn as a whole. Its length is any."""
+    for told in sorted(_ways(axes, spots), key=lambda each: -_square(_way(spots, each))):
+        wanted = _wanted(axes, told, _way(spots, told))
+        if wanted is not None:
+            return _turned_back(_way(spots, told), wanted)
+    return None
+
+
+def drawn_axis(axes: Axes, spots: Mapping[Knot, PointNm]) -> PointNm | None:
+    """The direction of the datum's x axis where nothing tells it: the first segment runs as it is
+    drawn; of points alone the way between the first two. None where all lie on one place."""
+    for first, second in chain(axes.facts.own.values(), combinations(spots, 2)):
+        if first in spots and second in spots:
+            way = _between(spots, first, second)
+            drawn = _between(axes.facts.drawn, first, second)
+            if any(way) and any(drawn):
+                return _turned_back(way, drawn)
+    return None
+
+
+def known_at(axes: Axes, upwards: bool, knots: Mapping[Knot, object]) -> tuple[Knot, Number] | None:
+    """A placed point of which the drawing says the datum's coordinate, and that, in micrometres;
+    None where it says none."""
+    for knot in knots:
+        value = axes.system.value(Coordinate(DATUM, upwards, knot))
+        if not value.terms:
+            return knot, value.number
+    return None
+
+
+def _ways(axes: Axes, spots: Mapping[Knot, PointNm]) -> Iterator[Told]:
+    """What is told of the ways between placed points."""
+    for line in axes.lines.all():
+        if axes.frame(line).number == DATUM:
+            knots = [each.knot for each in axes.lines.members(line) if each.knot in spots]
+            for first, second in combinations(knots, 2):
+                yield Told(first, second, direction=_direction(axes.lean(line)))
+    for upwards in (False, True):
+        for members in _known(axes, upwards, spots).values():
+            (first, start), *others = members
+            for second, end in others:
+                run = end - start
+                yield Told(first, second, None if upwards else run, run if upwards else None)
+
+
+def _known(axes: Axes, upwards: bool,
+           spots: Mapping[Knot, PointNm]) -> dict[Hashable, list[tuple[Knot, Number]]]:
+    """The placed points of which a coordinate is known against each other's, and these."""
+    found: dict[Hashable, list[tuple[Knot, Number]]] = defaultdict(list)
+    for knot in spots:
+        value = axes.system.value(Coordinate(DATUM, upwards, knot))
+        found[value.key()].append((knot, value.number))
+    return found
+
+
+def _direction(lean: Lean) -> PointNm:
+    """The direction of a line that leans so against the x axis."""
+    way = lean.way()
+    if way is not None:
+        return way
+    return Fraction(cos(lean.radians())), Fraction(sin(lean.radians()))
+
+
+def _way(spots: Mapping[Knot, PointNm], told: Told) -> PointNm:
+    return _between(spots, told.first, told.second)
+
+
+def _between(spots: Mapping[Knot, PointNm], first: Knot, second: Knot) -> PointNm:
+    (x, y), (u, v) = spots[first], spots[second]
+    return u - x, v - y
+
+
+def _square(way: PointNm) -> Number:
+    return way[0] * way[0] + way[1] * way[1]
+
+
+def _wanted(axes: Axes, told: Told, way: PointNm) -> PointNm | None:
+    """The way between the two points along the datum's axes, by its direction: on the side on
+    which it is drawn where what is told leaves two; None where it is too short for what is told."""
+    if not any(way):
+        return None
+    (x, y), (u, v) = axes.facts.drawn[told.first], axes.facts.drawn[told.second]
+    drawn = u - x, v - y
+    if told.direction is not None:
+        a, b = told.direction
+        return (a, b) if a * drawn[0] + b * drawn[1] >= 0 else (-a, -b)
+    run = told.across if told.along is None else told.along
+    assert run is not None
+    rest = _square(way) - run * run
+    if rest < 0:
+        return None
+    other = Fraction(isqrt(int(rest * DIGITS ** 2)), DIGITS)
+    if told.along is None:
+        return (other if drawn[0] >= 0 else -other), run
+    return run, (other if drawn[1] >= 0 else -other)
+
+
+def _turned_back(way: PointNm, wanted: PointNm) -> PointNm:
+    """The direction from which a way is reached by the turn of another: the way times that other's
+    mirror image."""
+    (x, y), (a, b) = way, wanted
+    return x * a + y * b, y * a - x * b

@@ -1,6 +1,0 @@
-"""A DXF drawing, which has places and no constraints, as a drawing that can be dimensioned."""
-
-from pertxogai.outline.joining import Outline
-from pertxogai.outline.reading import TOLERANCE_UM, read_outline
-
-__all__ = ["Outline", "TOLERANCE_UM", "read_outline"]

@@ -1,0 +1,72 @@
+"""A judged drawing as a picture, or as DXF."""
+
+from __future__ import annotations
+
+from collections.abc import Iterator
+from dataclasses import dataclass
+
+from pertxogai.judging.good import GoodJudgement, good_of
+from pertxogai.judging.judged_drawing import JudgedDrawing
+from pertxogai.judging.parts import parts_of_shapes
+from pertxogai.output.drawing_text import drawing_lines
+from pertxogai.output.dxf import Release, dxf_text
+from pertxogai.output.picture.drawings import Marking, scene_of_designed
+from pertxogai.output.picture.marks import Ink, Scene
+from pertxogai.output.picture.svg import Picture, picture_of
+
+
+MOST_SHOWN = 8
+"""The most things left out that a picture tells below it."""
+
+
+class NoPlaces(Exception):
+    """What isn't good can't be written as placed. The message is one line, and says why."""
+
+
+@dataclass(frozen=True)
+class DrawingSheet:
+    """A designer's drawing, to be drawn."""
+
+    judged: JudgedDrawing
+    as_drawn: bool
+
+    def picture(self) -> Picture:
+        """As placed where that is good, else as drawn with what was judged below it."""
+        return picture_of(self._scene())
+
+    def dxf(self, release: Release) -> str:
+        """The shapes as placed where that is good, or as drawn where that was asked for. Raises
+        NoPlaces."""
+        found = good_of(self.judged)
+        if not self.as_drawn and not isinstance(found, GoodJudgement):
+            raise NoPlaces(f"{self.judged.name}: no DXF is written of what isn't good: {found}")
+        return dxf_text(self._scene().marks, release)
+
+    def is_good(self) -> bool:
+        """Whether it is drawn as it is good, or as it was asked for."""
+        return self.as_drawn or isinstance(good_of(self.judged), GoodJudgement)
+
+    def _scene(self) -> Scene:
+        judged, judgement, found = self.judged, self.judged.judgement, good_of(self.judged)
+        if self.as_drawn:
+            marking = Marking(legend=tuple((line, Ink()) for line in self._left_out()))
+            return scene_of_designed(judged.drawing, None, judged.name, marking)
+        if isinstance(found, GoodJudgement):
+            return scene_of_designed(judged.drawing, found.solution, judged.name, Marking())
+        spare = frozenset(each.number for each in judgement.surplus)
+        marking = Marking(parts_of_shapes(judgement), spare, tuple(self._legend()))
+        return scene_of_designed(judged.drawing, None, judged.name, marking)
+
+    def _left_out(self) -> Iterator[str]:
+        """What the picture lacks; where that is much, how much more."""
+        left_out = self.judged.left_out()
+        yield from (f"left out: {what}" for what in left_out[:MOST_SHOWN])
+        if len(left_out) > MOST_SHOWN:
+            yield f"and {len(left_out) - MOST_SHOWN} more: see ./pertxogai judge"
+
+    def _legend(self) -> Iterator[tuple[str, Ink]]:
+        """What was judged, each piece in its colour."""
+        pieces = self.judged.judgement.missing.pieces if self.judged.judgement.missing else ()
+        numbers = {f"piece {piece.number}": piece.number for piece in pieces}
+        for line in drawing_lines(self.judged):
+            yield line, Ink(part=numbers.get(line.strip().partition(":")[0]))

@@ -1,0 +1,272 @@
+"""What is told of a judged drawing: lines to read, and one object for JSON."""
+
+from __future__ import annotations
+
+from collections.abc import Iterator, Sequence
+
+from pertxogai.drawing import Circle, Drawing, PointRef
+from pertxogai.drawing.geometry import Arc
+from pertxogai.judging import Judgement, Surplus, Then
+from pertxogai.judging.choices import tried_json, tried_lines
+from pertxogai.judging.good import Lack, reasons_against, reasons_json
+from pertxogai.judging.judged_drawing import JudgedDrawing
+from pertxogai.judging.measure import Deviation, Solution, Unit, amount_text
+from pertxogai.judging.measure.limit import units_text
+from pertxogai.judging.measure.upright import upright
+from pertxogai.program.reports import CheckReport, Part, Solved
+
+__all__ = ["JudgedDrawing", "drawing_json", "drawing_lines", "spare_json", "spelled_json",
+           "within_json"]
+
+MOST_ADVICE = 5
+"""So many pairs of pieces at most are told what to do with."""
+
+
+def drawing_json(judged: JudgedDrawing) -> dict[str, object]:
+    """All of it as one object for JSON, of a judgement with counts. Places are nm in the datum's
+    frame, whole where they were printed in it."""
+    judgement = judged.judgement
+    return {
+        "name": judged.name,
+        "verdict": judgement.verdict.value,
+        **reasons_json(judged),
+        "parts": [_part(judgement, part) for part in _check(judgement).parts],
+        **spelled_json(judged),
+        "measured_over": list(judgement.measured_off),
+        "by_rank": _by_rank(judgement),
+        "spare": [spare_json(each) for each in judgement.surplus],
+        **_placed_json(judged),
+        "warnings": [each.text() for each in judgement.warnings],
+    }
+
+
+def _by_rank(judgement: Judgement) -> dict[str, object]:
+    """What is counted by the rank of what the drawing says, and not by the program: how many
+    dimensions are lacking at least, how the whole may be moved, what is too many though the drawing
+    is open, and what is loose though it is over."""
+    found = judgement.missing
+    return {"lacks": found.count if found else 0,
+            "whole": found.whole.text() if found and found.whole else "",
+            "excess": [list(each) for each in found.excess] if found else [],
+            "loose": list(judgement.loose)}
+
+
+def spelled_json(judged: JudgedDrawing) -> dict[str, object]:
+    """How it was spelled, and what was not spelled as it is said; `exact` is whether there is
+    none of that."""
+    judgement = judged.judgement
+    return {
+        "spelled": judgement.style.value,
+        "exact": not (judgement.frozen or judgement.grown or judgement.rounded
+                      or judgement.left_out_measured or judged.left_out()),
+        "left_out": list(judged.left_out()),
+        "left_out_but_holds": [each.name for each in judgement.left_out_measured
+                               if each.holds()],
+        "aside": list(judged.aside),
+        "frozen": list(judgement.frozen),
+        "grown": list(judgement.grown),
+        "rounded": list(judgement.rounded),
+        "repeats": list(judgement.repeats),
+        "undimensioned": list(judgement.undimensioned),
+    }
+
+
+def _placed_json(judged: JudgedDrawing) -> dict[str, object]:
+    """Where it is placed and within what, or the program's fault."""
+    judgement = judged.judgement
+    placed = judgement.solution is not None
+    return {
+        "places": _places(judged.drawing, judgement.solution) if judgement.solution else None,
+        **within_json(judged),
+        "fault": None if placed else _fault(judgement),
+        "other_choice": tried_json(judgement.asked.spelled.sketch, judgement.tried,
+                                   judgement.names.element),
+    }
+
+
+def within_json(judged: JudgedDrawing) -> dict[str, object]:
+    """Within what it is placed, and the greatest deviations, in nm and ppb."""
+    solved = judged.judgement.asked.solved if judged.judgement.solution is not None else None
+    return {
+        "length_tolerance_nm": judged.judgement.length_tolerance_nm if solved else None,
+        "angle_tolerance_ppb": solved.angle_tolerance_ppb if isinstance(solved, Solved) else None,
+        "deviations": [_deviation(each, judged.drawing) for each in judged.worst()],
+    }
+
+
+def drawing_lines(judged: JudgedDrawing) -> Iterator[str]:
+    """What was judged, in lines to read, of a judgement with counts; the first tells the
+    verdict."""
+    judgement = judged.judgement
+    check = _check(judgement)
+    yield (f"{judged.name}: {judgement.verdict.value}, spelled {judgement.style.value}, elements "
+           f"{check.elements}, constraints {check.constraints}, parts {len(check.parts)}")
+    if not judged.drawing.geometry:
+        yield "  nothing is drawn in it that could be judged"
+    yield from (f"  not met: {reason.text}" for reason in reasons_against(judged)
+                if reason.lack in (Lack.OFF, Lack.UNMEASURED, Lack.NOT_PRINTED))
+    yield from _tried_lines(judgement)
+    yield from (f"  left out: {what}" for what in judged.not_drawn)
+    yield from _left_out_lines(judgement)
+    yield from (f"  not asked for: {what}" for what in judged.aside)
+    yield from (f"  taken as drawn, and measured: {what}" for what in judgement.frozen)
+    yield from (f"  told by a rounded value: {what}" for what in judgement.rounded)
+    yield from (f"  repeats others, and may go: {what}" for what in judgement.repeats)
+    yield from (f"  its size is told by nothing: {what}, as drawn" for what in
+                judgement.undimensioned)
+    yield from _placed_lines(judged)
+    yield from _failure_lines(judgement)
+    yield from _missing_lines(judgement)
+    yield from _surplus_lines(judgement)
+    yield from (f"  look: {warning.text()}" for warning in judgement.warnings)
+
+
+def _tried_lines(judgement: Judgement) -> Iterator[str]:
+    """What came of other choices, where the drawing is placed and a constraint isn't met."""
+    if judgement.solution is not None:
+        sketch, named = judgement.asked.spelled.sketch, judgement.names.element
+        yield from (f"  {line}" for line in tried_lines(
+            sketch, judgement.tried, named, "no other choice of its steps meets all of it"))
+
+
+def _left_out_lines(judgement: Judgement) -> Iterator[str]:
+    """What couldn't be spelled, and doesn't hold all the same."""
+    for each in judgement.left_out_measured:
+        if each.off is None:
+            yield f"  left out: {each.name}"
+        elif not each.holds():
+            yield f"  left out: {each.name}, and measured: off by {amount_text(each.off)}"
+
+
+def _placed_lines(judged: JudgedDrawing) -> Iterator[str]:
+    """Within what it is placed, and what is off most."""
+    solved = judged.judgement.asked.solved
+    if judged.judgement.solution is None or not isinstance(solved, Solved):
+        return
+    tolerance_nm = judged.judgement.length_tolerance_nm
+    assert tolerance_nm is not None
+    yield (f"  placed within {units_text(tolerance_nm, Unit.NM)} and "
+           f"{units_text(solved.angle_tolerance_ppb, Unit.PPB)}")
+    off = [each for each in judged.worst() if each.amount]
+    for each in off:
+        yield f"  measured: at most {amount_text(each)} off, {each.called(judged.drawing)}"
+    if not off:
+        yield "  measured: each constraint holds exactly"
+
+
+def _failure_lines(judgement: Judgement) -> Iterator[str]:
+    """The program's fault with the designer's names."""
+    failure = judgement.failure
+    if failure is None:
+        return
+    yield f"  no places: {failure.text.strip()}"
+    if failure.at:
+        at = ", ".join(failure.at)
+        yield f"    where {at} meet" if len(failure.at) > 1 else f"    at {at}"
+    sketch, named = judgement.asked.spelled.sketch, judgement.names.element
+    yield from (f"  {line}" for line in tried_lines(
+        sketch, judgement.tried, named,
+        "no other choice of the steps beneath has places that meet all of it"))
+    if failure.dimensions:
+        yield f"  what to do: look at {', '.join(failure.dimensions)}"
+
+
+def _missing_lines(judgement: Judgement) -> Iterator[str]:
+    """What an open drawing lacks."""
+    lacks = judgement.missing
+    if lacks is None:
+        return
+    if lacks.count:
+        plural = "s" if lacks.count > 1 else ""
+        yield f"  lacks {lacks.count} dimension{plural} at least (by rank)"
+    if lacks.whole is not None and lacks.whole.ways:
+        yield (f"  not tied to the datum: the whole may still be {lacks.whole.text()} "
+               "(by rank)")
+    yield from (f"  one is too many all the same, of: {', '.join(each)} (by rank)"
+                for each in lacks.excess)
+    for piece in lacks.pieces:
+        yield f"  piece {piece.number}: {' '.join(piece.elements)}"
+    for joint in lacks.joints[:MOST_ADVICE]:
+        shared = f" share {' '.join(joint.shared)};" if joint.shared else ":"
+        yield (f"  what to do: pieces {joint.first.number} and {joint.second.number}{shared} "
+               f"{joint.tie.value}")
+    if len(lacks.joints) > MOST_ADVICE:
+        yield f"  and {len(lacks.joints) - MOST_ADVICE} more pairs of pieces"
+
+
+def _surplus_lines(judgement: Judgement) -> Iterator[str]:
+    """What may go, how far it is off, and what the rest is then."""
+    yield from (f"  over as it was measured, which isn't certified: {what} can't be spelled, and the "
+                "rest is enough" for what in judgement.measured_off)
+    yield from _advice_on(judgement.surplus)
+    for each in judgement.surplus:
+        off = "" if each.off is None else f": off by {amount_text(each.off)}"
+        then = "" if each.then is None else f"; the rest is {each.then.value} without it"
+        yield f"    {each.name}{off}{then}"
+    yield from (f"  lacks a dimension all the same: {what} (by rank)" for what in judgement.loose)
+
+
+def _advice_on(surplus: Sequence[Surplus]) -> Iterator[str]:
+    """What to do with what may go."""
+    if surplus and all(each.then is Then.OVER for each in surplus):
+        yield "  what to do: none of these is enough by itself; take one away, and ask again"
+    elif any(each.then is None for each in surplus):
+        yield ("  what to do: take one of these away, and ask again (what is needed by rank isn't "
+               "listed; the first were tried)")
+    elif surplus:
+        yield ("  what to do: take one of these away, and ask again (each was tried; what is needed "
+               "by rank isn't listed)")
+
+
+def _check(judgement: Judgement) -> CheckReport:
+    """What `check` says, which `judge` and `with_counts` ask for."""
+    assert judgement.asked.check is not None
+    return judgement.asked.check
+
+
+def _part(judgement: Judgement, part: Part) -> dict[str, object]:
+    """A part by the points and segments that the designer drew."""
+    return {"number": part.number, "over": part.over,
+            "elements": list(judgement.names.elements(part.elements)),
+            "held": part.held, "due": part.due}
+
+
+def spare_json(each: Surplus) -> dict[str, object]:
+    """A dimension that may go."""
+    return {"number": each.number, "name": each.name, "repeats": each.repeats(),
+            "off": each.off.amount if each.off is not None else None,
+            "unit": each.off.unit.value if each.off is not None else None,
+            "rest": each.then.value if each.then is not None else None}
+
+
+def _places(drawing: Drawing, solution: Solution) -> dict[str, object]:
+    """The placed points of each shape, and the radii of its rims."""
+    level = upright(solution)
+    places: dict[str, dict[str, object]] = {}
+    for ref in drawing.points():
+        if ref in level.points:
+            places.setdefault(ref.shape, {})[ref.which.value] = _nm(level, ref)
+    for shape in drawing.geometry:
+        if isinstance(shape, (Circle, Arc)) and shape.name in level.radii:
+            places.setdefault(shape.name, {})["radius_nm"] = round(level.radii[shape.name])
+    return dict(places)
+
+
+def _nm(solution: Solution, ref: PointRef) -> dict[str, int]:
+    """A place in whole nm."""
+    x, y = solution.points[ref]
+    return {"x_nm": round(x), "y_nm": round(y)}
+
+
+def _fault(judgement: Judgement) -> dict[str, object] | None:
+    """The program's fault, whole, and what it is about."""
+    failure = judgement.failure
+    if failure is None:
+        return None
+    return {"text": failure.text.strip(), "constraints": list(failure.dimensions),
+            "at": list(failure.at)}
+
+
+def _deviation(each: Deviation, drawing: Drawing) -> dict[str, object]:
+    """How far something is off."""
+    return {"amount": each.amount, "unit": each.unit.value, "of": each.called(drawing)}

@@ -1,0 +1,94 @@
+"""The proved program within this process: libsketch by ctypes, behind the same call as `Program`.
+
+It has no limit of time or memory, and what it takes is this process's: for many calls a second
+on sketches that are known to be small. Everything else is better served by `Program`.
+"""
+from __future__ import annotations
+
+import ctypes
+import ctypes.util
+import os
+from collections.abc import Callable, Sequence
+from dataclasses import dataclass
+from pathlib import Path
+
+from pertxogai.language.encoding import as_bytes
+from pertxogai.program.errors import MissingProgram, ProgramCrashed, ProgramSpoke
+from pertxogai.program.running import Answer, Program, Solver, Status
+
+VARIABLE = "PERTXOGAI_LIBRARY"
+BUILD = Path(__file__).resolve().parents[3] / "c" / "out" / "libsketch.so"
+_BYTES, _SIZE = ctypes.c_char_p, ctypes.c_size_t
+_Call = Callable[..., int]
+
+
+@dataclass(frozen=True)
+class Library:
+    """The library in the file `path`, libsketch.so."""
+
+    path: str
+    _call: _Call
+
+    @staticmethod
+    def find(path: str | None = None) -> Library:
+        """The library at `path`, else the one that the variable PERTXOGAI_LIBRARY names, else
+        the repository's own build, else the system's libsketch. Raises MissingProgram."""
+        named = path or os.environ.get(VARIABLE)
+        if not named:
+            named = str(BUILD) if BUILD.is_file() else ctypes.util.find_library("sketch")
+        if named is None:
+            raise MissingProgram(
+                f"no library: {BUILD} isn't built; build it by c/build, name one by {VARIABLE}, or"
+                " use the program"
+            )
+        try:
+            call = ctypes.CDLL(named).sketch_answer
+        except (OSError, AttributeError) as error:
+            raise MissingProgram(f"{named} is no libsketch: {error}") from None
+        call.restype = ctypes.c_int32
+        call.argtypes = [_BYTES, _SIZE, _BYTES, _SIZE, _BYTES, _SIZE, ctypes.POINTER(_SIZE)]
+        return Library(named, call)
+
+    def ask(self, words: Sequence[str], text: str) -> Answer:
+        """Does what the words ask for on the text, as the program does. Other threads run
+        meanwhile. Raises ProgramError."""
+        command = b" ".join(map(_word, words))
+        given = as_bytes(text)
+        size = _SIZE()
+        room = 4096 + 4 * len(given)
+        while True:
+            output = ctypes.create_string_buffer(room)
+            code = self._call(
+                command, len(command), given, len(given), output, room, ctypes.byref(size)
+            )
+            if size.value <= room:
+                return self._answer(code, output.raw[: size.value])
+            room = size.value
+
+    def _answer(self, code: int, written: bytes) -> Answer:
+        try:
+            return Answer(Status(code), written.decode("ascii"))
+        except UnicodeDecodeError:
+            raise ProgramSpoke(
+                f"{self.path} wrote bytes that are no text: is it libsketch?"
+            ) from None
+        except ValueError:
+            raise ProgramCrashed(
+                f"{self.path} answered with the status {code}: is it libsketch?"
+            ) from None
+
+
+def quickest() -> Solver:
+    """The library where it is there, else the program. Raises MissingProgram."""
+    try:
+        return Library.find()
+    except MissingProgram:
+        return Program.find()
+
+
+def _word(word: str) -> bytes:
+    """The bytes of a word. A command's words stand between spaces, so one with a space, or none
+    at all, is handed on as a byte that no word has: it isn't of the form, and the answer is the
+    usage line as it is from the program."""
+    given = as_bytes(word)
+    return b"\xff" if not given or b" " in given else given

@@ -1,0 +1,38 @@
+"""Every answer of the program as a value, read by a grammar that takes what docs/LANGUAGE.md
+says and nothing else."""
+from pertxogai.language.refusal import Code, Refused
+from pertxogai.program.reports.answer import NoAnswer, Report, read_answer
+from pertxogai.program.reports.check import CheckReport, Part, Verdict, read_check
+from pertxogai.program.reports.derived import read_derive, write_derive
+from pertxogai.program.reports.dxf import (
+    CircleEntity, Entity, LineEntity, PointEntity, read_dxf, write_dxf)
+from pertxogai.program.reports.excess import (
+    ExcessReport, Excessive, Off, OverPart, Turned, read_excess)
+from pertxogai.program.reports.faults import (
+    Cause, ConstraintFault, Fault, FrameFault, LineFault, NumberFault, Phase, RangeFault, StepAt,
+    TurnedFault, Unit, read_fault)
+from pertxogai.program.reports.flips import Flipped, NoChoice, read_flips
+from pertxogai.program.reports.grown import Grown, read_grow
+from pertxogai.program.reports.offers import Idle, Offered, OffersReport, Stale, Taken, read_offers
+from pertxogai.program.reports.parts import PartsReport, PlacedPart, read_parts
+from pertxogai.program.reports.plan import Branch, Leaf, Plan, read_plan
+from pertxogai.program.reports.refused import Usage, read_refusal, read_usage
+from pertxogai.program.reports.rows import NotAReport
+from pertxogai.program.reports.session import (
+    Accepted, RefusedEdit, Reply, read_reply, read_session)
+from pertxogai.program.reports.solved import (
+    AtConstraint, AtLine, Shape, Solved, Tolerances, read_solve)
+from pertxogai.program.reports.spare import Spare, read_spare, write_spare
+from pertxogai.program.reports.verified import ClaimFails, Failing, Verified, read_verify
+
+__all__ = ["Accepted", "AtConstraint", "AtLine", "Branch", "Cause", "CheckReport", "CircleEntity",
+           "ClaimFails", "Code", "ConstraintFault", "Entity", "ExcessReport", "Excessive",
+           "Failing", "Fault", "Flipped", "FrameFault", "Grown", "Idle", "Leaf", "LineEntity",
+           "LineFault", "NoAnswer", "NoChoice", "NotAReport", "NumberFault", "Off", "Offered",
+           "OffersReport", "OverPart", "Part", "PartsReport", "Phase", "PlacedPart", "Plan",
+           "PointEntity", "RangeFault", "Refused", "RefusedEdit", "Reply", "Report", "Shape",
+           "Solved", "Spare", "Stale", "StepAt", "Taken", "Tolerances", "Turned", "TurnedFault",
+           "Unit", "Usage", "Verdict", "Verified", "read_answer", "read_check", "read_derive",
+           "read_dxf", "read_excess", "read_fault", "read_flips", "read_grow", "read_offers",
+           "read_parts", "read_plan", "read_refusal", "read_reply", "read_session", "read_solve",
+           "read_spare", "read_usage", "read_verify", "write_derive", "write_dxf", "write_spare"]

@@ -1,0 +1,74 @@
+"""What one reading of a drawing is spelled as, each style made once. Where an edit only draws
+something elsewhere, all but the places is taken over."""
+from __future__ import annotations
+
+from collections.abc import Sequence
+from dataclasses import replace
+
+from pertxogai.spelling.axes import Axes
+from pertxogai.spelling.facts import Facts
+from pertxogai.spelling.lines import Lines
+from pertxogai.spelling.mirrors import with_halves, with_implied
+from pertxogai.spelling.rails import Rails
+from pertxogai.spelling.style import Style
+from pertxogai.spelling.writing import Spelled, Writer
+
+
+class Interpretation:
+    """The axes of some facts, and their rails and spellings by style. made: the axes by which it
+    was found what follows from them, the last with all of it."""
+
+    def __init__(self, said: Facts, made: Sequence[Axes]) -> None:
+        self.said, self.made = said, made
+        self._rails: dict[bool, Rails] = {}
+        self._writers: dict[Style, Writer] = {}
+        self._before: dict[Style, Writer] = {}
+
+    @staticmethod
+    def of(said: Facts) -> Interpretation:
+        """Those of what some facts say of x and y, and what follows from it."""
+        facts: Facts | None = said
+        made = []
+        while facts is not None:
+            axes = Axes(facts, Lines(facts))
+            made.append(axes)
+            facts = with_implied(axes) or with_halves(axes)
+        return Interpretation(said, made)
+
+    @property
+    def axes(self) -> Axes:
+        """The axes with all that follows."""
+        return self.made[-1]
+
+    def redrawn(self, said: Facts) -> Interpretation | None:
+        """Those of facts that differ by where things are drawn alone; None where they say another
+        thing, where a side is another than before, and where a direction was chosen by what is
+        drawn."""
+        facts = self.axes.facts
+        if not self.said.says(said) or facts.facts[:len(said.facts)] != self.said.facts:
+            return None
+        made = [each for axes in self.made
+                if (each := axes.redrawn(replace(axes.facts, drawn=said.drawn))) is not None]
+        if len(made) < len(self.made):
+            return None
+        other = Interpretation(said, made)
+        other._rails = {solves: rails.of(other.axes) for solves, rails in self._rails.items()}
+        other._before = self._writers
+        return other
+
+    def rails(self, style: Style) -> Rails:
+        """The rails of a style."""
+        solves = style.solves()
+        if solves not in self._rails:
+            self._rails[solves] = Rails(self.axes, style)
+        return self._rails[solves]
+
+    def spelled(self, style: Style) -> Spelled:
+        """The drawing, spelled in a style."""
+        before = self._before.get(style)
+        writer = Writer(self.axes, self.rails(style), style)
+        if before is None or not writer.write_as(before):
+            writer = Writer(self.axes, self.rails(style), style)
+            writer.write()
+        self._writers[style] = writer
+        return writer.spelled()

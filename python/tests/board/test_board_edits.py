@@ -1,0 +1,197 @@
+"""The edits of the board: the text before, an edit, the text behind it, worked out by hand."""
+from __future__ import annotations
+
+import json
+from dataclasses import dataclass
+
+import pytest
+
+from pertxogai.board.calls import Desk
+from pertxogai.program import Answer, ProgramError
+
+TRIANGLE = """drawing 1
+segment S1 0 0 40 0
+segment S2 S1.end 20 30
+segment S3 S2.end S1.start
+length S1 40
+"""
+
+
+@dataclass(frozen=True)
+class NoProgram:
+    """A program that answers nothing."""
+
+    def ask(self, words: object, text: str) -> Answer:
+        raise ProgramError("nothing is asked here")
+
+
+def edited(text: str, **edit: object) -> dict:
+    return Desk(NoProgram()).answer("edit", json.loads(json.dumps({"text": text, "edit": edit})))
+
+
+def lines(text: str, **edit: object) -> list[str]:
+    return edited(text, **edit)["text"].splitlines()[1:]
+
+
+def trouble(text: str, **edit: object) -> str:
+    found = edited(text, **edit)
+    assert "text" not in found
+    return found["trouble"]["message"]
+
+
+def test_draw_on_an_empty_board() -> None:
+    spots = [{"x": 0, "y": 0}, {"x": 12.5, "y": -0.1}]
+    assert lines("", do="draw", figure="segment", spots=spots) == ["segment S1 0 0 12.5 -0.1"]
+    assert lines("# a note\n", do="draw", figure="point", spots=spots[:1]) == [
+        "# a note", "point P1 0 0"]
+
+
+def test_draw_shares_a_point_and_takes_a_free_name() -> None:
+    found = lines(TRIANGLE, do="draw", figure="segment",
+                  spots=[{"point": "S2.end"}, {"x": 1, "y": 2}])
+    assert found[3] == "segment S4 S2.end 1 2"
+    assert found[4] == "length S1 40"
+
+
+def test_draw_rectangle_circle_arc_construction() -> None:
+    corners = [{"x": 0, "y": 0}, {"x": 4, "y": 3}]
+    found = lines("", do="draw", figure="rectangle", spots=corners, construction=True)
+    assert found[0] == "construction segment R1Bottom 0 0 4 0"
+    assert found[4:] == ["horizontal R1Bottom", "vertical R1Right", "horizontal R1Top",
+                         "vertical R1Left"]
+    assert lines("", do="draw", figure="circle", spots=corners[:1], radius=2.5) == [
+        "circle C1 0 0 2.5"]
+    arc = [{"x": 0, "y": 0}, {"x": 5, "y": 0}, {"x": 0, "y": 5}]
+    assert lines("", do="draw", figure="arc", spots=arc) == ["arc A1 0 0 5 0 0 5"]
+
+
+def test_draw_is_refused_by_the_words_of_a_drawing() -> None:
+    spots = [{"x": 1, "y": 1}, {"x": 1, "y": 1}]
+    assert "draw its ends apart" in trouble("", do="draw", figure="segment", spots=spots)
+    assert "isn't drawn" in trouble(TRIANGLE, do="draw", figure="segment",
+                                    spots=[{"point": "S9.end"}, spots[0]])
+
+
+def test_move_takes_along_all_that_share_the_point() -> None:
+    found = lines(TRIANGLE, do="move", points=[{"of": "S3.start", "x": 21, "y": 31}])
+    assert found[:3] == ["segment S1 0 0 40 0", "segment S2 S1.end 21 31",
+                         "segment S3 S2.end S1.start"]
+
+
+def test_move_a_radius_and_shift_a_shape() -> None:
+    circle = "circle C1 1 1 4\n"
+    assert lines(circle, do="move", radii=[{"of": "C1", "radius": 6.25}]) == ["circle C1 1 1 6.25"]
+    found = lines(TRIANGLE, do="shift", shapes=["S1"], points=[], dx=1, dy=-2)
+    assert found[:2] == ["segment S1 1 -2 41 -2", "segment S2 S1.end 20 30"]
+
+
+def test_erase_a_shape_hands_its_points_on() -> None:
+    found = lines(TRIANGLE + "length S2 50\nequal S2 S3\n", do="erase", shapes=["S1"],
+                  constraints=[])
+    assert found == ["segment S2 40 0 20 30", "segment S3 S2.end 0 0", "length S2 50",
+                     "equal S2 S3"]
+
+
+def test_erase_the_first_of_three_that_share_a_point() -> None:
+    star = "segment A 0 0 1 0\nsegment B A.start 0 1\nsegment C B.start 1 1\n"
+    assert lines(star, do="erase", shapes=["A"]) == ["segment B 0 0 0 1",
+                                                     "segment C B.start 1 1"]
+    assert lines(star, do="erase", shapes=["B"]) == ["segment A 0 0 1 0",
+                                                     "segment C A.start 1 1"]
+    assert lines(star, do="erase", shapes=["A", "B"]) == ["segment C 0 0 1 1"]
+
+
+def test_erase_keeps_the_notes_of_what_stays() -> None:
+    text = ("# of the whole\nsegment A 0 0 1 0\n# of B\nsegment B 0 5 1 5 # beside B\n"
+            "length A 2 # beside\nlength B 3\n# the end\n")
+    assert lines(text, do="erase", shapes=["B"]) == [
+        "# of the whole", "segment A 0 0 1 0", "# of B", "length A 2 # beside", "# the end"]
+    assert lines(text, do="erase", constraints=[1])[4:] == ["length B 3", "# the end"]
+
+
+def test_ask_value_name() -> None:
+    assert lines(TRIANGLE, do="ask", words=["horizontal", "S1", "S2"])[3:] == [
+        "length S1 40", "horizontal S1", "horizontal S2"]
+    assert lines(TRIANGLE, do="value", number=1, value="41.5")[3:] == ["length S1 41.5"]
+    assert lines(TRIANGLE, do="value", number=1, value="1in")[3:] == ["length S1 25.4"]
+    assert lines(TRIANGLE, do="call", number=1, name=" Base  width ")[3:] == [
+        "Base width: length S1 40"]
+    named = "segment A 0 0 1 0\nBase: length A 3\n"
+    assert lines(named, do="value", number=1, value="4")[1:] == ["Base: length A 4"]
+    assert lines(named, do="call", number=1, name="")[1:] == ["length A 3"]
+
+
+def test_values_are_refused_with_what_to_do() -> None:
+    assert "is no length" in trouble(TRIANGLE, do="value", number=1, value="-3")
+    assert "write a point for the comma" in trouble(TRIANGLE, do="value", number=1, value="3,5")
+    assert "doesn't stand" in trouble(TRIANGLE, do="value", number=2, value="3")
+    assert "isn't one value" in trouble(TRIANGLE, do="value", number=1, value="S2 3")
+    level = "segment A 0 0 1 0\nhorizontal A\n"
+    assert "has no value" in trouble(level, do="value", number=1, value="3")
+
+
+def test_rename_a_shape_everywhere() -> None:
+    text = TRIANGLE + "S1: tangent S1.end S2.start\nperpendicular S1 S3\n"
+    found = lines(text.replace("tangent", "perpendicular"), do="rename", old="S1", new="Bottom")
+    assert found == ["segment Bottom 0 0 40 0", "segment S2 Bottom.end 20 30",
+                     "segment S3 S2.end Bottom.start", "length Bottom 40",
+                     "S1: perpendicular Bottom.end S2.start", "perpendicular Bottom S3"]
+    assert "is drawn already" in trouble(TRIANGLE, do="rename", old="S1", new="S2")
+    assert "is no name" in trouble(TRIANGLE, do="rename", old="S1", new="two words")
+
+
+def test_construction_and_back() -> None:
+    found = lines(TRIANGLE, do="construction", shapes=["S2"], construction=True)
+    assert found[1] == "construction segment S2 S1.end 20 30"
+
+
+@pytest.mark.parametrize("edit", [
+    {}, {"do": "fly"}, {"do": "draw", "figure": "ellipse", "spots": []},
+    {"do": "draw", "figure": "point", "spots": [{"x": "1", "y": 1}]},
+    {"do": "draw", "figure": "point", "spots": 5}, {"do": "erase", "constraints": [True]},
+    {"do": "shift", "dx": 1e400, "dy": 0}, {"do": "shift", "dx": float("nan"), "dy": 0},
+    {"do": "value", "number": 1.5, "value": "1"}, {"do": "ask", "words": [1]},
+    {"do": "ask", "words": []}, {"do": "ask", "words": ["segment", "A"]},
+    {"do": "move", "points": [{"of": 3}]}, {"do": "move", "points": ["S1"]},
+])
+def test_what_is_no_edit_is_refused_in_one_line(edit: dict) -> None:
+    message = trouble(TRIANGLE, **edit)
+    assert "\n" not in message and "Traceback" not in message and len(message) < 200
+
+
+def test_a_refused_text_is_told_with_its_line() -> None:
+    found = Desk(NoProgram()).answer("judge", {"text": "segment A 0 0 1 0\nlenght A 3\n"})
+    assert found["refused"]["line"] == 2
+    assert found["refused"]["message"].startswith("line 2: 'lenght'")
+    assert "do you mean length?" in found["refused"]["message"]
+
+
+def offered(text: str, *names: str) -> dict[str, str | None]:
+    found = Desk(NoProgram()).answer("offers", {"text": text, "names": list(names)})
+    return {" ".join(each["words"]): each["value"] for each in found["offers"]}
+
+
+def test_offers_of_a_segment_and_of_two() -> None:
+    assert offered(TRIANGLE, "S1") == {
+        "horizontal S1": None, "vertical S1": None, "angle S1": "0deg", "length S1": "40",
+        "fixed S1": None}
+    two = offered(TRIANGLE, "S1", "S2")
+    assert two["angle S1 S2"] == "56deg" and two["equal S1 S2"] is None
+    assert {"parallel S1 S2", "perpendicular S1 S2", "distance S1 S2"} <= set(two)
+    assert not {"concentric S1 S2", "radius S1 S2", "coincident S1 S2"} & set(two)
+
+
+def test_offers_of_points_put_points_first() -> None:
+    found = offered(TRIANGLE, "S1", "S2.end")
+    assert found["distance S2.end S1"] == "30"
+    assert "on S2.end S1" in found and "midpoint S2.end S1" in found
+    three = offered(TRIANGLE, "S1.start", "S1.end", "YAxis")
+    assert "symmetric S1.start S1.end about YAxis" in three
+    assert offered(TRIANGLE, "S2.end")["y S2.end"] == "30"
+
+
+def test_offers_of_rims_and_nothing() -> None:
+    rims = "circle C 0 0 5\ncircle D 20 0 8\n"
+    assert offered(rims, "C")["diameter C"] == "10"
+    assert {"tangent C D", "equal C D", "concentric C D"} <= set(offered(rims, "C", "D"))
+    assert offered(TRIANGLE) == {}

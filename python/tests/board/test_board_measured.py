@@ -1,0 +1,65 @@
+"""What is measured of a drawing that an edit has made is what would be measured of it by itself,
+whatever of the drawing before is taken over."""
+from __future__ import annotations
+
+from gc import collect
+from pathlib import Path
+from weakref import ref
+
+import pytest
+
+from pertxogai.drawing import ORIGIN, Drawing, Meetings, moved, read_drawing
+from pertxogai.judging.measure import Frame, Solution, measure
+from pertxogai.judging.measure.solution import MissingPlace
+from test_board_sight import PATHS, as_drawn, edited
+
+TWO = "segment A 0 0 40 0\nsegment B 0 20 40 21\nlength A 40\nx B.start 0\nangle A B 1/40\n"
+
+
+def apart(drawing: Drawing) -> Drawing:
+    """The same without anything that was kept of it."""
+    return Drawing(drawing.geometry, drawing.constraints, drawing.notes)
+
+
+@pytest.mark.parametrize("path", PATHS, ids=lambda path: path.stem)
+def test_an_edit_of_each_kind(path: Path) -> None:
+    drawing = read_drawing(path.read_text(encoding="utf-8"))
+    for new in edited(drawing):
+        for then, now in ((0, 0), (0, 9_000_000), (9_000_000, 0)):
+            try:
+                measure(drawing, as_drawn(drawing, then))
+                alone = measure(apart(new), as_drawn(new, now))
+            except MissingPlace:
+                continue
+            assert measure(new, as_drawn(new, now), drawing) == alone
+
+
+@pytest.mark.parametrize("path", PATHS, ids=lambda path: path.stem)
+def test_which_points_are_one_is_taken_over_as_it_is(path: Path) -> None:
+    drawing = read_drawing(path.read_text(encoding="utf-8"))
+    for new in edited(drawing):
+        if moved(new, drawing) is not None:
+            alone = Meetings(apart(new))
+            points = (ORIGIN, *new.points())
+            assert [*map(new.meetings.leader, points)] == [*map(alone.leader, points)]
+            assert [*map(new.meetings.drawn, points)] == [*map(alone.drawn, points)]
+            assert new.meetings.count() == len({*map(alone.leader, points)}) - 1
+
+
+def test_in_another_frame_all_is_measured_anew() -> None:
+    """The x axis of the second places goes upwards, so that B.start is 20 mm off."""
+    drawing = read_drawing(TWO)
+    places = as_drawn(drawing)
+    turned = Solution(places.points, places.radii, Frame((0, 0), (0, 1)))
+    assert [each.amount for each in measure(drawing, places)][:2] == [0, 0]
+    assert [each.amount for each in measure(drawing, turned, drawing)][:2] == [0, 20_000_000]
+
+
+def test_a_drawing_before_is_not_kept() -> None:
+    before = read_drawing(TWO)
+    new = apart(before)
+    assert moved(new, before) == frozenset()
+    gone = ref(before)
+    del before
+    collect()
+    assert gone() is None
