@@ -8,12 +8,12 @@ import os
 import sys
 from collections.abc import Callable, Sequence
 from dataclasses import replace
-from enum import IntEnum
 from pathlib import Path
 from typing import TypeAlias
 
 from pertxogai import __version__
 from pertxogai.board.command import add_page
+from pertxogai.exits import CommandError, Exit
 from pertxogai.files.atomic import written_whole
 from pertxogai.files.contents import FileRefusal
 from pertxogai.files.kinds import (
@@ -49,19 +49,6 @@ SECONDS = "how long a call may take (default: %(default)g)"
 WITHIN = "what is met within N nm, or an angle within N ppb, holds (default: %(default)s)"
 WRITE = "copy a .FCStd or .slvs to OUT, with those of its sketches placed that are good"
 Commands: TypeAlias = "argparse._SubParsersAction[argparse.ArgumentParser]"
-
-
-class Exit(IntEnum):
-    """The exit statuses of ./pertxogai."""
-
-    GOOD = 0  #: all is good, as `pertxogai.judging.good` says it, or is drawn as it was asked for
-    NOT_GOOD = 1  #: something isn't, and a line says what
-    BAD_INPUT = 2  #: the words or a file can't be read, or nothing can be written
-    NO_ANSWER = 3  #: the program gave no answer
-
-
-class CommandError(Exception):
-    """What the user asked for can't be done. The message is one line, and says what to do."""
 
 
 def main(words: Sequence[str] | None = None) -> int:

@@ -9,8 +9,9 @@ from pathlib import Path
 import pytest
 
 from conftest import TOP
-from pertxogai.commands import Exit, main
+from pertxogai.commands import main
 from pertxogai.drawing import Drawing, PointRef, Which, read_drawing
+from pertxogai.exits import Exit
 from pertxogai.judging import judge
 from pertxogai.judging.good import (
     GoodJudgement, GoodSketch, Lack, NotGood, good_of, good_sketch_of, reasons_against)

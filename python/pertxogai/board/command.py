@@ -3,13 +3,12 @@ from __future__ import annotations
 
 import argparse
 from contextlib import suppress
-from typing import TYPE_CHECKING, TypeAlias
+from dataclasses import replace
+from typing import TypeAlias
 
+from pertxogai.exits import CommandError, Exit
 from pertxogai.output.dxf import MissingLibrary
 from pertxogai.program import Program
-
-if TYPE_CHECKING:
-    from pertxogai.commands import Exit
 
 Commands: TypeAlias = "argparse._SubParsersAction[argparse.ArgumentParser]"
 WHAT = "opens a drawing board in the browser, on this machine alone"
@@ -29,10 +28,6 @@ def add_page(commands: Commands) -> None:
 
 def _page(options: argparse.Namespace) -> Exit:
     """Serves until Ctrl+C. Raises CommandError, MissingLibrary, ProgramError."""
-    from dataclasses import replace
-
-    from pertxogai.commands import CommandError, Exit
-
     try:
         from pertxogai.board.serve import serve
     except ImportError as error:
