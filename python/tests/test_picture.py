@@ -20,6 +20,7 @@ from pertxogai.output.picture.placed import (
     LaidLine, Motion, as_drawn, as_placed, laid_on, segments)
 from pertxogai.output.picture.plane import crosses, crossing, overlaps
 from pertxogai.output.picture.texts import Texts
+from pertxogai.output.sketch_picture import picture_of_judged
 from pertxogai.program.reports import Spare, read_parts, read_solve
 
 SVG = "{http://www.w3.org/2000/svg}"
@@ -109,7 +110,7 @@ def test_a_scene_of_one_place_and_of_none() -> None:
 @pytest.mark.parametrize("path", EXAMPLES, ids=lambda path: path.stem)
 def test_each_example(path, program) -> None:
     judged = judge_sketch(path.stem, path.read_text(), program)
-    for svg in (judged.picture().svg, judged.picture(as_drawn=True).svg):
+    for svg in (picture_of_judged(judged).svg, picture_of_judged(judged, as_drawn=True).svg):
         assert "nan" not in svg and {it.name for it in judged.sketch.elements} <= set(
             texts_of(svg)
         )
@@ -139,7 +140,7 @@ def test_each_example(path, program) -> None:
 )
 def test_texts_do_not_cover_each_other(name: str, program) -> None:
     path = TOP / "examples" / f"{name}.sketch"
-    boxes = boxes_of(judge_sketch(name, path.read_text(), program).picture().svg)
+    boxes = boxes_of(picture_of_judged(judge_sketch(name, path.read_text(), program)).svg)
     covered = [
         (one, two) for k, one in enumerate(boxes) for two in boxes[:k] if overlaps(one, two)
     ]
@@ -300,7 +301,7 @@ def test_pieces_of_a_drawing_have_colours_and_what_may_go_is_marked() -> None:
 def test_a_sketch_without_places_says_why_below_it(program) -> None:
     text = TRIANGLE.text().replace("distance A C 5", "distance A C 9")
     judged = judge_sketch("far", text, program)
-    told = texts_of(judged.picture().svg)
+    told = texts_of(picture_of_judged(judged).svg)
     assert any(it.startswith("as drawn, has no places: fault s1 build height C gap") for it in told)
     assert "of distance A C 9" in told and any(it.startswith("what to do:") for it in told)
-    assert "of distance A C 9" not in texts_of(judged.picture(as_drawn=True).svg)
+    assert "of distance A C 9" not in texts_of(picture_of_judged(judged, as_drawn=True).svg)

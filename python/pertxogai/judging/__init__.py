@@ -1,8 +1,16 @@
-"""What a designer is told: the program's answers with the drawing's names, and what a person asks
-next."""
+"""What a designer is told of a drawing, and who scripts CAD of a sketch.
+
+A drawing (or a sketch) and a `Solver` go in; a judgement comes out: the program's verdict with the
+drawing's names, where it is placed, what is measured there, and what a person asks next. `good`
+says by a type whether a part may be cut by it.
+"""
 from pertxogai.judging.departures import Departure, DepartureKind
 from pertxogai.judging.excess import Excess, Rest, TooMuch, too_much
 from pertxogai.judging.faults import Amount, Failure
+from pertxogai.judging.good import (
+    GoodJudgement, GoodSketch, NotGood, good_of, good_sketch_of, reasons_against)
+from pertxogai.judging.judged_drawing import JudgedDrawing
+from pertxogai.judging.judged_sketch import JudgedSketch, TextRefused, concerned, judge_sketch
 from pertxogai.judging.judgement import (
     Judgement, LeftOut, judge, judge_at_once, weighed, with_choices, with_counts)
 from pertxogai.judging.limits import DrawingRefused
@@ -11,7 +19,9 @@ from pertxogai.judging.naming import Names
 from pertxogai.judging.surplus import Surplus, Then
 from pertxogai.judging.trials import PlaceBy, Question, Trial, first_good
 
-__all__ = ["Amount", "Departure", "DepartureKind", "DrawingRefused", "Excess", "Failure", "Joint",
-           "Judgement", "LeftOut", "Missing", "Names", "Piece", "PlaceBy", "Question", "Rest",
-           "Surplus", "Then", "Tie", "TooMuch", "Trial", "first_good", "judge", "judge_at_once",
+__all__ = ["Amount", "Departure", "DepartureKind", "DrawingRefused", "Excess", "Failure",
+           "GoodJudgement", "GoodSketch", "Joint", "JudgedDrawing", "JudgedSketch", "Judgement",
+           "LeftOut", "Missing", "Names", "NotGood", "Piece", "PlaceBy", "Question", "Rest",
+           "Surplus", "TextRefused", "Then", "Tie", "TooMuch", "Trial", "concerned", "first_good",
+           "good_of", "good_sketch_of", "judge", "judge_at_once", "judge_sketch", "reasons_against",
            "too_much", "weighed", "with_choices", "with_counts"]

@@ -1,24 +1,17 @@
 """A sketch and all that the program answers to it: one call for people who script CAD."""
 from __future__ import annotations
 
-from collections.abc import Iterator
 from dataclasses import dataclass
 
-from pertxogai.judging.choices import Tried, beneath, tried, tried_lines
+from pertxogai.judging.choices import Tried, beneath, tried
 from pertxogai.judging.measure.limit import Limit
 from pertxogai.language import ClusterName, Constraint, Refusal, Sketch
-from pertxogai.output.picture import (
-    Picture, picture_of_drawing, picture_of_parts, picture_of_shape)
 from pertxogai.program import Answer, Solver, Status
 from pertxogai.program.reports import (
     Cause, CheckReport, ConstraintFault, ExcessReport, Fault, FrameFault, NotAReport, NumberFault,
     PartsReport, Plan, RangeFault, Refused, Solved, Spare, TurnedFault, Verdict, read_answer,
     read_check, read_excess, read_fault, read_parts, read_plan, read_refusal, read_solve,
     read_spare)
-
-
-MOST_SHOWN = 8
-"""The most constraints that a picture tells below it."""
 
 
 class TextRefused(Exception):
@@ -59,26 +52,6 @@ class JudgedSketch:
     parts: PartsReport | None = None
     limit: Limit = Limit()
     tried: Tried | None = None
-
-    def picture(self, as_drawn: bool = False) -> Picture:
-        """As it is placed; part by part where it isn't well; and as it is drawn where it has no
-        places."""
-        if self.solved and not as_drawn:
-            return picture_of_shape(self.sketch, self.solved, self.name)
-        if self.parts and not as_drawn:
-            return picture_of_parts(self.sketch, self.parts, self.spare, self.name)
-        return picture_of_drawing(self.sketch, self.name, tuple(self._below(as_drawn)))
-
-    def _below(self, as_drawn: bool) -> Iterator[str]:
-        """What a picture of it as it is drawn tells of its fault."""
-        if self.fault and not as_drawn:
-            yield f"as drawn, has no places: {self.fault.text().strip()}"
-            yield from (f"of {constraint.text()}" for constraint in concerned(self)[:MOST_SHOWN])
-            yield from tried_lines(self.sketch, self.tried)
-            yield f"what to do: {what_to_do(self.fault, self.tried)}"
-
-    def _repr_svg_(self) -> str:
-        return self.picture().svg
 
 
 def judge_sketch(

@@ -8,6 +8,7 @@ from pertxogai.judging.judged_sketch import JudgedSketch
 from pertxogai.output.drawing_sheet import NoPlaces
 from pertxogai.output.dxf import Release, dxf_text, marks_of
 from pertxogai.output.picture.svg import Picture
+from pertxogai.output.sketch_picture import picture_of_judged
 from pertxogai.program import Solver, Status
 from pertxogai.program.reports import NotAReport, read_dxf
 
@@ -22,7 +23,7 @@ class SketchSheet:
 
     def picture(self) -> Picture:
         """As placed, or part by part, or as drawn."""
-        return self.judged.picture(self.as_drawn)
+        return picture_of_judged(self.judged, self.as_drawn)
 
     def is_good(self) -> bool:
         """Whether it is drawn as it is good, or as it was asked for."""
