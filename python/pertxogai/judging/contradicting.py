@@ -41,13 +41,16 @@ def contradictions(rails: Rails, spelled: Spelled, report: PartsReport,
 
 def too_many(drawing: Drawing, spelled: Spelled) -> Iterator[Contradiction]:
     """Each constraint, and each arc of which the ends couldn't be spelled, though the rest is just
-    enough, and one is too many of those by rank: nothing tells how far it is off. Else it may say
-    where the whole lies, as a mirror in an axis that nothing else is told from."""
+    enough, and one is too many of those by rank: nothing tells how far it is off. An arc's ends may
+    stand for another that is too many, since they tell its radius. Else it may say where the whole
+    lies, as a mirror in an axis that nothing else is told from."""
     said = spelled.left_out.union(*spelled.owners)
     free = freedoms(drawing)
-    among = free.among() if free is not None else frozenset[Owner]()
-    for owner in sorted(spelled.left_out & among):
-        if owner.number:
+    if free is None or not free.excess:
+        return
+    among = free.among()
+    for owner in sorted(spelled.left_out):
+        if owner.number and (owner.shape or owner in among):
             yield Contradiction(None, frozenset({owner}), said - {owner})
 
 

@@ -188,12 +188,11 @@ def _grown(asked: Trial, program: Solver, care: Care) -> Trial | None:
 
 def _contradicted(question: Question, asked: Trial, care: Care) -> Trial:
     """The same; where something couldn't be spelled, and contradicts what is placed, with that
-    told so. What says nothing that others say contradicts none, by rank: it has no shape."""
+    told so. Where nothing is said twice by rank, nothing contradicts: there is no such shape."""
     if not asked.spelled.left_out or asked.verdict is Verdict.OVER:
         return asked
     free = freedoms(question.drawing)
-    off = tuple(each for each in _off(question, asked)
-                if free is None or each.owners & free.among())
+    off = () if free is not None and not free.excess else _off(question, asked)
     if not off:
         return asked
     spelled = written(asked.axes, asked.rails, asked.spelled.style, replace(care, off=off))
