@@ -12,7 +12,7 @@ from pertxogai.judging.measure.deviation import Deviation, Unit
 from pertxogai.judging.measure.limit import Limit
 from pertxogai.judging.measure.measuring import measure
 from pertxogai.judging.measure.solution import Solution
-from pertxogai.judging.missing import Missing, loose, missing
+from pertxogai.judging.missing import Missing, loose, missing, unmet
 from pertxogai.judging.naming import Names
 from pertxogai.judging.printed import is_tied
 from pertxogai.judging.remembering import Remembering
@@ -244,11 +244,13 @@ def _greatest(judged: Judgement) -> int:
 
 
 def weighed(judged: Judgement, program: Solver) -> Judgement:
-    """The judgement with each dimension that may go tried, and measured on the rest. Raises as
-    `judge_at_once`."""
+    """The judgement with each dimension that may go tried, and measured on the rest; of what is open
+    and has no shape, with what isn't met. Raises as `judge_at_once`."""
+    drawing = judged.names.drawing
+    if judged.missing is not None:
+        return replace(judged, missing=replace(judged.missing, unmet=unmet(drawing)))
     if judged.verdict is not Verdict.OVER:
         return judged
-    drawing = judged.names.drawing
     return replace(judged, surplus=what_may_go(Question(drawing, program, judged.limit), judged.asked),
                    loose=loose(judged.names))
 

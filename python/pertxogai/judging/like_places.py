@@ -6,7 +6,7 @@ that nothing else holds there. Where directions and runs contradict what is told
 these values are left general as well; where that contradicts itself, all that isn't linear is."""
 from __future__ import annotations
 
-from collections.abc import Iterator
+from collections.abc import Iterator, Sequence
 from dataclasses import dataclass
 from decimal import Decimal, localcontext
 from enum import Enum
@@ -66,15 +66,23 @@ def like_places(drawing: Drawing, steps: Steps) -> Iterator[Plane[Decimal]]:
     """Places like the drawing, the most like it first; of each kind two, since one may be special
     by chance. Raises TooMany."""
     unknowns = Unknowns.of(drawing)
-    for held in Held:
+    for held in (Held.DIRECTIONS, Held.NO_VALUE, Held.LINEAR):
+        words = [each for each in drawing.constraints if held.has(each)]
         for seed in range(TRIES):
-            found = _place(unknowns, held, Random(seed), steps)
+            found = _place(unknowns, words, Random(seed), steps)
             if found is None:
                 break
             yield found
 
 
-def _place(unknowns: Unknowns, held: Held, chance: Random, steps: Steps
+def has_shape(drawing: Drawing, words: Sequence[Constraint], steps: Steps) -> bool:
+    """Whether a place near the drawn one is found at which these words hold: by numbers, so that
+    there may be one where none is found. Raises TooMany."""
+    unknowns = Unknowns.of(drawing)
+    return any(_place(unknowns, words, Random(seed), steps) for seed in range(TRIES))
+
+
+def _place(unknowns: Unknowns, words: Sequence[Constraint], chance: Random, steps: Steps
            ) -> Plane[Decimal] | None:
     """A place at which these words hold; None where none is found near the drawn one. Raises
     TooMany."""
@@ -82,13 +90,13 @@ def _place(unknowns: Unknowns, held: Held, chance: Random, steps: Steps
     reach = STIR * min(filter(None, _lengths(drawn)), default=1.0)
     begin = Plane(unknowns, [each + reach * chance.uniform(-1, 1) for each in drawn.vector], FLOATS)
     try:
-        rough = (_Newton(held, WEAK[0], HELD_MM, steps).held(begin, TURNS)
-                 or _Newton(held, WEAK[1], HELD_MM, steps).held(begin, TURNS))
+        rough = (_Newton(words, WEAK[0], HELD_MM, steps).held(begin, TURNS)
+                 or _Newton(words, WEAK[1], HELD_MM, steps).held(begin, TURNS))
         if rough is None or _has_vanished(drawn, rough):
             return None
         with localcontext(EXACT):
             fine = Plane(unknowns, [Decimal(each) for each in rough.vector], DECIMALS)
-            return _Newton(held, WEAK_EXACTLY, HELD_EXACTLY_MM, steps).held(fine, POLISHING)
+            return _Newton(words, WEAK_EXACTLY, HELD_EXACTLY_MM, steps).held(fine, POLISHING)
     except ArithmeticError:
         return None
 
@@ -102,7 +110,7 @@ class _Newton(Generic[N]):
     """Newton's method for what some words ask. weak: what is left of a row beside the others by
     less makes no step. most: within how much they hold."""
 
-    words: Held
+    words: Sequence[Constraint]
     weak: N
     most: N
     steps: Steps
@@ -121,9 +129,8 @@ class _Newton(Generic[N]):
 
     def _asked(self, plane: Plane[N]) -> Iterator[Jet[N]]:
         yield from (jet for _, jet in plane.of_shapes())
-        for constraint in plane.drawing.constraints:
-            if self.words.has(constraint):
-                yield from plane.asked(constraint)
+        for constraint in self.words:
+            yield from plane.asked(constraint)
 
     def _off(self, asked: list[Jet[N]]) -> dict[int, N]:
         """What has to be taken off the unknowns, so that each number is 0 by its slope."""

@@ -6,7 +6,10 @@ from collections.abc import Collection
 from dataclasses import dataclass
 from enum import Enum
 
+from pertxogai.drawing import Drawing
 from pertxogai.judging.freedoms import Whole, freedoms
+from pertxogai.judging.jets import Steps, TooMany
+from pertxogai.judging.like_places import has_shape
 from pertxogai.judging.naming import Names
 from pertxogai.program.reports import CheckReport, Part
 from pertxogai.spelling.facts import Owner
@@ -47,13 +50,16 @@ class Missing:
     that merging doesn't find. `joints`: each piece but the first, with one before it that it hangs
     at, where there is one. `whole`: how all of it may still be moved against the datum, which
     isn't counted; None where that isn't known. `excess`: constraints of which one is too many all
-    the same, by rank: it says what the others say, or contradicts it."""
+    the same, by rank: it says what the others say, or contradicts it. `unmet`: where nothing is
+    missing or too many by rank, and no shape is found near the drawn one by numbers, the
+    constraints without one of which there is one; None where that isn't so."""
 
     count: int
     pieces: tuple[Piece, ...]
     joints: tuple[Joint, ...]
     whole: Whole | None = None
     excess: tuple[tuple[str, ...], ...] = ()
+    unmet: tuple[str, ...] | None = None
 
 
 def missing(names: Names, check: CheckReport, repeats: Collection[Owner] = ()) -> Missing:
@@ -70,6 +76,23 @@ def missing(names: Names, check: CheckReport, repeats: Collection[Owner] = ()) -
     excess = tuple(names.owners(owner for owner in each if not owner.shape)
                    for each in free.too_many(numbers))
     return Missing(free.lacks, shown_pieces, joints, free.whole, tuple(filter(None, excess)))
+
+
+def unmet(drawing: Drawing) -> tuple[str, ...] | None:
+    """Where nothing is missing and nothing too many by rank, and no shape is found by numbers, the
+    constraints without one of which there is one; else None, and where it takes too long."""
+    free = freedoms(drawing)
+    if free is None or free.lacks or free.excess:
+        return None
+    constraints, steps = drawing.constraints, Steps()
+    try:
+        if has_shape(drawing, constraints, steps):
+            return None
+        numbers = [number for number in range(1, len(constraints) + 1) if has_shape(
+            drawing, constraints[:number - 1] + constraints[number:], steps)]
+    except TooMany:
+        return None
+    return tuple(map(drawing.called, numbers))
 
 
 def loose(names: Names) -> tuple[str, ...]:

@@ -48,6 +48,7 @@ def _by_rank(judgement: Judgement) -> dict[str, object]:
     return {"lacks": found.count if found else 0,
             "whole": found.whole.text() if found and found.whole else "",
             "excess": [list(each) for each in found.excess] if found else [],
+            "unmet": list(found.unmet) if found and found.unmet is not None else None,
             "loose": list(judgement.loose)}
 
 
@@ -184,6 +185,10 @@ def _missing_lines(judgement: Judgement) -> Iterator[str]:
                "(by rank)")
     yield from (f"  one is too many all the same, of: {', '.join(each)} (by rank)"
                 for each in lacks.excess)
+    if lacks.unmet is not None:
+        yield "  no shape is found near the drawn one that has these values (by numbers)"
+    if lacks.unmet:
+        yield f"  what to do: look at {', '.join(lacks.unmet)}; without one of them a shape is found"
     for piece in lacks.pieces:
         yield f"  piece {piece.number}: {' '.join(piece.elements)}"
     for joint in lacks.joints[:MOST_ADVICE]:
