@@ -4,15 +4,25 @@ from __future__ import annotations
 
 from collections.abc import Iterator
 from copy import copy
-from typing import TYPE_CHECKING
+from typing import Protocol
 
 from pertxogai.drawing.constraints import (
-    Coincident, Concentric, Perpendicular, PointOn, Tangent, XDistance, YDistance)
+    Coincident, Concentric, Constraint, Perpendicular, PointOn, Tangent, XDistance, YDistance)
 from pertxogai.drawing.places import Place
 from pertxogai.drawing.references import ORIGIN, Pair, PointRef, ShapeRef, Which
 
-if TYPE_CHECKING:
-    from pertxogai.drawing.drawing import Drawing
+
+class Drawn(Protocol):
+    """A drawing, as far as its points may be one."""
+
+    @property
+    def constraints(self) -> tuple[Constraint, ...]: ...
+
+    def points(self) -> Iterator[PointRef]: ...
+
+    def shared(self) -> tuple[Pair, ...]: ...
+
+    def drawn(self, ref: PointRef) -> Place: ...
 
 
 class Meetings:
@@ -20,7 +30,7 @@ class Meetings:
     `perpendicular` at an end, and the centres of concentric rims. What follows from other
     constraints isn't looked at."""
 
-    def __init__(self, drawing: Drawing) -> None:
+    def __init__(self, drawing: Drawn) -> None:
         self._drawing = drawing
         order = [ORIGIN, *drawing.points()]
         self._rank = {point: place for place, point in enumerate(order)}
@@ -31,7 +41,7 @@ class Meetings:
         self._on = {(self.leader(each.point), each.curve) for each in drawing.constraints
                     if isinstance(each, PointOn)}
 
-    def redrawn(self, drawing: Drawing) -> Meetings:
+    def redrawn(self, drawing: Drawn) -> Meetings:
         """Those of a drawing in which the same points are one, drawn elsewhere."""
         other = copy(self)
         other._drawing, other._ahead = drawing, {}
@@ -83,7 +93,6 @@ class Meetings:
                     return Pair(one, other)
         return None
 
-
     def contact(self, tangent: Tangent) -> Pair | None:
         """The point in which the two shapes of a tangent touch, as a point of each, where the
         drawing's words tell one: an end of both, or an end of the one that lies on the other."""
@@ -97,7 +106,7 @@ class Meetings:
         return None
 
 
-def joined(drawing: Drawing) -> Iterator[Pair]:
+def joined(drawing: Drawn) -> Iterator[Pair]:
     """Each two points of which a word of the drawing says that they are one."""
     yield from drawing.shared()
     for constraint in drawing.constraints:

@@ -8,7 +8,6 @@ from fractions import Fraction
 
 from pertxogai.drawing.checks import MOST_UM, check_point, check_size
 from pertxogai.drawing.constraint_checks import check_constraint
-from pertxogai.drawing.constraints import Constraint
 from pertxogai.drawing.drawing import Drawing
 from pertxogai.drawing.geometry import Anchor, Arc, Circle, Segment, Shape
 from pertxogai.drawing.named_shapes import NamedShapes, points_of, shares, spot_of

@@ -13,6 +13,7 @@ from pertxogai.spelling.axes import Axes, Equation
 from pertxogai.spelling.facts import Facts, Knot, Line, Owner
 from pertxogai.spelling.linear import Form, Number
 from pertxogai.spelling.rails import Rails, Size
+from pertxogai.spelling.settling import with_equation
 
 
 @dataclass(frozen=True)
@@ -31,7 +32,7 @@ def frozen_choices(axes: Axes, rails: Rails) -> Iterator[Frozen]:
         if len(rest.terms) == 1 and isinstance(next(iter(rest.terms)), Size):
             drawn = _drawn(axes.facts, *fact.ends())
             equation = Equation(rails.unfold(rest) - Form(number=drawn), frozenset({fact.owner}))
-            yield Frozen(axes.replaced(None, equation, fact), fact.owner)
+            yield Frozen(with_equation(axes, None, equation, fact), fact.owner)
 
 
 def _drawn(facts: Facts, first: Knot, second: Knot | Line) -> Fraction:

@@ -14,6 +14,7 @@ from pertxogai.spelling.axes import Axes, Equation
 from pertxogai.spelling.facts import DATUM, Knot, Line
 from pertxogai.spelling.linear import Form, LinearSystem, Number
 from pertxogai.spelling.rails import Rail, Rails, Size, Span
+from pertxogai.spelling.settling import with_equation
 from pertxogai.spelling.writing import Spelled
 
 
@@ -35,13 +36,13 @@ def growths(axes: Axes, rails: Rails, spelled: Spelled, report: PartsReport) -> 
         rest = known.reduced(pending.form)
         if rest.terms != pending.form.terms and _told(rest):
             equation = Equation(rails.unfold(rest), axes.equations[pending.number].owners)
-            yield Grown(axes.replaced(pending.number, equation), equation)
+            yield Grown(with_equation(axes, pending.number, equation), equation)
     for fact in axes.loose:
         if rails.number(fact.value) is None:
             rest = known.reduced(rails.symbols(fact.value) - Form.of(Span(*fact.ends())))
             if len(rest.terms) == 1 and isinstance(next(iter(rest.terms)), Size):
                 equation = Equation(rails.unfold(rest), frozenset({fact.owner}))
-                yield Grown(axes.replaced(None, equation, fact), equation)
+                yield Grown(with_equation(axes, None, equation, fact), equation)
 
 
 def _told(form: Form) -> bool:

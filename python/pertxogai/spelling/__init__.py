@@ -12,11 +12,11 @@ from pertxogai.spelling.crossings import with_crossings
 from pertxogai.spelling.facts import Facts
 from pertxogai.spelling.half_arcs import with_half_arcs
 from pertxogai.spelling.interpretation import Interpretation
-from pertxogai.spelling.lines import Lines
 from pertxogai.spelling.lowering import lowered
 from pertxogai.spelling.middles import with_ways
 from pertxogai.spelling.polygons import with_polygons
 from pertxogai.spelling.rails import Rails
+from pertxogai.spelling.settling import settled_axes
 from pertxogai.spelling.slots import with_slots
 from pertxogai.spelling.style import Style
 from pertxogai.spelling.writing import Care, Spelled, written
@@ -50,8 +50,7 @@ def axes_of(drawing: Drawing, reading: Reading = READINGS[0]) -> Axes:
 
 def axes_said(drawing: Drawing) -> Axes:
     """What a drawing says of x and y, before a reading takes some of it otherwise."""
-    facts = _met(lowered(drawing))
-    return Axes(facts, Lines(facts))
+    return settled_axes(_met(lowered(drawing)))
 
 
 def _met(heard: Facts) -> Facts:

@@ -16,7 +16,6 @@ from pertxogai.spelling.facts import (
 from pertxogai.spelling.lean import SQUARE, Lean
 from pertxogai.spelling.linear import Form, LinearSystem, Number, Redundant
 from pertxogai.spelling.lines import Lines
-from pertxogai.spelling.settling import Settling
 
 
 class Coordinate(NamedTuple):
@@ -59,7 +58,8 @@ class Says(Protocol):
 
 
 class Axes:
-    """The frames of a drawing, its equations, and the facts that aren't equations."""
+    """The frames of a drawing, its equations, and the facts that aren't equations. Distances that
+    run along an axis are equations once they are settled, which `settled_axes` does."""
 
     def __init__(self, facts: Facts, lines: Lines) -> None:
         self.facts = facts
@@ -84,12 +84,11 @@ class Axes:
         self._lines_say()
         for fact in facts.facts:
             self._say(fact)
-        Settling(self).settle()
 
     def replaced(self, number: int | None, equation: Equation,
                  without: Apart | Off | None = None) -> Axes:
         """The same with another equation in the place of one, or a new one, and without a
-        distance."""
+        distance; to be settled anew, which `with_equation` does."""
         other = copy(self)
         equations = list(self.equations)
         if number is None:
@@ -101,7 +100,6 @@ class Axes:
         other.loose = [fact for fact in self.loose if fact is not without]
         for each in equations:
             other.tell(each.form, each.owners)
-        Settling(other).settle()
         return other
 
     def redrawn(self, facts: Facts) -> Axes | None:

@@ -7,9 +7,9 @@ from dataclasses import replace
 
 from pertxogai.spelling.axes import Axes
 from pertxogai.spelling.facts import Facts
-from pertxogai.spelling.lines import Lines
 from pertxogai.spelling.mirrors import with_halves, with_implied
 from pertxogai.spelling.rails import Rails
+from pertxogai.spelling.settling import settled_axes
 from pertxogai.spelling.style import Style
 from pertxogai.spelling.writing import Spelled, Writer
 
@@ -30,7 +30,7 @@ class Interpretation:
         facts: Facts | None = said
         made = []
         while facts is not None:
-            axes = Axes(facts, Lines(facts))
+            axes = settled_axes(facts)
             made.append(axes)
             facts = with_implied(axes) or with_halves(axes)
         return Interpretation(said, made)

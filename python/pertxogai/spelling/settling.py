@@ -2,13 +2,26 @@
 from __future__ import annotations
 
 from collections.abc import Iterator
-from typing import TYPE_CHECKING
 
-from pertxogai.spelling.facts import DATUM, Apart, Knot
+from pertxogai.spelling.axes import Axes, Equation, Frame
+from pertxogai.spelling.facts import DATUM, Apart, Facts, Knot, Off
 from pertxogai.spelling.linear import Form
+from pertxogai.spelling.lines import Lines
 
-if TYPE_CHECKING:
-    from pertxogai.spelling.axes import Axes, Frame
+
+def settled_axes(facts: Facts) -> Axes:
+    """The axes of some facts, with each distance that runs along an axis told as an equation."""
+    axes = Axes(facts, Lines(facts))
+    Settling(axes).settle()
+    return axes
+
+
+def with_equation(axes: Axes, number: int | None, equation: Equation,
+                  without: Apart | Off | None = None) -> Axes:
+    """The axes with another equation in the place of one, or a new one, and without a distance."""
+    other = axes.replaced(number, equation, without)
+    Settling(other).settle()
+    return other
 
 
 class Settling:
