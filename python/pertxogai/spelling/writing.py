@@ -127,13 +127,14 @@ class Writer:
         self.left_out: set[Owner] = set()
         self.coarse = False
         self.bars: list[Rail] = []
+        self.crossed: set[Track] = set()
         self.unmeasured: set[tuple[str, str]] = set()
 
     def write(self) -> None:
         """Fills the sheet: points, lines, then angles, heights and distances."""
         self._name_points()
         tracks = self._tracks()
-        self._settle_ways()
+        self._settle_ways(self.names.values())
         for track in tracks:
             self._draw(track)
         self._angles(tracks)
@@ -144,14 +145,16 @@ class Writer:
         self._bars()
         self._loose()
         self._drop_idle()
+        self._settle_anew()
 
     def write_as(self, other: Writer) -> bool:
         """Fills the sheet as another was filled, of axes that differ by where things are drawn
         alone; False where that has help, or a dimension runs another way than is drawn now, which
-        asks for help."""
+        asks for help, or makes one of the datum's lines idle."""
         self.names, self.points, self.bars = other.names, other.points, other.bars
-        self._settle_ways()
-        if not other._has_no_help() or any(map(self._runs_back, self.rails.runs)):
+        self._settle_ways(other.sheet.lines)
+        if (not other._has_no_help() or any(map(self._runs_back, self.rails.runs))
+                or not self.crossed.isdisjoint(self._datum_lines())):
             return False
         self.left_out, self.coarse = other.left_out, other.coarse
         self.sheet.drafts, self.sheet.told = other.sheet.drafts, other.sheet.told
@@ -265,11 +268,24 @@ class Writer:
             return LEVEL if track.upwards else SQUARE
         return self.axes.lean(track)
 
-    def _settle_ways(self) -> None:
-        """Draws a point on the other side of its rail where the dimensions put it there."""
-        for rail in [*self.names, *self.bars]:
+    def _settle_ways(self, lines: Collection[str]) -> None:
+        """Draws a point on the other side of its rail where the dimensions put it there: of the
+        rails that are these lines, or none."""
+        rails = [rail for rail, name in self.names.items() if name in lines]
+        for rail in [*rails, *self.bars]:
             if isinstance(rail, Rail):
                 self._settle_rail(rail)
+
+    def _settle_anew(self) -> None:
+        """Draws the points again as they are drawn, but for the rails that are lines of the sketch.
+        What is rigid without a rail is turned as a whole; a point that moved past others for it
+        would turn it over."""
+        settled, self.ways = self.ways, dict(self.axes.facts.drawn)
+        self._settle_ways(self.sheet.lines)
+        if self.ways != settled:
+            for track, name in self.names.items():
+                if name in self.sheet.lines:
+                    self._draw(track)
 
     def _settle_rail(self, rail: Rail) -> None:
         (a, b), least = self._upright(rail), self.rails.offset(rail)
@@ -277,6 +293,7 @@ class Writer:
             x, y = self.ways[coordinate.knot]
             height, off = offset - least, self._height(rail, coordinate.knot)
             if _is_behind(off, height):
+                self.crossed.add(rail)
                 shift = height - off
                 self.ways[coordinate.knot] = (x + a * shift, y + b * shift)
 
@@ -650,11 +667,15 @@ class Writer:
         self._say(*names, said_by(circuit), value + more)
         self._say(*names, said_by(equation.owners), again + more)
 
+    def _datum_lines(self) -> list[Track]:
+        """The two lines that tell the datum's directions, or as many as there are."""
+        return [track for track in list(self.names)[:2] if self._frame(track).number == DATUM]
+
     def _drop_idle(self) -> None:
         """Takes away lines that hold nothing: with two constraints at most, of which one at most
-        is an angle."""
-        kept = {self.names[track] for track in list(self.names)[:2]
-                if self._frame(track).number == DATUM}
+        is an angle. The datum's stay, but for those over which a point is told on another side than
+        it is drawn: places are turned by what is told of that."""
+        kept = {self.names[track] for track in self._datum_lines() if track not in self.crossed}
         holding: dict[str, list[Draft]] = {}
         for draft in self.sheet.drafts:
             for name in draft.names():
