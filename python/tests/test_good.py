@@ -16,7 +16,7 @@ from pertxogai.judging import judge
 from pertxogai.judging.good import (
     GoodJudgement, GoodSketch, Lack, NotGood, good_of, good_sketch_of, reasons_against)
 from pertxogai.judging.judged_drawing import JudgedDrawing
-from pertxogai.judging.judged_sketch import judge_sketch
+from pertxogai.judging.judged_sketch import JudgedSketch, judge_sketch
 from pertxogai.judging.measure import Deviation, Limit, Solution, Unit, amount_text
 from pertxogai.judging.measure.limit import is_direction
 from pertxogai.output.drawing_sheet import DrawingSheet, NoPlaces
@@ -235,3 +235,26 @@ def test_a_sketch_of_the_language(program):
     assert isinstance(good_sketch_of(told("wedge", Limit(1))), GoodSketch)
     worse = replace(wedge.solved, tolerances=replace(wedge.solved.tolerances, length_nm=1001))
     assert lacks(replace(wedge, solved=worse)) == [Lack.OFF]
+
+
+def test_an_answer_of_another_sketch_is_not_good(program):
+    """Of two triangles of the same elements and constraints one element has another name, is of
+    another kind, or as a circle another radius; or there is one constraint more."""
+    def of(text: str) -> JudgedSketch:
+        return judge_sketch("it", "sketch 1\n" + text + "end\n", program)
+
+    text = ("point A 0 0\ncircle B 4 0 1\npoint C 4 3\n"
+            "distance A B 4\ndistance A C 5\ndistance B C 3\n")
+    mine = of(text)
+    assert lacks(mine) == []
+    for other in (of(re.sub("C", "D", text)), of(text.replace("4 0 1", "4 0 2")),
+                  of(text.replace("circle B 4 0 1", "point B 4 0"))):
+        assert lacks(other) == []
+        assert lacks(replace(mine, solved=other.solved)) == [Lack.NOT_PRINTED]
+    # A place 0.5 mm to the side, and places of another side: what is said isn't so there.
+    *most, last = mine.solved.places
+    moved_aside = replace(mine.solved, places=(*most, replace(last, x_nm=last.x_nm + 500_000)))
+    assert lacks(replace(mine, solved=moved_aside)) == [Lack.OFF]
+    assert lacks(replace(mine, solved=of(text.replace("A B 4", "A B 3")).solved)) == [Lack.OFF]
+    two = of("point A 0 0\npoint B 4 0\ndistance A B 4\n")
+    assert lacks(replace(mine, check=two.check)) == [Lack.NOT_PRINTED]

@@ -15,12 +15,15 @@ from pertxogai.drawing import ORIGIN, Drawing
 from pertxogai.judging.judged_drawing import JudgedDrawing
 from pertxogai.judging.judged_sketch import JudgedSketch
 from pertxogai.judging.measure.deviation import Deviation, Unit
-from pertxogai.judging.measure.limit import amount_text
+from pertxogai.judging.measure.limit import amount_text, units_text
 from pertxogai.judging.measure.measuring import measured
+from pertxogai.judging.measure.sketches import sketch_tolerances
 from pertxogai.judging.measure.solution import MissingPlace, Solution
 from pertxogai.judging.settled import settled
 from pertxogai.judging.trials import Trial
-from pertxogai.program.reports import Solved, Verdict
+from pertxogai.language import (
+    Circle, Element, Line, Placed, PlacedCircle, PlacedLine, PlacedPoint, Point, Sketch)
+from pertxogai.program.reports import CheckReport, Solved, Verdict
 from pertxogai.spelling.facts import ORIGIN_KNOT, Knot
 
 
@@ -91,8 +94,9 @@ class GoodJudgement:
 
 @dataclass(frozen=True)
 class GoodSketch:
-    """A sketch of the language that is good: the program says well, and places it within the limit
-    that it was asked for. Making one of anything else raises NotGood."""
+    """A sketch of the language that is good: the program says well of so many elements and
+    constraints, and has printed a place for each element, on which every constraint is measured
+    within the limit, as the program says too. Making one of anything else raises NotGood."""
 
     judged: JudgedSketch
 
@@ -215,6 +219,38 @@ def _against_sketch(judged: JudgedSketch) -> Iterator[Reason]:
     """Why a judged sketch isn't good."""
     solved, most = judged.solved, judged.limit.amount
     yield from _unplaced(judged.check.verdict, solved, solved is not None)
-    if solved and max(solved.length_tolerance_nm, solved.angle_tolerance_ppb) > most:
-        yield Reason(Lack.OFF, f"it is placed within {solved.length_tolerance_nm} nm and "
-                     f"{solved.angle_tolerance_ppb} ppb")
+    if not _is_of(judged.check, judged.sketch) or solved and not _places(solved, judged.sketch):
+        yield Reason(Lack.NOT_PRINTED, "the program's answer is of another sketch")
+    elif solved:
+        length, angle = sketch_tolerances(judged.sketch, solved.places)
+        length = max(length, solved.length_tolerance_nm)
+        angle = max(angle, solved.angle_tolerance_ppb)
+        if max(length, angle) > most:
+            yield Reason(Lack.OFF, f"it is placed within {units_text(length, Unit.NM)} and "
+                         f"{units_text(angle, Unit.PPB)}")
+
+
+def _is_of(check: CheckReport, sketch: Sketch) -> bool:
+    """Whether a report counts what a sketch has."""
+    counts = len(sketch.elements), len(sketch.constraints)
+    return (check.elements, check.constraints) == counts
+
+
+def _places(solved: Solved, sketch: Sketch) -> bool:
+    """Whether places are those of a sketch's elements, each of its kind, and each circle as
+    large."""
+    return [*map(_element, solved.places)] == [*map(_element, sketch.elements)]
+
+
+def _element(each: Element | Placed) -> tuple[str, str, int]:
+    """An element by its kind, its name, and a circle's radius in nanometres, which is a dimension
+    and exact; 0 of the others."""
+    match each:
+        case Point(name) | PlacedPoint(name):
+            return "point", name, 0
+        case Line(name) | PlacedLine(name):
+            return "line", name, 0
+        case Circle(name, radius_um=radius_um):
+            return "circle", name, 1000 * radius_um
+        case PlacedCircle(name, radius_nm=radius_nm):
+            return "circle", name, radius_nm
