@@ -81,16 +81,15 @@ def _told(judged: JudgedDrawing, asides: Asides) -> Iterator[Line]:
 
 def _well(judged: JudgedDrawing) -> Iterator[Line]:
     """Why it isn't good, if it isn't; and how exactly it is placed."""
-    solved = judged.judgement.asked.solved
-    assert isinstance(solved, Solved)
+    solved, length_nm = judged.judgement.asked.solved, judged.judgement.length_tolerance_nm
+    assert isinstance(solved, Solved) and length_nm is not None
     unmet = [each for each in reasons_against(judged) if each.lack is not Lack.LEFT_OUT]
     if unmet:
         yield Line("The count is right, and it is placed, but not all is met or told:")
     for reason in unmet:
         yield Line(reason.text, list="what isn’t met", constraint=reason.constraint)
     yield from _choices(judged.judgement)
-    within = (units_text(solved.length_tolerance_nm, Unit.NM),
-              units_text(solved.angle_tolerance_ppb, Unit.PPB))
+    within = (units_text(length_nm, Unit.NM), units_text(solved.angle_tolerance_ppb, Unit.PPB))
     count = "" if unmet else "Just as many dimensions as fix it. "
     yield Line(f"{count}Placed within {within[0]} and {within[1]}.")
     off = [each for each in judged.worst() if each.amount]

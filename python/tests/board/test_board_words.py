@@ -2,6 +2,8 @@
 from __future__ import annotations
 
 import base64
+import re
+from collections.abc import Sequence
 
 import pytest
 
@@ -189,3 +191,29 @@ def test_a_step_that_has_no_other_shape_is_told_in_words(program: Program) -> No
     found = desk.answer("flips", {"text": text, "steps": [number]})
     assert found == {"trouble": {
         "kind": "flip", "message": "this step has no choice that could be turned over"}}
+
+
+# Within what a drawing is placed.
+
+def told(program: object, text: str) -> list[str]:
+    """The lines of the panel."""
+    judgement = Desk(program).answer("judge", {"text": text})["judgement"]
+    return [each["text"] for each in judgement["lines"]]
+
+
+class Coarse:
+    """A program that places as exactly as it says, but says 8,000 nm."""
+
+    def __init__(self, program: Program) -> None:
+        self._program = program
+
+    def ask(self, words: Sequence[str], text: str) -> Answer:
+        answer = self._program.ask(words, text)
+        coarse = "length tolerance 8000 nm at c1"
+        return Answer(answer.status, re.sub(r"length tolerance \d+ nm at \S+", coarse, answer.text))
+
+
+def test_the_tolerance_is_that_of_the_drawing(program: Program) -> None:
+    """1/16 in are 1,587.5 micrometres, so its sketch is twice as large."""
+    text = "segment A 0 0 2 0\ncoincident A.start Origin\nhorizontal A\nlength A 0.0625in\n"
+    assert any("Placed within 0.004 mm and" in line for line in told(Coarse(program), text))
