@@ -20,6 +20,7 @@ from pertxogai.judging.judged_sketch import JudgedSketch, judge_sketch
 from pertxogai.judging.measure import Deviation, Limit, Solution, Unit, amount_text
 from pertxogai.judging.measure.limit import is_direction
 from pertxogai.output.drawing_sheet import DrawingSheet, NoPlaces
+from pertxogai.output.drawing_text import drawing_json, drawing_lines
 from pertxogai.output.dxf import Release
 from pertxogai.program.reports import Verdict
 
@@ -258,3 +259,24 @@ def test_an_answer_of_another_sketch_is_not_good(program):
     assert lacks(replace(mine, solved=of(text.replace("A B 4", "A B 3")).solved)) == [Lack.OFF]
     two = of("point A 0 0\npoint B 4 0\ndistance A B 4\n")
     assert lacks(replace(mine, check=two.check)) == [Lack.NOT_PRINTED]
+
+
+TRIANGLE = ("segment A 0 0 40 2\nsegment B A.end 38 30\nsegment C B.end A.start\n"
+            "length A 40\nlength B 30\nlength C 45\n")
+"""It goes round to the left."""
+
+
+@pytest.mark.parametrize("text, whole", [
+    (PLATE, ""),
+    (TRIANGLE, "moved and turned"),
+    (TRIANGLE + "coincident A.start Origin\n", "turned"),
+    ("point P 10 10\ndistance P Origin 14\n", "turned"),
+    ("circle C 10 10 5\ncoincident C Origin\nradius C 5\n", ""),
+])
+def test_what_is_good_and_not_tied_to_the_datum_says_so(text, whole, program):
+    found = judged(text, program)
+    assert lacks(found) == []
+    assert drawing_json(found)["by_rank"]["whole"] == whole
+    line = (f"  not tied to the datum: the whole may still be {whole} (by rank), and lies as it is "
+            "drawn")
+    assert [each for each in drawing_lines(found) if "not tied" in each] == ([line] if whole else [])

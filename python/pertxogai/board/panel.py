@@ -92,6 +92,7 @@ def _well(judged: JudgedDrawing) -> Iterator[Line]:
     within = (units_text(length_nm, Unit.NM), units_text(solved.angle_tolerance_ppb, Unit.PPB))
     count = "" if unmet else "Just as many dimensions as fix it. "
     yield Line(f"{count}Placed within {within[0]} and {within[1]}.")
+    yield from _not_tied(judged.judgement, "quiet")
     off = [each for each in judged.worst() if each.amount]
     for each in off:
         yield Line(f"measured: at most {amount_text(each)} off, "
@@ -112,12 +113,13 @@ def _open(judgement: Judgement) -> Iterator[Line]:
     """What is missing, its pieces, and what ties them."""
     found = judgement.missing
     assert found is not None
-    plural = "s" if found.count > 1 else ""
-    yield Line(f"Lacks {found.count} dimension{plural} at least, by rank." if found.count
-               else "It doesn’t hold together by triangles.")
-    if found.whole is not None and found.whole.ways:
-        yield Line("It isn’t tied to the datum: the whole may still be "
-                   f"{found.whole.text()}, by rank.", "quiet")
+    is_tied = found.whole is None or not found.whole.ways
+    if found.count:
+        plural = "s" if found.count > 1 else ""
+        yield Line(f"Lacks {found.count} dimension{plural} at least, by rank.")
+    elif is_tied:
+        yield Line("It doesn’t hold together by triangles.")
+    yield from _not_tied(judgement, "quiet" if found.count else "")
     for piece in found.pieces[:MOST_PIECES]:
         yield Line(f"piece {piece.number}: {' '.join(piece.elements)}", list="pieces",
                    selects=piece.elements, part=piece.number)
@@ -127,6 +129,14 @@ def _open(judgement: Judgement) -> Iterator[Line]:
         yield Line(f"pieces {joint.first.number} and {joint.second.number}{shared}: "
                    f"{joint.tie.value}", list="what to do", selects=joint.shared)
     yield from _more(len(found.joints) - MOST_JOINTS, "what to do")
+
+
+def _not_tied(judgement: Judgement, kind: str) -> Iterator[Line]:
+    """How the whole may still be moved: where it is placed all the same, it lies as it is drawn."""
+    if judgement.whole is not None and judgement.whole.ways:
+        drawn = " It lies as it is drawn." if judgement.solution is not None else ""
+        yield Line("It isn’t tied to the datum: the whole may still be "
+                   f"{judgement.whole.text()}, by rank.{drawn}", kind)
 
 
 def _more(count: int, which: str) -> Iterator[Line]:

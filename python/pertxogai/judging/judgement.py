@@ -2,11 +2,13 @@
 from __future__ import annotations
 
 from dataclasses import dataclass, replace
+from functools import cached_property
 
 from pertxogai.drawing import Circle, Drawing, moved
 from pertxogai.judging.choices import Tried, beneath, tried
 from pertxogai.judging.departures import Departure, warnings
 from pertxogai.judging.faults import Failure, failure
+from pertxogai.judging.freedoms import Freedoms, Whole, freedoms
 from pertxogai.judging.limits import check_fits
 from pertxogai.judging.measure.deviation import Deviation, Unit
 from pertxogai.judging.measure.limit import Limit
@@ -91,6 +93,19 @@ class Judgement:
         if not isinstance(solved, Solved):
             return None
         return -(-solved.length_tolerance_nm // self.asked.spelled.scale)
+
+    @cached_property
+    def free(self) -> Freedoms | None:
+        """What of the drawing is free by rank; None where that takes too long to count."""
+        return freedoms(self.names.drawing)
+
+    @property
+    def whole(self) -> Whole | None:
+        """How all of what isn't over may still be moved against the datum, by rank; None where that
+        isn't known."""
+        if self.missing is not None:
+            return self.missing.whole
+        return self.free.whole if self.verdict is Verdict.WELL and self.free else None
 
     @property
     def left_out(self) -> tuple[str, ...]:

@@ -44,9 +44,9 @@ def _by_rank(judgement: Judgement) -> dict[str, object]:
     """What is counted by the rank of what the drawing says, and not by the program: how many
     dimensions are lacking at least, how the whole may be moved, what is too many though the drawing
     is open, and what is loose though it is over."""
-    found = judgement.missing
+    found, whole = judgement.missing, judgement.whole
     return {"lacks": found.count if found else 0,
-            "whole": found.whole.text() if found and found.whole else "",
+            "whole": whole.text() if whole else "",
             "excess": [list(each) for each in found.excess] if found else [],
             "unmet": list(found.unmet) if found and found.unmet is not None else None,
             "loose": list(judgement.loose)}
@@ -117,6 +117,8 @@ def drawing_lines(judged: JudgedDrawing) -> Iterator[str]:
                 judgement.undimensioned)
     yield from _placed_lines(judged)
     yield from _failure_lines(judgement)
+    yield from _lacks_lines(judgement)
+    yield from _whole_lines(judgement)
     yield from _missing_lines(judgement)
     yield from _surplus_lines(judgement)
     yield from (f"  look: {warning.text()}" for warning in judgement.warnings)
@@ -172,17 +174,26 @@ def _failure_lines(judgement: Judgement) -> Iterator[str]:
         yield f"  what to do: look at {', '.join(failure.dimensions)}"
 
 
+def _lacks_lines(judgement: Judgement) -> Iterator[str]:
+    """How many dimensions an open drawing lacks."""
+    if judgement.missing is not None and judgement.missing.count:
+        count = judgement.missing.count
+        yield f"  lacks {count} dimension{'s' if count > 1 else ''} at least (by rank)"
+
+
+def _whole_lines(judgement: Judgement) -> Iterator[str]:
+    """How the whole may still be moved: where it is placed all the same, it lies as it is drawn."""
+    if judgement.whole is not None and judgement.whole.ways:
+        drawn = ", and lies as it is drawn" if judgement.solution is not None else ""
+        yield (f"  not tied to the datum: the whole may still be {judgement.whole.text()} "
+               f"(by rank){drawn}")
+
+
 def _missing_lines(judgement: Judgement) -> Iterator[str]:
-    """What an open drawing lacks."""
+    """What is too many of an open drawing all the same, its pieces, and what ties them."""
     lacks = judgement.missing
     if lacks is None:
         return
-    if lacks.count:
-        plural = "s" if lacks.count > 1 else ""
-        yield f"  lacks {lacks.count} dimension{plural} at least (by rank)"
-    if lacks.whole is not None and lacks.whole.ways:
-        yield (f"  not tied to the datum: the whole may still be {lacks.whole.text()} "
-               "(by rank)")
     yield from (f"  one is too many all the same, of: {', '.join(each)} (by rank)"
                 for each in lacks.excess)
     if lacks.unmet is not None:

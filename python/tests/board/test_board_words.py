@@ -193,12 +193,36 @@ def test_a_step_that_has_no_other_shape_is_told_in_words(program: Program) -> No
         "kind": "flip", "message": "this step has no choice that could be turned over"}}
 
 
-# Within what a drawing is placed.
+# What an open drawing lacks, and within what a drawing is placed.
 
 def told(program: object, text: str) -> list[str]:
     """The lines of the panel."""
     judgement = Desk(program).answer("judge", {"text": text})["judgement"]
     return [each["text"] for each in judgement["lines"]]
+
+
+TIES = "coincident A1 Origin\non A2 XAxis\n"
+UTILITIES = "".join(
+    f"point {name} {x} {y}\n" for name, x, y in (
+        ("A1", 0, 0), ("A2", 40, 0), ("A3", 85, 7), ("B1", 3, 50), ("B2", 37, 60), ("B3", 90, 42))
+) + "".join(f"distance A{one} B{other} {40 + 3 * one + other}\n"
+               for one in (1, 2, 3) for other in (1, 2, 3))
+"""Three points, each with its distance from three others: nine dimensions of twelve freedoms, and
+no triangle."""
+
+
+@pytest.mark.parametrize("text, first", [
+    ("segment S 10 0 10 10\non S.start XAxis\nvertical S\nlength S 10\n",
+     "It isn’t tied to the datum: the whole may still be moved along x, by rank."),
+    ("segment S 10 0 10 10\non S.start XAxis\nvertical S\n",
+     "Lacks 1 dimension at least, by rank."),
+    (UTILITIES + TIES, "It doesn’t hold together by triangles."),
+    (UTILITIES, "It isn’t tied to the datum: the whole may still be moved and turned, by rank."),
+])
+def test_what_an_open_drawing_lacks_is_told_first(program: Program, text: str, first: str) -> None:
+    lines = told(program, text)
+    assert lines[0] == first
+    assert ("It doesn’t hold together by triangles." in lines) is (text == UTILITIES + TIES)
 
 
 class Coarse:
