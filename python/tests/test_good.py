@@ -13,6 +13,7 @@ from pertxogai.commands import main
 from pertxogai.drawing import Drawing, PointRef, Which, read_drawing
 from pertxogai.exits import Exit
 from pertxogai.judging import judge
+from pertxogai.judging.departures import mirrored
 from pertxogai.judging.good import (
     GoodJudgement, GoodSketch, Lack, NotGood, good_of, good_sketch_of, reasons_against)
 from pertxogai.judging.judged_drawing import JudgedDrawing
@@ -25,6 +26,7 @@ from pertxogai.output.dxf import Release
 from pertxogai.program.reports import Verdict
 
 FILES = Path(__file__).parent / "files"
+DRAWINGS = Path(__file__).parent / "drawings"
 PLATE = ("rectangle Plate 0 0 61 39\ncircle Hole 30 20 5\ncoincident PlateBottom.start Origin\n"
          "length PlateBottom 60\nlength PlateRight 40\nx Hole 30\ny Hole 20\nradius Hole 5\n")
 WIDE = ("segment A 0 0 40 0\nsegment B A.end 20 30\nsegment C B.end A.start\nlength B 38\n"
@@ -264,6 +266,77 @@ def test_an_answer_of_another_sketch_is_not_good(program):
 TRIANGLE = ("segment A 0 0 40 2\nsegment B A.end 38 30\nsegment C B.end A.start\n"
             "length A 40\nlength B 30\nlength C 45\n")
 """It goes round to the left."""
+
+
+def mirrored_in_x(found: JudgedDrawing) -> list[tuple[str, ...]]:
+    """What lies mirrored once each point lies as far below the x axis as above."""
+    places = found.judgement.solution
+    points = {ref: (x, -y) for ref, (x, y) in places.points.items()}
+    return list(mirrored(found.drawing, Solution(points, places.radii)))
+
+
+def test_what_lies_mirrored_is_named(program):
+    """A triangle, one of points and their distances, a plate and a slot of two sides and two arcs,
+    each below the x axis; but not a plate as it is drawn, nor a straight chain."""
+    triangle = judged(TRIANGLE + "coincident A.start Origin\nhorizontal A\n", program)
+    assert mirrored_in_x(triangle) == [("A", "B", "C")]
+    of_points = judged("point P 40 2\npoint Q 38 30\ndistance P Q 30\ndistance P Origin 40\n"
+                       "distance Q Origin 45\ny P 2\n", program)
+    assert mirrored_in_x(of_points) == [("P Q", "P Origin", "Q Origin")]
+    plate = judged(PLATE, program)
+    assert list(mirrored(plate.drawing, plate.judgement.solution)) == []
+    assert mirrored_in_x(plate) == [("PlateBottom", "PlateRight", "PlateTop", "PlateLeft")]
+    slot = judged((DRAWINGS / "slot.drawing").read_text(), program)
+    assert len(mirrored_in_x(slot)) == 1
+    assert list(mirrored(slot.drawing, slot.judgement.solution)) == []
+    chain = judged("segment A 0 0 40 0\nsegment B A.end 80 1\ncoincident A.start Origin\n"
+                   "horizontal A B\nlength A 40\nlength B 40\n", program)
+    assert mirrored_in_x(chain) == []
+
+
+def test_what_lies_mirrored_is_not_good(program):
+    """The triangle's corners are 5 above and 3 below the x axis. With both on the side of the y
+    axis on which they are drawn, it goes round to the right: 40 * -3 - 45 * 5 is below 0."""
+    text = (TRIANGLE.replace("length B 30\n", "")
+            + "coincident A.start Origin\ny A.end 5\ny B.end -3\n")
+    found = judged(text, program)
+    assert found.judgement.verdict is Verdict.WELL and lacks(found) == [Lack.MIRRORED]
+    why, = (each.text for each in reasons_against(found))
+    assert why == "A, B, C lie mirrored: each corner turns to the other side than it is drawn"
+    assert f"  not met: {why}" in drawing_lines(found)
+
+
+@pytest.mark.parametrize("words", [
+    "angle A +60deg\nangle B -30deg\nlength A 40\nlength B 30\n",
+    "horizontal A\nvertical B\nlength A 40\ny A.end B.end -30\n",
+])
+def test_what_is_told_by_a_sign_is_not_mirrored(words, program):
+    """The corner is drawn to turn to the left, and told to turn to the right."""
+    found = judged("segment A 0 0 40 1\nsegment B A.end 50 31\ncoincident A.start Origin\n"
+                   + words, program)
+    assert lacks(found) == [] and found.judgement.warnings
+
+
+class SaysMore:
+    """A program that is told more than is asked, as by a fault of the spelling: how far the last
+    point is from the y axis."""
+
+    def __init__(self, program) -> None:
+        self._program = program
+
+    def ask(self, words, text):
+        *_, hole = re.findall(r"^point (\w+)", text, re.M)
+        return self._program.ask(words, text.replace("end\n", f"distance {hole} Y 30\nend\n"))
+
+
+def test_what_is_told_beside_the_drawing_is_not_good(program):
+    """Nothing of the drawing says how far the hole is from the left: what is said holds, and by
+    rank one dimension is missing."""
+    found = judged(PLATE.replace("x Hole 30\n", ""), SaysMore(program))
+    assert found.judgement.verdict is Verdict.WELL
+    assert [each.text for each in reasons_against(found)] == [
+        "1 dimension is missing at least, by rank"]
+    assert lacks(found) == [Lack.MISSING]
 
 
 @pytest.mark.parametrize("text, whole", [

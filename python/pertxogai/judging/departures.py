@@ -1,20 +1,24 @@
 """Where the placed shape departs from the drawn one: edges turned about, corners on the other
-side, crossings.
+side, crossings; and what lies mirrored as a whole.
 
 All is by whole numbers of nanometres. A drawing that isn't tied to the datum's directions is
 compared as it lies once it has been turned, as a whole, the way that fits best. """
 from __future__ import annotations
 
-from collections.abc import Iterator
+from collections.abc import Iterable, Iterator
 from dataclasses import dataclass
 from enum import Enum
 from fractions import Fraction
 from itertools import combinations
 
-from pertxogai.drawing import Drawing, PointRef, Segment, Which
+from pertxogai.drawing import (
+    AngleBetween, Arc, Distance, Drawing, Horizontal, PointRef, Segment, Sense, ShapeRef, Vertical,
+    Which, XDistance, YDistance)
 from pertxogai.judging.measure.solution import Solution
 
 PointNm = tuple[int, int]
+STRAIGHT_NM = 1000
+"""A corner in which an end is no further off the line of the other edge is none."""
 
 
 class DepartureKind(Enum):
@@ -70,12 +74,19 @@ class _Edge:
 
 @dataclass(frozen=True)
 class _Both:
-    """A segment as it is drawn, and as it is placed."""
+    """An edge as it is drawn, and as it is placed, from one point to another."""
 
     name: str
+    ends: tuple[PointRef, PointRef]
     drawn: _Edge
     placed: _Edge
     outline: bool
+
+    def turns(self, other: _Both) -> bool | None:
+        """Whether the corner with another edge turns to the other side than it is drawn; None where
+        it is straight, drawn or placed."""
+        sides = _side(self.drawn.way, other.drawn.way) * _side(self.placed.way, other.placed.way)
+        return sides < 0 if sides else None
 
 
 def warnings(drawing: Drawing, solution: Solution, free: bool = False) -> tuple[Departure, ...]:
@@ -87,11 +98,72 @@ def warnings(drawing: Drawing, solution: Solution, free: bool = False) -> tuple[
     return (*_turned(edges, free), *_corners(drawing, outline), *_crossings(drawing, outline))
 
 
-def _both(drawing: Drawing, solution: Solution, shape: Segment) -> _Both:
-    ends = [PointRef(shape.name, which) for which in (Which.START, Which.END)]
+def mirrored(drawing: Drawing, solution: Solution) -> Iterator[tuple[str, ...]]:
+    """What lies mirrored as a whole, by the names of its edges: of the corners of edges that hang
+    together each turns to the other side than it is drawn, and of none the words tell by a sign to
+    which. Raises MissingPlace."""
+    edges = _edges(drawing, solution)
+    pairs = _pairs(drawing, edges)
+    by_signs = _by_signs(drawing, edges)
+    for group in _hanging_together(pairs):
+        mine = [(first, second) for first, second in pairs if first in group]
+        turns = [edges[first].turns(edges[second]) for first, second in mine]
+        if True in turns and False not in turns and by_signs.isdisjoint(mine):
+            yield tuple(edges[place].name for place in sorted(group))
+
+
+def _by_signs(drawing: Drawing, edges: list[_Both]) -> set[tuple[int, int]]:
+    """The corners of which the words tell the turn, whatever is drawn: words tell the directions of
+    both edges, and a sign which way one of them runs."""
+    directed, signed, ends = set[str](), set[str](), list[set[PointRef]]()
+    for each in drawing.constraints:
+        match each:
+            case Horizontal(ShapeRef(name)) | Vertical(ShapeRef(name)):
+                directed.add(name)
+            case AngleBetween(first, second):
+                directed |= {first.name, second.name}
+                signed |= {first.name, second.name} if each.sense is Sense.SIGNED else set()
+            case XDistance(one, other) | YDistance(one, other) if each.sense is Sense.SIGNED:
+                ends.append({drawing.meetings.leader(one), drawing.meetings.leader(other)})
+    signed |= {edge.name for edge in edges if _leaders(drawing, edge) in ends}
+    return {(first, second) for first, second in _pairs(drawing, edges)
+            if {edges[first].name, edges[second].name} <= directed
+            and not signed.isdisjoint((edges[first].name, edges[second].name))}
+
+
+def _edges(drawing: Drawing, solution: Solution) -> list[_Both]:
+    """The edges of an outline, an arc from its start to its end; and between points in which none
+    of these ends, the distances that are told."""
+    edges = [_both(drawing, solution, shape) for shape in drawing.geometry
+             if isinstance(shape, (Segment, Arc)) and not shape.construction]
+    ended = {leader for edge in edges for leader in _leaders(drawing, edge)}
+    told = (_between(drawing, solution, f"{each.first} {each.second}", (each.first, each.second))
+            for each in drawing.constraints if isinstance(each, Distance))
+    return edges + [each for each in told if ended.isdisjoint(_leaders(drawing, each))]
+
+
+def _hanging_together(pairs: Iterable[tuple[int, int]]) -> list[set[int]]:
+    """The groups of what pairs hold together."""
+    groups: dict[int, set[int]] = {}
+    for pair in pairs:
+        one, other = (groups.setdefault(place, {place}) for place in pair)
+        if one is not other:
+            less, more = sorted((one, other), key=len)
+            more |= less
+            groups.update(dict.fromkeys(less, more))
+    return list({id(group): group for group in groups.values()}.values())
+
+
+def _both(drawing: Drawing, solution: Solution, shape: Segment | Arc) -> _Both:
+    ends = PointRef(shape.name, Which.START), PointRef(shape.name, Which.END)
+    return _between(drawing, solution, shape.name, ends, not shape.construction)
+
+
+def _between(drawing: Drawing, solution: Solution, name: str, ends: tuple[PointRef, PointRef],
+             outline: bool = True) -> _Both:
     drawn = [(_whole(at.x_um * 1000), _whole(at.y_um * 1000)) for at in map(drawing.drawn, ends)]
     placed = [(_whole(x), _whole(y)) for x, y in map(solution.spot, ends)]
-    return _Both(shape.name, _Edge(*drawn), _Edge(*placed), not shape.construction)
+    return _Both(name, ends, _Edge(*drawn), _Edge(*placed), outline)
 
 
 def _whole(nm: int | Fraction) -> int:
@@ -125,13 +197,23 @@ def _turn(edges: list[_Both]) -> PointNm:
     return turn if any(turn) else (1, 0)
 
 
-def _corners(drawing: Drawing, outline: list[_Both]) -> Iterator[Departure]:
+def _side(first: PointNm, second: PointNm) -> int:
+    """To which side a corner turns: 1 to the left, -1 to the right, 0 where it is straight."""
+    turn, reach = _cross(first, second), max(abs(each) for each in (*first, *second))
+    return 0 if abs(turn) <= STRAIGHT_NM * reach else 1 if turn > 0 else -1
+
+
+def _pairs(drawing: Drawing, edges: list[_Both]) -> list[tuple[int, int]]:
+    """The places of each two edges that end in one point."""
     through: dict[PointRef, list[int]] = {}
-    for place, edge in enumerate(outline):
+    for place, edge in enumerate(edges):
         for leader in _leaders(drawing, edge):
             through.setdefault(leader, []).append(place)
-    pairs = {pair for places in through.values() for pair in combinations(places, 2)}
-    for first, second in sorted(pairs):
+    return sorted({pair for places in through.values() for pair in combinations(places, 2)})
+
+
+def _corners(drawing: Drawing, outline: list[_Both]) -> Iterator[Departure]:
+    for first, second in _pairs(drawing, outline):
         one, other = outline[first], outline[second]
         before = _cross(one.drawn.way, other.drawn.way)
         if before * _cross(one.placed.way, other.placed.way) < 0:
@@ -140,8 +222,7 @@ def _corners(drawing: Drawing, outline: list[_Both]) -> Iterator[Departure]:
 
 def _leaders(drawing: Drawing, edge: _Both) -> set[PointRef]:
     """The points that stand for all that are one with an edge's ends."""
-    return {drawing.meetings.leader(PointRef(edge.name, which))
-            for which in (Which.START, Which.END)}
+    return {drawing.meetings.leader(end) for end in edge.ends}
 
 
 def _crossings(drawing: Drawing, outline: list[_Both]) -> Iterator[Departure]:

@@ -12,6 +12,7 @@ from dataclasses import dataclass
 from enum import Enum
 
 from pertxogai.drawing import ORIGIN, Drawing
+from pertxogai.judging.departures import mirrored
 from pertxogai.judging.judged_drawing import JudgedDrawing
 from pertxogai.judging.judged_sketch import JudgedSketch
 from pertxogai.judging.measure.deviation import Deviation, Unit
@@ -25,6 +26,10 @@ from pertxogai.language import (
     Circle, Element, Line, Placed, PlacedCircle, PlacedLine, PlacedPoint, Point, Sketch)
 from pertxogai.program.reports import CheckReport, Solved, Verdict
 from pertxogai.spelling.facts import ORIGIN_KNOT, Knot
+
+
+MOST_NAMED = 4
+"""The most edges of what lies mirrored that are named."""
 
 
 class Lack(Enum):
@@ -44,6 +49,10 @@ class Lack(Enum):
     """A constraint doesn't hold within the limit."""
     NO_SIZE = "no size"
     """Nothing tells the size of a circle."""
+    MISSING = "missing"
+    """Dimensions are missing by rank, though the program says well of how it was spelled."""
+    MIRRORED = "mirrored"
+    """All corners of something turn to the other side than they are drawn."""
     NOT_PRINTED = "not printed"
     """What is said of it isn't what the program has printed of this drawing."""
 
@@ -70,8 +79,9 @@ class NotGood(Exception):
 @dataclass(frozen=True)
 class GoodJudgement:
     """A judgement on a drawing that is good: the program says well and places it, every point lies
-    where that was printed, every constraint of the designer and all that the shapes imply is measured within the limit, nothing of the file
-    is left out, and every size is told. Making one of anything else raises NotGood."""
+    where that was printed, every constraint of the designer and all that the shapes imply is
+    measured within the limit, nothing of the file is left out, every size is told, by rank nothing
+    is missing, and nothing lies mirrored. Making one of anything else raises NotGood."""
 
     judged: JudgedDrawing
 
@@ -147,11 +157,33 @@ def _json(reason: Reason) -> dict[str, object]:
 
 
 def _against(judged: JudgedDrawing) -> Iterator[Reason]:
-    """Why the judgement on a drawing isn't good."""
+    """Why the judgement on a drawing isn't good. What no constraint tells is looked at where
+    nothing else is against it."""
+    found = [*_seen(judged)]
+    yield from found or _untold(judged)
+
+
+def _untold(judged: JudgedDrawing) -> Iterator[Reason]:
+    """What a measure of the constraints doesn't see: that dimensions are missing, by rank, and that
+    something lies mirrored."""
+    free = judged.judgement.free
+    if free is not None and free.lacks:
+        plural = "dimension is" if free.lacks == 1 else "dimensions are"
+        yield Reason(Lack.MISSING, f"{free.lacks} {plural} missing at least, by rank")
+    assert judged.judgement.solution is not None
+    for names in mirrored(judged.drawing, judged.judgement.solution):
+        more = f" and {len(names) - MOST_NAMED} more" if len(names) > MOST_NAMED else ""
+        yield Reason(Lack.MIRRORED, f"{', '.join(names[:MOST_NAMED])}{more} lie mirrored: each "
+                     "corner turns to the other side than it is drawn")
+
+
+def _seen(judged: JudgedDrawing) -> Iterator[Reason]:
+    """What the program, the file and the measure say against it."""
     if not judged.drawing.geometry:
         yield Reason(Lack.EMPTY, "nothing is drawn in it that could be judged")
     judgement = judged.judgement
-    if judgement.names.drawing != judged.drawing or judgement.verdict is not judgement.asked.verdict:
+    if (judgement.names.drawing != judged.drawing
+            or judgement.verdict is not judgement.asked.verdict):
         yield Reason(Lack.NOT_PRINTED, "the judgement is of another drawing")
         return
     solved = judgement.asked.solved

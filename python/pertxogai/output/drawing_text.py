@@ -18,6 +18,8 @@ from pertxogai.program.reports import CheckReport, Part, Solved
 __all__ = ["JudgedDrawing", "drawing_json", "drawing_lines", "spare_json", "spelled_json",
            "within_json"]
 
+UNMET = Lack.OFF, Lack.UNMEASURED, Lack.NOT_PRINTED, Lack.MISSING, Lack.MIRRORED
+"""What of a drawing that is placed is told to be unmet; all else has a line of its own."""
 MOST_ADVICE = 5
 """So many pairs of pieces at most are told what to do with."""
 
@@ -105,7 +107,7 @@ def drawing_lines(judged: JudgedDrawing) -> Iterator[str]:
     if not judged.drawing.geometry:
         yield "  nothing is drawn in it that could be judged"
     yield from (f"  not met: {reason.text}" for reason in reasons_against(judged)
-                if reason.lack in (Lack.OFF, Lack.UNMEASURED, Lack.NOT_PRINTED))
+                if reason.lack in UNMET)
     yield from _tried_lines(judgement)
     yield from (f"  left out: {what}" for what in judged.not_drawn)
     yield from _left_out_lines(judgement)
