@@ -1,0 +1,44 @@
+"""A drawing that is over as it was measured alone: what can't be spelled, and isn't so where the
+rest is placed, is told to the program twice. That isn't certified, and is said wherever the verdict
+is."""
+from __future__ import annotations
+
+from pertxogai.drawing import read_drawing
+from pertxogai.judging import judge
+from pertxogai.judging.good import Lack, reasons_against
+from pertxogai.judging.judged_drawing import JudgedDrawing
+from pertxogai.output.drawing_text import drawing_json, drawing_lines
+from pertxogai.program.reports import Verdict
+
+MIDDLE = ("point P 0 0\npoint Q 40 0\npoint R 20 30\npoint M 20 0\n"
+          "segment A P Q\nsegment B P R\nsegment C R M\n"
+          "midpoint M A\nperpendicular A C\ndistance R A 37.5\nangle C B 37/50\n"
+          "distance Q C 30.193\n")
+"""R lies 37.5 above A, and M below it. From the angle P is 37.5 * 37/50 = 27.75 from M, and Q is
+30.193 from it: M isn't in the middle, whatever way that is told."""
+TWICE = ("rectangle P 0 0 40 30\ncoincident PBottom.start Origin\nlength PBottom 40\n"
+         "length PRight 30\nlength PTop 40\n")
+LINE = "which isn't certified"
+
+
+def judged(text: str, program) -> JudgedDrawing:
+    drawing = read_drawing(text)
+    return JudgedDrawing("it", drawing, judge(drawing, program))
+
+
+def test_what_is_over_as_it_was_measured_says_so(program):
+    found = judged(MIDDLE, program)
+    middle = "constraint 1 (midpoint M A)"
+    assert found.judgement.verdict is Verdict.OVER
+    assert found.judgement.measured_off == (middle,)
+    assert drawing_json(found)["measured_over"] == [middle]
+    line, = (each for each in drawing_lines(found) if LINE in each)
+    assert line.startswith("  over as it was measured") and middle in line
+    assert [each.lack for each in reasons_against(found)] == [Lack.VERDICT]
+
+
+def test_what_the_program_calls_over_itself_does_not(program):
+    found = judged(TWICE, program)
+    assert found.judgement.verdict is Verdict.OVER
+    assert drawing_json(found)["measured_over"] == []
+    assert not any(LINE in each for each in drawing_lines(found))
