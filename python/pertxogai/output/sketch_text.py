@@ -6,6 +6,7 @@ from collections.abc import Iterator, Sequence
 from pertxogai.judging.choices import tried_json, tried_lines
 from pertxogai.judging.good import reasons_json
 from pertxogai.judging.judged_sketch import JudgedSketch, concerned, what_to_do
+from pertxogai.judging.measure import Unit, units_text
 from pertxogai.language import Placed, PlacedCircle, PlacedLine
 from pertxogai.program.reports import (
     AtConstraint, Excessive, FrameFault, LineFault, OverPart, Part, Solved)
@@ -19,17 +20,8 @@ def sketch_lines(judged: JudgedSketch) -> Iterator[str]:
         f" {check.constraints}, parts"
         f" {len(check.parts)}"
     )
-    if judged.solved:
-        yield (
-            f"  placed within {judged.solved.length_tolerance_nm} nm and"
-            f" {judged.solved.angle_tolerance_ppb} ppb"
-        )
-        yield from (f"  {placed.text()}" for placed in judged.solved.places)
-    if judged.fault:
-        yield f"  {judged.fault.text().strip()}"
-        yield from (f"    of {constraint.text()}" for constraint in concerned(judged))
-        yield from (f"  {line}" for line in tried_lines(judged.sketch, judged.tried))
-        yield f"  what to do: {what_to_do(judged.fault, judged.tried)}"
+    yield from _placed(judged)
+    yield from _faulted(judged)
     if judged.parts:
         yield from (f"  {part.text().strip()}" for part in check.parts)
     if judged.excess:
@@ -40,6 +32,24 @@ def sketch_lines(judged: JudgedSketch) -> Iterator[str]:
         yield from (f"    {it.text()}" for it in judged.spare)
     elif judged.parts:
         yield "  what to do: tie the parts by a dimension between elements of two of them"
+
+
+def _placed(judged: JudgedSketch) -> Iterator[str]:
+    """Within what it is placed, and where each element lies."""
+    if judged.solved:
+        length = units_text(judged.solved.length_tolerance_nm, Unit.NM)
+        angle = units_text(judged.solved.angle_tolerance_ppb, Unit.PPB)
+        yield f"  placed within {length} and {angle}"
+        yield from (f"  {placed.text()}" for placed in judged.solved.places)
+
+
+def _faulted(judged: JudgedSketch) -> Iterator[str]:
+    """What fails, the constraints that it is about, and what helps."""
+    if judged.fault:
+        yield f"  {judged.fault.text().strip()}"
+        yield from (f"    of {constraint.text()}" for constraint in concerned(judged))
+        yield from (f"  {line}" for line in tried_lines(judged.sketch, judged.tried))
+        yield f"  what to do: {what_to_do(judged.fault, judged.tried)}"
 
 
 def _over(over: OverPart) -> Iterator[str]:
