@@ -1,7 +1,8 @@
-use Rattle.std.proofs.Common.{◌≡◌, ◌≤◌, ◌++◌, [], ℕ, length, inl, inr, refl, sym, ap, subst, ◌∙◌, arith, length-append}
+use Rattle.std.proofs.Common.{◌≡◌, ◌≤◌, ◌++◌, [], ℕ, suc, length, inl, inr, refl, sym, ap, subst, ◌∙◌, arith, length-append}
 use Rattle.std.specs.Io.KnownBytes.{Appends}
 use Rattle.sk_io.specs.Causes.{AnswersFault}
 use Rattle.sk_io.proofs.Moved.{Consumes-more}
+use Rattle.sk_io.proofs.Reading.{unread, read_once}
 use Rattle.sk_live_lines.proofs.Hearings.{goes_on_more}
 use Rattle.sk_live_lines.proofs.Rooms.{room_more}
 use Rattle.sk_live_lines.specs.declared.TurnEnd.TheVariants as turn_end
@@ -20,6 +21,8 @@ loop-end-init g c = record {
   taken = [];
   takes = nothing_taken (g.S.Source.left c.args.source.now);
   count = ap (λ (h : Heard). h.taken) c.new-hearing.ensures;
+  turns = 0;
+  read_on = refl;
   bound = rw c.new-hearing.ensures (omega arith);
   goes_on = rw (c.new-hearing.ensures, c.in-Ok.ensures) (no_byte_taken IsSaid (begun c.args.request) (g.K.Sink.written c.args.sink.now));
   room = rw (c.new-hearing.ensures, c.in-Ok.ensures) (begun_is c.args.request (g.K.Sink.sure_room c.args.sink.now));
@@ -38,6 +41,8 @@ loop-end-preserved g c =
       taken = here.taken ++ on.0;
       takes = Consumes-more (g.S.Source.left c.args.source.now) (g.S.Source.left c.loop-end.source) (g.S.Source.left c.turn.new.source) here.taken on.0 here.takes on.2;
       count = omega (arith, on.3, here.count, sum);
+      turns = suc here.turns;
+      read_on = (c.loop-end.source, here.read_on, c.in-Ok-turn.ensures.on refl);
       bound = c.in-Ok-turn.ensures.bound;
       goes_on =
           goes_on_more IsSaid IsEnd [] c.loop-end.hearing.kept c.turn.new.hearing.kept (begun c.args.request) c.loop-end.sitting c.turn.new.replier
@@ -127,6 +132,13 @@ returns-in-Err-clause-taken g c =
     (let unchanged = c.in-Err.ensures.read_failed (as_error c.in-Err.end turn_end.ReadFault failed) in
     (subst (λ k. Appends (g.K.Sink.written c.loop-end.sink) (g.K.Sink.written k) []) (sym unchanged.2) (nothing_gained (g.K.Sink.written c.loop-end.sink)), unchanged.3)))
     c.ended.ensures.told appended
+
+pub returns-in_default-clause-reads : goal.returns-in_default-clause-reads
+returns-in_default-clause-reads g c = unread g.S.Source.is_read_on g.S.Source.is_read_last c.args.source.now
+
+pub returns-in-Err-clause-reads : goal.returns-in-Err-clause-reads
+returns-in-Err-clause-reads g c =
+    read_once g.S.Source.is_read_on g.S.Source.is_read_last c.loop-end.invariant.turns c.args.source.now c.loop-end.source c.turn.new.source c.loop-end.invariant.read_on c.in-Err.ensures.once
 
 pub returns-in-Err-clause-few : goal.returns-in-Err-clause-few
 returns-in-Err-clause-few g c =

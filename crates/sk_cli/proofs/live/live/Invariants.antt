@@ -1,5 +1,6 @@
 use Rattle.std.proofs.Common.{◌≡◌, ◌≤◌, ◌-◌, [], ℕ, List, length}
 use Rattle.std.specs.Io.KnownBytes.{Consumes}
+use Rattle.sk_io.specs.Reads.{AfterReads}
 use Rattle.sk_live_lines.specs.Heard.{GoesOn, KeepsRoom}
 use Rattle.sk_cli.specs.LiveAnswer.{begun, IsSaid}
 use Rattle.sk_cli.proofs.live.live.Given as goal
@@ -9,6 +10,8 @@ invariant-loop-end g l = record {
   taken : List ℕ;
   takes : Consumes (g.S.Source.left l.fn.source) (g.S.Source.left l.source) taken;
   count : l.hearing.taken ≡ length taken;
+  turns : ℕ;
+  read_on : AfterReads g.S.Source.is_read_on turns l.fn.source l.source;
   bound : l.hearing.taken ≤ 4294967295;
   goes_on : GoesOn IsSaid [] (begun l.fn.request) (g.K.Sink.written l.fn.sink) l.hearing.kept l.sitting (g.K.Sink.written l.sink) taken;
   room : KeepsRoom IsSaid [] (begun l.fn.request) (g.K.Sink.sure_room l.fn.sink) l.hearing.kept l.sitting (g.K.Sink.sure_room l.sink) taken;

@@ -1,6 +1,7 @@
 use Rattle.std.proofs.Common.{◌∙◌, sym, refl, map, length, inl, inr}
 use Rattle.std.proofs.lemmas.Bool.{cases_lt}
 use Rattle.std.specs.Prelude.{string_bytes}
+use Rattle.sk_io.proofs.Reading.{unread}
 use Rattle.sk_cli.specs.declared.status.Status.TheVariants.{ReadFault, NoMemory}
 use Rattle.sk_request.specs.Asking.{AskForInput}
 use Rattle.sk_cli.proofs.Runs.{usage_ends, answer_ends, nothing_ends, no_form, answer_room, usage_room, no_fault, asked_input, read_told, session_takes, session_ends, session_room, as_live, not_live, live_takes, live_fits}
@@ -16,6 +17,9 @@ returns-in_default-clause-outcome g c =
 pub returns-in_default-clause-read : goal.returns-in_default-clause-read
 returns-in_default-clause-read g c is other has =
     absurd (no_form (map string_bytes c.args.words.now) c.in_default.ensures.none (is.0, is.1))
+
+pub returns-in_default-clause-reads : goal.returns-in_default-clause-reads
+returns-in_default-clause-reads g c = unread g.S.Source.is_read_on g.S.Source.is_read_last c.args.source.now
 
 pub returns-in_default-clause-sure_sink : goal.returns-in_default-clause-sure_sink
 returns-in_default-clause-sure_sink g c live each =
