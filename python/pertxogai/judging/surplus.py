@@ -224,16 +224,17 @@ class _Trials:
         return worst(measure(self.drawing, places), number)
 
     def _off_by_sums(self, number: int, gone: frozenset[int]) -> Deviation | None:
-        """How far a constraint is off what the rest says of x and y; None where it says nothing
-        of that."""
+        """How far a constraint is off what the rest says of x and y; None where that doesn't tell
+        all that it says."""
         others = gone - {number}
         owner = Owner(number - sum(other < number for other in others))
         rest = axes_said(without(self.drawing, gone)).system
         said = axes_said(without(self.drawing, others)).equations
         values = [rest.reduced(each.form) for each in said if owner in each.owners]
-        off = [Fraction(max(each.number, -each.number)) for each in values if not each.terms]
-        return Deviation(number, self.drawing.constraints[number - 1], whole_up(max(off) * 1000),
-                         Unit.NM) if off else None
+        if not values or any(each.terms for each in values):
+            return None
+        off = max(Fraction(abs(each.number)) for each in values)
+        return Deviation(number, self.drawing.constraints[number - 1], whole_up(off * 1000), Unit.NM)
 
 
 def _then(asked: Trial) -> Then:
