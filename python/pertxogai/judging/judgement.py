@@ -59,7 +59,9 @@ class Judgement:
     of one point that it is itself. unsized: where it is placed, the circles of which neither a
     dimension nor the places tell the size. tried: where it is well and has no places, or some that
     don't meet a constraint, what came of other choices of the steps of its construction. limit:
-    within what each constraint has to hold."""
+    within what each constraint has to hold. unmet: where it has no places, nothing is missing or too
+    many by rank, and no shape is found near the drawn one by numbers, the constraints without one
+    of which there is one; None where that isn't so, or wasn't asked for."""
 
     verdict: Verdict
     asked: Trial
@@ -74,6 +76,7 @@ class Judgement:
     unsized: tuple[str, ...] = ()
     tried: Tried | None = None
     limit: Limit = Limit()
+    unmet: tuple[str, ...] | None = None
 
     @property
     def style(self) -> Style:
@@ -259,13 +262,11 @@ def _greatest(judged: Judgement) -> int:
 
 
 def weighed(judged: Judgement, program: Solver) -> Judgement:
-    """The judgement with each dimension that may go tried, and measured on the rest; of what is open
-    and has no shape, with what isn't met. Raises as `judge_at_once`."""
+    """The judgement with each dimension that may go tried, and measured on the rest; of what isn't
+    over and has no shape, with what isn't met. Raises as `judge_at_once`."""
     drawing = judged.names.drawing
-    if judged.missing is not None:
-        return replace(judged, missing=replace(judged.missing, unmet=unmet(drawing)))
     if judged.verdict is not Verdict.OVER:
-        return judged
+        return judged if judged.solution is not None else replace(judged, unmet=unmet(drawing))
     return replace(judged, surplus=what_may_go(Question(drawing, program, judged.limit), judged.asked),
                    loose=loose(judged.names))
 

@@ -50,16 +50,13 @@ class Missing:
     that merging doesn't find. `joints`: each piece but the first, with one before it that it hangs
     at, where there is one. `whole`: how all of it may still be moved against the datum, which
     isn't counted; None where that isn't known. `excess`: constraints of which one is too many all
-    the same, by rank: it says what the others say, or contradicts it. `unmet`: where nothing is
-    missing or too many by rank, and no shape is found near the drawn one by numbers, the
-    constraints without one of which there is one; None where that isn't so."""
+    the same, by rank: it says what the others say, or contradicts it."""
 
     count: int
     pieces: tuple[Piece, ...]
     joints: tuple[Joint, ...]
     whole: Whole | None = None
     excess: tuple[tuple[str, ...], ...] = ()
-    unmet: tuple[str, ...] | None = None
 
 
 def missing(names: Names, check: CheckReport, repeats: Collection[Owner] = ()) -> Missing:

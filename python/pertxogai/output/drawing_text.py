@@ -38,6 +38,7 @@ def drawing_json(judged: JudgedDrawing) -> dict[str, object]:
         "by_rank": _by_rank(judgement),
         "spare": [spare_json(each) for each in judgement.surplus],
         **_placed_json(judged),
+        "unmet": None if judgement.unmet is None else list(judgement.unmet),
         "warnings": [each.text() for each in judgement.warnings],
     }
 
@@ -50,7 +51,6 @@ def _by_rank(judgement: Judgement) -> dict[str, object]:
     return {"lacks": found.count if found else 0,
             "whole": whole.text() if whole else "",
             "excess": [list(each) for each in found.excess] if found else [],
-            "unmet": list(found.unmet) if found and found.unmet is not None else None,
             "loose": list(judgement.loose)}
 
 
@@ -122,6 +122,7 @@ def drawing_lines(judged: JudgedDrawing) -> Iterator[str]:
     yield from _lacks_lines(judgement)
     yield from _whole_lines(judgement)
     yield from _missing_lines(judgement)
+    yield from _unmet_lines(judgement)
     yield from _surplus_lines(judgement)
     yield from (f"  look: {warning.text()}" for warning in judgement.warnings)
 
@@ -198,10 +199,6 @@ def _missing_lines(judgement: Judgement) -> Iterator[str]:
         return
     yield from (f"  one is too many all the same, of: {', '.join(each)} (by rank)"
                 for each in lacks.excess)
-    if lacks.unmet is not None:
-        yield "  no shape is found near the drawn one that has these values (by numbers)"
-    if lacks.unmet:
-        yield f"  what to do: look at {', '.join(lacks.unmet)}; without one of them a shape is found"
     for piece in lacks.pieces:
         yield f"  piece {piece.number}: {' '.join(piece.elements)}"
     for joint in lacks.joints[:MOST_ADVICE]:
@@ -210,6 +207,15 @@ def _missing_lines(judgement: Judgement) -> Iterator[str]:
                f"{joint.tie.value}")
     if len(lacks.joints) > MOST_ADVICE:
         yield f"  and {len(lacks.joints) - MOST_ADVICE} more pairs of pieces"
+
+
+def _unmet_lines(judgement: Judgement) -> Iterator[str]:
+    """That no shape is found, and without what there is one."""
+    if judgement.unmet is not None:
+        yield "  no shape is found near the drawn one that has these values (by numbers)"
+    if judgement.unmet:
+        yield (f"  what to do: look at {', '.join(judgement.unmet)}; without one of them a shape is "
+               "found")
 
 
 def _surplus_lines(judgement: Judgement) -> Iterator[str]:
