@@ -3,11 +3,41 @@
 `pertxogai.language` has the lines of a sketch as values, `pertxogai.program` runs the program,
 `pertxogai.program.reports` reads what it answers. `drawing` and `spelling` do the same for a
 designer's own words, and `judging` asks and measures; `files` reads and writes those of other
-programs, `output` makes lines, JSON, pictures and DXF, `board` is the page in the browser.
+programs, `output` makes lines, JSON, pictures and DXF, `board` is the page in the browser. What
+most programs need of them is here too.
 
 Nothing here is proved, and nothing here decides: every verdict, place and tolerance is the
 program's.
 """
+from typing import TYPE_CHECKING
+
+from pertxogai import _former
+
+if TYPE_CHECKING:
+    from pertxogai.drawing import Drawing, read_drawing, write_drawing
+    from pertxogai.files import read_inputs
+    from pertxogai.judging import good_of, judge, judge_sketch
+    from pertxogai.language import Sketch
+    from pertxogai.output import picture_of_judged
+    from pertxogai.program import Program
 
 __version__ = "0.1.0"
 """The version of a release: of the program, the library, this package, the manual pages."""
+__all__ = ["Drawing", "Program", "Sketch", "good_of", "judge", "judge_sketch", "picture_of_judged",
+           "read_drawing", "read_inputs", "write_drawing"]
+
+_former.install()
+
+if not TYPE_CHECKING:  # A type checker reads the imports above, and knows each name.
+    _FOLDERS = {"Drawing": "drawing", "Program": "program", "Sketch": "language",
+                "good_of": "judging", "judge": "judging", "judge_sketch": "judging",
+                "picture_of_judged": "output", "read_drawing": "drawing", "read_inputs": "files",
+                "write_drawing": "drawing"}
+
+    def __getattr__(name):
+        """What a folder has by a name, imported once it is asked for."""
+        from importlib import import_module
+
+        if name not in _FOLDERS:
+            raise AttributeError(f"module 'pertxogai' has no attribute {name!r}")
+        return getattr(import_module(f"pertxogai.{_FOLDERS[name]}"), name)

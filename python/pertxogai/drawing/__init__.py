@@ -1,4 +1,5 @@
 """A designer's words: shapes, constraints, and the text `part.drawing` that keeps them."""
+from typing import TYPE_CHECKING
 
 from pertxogai.drawing.changes import moved
 from pertxogai.drawing.constraints import (
@@ -33,3 +34,8 @@ __all__ = ["Anchor", "AngleBetween", "AngleValue", "Arc", "Axis", "Circle", "Coi
            "checked", "ends_made_one", "faults", "line_of", "moved", "place_mm", "points_of",
            "polyline", "read_drawing", "rectangle", "run_um", "spot_of", "touch", "turn",
            "um_of_mm", "way", "words_of", "write_drawing"]
+
+if not TYPE_CHECKING:
+    from pertxogai._former import former_names
+
+    __getattr__ = former_names("drawing")
