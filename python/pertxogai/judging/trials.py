@@ -109,26 +109,36 @@ def _best_style(question: Question, spellings: Interpretation, quick: bool) -> T
     the program. What is open isn't asked again with its lines in another order: which parts remain
     doesn't depend on that, as is proved."""
     best: Trial | None = None
-    still_open: list[list[str]] = []
     axes = spellings.axes
-    twice = bool(axes.surplus() or axes.conflicts())
-    for rails, spelled in _styles(spellings, ONE_BY_ONE if twice else SOLVED_FIRST):
-        lines = sorted(spelled.sketch.text().splitlines())
-        if lines in still_open:
+    twice = any((axes.surplus(), axes.conflicts()))
+    for trial in _trials(question, spellings, ONE_BY_ONE if twice else SOLVED_FIRST):
+        if twice and trial.verdict is Verdict.WELL:
             continue
-        asked = placed(_ask(question, rails, spelled, Care()), question.program)
-        if asked.verdict is Verdict.OPEN and not asked.grown:
-            still_open.append(lines)
-        if twice and asked.verdict is Verdict.WELL:
-            continue
-        if isinstance(asked.solved, Solved) or (
-                quick and twice and asked.verdict is Verdict.OVER):
-            return asked
-        if best is None or _worth(asked) > _worth(best):
-            best = asked
+        if _is_enough(trial, quick and twice):
+            return trial
+        best = trial if best is None else max(best, trial, key=_worth)
     if best is not None and (best.verdict is Verdict.OVER or not twice):
         return best
     return placed(ask(question, axes, Style.VALUES, Care(insist=True)), question.program)
+
+
+def _is_enough(trial: Trial, over_will_do: bool) -> bool:
+    """Whether no other style has to be tried."""
+    return isinstance(trial.solved, Solved) or over_will_do and trial.verdict is Verdict.OVER
+
+
+def _trials(question: Question, spellings: Interpretation,
+            styles: Sequence[Style]) -> Iterator[Trial]:
+    """What comes of each style, but for those with the lines of one that was open before."""
+    still_open: list[list[str]] = []
+    for rails, spelled in _styles(spellings, styles):
+        lines = sorted(spelled.sketch.text().splitlines())
+        if lines in still_open:
+            continue
+        trial = placed(_ask(question, rails, spelled, Care()), question.program)
+        if trial.verdict is Verdict.OPEN and not trial.grown:
+            still_open.append(lines)
+        yield trial
 
 
 def _styles(spellings: Interpretation, styles: Sequence[Style]) -> Iterator[tuple[Rails, Spelled]]:

@@ -129,19 +129,27 @@ class Session:
 def _line(words: Sequence[str]) -> SessionLine | None:
     """The line of words, None for the `end`. Raises Faulty."""
     first = words[0]
-    asks = [ask for ask in Ask if ask.value == first]
-    if not asks and first not in _COUNTS:
+    ask = next((each for each in Ask if each.value == first), None)
+    if ask is None and first not in _COUNTS:
         check_shape(words, 2)
         return read_element(words, None) if is_element(words) else read_constraint(words, None)
-    if len(words) != (1 if asks else _COUNTS[first]):
+    if len(words) != (1 if ask else _COUNTS[first]):
         raise Faulty(Code.E3)
-    if asks:
-        return asks[0]
-    if first == "erase" and not is_name(words[1]):
-        raise Faulty(Code.E4)
-    if first in ("end", "erase"):
-        return Erase(words[1]) if first == "erase" else None
-    return Drop(_number(words[1])) if first == "drop" else _set(words)
+    return ask or _edit(words)
+
+
+def _edit(words: Sequence[str]) -> SessionLine | None:
+    """The edit of as many words as it has, None for the `end`. Raises Faulty."""
+    match words[0]:
+        case "end":
+            return None
+        case "erase":
+            if not is_name(words[1]):
+                raise Faulty(Code.E4)
+            return Erase(words[1])
+        case "drop":
+            return Drop(_number(words[1]))
+    return _set(words)
 
 
 def _set(words: Sequence[str]) -> SetLength | SetRatio:

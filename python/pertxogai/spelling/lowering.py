@@ -64,10 +64,7 @@ def _redrawn(drawing: Drawing, before: Drawing, facts: Facts) -> Facts | None:
     where it differs otherwise, or something says another thing than there, as a shape that is
     given from outside."""
     elsewhere = moved(drawing, before)
-    if elsewhere is None or drawing.constraints != before.constraints or any(
-            shape.outer and shape.name in elsewhere for shape in drawing.geometry) or any(
-            isinstance(each, AngleBetween) and each.sense is Sense.SIGNED
-            for each in drawing.constraints):
+    if elsewhere is None or not _asks_the_same(drawing, before, elsewhere):
         return None
     there = {knot for ref, knot in facts.refs.items() if ref.shape in elsewhere}
     refs = {ref: knot for ref, knot in facts.refs.items() if knot in there}
@@ -79,6 +76,15 @@ def _redrawn(drawing: Drawing, before: Drawing, facts: Facts) -> Facts | None:
             if now != then:
                 return None
     return found
+
+
+def _asks_the_same(drawing: Drawing, before: Drawing, elsewhere: frozenset[str]) -> bool:
+    """Whether a drawing has the constraints of the one before, none of its shapes that are drawn
+    elsewhere is given from outside, and no angle has a sign, which is by what is drawn."""
+    return (drawing.constraints == before.constraints
+            and not any(shape.outer and shape.name in elsewhere for shape in drawing.geometry)
+            and not any(isinstance(each, AngleBetween) and each.sense is Sense.SIGNED
+                        for each in drawing.constraints))
 
 
 class _Lowering:

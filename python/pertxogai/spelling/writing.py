@@ -346,15 +346,7 @@ class Writer:
             self._tie(mine[number])
 
     def _tie(self, tracks: list[Track]) -> None:
-        group = {track: track for track in tracks}
-        base = tracks[0]
-        for track in tracks:
-            if track in self.axes.facts.implied and track != base:
-                group[_leader(group, track)] = _leader(group, base)
-        for first, second, lean, owner in self._near_ties(tracks):
-            if _leader(group, first) != _leader(group, second):
-                group[_leader(group, second)] = _leader(group, first)
-                self._angle(first, second, lean, said_by({owner}))
+        base, group = tracks[0], self._tied(tracks)
         other = next((each for each in tracks if self._lean(each) != self._lean(base)), None)
         if other is not None and _leader(group, other) != _leader(group, base):
             self._tie_to(group, base, other)
@@ -367,6 +359,20 @@ class Writer:
                 self._tie_to(group, other, track)
             else:
                 self._square_help(base, track)
+
+    def _tied(self, tracks: list[Track]) -> dict[Track, Track]:
+        """The tracks in groups, each with another of its own or itself: those of which the
+        directions follow from others, and those of which they are told of each other, which are
+        tied by these."""
+        group, base = {track: track for track in tracks}, tracks[0]
+        for track in tracks:
+            if track in self.axes.facts.implied and track != base:
+                group[_leader(group, track)] = _leader(group, base)
+        for first, second, lean, owner in self._near_ties(tracks):
+            if _leader(group, first) != _leader(group, second):
+                group[_leader(group, second)] = _leader(group, first)
+                self._angle(first, second, lean, said_by({owner}))
+        return group
 
     def _tie_to(self, group: dict[Track, Track], base: Track, track: Track) -> None:
         group[_leader(group, track)] = _leader(group, base)
