@@ -146,6 +146,18 @@ def test_the_sides_of_all_axes_count(monkeypatch) -> None:
     assert slot.redrawn(slot.said) is None
 
 
+@pytest.mark.parametrize("y_um", [(Fraction(-1, 2), -30_000), (-30_000, Fraction(-1, 2))])
+def test_a_line_of_the_datum_that_goes_comes_again(y_um: tuple[Fraction, Fraction]) -> None:
+    """The triangle's last corner is told to lie 3 mm below the x axis. Half a micrometre below it,
+    it is drawn on neither side, and the axis is no line of the sketch."""
+    then, now = (read_drawing(
+        f"segment A 0 0 40 2\nsegment B A.end 38 {float(each) / 1000:.4f}\n"
+        "segment C B.end A.start\nlength A 40\nlength B 30\nlength C 45\n"
+        "coincident A.start Origin\ny B.end -3\n") for each in y_um)
+    spelled(then)
+    assert spelled(now, then) == spelled(read_drawing(write_drawing(now)))
+
+
 def test_readings_that_are_read_again_are_the_same() -> None:
     """What was spelled of a drawing before doesn't pile up."""
     drawing = read_drawing(PLATE)

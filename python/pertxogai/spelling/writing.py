@@ -149,12 +149,12 @@ class Writer:
 
     def write_as(self, other: Writer) -> bool:
         """Fills the sheet as another was filled, of axes that differ by where things are drawn
-        alone; False where that has help, or a dimension runs another way than is drawn now, which
-        asks for help, or makes one of the datum's lines idle."""
+        alone; False where that has help, where a dimension runs another way than is drawn now,
+        which asks for help, and where a point crosses a line of the datum, which may go then."""
         self.names, self.points, self.bars = other.names, other.points, other.bars
         self._settle_ways(other.sheet.lines)
         if (not other._has_no_help() or any(map(self._runs_back, self.rails.runs))
-                or not self.crossed.isdisjoint(self._datum_lines())):
+                or not self._datum_lines().isdisjoint(self.crossed | other.crossed)):
             return False
         self.left_out, self.coarse = other.left_out, other.coarse
         self.sheet.drafts, self.sheet.told = other.sheet.drafts, other.sheet.told
@@ -673,15 +673,15 @@ class Writer:
         self._say(*names, said_by(circuit), value + more)
         self._say(*names, said_by(equation.owners), again + more)
 
-    def _datum_lines(self) -> list[Track]:
+    def _datum_lines(self) -> set[Track]:
         """The two lines that tell the datum's directions, or as many as there are."""
-        return [track for track in list(self.names)[:2] if self._frame(track).number == DATUM]
+        return {track for track in list(self.names)[:2] if self._frame(track).number == DATUM}
 
     def _drop_idle(self) -> None:
         """Takes away lines that hold nothing: with two constraints at most, of which one at most
         is an angle. The datum's stay, but for those over which a point is told on another side than
         it is drawn: places are turned by what is told of that."""
-        kept = {self.names[track] for track in self._datum_lines() if track not in self.crossed}
+        kept = {self.names[track] for track in self._datum_lines() - self.crossed}
         holding: dict[str, list[Draft]] = {}
         for draft in self.sheet.drafts:
             for name in draft.names():
