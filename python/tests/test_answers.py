@@ -11,7 +11,7 @@ from pertxogai.drawing import PointRef, Which, read_drawing
 from pertxogai.judging import DepartureKind, DrawingRefused, Then, Tie, judge
 from pertxogai.judging.departures import warnings
 from pertxogai.judging.faults import Unit as Measure
-from pertxogai.judging.measure import Solution, Unit
+from pertxogai.judging.measure import Limit, Solution, Unit
 from pertxogai.output.drawing_text import JudgedDrawing, drawing_json, drawing_lines
 from pertxogai.program.reports import Verdict, read_excess
 from pertxogai.spelling import Style
@@ -402,3 +402,64 @@ def test_json_tells_what_is_left_out_and_what_of_it_holds(program):
 ])
 def test_what_is_told_from_one_axis_alone_is_judged(program, text, verdict):
     assert judge(read_drawing(text), program).verdict is verdict
+
+
+@pytest.mark.parametrize("text, names", [
+    # 98.19 along x, and 78.8 in all.
+    ("point P 20 30\npoint Q 100 47\nAlong: x P Q +98.19\nFar: distance P Q 78.8\n", ["Along", "Far"]),
+    # 22 and 5 are less than 32.17; how the points lie to the axis has no part in it.
+    ("point P1 13.65 24.93\npoint P2 -12.17 24.75\nsegment S3 P2 -37.87 46.14\nsegment S4 S3.end -7.44 21.3\n"
+     "symmetric P1 P2 about YAxis\nangle S3 +137deg\nOne: distance P1 S4.end 22\nOther: distance P2 S4.end 5\n"
+     "length S3 33.908\nBase: distance P1 P2 32.17\n", ["One", "Other", "Base"]),
+    # A chain of 40, 30 and 40 doesn't reach over 200; whatever turn one edge has to another.
+    ("segment S 0 0 40 1\nsegment T S.end 40 30\nsegment U T.end 2 31\nsegment V U.end S.start\n"
+     "A: length S 40\nB: length T 30\nC: length U 40\nD: length V 200\nangle S U 10deg\n", ["A", "B", "C", "D"]),
+    # A rhombus with sides of 20 is at most 40 across.
+    ("segment S 0 0 40 1\nsegment T S.end 40 40\nsegment U T.end 0 41\nsegment V U.end S.start\n"
+     "equal S T U V\nSide: length S 20\nAcross: distance S.start T.end 50\n", ["Side", "Across"]),
+])
+def test_what_has_no_shape_says_without_what_there_is_one(program, text, names):
+    found = judge(read_drawing(text), program)
+    assert found.verdict is not Verdict.OVER and found.solution is None
+    assert set(names) <= set(found.unmet)
+    lines = list(drawing_lines(JudgedDrawing("it", read_drawing(text), found)))
+    assert "  no shape is found near the drawn one that has these values (by numbers)" in lines
+    assert not any("share" in line for line in lines)
+
+
+def test_what_is_rigid_in_another_way_has_a_shape(program):
+    """Two triangles and three bars between them."""
+    text = ("point A 0 0\npoint B 30 0\npoint C 12 25\npoint D 5 60\npoint E 38 66\npoint F 20 95\n"
+            "distance A B 30\ndistance B C 31\ndistance C A 28\ndistance D E 33\ndistance E F 34\n"
+            "distance F D 38\ndistance A D 60\ndistance B E 66\ndistance C F 70\n")
+    found = judge(read_drawing(text), program)
+    assert found.verdict is Verdict.OPEN and found.missing.count == 0
+    assert found.unmet is None and found.missing.joints == ()
+
+
+@pytest.mark.parametrize("text, lacks", [
+    ("segment S 0 0 40 1\nsegment T S.end 40 40\nsegment U T.end 0 41\nsegment V U.end S.start\n"
+     "equal S T U V\n", 2),
+    ("segment A 0 0 0 40\nsegment B A.end -70 41\npoint P 0 39\npoint Q 20 41\non P A\non P B\non Q B\n"
+     "distance Q A 20\n", 3),
+])
+def test_no_more_pairs_of_pieces_are_named_than_dimensions_are_lacking(program, text, lacks):
+    found = judge(read_drawing(text), program)
+    assert found.missing.count == lacks == len(found.missing.joints)
+
+
+@pytest.mark.parametrize("amount, repeats", [(1000, False), (6000, True), (4999, False)])
+def test_the_limit_tells_a_repeat_from_a_contradiction(program, amount, repeats):
+    text = PLATE + "Again: x PlateBottom.end 60.005\n"
+    found = judge(read_drawing(text), program, limit=Limit(amount))
+    again = next(each for each in found.surplus if each.name == "Again")
+    assert (again.off.amount, again.repeats()) == (5000, repeats)
+
+
+def test_what_is_untried_is_listed_all_the_same(program, monkeypatch):
+    monkeypatch.setattr("pertxogai.judging.surplus.WORK", 20)
+    text = PLATE + "Again: x PlateBottom.end 60.005\n"
+    found = judge(read_drawing(text), program)
+    assert {"Width", "Again"} <= {each.name for each in found.surplus}
+    assert any(each.then is None and each.off is None for each in found.surplus)
+    assert any(each.then is Then.WELL for each in found.surplus)

@@ -13,9 +13,9 @@ from decimal import Decimal, localcontext
 from functools import cached_property
 
 from pertxogai.cached import cached_on
-from pertxogai.drawing import Drawing, PointRef
+from pertxogai.drawing import Distance, Drawing, PointRef
 from pertxogai.judging.equations import Plane
-from pertxogai.judging.jets import EXACT, Rows, Steps, TooMany, unit_row
+from pertxogai.judging.jets import EXACT, Jet, Rows, Steps, TooMany, unit_row
 from pertxogai.judging.like_places import like_places
 from pertxogai.spelling.facts import Owner
 
@@ -67,13 +67,14 @@ class Freedoms:
     """lacks: how many freedoms are left at least beside those of the whole. loose: the points that
     are free by themselves. owners: who asks each equation. circuits: each set of equations of which
     one follows from the others, with their factors; of such sets these are as many as equations
-    are too many, and all others are sums of them."""
+    are too many, and all others are sums of them. plane: where they were counted."""
 
     lacks: int
     whole: Whole
     loose: tuple[Loose, ...]
     owners: tuple[Owner, ...]
     circuits: tuple[Row, ...]
+    plane: Plane[Decimal]
 
     @property
     def excess(self) -> int:
@@ -160,7 +161,24 @@ def _counted(plane: Plane[Decimal], steps: Steps) -> Freedoms | None:
     whole = _whole(plane, slopes)
     lacks = plane.unknowns.size - len(rows) - whole.ways
     return Freedoms(lacks, whole, tuple(_loose(plane, slopes)),
-                    tuple(owner for owner, _ in asked), tuple(circuits))
+                    tuple(owner for owner, _ in asked), tuple(circuits), plane)
+
+
+def new_distances(free: Freedoms, told: Iterable[Sequence[Distance]]) -> Iterator[bool]:
+    """Of each list of distances, whether one of them says something new beside all that is said and
+    the lists before. Raises TooMany."""
+    with localcontext(EXACT):
+        rows = Rows[Decimal](NONE)
+        for _, jet in free.plane.all():
+            _add(rows, jet)
+        for distances in told:
+            yield any([_add(rows, jet) for each in distances for jet in free.plane.asked(each)])
+
+
+def _add(rows: Rows[Decimal], jet: Jet[Decimal]) -> bool:
+    """Whether a number says something new."""
+    row = unit_row(jet.slope)
+    return row is not None and rows.add(row)[0] > NONE
 
 
 def rank(rows: Iterable[Row]) -> int:

@@ -2,12 +2,14 @@
 pieces."""
 from __future__ import annotations
 
-from collections.abc import Collection
+from collections.abc import Collection, Sequence
 from dataclasses import dataclass
 from enum import Enum
+from fractions import Fraction
 
-from pertxogai.drawing import Drawing
-from pertxogai.judging.freedoms import Whole, freedoms
+from pertxogai.drawing import Distance, Drawing
+from pertxogai.drawing.places import UM_PER_MM
+from pertxogai.judging.freedoms import Freedoms, Whole, freedoms, new_distances
 from pertxogai.judging.jets import Steps, TooMany
 from pertxogai.judging.like_places import has_shape
 from pertxogai.judging.naming import Names
@@ -23,6 +25,10 @@ class Tie(Enum):
     LONE_PAIR = "loose: give a dimension between them"
     HINGE = "they turn about a point: give an angle, or a distance between points of both"
     SLIDE = "they slide along a line: give a distance between points of both, not across that line"
+
+
+DIMENSIONS = {Tie.LOOSE: 3, Tie.LONE: 2, Tie.LONE_PAIR: 1, Tie.HINGE: 1, Tie.SLIDE: 1}
+"""How many dimensions tie two pieces."""
 
 
 @dataclass(frozen=True)
@@ -48,7 +54,7 @@ class Missing:
     """At least `count` dimensions are missing, by the rank of what the drawing says, sizes of
     circles among them; 0 where it isn't known that one is, as where the drawing is rigid in a way
     that merging doesn't find. `joints`: each piece but the first, with one before it that it hangs
-    at, where there is one. `whole`: how all of it may still be moved against the datum, which
+    at, where there is one, and where by rank a dimension is lacking between them. `whole`: how all of it may still be moved against the datum, which
     isn't counted; None where that isn't known. `excess`: constraints of which one is too many all
     the same, by rank: it says what the others say, or contradicts it."""
 
@@ -72,7 +78,29 @@ def missing(names: Names, check: CheckReport, repeats: Collection[Owner] = ()) -
     numbers = {owner.number for owner in repeats if not owner.shape}
     excess = tuple(names.owners(owner for owner in each if not owner.shape)
                    for each in free.too_many(numbers))
-    return Missing(free.lacks, shown_pieces, joints, free.whole, tuple(filter(None, excess)))
+    return Missing(free.lacks, shown_pieces, _lacking(names, check.parts, joints, free), free.whole,
+                   tuple(filter(None, excess)))
+
+
+def _lacking(names: Names, parts: Sequence[Part], joints: Sequence[Joint],
+             free: Freedoms) -> tuple[Joint, ...]:
+    """The joints that a dimension is lacking at, by rank, once those before them have theirs."""
+    elements = {part.number: part.elements for part in parts}
+    told = [_distances(names, elements[each.first.number], elements[each.second.number],
+                       DIMENSIONS[each.tie]) for each in joints]
+    try:
+        return tuple(joint for joint, is_new in zip(joints, new_distances(free, told)) if is_new)
+    except (TooMany, ArithmeticError):
+        return tuple(joints)
+
+
+def _distances(names: Names, first: Sequence[str], second: Sequence[str],
+               count: int) -> list[Distance]:
+    """So many distances at most between points of two parts that aren't in both."""
+    ends = [[names.point(each) for each in mine if each not in other]
+            for mine, other in ((first, second), (second, first))]
+    pairs = [(one, other) for one in ends[0] if one for other in ends[1] if other]
+    return [Distance(one, other, Fraction(UM_PER_MM)) for one, other in pairs[:count]]
 
 
 def unmet(drawing: Drawing) -> tuple[str, ...] | None:
