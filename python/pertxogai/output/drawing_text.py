@@ -173,7 +173,7 @@ def _failure_lines(judgement: Judgement) -> Iterator[str]:
     yield from (f"  {line}" for line in tried_lines(
         sketch, judgement.tried, named,
         "no other choice of the steps beneath has places that meet all of it"))
-    if failure.dimensions:
+    if failure.dimensions and not judgement.unmet:
         yield f"  what to do: look at {', '.join(failure.dimensions)}"
 
 
