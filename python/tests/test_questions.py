@@ -7,7 +7,7 @@ from dataclasses import dataclass, field
 import pytest
 
 from pertxogai.drawing import read_drawing
-from pertxogai.judging import judge
+from pertxogai.judging import Then, judge
 from pertxogai.judging.measure import Limit
 from pertxogai.program import Answer, Solver
 from pertxogai.program.reports import Verdict
@@ -89,3 +89,14 @@ def test_the_program_is_not_asked_the_same_twice(program):
         f"distance {one} {other} {length}\n" for one, other, length in lengths)
     assert judge(read_drawing(text), Notes()).verdict is Verdict.OVER
     assert len(said) == len(set(said)) > 1
+
+
+def test_lines_that_stand_there_twenty_times_are_weighed_by_few_questions(program):
+    """A bar of 40, told 21 times; without 20 of these nothing is said twice."""
+    counts = Counts(program)
+    text = "point A 0 0\npoint B 40 0\ncoincident A Origin\non B XAxis\n" + 21 * "distance A B 40\n"
+    found = judge(read_drawing(text), counts)
+    assert found.verdict is Verdict.OVER
+    assert [each.number for each in found.surplus] == list(range(3, 24))
+    assert all(each.repeats() and each.then is Then.OVER for each in found.surplus)
+    assert len(counts.asked) <= 40

@@ -156,7 +156,8 @@ class Plane(Generic[N]):
             owner = Owner(number, True)
             if isinstance(shape, Arc):
                 arc = ShapeRef(shape.name)
-                yield owner, self.size(between(self.centre(arc), self.ends(arc)[1])) - self.radius(arc)
+                last = between(self.centre(arc), self.ends(arc)[1])
+                yield owner, self.size(last) - self.radius(arc)
             if shape.outer:
                 yield from ((owner, jet) for jet in self._stays(shape))
 
@@ -197,7 +198,8 @@ class Plane(Generic[N]):
             case PointOn(point, curve) if self.is_line(curve):
                 return [self.aside(self.spot(point), curve)]
             case PointOn(point, curve):
-                return [self.size(between(self.centre(curve), self.spot(point))) - self.radius(curve)]
+                way = between(self.centre(curve), self.spot(point))
+                return [self.size(way) - self.radius(curve)]
             case Midpoint(point, segment):
                 return list(between(self._middle(*self.ends(segment)), self.spot(point)))
             case Symmetric(first, second, PointRef() as about):

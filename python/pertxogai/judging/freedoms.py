@@ -94,17 +94,25 @@ class Freedoms:
         """How many equations a constraint asks."""
         return len(self._rows.get(number, ()))
 
+    @cached_property
+    def _factors(self) -> Mapping[int, Row]:
+        """The factors of each equation in the circuits, by their places; the greatest is 1."""
+        found: dict[int, dict[int, Decimal]] = {}
+        for number, circuit in enumerate(self.circuits):
+            for place, value in circuit.items():
+                found.setdefault(place, {})[number] = value
+        with localcontext(EXACT):
+            return {place: unit_row(row) or row for place, row in found.items()}
+
+    def factors(self, number: int) -> list[Row]:
+        """Those of the equations of a constraint that are in circuits."""
+        return [self._factors[place] for place in self._rows.get(number, ())
+                if place in self._factors]
+
     def fewer(self, gone: Collection[int]) -> int:
         """How many fewer equations are too many without some constraints."""
-        rows = Rows[Decimal](NONE)
         with localcontext(EXACT):
-            for number in gone:
-                for place in self._rows.get(number, ()):
-                    row = unit_row({each: circuit[place] for each, circuit
-                                    in enumerate(self.circuits) if place in circuit})
-                    if row is not None:
-                        rows.add(row)
-        return len(rows)
+            return rank(row for number in gone for row in self.factors(number))
 
     def freed(self, gone: Collection[int]) -> int:
         """How much more is free without some constraints."""
@@ -162,6 +170,34 @@ def _counted(plane: Plane[Decimal], steps: Steps) -> Freedoms | None:
     lacks = plane.unknowns.size - len(rows) - whole.ways
     return Freedoms(lacks, whole, tuple(_loose(plane, slopes)),
                     tuple(owner for owner, _ in asked), tuple(circuits), plane)
+
+
+class Gone:
+    """Constraints that go one after the other, so that ever fewer equations are too many."""
+
+    def __init__(self, free: Freedoms) -> None:
+        self.numbers: list[int] = []
+        self._free = free
+        self._rows = Rows[Decimal](NONE)
+
+    def take(self, number: int, may_free: bool) -> bool:
+        """Takes a constraint without which fewer are too many; where more may not be free, only if
+        nothing more is."""
+        rows = self._rows.copy()
+        with localcontext(EXACT):
+            fewer = sum(rows.add({**row, -1 - number: Decimal(1)})[0] > NONE
+                        for row in self._free.factors(number))
+        if not fewer or fewer < self._free.equations(number) and not may_free:
+            return False
+        self.numbers.append(number)
+        self._rows = rows
+        return True
+
+    def instead(self, number: int) -> set[int]:
+        """Those of which one may stay where another goes."""
+        with localcontext(EXACT):
+            rest = self._rows.reduced(self._free.factors(number)[0])
+        return {-1 - key for key, value in rest.items() if key < 0 and abs(value) > SOME}
 
 
 def new_distances(free: Freedoms, told: Iterable[Sequence[Distance]]) -> Iterator[bool]:
@@ -243,7 +279,7 @@ def _whole(plane: Plane[Decimal], slopes: Sequence[Row]) -> Whole:
 
 
 def _motions(plane: Plane[Decimal]) -> tuple[Row, Row, Row]:
-    """A shift along x, one along y, and a turn about the origin: by how much the unknowns change."""
+    """A shift along x, one along y, and a turn about the origin: how each changes the unknowns."""
     right, up, turn = dict[int, Decimal](), dict[int, Decimal](), dict[int, Decimal]()
     for place in plane.unknowns.points.values():
         right[place] = up[place + 1] = Decimal(1)

@@ -126,7 +126,7 @@ class Rows(Generic[N]):
     def add(self, row: Slope[N]) -> tuple[N, dict[int, N]]:
         """Takes a row whose greatest entry is 1. How much of it is left, and that; where it is less
         than `zero`, the row isn't kept. Raises TooMany."""
-        rest = self._reduced(row)
+        rest = self.reduced(row)
         pivot = max((key for key in rest if key >= 0), key=lambda key: abs(rest[key]), default=-1)
         left = abs(rest[pivot]) if pivot >= 0 else self._zero * 0
         if left > self._zero:
@@ -135,7 +135,7 @@ class Rows(Generic[N]):
             self._rows.append((pivot, _times(rest, unit)))
         return left, rest
 
-    def _reduced(self, row: Slope[N]) -> dict[int, N]:
+    def reduced(self, row: Slope[N]) -> dict[int, N]:
         """What is left of a row without the pivots of the others, the earlier before the later."""
         rest, order = dict(row), self._order
         self._steps.take(STEPS_A_ROW)
@@ -154,6 +154,12 @@ class Rows(Generic[N]):
                     if key in order:
                         heappush(waiting, order[key])
         return rest
+
+    def copy(self) -> Rows[N]:
+        """The same rows, to which others may be added."""
+        other = Rows(self._zero, self._steps)
+        other._order, other._rows = dict(self._order), list(self._rows)
+        return other
 
     def solved(self, right: int) -> dict[int, N]:
         """The values of the pivots by which each row comes to what its key `right` says, where all

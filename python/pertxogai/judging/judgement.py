@@ -51,17 +51,17 @@ class Judgement:
     """The program's verdict on a drawing and all that goes with it.
 
     style: how it was spelled. pieces and missing: where it is open. surplus: where it is over,
-    each dimension that may go; loose: what is lacking all the same. solution: where it is placed, in the datum's frame, in whole
-    nanometres; place: by boxes or by points. failure: why it isn't, though it is well. deviations:
-    of each constraint on those places. left_out: constraints that couldn't be spelled. frozen:
-    those left to their drawn values, to be measured. rounded: those of which the value had to be
-    rounded. grown: those told by a value that was read off a placed part. repeats: those that tell
-    of one point that it is itself. unsized: where it is placed, the circles of which neither a
-    dimension nor the places tell the size. tried: where it is well and has no places, or some that
-    don't meet a constraint, what came of other choices of the steps of its construction. limit:
-    within what each constraint has to hold. unmet: where it has no places, nothing is missing or too
-    many by rank, and no shape is found near the drawn one by numbers, the constraints without one
-    of which there is one; None where that isn't so, or wasn't asked for."""
+    each dimension that may go; loose: what is lacking all the same. solution: where it is placed,
+    in the datum's frame, in whole nanometres; place: by boxes or by points. failure: why it isn't,
+    though it is well. deviations: of each constraint on those places. left_out: constraints that
+    couldn't be spelled. frozen: those left to their drawn values, to be measured. rounded: those of
+    which the value had to be rounded. grown: those told by a value that was read off a placed part.
+    repeats: those that tell of one point that it is itself. unsized: where it is placed, the
+    circles of which neither a dimension nor the places tell the size. tried: where it is well and
+    has no places, or some that don't meet a constraint, what came of other choices of the steps of
+    its construction. limit: within what each constraint has to hold. unmet: where it has no places,
+    nothing is missing or too many by rank, and no shape is found near the drawn one by numbers, the
+    constraints without one of which there is one; None where that isn't so, or wasn't asked for."""
 
     verdict: Verdict
     asked: Trial
@@ -267,8 +267,8 @@ def weighed(judged: Judgement, program: Solver) -> Judgement:
     drawing = judged.names.drawing
     if judged.verdict is not Verdict.OVER:
         return judged if judged.solution is not None else replace(judged, unmet=unmet(drawing))
-    return replace(judged, surplus=what_may_go(Question(drawing, program, judged.limit), judged.asked),
-                   loose=loose(judged.names))
+    question = Question(drawing, program, judged.limit)
+    return replace(judged, surplus=what_may_go(question, judged.asked), loose=loose(judged.names))
 
 
 __all__ = ["Judgement", "Surplus", "judge", "judge_at_once", "weighed", "with_choices",

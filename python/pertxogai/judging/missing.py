@@ -54,9 +54,10 @@ class Missing:
     """At least `count` dimensions are missing, by the rank of what the drawing says, sizes of
     circles among them; 0 where it isn't known that one is, as where the drawing is rigid in a way
     that merging doesn't find. `joints`: each piece but the first, with one before it that it hangs
-    at, where there is one, and where by rank a dimension is lacking between them. `whole`: how all of it may still be moved against the datum, which
-    isn't counted; None where that isn't known. `excess`: constraints of which one is too many all
-    the same, by rank: it says what the others say, or contradicts it."""
+    at, where there is one, and where by rank a dimension is lacking between them. `whole`: how all
+    of it may still be moved against the datum, which isn't counted; None where that isn't known.
+    `excess`: constraints of which one is too many all the same, by rank: it says what the others
+    say, or contradicts it."""
 
     count: int
     pieces: tuple[Piece, ...]

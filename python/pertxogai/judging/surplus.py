@@ -10,8 +10,9 @@ from enum import Enum
 from fractions import Fraction
 
 from pertxogai.drawing import ORIGIN, Coincident, Drawing
+from pertxogai.drawing.places import NM_PER_UM
 from pertxogai.exact import whole_up
-from pertxogai.judging.freedoms import Freedoms, freedoms
+from pertxogai.judging.freedoms import Freedoms, Gone, freedoms
 from pertxogai.judging.measure.deviation import Deviation, Unit, greatest
 from pertxogai.judging.measure.limit import Limit
 from pertxogai.judging.measure.measuring import measure
@@ -26,8 +27,9 @@ from pertxogai.spelling.facts import Owner
 
 CALLS = 1000
 """The most calls of the program for it."""
-WORK = 6000
-"""The most constraints, over all drawings that are tried; what is left is listed untried."""
+WORK, TRIAL = 4000, 30
+"""The most constraints, over all drawings that are tried, each of which counts as so many more;
+what is left is listed untried."""
 
 
 class Then(Enum):
@@ -167,38 +169,33 @@ class _Trials:
         too many beside it. Raises _Enough."""
         last = self._last(numbers)
         for number in numbers:
-            others = self._others(number, last)
-            self.found[number] = self._tried(number, others)
+            self.found[number] = self._tried(number, self._others(number, last))
 
-    def _last(self, numbers: Sequence[int]) -> list[int]:
+    def _last(self, numbers: Sequence[int]) -> Gone:
         """The last constraints without which nothing is said twice, and nothing more is free where
         there are such."""
-        gone: list[int] = []
-        for frees in (False, True):
+        gone = Gone(self.free)
+        for may_free in (False, True):
             for number in reversed(numbers):
-                more = [*gone, number]
-                if self.free.fewer(more) > self.free.fewer(gone) and (
-                        frees or self.free.freed(more) == self.free.freed(gone)):
-                    gone = more
+                if number not in gone.numbers:
+                    gone.take(number, may_free)
         return gone
 
-    def _others(self, number: int, last: Sequence[int]) -> frozenset[int]:
-        """Those of the last that have to go beside a constraint: the one nearest to it may stay, of
-        those that may; best so that nothing more is free."""
+    def _others(self, number: int, last: Gone) -> frozenset[int]:
+        """Those of the last that have to go beside a constraint, if it isn't enough: all but the
+        one nearest to it of those that may stay then."""
         if self.free.fewer([number]) == self.free.excess:
             return frozenset()
-        near = sorted(last, key=lambda other: abs(other - number))
-        rests = [frozenset(last) - {other, number} for other in near]
-        rests = [rest for rest in rests if self.free.fewer([number, *rest]) == self.free.excess]
-        return min(rests, key=lambda rest: self.free.freed([number, *rest]),
-                   default=frozenset(last) - {number})
+        stays = min(last.instead(number), key=lambda other: abs(other - number))
+        return frozenset(last.numbers) - {stays, number}
 
     def _tried(self, number: int, others: frozenset[int]) -> Surplus:
         """What is to be said of a constraint that goes beside others."""
         gone = others | {number}
         asked = self._without(gone)
         off = None
-        if asked.verdict is not Verdict.OVER and not self.free.freed(gone):
+        says = sum(map(self.free.equations, gone))
+        if asked.verdict is not Verdict.OVER and says == self.free.excess:
             off = self._off(number, gone, asked)
         then = Then.OVER if others else _then(asked)
         return Surplus(number, self.drawing.called(number), off, then, self.limit)
@@ -207,7 +204,7 @@ class _Trials:
         """What the program says of the drawing without some constraints. Raises _Enough."""
         if gone not in self._known:
             rest = without(self.drawing, gone)
-            self._work -= len(rest.constraints)
+            self._work -= TRIAL + len(rest.constraints)
             if self._work < 0 and self._known:
                 raise _Enough
             self._known[gone] = first_good(Question(rest, self.program, self.limit), quick=True)
@@ -233,8 +230,9 @@ class _Trials:
         values = [rest.reduced(each.form) for each in said if owner in each.owners]
         if not values or any(each.terms for each in values):
             return None
-        off = max(Fraction(abs(each.number)) for each in values)
-        return Deviation(number, self.drawing.constraints[number - 1], whole_up(off * 1000), Unit.NM)
+        off_um = max(max(each.number, -each.number) for each in values)
+        off_nm = whole_up(Fraction(off_um) * NM_PER_UM)
+        return Deviation(number, self.drawing.constraints[number - 1], off_nm, Unit.NM)
 
 
 def _then(asked: Trial) -> Then:
