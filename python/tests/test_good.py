@@ -309,12 +309,34 @@ def test_what_lies_mirrored_is_not_good(program):
 @pytest.mark.parametrize("words", [
     "angle A +60deg\nangle B -30deg\nlength A 40\nlength B 30\n",
     "horizontal A\nvertical B\nlength A 40\ny A.end B.end -30\n",
+    "horizontal A\nvertical B\nlength A 40\ny B.end -30\n",  # A begins in the origin.
+    "horizontal A\nperpendicular A B\nlength A 40\ny A.end B.end -30\n",
 ])
 def test_what_is_told_by_a_sign_is_not_mirrored(words, program):
     """The corner is drawn to turn to the left, and told to turn to the right."""
     found = judged("segment A 0 0 40 1\nsegment B A.end 50 31\ncoincident A.start Origin\n"
                    + words, program)
     assert lacks(found) == [] and found.judgement.warnings
+
+
+@pytest.mark.parametrize("side", ["Right", "Top"])
+def test_a_plate_that_is_told_to_lie_below_is_not_mirrored(side, program):
+    """It is drawn above the x axis. Its right edge's end is the top edge's start; the top edge's
+    end is as high, since that is horizontal."""
+    found = judged("rectangle Plate 0 0 61 39\ncoincident PlateBottom.start Origin\n"
+                   f"length PlateBottom 60\ny Plate{side}.end -40\n", program)
+    assert lacks(found) == []
+    assert found.judgement.solution.spot(PointRef("PlateRight", Which.END)) == (
+        60_000_000, -40_000_000)
+
+
+def test_a_sign_as_drawn_does_not_tell_that_a_plate_is_turned_over(program):
+    """Its right edge is told by a sign to be on the right, where it is drawn, and its top edge
+    without one to be 40 from the x axis: below it, the plate lies mirrored."""
+    found = judged("rectangle Plate 0 0 61 39\ncoincident PlateBottom.start Origin\n"
+                   "x PlateRight.end +60\ny PlateRight.end 40\n", program)
+    assert lacks(found) == []
+    assert mirrored_in_x(found) == [("PlateBottom", "PlateRight", "PlateTop", "PlateLeft")]
 
 
 class SaysMore:

@@ -11,10 +11,9 @@ from enum import Enum
 from fractions import Fraction
 from itertools import combinations
 
-from pertxogai.drawing import (
-    AngleBetween, Arc, Distance, Drawing, Horizontal, PointRef, Segment, Sense, ShapeRef, Vertical,
-    Which, XDistance, YDistance)
+from pertxogai.drawing import AngleBetween, Arc, Distance, Drawing, PointRef, Segment, Sense, Which
 from pertxogai.judging.measure.solution import Solution
+from pertxogai.judging.told_runs import ToldRuns
 
 PointNm = tuple[int, int]
 STRAIGHT_NM = 1000
@@ -114,21 +113,20 @@ def mirrored(drawing: Drawing, solution: Solution) -> Iterator[tuple[str, ...]]:
 
 def _by_signs(drawing: Drawing, edges: list[_Both]) -> set[tuple[int, int]]:
     """The corners of which the words tell the turn, whatever is drawn: words tell the directions of
-    both edges, and a sign which way one of them runs."""
-    directed, signed, ends = set[str](), set[str](), list[set[PointRef]]()
-    for each in drawing.constraints:
-        match each:
-            case Horizontal(ShapeRef(name)) | Vertical(ShapeRef(name)):
-                directed.add(name)
-            case AngleBetween(first, second):
-                directed |= {first.name, second.name}
-                signed |= {first.name, second.name} if each.sense is Sense.SIGNED else set()
-            case XDistance(one, other) | YDistance(one, other) if each.sense is Sense.SIGNED:
-                ends.append({drawing.meetings.leader(one), drawing.meetings.leader(other)})
-    signed |= {edge.name for edge in edges if _leaders(drawing, edge) in ends}
+    both edges, and signs which way both run, or that one runs against its drawn way."""
+    angles = [each for each in drawing.constraints if isinstance(each, AngleBetween)]
+    angled = {line.name for each in angles for line in (each.first, each.second)}
+    against = {line.name for each in angles if each.sense is Sense.SIGNED
+               for line in (each.first, each.second)}
+    told, signed = ToldRuns(drawing), set(against)
+    directed = angled | {edge.name for edge in edges if told.is_directed(edge.name)}
+    for edge in edges:
+        for run, drawn in zip(told.run(*edge.ends), edge.drawn.way):
+            signed |= {edge.name} if run else set()
+            against |= {edge.name} if run and run * drawn <= 0 else set()
     return {(first, second) for first, second in _pairs(drawing, edges)
-            if {edges[first].name, edges[second].name} <= directed
-            and not signed.isdisjoint((edges[first].name, edges[second].name))}
+            if (both := {edges[first].name, edges[second].name}) <= directed
+            and (both <= signed or not against.isdisjoint(both))}
 
 
 def _edges(drawing: Drawing, solution: Solution) -> list[_Both]:
