@@ -339,6 +339,14 @@ def test_a_sign_as_drawn_does_not_tell_that_a_plate_is_turned_over(program):
     assert mirrored_in_x(found) == [("PlateBottom", "PlateRight", "PlateTop", "PlateLeft")]
 
 
+def test_what_is_good_where_the_rank_is_not_counted(program, monkeypatch):
+    """No dimension is known to be missing then; that one is shows in the program's verdict."""
+    monkeypatch.setattr("pertxogai.judging.judgement.freedoms", lambda drawing: None)
+    found = judged(PLATE, program)
+    assert found.judgement.free is None and lacks(found) == []
+    assert lacks(judged(PLATE.replace("x Hole 30\n", ""), program)) == [Lack.VERDICT]
+
+
 class SaysMore:
     """A program that is told more than is asked, as by a fault of the spelling: how far the last
     point is from the y axis."""

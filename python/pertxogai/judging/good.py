@@ -80,9 +80,10 @@ class NotGood(Exception):
 class GoodJudgement:
     """A judgement on a drawing that is good: the program says well and places it, every point lies
     where that was printed, every constraint of the designer and all that the shapes imply is
-    measured within the limit, nothing of the file is left out, every size is told, by rank nothing
-    is missing, and no outline, or group of points held by distances, has each corner turned over,
-    unless words with a sign tell one. Making one of anything else raises NotGood."""
+    measured within the limit, nothing of the file is left out, every size is told, by rank no
+    dimension is known to be missing (the rank of a large drawing isn't counted), and no outline, or
+    group of points held by distances, has each corner turned over, unless words with a sign tell
+    one. Making one of anything else raises NotGood."""
 
     judged: JudgedDrawing
 
