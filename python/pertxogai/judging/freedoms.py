@@ -3,8 +3,9 @@ its equations.
 
 The rank is reckoned at a place at which its words hold but for lengths (`like_places`), and which
 has no pattern beside that: so it is the greatest that there is where they hold. Wherever all words
-hold, as many freedoms are left as there are unknowns more than that rank, or more. What says
-something twice there does so for lengths of any value. """
+hold, as many freedoms are left to the first order as there are unknowns more than that rank, or
+more. Such a freedom needn't be a motion: a chain that special lengths pull straight has one, and
+stays where it is. What says something twice there does so for lengths of any value. """
 from __future__ import annotations
 
 from collections.abc import Collection, Iterable, Iterator, Mapping, Sequence
