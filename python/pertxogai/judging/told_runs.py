@@ -51,10 +51,10 @@ class ToldRuns:
         self._leader = drawing.meetings.leader
         self._tied, self._quarters = Runs[str](), Runs[str]()
         self._along_x, self._along_y = Runs[PointRef](), Runs[PointRef]()
-        for first, second, quarters in _turns(drawing):
-            self._tied.tell(first, second, 0)
+        for line, other, quarters in _turns(drawing):
+            self._tied.tell(line, other, 0)
             if quarters is not None:
-                self._quarters.tell(first, second, quarters)
+                self._quarters.tell(line, other, quarters)
         for shape in drawing.geometry:
             if isinstance(shape, Segment):
                 self._level(shape.name, PointRef(shape.name, Which.END))
