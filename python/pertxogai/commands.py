@@ -36,7 +36,7 @@ from pertxogai.program import Program, ProgramError, Solver
 
 EPILOG = """exit status: 0 where all is good (the program says well and places it, every constraint is
 met within --within as it is measured, nothing is left out, every size is told, no dimension is
-known to be missing by rank, nothing lies mirrored against the drawing), or is drawn as it was asked
+known to be missing by rank, nothing is found to lie mirrored), or is drawn as it was asked
 for; 1 where something isn't, and a line says what; 2 where the words or a file can't be read, or
 nothing can be written; 3 where the program gave no answer. The program is found by --program, the
 variable PERTXOGAI_SKETCH, the repository's build, or the path."""

@@ -82,8 +82,10 @@ class GoodJudgement:
     where that was printed, every constraint of the designer and all that the shapes imply is
     measured within the limit, nothing of the file is left out, every size is told, by rank no
     dimension is known to be missing (the rank of a large drawing isn't counted), and no outline, or
-    group of points held by distances, has each corner turned over, unless words with a sign tell
-    one. Making one of anything else raises NotGood."""
+    group of points held by distances, with all that hangs together with it by a point, has each
+    corner turned over, unless words with a sign tell one. A mirrored piece that shares a point with
+    one that isn't isn't found, nor one of construction lines, nor a point held by distances from an
+    edge's ends. Making one of anything else raises NotGood."""
 
     judged: JudgedDrawing
 
