@@ -82,8 +82,9 @@ def _named(drawing: Drawing, numbers: Iterable[int]) -> tuple[Surplus, ...]:
 
 
 def _spare_by_rank(drawing: Drawing, free: Freedoms) -> list[int]:
-    """The constraints without which less is said twice; one without which a corner comes apart
-    only where there is no other."""
+    """The constraints without which less is said twice where all others hold but lengths; one
+    without which a corner comes apart only where there is no other. A direction that only holds
+    others straight says nothing twice, so it is none of these."""
     numbers = [number for number in range(1, len(drawing.constraints) + 1) if free.fewer([number])]
     others = [number for number in numbers
               if not (_is_corner(drawing, number) and free.freed([number]))]

@@ -237,11 +237,9 @@ def _advice_on(surplus: Sequence[Surplus]) -> Iterator[str]:
     if surplus and all(each.then is Then.OVER for each in surplus):
         yield "  what to do: none of these is enough by itself; take one away, and ask again"
     elif any(each.then is None for each in surplus):
-        yield ("  what to do: take one of these away, and ask again (what is needed by rank isn't "
-               "listed; the first were tried)")
+        yield "  what to do: take one of these away, and ask again (by rank; the first were tried)"
     elif surplus:
-        yield ("  what to do: take one of these away, and ask again (each was tried; what is needed "
-               "by rank isn't listed)")
+        yield "  what to do: take one of these away, and ask again (by rank; each was tried)"
 
 
 def _check(judgement: Judgement) -> CheckReport:
