@@ -1,4 +1,4 @@
-"""Import paths and names of 0.1.0, which work for one more release, and warn.
+"""Import paths and names of 0.1.0, but for some of the board, which work for one more release, and warn.
 
 A path is looked for here once it is found nowhere else: what it leads to hands on what the module at
 the new place has. Nothing is kept twice.
