@@ -10,12 +10,11 @@ from pertxogai.judging.judged_drawing import JudgedDrawing
 from pertxogai.output.drawing_text import drawing_json, drawing_lines
 from pertxogai.program.reports import Verdict
 
-MIDDLE = ("point P 0 0\npoint Q 40 0\npoint R 20 30\npoint M 20 0\n"
-          "segment A P Q\nsegment B P R\nsegment C R M\n"
-          "midpoint M A\nperpendicular A C\ndistance R A 37.5\nangle C B 37/50\n"
-          "distance Q C 30.193\n")
-"""R lies 37.5 above A, and M below it. From the angle P is 37.5 * 37/50 = 27.75 from M, and Q is
-30.193 from it: M isn't in the middle, whatever way that is told."""
+MIDDLE = ("point A 0 0\npoint B 40 0\npoint C 20 30\npoint D 60 60\n"
+          "segment SAB A B\nsegment TBC B C\nsegment UAC A C\n"
+          "length SAB 40\nlength TBC 30\nlength UAC 35\n"
+          "segment V C D\nequal V SAB\nMiddle: midpoint D UAC\n")
+"""D is the middle of the side of 35, so 17.5 from C, and is told to be 40 from it."""
 TWICE = ("rectangle P 0 0 40 30\ncoincident PBottom.start Origin\nlength PBottom 40\n"
          "length PRight 30\nlength PTop 40\n")
 LINE = "which isn't certified"
@@ -28,7 +27,7 @@ def judged(text: str, program) -> JudgedDrawing:
 
 def test_what_is_over_as_it_was_measured_says_so(program):
     found = judged(MIDDLE, program)
-    middle = "constraint 1 (midpoint M A)"
+    middle = "Middle"
     assert found.judgement.verdict is Verdict.OVER
     assert found.judgement.measured_off == (middle,)
     assert drawing_json(found)["measured_over"] == [middle]
