@@ -463,3 +463,28 @@ def test_what_is_untried_is_listed_all_the_same(program, monkeypatch):
     assert {"Width", "Again"} <= {each.name for each in found.surplus}
     assert any(each.then is None and each.off is None for each in found.surplus)
     assert any(each.then is Then.WELL for each in found.surplus)
+
+
+@pytest.mark.parametrize("text", [
+    "point A -20 10\npoint B 20 10\nMirror: symmetric A B about YAxis\nLong: distance A B 40\n",
+    "point A -12 10\npoint B 30 14\nMirror: symmetric A B about YAxis\nLong: distance A B 40\n",
+])
+def test_what_holds_since_the_whole_was_laid_so_is_no_repeat(program, text):
+    """Two points have 4 unknowns, and 3 equations: without the mirror the pair may be moved and
+    turned, and it is met as the whole is laid."""
+    found = judge(read_drawing(text), program)
+    assert found.verdict is Verdict.WELL and not any(each.amount > 1 for each in found.deviations)
+    assert found.repeats == () and found.left_out == () and found.held == ("Mirror",)
+    lines = list(drawing_lines(JudgedDrawing("it", read_drawing(text), found)))
+    assert "  not told to the program, and holds as it was measured: Mirror" in lines
+
+
+@pytest.mark.parametrize("text, lacks", [
+    (PLATE, 0),
+    (PLATE + "circle Hole 20 20 5\nx Hole 20\ny Hole 20\n", 1),  # The hole has no size.
+    (PLATE + "Again: x PlateBottom.end 60\npoint P 20 20\n", 2),  # Where P is.
+])
+def test_what_is_lacking_by_rank_is_told_with_every_verdict(program, text, lacks):
+    found = judge(read_drawing(text), program)
+    said = drawing_json(JudgedDrawing("it", read_drawing(text), found))
+    assert said["by_rank"]["lacks"] == lacks and said["by_numbers"] == {"unmet": None}

@@ -84,7 +84,8 @@ def _missing(judgement: Judgement) -> Json | None:
     if found is None:
         return None
     return {
-        "count": found.count,
+        "lacks_by_rank": found.count,
+        "excess_by_rank": [list(each) for each in found.excess],
         "pieces": [{"number": piece.number, "elements": list(piece.elements)}
                    for piece in found.pieces],
         "joints": [{"first": joint.first.number, "second": joint.second.number,

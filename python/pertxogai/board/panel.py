@@ -120,6 +120,9 @@ def _open(judgement: Judgement) -> Iterator[Line]:
     elif is_tied:
         yield Line("It doesn’t hold together by triangles.")
     yield from _not_tied(judgement, "quiet" if found.count else "")
+    yield from (Line(f"One is too many all the same, by rank, of: {', '.join(each)}.")
+                for each in found.excess)
+    yield from _unmet(judgement)
     for piece in found.pieces[:MOST_PIECES]:
         yield Line(f"piece {piece.number}: {' '.join(piece.elements)}", list="pieces",
                    selects=piece.elements, part=piece.number)
@@ -129,6 +132,14 @@ def _open(judgement: Judgement) -> Iterator[Line]:
         yield Line(f"pieces {joint.first.number} and {joint.second.number}{shared}: "
                    f"{joint.tie.value}", list="what to do", selects=joint.shared)
     yield from _more(len(found.joints) - MOST_JOINTS, "what to do")
+
+
+def _unmet(judgement: Judgement) -> Iterator[Line]:
+    """That no shape is found, and without what there is one."""
+    if judgement.unmet is not None:
+        without = (f" Without one of these there is one: {', '.join(judgement.unmet)}."
+                   if judgement.unmet else "")
+        yield Line(f"No shape is found near the drawn one that has these values, by numbers.{without}")
 
 
 def _not_tied(judgement: Judgement, kind: str) -> Iterator[Line]:
@@ -274,6 +285,7 @@ def _notes(judgement: Judgement) -> Iterator[Line]:
             ("couldn’t be spelled", judgement.left_out), ("taken as drawn", judgement.frozen),
             ("told by a rounded value", judgement.rounded),
             ("repeats others, and may go", judgement.repeats),
+            ("not told to the program, and holds as it was measured", judgement.held),
             ("its size is told by nothing, so it is as drawn", unsized),
             ("told by a value that was read off a placed part", judgement.grown)):
         yield from (Line(f"{what}: {name}", "note") for name in names)

@@ -25,7 +25,7 @@ from pertxogai.judging.trials import (
 from pertxogai.judging.within import Wider, within
 from pertxogai.program import Solver
 from pertxogai.program.reports import Shape, Solved, Verdict, read_plan
-from pertxogai.spelling.facts import RadiusOf
+from pertxogai.spelling.facts import Owner, RadiusOf
 from pertxogai.spelling.style import Style
 
 FINE_NM = 2
@@ -40,10 +40,17 @@ class LeftOut:
     name: str
     off: Deviation | None
     limit: Limit = Limit()
+    is_spare: bool = False
+    """Whether by rank less is said twice without it."""
 
     def holds(self) -> bool:
-        """Whether it was measured, and holds within the limit: then it repeats the rest."""
+        """Whether it was measured, and holds within the limit."""
         return self.off is not None and self.off.amount <= self.limit.amount
+
+    def repeats(self) -> bool:
+        """Whether it says what the rest says, so that it may go. What holds and doesn't is met only
+        as the whole was laid so."""
+        return self.holds() and self.is_spare
 
 
 @dataclass(frozen=True)
@@ -122,7 +129,12 @@ class Judgement:
         owners = sorted(each for each in self.asked.spelled.left_out if each.number)
         return tuple(LeftOut(self.names.owner(each),
                              None if each.shape else worst(self.deviations, each.number),
-                             self.limit) for each in owners)
+                             self.limit, self._is_spare(each)) for each in owners)
+
+    def _is_spare(self, owner: Owner) -> bool:
+        """Whether by rank less is said twice without a constraint."""
+        return (not owner.shape and self.free is not None
+                and self.free.fewer([owner.number]) > 0)
 
     @property
     def frozen(self) -> tuple[str, ...]:
@@ -150,9 +162,17 @@ class Judgement:
     @property
     def repeats(self) -> tuple[str, ...]:
         """What says again what follows already, and is no line of a sketch: a direction, a size, a
-        point that is itself; and what couldn't be spelled and holds where the rest is placed."""
-        held = tuple(each.name for each in self.left_out_measured if each.holds())
+        point that is itself; and what couldn't be spelled, holds where the rest is placed, and says
+        nothing more by rank."""
+        held = tuple(each.name for each in self.left_out_measured if each.repeats())
         return self.names.owners(self.asked.axes.repeats()) + held
+
+    @property
+    def held(self) -> tuple[str, ...]:
+        """What couldn't be spelled and isn't told to the program, says something of its own by rank,
+        and holds as it was measured."""
+        return tuple(each.name for each in self.left_out_measured
+                     if each.holds() and not each.repeats())
 
     @property
     def undimensioned(self) -> tuple[str, ...]:

@@ -38,17 +38,17 @@ def drawing_json(judged: JudgedDrawing) -> dict[str, object]:
         "by_rank": _by_rank(judgement),
         "spare": [spare_json(each) for each in judgement.surplus],
         **_placed_json(judged),
-        "unmet": None if judgement.unmet is None else list(judgement.unmet),
+        "by_numbers": {"unmet": None if judgement.unmet is None else list(judgement.unmet)},
         "warnings": [each.text() for each in judgement.warnings],
     }
 
 
 def _by_rank(judgement: Judgement) -> dict[str, object]:
     """What is counted by the rank of what the drawing says, and not by the program: how many
-    dimensions are lacking at least, how the whole may be moved, what is too many though the drawing
-    is open, and what is loose though it is over."""
-    found, whole = judgement.missing, judgement.whole
-    return {"lacks": found.count if found else 0,
+    dimensions are lacking at least, None where that isn't known; how the whole may be moved, what
+    is too many though the drawing is open, and what is loose though it is over."""
+    found, whole, free = judgement.missing, judgement.whole, judgement.free
+    return {"lacks": None if free is None else free.lacks,
             "whole": whole.text() if whole else "",
             "excess": [list(each) for each in found.excess] if found else [],
             "loose": list(judgement.loose)}
@@ -115,6 +115,8 @@ def drawing_lines(judged: JudgedDrawing) -> Iterator[str]:
     yield from (f"  taken as drawn, and measured: {what}" for what in judgement.frozen)
     yield from (f"  told by a rounded value: {what}" for what in judgement.rounded)
     yield from (f"  repeats others, and may go: {what}" for what in judgement.repeats)
+    yield from (f"  not told to the program, and holds as it was measured: {what}"
+                for what in judgement.held)
     yield from (f"  its size is told by nothing: {what}, as drawn" for what in
                 judgement.undimensioned)
     yield from _placed_lines(judged)

@@ -484,3 +484,31 @@ def test_of_a_row_that_repeats_itself(program) -> None:
     found = left_out(row, program)
     assert found.rest is Rest.PLACED
     assert [excess_told(each) for each in found.dimensions] == ["a repeat"]
+
+
+# What is open, and says too much or what has no shape.
+
+def told(text: str, call: str, program: Asks) -> list[object]:
+    answer = Desk(program).answer(call, {"text": text})
+    lines = answer["judgement"]["lines"] if call == "judge" else answer["lines"]
+    return [each["text"] for each in lines]
+
+
+def test_what_is_open_and_says_too_much_says_so(program) -> None:
+    """Two braced quadrilaterals, and four bars between them, of which three would be enough."""
+    places = ("0 0", "40 0", "40 30", "0 30", "10 60", "50 70", "44 100", "8 92")
+    bars = [(0, 1, 40), (1, 2, 30), (2, 3, 40), (3, 0, 30), (0, 2, 50), (4, 5, 41), (5, 6, 31),
+            (6, 7, 37), (7, 4, 32), (4, 6, 52), (0, 4, 61), (1, 5, 71), (2, 6, 70), (3, 7, 63)]
+    text = "".join([*(f"point P{number} {place}\n" for number, place in enumerate(places)),
+                    *(f"B{one}{other}: distance P{one} P{other} {long}\n" for one, other, long in bars)])
+    (line,) = [each for each in told(text, "judge", program) if str(each).startswith("One is too many")]
+    assert line.startswith("One is too many all the same, by rank, of: B01, B12, ")
+
+
+def test_what_is_open_and_has_no_shape_says_so_once_it_is_weighed(program) -> None:
+    """A chain of 40, 30 and 40 doesn't reach over 200."""
+    text = ("segment S 0 0 40 1\nsegment T S.end 40 30\nsegment U T.end 2 31\nsegment V U.end S.start\n"
+            "A: length S 40\nB: length T 30\nC: length U 40\nD: length V 200\nangle S U 10deg\n")
+    said = ("No shape is found near the drawn one that has these values, by numbers. Without one of "
+            "these there is one: A, B, C, D.")
+    assert said in told(text, "weigh", program)

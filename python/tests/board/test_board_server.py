@@ -255,7 +255,7 @@ def test_of_what_is_not_over_nothing_is_weighed(client) -> None:
 
 def test_an_open_drawing_has_its_parts_laid_on_it(client) -> None:
     judgement = answer(client, "judge", text=drawing("open-hinge"))["judgement"]
-    assert judgement["missing"]["count"] == 1
+    assert judgement["missing"]["lacks_by_rank"] == 1
     assert judgement["missing"]["joints"][0]["shared"] == ["Wall.start"]
     assert judgement["colours"] == {
         "Wall": 1, "Wall.end": 1, "W1": 1, "W1.centre": 1, "W2": 1, "W2.centre": 1,

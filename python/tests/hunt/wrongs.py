@@ -36,6 +36,7 @@ class Cause(Enum):
     GOOD_BUT_TURNED_OVER = "good, and mirrored against the drawing"
     WELL_LACKS = "well, and dimensions are missing"
     WELL_CONTRADICTS = "well, and its words contradict each other"
+    REPEAT_UNTRUE = "well, and what is needed is called a repeat"
     REPEAT_SILENT = "well, and a repeat is passed over in silence"
     OVER_INDEPENDENT = "over, and nothing is said twice"
     OVER_UNLISTED = "over, and nothing is listed that may go"
@@ -123,10 +124,19 @@ def _well(made: Made, answer: Answer) -> Iterator[Found]:
     told = len(set(answer.names("undimensioned")) & true.sizeless)
     if true.lacks > told:
         yield Found(Cause.WELL_LACKS, f"lacks {true.lacks}, told {told}")
+    untrue = [name for name in answer.names("repeats")
+              if name.startswith("constraint ") and _number(name) not in true.spare]
+    if untrue:
+        yield Found(Cause.REPEAT_UNTRUE, "; ".join(untrue))
     if made.contradicts():
         yield Found(Cause.WELL_CONTRADICTS, str(answer.names("left_out")))
     elif true.excess and answer.is_good() and not _speaks(answer):
         yield Found(Cause.REPEAT_SILENT, _listed(made, true.spare))
+
+
+def _number(name: str) -> int:
+    """The number of a word without a name of its own, as it is called."""
+    return int(name.split()[1])
 
 
 def _open(made: Made, answer: Answer) -> Iterator[Found]:
