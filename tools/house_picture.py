@@ -2,8 +2,8 @@
 import import_graph
 
 WIDTH, HEIGHT, ACROSS, DOWN = 110, 32, 140, 84
-HIDDEN = {"__main__", "_former", "pertxogai"}
-"""What only starts the others, former paths, and the package's own module, which hands names on."""
+HIDDEN = {"__main__", "_former", "_later", "pertxogai"}
+"""What only starts the others, and what hands their names on."""
 SAYS = "Folders and modules of python/pertxogai; an arrow leads to what is imported. What follows from others is left out."
 
 

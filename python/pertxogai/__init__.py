@@ -29,15 +29,9 @@ __all__ = ["Drawing", "Program", "Sketch", "good_of", "judge", "judge_sketch", "
 _former.install()
 
 if not TYPE_CHECKING:  # A type checker reads the imports above, and knows each name.
-    _FOLDERS = {"Drawing": "drawing", "Program": "program", "Sketch": "language",
-                "good_of": "judging", "judge": "judging", "judge_sketch": "judging",
-                "picture_of_judged": "output", "read_drawing": "drawing", "read_inputs": "files",
-                "write_drawing": "drawing"}
+    from pertxogai._later import handed_on
 
-    def __getattr__(name):
-        """What a folder has by a name, imported once it is asked for."""
-        from importlib import import_module
-
-        if name not in _FOLDERS:
-            raise AttributeError(f"module 'pertxogai' has no attribute {name!r}")
-        return getattr(import_module(f"pertxogai.{_FOLDERS[name]}"), name)
+    __getattr__ = handed_on(__name__, {
+        "Drawing": "drawing", "Program": "program", "Sketch": "language", "good_of": "judging",
+        "judge": "judging", "judge_sketch": "judging", "picture_of_judged": "output",
+        "read_drawing": "drawing", "read_inputs": "files", "write_drawing": "drawing"})

@@ -19,3 +19,7 @@ class Exit(IntEnum):
 
 class CommandError(Exception):
     """What the user asked for can't be done. The message is one line, and says what to do."""
+
+
+class MissingLibrary(CommandError):
+    """A library of Python is missing. The message is one line, and says how to get it."""

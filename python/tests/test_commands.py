@@ -264,7 +264,7 @@ def test_programs_that_give_no_answer(capsys, tmp_path) -> None:
         ["paint"],
         ["judge"],
         ["draw", "a.sketch"],
-        ["judge", "a", "b"],
+        ["certify", "a", "b", "-o", "c"],
         ["judge", "--seconds", "x", "a"],
         ["judge", "--within", "0", "a"],
         ["judge", "--within", "1000001", "a"],

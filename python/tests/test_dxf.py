@@ -8,8 +8,10 @@ import ezdxf
 import pytest
 
 from pertxogai.drawing import read_drawing
-from pertxogai.output.dxf import MissingLibrary, Release, dxf_text, marks_of
+from pertxogai.exits import MissingLibrary
+from pertxogai.output.dxf import dxf_text, marks_of
 from pertxogai.output.picture import Bow, Dot, Ink, Manner, Ring, Stroke, scene_of_designed
+from pertxogai.output.release import Release
 from pertxogai.program.reports import CircleEntity, LineEntity, PointEntity
 
 MARKS = (

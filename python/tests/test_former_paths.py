@@ -9,7 +9,7 @@ import pytest
 
 import pertxogai
 from conftest import TOP
-from pertxogai import _former
+from pertxogai import _former, output
 
 OF_THE_README = [
     "from pertxogai.answers import judge",
@@ -69,9 +69,13 @@ def test_the_package_has_what_most_programs_need() -> None:
     assert all(getattr(pertxogai, name).__name__ == name for name in pertxogai.__all__)
 
 
+def test_the_output_has_what_it_names() -> None:
+    assert all(getattr(output, name).__name__ == name for name in output.__all__)
+
+
 def test_importing_the_package_imports_none_of_its_folders() -> None:
     words = ("import sys, pertxogai; print(*sorted(each for each in sys.modules"
              " if each.startswith('pertxogai')))")
     ended = subprocess.run([sys.executable, "-c", words], env={"PYTHONPATH": str(TOP / "python")},
                            capture_output=True, text=True, check=True)
-    assert ended.stdout.split() == ["pertxogai", "pertxogai._former"]
+    assert ended.stdout.split() == ["pertxogai", "pertxogai._former", "pertxogai._later"]

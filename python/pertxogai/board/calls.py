@@ -22,6 +22,7 @@ from pertxogai.board.overlap import Overlapping
 from pertxogai.board.panel import Asides, Untold, lines_shown
 from pertxogai.drawing import Drawing, DrawingRefusal, DrawingUnsound, Place, WordFault, checked
 from pertxogai.files.contents import FileRefusal
+from pertxogai.exits import MissingLibrary
 from pertxogai.files.kinds import InputRefused
 from pertxogai.judging import DrawingRefused, with_counts
 from pertxogai.judging.good import reasons_against
@@ -30,8 +31,8 @@ from pertxogai.language import NotHeld, Refusal
 from pertxogai.language.flips import Flip
 from pertxogai.output.drawing_sheet import DrawingSheet, NoPlaces
 from pertxogai.output.drawing_text import spare_json
-from pertxogai.output.dxf import MissingLibrary, Release
 from pertxogai.output.picture.drawings import DrawnPlaces
+from pertxogai.output.release import Release
 from pertxogai.program import ProgramError, Solver, Status
 from pertxogai.program.reports import Flipped, NoChoice
 
@@ -79,7 +80,8 @@ class Desk:
 
     def judged(self, text: str) -> BoardDrawing:
         """The drawing of a text, with a program to ask. Raises DrawingRefusal."""
-        return self.keep(text, self.kept.get(text) or BoardDrawing(read_document(text), self.attending))
+        known = self.kept.get(text)
+        return self.keep(text, known or BoardDrawing(read_document(text), self.attending))
 
     def keep(self, text: str, judged: BoardDrawing) -> BoardDrawing:
         """Keeps a drawing by its text, as the latest; the one that was asked for longest ago

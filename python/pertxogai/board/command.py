@@ -6,8 +6,7 @@ from contextlib import suppress
 from dataclasses import replace
 from typing import TypeAlias
 
-from pertxogai.exits import CommandError, Exit
-from pertxogai.output.dxf import MissingLibrary
+from pertxogai.exits import CommandError, Exit, MissingLibrary
 from pertxogai.program import Program
 
 Commands: TypeAlias = "argparse._SubParsersAction[argparse.ArgumentParser]"

@@ -9,10 +9,11 @@ from pertxogai.judging.good import GoodJudgement, good_of
 from pertxogai.judging.judged_drawing import JudgedDrawing
 from pertxogai.judging.parts import parts_of_shapes
 from pertxogai.output.drawing_text import drawing_lines
-from pertxogai.output.dxf import Release, dxf_text
+from pertxogai.output.dxf import dxf_text
 from pertxogai.output.picture.drawings import Marking, scene_of_designed
 from pertxogai.output.picture.marks import Ink, Scene
 from pertxogai.output.picture.svg import Picture, picture_of
+from pertxogai.output.release import Release
 
 
 MOST_SHOWN = 8
@@ -20,7 +21,12 @@ MOST_SHOWN = 8
 
 
 class NoPlaces(Exception):
-    """What isn't good can't be written as placed. The message is one line, and says why."""
+    """What isn't good can't be written as placed. The message is one line, and says why.
+    as_drawn: whether it can be written as drawn all the same."""
+
+    def __init__(self, message: str, as_drawn: bool = False) -> None:
+        super().__init__(message)
+        self.as_drawn = as_drawn
 
 
 @dataclass(frozen=True)
@@ -39,7 +45,8 @@ class DrawingSheet:
         NoPlaces."""
         found = good_of(self.judged)
         if not self.as_drawn and not isinstance(found, GoodJudgement):
-            raise NoPlaces(f"{self.judged.name}: no DXF is written of what isn't good: {found}")
+            raise NoPlaces(f"{self.judged.name}: no DXF is written of what isn't good: {found}",
+                           as_drawn=True)
         return dxf_text(self._scene().marks, release)
 
     def is_good(self) -> bool:

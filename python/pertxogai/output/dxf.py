@@ -5,10 +5,11 @@ from __future__ import annotations
 import io
 import math
 from collections.abc import Iterable
-from enum import Enum
 from typing import TYPE_CHECKING
 
+from pertxogai.exits import MissingLibrary
 from pertxogai.output.picture.marks import Bow, Dot, Manner, Mark, Ring, Stroke
+from pertxogai.output.release import Release
 from pertxogai.program.reports import CircleEntity, Entity, PointEntity
 
 if TYPE_CHECKING:
@@ -16,17 +17,6 @@ if TYPE_CHECKING:
 
 MILLIMETRES = 4
 EDGES, CONSTRUCTION = "EDGES", "CONSTRUCTION"
-
-
-class Release(Enum):
-    """The version of DXF that is written; the value is ezdxf's name of it."""
-
-    R12 = "R12"
-    R2010 = "R2010"
-
-
-class MissingLibrary(Exception):
-    """A library of Python is missing. The message is one line, and says how to get it."""
 
 
 def dxf_text(marks: Iterable[Mark], release: Release = Release.R2010) -> str:

@@ -6,8 +6,9 @@ from dataclasses import dataclass
 from pertxogai.judging.good import GoodSketch, good_sketch_of
 from pertxogai.judging.judged_sketch import JudgedSketch
 from pertxogai.output.drawing_sheet import NoPlaces
-from pertxogai.output.dxf import Release, dxf_text, marks_of
+from pertxogai.output.dxf import dxf_text, marks_of
 from pertxogai.output.picture.svg import Picture
+from pertxogai.output.release import Release
 from pertxogai.output.sketch_picture import picture_of_judged
 from pertxogai.program import Solver, Status
 from pertxogai.program.reports import NotAReport, read_dxf

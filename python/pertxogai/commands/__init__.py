@@ -1,0 +1,160 @@
+"""The commands `judge`, `draw`, `certify` and `page`, as ./pertxogai calls them. Each imports
+what it needs once it is called."""
+from __future__ import annotations
+
+import argparse
+import io
+import os
+import sys
+from collections.abc import Callable, Sequence
+from pathlib import Path
+from typing import TypeAlias
+
+from pertxogai import __version__
+from pertxogai.board.command import add_page
+from pertxogai.exits import CommandError, Exit
+from pertxogai.files.contents import FileRefusal
+from pertxogai.files.kinds import InputRefused
+from pertxogai.files.printable import printable
+from pertxogai.judging import TextRefused
+from pertxogai.judging.measure import Limit
+from pertxogai.judging.measure.limit import DEFAULT, MOST as MOST_LIMIT
+from pertxogai.output.release import Release
+from pertxogai.program import ProgramError
+
+EPILOG = """exit status: 0 where all is good (the program says well and places it, every constraint
+is met within --within as it is measured, nothing is left out, every size is told, no dimension is
+known to be missing by rank, nothing is found to lie mirrored), or is drawn as it was asked for; 1
+where something isn't, and a line says what; 2 where the words or a file can't be read, or nothing
+can be written; 3 where the program gave no answer; of many files the greatest. The program is found
+by --program, the variable PERTXOGAI_SKETCH, the repository's build, or the path."""
+CHECK = "have it read by sketch verify, sketch_claim.py and sketch_claim.c"
+CLAIM = "the sketch, its steps, places and tolerances, as verify reads them"
+FILE = "a sketch: .sketch, .drawing, .FCStd, .slvs, .dxf"
+FREEZE = "take lengths and radii that nothing tells as they are drawn"
+JOBS = "how many of several files are judged at a time (default: as many as processors)"
+OUTPUT = "OUT.svg or OUT.dxf"
+RELEASE = "the version of DXF (default: %(default)s)"
+SECONDS = "how long a call may take (default: %(default)g)"
+WITHIN = "what is met within N nm, or an angle within N ppb, holds (default: %(default)s)"
+WRITE = "copy a .FCStd or .slvs to OUT, with those of its sketches placed that are good"
+Commands: TypeAlias = "argparse._SubParsersAction[argparse.ArgumentParser]"
+
+
+def main(words: Sequence[str] | None = None) -> int:
+    """Does what the words ask for, and returns the exit status."""
+    if isinstance(sys.stdout, io.TextIOWrapper):
+        sys.stdout.reconfigure(errors="backslashreplace")
+    options = command_line().parse_args(words)
+    act: Callable[[argparse.Namespace], Exit] = options.act
+    try:
+        return act(options)
+    except TextRefused as refused:
+        return _complain(f"{options.file}: {refused.told}", Exit.BAD_INPUT)
+    except (CommandError, FileRefusal, InputRefused) as error:
+        return _complain(error, Exit.BAD_INPUT)
+    except ProgramError as error:
+        return _complain(error, Exit.NO_ANSWER)
+    except BrokenPipeError:
+        os.dup2(os.open(os.devnull, os.O_WRONLY), sys.stdout.fileno())
+        return Exit.BAD_INPUT
+    except KeyboardInterrupt:
+        return 130
+
+
+def _complain(error: Exception | str, status: Exit) -> Exit:
+    print(f"pertxogai: {printable(' '.join(str(error).split()))}", file=sys.stderr)
+    return status
+
+
+def command_line() -> argparse.ArgumentParser:
+    """The reader of the words of all commands."""
+    parser = argparse.ArgumentParser(
+        prog="pertxogai",
+        epilog=EPILOG,
+        formatter_class=argparse.RawDescriptionHelpFormatter,
+        description="Asks the proved program `sketch` about a sketch: judges, places, draws it.",
+    )
+    parser.add_argument("--version", action="version", version=f"pertxogai {__version__}")
+    commands = parser.add_subparsers(dest="command", required=True, metavar="COMMAND")
+    _add_judge(commands)
+    _add_draw(commands)
+    _add_certify(commands)
+    add_page(commands)
+    return parser
+
+
+def _add_judge(commands: Commands) -> None:
+    judge = _command(commands, "judge", "tells the verdict, and what fails by your own names", "+")
+    judge.set_defaults(act=_judge)
+    judge.add_argument("--jobs", type=int, default=os.cpu_count() or 1, metavar="N", help=JOBS)
+    judge.add_argument("--json", action="store_true", help="print one object of JSON for each file")
+    judge.add_argument("--write", type=Path, metavar="OUT", help=WRITE)
+
+
+def _add_draw(commands: Commands) -> None:
+    draw = _command(commands, "draw", "draws a sketch as SVG or DXF")
+    draw.set_defaults(act=_draw)
+    draw.add_argument("-o", "--output", type=Path, required=True, metavar="OUT", help=OUTPUT)
+    draw.add_argument("--as-drawn", action="store_true", help="as drawn, and not as placed")
+    draw.add_argument("--sketch", metavar="NAME", help="which sketch of a file that has several")
+    releases = [it.value for it in Release]
+    draw.add_argument("--release", choices=releases, default=releases[-1], help=RELEASE)
+
+
+def _add_certify(commands: Commands) -> None:
+    certify = _command(commands, "certify", "writes of what is good a claim that anyone can check")
+    certify.set_defaults(act=_certify)
+    certify.add_argument(
+        "-o", "--output", type=Path, required=True, metavar="OUT.claim", help=CLAIM
+    )
+    certify.add_argument("--check", action="store_true", help=CHECK)
+    certify.add_argument("--sketch", metavar="NAME", help="which sketch of a file that has several")
+
+
+def _command(commands: Commands, name: str, what: str,
+             files: str | None = None) -> argparse.ArgumentParser:
+    """The reader of the words that several commands take. files: how many there may be, as argparse
+    has it; one where it is None."""
+    formatter = argparse.RawDescriptionHelpFormatter
+    parser = commands.add_parser(
+        name, help=what, description=what, epilog=EPILOG, formatter_class=formatter
+    )
+    parser.add_argument("file", type=Path, nargs=files, metavar="FILE", help=FILE)
+    parser.add_argument("--freeze", action="store_true", help=FREEZE)
+    parser.add_argument("--within", type=_limit, default=str(DEFAULT), metavar="N", help=WITHIN)
+    parser.add_argument("--program", metavar="PATH", help="the program `sketch`")
+    parser.add_argument("--seconds", type=float, default=60.0, help=SECONDS)
+    return parser
+
+
+def _limit(word: str) -> Limit:
+    """The limit that a word tells. Raises ArgumentTypeError."""
+    try:
+        return Limit(int(word))
+    except ValueError:
+        raise argparse.ArgumentTypeError(
+            f"{word!r} is no whole number from 1 to {MOST_LIMIT}") from None
+
+
+def _judge(options: argparse.Namespace) -> Exit:
+    from pertxogai.commands.judging import judge_file
+
+    if len(options.file) == 1:
+        options.file = options.file[0]
+        return judge_file(options.file, options)
+    from pertxogai.commands.many import judge_files
+
+    return judge_files(options)
+
+
+def _draw(options: argparse.Namespace) -> Exit:
+    from pertxogai.commands.drawing import draw
+
+    return draw(options)
+
+
+def _certify(options: argparse.Namespace) -> Exit:
+    from pertxogai.commands.certifying import certify
+
+    return certify(options)

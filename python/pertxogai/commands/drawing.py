@@ -1,0 +1,35 @@
+"""The command `draw`."""
+from __future__ import annotations
+
+import argparse
+
+from pertxogai.commands.judging import chosen, outcome_of, program_of
+from pertxogai.exits import CommandError, Exit
+from pertxogai.files.atomic import written_whole
+from pertxogai.files.kinds import read_inputs
+from pertxogai.output.drawing_sheet import NoPlaces
+from pertxogai.output.outcome import Sheet
+from pertxogai.output.release import Release
+
+
+def draw(options: argparse.Namespace) -> Exit:
+    """Draws a sketch of a file as SVG or DXF. Raises CommandError, InputRefused, FileRefusal,
+    TextRefused and ProgramError."""
+    suffix = options.output.suffix.lower()
+    if suffix not in (".svg", ".dxf"):
+        raise CommandError(f"{options.output}: the output's name ends in .svg or .dxf")
+    found = chosen(read_inputs(options.file), options.sketch)
+    sheet = outcome_of(found, program_of(options), options).sheet(options.as_drawn)
+    text = sheet.picture().svg if suffix == ".svg" else _dxf(sheet, Release(options.release))
+    with written_whole(options.output, options.file) as file:
+        file.write(text.encode("utf-8", "replace"))
+    return Exit.GOOD if sheet.is_good() else Exit.NOT_GOOD
+
+
+def _dxf(sheet: Sheet, release: Release) -> str:
+    """The sheet as DXF. Raises CommandError where it isn't good."""
+    try:
+        return sheet.dxf(release)
+    except NoPlaces as error:
+        hint = "; --as-drawn draws it all the same" if error.as_drawn else ""
+        raise CommandError(f"{error}{hint}") from None

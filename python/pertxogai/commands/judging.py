@@ -1,0 +1,95 @@
+"""The command `judge` on one file, and what the other commands ask of one."""
+from __future__ import annotations
+
+import argparse
+import json
+from collections.abc import Sequence
+from dataclasses import replace
+from pathlib import Path
+
+from pertxogai.exits import CommandError, Exit
+from pertxogai.files.kinds import DesignerDrawing, Input, SketchText, kind_of, read_inputs
+from pertxogai.judging import (
+    DrawingRefused, GoodJudgement, JudgedDrawing, Judgement, judge, judge_sketch)
+from pertxogai.language import NotHeld, Refusal
+from pertxogai.output.outcome import DrawingOutcome, Outcome, SketchOutcome
+from pertxogai.program import Program, Solver
+
+
+def program_of(options: argparse.Namespace) -> Program:
+    """The program that the words of a command name. Raises CommandError and MissingProgram."""
+    if not options.seconds > 0:
+        raise CommandError("--seconds takes a number above 0")
+    return replace(Program.find(options.program), seconds=options.seconds)
+
+
+def outcome_of(found: Input, program: Solver, options: argparse.Namespace) -> Outcome:
+    """What the program says of one sketch of a file. Raises CommandError, TextRefused and
+    ProgramError."""
+    if isinstance(found, SketchText):
+        judged = judge_sketch(found.name, found.text, program, options.within)
+        return SketchOutcome(judged, program)
+    judgement = _judgement(found, program, options)
+    return DrawingOutcome(JudgedDrawing(found.name, found.drawing, judgement, found.left_out,
+                                        found.aside, options.within))
+
+
+def _judgement(found: DesignerDrawing, program: Solver,
+               options: argparse.Namespace) -> Judgement:
+    """The judgement on a drawing. Raises CommandError where no sketch can be made of it, or the
+    program refuses the one that was made."""
+    try:
+        return judge(found.drawing, program, options.freeze, options.within)
+    except (DrawingRefused, NotHeld) as refused:
+        raise CommandError(f"{found.name}: {refused}") from None
+    except Refusal as refused:
+        raise CommandError(
+            f"{found.name}: the program takes no such sketch ({refused}): split the drawing, or"
+            " see 'How a text is refused' in docs/LANGUAGE.md") from None
+
+
+def chosen(found: Sequence[Input], name: str | None) -> Input:
+    """The sketch of that name, or the only one. Raises CommandError."""
+    names = ", ".join(it.name for it in found)
+    fitting = [it for it in found if name in (None, it.name)]
+    if len(fitting) != 1:
+        raise CommandError(f"the file has the sketches {names}: choose one by --sketch NAME")
+    return fitting[0]
+
+
+def judge_file(path: Path, options: argparse.Namespace) -> Exit:
+    """Prints what the program says of each sketch of a file, and writes a copy with those placed
+    that are good, where that is asked for. Raises CommandError, InputRefused, FileRefusal,
+    TextRefused and ProgramError."""
+    found = read_inputs(path)
+    program = program_of(options)
+    outcomes = [outcome_of(it, program, options) for it in found]
+    if options.write is not None:
+        _write_placed(path, options.write, found, outcomes)
+    if options.json:
+        print(json.dumps(file_json(path, outcomes), indent=2))
+    else:
+        for it in outcomes:
+            print("\n".join(it.lines()))
+    return Exit.NOT_GOOD if any(it.reasons() for it in outcomes) else Exit.GOOD
+
+
+def file_json(path: Path, outcomes: Sequence[Outcome]) -> dict[str, object]:
+    """All that is told of a file, as one object for JSON."""
+    return {"file": str(path), "sketches": [it.json() for it in outcomes]}
+
+
+def _write_placed(path: Path, out: Path, found: Sequence[Input],
+                  outcomes: Sequence[Outcome]) -> None:
+    """Copies a file with those of its sketches placed that are good. Raises CommandError and
+    FileRefusal."""
+    kind = kind_of(path)
+    if kind is None or kind.write is None:
+        raise CommandError(f"{path}: only .FCStd and .slvs are written back")
+    known = {each.key: it.good() for each, it in zip(found, outcomes)
+             if isinstance(each, DesignerDrawing)}
+    good = {key: it for key, it in known.items() if isinstance(it, GoodJudgement)}
+    if not good:
+        raise CommandError(
+            f"{path}: no sketch of it is good, so {out} isn't written: see ./pertxogai judge")
+    kind.write(path, out, good)

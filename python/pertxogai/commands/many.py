@@ -1,0 +1,118 @@
+"""The command `judge` on many files: a line for each sketch, on all processors, and a summary.
+
+A file that can't be read, or on which the program gives no answer, is told on its line, and the
+others are judged all the same.
+"""
+from __future__ import annotations
+
+import argparse
+import json
+import sys
+from collections import Counter
+from collections.abc import Iterator, Sequence
+from concurrent.futures import ProcessPoolExecutor
+from concurrent.futures.process import BrokenProcessPool
+from dataclasses import dataclass
+from functools import partial
+from pathlib import Path
+
+from pertxogai.commands.judging import file_json, outcome_of, program_of
+from pertxogai.exits import CommandError, Exit
+from pertxogai.files.contents import FileRefusal
+from pertxogai.files.kinds import InputRefused, read_inputs
+from pertxogai.files.printable import printable
+from pertxogai.judging import TextRefused
+from pertxogai.output.outcome import Outcome
+from pertxogai.program import ProgramError
+
+SAID = {Exit.GOOD: "good", Exit.NOT_GOOD: "not good", Exit.BAD_INPUT: "refused",
+        Exit.NO_ANSWER: "without an answer"}
+"""What a file is, by how `judge` on it alone would end."""
+
+
+@dataclass(frozen=True)
+class JudgedFile:
+    """How `judge` on one file ends, and the lines of it: to read, or one object of JSON."""
+
+    exit: Exit
+    lines: tuple[str, ...]
+
+
+def judge_files(options: argparse.Namespace) -> Exit:
+    """Prints what each file is, in their order, and how many are what. The exit status is the
+    worst. Raises CommandError."""
+    if options.write is not None:
+        raise CommandError("--write takes one file")
+    if options.jobs < 1:
+        raise CommandError("--jobs takes a whole number from 1 on")
+    program_of(options)  # What is wrong with all of them is told once.
+    counts: Counter[Exit] = Counter()
+    for judged in _judged(options):
+        print(*judged.lines, sep="\n", flush=True)
+        counts[judged.exit] += 1
+        _show_progress(counts.total(), len(options.file))
+    print(_summary(counts), file=sys.stderr if options.json else sys.stdout)
+    return max(counts)
+
+
+def _judged(options: argparse.Namespace) -> Iterator[JudgedFile]:
+    """What becomes of each file, in their order. Raises CommandError."""
+    plain = argparse.Namespace(**{name: value for name, value in vars(options).items()
+                                  if name not in ("act", "file")})
+    act = partial(judged_file, options=plain)
+    if options.jobs == 1:
+        yield from map(act, options.file)
+        return
+    try:
+        with ProcessPoolExecutor(min(options.jobs, len(options.file))) as pool:
+            yield from pool.map(act, options.file)
+    except BrokenProcessPool:
+        raise CommandError("a process that judges was ended from outside, or for want of memory: "
+                           "try again with --jobs 1") from None
+
+
+def judged_file(path: Path, options: argparse.Namespace) -> JudgedFile:
+    """What becomes of one file, whatever it is."""
+    try:
+        program = program_of(options)
+        outcomes = [outcome_of(it, program, options) for it in read_inputs(path)]
+    except TextRefused as refused:
+        return _refused(path, f"{path}: {refused.told}", Exit.BAD_INPUT, options.json)
+    except (CommandError, FileRefusal, InputRefused) as error:
+        return _refused(path, str(error), Exit.BAD_INPUT, options.json)
+    except ProgramError as error:
+        return _refused(path, str(error), Exit.NO_ANSWER, options.json)
+    ends = Exit.NOT_GOOD if any(it.reasons() for it in outcomes) else Exit.GOOD
+    if options.json:
+        return JudgedFile(ends, (json.dumps(file_json(path, outcomes)),))
+    return JudgedFile(ends, tuple(_line(path, it) for it in outcomes))
+
+
+def _line(path: Path, outcome: Outcome) -> str:
+    """The line of one sketch of a file: its verdict, and the first reason why it isn't good."""
+    reasons = outcome.reasons()
+    more = f", and {len(reasons) - 1} more" if len(reasons) > 1 else ""
+    said = f"not good: {reasons[0].text}{more}" if reasons else "good"
+    return printable(f"{path}: {outcome.name}: {outcome.verdict().value}, {said}")
+
+
+def _refused(path: Path, why: str, ends: Exit, as_json: bool) -> JudgedFile:
+    """What is told of a file that there is no judgement on."""
+    why = " ".join(why.split())
+    if as_json:
+        return JudgedFile(ends, (json.dumps({"file": str(path), SAID[ends]: why}),))
+    told = why.removeprefix(f"{path}: ")
+    return JudgedFile(ends, (printable(f"{path}: {SAID[ends]}: {told}"),))
+
+
+def _show_progress(done: int, all_files: int) -> None:
+    """How many files are judged, on a terminal."""
+    if sys.stderr.isatty():
+        end = "\r" if done < all_files else "\r\033[K"
+        print(f"{done} of {all_files}", end=end, file=sys.stderr, flush=True)
+
+
+def _summary(counts: Counter[Exit]) -> str:
+    """How many files are what, as `3 files: 2 good, 1 refused`."""
+    parts: Sequence[str] = [f"{counts[each]} {SAID[each]}" for each in Exit if counts[each]]
+    return f"{counts.total()} files: {', '.join(parts)}"

@@ -1,0 +1,132 @@
+"""What became of one sketch of a file, as a command shows it: the same for a sketch of the language
+and for a designer's drawing."""
+from __future__ import annotations
+
+from collections.abc import Iterator
+from dataclasses import dataclass
+from typing import TYPE_CHECKING, Protocol
+
+from pertxogai.judging.good import (
+    GoodJudgement, GoodSketch, NotGood, Reason, good_of, good_sketch_of, reasons_against)
+from pertxogai.judging.judged_drawing import JudgedDrawing
+from pertxogai.judging.judged_sketch import JudgedSketch
+from pertxogai.output.drawing_text import drawing_json, drawing_lines
+from pertxogai.output.release import Release
+from pertxogai.output.sketch_text import sketch_json, sketch_lines
+from pertxogai.program import Solver
+from pertxogai.program.reports import Verdict
+
+if TYPE_CHECKING:
+    from pertxogai.output.picture.svg import Picture
+
+
+class Sheet(Protocol):
+    """An outcome that is to be drawn."""
+
+    def picture(self) -> Picture:
+        """As SVG."""
+        ...
+
+    def dxf(self, release: Release) -> str:
+        """As DXF. Raises NoPlaces, MissingLibrary and ProgramError."""
+        ...
+
+    def is_good(self) -> bool:
+        """Whether it is drawn as it is good, or as it was asked for."""
+        ...
+
+
+class Outcome(Protocol):
+    """A judged sketch or drawing."""
+
+    @property
+    def name(self) -> str:
+        """What its designer calls it."""
+        ...
+
+    def verdict(self) -> Verdict:
+        """The program's verdict."""
+        ...
+
+    def good(self) -> GoodJudgement | GoodSketch | NotGood:
+        """What may be relied on of it, or why nothing may."""
+        ...
+
+    def reasons(self) -> tuple[Reason, ...]:
+        """Why it isn't good; nothing where it is."""
+        ...
+
+    def lines(self) -> Iterator[str]:
+        """All that is told of it, in lines to read."""
+        ...
+
+    def json(self) -> dict[str, object]:
+        """All that is told of it, as one object for JSON."""
+        ...
+
+    def sheet(self, as_drawn: bool) -> Sheet:
+        """It, to be drawn as placed, or as drawn."""
+        ...
+
+
+@dataclass(frozen=True)
+class SketchOutcome:
+    """A judged sketch of the language; the program is asked for the ends of its lines."""
+
+    judged: JudgedSketch
+    program: Solver
+
+    @property
+    def name(self) -> str:
+        return self.judged.name
+
+    def verdict(self) -> Verdict:
+        return self.judged.check.verdict
+
+    def good(self) -> GoodSketch | NotGood:
+        return good_sketch_of(self.judged)
+
+    def reasons(self) -> tuple[Reason, ...]:
+        return reasons_against(self.judged)
+
+    def lines(self) -> Iterator[str]:
+        return sketch_lines(self.judged)
+
+    def json(self) -> dict[str, object]:
+        return sketch_json(self.judged)
+
+    def sheet(self, as_drawn: bool) -> Sheet:
+        from pertxogai.output.sketch_sheet import SketchSheet
+
+        return SketchSheet(self.judged, self.program, as_drawn)
+
+
+@dataclass(frozen=True)
+class DrawingOutcome:
+    """A judged drawing of a designer's."""
+
+    judged: JudgedDrawing
+
+    @property
+    def name(self) -> str:
+        return self.judged.name
+
+    def verdict(self) -> Verdict:
+        return self.judged.judgement.verdict
+
+    def good(self) -> GoodJudgement | NotGood:
+        return good_of(self.judged)
+
+    def reasons(self) -> tuple[Reason, ...]:
+        return reasons_against(self.judged)
+
+    def lines(self) -> Iterator[str]:
+        return drawing_lines(self.judged)
+
+    def json(self) -> dict[str, object]:
+        return drawing_json(self.judged)
+
+    def sheet(self, as_drawn: bool) -> Sheet:
+        from pertxogai.output.drawing_sheet import DrawingSheet
+
+        return DrawingSheet(self.judged, as_drawn)

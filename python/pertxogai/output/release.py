@@ -1,0 +1,11 @@
+"""The versions of DXF that are written."""
+from __future__ import annotations
+
+from enum import Enum
+
+
+class Release(Enum):
+    """The version of DXF that is written; the value is ezdxf's name of it."""
+
+    R12 = "R12"
+    R2010 = "R2010"
