@@ -1,7 +1,7 @@
 """Import paths and names of 0.1.0, but for some of the board, which work for one more release, and warn.
 
-A path is looked for here once it is found nowhere else: what it leads to hands on what the module at
-the new place has. Nothing is kept twice.
+A path is looked for here once it is found nowhere else: what it leads to hands on what the module
+at the new place has. Nothing is kept twice.
 """
 from __future__ import annotations
 

@@ -139,7 +139,8 @@ def _unmet(judgement: Judgement) -> Iterator[Line]:
     if judgement.unmet is not None:
         without = (f" Without one of these there is one: {', '.join(judgement.unmet)}."
                    if judgement.unmet else "")
-        yield Line(f"No shape is found near the drawn one that has these values, by numbers.{without}")
+        yield Line("No shape is found near the drawn one that has these values, by numbers."
+                   + without)
 
 
 def _not_tied(judgement: Judgement, kind: str) -> Iterator[Line]:
@@ -181,8 +182,8 @@ def _beside_over(judgement: Judgement, left: TooMuch | Untold,
                  unweighed: Untold | None) -> Iterator[Line]:
     """What is lacking all the same, and what of what is over can't be told."""
     for what in judgement.measured_off:
-        yield Line(f"Over as it was measured, which isn’t certified: {what} can’t be spelled, and the "
-                   "rest is enough.", "quiet")
+        yield Line(f"Over as it was measured, which isn’t certified: {what} can’t be spelled, and "
+                   "the rest is enough.", "quiet")
     for what in judgement.loose:
         yield Line(f"A dimension is lacking all the same: {what}, by rank.")
     if unweighed is not None:

@@ -52,7 +52,8 @@ def elements_placed(judgement: Judgement, shape: Shape) -> Mapping[str, Element]
     return found
 
 
-def _motion(plate: PrintedPlaces, level: Mapping[str, tuple[int, int]], judgement: Judgement) -> Motion:
+def _motion(plate: PrintedPlaces, level: Mapping[str, tuple[int, int]],
+            judgement: Judgement) -> Motion:
     """The motion from the printed frame to the datum's."""
     pairs = [((float(x) / 1e3, float(y) / 1e3), (level[name][0] / 1e6, level[name][1] / 1e6))
              for name, (x, y) in plate.points.items()]

@@ -147,7 +147,8 @@ class Workers:
             return Worker.start(self._program, self.bounds)
         except OSError as error:
             self._back(None)
-            raise WorkerLost(f"no process could be started for the call: {error.strerror}") from None
+            why = error.strerror
+            raise WorkerLost(f"no process could be started for the call: {why}") from None
 
     def _back(self, worker: Worker | None) -> None:
         with self._lock:

@@ -69,7 +69,8 @@ def _drawn(word: ShapeWord, name: str, words: Cursor) -> Expansion:
         case ShapeWord.SEGMENT:
             return Expansion((Segment(name, words.spot("its start"), words.spot("its end")),))
         case ShapeWord.CIRCLE:
-            return Expansion((Circle(name, words.spot("its centre"), words.um("its drawn radius")),))
+            circle = Circle(name, words.spot("its centre"), words.um("its drawn radius"))
+            return Expansion((circle,))
         case ShapeWord.ARC:
             return Expansion((Arc(name, words.spot("its centre"), words.spot("its start"),
                              words.spot("its end")),))

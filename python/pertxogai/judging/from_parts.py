@@ -65,7 +65,8 @@ def measured(rails: Rails, spelled: Spelled, report: PartsReport) -> Iterator[Fo
             yield from _spans(rails, spelled, plate)
 
 
-def _coordinates(rails: Rails, spelled: Spelled, plate: PrintedPlaces, frame: int) -> Iterator[Form]:
+def _coordinates(rails: Rails, spelled: Spelled, plate: PrintedPlaces,
+                 frame: int) -> Iterator[Form]:
     """How far the rails of a frame are apart in a part."""
     axis = plate.axis(spelled.headings, frame)
     if axis is None and len(plate.points) > 1:
@@ -78,7 +79,8 @@ def _coordinates(rails: Rails, spelled: Spelled, plate: PrintedPlaces, frame: in
             yield form - found[0][0] - Form(number=place - found[0][1])
 
 
-def _axis_by_points(rails: Rails, spelled: Spelled, plate: PrintedPlaces, frame: int) -> PointNm | None:
+def _axis_by_points(rails: Rails, spelled: Spelled, plate: PrintedPlaces,
+                    frame: int) -> PointNm | None:
     """The direction of a frame's first axis by two points of a line of it that isn't in the part
     itself; None where there are none."""
     axes, spots = rails.axes, plate.points

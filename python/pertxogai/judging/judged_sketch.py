@@ -38,7 +38,7 @@ class JudgedSketch:
     it is well; the spare constraints where it is over, and what is left out of each part that is,
     with how far that is off; and the parts, each by itself, where it isn't well. limit: within
     what each constraint has to hold, as the program was asked. tried: where a step fails, what
-    came of other choices of the steps beneath. Whether it is good is for `pertxogai.judging.good` to
+    came of other choices of the steps beneath. Whether it is good is for `judging.good` to
     say."""
 
     name: str

@@ -169,8 +169,8 @@ class Judgement:
 
     @property
     def held(self) -> tuple[str, ...]:
-        """What couldn't be spelled and isn't told to the program, says something of its own by rank,
-        and holds as it was measured."""
+        """What couldn't be spelled and isn't told to the program, says something of its own by
+        rank, and holds as it was measured."""
         return tuple(each.name for each in self.left_out_measured
                      if each.holds() and not each.repeats())
 

@@ -29,8 +29,9 @@ class PrintedPlaces:
     def of(places: Sequence[Placed], scale: int) -> PrintedPlaces:
         """The places of a sketch that is so many times as large as the drawing."""
         per = 1000 * scale
-        points: dict[str, PointNm] = {each.name: (_divided(each.x_nm, per), _divided(each.y_nm, per))
-                                   for each in places if isinstance(each, PlacedPoint)}
+        points: dict[str, PointNm] = {
+            each.name: (_divided(each.x_nm, per), _divided(each.y_nm, per))
+            for each in places if isinstance(each, PlacedPoint)}
         lines = {each.name: _line(each, per) for each in places if isinstance(each, PlacedLine)}
         return PrintedPlaces(points, lines)
 
@@ -113,7 +114,8 @@ def is_tied(axes: Axes, spelled: Spelled) -> bool:
     return spelled.tied() or axis_of(axes, spots) is not None
 
 
-def _shift(axes: Axes, spelled: Spelled, plate: PrintedPlaces, axis: PointNm, upwards: bool) -> Number:
+def _shift(axes: Axes, spelled: Spelled, plate: PrintedPlaces, axis: PointNm,
+           upwards: bool) -> Number:
     """How far the printed places are moved along an axis: by a line that is the datum's, a point
     of which the coordinate is told, or the first point, which stays where it is drawn."""
     for each in spelled.headings:
@@ -128,4 +130,6 @@ def _shift(axes: Axes, spelled: Spelled, plate: PrintedPlaces, axis: PointNm, up
 
 
 def _whole(value: Number) -> int:
-    return value if isinstance(value, int) else (2 * value.numerator + value.denominator) // (2 * value.denominator)
+    if isinstance(value, int):
+        return value
+    return (2 * value.numerator + value.denominator) // (2 * value.denominator)

@@ -216,14 +216,14 @@ def _unmet_lines(judgement: Judgement) -> Iterator[str]:
     if judgement.unmet is not None:
         yield "  no shape is found near the drawn one that has these values (by numbers)"
     if judgement.unmet:
-        yield (f"  what to do: look at {', '.join(judgement.unmet)}; without one of them a shape is "
-               "found")
+        among = ", ".join(judgement.unmet)
+        yield f"  what to do: look at {among}; without one of them a shape is found"
 
 
 def _surplus_lines(judgement: Judgement) -> Iterator[str]:
     """What may go, how far it is off, and what the rest is then."""
-    yield from (f"  over as it was measured, which isn't certified: {what} can't be spelled, and the "
-                "rest is enough" for what in judgement.measured_off)
+    yield from (f"  over as it was measured, which isn't certified: {what} can't be spelled, and "
+                "the rest is enough" for what in judgement.measured_off)
     yield from _advice_on(judgement.surplus)
     for each in judgement.surplus:
         off = "" if each.off is None else f": off by {amount_text(each.off)}"

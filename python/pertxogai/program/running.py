@@ -52,7 +52,7 @@ class Answer:
 
 
 class Solver(Protocol):
-    """What answers words on a text: `Program`, `pertxogai.program.library.Library`, or a stand-in of a
+    """What answers words on a text: `Program`, `Library` of `program.library`, or a stand-in of a
     test."""
 
     def ask(self, words: Sequence[str], text: str) -> Answer:

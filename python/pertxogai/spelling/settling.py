@@ -172,7 +172,8 @@ class Settling:
         """Whether two points are one once this is 0 along an axis."""
         reduced = self.axes.system.reduced
         along, across = (self._way(frame, each, *sorted(knots)) for each in (upwards, not upwards))
-        return reduced(across) == Form() and Form() in map(reduced, (along - follows, along + follows))
+        ways = along - follows, along + follows
+        return reduced(across) == Form() and Form() in map(reduced, ways)
 
     def _signed(self, frame: Frame, upwards: bool, fact: Apart) -> Form:
         """The way along an axis, turned so that it is drawn forwards."""

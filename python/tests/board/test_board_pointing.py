@@ -9,7 +9,7 @@ import pytest
 pytest.importorskip("flask", reason="the board needs Debian's python3-flask")
 pytest.importorskip("selenium", reason="the browser is driven by Debian's python3-selenium")
 
-from boards import CHROMIUM, DRIVER, Served, wait_for  # noqa: E402
+from boards import CHROMIUM, DRIVER, wait_for  # noqa: E402
 from browsing import Page  # noqa: E402
 
 if not (CHROMIUM and DRIVER):

@@ -47,7 +47,7 @@ def open_archive(path: Path) -> Iterator[ZipFile]:
 
 def read_member(path: Path, archive: ZipFile, name: str) -> bytes:
     """The bytes of a member. Raises FileRefusal where there is none of the name, it is packed
-    otherwise than FreeCAD does, or has more than `DOCUMENT_BYTES` unpacked, which is counted while it
+    otherwise than FreeCAD does, or has more than `DOCUMENT_BYTES` unpacked, counted while it
     is read."""
     data = bytearray()
     for piece in read_pieces(path, archive, name):

@@ -41,8 +41,8 @@ def _check_size(path: Path, objects: list[Kept]) -> None:
     for kept in objects:
         for word in ("Geometry", "Constraints", "ExternalGeometry", "ExternalGeo"):
             if len(kept.list_of(word)) > SKETCH_ENTRIES:
-                raise FileRefusal(f"{path}: {_label(kept)} has more than {SKETCH_ENTRIES} entries in "
-                                  f"its list {word}: take a part of it")
+                raise FileRefusal(f"{path}: {_label(kept)} has more than {SKETCH_ENTRIES} entries "
+                                  f"in its list {word}: take a part of it")
 
 
 def objects_of(path: Path, data: bytes) -> list[Kept]:

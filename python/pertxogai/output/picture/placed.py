@@ -107,7 +107,8 @@ def laid_on(
     return Motion(cos, sin, shift).lay(elements)
 
 
-def _turn(points: Sequence[tuple[PointMm, PointMm]], lines: Sequence[tuple[LaidLine, LaidLine]]) -> PointMm:
+def _turn(points: Sequence[tuple[PointMm, PointMm]],
+          lines: Sequence[tuple[LaidLine, LaidLine]]) -> PointMm:
     """The turn (cosine and sine) that brings the first of each pair nearest to the second."""
     froms, tos = _mean([one for one, _ in points]), _mean([two for _, two in points])
     ways = [
@@ -124,7 +125,8 @@ def _turn(points: Sequence[tuple[PointMm, PointMm]], lines: Sequence[tuple[LaidL
     return (dot / length, cross / length) if length else (1.0, 0.0)
 
 
-def _shift(points: Sequence[tuple[PointMm, PointMm]], lines: Sequence[tuple[PointMm, PointMm, PointMm]]) -> PointMm:
+def _shift(points: Sequence[tuple[PointMm, PointMm]],
+           lines: Sequence[tuple[PointMm, PointMm, PointMm]]) -> PointMm:
     """The shift that brings turned points nearest to drawn ones, and turned lines (a place, a
     way) to drawn places."""
     xx, xy, yy, x, y = 1e-9, 0.0, 1e-9, 0.0, 0.0
