@@ -1,4 +1,4 @@
-"""Import paths and names of 0.1.0, but for some of the board, which work for one more release, and warn.
+"""Import paths and names of 0.1.0, which work for one more release, and warn.
 
 A path is looked for here once it is found nowhere else: what it leads to hands on what the module
 at the new place has. Nothing is kept twice.
@@ -11,7 +11,7 @@ from collections.abc import Callable, Sequence
 from importlib import import_module
 from importlib.machinery import ModuleSpec
 from types import ModuleType
-from typing import TYPE_CHECKING
+from typing import TYPE_CHECKING, Any
 
 if TYPE_CHECKING:
     from importlib.abc import Loader
@@ -57,6 +57,19 @@ PATHS = {
     "outline": "files.dxf",
     "outline.dxf": "files.dxf.entities",
     "page": "board",
+    "page.attending": "board.overlap",
+    "page.frame": "board.placed_elements",
+    "page.freenames": "board.new_names",
+    "page.judging": "board.board_drawing",
+    "page.opening": "board.opened_files",
+    "page.parts_laid": "board.placed_parts",
+    "page.rereading": "board.line_reader",
+    "page.server": "board.app",
+    "page.serving": "board.serve",
+    "page.shown": "board.judgement_json",
+    "page.sight": "board.drawing_json",
+    "page.signs": "board.marks",
+    "page.spots": "board.anchors",
     "picture": "output.picture",
     "picture.designed": "output.picture.drawings",
     "pieces": "judging.pieces",
@@ -92,6 +105,10 @@ NAMES = {
     "kept": {"kept": "cached_on"},
     "measure": {"Spot": "PointNm"},
     "measure.solution": {"Spot": "PointNm"},
+    "page.attending": {"Attending": "Overlapping", "Later": "Deferred"},
+    "page.judging": {"Judged": "BoardDrawing"},
+    "page.removal": {"refs_of": "drawing.mentions.refs_of"},
+    "page.worker": {"Hasty": "WithDeadline"},
     "picture": {"Spot": "PointMm"},
     "picture.designed": {"Whereabouts": "DrawnPlaces"},
     "picture.marks": {"Spot": "PointMm"},
@@ -99,12 +116,16 @@ NAMES = {
     "saving": {"saving": "written_whole"},
     "shown": {"shown": "printable"},
     "sketch_told": {"sketch_told": "sketch_lines"},
+    "spelling": {"Lines": "spelling.lines.Lines", "Spellings": "Interpretation",
+                 "with_halves": "spelling.mirrors.with_halves",
+                 "with_implied": "spelling.mirrors.with_implied"},
     "spelling.spellings": {"Spellings": "Interpretation"},
     "talk": {"Talk": "LiveProgram", "TalkEnded": "LiveEnded"},
     "told": {"told": "drawing_lines"},
     "values": {"Told": "Redundant"},
 }
-"""What a name of such a module is called now, by what it was called."""
+"""What a name of such a module is called now, by what it was called; with its module, behind
+`pertxogai.`, where it stands in another."""
 
 
 def new_path(module: str) -> str | None:
@@ -119,15 +140,31 @@ def new_path(module: str) -> str | None:
 
 def former_names(module: str) -> Callable[[str], object]:
     """A `__getattr__` for a module that stays, behind `pertxogai.`, by which its former names
-    lead to the new ones, and warn."""
+    lead to the new ones, and warn once."""
     def find(name: str) -> object:
-        new = NAMES.get(module, {}).get(name)
-        if new is None:
+        if name not in NAMES.get(module, {}):
             raise AttributeError(f"module 'pertxogai.{module}' has no attribute {name!r}")
-        _warn(f"pertxogai.{module}.{name}", f"pertxogai.{module}.{new}", 3)
-        return getattr(import_module(f"pertxogai.{module}"), new)
+        return _renamed(sys.modules[f"pertxogai.{module}"], module, module, name)
 
     return find
+
+
+def _renamed(keeper: ModuleType, former: str, module: str, name: str) -> object:
+    """What a module at a former path called so, from where it is now; kept by the module that is
+    asked, so that it warns once."""
+    new = NAMES[former][name]
+    home, _, last = (f"{module}.{new}" if "." not in new else new).rpartition(".")
+    found: object = getattr(import_module(f"pertxogai.{home}"), last)
+    vars(keeper)[name] = found
+    _warn(f"pertxogai.{former}.{name}", f"pertxogai.{home}.{last}", 4)
+    return found
+
+
+def picture(judged: object, as_drawn: bool) -> Any:
+    """What `JudgedSketch.picture` gave: the output draws it now."""
+    output = import_module("pertxogai.output.sketch_picture")
+    _warn("JudgedSketch.picture", "picture_of_judged of pertxogai.output", 4)
+    return output.picture_of_judged(judged, as_drawn)
 
 
 class FormerPaths(Loader):
@@ -148,14 +185,20 @@ class FormerPaths(Loader):
     def exec_module(self, module: ModuleType) -> None:
         """Has the module hand on what that at the new place has."""
         former = module.__name__.partition(".")[2]
-        path = new_path(former)
-        found, names = import_module(f"pertxogai.{path}"), NAMES.get(former, {})
+        path = new_path(former) or former
+        found = import_module(f"pertxogai.{path}")
         _warn(module.__name__, found.__name__, 3)
-        vars(module)["__getattr__"] = lambda name: getattr(found, names.get(name, name))
+
+        def find(name: str) -> object:
+            if name in NAMES.get(former, {}):
+                return _renamed(module, former, path, name)
+            return getattr(found, name)
+
+        vars(module)["__getattr__"] = find
 
 
 def _warn(former: str, new: str, level: int) -> None:
-    warnings.warn(f"{former} is {new} now; the former path goes with the next release",
+    warnings.warn(f"{former} is {new} now; the former name goes with the next release",
                   DeprecationWarning, stacklevel=level)
 
 

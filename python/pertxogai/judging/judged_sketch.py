@@ -2,7 +2,9 @@
 from __future__ import annotations
 
 from dataclasses import dataclass
+from typing import Any
 
+from pertxogai import _former
 from pertxogai.judging.choices import Tried, beneath, tried
 from pertxogai.judging.measure.limit import Limit
 from pertxogai.language import ClusterName, Constraint, Refusal, Sketch
@@ -52,6 +54,14 @@ class JudgedSketch:
     parts: PartsReport | None = None
     limit: Limit = Limit()
     tried: Tried | None = None
+
+    def picture(self, as_drawn: bool = False) -> Any:
+        """As `picture_of_judged` of `pertxogai.output`, which is to be called: this goes with the
+        next release, and warns."""
+        return _former.picture(self, as_drawn)
+
+    def _repr_svg_(self) -> str:
+        return str(self.picture().svg)
 
 
 def judge_sketch(

@@ -4,6 +4,7 @@ from __future__ import annotations
 
 from collections.abc import Iterator
 from dataclasses import dataclass, replace
+from typing import TYPE_CHECKING
 
 from pertxogai.cached import cached_on
 from pertxogai.drawing import Drawing
@@ -90,3 +91,8 @@ def _read(heard: Facts, reading: Reading) -> Facts:
 
 __all__ = ["Axes", "Care", "Interpretation", "READINGS", "Rails", "Reading", "Spelled", "Style",
            "axes_of", "axes_said", "readings", "spell", "written"]
+
+if not TYPE_CHECKING:
+    from pertxogai._former import former_names
+
+    __getattr__ = former_names("spelling")
