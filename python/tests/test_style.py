@@ -1,7 +1,9 @@
-"""How the package is written: names, lengths of lines, and how many branches a function has."""
+"""How the package is written: types, names, lengths of lines, and how many branches a function
+has."""
 from __future__ import annotations
 
 import ast
+import importlib.util
 import subprocess
 import sys
 from collections.abc import Iterator
@@ -32,6 +34,12 @@ def test_every_name_stands_and_is_used() -> None:
     told = run("pyflakes", "pertxogai", "tests", "../tools")
     allowed = "'ezdxf' imported but unused"  # Whether it is there is what is asked.
     assert [line for line in told.splitlines() if not line.endswith(allowed)] == []
+
+
+@pytest.mark.skipif(importlib.util.find_spec("mypy") is None, reason="without python3-mypy")
+def test_types_hold_throughout(tmp_path: Path) -> None:
+    told = run("mypy", "--strict", "--no-error-summary", "--cache-dir", str(tmp_path), "pertxogai")
+    assert told.splitlines() == []
 
 
 @pytest.mark.parametrize("path", SOURCES, ids=lambda it: str(it.relative_to(PYTHON)))

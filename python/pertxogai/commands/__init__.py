@@ -85,8 +85,9 @@ def command_line() -> argparse.ArgumentParser:
 
 
 def _add_judge(commands: Commands) -> None:
-    judge = _command(commands, "judge", "tells the verdict, and what fails by your own names", "+")
+    judge = _command(commands, "judge", "tells the verdict, and what fails by your own names")
     judge.set_defaults(act=_judge)
+    judge.add_argument("file", type=Path, nargs="+", metavar="FILE", help=FILE)
     judge.add_argument("--jobs", type=int, default=os.cpu_count() or 1, metavar="N", help=JOBS)
     judge.add_argument("--json", action="store_true", help="print one object of JSON for each file")
     judge.add_argument("--write", type=Path, metavar="OUT", help=WRITE)
@@ -95,6 +96,7 @@ def _add_judge(commands: Commands) -> None:
 def _add_draw(commands: Commands) -> None:
     draw = _command(commands, "draw", "draws a sketch as SVG or DXF")
     draw.set_defaults(act=_draw)
+    draw.add_argument("file", type=Path, metavar="FILE", help=FILE)
     draw.add_argument("-o", "--output", type=Path, required=True, metavar="OUT", help=OUTPUT)
     draw.add_argument("--as-drawn", action="store_true", help="as drawn, and not as placed")
     draw.add_argument("--sketch", metavar="NAME", help="which sketch of a file that has several")
@@ -105,6 +107,7 @@ def _add_draw(commands: Commands) -> None:
 def _add_certify(commands: Commands) -> None:
     certify = _command(commands, "certify", "writes of what is good a claim that anyone can check")
     certify.set_defaults(act=_certify)
+    certify.add_argument("file", type=Path, metavar="FILE", help=FILE)
     certify.add_argument(
         "-o", "--output", type=Path, required=True, metavar="OUT.claim", help=CLAIM
     )
@@ -112,15 +115,12 @@ def _add_certify(commands: Commands) -> None:
     certify.add_argument("--sketch", metavar="NAME", help="which sketch of a file that has several")
 
 
-def _command(commands: Commands, name: str, what: str,
-             files: str | None = None) -> argparse.ArgumentParser:
-    """The reader of the words that several commands take. files: how many there may be, as argparse
-    has it; one where it is None."""
+def _command(commands: Commands, name: str, what: str) -> argparse.ArgumentParser:
+    """The reader of the words that several commands take."""
     formatter = argparse.RawDescriptionHelpFormatter
     parser = commands.add_parser(
         name, help=what, description=what, epilog=EPILOG, formatter_class=formatter
     )
-    parser.add_argument("file", type=Path, nargs=files, metavar="FILE", help=FILE)
     parser.add_argument("--freeze", action="store_true", help=FREEZE)
     parser.add_argument("--within", type=_limit, default=str(DEFAULT), metavar="N", help=WITHIN)
     parser.add_argument("--program", metavar="PATH", help="the program `sketch`")

@@ -488,7 +488,7 @@ def test_of_a_row_that_repeats_itself(program) -> None:
 
 # What is open, and says too much or what has no shape.
 
-def told(text: str, call: str, program: Asks) -> list[object]:
+def told(text: str, call: str, program: Solver) -> list[object]:
     answer = Desk(program).answer(call, {"text": text})
     lines = answer["judgement"]["lines"] if call == "judge" else answer["lines"]
     return [each["text"] for each in lines]
