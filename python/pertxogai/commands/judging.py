@@ -2,7 +2,6 @@
 from __future__ import annotations
 
 import argparse
-import json
 from collections.abc import Sequence
 from dataclasses import replace
 from pathlib import Path
@@ -67,6 +66,8 @@ def judge_file(path: Path, options: argparse.Namespace) -> Exit:
     if options.write is not None:
         _write_placed(path, options.write, found, outcomes)
     if options.json:
+        import json
+
         print(json.dumps(file_json(path, outcomes), indent=2))
     else:
         for it in outcomes:

@@ -4,7 +4,6 @@ from __future__ import annotations
 
 import re
 from collections.abc import Iterable
-from difflib import get_close_matches
 
 from pertxogai.drawing.references import DATUM_NAMES
 from pertxogai.drawing.refusal import WordFault
@@ -49,6 +48,8 @@ def check_constraint_name(name: str) -> None:
 
 def nearest(word: str, known: Iterable[str]) -> str:
     """`, or do you mean X?`, where a known word is like this one, else nothing."""
+    from difflib import get_close_matches
+
     lowered = {each.lower(): each for each in known}
     found = get_close_matches(word.lower(), lowered, n=1, cutoff=0.7)
     return f", or do you mean {lowered[found[0]]}?" if found else ""
