@@ -31,7 +31,10 @@ _former.install()
 if not TYPE_CHECKING:  # A type checker reads the imports above, and knows each name.
     from pertxogai._later import handed_on
 
-    __getattr__ = handed_on(__name__, {
-        "Drawing": "drawing", "Program": "program", "Sketch": "language", "good_of": "judging",
-        "judge": "judging", "judge_sketch": "judging", "picture_of_judged": "output",
-        "read_drawing": "drawing", "read_inputs": "files", "write_drawing": "drawing"})
+    __getattr__, __dir__ = handed_on(__name__, {
+        ".drawing": "Drawing read_drawing write_drawing",
+        ".files": "read_inputs",
+        ".judging": "good_of judge judge_sketch",
+        ".language": "Sketch",
+        ".output": "picture_of_judged",
+        ".program": "Program"})

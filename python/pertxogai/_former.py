@@ -113,6 +113,7 @@ NAMES = {
     "picture.designed": {"Whereabouts": "DrawnPlaces"},
     "picture.marks": {"Spot": "PointMm"},
     "program": {"Asks": "Solver"},
+    "reports.answer": {"Report": "program.reports.report.Report"},
     "saving": {"saving": "written_whole"},
     "shown": {"shown": "printable"},
     "sketch_told": {"sketch_told": "sketch_lines"},

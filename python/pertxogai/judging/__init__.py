@@ -4,20 +4,39 @@ A drawing (or a sketch) and a `Solver` go in; a judgement comes out: the program
 drawing's names, where it is placed, what is measured there, and what a person asks next. `good`
 says by a type whether a part may be cut by it.
 """
-from pertxogai.judging.departures import Departure, DepartureKind
-from pertxogai.judging.excess import Excess, Rest, TooMuch, too_much
-from pertxogai.judging.faults import Amount, Failure
-from pertxogai.judging.good import (
-    GoodJudgement, GoodSketch, NotGood, good_of, good_sketch_of, reasons_against)
-from pertxogai.judging.judged_drawing import JudgedDrawing
-from pertxogai.judging.judged_sketch import JudgedSketch, TextRefused, concerned, judge_sketch
-from pertxogai.judging.judgement import (
-    Judgement, LeftOut, judge, judge_at_once, weighed, with_choices, with_counts)
-from pertxogai.judging.limits import DrawingRefused
-from pertxogai.judging.missing import Joint, Missing, Piece, Tie
-from pertxogai.judging.naming import Names
-from pertxogai.judging.surplus import Surplus, Then
-from pertxogai.judging.trials import PlaceBy, Question, Trial, first_good
+from typing import TYPE_CHECKING
+
+if TYPE_CHECKING:
+    from pertxogai.judging.departures import Departure, DepartureKind
+    from pertxogai.judging.excess import Excess, Rest, TooMuch, too_much
+    from pertxogai.judging.faults import Amount, Failure
+    from pertxogai.judging.good import (
+        GoodJudgement, GoodSketch, NotGood, good_of, good_sketch_of, reasons_against)
+    from pertxogai.judging.judged_drawing import JudgedDrawing
+    from pertxogai.judging.judged_sketch import JudgedSketch, TextRefused, concerned, judge_sketch
+    from pertxogai.judging.judgement import (
+        Judgement, LeftOut, judge, judge_at_once, weighed, with_choices, with_counts)
+    from pertxogai.judging.limits import DrawingRefused
+    from pertxogai.judging.missing import Joint, Missing, Piece, Tie
+    from pertxogai.judging.naming import Names
+    from pertxogai.judging.surplus import Surplus, Then
+    from pertxogai.judging.trials import PlaceBy, Question, Trial, first_good
+else:
+    from pertxogai._later import handed_on
+
+    __getattr__, __dir__ = handed_on(__name__, {
+        ".departures": "Departure DepartureKind",
+        ".excess": "Excess Rest TooMuch too_much",
+        ".faults": "Amount Failure",
+        ".good": "GoodJudgement GoodSketch NotGood good_of good_sketch_of reasons_against",
+        ".judged_drawing": "JudgedDrawing",
+        ".judged_sketch": "JudgedSketch TextRefused concerned judge_sketch",
+        ".judgement": "Judgement LeftOut judge judge_at_once weighed with_choices with_counts",
+        ".limits": "DrawingRefused",
+        ".missing": "Joint Missing Piece Tie",
+        ".naming": "Names",
+        ".surplus": "Surplus Then",
+        ".trials": "PlaceBy Question Trial first_good"})
 
 __all__ = ["Amount", "Departure", "DepartureKind", "DrawingRefused", "Excess", "Failure",
            "GoodJudgement", "GoodSketch", "Joint", "JudgedDrawing", "JudgedSketch", "Judgement",

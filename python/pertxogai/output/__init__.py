@@ -16,12 +16,15 @@ if TYPE_CHECKING:
 else:
     from pertxogai._later import handed_on
 
-    __getattr__ = handed_on(__name__, {
-        "DrawingOutcome": "outcome", "DrawingSheet": "drawing_sheet", "NoPlaces": "drawing_sheet",
-        "Outcome": "outcome", "Picture": "picture", "Release": "release", "Sheet": "outcome",
-        "SketchOutcome": "outcome", "SketchSheet": "sketch_sheet", "drawing_json": "drawing_text",
-        "drawing_lines": "drawing_text", "picture_of_judged": "sketch_picture",
-        "sketch_json": "sketch_text", "sketch_lines": "sketch_text"})
+    __getattr__, __dir__ = handed_on(__name__, {
+        ".drawing_sheet": "DrawingSheet NoPlaces",
+        ".drawing_text": "drawing_json drawing_lines",
+        ".outcome": "DrawingOutcome Outcome Sheet SketchOutcome",
+        ".picture": "Picture",
+        ".release": "Release",
+        ".sketch_picture": "picture_of_judged",
+        ".sketch_sheet": "SketchSheet",
+        ".sketch_text": "sketch_json sketch_lines"})
 
 __all__ = ["DrawingOutcome", "DrawingSheet", "NoPlaces", "Outcome", "Picture", "Release", "Sheet",
            "SketchOutcome", "SketchSheet", "drawing_json", "drawing_lines", "picture_of_judged",
