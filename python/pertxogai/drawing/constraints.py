@@ -42,6 +42,7 @@ class Ratio:
 
 
 AngleValue = Degrees | Ratio
+"""An angle as it is written."""
 
 
 @dataclass(frozen=True)
@@ -280,3 +281,4 @@ Constraint = (
     | ParallelDistance | Radius | Diameter | Tangent | Equal | Concentric | Symmetric
     | Midpoint | Fixed
 )
+"""What holds shapes to each other, or to a place."""

@@ -69,6 +69,7 @@ class Arc:
 
 
 Shape = Point | Segment | Circle | Arc
+"""What is drawn, at places in micrometres."""
 
 
 @dataclass(frozen=True)
@@ -85,3 +86,4 @@ class Axis:
 
 
 Datum = Origin | Axis
+"""What is always there: the origin, and the two axes through it."""

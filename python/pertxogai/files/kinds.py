@@ -38,6 +38,7 @@ class DesignerDrawing:
 
 
 Input = SketchText | DesignerDrawing
+"""A sketch of a file."""
 
 
 @dataclass(frozen=True)

@@ -159,3 +159,4 @@ class Block:
 
 
 Constraint = Distance | On | Tangent | Outside | Inside | Angle | Block
+"""A dimension of the language: lengths in micrometres, angles as ratios."""

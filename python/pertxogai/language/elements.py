@@ -81,3 +81,4 @@ class Circle:
 
 
 Element = Point | Line | Circle
+"""What a sketch is drawn of: places in micrometres."""

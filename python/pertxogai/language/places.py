@@ -47,3 +47,4 @@ class PlacedCircle:
 
 
 Placed = PlacedPoint | PlacedLine | PlacedCircle
+"""Where an element lies: places in nanometres, directions in parts of 10⁹."""

@@ -97,6 +97,7 @@ class Ask(Enum):
 
 
 SessionLine = Element | Constraint | Drop | SetLength | SetRatio | Erase | Ask
+"""A line of a session: what is drawn, dimensioned, edited or asked."""
 
 
 @dataclass(frozen=True)

@@ -5,6 +5,7 @@ from dataclasses import dataclass, field
 from enum import Enum
 
 PointMm = tuple[float, float]
+"""x and y in millimetres."""
 
 
 class Manner(Enum):
@@ -67,6 +68,7 @@ class Bow:
 
 
 Mark = Dot | Stroke | Ring | Bow
+"""What is drawn of a shape."""
 
 
 @dataclass(frozen=True)
@@ -102,6 +104,7 @@ class Square:
 
 
 Dimension = LengthBar | Tag | Square
+"""A dimension as it is drawn."""
 
 
 @dataclass(frozen=True)

@@ -42,6 +42,7 @@ class CircleEntity:
 
 
 Entity = PointEntity | LineEntity | CircleEntity
+"""What the program writes of an element as DXF: places in nanometres."""
 _CODES = {"POINT": (10, 20), "LINE": (10, 20, 11, 21), "CIRCLE": (10, 20, 40)}
 
 

@@ -160,6 +160,7 @@ class TurnedFault:
 
 
 Fault = NumberFault | RangeFault | FrameFault | ConstraintFault | LineFault | TurnedFault
+"""Why there are no coordinates."""
 
 
 def read_fault(text: str) -> Fault:

@@ -38,3 +38,4 @@ Report = (
     | tuple[Reply, ...]
     | tuple[tuple[str, ...], ...]
 )
+"""What `read_answer` may return; some commands are answered by several values."""

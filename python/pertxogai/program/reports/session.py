@@ -45,6 +45,7 @@ class RefusedEdit:
 
 
 Reply = Accepted | RefusedEdit | CheckReport | Plan | Solved | Fault | Sketch
+"""What a line of a session is answered."""
 
 
 def read_session(text: str) -> tuple[Reply, ...]:
