@@ -9,6 +9,7 @@ from functools import lru_cache
 from math import lcm
 
 from pertxogai import language
+from pertxogai.language.numbers import nearest_whole
 from pertxogai.spelling.facts import Owner
 from pertxogai.spelling.linear import Number
 
@@ -124,5 +125,5 @@ def _line(name: str, x1: int, y1: int, x2: int, y2: int) -> language.Line:
 
 
 def _whole(value: Number) -> int:
-    return language.numbers.nearest_whole(value)
+    return nearest_whole(value)
 

@@ -1,0 +1,91 @@
+"""What a spelling is: the sketch, and what each of its lines and constraints stands for."""
+from __future__ import annotations
+
+from dataclasses import dataclass
+from functools import cached_property
+
+from pertxogai import language
+from pertxogai.spelling.drafts import Owners, Rounded
+from pertxogai.spelling.facts import DATUM, Knot, Line, Owner
+from pertxogai.spelling.linear import Number
+from pertxogai.spelling.rails import Rail
+from pertxogai.spelling.style import Style
+
+Track = Rail | Line
+"""What becomes a line of the sketch: a rail, or a line that leans."""
+
+
+@dataclass(frozen=True)
+class Heading:
+    """A line of the sketch: which way it runs in its frame, `turn` counter-clockwise from the
+    first axis, and the rail that it is, with its place along the axis that it fixes."""
+
+    name: str
+    frame: int
+    quarters: int | None
+    radians: float
+    rail: Rail | None
+    at_um: Number
+
+
+@dataclass(frozen=True)
+class Contradiction:
+    """What can't be spelled and isn't so where the rest is placed: by how much it is off, in
+    micrometres, None where the rest has no places; who says it, and who says the rest."""
+
+    amount_um: Number | None
+    owners: frozenset[Owner]
+    others: frozenset[Owner]
+
+
+@dataclass(frozen=True)
+class Care:
+    """What else is asked of a spelling. insist: what is linear and told twice is spelled twice.
+    fine: an angle that is no ratio is told by two that add up to it, with a line of help. off:
+    what is told twice by points of its own."""
+
+    insist: bool = False
+    fine: bool = False
+    off: tuple[Contradiction, ...] = ()
+
+
+@dataclass(frozen=True)
+class Behind:
+    """A line of help from which a height is told: so many micrometres of the drawing behind the
+    line of a rail, and as much longer is the height told."""
+
+    rail: str
+    back_um: int
+
+
+@dataclass(frozen=True)
+class Spelled:
+    """A drawing in the language. The sketch is `scale` times as large as the drawing.
+
+    said: who says each constraint, in their order. points: the name of each knot's point.
+    tracks: what each line stands for. left_out: who says something that isn't in the sketch.
+    headings: which way each line runs. rounded: values that had to be rounded. coarse: whether an
+    angle is told by the ratio that is next to it. behind: the lines of help behind a rail.
+    unmeasured: the points of help between which a distance stands for what has no value."""
+
+    style: Style
+    sketch: language.Sketch
+    scale: int
+    said: tuple[Owners, ...]
+    points: dict[Knot, str]
+    tracks: dict[str, Track | None]
+    headings: tuple[Heading, ...]
+    left_out: frozenset[Owner]
+    rounded: tuple[Rounded, ...]
+    coarse: bool
+    behind: dict[str, Behind]
+    unmeasured: frozenset[tuple[str, str]]
+
+    @cached_property
+    def owners(self) -> tuple[frozenset[Owner], ...]:
+        """Who says each constraint, in their order."""
+        return tuple(said() for said in self.said)
+
+    def tied(self) -> bool:
+        """Whether a line of it is told against the datum's axes; else all of it may turn."""
+        return any(each.frame == DATUM for each in self.headings)

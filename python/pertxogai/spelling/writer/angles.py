@@ -1,0 +1,148 @@
+"""The lines of each frame tied by angles."""
+from __future__ import annotations
+
+from fractions import Fraction
+from functools import partial
+from math import cos, sin
+
+from pertxogai.spelling.axes import Coordinate
+from pertxogai.spelling.drafts import Draft, Owners, said_by
+from pertxogai.spelling.facts import Between, Line, Owner
+from pertxogai.spelling.lean import Lean
+from pertxogai.spelling.rails import Rail
+from pertxogai.spelling.spelled import Track
+from pertxogai.spelling.writer.layout import Layout
+
+
+class Angles:
+    """Ties the lines of a layout, with lines of help where that takes some."""
+
+    def __init__(self, layout: Layout) -> None:
+        self.layout = layout
+
+    def write(self, tracks: list[Track]) -> None:
+        """Ties the lines of each frame by angles."""
+        mine: dict[int, list[Track]] = {}
+        for track in tracks:
+            mine.setdefault(self.layout.frame(track).number, []).append(track)
+        for number in sorted(mine):
+            self._tie(mine[number])
+
+    def _tie(self, tracks: list[Track]) -> None:
+        """Ties the lines of one frame."""
+        layout = self.layout
+        base, group = tracks[0], self._tied(tracks)
+        other = next((each for each in tracks if layout.lean(each) != layout.lean(base)), None)
+        if other is not None and _leader(group, other) != _leader(group, base):
+            self._tie_to(group, base, other)
+        for track in tracks:
+            if _leader(group, track) == _leader(group, base):
+                continue
+            if layout.lean(track) != layout.lean(base):
+                self._tie_to(group, base, track)
+            elif other is not None:
+                self._tie_to(group, other, track)
+            else:
+                self._square_help(base, track)
+
+    def _tied(self, tracks: list[Track]) -> dict[Track, Track]:
+        """The tracks in groups, each with another of its own or itself: those of which the
+        directions follow from others, and those of which they are told of each other, which are
+        tied by these."""
+        group, base = {track: track for track in tracks}, tracks[0]
+        for track in tracks:
+            if track in self.layout.axes.facts.implied and track != base:
+                group[_leader(group, track)] = _leader(group, base)
+        for first, second, lean, owner in self._near_ties(tracks):
+            if _leader(group, first) != _leader(group, second):
+                group[_leader(group, second)] = _leader(group, first)
+                self._angle(first, second, lean, said_by({owner}))
+        return group
+
+    def _tie_to(self, group: dict[Track, Track], base: Track, track: Track) -> None:
+        """Ties a line to another by their angle."""
+        layout = self.layout
+        group[_leader(group, track)] = _leader(group, base)
+        self._angle(base, track, -layout.lean(base) + layout.lean(track),
+                    partial(layout.direction_owners, base, track))
+
+    def _near_ties(self, tracks: list[Track]) -> list[tuple[Track, Track, Lean, Owner]]:
+        """The angles that are told against the line that the designer names, or of which a normal
+        is one."""
+        layout = self.layout
+        found = []
+        for leans in layout.axes.directions.joined:
+            first, second = self._track_of(leans.first), self._track_of(leans.second)
+            normal = isinstance(leans.second, Between) and isinstance(second, Between)
+            if (layout.style.near()
+                or normal) and first in tracks and second in tracks and not leans.lean.level():
+                assert first is not None and second is not None
+                found.append((first, second, leans.lean, leans.owner))
+        return found
+
+    def _track_of(self, line: Line) -> Track | None:
+        """The track that stands for a line."""
+        layout = self.layout
+        upwards = layout.axes.fixed_axis(line)
+        if upwards is None:
+            return line
+        knot = layout.axes.lines.members(line)[0].knot
+        return layout.rails.rail(Coordinate(layout.axes.frame(line).number, upwards, knot))
+
+    def _angle(self, first: Track, second: Track, lean: Lean, by: Owners) -> None:
+        """Says how one track leans against another; by two angles and a line of help between, where
+        that is asked for and it is no ratio."""
+        def said() -> frozenset[Owner]:
+            return by() - {Owner(0)}
+
+        layout = self.layout
+        names = layout.names[first], layout.names[second]
+        halves = lean.halves() if layout.care.fine else None
+        if halves is None:
+            layout.coarse |= not lean.exact()
+            layout.sheet.drafts.append(Draft(*names, said, ratio=lean.ratio()))
+            return
+        between = f"H{names[1]}"
+        knot = layout.a_point_of(second)
+        (x, y), (u, v) = layout.sheet.lines[names[1]]
+        c, s = Fraction(cos(halves[1].radians())), Fraction(sin(halves[1].radians()))
+        a, b = (u - x) * c + (v - y) * s, (v - y) * c - (u - x) * s
+        x, y = layout.ways[knot]
+        layout.sheet.lines[between] = ((x, y), (x + a, y + b))
+        layout.say(layout.points[knot], between, said)
+        layout.sheet.drafts.append(Draft(names[0], between, said, ratio=halves[0].ratio()))
+        layout.sheet.drafts.append(Draft(between, names[1], said, ratio=halves[1].ratio()))
+
+    def _square_help(self, base: Track, track: Track) -> None:
+        """A line of help, square to two parallels, through a point of the first that has one."""
+        layout = self.layout
+        first, second = (base, track) if self._has_point(base) else (track, base)
+        name = self._help(first)
+        layout.sheet.drafts.append(Draft(name, layout.names[second], partial(
+            layout.direction_owners, base, track), ratio=(1, 0)))
+
+    def _has_point(self, track: Track) -> bool:
+        """Whether a point of the sketch lies by a track: by the datum's there may be none."""
+        layout = self.layout
+        return not isinstance(track, Rail) or any(each.knot in layout.points
+                                                  for each in layout.rails.members[track])
+
+    def _help(self, base: Track) -> str:
+        """The line of help that is square to a track, written where it isn't yet."""
+        layout = self.layout
+        name = f"N{layout.names[base]}"
+        if name not in layout.sheet.lines:
+            (x, y), (u, v) = layout.sheet.lines[layout.names[base]]
+            knot = layout.a_point_of(base)
+            x, y, a, b = *layout.ways[knot], u - x, v - y
+            layout.sheet.lines[name] = ((x, y), (x - b, y + a))
+            said = partial(layout.direction_owners, base, base)
+            layout.say(layout.points[knot], name, said)
+            layout.sheet.drafts.append(Draft(layout.names[base], name, said, ratio=(1, 0)))
+        return name
+
+
+def _leader(group: dict[Track, Track], track: Track) -> Track:
+    while group[track] != track:
+        track = group[track]
+    return track
