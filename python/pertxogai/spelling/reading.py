@@ -1,0 +1,88 @@
+"""The readings of a drawing's words, and how the drawing is spelled by each."""
+from __future__ import annotations
+
+from collections.abc import Iterator
+from dataclasses import dataclass, replace
+
+from pertxogai.cached import cached_on
+from pertxogai.drawing import Drawing
+from pertxogai.spelling.axes import Axes
+from pertxogai.spelling.crossings import with_crossings
+from pertxogai.spelling.facts import Facts
+from pertxogai.spelling.half_arcs import with_half_arcs
+from pertxogai.spelling.interpretation import Interpretation
+from pertxogai.spelling.lowering import lowered
+from pertxogai.spelling.middles import with_ways
+from pertxogai.spelling.polygons import with_polygons
+from pertxogai.spelling.rails import Rails
+from pertxogai.spelling.settling import settled_axes
+from pertxogai.spelling.slots import with_slots
+from pertxogai.spelling.spelled import Spelled
+from pertxogai.spelling.style import Style
+from pertxogai.spelling.writing import written
+
+
+def spell(drawing: Drawing, style: Style) -> Spelled:
+    """The drawing in the language, in one style, without what only placed parts tell."""
+    axes = axes_of(drawing)
+    return written(axes, Rails(axes, style), style)
+
+
+@dataclass(frozen=True)
+class Reading:
+    """How a drawing's words are taken. slots: ways between centres along a line are told for
+    radii. middles: regular polygons are told by the middles of opposite corners. ways: a middle
+    of two points is told along the line through them."""
+
+    slots: bool = True
+    middles: bool = False
+    ways: bool = False
+
+
+READINGS = (Reading(), Reading(middles=True), Reading(slots=False), Reading(ways=True))
+"""The readings in the order in which they are tried."""
+
+
+def axes_of(drawing: Drawing, reading: Reading = READINGS[0]) -> Axes:
+    """What a drawing says of x and y."""
+    return Interpretation.of(_read(lowered(drawing), reading)).axes
+
+
+def axes_said(drawing: Drawing) -> Axes:
+    """What a drawing says of x and y, before a reading takes some of it otherwise."""
+    return settled_axes(_met(lowered(drawing)))
+
+
+def _met(heard: Facts) -> Facts:
+    """The facts, with the points that lie in crossings, and without what arcs say twice."""
+    return with_half_arcs(with_crossings(replace(heard, own=dict(heard.own))))
+
+
+def readings(drawing: Drawing, before: Drawing = Drawing()) -> Iterator[Interpretation]:
+    """How a drawing is spelled by each reading that takes it otherwise than those before. What an
+    edit has left of the drawing before is taken over."""
+    heard = lowered(drawing, before)
+    seen: list[Facts] = []
+    _made(drawing)[:] = []
+    for reading in READINGS:
+        facts = _read(heard, reading)
+        if facts not in seen:
+            seen.append(facts)
+            known = (each.redrawn(facts) for each in _made(before))
+            found = next((each for each in known if each), None) or Interpretation.of(facts)
+            _made(drawing).append(found)
+            yield found
+
+
+@cached_on
+def _made(drawing: Drawing) -> list[Interpretation]:
+    """What was spelled of a drawing so far."""
+    return []
+
+
+def _read(heard: Facts, reading: Reading) -> Facts:
+    """The facts as a reading takes them."""
+    facts = with_polygons(_met(heard), reading.middles)
+    if reading.ways:
+        facts = with_ways(facts)
+    return with_slots(facts) if reading.slots else facts
