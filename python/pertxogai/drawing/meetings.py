@@ -6,6 +6,7 @@ from collections.abc import Iterator
 from copy import copy
 from typing import Protocol
 
+from pertxogai.classes import Classes
 from pertxogai.drawing.constraints import (
     Coincident, Concentric, Constraint, Perpendicular, PointOn, Tangent, XDistance, YDistance)
 from pertxogai.drawing.places import Place
@@ -34,7 +35,7 @@ class Meetings:
         self._drawing = drawing
         order = [ORIGIN, *drawing.points()]
         self._rank = {point: place for place, point in enumerate(order)}
-        self._leader: dict[PointRef, PointRef] = {}
+        self._classes: Classes[PointRef] = Classes()
         self._ahead: dict[int, bool] = {}
         for pair in joined(drawing):
             self._join(pair)
@@ -49,23 +50,20 @@ class Meetings:
 
     def count(self) -> int:
         """How many points there are beside the origin, where those that are one count once."""
-        return len(self._rank) - 1 - len(self._leader)
+        return len(self._rank) - 1 - len(self._classes.led())
 
     def led(self) -> Iterator[tuple[PointRef, PointRef]]:
         """Each point that is one with an earlier one, with the first of these."""
-        return ((point, self.leader(point)) for point in self._leader)
+        return ((point, self.leader(point)) for point in self._classes.led())
 
     def leader(self, point: PointRef) -> PointRef:
         """The first of the points that are one with this one; the origin comes before all."""
-        while point in self._leader:
-            point = self._leader[point]
-        return point
+        return self._classes.leader(point)
 
     def _join(self, pair: Pair) -> None:
         first, second = sorted((self.leader(pair.first), self.leader(pair.second)),
                                key=lambda point: self._rank[point])
-        if first != second:
-            self._leader[second] = first
+        self._classes.join(first, second)
 
     def drawn(self, point: PointRef) -> Place:
         """Where a point counts as drawn: where the first of those that are one with it is."""

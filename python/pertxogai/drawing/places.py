@@ -24,6 +24,10 @@ class Place:
     x_um: Fraction
     y_um: Fraction
 
+    def way_to(self, other: Place) -> tuple[Fraction, Fraction]:
+        """The way to another place by its components, in micrometres."""
+        return other.x_um - self.x_um, other.y_um - self.y_um
+
 
 def um_of_mm(value: str | int | float | Decimal | Fraction) -> Fraction:
     """Micrometres of a number of millimetres, exactly.

@@ -14,8 +14,8 @@ from pertxogai.drawing.constraints import (
     AngleBetween, Degrees, Ratio, Sense, Tangent, XDistance, YDistance)
 from pertxogai.drawing.drawing import Drawing
 from pertxogai.drawing.geometry import Axis
-from pertxogai.drawing.places import Place
 from pertxogai.drawing.references import PointRef, ShapeRef, Which
+from pertxogai.exact import cross, dot
 
 Way = tuple[Fraction, Fraction]
 """A direction by its two components, of any length."""
@@ -48,21 +48,22 @@ def way(drawing: Drawing, line: ShapeRef) -> Way:
     shape = drawing.shape(line.name)
     if isinstance(shape, Axis):
         return (Fraction(0), Fraction(1)) if shape.upwards else (Fraction(1), Fraction(0))
-    return _between(drawing.meetings.drawn(PointRef(line.name, Which.START)),
-                    drawing.meetings.drawn(PointRef(line.name, Which.END)))
+    start, end = (drawing.meetings.drawn(PointRef(line.name, which))
+                  for which in (Which.START, Which.END))
+    return start.way_to(end)
 
 
 def turn(drawing: Drawing, angle: AngleBetween) -> Turn:
     """The turn that an angle asks for, from the first line's direction to the second's."""
     first, second = way(drawing, angle.first), way(drawing, angle.second)
-    left, ahead = _cross(first, second) >= 0, _dot(first, second) >= 0
+    left, ahead = cross(first, second) >= 0, dot(first, second) >= 0
     match angle.value, angle.sense:
         case Degrees(value), Sense.SIGNED:
             return Degrees(_within_half_turn(value))
         case Degrees(value), _:
             return _drawn_degrees(drawing, angle, value, left, ahead)
         case Ratio(p, q), Sense.SIGNED:
-            return Slope(p, q, q * _dot(first, second) + p * _cross(first, second) < 0)
+            return Slope(p, q, q * dot(first, second) + p * cross(first, second) < 0)
         case Ratio(p, q), _:
             return Slope(abs(p) if left == ahead else -abs(p), q, not ahead)
     raise AssertionError(angle)
@@ -92,23 +93,11 @@ def touch(drawing: Drawing, tangent: Tangent) -> Touch:
     difference of the drawn radii than to their sum, that is nearer than the greater radius."""
     first, second = (drawing.meetings.drawn(PointRef(each.name, Which.CENTRE))
                      for each in (tangent.first, tangent.second))
-    apart = _between(first, second)
+    apart = first.way_to(second)
     greater = max(drawing.drawn_radius_um(each.name) for each in (tangent.first, tangent.second))
-    return Touch.INSIDE if _dot(apart, apart) < greater * greater else Touch.OUTSIDE
+    return Touch.INSIDE if dot(apart, apart) < greater * greater else Touch.OUTSIDE
 
 
 def _within_half_turn(degrees: Fraction) -> Fraction:
     rest = degrees % 360
     return rest if rest <= 180 else rest - 360
-
-
-def _between(first: Place, second: Place) -> Way:
-    return second.x_um - first.x_um, second.y_um - first.y_um
-
-
-def _cross(first: Way, second: Way) -> Fraction:
-    return first[0] * second[1] - first[1] * second[0]
-
-
-def _dot(first: Way, second: Way) -> Fraction:
-    return first[0] * second[0] + first[1] * second[1]

@@ -12,6 +12,7 @@ from fractions import Fraction
 from itertools import combinations
 
 from pertxogai.drawing import AngleBetween, Arc, Distance, Drawing, PointRef, Segment, Sense, Which
+from pertxogai.exact import Vector, cross, dot
 from pertxogai.judging.measure.solution import Solution
 from pertxogai.judging.told_runs import ToldRuns
 
@@ -63,7 +64,7 @@ class _Edge:
     def parts(self, other: _Edge) -> bool:
         """Whether the ends of another edge lie on different sides of this one's line."""
         (x, y), way = self.start, self.way
-        sides = [_cross(way, (u - x, v - y)) for u, v in (other.start, other.end)]
+        sides = [cross(way, (u - x, v - y)) for u, v in (other.start, other.end)]
         return sides[0] * sides[1] < 0
 
     def crosses(self, other: _Edge) -> bool:
@@ -169,36 +170,29 @@ def _whole(nm: int | Fraction) -> int:
     return nm.numerator // nm.denominator
 
 
-def _cross(first: PointNm, second: PointNm) -> int:
-    return first[0] * second[1] - first[1] * second[0]
-
-
-def _dot(first: PointNm, second: PointNm) -> int:
-    return first[0] * second[0] + first[1] * second[1]
-
-
 def _turned(edges: list[_Both], free: bool) -> Iterator[Departure]:
     """The edges that run against their drawn way, once that is turned by the turn of all."""
     cosine, sine = _turn(edges) if free else (1, 0)
     for edge in edges:
         first, second = edge.drawn.way, edge.placed.way
-        if cosine * _dot(first, second) + sine * _cross(first, second) < 0:
+        if cosine * dot(first, second) + sine * cross(first, second) < 0:
             yield Departure(DepartureKind.TURNED, (edge.name,))
 
 
-def _turn(edges: list[_Both]) -> PointNm:
+def _turn(edges: list[_Both]) -> Vector:
     """The turn after which the drawn edges are nearest to the placed ones, by least squares:
     its cosine and sine, times one number above 0. No turn where none fits better than
     another."""
     ways = [(edge.drawn.way, edge.placed.way) for edge in edges]
-    turn = sum(_dot(*each) for each in ways), sum(_cross(*each) for each in ways)
+    turn = sum(dot(*each) for each in ways), sum(cross(*each) for each in ways)
     return turn if any(turn) else (1, 0)
 
 
 def _side(first: PointNm, second: PointNm) -> int:
     """To which side a corner turns: 1 to the left, -1 to the right, 0 where it is straight."""
-    turn, reach = _cross(first, second), max(abs(each) for each in (*first, *second))
-    return 0 if abs(turn) <= STRAIGHT_NM * reach else 1 if turn > 0 else -1
+    turn = cross(first, second)
+    straight = STRAIGHT_NM * max(abs(each) for each in (*first, *second))
+    return 0 if -straight <= turn <= straight else 1 if turn > 0 else -1
 
 
 def _pairs(drawing: Drawing, edges: list[_Both]) -> list[tuple[int, int]]:
@@ -213,8 +207,8 @@ def _pairs(drawing: Drawing, edges: list[_Both]) -> list[tuple[int, int]]:
 def _corners(drawing: Drawing, outline: list[_Both]) -> Iterator[Departure]:
     for first, second in _pairs(drawing, outline):
         one, other = outline[first], outline[second]
-        before = _cross(one.drawn.way, other.drawn.way)
-        if before * _cross(one.placed.way, other.placed.way) < 0:
+        before = cross(one.drawn.way, other.drawn.way)
+        if before * cross(one.placed.way, other.placed.way) < 0:
             yield Departure(DepartureKind.OTHER_SIDE, (one.name, other.name))
 
 

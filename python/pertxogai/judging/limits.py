@@ -3,10 +3,7 @@ or since no sketch can say them."""
 from __future__ import annotations
 
 from pertxogai.drawing import Drawing, ends_made_one
-from pertxogai.drawing.reading import MOST_CONSTRAINTS
-
-MOST_ELEMENTS = 2_000
-"""The program takes no more points and lines."""
+from pertxogai.language.declared import MOST_CONSTRAINTS, MOST_ELEMENTS
 
 
 class DrawingRefused(Exception):

@@ -10,6 +10,7 @@ from fractions import Fraction
 from math import isqrt
 
 from pertxogai.drawing import X_AXIS, Y_AXIS
+from pertxogai.exact import between
 from pertxogai.spelling.axes import rank
 from pertxogai.spelling.facts import Apart, Facts, Knot, Line, Off, RadiusOf, Sized
 from pertxogai.spelling.linear import Form, LinearSystem, Number
@@ -49,9 +50,9 @@ class Sizes:
     def _distance_nm(self, fact: Apart | Off) -> Fraction:
         """How far a point is placed from another, or from a line."""
         if isinstance(fact, Apart):
-            return _length(_between(self._spots[fact.first], self._spots[fact.second]))
+            return _length(between(self._spots[fact.first], self._spots[fact.second]))
         start, way = self._line(fact.line)
-        step = _between(start, self._spots[fact.point])
+        step = between(start, self._spots[fact.point])
         if not any(way):
             return _length(step)
         return abs(Fraction(way[0] * step[1] - way[1] * step[0])) / _length(way)
@@ -61,11 +62,7 @@ class Sizes:
         if line in (X_AXIS, Y_AXIS):
             return (0, 0), ((1, 0) if line == X_AXIS else (0, 1))
         first, second = (self._spots[knot] for knot in self._facts.own[line])
-        return first, _between(first, second)
-
-
-def _between(first: PointNm, second: PointNm) -> PointNm:
-    return second[0] - first[0], second[1] - first[1]
+        return first, between(first, second)
 
 
 def _length(way: PointNm) -> Fraction:

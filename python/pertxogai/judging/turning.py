@@ -12,6 +12,7 @@ from fractions import Fraction
 from itertools import chain, combinations
 from math import cos, isqrt, sin
 
+from pertxogai.exact import between, square
 from pertxogai.spelling.axes import Axes, Coordinate
 from pertxogai.spelling.facts import DATUM, Knot
 from pertxogai.spelling.lean import Lean
@@ -36,7 +37,7 @@ class Told:
 def axis_of(axes: Axes, spots: Mapping[Knot, PointNm]) -> PointNm | None:
     """The direction of the datum's x axis among the printed places, by the longest way that tells
     it; None where none does, so that the drawing may turn as a whole. Its length is any."""
-    for told in sorted(_ways(axes, spots), key=lambda each: -_square(_way(spots, each))):
+    for told in sorted(_ways(axes, spots), key=lambda each: -square(_way(spots, each))):
         wanted = _wanted(axes, told, _way(spots, told))
         if wanted is not None:
             return _turned_back(_way(spots, told), wanted)
@@ -48,8 +49,8 @@ def drawn_axis(axes: Axes, spots: Mapping[Knot, PointNm]) -> PointNm | None:
     drawn; of points alone the way between the first two. None where all lie on one place."""
     for first, second in chain(axes.facts.own.values(), combinations(spots, 2)):
         if first in spots and second in spots:
-            way = _between(spots, first, second)
-            drawn = _between(axes.facts.drawn, first, second)
+            way = between(spots[first], spots[second])
+            drawn = between(axes.facts.drawn[first], axes.facts.drawn[second])
             if any(way) and any(drawn):
                 return _turned_back(way, drawn)
     return None
@@ -99,16 +100,7 @@ def _direction(lean: Lean) -> PointNm:
 
 
 def _way(spots: Mapping[Knot, PointNm], told: Told) -> PointNm:
-    return _between(spots, told.first, told.second)
-
-
-def _between(spots: Mapping[Knot, PointNm], first: Knot, second: Knot) -> PointNm:
-    (x, y), (u, v) = spots[first], spots[second]
-    return u - x, v - y
-
-
-def _square(way: PointNm) -> Number:
-    return way[0] * way[0] + way[1] * way[1]
+    return between(spots[told.first], spots[told.second])
 
 
 def _wanted(axes: Axes, told: Told, way: PointNm) -> PointNm | None:
@@ -123,7 +115,7 @@ def _wanted(axes: Axes, told: Told, way: PointNm) -> PointNm | None:
         return (a, b) if a * drawn[0] + b * drawn[1] >= 0 else (-a, -b)
     run = told.across if told.along is None else told.along
     assert run is not None
-    rest = _square(way) - run * run
+    rest = square(way) - run * run
     if rest < 0:
         return None
     other = Fraction(isqrt(int(rest * DIGITS ** 2)), DIGITS)

@@ -7,7 +7,9 @@ from pertxogai.language.elements import Circle, Element, Line, Point
 from pertxogai.language.refusal import Code, Faulty
 
 MOST_ELEMENTS = 2_000
+"""The most points, circles and lines of a sketch."""
 MOST_CONSTRAINTS = 4_000
+"""The most constraints of a sketch."""
 
 
 class Declared:

@@ -8,6 +8,7 @@ from copy import copy
 from dataclasses import dataclass, replace
 from typing import NamedTuple, Protocol
 
+from pertxogai.classes import Classes
 from pertxogai.drawing import X_AXIS
 from pertxogai.spelling.directions import Directions
 from pertxogai.spelling.facts import (
@@ -229,13 +230,14 @@ class Axes:
         direction is known."""
         frame = self.frame(line)
         members = self.lines.members(line)
-        group = {member.knot: member.knot for member in members}
-        for each, (one, other) in self.facts.implied.items():
-            if self.lines.leader(each) == line and one in group and other in group:
-                _join(group, one, other)
+        level: Classes[Knot] = Classes()
+        knots = {member.knot for member in members}
+        for each, ends in self.facts.implied.items():
+            if self.lines.leader(each) == line and knots.issuperset(ends):
+                level.join(*ends)
         first = members[0].knot
         for member in sorted(members[1:], key=lambda each: each.owner is None):
-            if not _join(group, first, member.knot):
+            if not level.join(first, member.knot):
                 continue
             owners = frozenset({member.owner} if member.owner else set())
             if member is members[1] or not owners:
@@ -330,16 +332,6 @@ class Axes:
 def rank(unknown: Hashable) -> int:
     """Sizes are solved for first, so that coordinates stay."""
     return 0 if isinstance(unknown, (LengthOf, RadiusOf)) else 1
-
-
-def _join(group: dict[Knot, Knot], first: Knot, second: Knot) -> bool:
-    """Makes two points of one group; False where they are already."""
-    while group[first] != first:
-        first = group[first]
-    while group[second] != second:
-        second = group[second]
-    group[second] = first
-    return first != second
 
 
 def _cross(lean: Lean) -> frozenset[Lean]:

@@ -4,6 +4,7 @@ from __future__ import annotations
 
 from collections.abc import Iterator
 
+from pertxogai.classes import Classes
 from pertxogai.drawing import (
     ORIGIN, Coincident, Concentric, Drawing, Pair, Perpendicular, PointRef, Tangent, Which)
 from pertxogai.spelling.facts import ORIGIN_KNOT, Knot, Owner
@@ -12,11 +13,11 @@ from pertxogai.spelling.facts import ORIGIN_KNOT, Knot, Owner
 def knots_of(drawing: Drawing) -> tuple[dict[PointRef, Knot], list[Owner]]:
     """The knot of each point, the origin's first; and the constraints that say of one point that
     it is one."""
-    classes = _Classes()
+    classes: Classes[PointRef] = Classes()
     for pair in drawing.shared():
-        classes.join(pair)
+        classes.join(pair.first, pair.second)
     repeats = [owner for pair, owner in _told(drawing)
-               if not classes.join(pair) and owner is not None]
+               if not classes.join(pair.first, pair.second) and owner is not None]
     numbers: dict[PointRef, Knot] = {classes.leader(ORIGIN): ORIGIN_KNOT}
     refs = {ORIGIN: ORIGIN_KNOT}
     for ref in drawing.points():
@@ -37,23 +38,3 @@ def _told(drawing: Drawing) -> Iterator[tuple[Pair, Owner | None]]:
                 yield Pair(*centres), Owner(number)
             case Tangent(at=Pair() as pair) | Perpendicular(at=Pair() as pair):
                 yield pair, None
-
-
-class _Classes:
-    """Points that are one, each class with a leader."""
-
-    def __init__(self) -> None:
-        self._above: dict[PointRef, PointRef] = {}
-
-    def leader(self, ref: PointRef) -> PointRef:
-        while ref in self._above:
-            ref = self._above[ref]
-        return ref
-
-    def join(self, pair: Pair) -> bool:
-        """Makes two points one; False where they are already."""
-        first, second = self.leader(pair.first), self.leader(pair.second)
-        if first == second:
-            return False
-        self._above[second] = first
-        return True

@@ -7,6 +7,7 @@ from dataclasses import dataclass
 from itertools import combinations
 from math import hypot
 
+from pertxogai.classes import Classes
 from pertxogai.drawing import X_AXIS, Y_AXIS, ShapeRef
 from pertxogai.spelling.directions import Directions
 from pertxogai.spelling.facts import (
@@ -39,7 +40,7 @@ class Lines:
 
     def __init__(self, facts: Facts) -> None:
         self._facts = facts
-        self._above: dict[Line, Line] = {}
+        self._classes: Classes[Line] = Classes()
         self._members: dict[Line, list[Member]] = {}
         self.leans: list[Leans] = [Leans(X_AXIS, Y_AXIS, SQUARE, Owner(0))]
         self.repeats: list[Owner] = []
@@ -65,9 +66,7 @@ class Lines:
 
     def leader(self, line: Line) -> Line:
         """The line that stands for all that are one with this."""
-        while line in self._above:
-            line = self._above[line]
-        return line
+        return self._classes.leader(line)
 
     def all(self) -> list[Line]:
         """One line of each class, in the order of the drawing."""
@@ -115,7 +114,7 @@ class Lines:
             known[each.knot] = each if old is None or (old.owner is None
                                                        and each.owner is not None) else old
         self._members[first] = list(known.values())
-        self._above[second] = first
+        self._classes.join(first, second)
         if self._directions is not None:
             self._directions.tell(Leans(first, second, Lean(), Owner(0)))
 
@@ -176,8 +175,8 @@ class Lines:
             self._directions = Directions()
             for leans in self.leans:
                 self._directions.tell(leans)
-            for line, above in self._above.items():
-                self._directions.tell(Leans(above, line, Lean(), Owner(0)))
+            for line in self._classes.led():
+                self._directions.tell(Leans(self.leader(line), line, Lean(), Owner(0)))
         return self._directions
 
 

@@ -13,9 +13,11 @@ from dataclasses import dataclass, replace
 from fractions import Fraction
 from itertools import combinations
 
+from pertxogai.classes import Classes
 from pertxogai.drawing import (
     X_AXIS, Arc, Coincident, Constraint, Horizontal, Pair, Perpendicular, Place, PointRef, Segment,
     Shape, ShapeRef, Tangent, Vertical, Which)
+from pertxogai.exact import Number, cross, dot
 from pertxogai.files.contents import FileSketch
 
 MOST_PAIRED = 30
@@ -60,11 +62,11 @@ def ends_of(shape: Shape) -> tuple[End, ...]:
     """The ends of a shape that has some."""
     match shape:
         case Segment(name, Place() as start, Place() as end):
-            along = _between(start, end)
+            along = start.way_to(end)
             return (End(PointRef(name, Which.START), start, along, False),
                     End(PointRef(name, Which.END), end, along, False))
         case Arc(name, Place() as centre, Place() as start, Place() as end):
-            return tuple(End(PointRef(name, which), place, _across(_between(centre, place)), True)
+            return tuple(End(PointRef(name, which), place, _across(centre.way_to(place)), True)
                          for which, place in ((Which.START, start), (Which.END, end)))
     return ()
 
@@ -90,13 +92,13 @@ def joints(group: list[End], tolerance_um: Fraction) -> Iterator[Coincident | Ta
     """What joins the ends of a group: as many joints as make them one, tangent ones first."""
     pairs = _pairs(group)
     tangent = [pair for pair in pairs if is_tangent(*pair, tolerance_um)]
-    classes = _Classes()
+    classes: Classes[str] = Classes()
     for first, second in tangent:
-        if classes.unite(str(first.ref), str(second.ref)):
+        if classes.join(str(first.ref), str(second.ref)):
             yield Tangent(ShapeRef(first.ref.shape), ShapeRef(second.ref.shape),
                           Pair(first.ref, second.ref))
     for first, second in pairs:
-        if classes.unite(str(first.ref), str(second.ref)):
+        if classes.join(str(first.ref), str(second.ref)):
             yield Coincident(first.ref, second.ref)
 
 
@@ -104,7 +106,7 @@ def is_tangent(first: End, second: End, tolerance_um: Fraction) -> bool:
     """Whether two curves, one a rim at least, touch at these ends."""
     if not (first.is_rim or second.is_rim) or first.ref.shape == second.ref.shape:
         return False
-    return _within(_cross(first.way, second.way), first.way, second.way, tolerance_um)
+    return _within(cross(first.way, second.way), first.way, second.way, tolerance_um)
 
 
 def level(shapes: tuple[Shape, ...], tolerance_um: Fraction) -> Iterator[Horizontal | Vertical]:
@@ -112,7 +114,7 @@ def level(shapes: tuple[Shape, ...], tolerance_um: Fraction) -> Iterator[Horizon
     for shape in shapes:
         match shape:
             case Segment(name, Place() as start, Place() as end):
-                x, y = _between(start, end)
+                x, y = start.way_to(end)
                 if abs(y) <= tolerance_um < abs(x):
                     yield Horizontal(ShapeRef(name))
                 elif abs(x) <= tolerance_um < abs(y):
@@ -123,14 +125,14 @@ def square(groups: list[list[End]], levelled: list[str], tolerance_um: Fraction
            ) -> Iterator[Perpendicular]:
     """The segments that are square to each other at a corner, where that doesn't follow already
     from segments that are level or square."""
-    classes = _Classes()
+    classes: Classes[str] = Classes()
     for name in levelled:
-        classes.unite(X_AXIS.name, name)
+        classes.join(X_AXIS.name, name)
     for group in groups:
         for first, second in _pairs([end for end in group if not end.is_rim]):
-            dot = first.way[0] * second.way[0] + first.way[1] * second.way[1]
-            names = first.ref.shape, second.ref.shape
-            if _within(dot, first.way, second.way, tolerance_um) and classes.unite(*names):
+            names, product = (first.ref.shape, second.ref.shape), dot(first.way, second.way)
+            if (_within(product, first.way, second.way, tolerance_um)
+                    and classes.join(*names)):
                 yield Perpendicular(ShapeRef(names[0]), ShapeRef(names[1]))
 
 
@@ -143,42 +145,15 @@ def _pairs(group: list[End]) -> list[tuple[End, End]]:
 
 def _meets(first: End, second: End, tolerance_um: Fraction) -> bool:
     """Whether two ends lie within the tolerance of each other."""
-    x, y = _between(first.place, second.place)
+    x, y = first.place.way_to(second.place)
     return x * x + y * y <= tolerance_um ** 2
 
 
-def _within(product: Fraction, first: Way, second: Way, tolerance_um: Fraction) -> bool:
+def _within(product: Number, first: Way, second: Way, tolerance_um: Fraction) -> bool:
     """Whether the part of the shorter way that a product of both tells is within the tolerance."""
     longer = max(x * x + y * y for x, y in (first, second))
     return product * product <= tolerance_um ** 2 * longer
 
 
-def _between(start: Place, end: Place) -> Way:
-    return end.x_um - start.x_um, end.y_um - start.y_um
-
-
 def _across(way: Way) -> Way:
     return -way[1], way[0]
-
-
-def _cross(first: Way, second: Way) -> Fraction:
-    return first[0] * second[1] - first[1] * second[0]
-
-
-class _Classes:
-    """Names that belong together."""
-
-    def __init__(self) -> None:
-        self._of: dict[str, str] = {}
-
-    def unite(self, first: str, second: str) -> bool:
-        """Puts two names together; answers whether they weren't before."""
-        one, other = self._leader(first), self._leader(second)
-        self._of[one] = other
-        return one != other
-
-    def _leader(self, name: str) -> str:
-        while (above := self._of.get(name, name)) != name:
-            self._of[name] = self._of.get(above, above)
-            name = above
-        return name

@@ -5,6 +5,7 @@ from fractions import Fraction
 from functools import partial
 from math import cos, sin
 
+from pertxogai.classes import Classes
 from pertxogai.spelling.axes import Coordinate
 from pertxogai.spelling.drafts import Draft, Owners, said_by
 from pertxogai.spelling.facts import Between, Line, Owner
@@ -31,38 +32,36 @@ class Angles:
     def _tie(self, tracks: list[Track]) -> None:
         """Ties the lines of one frame."""
         layout = self.layout
-        base, group = tracks[0], self._tied(tracks)
+        base, tied = tracks[0], self._tied(tracks)
         other = next((each for each in tracks if layout.lean(each) != layout.lean(base)), None)
-        if other is not None and _leader(group, other) != _leader(group, base):
-            self._tie_to(group, base, other)
+        if other is not None and not tied.are_one(other, base):
+            self._tie_to(tied, base, other)
         for track in tracks:
-            if _leader(group, track) == _leader(group, base):
+            if tied.are_one(track, base):
                 continue
             if layout.lean(track) != layout.lean(base):
-                self._tie_to(group, base, track)
+                self._tie_to(tied, base, track)
             elif other is not None:
-                self._tie_to(group, other, track)
+                self._tie_to(tied, other, track)
             else:
                 self._square_help(base, track)
 
-    def _tied(self, tracks: list[Track]) -> dict[Track, Track]:
-        """The tracks in groups, each with another of its own or itself: those of which the
-        directions follow from others, and those of which they are told of each other, which are
-        tied by these."""
-        group, base = {track: track for track in tracks}, tracks[0]
+    def _tied(self, tracks: list[Track]) -> Classes[Track]:
+        """The tracks in classes: those of which the directions follow from others, and those of
+        which they are told of each other, which are tied by these."""
+        tied: Classes[Track] = Classes()
         for track in tracks:
-            if track in self.layout.axes.facts.implied and track != base:
-                group[_leader(group, track)] = _leader(group, base)
+            if track in self.layout.axes.facts.implied:
+                tied.join(tracks[0], track)
         for first, second, lean, owner in self._near_ties(tracks):
-            if _leader(group, first) != _leader(group, second):
-                group[_leader(group, second)] = _leader(group, first)
+            if tied.join(first, second):
                 self._angle(first, second, lean, said_by({owner}))
-        return group
+        return tied
 
-    def _tie_to(self, group: dict[Track, Track], base: Track, track: Track) -> None:
+    def _tie_to(self, tied: Classes[Track], base: Track, track: Track) -> None:
         """Ties a line to another by their angle."""
         layout = self.layout
-        group[_leader(group, track)] = _leader(group, base)
+        tied.join(base, track)
         self._angle(base, track, -layout.lean(base) + layout.lean(track),
                     partial(layout.direction_owners, base, track))
 
@@ -140,9 +139,3 @@ class Angles:
             layout.say(layout.points[knot], name, said)
             layout.sheet.drafts.append(Draft(layout.names[base], name, said, ratio=(1, 0)))
         return name
-
-
-def _leader(group: dict[Track, Track], track: Track) -> Track:
-    while group[track] != track:
-        track = group[track]
-    return track
