@@ -10,6 +10,7 @@ from __future__ import annotations
 import math
 from collections.abc import Iterator
 from dataclasses import dataclass, field
+from enum import IntEnum
 
 from pertxogai.files.freecad.space import Motion, Vector, add, scaled
 from pertxogai.files.limits import SOLIDS_LINES, SOLIDS_PARTS, Count
@@ -17,10 +18,38 @@ from pertxogai.files.limits import SOLIDS_LINES, SOLIDS_PARTS, Count
 _SECTIONS = ("Locations", "Curve2ds", "Curves", "Polygon3D", "PolygonOnTriangulations", "Surfaces",
              "Triangulations", "TShapes")
 _PARTS = frozenset({"Ve", "Ed", "Wi", "Fa", "Sh", "So", "CS", "Co"})
-_TRIMMED, _TRIMMED_LENGTH = "8", 3
-_AROUND = {_TRIMMED: _TRIMMED_LENGTH, "9": 5}
-_FIXED = {1: 7, 2: 14, 3: 15, 4: 14, 5: 15}
+_MATRIX = "1"
+"""The kind of a motion that is told by its matrix; the other kind names motions before it."""
+_CURVE_IN_SPACE = "1"
+"""How a line of an edge begins that names a curve in space: its number, that of its motion, and the
+parameters at which the edge begins and ends."""
+_MOST_POWER = 8
+"""The greatest power of a motion that another names."""
 _MOST_DEPTH = 50
+"""The most parts within each other."""
+
+
+class _Curve(IntEnum):
+    """The kinds of curves in space, by Open Cascade's numbers."""
+
+    LINE = 1
+    CIRCLE = 2
+    ELLIPSE = 3
+    PARABOLA = 4
+    HYPERBOLA = 5
+    BEZIER = 6
+    B_SPLINE = 7
+    TRIMMED = 8
+    OFFSET = 9
+
+
+_WORDS = {_Curve.LINE: 7, _Curve.CIRCLE: 14, _Curve.ELLIPSE: 15, _Curve.PARABOLA: 14,
+          _Curve.HYPERBOLA: 15}
+"""How many words a curve takes, with its kind, where that is always the same."""
+_WORDS_BEFORE = {_Curve.TRIMMED: 3, _Curve.OFFSET: 5}
+"""How many words stand before the curve that another is a piece of, or runs beside."""
+_READ = (_Curve.LINE, _Curve.CIRCLE)
+"""The kinds of curves of which the numbers are read."""
 
 
 class BadShape(Exception):
@@ -116,49 +145,51 @@ def _motions(lines: list[str]) -> list[Motion]:
     motions = [Motion()]
     words = iter(" ".join(lines).split())
     for kind in words:
-        if kind == "1":
+        if kind == _MATRIX:
             rows = [[float(next(words)) for _ in range(4)] for _ in range(3)]
             first, second, third = ((row[0], row[1], row[2]) for row in rows)
             motions.append(Motion((first, second, third), (rows[0][3], rows[1][3], rows[2][3])))
             continue
         whole = Motion()
         while (number := int(next(words))) != 0:
-            for _ in range(min(abs(power := int(next(words))), 8)):
+            for _ in range(min(abs(power := int(next(words))), _MOST_POWER)):
                 one = motions[number] if power > 0 else motions[number].inverse()
                 whole = whole.after(one)
         motions.append(whole)
     return motions
 
 
-def _curves(words: list[str]) -> Iterator[tuple[int, list[float]]]:
-    """The curves: the kind of each, and its numbers where it is straight (1) or round (2); a piece
-    of a curve counts as the curve."""
+def _curves(words: list[str]) -> Iterator[tuple[_Curve, list[float]]]:
+    """The curves: the kind of each, and its numbers where it is a line or a circle; a piece of a
+    curve counts as the curve."""
     place = 0
     while place < len(words):
         end = place + _length(words, place)
-        while words[place] == _TRIMMED:
-            place += _TRIMMED_LENGTH
-        kind = int(words[place])
-        yield kind, [float(word) for word in words[place + 1:end]] if kind in (1, 2) else []
+        while (kind := _kind(words, place)) is _Curve.TRIMMED:
+            place += _WORDS_BEFORE[kind]
+        yield kind, [float(word) for word in words[place + 1:end]] if kind in _READ else []
         place = end
+
+
+def _kind(words: list[str], place: int) -> _Curve:
+    """The kind of the curve that begins at a place. Raises ValueError where it is none."""
+    return _Curve(int(words[place]))
 
 
 def _length(words: list[str], place: int) -> int:
     """How many words the curve has that begins at a place. Raises ValueError where its counts
     are none."""
     begin = place
-    while words[place] in _AROUND:
-        place += _AROUND[words[place]]
-    kind = int(words[place])
-    if kind in _FIXED:
-        return place - begin + _FIXED[kind]
-    rational = _count(words[place + 1])
-    if kind == 6:
-        return place - begin + 3 + (_count(words[place + 2]) + 1) * (3 + rational)
-    if kind == 7:
-        poles, knots = _count(words[place + 4]), _count(words[place + 5])
-        return place - begin + 6 + poles * (3 + rational) + 2 * knots
-    raise ValueError(kind)
+    while (kind := _kind(words, place)) in _WORDS_BEFORE:
+        place += _WORDS_BEFORE[kind]
+    if kind in _WORDS:
+        return place - begin + _WORDS[kind]
+    numbers_of_a_pole = 3 + _count(words[place + 1])  # One more where the curve is rational.
+    if kind is _Curve.BEZIER:
+        degree = _count(words[place + 2])
+        return place - begin + 3 + (degree + 1) * numbers_of_a_pole
+    poles, knots = _count(words[place + 4]), _count(words[place + 5])
+    return place - begin + 6 + poles * numbers_of_a_pole + 2 * knots
 
 
 def _count(word: str) -> int:
@@ -171,7 +202,7 @@ def _count(word: str) -> int:
 class _Walk:
     """A walk through the parts of a shape."""
 
-    def __init__(self, motions: list[Motion], curves: tuple[tuple[int, list[float]], ...],
+    def __init__(self, motions: list[Motion], curves: tuple[tuple[_Curve, list[float]], ...],
                  lines: list[str], met: Count) -> None:
         self._motions = motions
         self._curves = curves
@@ -211,7 +242,7 @@ class _Walk:
     def _edge(self, number: int, motion: Motion) -> Edge:
         for line in self._part(number).lines[1:]:
             words = line.split()
-            if words[:1] == ["1"] and len(words) == 5:
+            if words[:1] == [_CURVE_IN_SPACE] and len(words) == 5:
                 within = motion.after(self._motions[int(words[2])])
                 kind, numbers = self._curves[int(words[1]) - 1]
                 return _placed(kind, numbers, within, float(words[3]), float(words[4]))
@@ -238,15 +269,14 @@ def _children(line: str) -> list[_Child]:
             for place in range(0, len(words) - 1, 2)]
 
 
-def _placed(kind: int, numbers: list[float], motion: Motion, first: float, last: float) -> Edge:
-    """The edge of a curve between two of its parameters."""
+def _placed(kind: _Curve, numbers: list[float], motion: Motion, first: float, last: float) -> Edge:
+    """The edge of a curve between two of its parameters: of a circle they are angles."""
     vectors = [(numbers[i], numbers[i + 1], numbers[i + 2]) for i in range(0, len(numbers) - 2, 3)]
-    if kind == 1:
+    if kind is _Curve.LINE:
         at, along = vectors
         return Straight(*(motion.place(add(at, scaled(along, value))) for value in (first, last)))
-    if kind == 2:
-        centre, axis, right, up = vectors[:4]
-        radius = numbers[12]
+    if kind is _Curve.CIRCLE:
+        (centre, axis, right, up), radius = vectors, numbers[12]
         start, end = (motion.place(add(centre, add(scaled(right, radius * math.cos(value)),
                                                    scaled(up, radius * math.sin(value)))))
                       for value in (first, last))
