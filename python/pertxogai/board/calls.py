@@ -38,7 +38,7 @@ from pertxogai.program.reports import Flipped, NoChoice
 
 Json: TypeAlias = dict[str, object]
 KEPT = 4
-"""So many judgements are kept, for the calls that follow one."""
+"""How many judgements are kept, for the calls that follow one."""
 
 
 @dataclass

@@ -23,9 +23,9 @@ LOOPBACK = "127.0.0.1"
 FIRST_PORT, PORTS = 49152, 16000
 """Ports from which the usual one of a user is taken."""
 SILENT_SECONDS = 10.0
-"""So long a client may send nothing before it has said all."""
+"""Seconds of silence after which a connection is closed that hasn't said all."""
 MORE_SECONDS = 20.0
-"""So much longer than a call a connection lasts."""
+"""Seconds beyond the limit of a call that a connection lasts."""
 LEADS = """<!doctype html><meta charset="utf-8"><title>The drawing board</title>
 <meta name="referrer" content="no-referrer"><meta http-equiv="refresh" content="0; url={address}">
 <a href="{address}">The drawing board</a>

@@ -18,9 +18,9 @@ from pertxogai.program import Answer, Program, ProgramTimedOut
 
 MEBIBYTE = 1 << 20
 PAUSE = 0.5
-"""Seconds without a call in which rubbish is collected."""
+"""Seconds without a call after which garbage is collected."""
 MOST_RUBBISH = 100_000
-"""So many more things than when it was collected last, and it is collected behind the call."""
+"""How many more objects than after the last collection have garbage collected behind the call."""
 
 
 @dataclass

@@ -19,7 +19,7 @@ from pertxogai.board.calls import trouble
 
 MOST_AT_ONCE = 4
 GRACE = 2.0
-"""So many seconds more than the program has are given to a worker."""
+"""Seconds beyond the program's own limit that a worker has for a call."""
 PACKAGES = Path(__file__).resolve().parents[2]
 
 

@@ -28,7 +28,7 @@ def moved(drawing: Drawing, before: Drawing) -> frozenset[str] | None:
 
 @cached_on
 def _known(drawing: Drawing) -> list[tuple[ref[Drawing], frozenset[str] | None]]:
-    """What was found against the drawing that was asked for last, which isn't kept by that."""
+    """The drawing that this one was compared with last, held weakly, and what came of it."""
     return []
 
 

@@ -17,7 +17,7 @@ from pertxogai.program.reports import Excessive, OverPart, read_excess
 from pertxogai.spelling.facts import Owner
 
 CHOICES = 4
-"""So many more choices of what is left out are tried at most, where the others have no places."""
+"""The most further choices of what is left out that are tried, where the rest has no places."""
 
 
 class Rest(Enum):

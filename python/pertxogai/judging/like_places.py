@@ -24,13 +24,13 @@ from pertxogai.judging.jets import DECIMALS, EXACT, FLOATS, Jet, N, Rows, Steps,
 LENGTHS = Length, Distance, PointLineDistance, ParallelDistance, Radius, Diameter
 LINEAR = Coincident, Concentric, Horizontal, Vertical, Midpoint
 STIR = 0.01
-"""A place is moved by so much of the shortest drawn length at most."""
+"""The share of the shortest drawn length by which a place is moved at most."""
 SHRUNK = 0.05
 """A length that comes to less of its drawn one has vanished."""
 TRIES = 2
 TURNS, POLISHING = 10, 4
-"""So many steps at most are made in floats; and so many in decimals, each of which doubles the
-digits that are right."""
+"""The most steps in floats, and the most in decimals, each of which doubles the digits that are
+right."""
 WEAK = 1e-2, 1e-6
 """What is left of a row beside the others by less makes no step: it may say what they say. By the
 second where the first leaves out what is needed."""

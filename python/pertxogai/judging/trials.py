@@ -27,11 +27,11 @@ from pertxogai.spelling.facts import Owner
 from pertxogai.spelling.writing import Contradiction
 
 ROUNDS = 80
-"""So many values at most are read off placed parts."""
+"""The most values that are read off placed parts."""
 GROWTHS = 6
-"""So many things at most are tried as the next value, where the first leaves the drawing over."""
+"""The most things that are tried as the next value, where the first leaves the drawing over."""
 FREEZES = 4
-"""So many lengths and radii at most are taken as drawn."""
+"""The most lengths and radii that are taken as drawn."""
 SOLVED_FIRST = (Style.VALUES, Style.VALUES_NEAR, Style.GRID, Style.FEET)
 ONE_BY_ONE = (Style.GRID, Style.FEET, Style.VALUES, Style.VALUES_NEAR)
 

@@ -21,7 +21,7 @@ __all__ = ["JudgedDrawing", "drawing_json", "drawing_lines", "spare_json", "spel
 UNMET = Lack.OFF, Lack.UNMEASURED, Lack.NOT_PRINTED, Lack.MISSING, Lack.MIRRORED
 """What of a drawing that is placed is told to be unmet; all else has a line of its own."""
 MOST_ADVICE = 5
-"""So many pairs of pieces at most are told what to do with."""
+"""The most pairs of pieces for which it is told what to do."""
 
 
 def drawing_json(judged: JudgedDrawing) -> dict[str, object]:

@@ -53,7 +53,8 @@ class LiveProgram:
     rest: bytearray = field(default_factory=bytearray)
     """What was read behind the last reply."""
     seen: int = 0
-    """So many bytes of it hold no fence, but for the last of them, which may begin one."""
+    """How many bytes of `rest` were looked through for the end of a reply; the last of them may
+    begin its mark."""
 
     @staticmethod
     def start(program: Program, keys: Sequence[str] = ()) -> LiveProgram:

@@ -75,7 +75,7 @@ def amount_text(off: Deviation) -> str:
 
 
 def units_text(amount: int, unit: Unit) -> str:
-    """So many units, for a person: in millimetres and degrees where it is a micrometre and more,
+    """An amount, for a person: in millimetres and degrees where it is a micrometre and more,
     else in nanometres and ppb."""
     if amount < 1000:
         return f"{amount} {unit.value}"
