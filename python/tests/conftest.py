@@ -37,22 +37,25 @@ def read_usage() -> bytes:
     return found[1] + b"\n"
 
 
+NO_NEWLINE = b"\\ No newline at end of file\n"
+"""What stands behind an input that ends without a line feed, as in what `diff` writes."""
+USAGE = b"usage: ...\n"
+"""What stands for the usage line."""
+
+
 def read_row(path: Path) -> Row:
-    """The row of a file: words, status, the lengths of input and output, and these two."""
-    head, body = path.read_bytes().split(b"\n\n", 1)
-    found = re.fullmatch(
-        rb"words: (.*)\nstatus: (\d+)\ninput: (\d+) bytes\noutput: (\d+ bytes|the usage line)",
-        head,
-    )
-    assert found, path
-    size = int(found[3])
-    if found[4] == b"the usage line":
-        body += read_usage()
-    else:
-        assert found[4] == b"%d bytes" % (len(body) - size), path
-    text = body[:size].decode("utf-8", "surrogateescape")
-    answer = Answer(Status(int(found[2])), body[size:].decode("ascii"))
-    return Row(path.stem, tuple(found[1].decode().split()), text, answer)
+    """The row of a file, which reads like a session at the shell: `$ ` and the words, the input,
+    `> ` and the status, and what is written."""
+    first, _, rest = path.read_bytes().partition(b"\n")
+    status = re.search(rb"^> (\d+)\n", rest, re.MULTILINE)
+    assert first.startswith(b"$ ") and status, path
+    given, written = rest[: status.start()], rest[status.end() :]
+    if given.endswith(b"\n" + NO_NEWLINE):
+        given = given.removesuffix(b"\n" + NO_NEWLINE)
+    text = given.decode("utf-8", "surrogateescape")
+    said = (read_usage() if written == USAGE else written).decode("ascii")
+    answer = Answer(Status(int(status[1])), said)
+    return Row(path.stem, tuple(first[2:].decode().split()), text, answer)
 
 
 def read_rows(form: str) -> list[Row]:
