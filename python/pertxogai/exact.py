@@ -97,3 +97,8 @@ def roots_apart(first: Number, second: Number) -> int:
 def whole_up(value: Number) -> int:
     """The least whole number that is at least the size of the value."""
     return -(-abs(value.numerator) // value.denominator)
+
+
+def whole_near(value: Number) -> int:
+    """The nearest whole number, the greater of two that are as near."""
+    return (2 * value.numerator + value.denominator) // (2 * value.denominator)

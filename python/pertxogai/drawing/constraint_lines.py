@@ -108,7 +108,7 @@ def _valued(word: ConstraintWord, words: Cursor, name: str | None) -> Iterable[C
         case ConstraintWord.DISTANCE:
             return (_distance(words, name),)
         case ConstraintWord.X | ConstraintWord.Y:
-            return (_run(word, words, name),)
+            return (_read_run(word, words, name),)
         case ConstraintWord.LENGTH:
             return _sizes(words, lambda shape, um: Length(shape, um, name))
         case ConstraintWord.RADIUS:
@@ -225,7 +225,7 @@ def _point_or_line(words: Cursor, thing: PointRef | ShapeRef) -> PointRef | Shap
     return thing
 
 
-def _run(word: ConstraintWord, words: Cursor, name: str | None) -> XDistance | YDistance:
+def _read_run(word: ConstraintWord, words: Cursor, name: str | None) -> XDistance | YDistance:
     """One point, told from the origin, or two; and how far the second lies from the first."""
     first, second = ORIGIN, words.point()
     if words.left() and not is_number(words.peek()):

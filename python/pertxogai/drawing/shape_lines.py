@@ -37,7 +37,7 @@ def read_shape(word: ShapeWord, flags: frozenset[Flag], words: Cursor) -> Expans
     name = words.word("a name")
     check_shape_name(name)
     _check_blank(word, name, words)
-    said = _drawn(word, name, words)
+    said = _read_shape(word, name, words)
     words.end()
     shapes = tuple(_flagged(shape, flags) for shape in said.shapes)
     for shape in shapes:
@@ -62,7 +62,7 @@ def _flagged(shape: Shape, flags: frozenset[Flag]) -> Shape:
     return replace(shape, construction=Flag.CONSTRUCTION in flags, outer=Flag.OUTER in flags)
 
 
-def _drawn(word: ShapeWord, name: str, words: Cursor) -> Expansion:
+def _read_shape(word: ShapeWord, name: str, words: Cursor) -> Expansion:
     match word:
         case ShapeWord.POINT:
             return Expansion((Point(name, words.place()),))

@@ -73,7 +73,7 @@ def words_of(constraint: Constraint) -> str:
         case AngleBetween():
             return _angle(constraint)
         case XDistance() | YDistance():
-            return _run(constraint)
+            return _words_of_run(constraint)
         case Parallel() | Collinear() | Equal() | Concentric():
             return f"{_word(constraint)} {constraint.first} {constraint.second}"
         case _:
@@ -94,7 +94,7 @@ def _angle(angle: AngleBetween) -> str:
     return f"angle {lines} {angle_text(angle.value, angle.sense is Sense.SIGNED)}"
 
 
-def _run(run: XDistance | YDistance) -> str:
+def _words_of_run(run: XDistance | YDistance) -> str:
     points = f"{run.second}" if run.first == ORIGIN else f"{run.first} {run.second}"
     plus = "+" if run.sense is Sense.SIGNED and run.value_um >= 0 else ""
     return f"{'x' if isinstance(run, XDistance) else 'y'} {points} {plus}{mm_text(run.value_um)}"

@@ -30,12 +30,12 @@ def frozen_choices(axes: Axes, rails: Rails) -> Iterator[Frozen]:
     for fact in axes.loose:
         rest = rails.symbols(fact.value)
         if len(rest.terms) == 1 and isinstance(next(iter(rest.terms)), Size):
-            drawn = _drawn(axes.facts, *fact.ends())
+            drawn = _drawn_distance(axes.facts, *fact.ends())
             equation = Equation(rails.unfold(rest) - Form(number=drawn), frozenset({fact.owner}))
             yield Frozen(with_equation(axes, None, equation, fact), fact.owner)
 
 
-def _drawn(facts: Facts, first: Knot, second: Knot | Line) -> Fraction:
+def _drawn_distance(facts: Facts, first: Knot, second: Knot | Line) -> Fraction:
     """How far a point is drawn from a point, or from a line, in micrometres."""
     x, y = facts.drawn[first]
     if isinstance(second, Knot):

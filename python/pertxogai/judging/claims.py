@@ -30,7 +30,7 @@ class NotAccepted(Exception):
 
 def claim_of(good: GoodJudgement | GoodSketch, program: Solver) -> Claim:
     """The claim of what is good, which the program accepts. Raises NotAccepted and ProgramError."""
-    claim = _claimed(*_told(good), program)
+    claim = _claimed(*_sketch_and_places(good), program)
     verified = program.ask(("verify",), claim.text())
     if verified.status is not Status.DONE:
         raise NotAccepted(f"the program doesn't accept the claim: {verified.text.strip()}")
@@ -42,7 +42,7 @@ def scale_of(good: GoodJudgement | GoodSketch) -> int:
     return 1 if isinstance(good, GoodSketch) else good.judged.judgement.asked.spelled.scale
 
 
-def _told(good: GoodJudgement | GoodSketch) -> tuple[Sketch, Solved]:
+def _sketch_and_places(good: GoodJudgement | GoodSketch) -> tuple[Sketch, Solved]:
     """The sketch that the program was told, and where it placed that."""
     if isinstance(good, GoodSketch):
         return good.judged.sketch, good.solved

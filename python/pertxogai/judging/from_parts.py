@@ -34,7 +34,7 @@ def growths(axes: Axes, rails: Rails, spelled: Spelled, report: PartsReport) -> 
         known.add(form, number)
     for pending in rails.pending:
         rest = known.reduced(pending.form)
-        if rest.terms != pending.form.terms and _told(rest):
+        if rest.terms != pending.form.terms and _fixes_one(rest):
             equation = Equation(rails.unfold(rest), axes.equations[pending.number].owners)
             yield Grown(with_equation(axes, pending.number, equation), equation)
     for fact in axes.loose:
@@ -45,7 +45,7 @@ def growths(axes: Axes, rails: Rails, spelled: Spelled, report: PartsReport) -> 
                 yield Grown(with_equation(axes, None, equation, fact), equation)
 
 
-def _told(form: Form) -> bool:
+def _fixes_one(form: Form) -> bool:
     """Whether an equation fixes one size, one rail from the datum, or one rail from another."""
     keys = list(form.terms)
     rails = [key for key in keys if isinstance(key, Rail)]

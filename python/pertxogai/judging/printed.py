@@ -7,6 +7,7 @@ from dataclasses import dataclass
 from fractions import Fraction
 from math import cos, isqrt, sin
 
+from pertxogai.exact import whole_near
 from pertxogai.judging.turning import axis_of, drawn_axis, known_at
 from pertxogai.language import Placed, PlacedLine, PlacedPoint
 from pertxogai.spelling.axes import Axes
@@ -103,7 +104,7 @@ def in_datum(axes: Axes, spelled: Spelled, plate: PrintedPlaces) -> dict[str, tu
     found = {}
     for name, spot in plate.points.items():
         x, y = (along(axis, upwards, spot) + shift[upwards] for upwards in (False, True))
-        found[name] = (_whole(x * 1000), _whole(y * 1000))
+        found[name] = (whole_near(x * 1000), whole_near(y * 1000))
     return found
 
 
@@ -127,9 +128,3 @@ def _shift(axes: Axes, spelled: Spelled, plate: PrintedPlaces, axis: PointNm,
     knot = next(iter(knots)) if told is None else told[0]
     at = axes.facts.drawn[knot][upwards] if told is None else told[1]
     return at - along(axis, upwards, plate.points[knots[knot]])
-
-
-def _whole(value: Number) -> int:
-    if isinstance(value, int):
-        return value
-    return (2 * value.numerator + value.denominator) // (2 * value.denominator)

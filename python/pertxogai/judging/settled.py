@@ -5,13 +5,13 @@ from __future__ import annotations
 from dataclasses import dataclass
 
 from pertxogai.drawing import ORIGIN, Arc, Circle, Drawing, PointRef
+from pertxogai.exact import whole_near
 from pertxogai.judging.measure.solution import PointNm, Solution
 from pertxogai.judging.printed import PrintedPlaces, in_datum
 from pertxogai.judging.sizes import Sizes
 from pertxogai.judging.trials import Trial
 from pertxogai.program.reports import Shape
 from pertxogai.spelling.facts import ORIGIN_KNOT, RadiusOf
-from pertxogai.spelling.linear import Number
 
 
 @dataclass(frozen=True)
@@ -34,7 +34,7 @@ def settled(drawing: Drawing, asked: Trial, shape: Shape) -> Settled:
             radius = _radius(asked, sizes, rim.name)
             if radius is None:
                 unsized.append(rim.name)
-                radius = _whole(drawing.drawn_radius_um(rim.name) * 1000)
+                radius = whole_near(drawing.drawn_radius_um(rim.name) * 1000)
             radii[rim.name] = radius
     return Settled(Solution(points, radii), tuple(unsized))
 
@@ -62,8 +62,4 @@ def _sizes(asked: Trial, points: dict[PointRef, PointNm]) -> Sizes:
 def _radius(asked: Trial, sizes: Sizes, name: str) -> int | None:
     """A radius that is told; else the one that the places tell; else None."""
     told = asked.rails.size(RadiusOf(name))
-    return sizes.radius_nm(name) if told is None else _whole(told * 1000)
-
-
-def _whole(value: Number) -> int:
-    return (2 * value.numerator + value.denominator) // (2 * value.denominator)
+    return sizes.radius_nm(name) if told is None else whole_near(told * 1000)

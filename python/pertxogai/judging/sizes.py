@@ -10,7 +10,7 @@ from fractions import Fraction
 from math import isqrt
 
 from pertxogai.drawing import X_AXIS, Y_AXIS
-from pertxogai.exact import between
+from pertxogai.exact import between, whole_near
 from pertxogai.spelling.axes import rank
 from pertxogai.spelling.facts import Apart, Facts, Knot, Line, Off, RadiusOf, Sized
 from pertxogai.spelling.linear import Form, LinearSystem, Number
@@ -36,7 +36,7 @@ class Sizes:
         value = self._system.value(RadiusOf(name))
         if value.terms:
             return None
-        radius = _whole(value.number * NM_PER_UM)
+        radius = whole_near(value.number * NM_PER_UM)
         return radius if radius > 0 else None
 
     def _forms(self) -> Iterator[Form]:
@@ -68,7 +68,3 @@ class Sizes:
 def _length(way: PointNm) -> Fraction:
     square = Fraction(way[0]) ** 2 + Fraction(way[1]) ** 2
     return Fraction(isqrt(int(square * DIGITS ** 2)), DIGITS)
-
-
-def _whole(value: Number) -> int:
-    return (2 * value.numerator + value.denominator) // (2 * value.denominator)

@@ -73,7 +73,7 @@ class _Reader:
         if len(words) not in _COUNTS[words[0]]:
             raise Faulty(Code.E3)
         if words[0] == "tolerance":
-            self.tolerances = _whole(words[1], 0, MOST_TOLERANCE), _whole(
+            self.tolerances = _read_whole(words[1], 0, MOST_TOLERANCE), _read_whole(
                 words[2], 0, MOST_TOLERANCE
             )
             return True
@@ -89,7 +89,7 @@ class _Reader:
         if (words[2], words[6], words[10]) != ("joins", "at", "keeps") or not choices:
             raise Faulty(Code.E2)
         number, one, two, three, keeps = (
-            _cluster(word) for word in (words[1], *words[3:6], words[11])
+            _read_cluster(word) for word in (words[1], *words[3:6], words[11])
         )
         if not number.is_step or not all(map(is_name, words[7:10])):
             raise Faulty(Code.E4)
@@ -108,32 +108,32 @@ class _Reader:
             raise Faulty(Code.E6)
         if self.kinds[name] is not {"point": Point, "line": Line, "circle": Circle}[words[0]]:
             raise Faulty(Code.E7)
-        placed = _placed(words)
+        placed = _read_placed(words)
         if name in self.places:
             raise Faulty(Code.E5)
         self.places[name] = placed
 
 
-def _placed(words: Sequence[str]) -> Placed:
+def _read_placed(words: Sequence[str]) -> Placed:
     if words[0] == "line":
-        a, b = (_whole(word, -MOST_NORMAL_PPB, MOST_NORMAL_PPB) for word in words[2:4])
-        return PlacedLine(words[1], a, b, _nm(words[4]))
+        a, b = (_read_whole(word, -MOST_NORMAL_PPB, MOST_NORMAL_PPB) for word in words[2:4])
+        return PlacedLine(words[1], a, b, _read_nm(words[4]))
     if words[0] == "point":
-        return PlacedPoint(words[1], _nm(words[2]), _nm(words[3]))
-    return PlacedCircle(words[1], _nm(words[2]), _nm(words[3]), _nm(words[4]))
+        return PlacedPoint(words[1], _read_nm(words[2]), _read_nm(words[3]))
+    return PlacedCircle(words[1], _read_nm(words[2]), _read_nm(words[3]), _read_nm(words[4]))
 
 
-def _nm(word: str) -> int:
-    return _whole(word, -MOST_PLACE_NM, MOST_PLACE_NM)
+def _read_nm(word: str) -> int:
+    return _read_whole(word, -MOST_PLACE_NM, MOST_PLACE_NM)
 
 
-def _whole(word: str, least: int, most: int) -> int:
+def _read_whole(word: str, least: int, most: int) -> int:
     if not _WHOLE.fullmatch(word) or not least <= int(word) <= most:
         raise Faulty(Code.E8)
     return int(word)
 
 
-def _cluster(word: str) -> ClusterName:
+def _read_cluster(word: str) -> ClusterName:
     name = read_cluster(word)
     if name is None:
         raise Faulty(Code.E4)

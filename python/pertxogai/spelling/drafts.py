@@ -84,22 +84,23 @@ class Sheet:
         """The sketch as values of the language, so many times larger, and the values that had to
         be rounded."""
         elements: list[language.Element] = [
-            _point(name, _whole(x * scale), _whole(y * scale))
+            _point(name, nearest_whole(x * scale), nearest_whole(y * scale))
             for name, (x, y) in self.points.items()]
         for name, ends in self.lines.items():
-            elements.append(_line(name, *(_whole(each * scale) for spot in ends for each in spot)))
+            elements.append(_line(name, *(nearest_whole(each * scale)
+                                          for spot in ends for each in spot)))
         if scale not in self.told:
-            self.told[scale] = _told(self.drafts, scale)
+            self.told[scale] = _in_the_language(self.drafts, scale)
         constraints, rounded = self.told[scale]
         return language.Sketch(1, tuple(elements), constraints), rounded
 
 
-def _told(drafts: Sequence[Draft], scale: int) -> Worded:
+def _in_the_language(drafts: Sequence[Draft], scale: int) -> Worded:
     """The constraints of drafts, so many times larger, and the values that had to be rounded."""
     rounded = []
     for number, draft in enumerate(drafts, 1):
         if draft.value_um is not None and (draft.value_um * scale).denominator != 1:
-            told = Fraction(_whole(draft.value_um * scale), scale)
+            told = Fraction(nearest_whole(draft.value_um * scale), scale)
             rounded.append(Rounded(number, draft.value_um, told))
     return tuple(_constraint(draft, scale) for draft in drafts), tuple(rounded)
 
@@ -109,7 +110,8 @@ def _constraint(draft: Draft, scale: int) -> language.Constraint:
         return language.Angle(draft.first, draft.second, *draft.ratio)
     if draft.value_um is None:
         return language.On(draft.first, draft.second)
-    return language.Distance(draft.first, draft.second, max(1, _whole(draft.value_um * scale)))
+    length_um = max(1, nearest_whole(draft.value_um * scale))
+    return language.Distance(draft.first, draft.second, length_um)
 
 
 @lru_cache(maxsize=8192)
@@ -122,8 +124,3 @@ def _point(name: str, x: int, y: int) -> language.Point:
 def _line(name: str, x1: int, y1: int, x2: int, y2: int) -> language.Line:
     """A line through two places; through a place a micrometre aside where they are one."""
     return language.Line(name, x1, y1, x2 + ((x1, y1) == (x2, y2)), y2)
-
-
-def _whole(value: Number) -> int:
-    return nearest_whole(value)
-

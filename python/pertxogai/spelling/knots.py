@@ -16,7 +16,7 @@ def knots_of(drawing: Drawing) -> tuple[dict[PointRef, Knot], list[Owner]]:
     classes: Classes[PointRef] = Classes()
     for pair in drawing.shared():
         classes.join(pair.first, pair.second)
-    repeats = [owner for pair, owner in _told(drawing)
+    repeats = [owner for pair, owner in _pairs_that_are_one(drawing)
                if not classes.join(pair.first, pair.second) and owner is not None]
     numbers: dict[PointRef, Knot] = {classes.leader(ORIGIN): ORIGIN_KNOT}
     refs = {ORIGIN: ORIGIN_KNOT}
@@ -26,7 +26,7 @@ def knots_of(drawing: Drawing) -> tuple[dict[PointRef, Knot], list[Owner]]:
     return refs, repeats
 
 
-def _told(drawing: Drawing) -> Iterator[tuple[Pair, Owner | None]]:
+def _pairs_that_are_one(drawing: Drawing) -> Iterator[tuple[Pair, Owner | None]]:
     """Each two points that a constraint says to be one, with its owner where it says nothing
     else."""
     for number, constraint in enumerate(drawing.constraints, 1):

@@ -76,7 +76,7 @@ class Lean:
         """The direction (ahead, left) in whole numbers; None where it has none."""
         if self.degrees % 45:
             return None
-        ahead, left = _turned(self.ahead, self.left, self.degrees)
+        ahead, left = _turn_by_eighths(self.ahead, self.left, self.degrees)
         divisor = gcd(ahead, left)
         return ahead // divisor, left // divisor
 
@@ -123,11 +123,11 @@ def _made(degrees: Fraction, ahead: int, left: int) -> Lean:
             degrees, ahead, left = degrees - 45, 1, 0
     degrees %= 180
     if left and degrees >= 45:
-        return _made(degrees % 45, *_turned(ahead, left, degrees))
+        return _made(degrees % 45, *_turn_by_eighths(ahead, left, degrees))
     return Lean(degrees, ahead, left)
 
 
-def _turned(ahead: int, left: int, degrees: Fraction) -> tuple[int, int]:
+def _turn_by_eighths(ahead: int, left: int, degrees: Fraction) -> tuple[int, int]:
     """A direction turned by the whole 45 degrees in these degrees; it comes out longer."""
     for _ in range(int(degrees // 45)):
         ahead, left = ahead - left, ahead + left

@@ -85,7 +85,7 @@ def _halved(axes: Axes, fact: Leans) -> Leans | None:
 
 
 def _mirrored(axes: Axes, frame: Frame, first: Line, second: Line) -> bool:
-    one, other = _run(axes, frame, first), _run(axes, frame, second)
+    one, other = _way_of_line(axes, frame, first), _way_of_line(axes, frame, second)
     if one is None or other is None:
         return False
     (u, v), (a, b) = one, other
@@ -97,7 +97,7 @@ def _mirrored(axes: Axes, frame: Frame, first: Line, second: Line) -> bool:
             or (reduced(u + a) == zero and reduced(v - b) == zero))
 
 
-def _run(axes: Axes, frame: Frame, line: Line) -> tuple[Form, Form] | None:
+def _way_of_line(axes: Axes, frame: Frame, line: Line) -> tuple[Form, Form] | None:
     """The way from a line's first point to its second in a frame."""
     members = axes.lines.members(line)
     return _way(axes, frame, (members[0].knot, members[1].knot)) if len(members) >= 2 else None

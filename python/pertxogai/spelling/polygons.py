@@ -42,7 +42,7 @@ def with_polygons(facts: Facts, middles: bool) -> Facts:
     corners."""
     for polygon in list(_polygons(facts)):
         if len(polygon.equals) == len(polygon.corners) - 1:
-            facts = _told(facts, polygon)
+            facts = _with_turns(facts, polygon)
             if middles and not len(polygon.corners) % 2:
                 facts = _opposite(facts, polygon)
     return facts
@@ -141,7 +141,7 @@ def _turn(facts: Facts, centre: Knot, corners: tuple[Knot, ...]) -> Fraction | N
     return Fraction(360 * round(sum(turns) / (2 * pi)), len(corners))
 
 
-def _told(facts: Facts, polygon: Polygon) -> Facts:
+def _with_turns(facts: Facts, polygon: Polygon) -> Facts:
     count = len(polygon.corners)
     for place in range(count):
         facts.own[polygon.radius(place)] = (polygon.centre, polygon.corners[place])

@@ -29,7 +29,7 @@ def with_slots(facts: Facts) -> Facts:
     for place, second in enumerate(feet):
         first = next((each for each in feet[:place] if _along(facts, sizes, each, second)), None)
         if first is not None and second.apart in facts.facts:
-            facts = _told(facts, first, second)
+            facts = _with_way_between(facts, first, second)
     return facts
 
 
@@ -58,7 +58,7 @@ def _along(facts: Facts, sizes: LinearSystem, first: Foot, second: Foot) -> bool
             and facts.left(first.centre, first.line) == facts.left(second.centre, second.line))
 
 
-def _told(facts: Facts, first: Foot, second: Foot) -> Facts:
+def _with_way_between(facts: Facts, first: Foot, second: Foot) -> Facts:
     way = Between(*sorted((first.centre, second.centre)))
     facts.own[way] = (way.first, way.second)
     leans = Leans(first.line, way, Lean(), second.apart.owner)

@@ -39,7 +39,7 @@ def open_archive(path: Path) -> Iterator[ZipFile]:
     """The zip of a file, of whatever size. Raises FileRefusal where the file can't be read, is no
     zip or a damaged one, or names a member twice or one that leads out of the zip."""
     with ExitStack() as opened:
-        with _told(path):
+        with _refusing_in_one_line(path):
             archive = opened.enter_context(ZipFile(opened.enter_context(_Guarded(path))))
         _check_names(path, archive)
         yield archive
@@ -74,13 +74,13 @@ def pieces_of(path: Path, archive: ZipFile, info: ZipInfo) -> Iterator[bytes]:
     if info.compress_type not in (zipfile.ZIP_STORED, zipfile.ZIP_DEFLATED) or info.flag_bits & 1:
         raise FileRefusal(f"{path}: {info.filename!a:.60} is packed or locked otherwise than"
                           " FreeCAD does: save it by FreeCAD again")
-    with _told(path), archive.open(info) as member:
+    with _refusing_in_one_line(path), archive.open(info) as member:
         while piece := member.read(PIECE):
             yield piece
 
 
 @contextmanager
-def _told(path: Path) -> Iterator[None]:
+def _refusing_in_one_line(path: Path) -> Iterator[None]:
     """Tells in one line what may go wrong while a zip is read. Raises FileRefusal."""
     try:
         yield

@@ -245,7 +245,7 @@ class _Walk:
             if words[:1] == [_CURVE_IN_SPACE] and len(words) == 5:
                 within = motion.after(self._motions[int(words[2])])
                 kind, numbers = self._curves[int(words[1]) - 1]
-                return _placed(kind, numbers, within, float(words[3]), float(words[4]))
+                return _edge_between(kind, numbers, within, float(words[3]), float(words[4]))
         return None
 
 
@@ -269,7 +269,8 @@ def _children(line: str) -> list[_Child]:
             for place in range(0, len(words) - 1, 2)]
 
 
-def _placed(kind: _Curve, numbers: list[float], motion: Motion, first: float, last: float) -> Edge:
+def _edge_between(kind: _Curve, numbers: list[float], motion: Motion, first: float, last: float
+                  ) -> Edge:
     """The edge of a curve between two of its parameters: of a circle they are angles."""
     vectors = [(numbers[i], numbers[i + 1], numbers[i + 2]) for i in range(0, len(numbers) - 2, 3)]
     if kind is _Curve.LINE:

@@ -37,15 +37,15 @@ LaidElement = Laid | LaidLine
 
 def as_drawn(elements: Iterable[Element]) -> tuple[LaidElement, ...]:
     """Elements where they are drawn."""
-    return tuple(map(_drawn, elements))
+    return tuple(map(_lay_drawn, elements))
 
 
 def as_placed(places: Iterable[Placed]) -> tuple[LaidElement, ...]:
     """Elements where they are placed, in the frame of the places."""
-    return tuple(map(_placed, places))
+    return tuple(map(_lay_placed, places))
 
 
-def _drawn(element: Element) -> LaidElement:
+def _lay_drawn(element: Element) -> LaidElement:
     if isinstance(element, Line):
         way = unit((element.x2_um - element.x1_um) / 1e3, (element.y2_um - element.y1_um) / 1e3)
         return LaidLine(element.name, (element.x1_um / 1e3, element.y1_um / 1e3), way)
@@ -53,7 +53,7 @@ def _drawn(element: Element) -> LaidElement:
     return Laid(element.name, (element.x_um / 1e3, element.y_um / 1e3), radius)
 
 
-def _placed(placed: Placed) -> LaidElement:
+def _lay_placed(placed: Placed) -> LaidElement:
     if isinstance(placed, PlacedLine):
         a, b = unit(placed.a_ppb, placed.b_ppb)
         return LaidLine(placed.name, (a * placed.c_nm / 1e6, b * placed.c_nm / 1e6), (b, -a))

@@ -82,7 +82,7 @@ class _Drawer:
         for start, end, bar in self.bars:
             yield f"  <line {_class(bar.ink)} {_ends(start, end)}/>"
         yield from self._squares()
-        yield from map(_drawn, self.figures)
+        yield from map(_svg_of, self.figures)
         yield from map(_written, self._texts())
         yield from self._legend()
         yield "</svg>"
@@ -132,7 +132,7 @@ def _order(figure: Figure) -> int:
     return [Ring, Dot].index(type(figure.mark)) if isinstance(figure.mark, (Ring, Dot)) else 2
 
 
-def _drawn(figure: Figure) -> str:
+def _svg_of(figure: Figure) -> str:
     """The line of SVG for a figure."""
     mark, ink = figure.mark, figure.mark.ink
     if isinstance(mark, Dot):

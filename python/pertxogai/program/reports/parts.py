@@ -45,12 +45,12 @@ def read_parts(text: str) -> PartsReport:
     with whole(text, "parts") as rows:
         verdict = take_verdict(rows)
         count = int(rows.take(_PARTS)[1])
-        parts = tuple(_placed(rows, number) for number in range(1, count + 1))
+        parts = tuple(_take_placed(rows, number) for number in range(1, count + 1))
         rows.claim(verdict is verdict_of(tuple(it.part for it in parts)))
     return PartsReport(verdict, parts)
 
 
-def _placed(rows: Rows, number: int) -> PlacedPart:
+def _take_placed(rows: Rows, number: int) -> PlacedPart:
     part = take_part(rows, number)
     if part.over:
         return PlacedPart(part, None)
