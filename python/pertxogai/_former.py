@@ -72,7 +72,7 @@ PATHS = {
     "page.spots": "board.anchors",
     "picture": "output.picture",
     "picture.designed": "output.picture.drawings",
-    "pieces": "judging.pieces",
+    "pieces": "judging.parts",
     "process": "program.process",
     "reports": "program.reports",
     "saving": "files.atomic",
@@ -112,6 +112,7 @@ NAMES = {
     "picture": {"Spot": "PointMm"},
     "picture.designed": {"Whereabouts": "DrawnPlaces"},
     "picture.marks": {"Spot": "PointMm"},
+    "pieces": {"pieces": "_former.pieces"},
     "program": {"Asks": "Solver"},
     "reports.answer": {"Report": "program.reports.report.Report"},
     "saving": {"saving": "written_whole"},
@@ -166,6 +167,14 @@ def picture(judged: object, as_drawn: bool) -> Any:
     output = import_module("pertxogai.output.sketch_picture")
     _warn("JudgedSketch.picture", "picture_of_judged of pertxogai.output", 4)
     return output.picture_of_judged(judged, as_drawn)
+
+
+def pieces(drawing: object, judgement: object) -> Any:
+    """What `pieces` gave: the number of the part that a shape lies in, by the shape's name; the
+    greatest of several parts, and no longer the first."""
+    parts = import_module("pertxogai.judging.parts")
+    _warn("pieces(drawing, judgement)", "parts_of_shapes(judgement) of pertxogai.judging.parts", 3)
+    return parts.parts_of_shapes(judgement)
 
 
 class FormerPaths(Loader):

@@ -159,3 +159,11 @@ def test_importing_the_package_imports_none_of_its_folders() -> None:
     ended = subprocess.run([sys.executable, "-c", words], env={"PYTHONPATH": str(TOP / "python")},
                            capture_output=True, text=True, check=True)
     assert ended.stdout.split() == ["pertxogai", "pertxogai._former", "pertxogai._later"]
+
+
+def test_pieces_gives_the_one_answer_that_there_is(monkeypatch) -> None:
+    from pertxogai.judging import parts
+
+    monkeypatch.setattr(parts, "parts_of_shapes", lambda judgement: {"Hole": judgement})
+    with pytest.warns(DeprecationWarning, match="parts_of_shapes"):
+        assert _former.pieces(None, 2) == {"Hole": 2}
