@@ -479,6 +479,18 @@ def test_what_holds_since_the_whole_was_laid_so_is_no_repeat(program, text):
     assert "  not told to the program, and holds as it was measured: Mirror" in lines
 
 
+def test_points_that_lie_symmetric_to_the_origin_are_laid_about_it(program):
+    """Nothing tells the pair's direction, so it lies as it is drawn, which is that of 42 4, each
+    point 20 from the origin: 20 * 42 / hypot(42, 4) is 19.909908, 20 * 4 / hypot(42, 4) 1.896182."""
+    found = judge(read_drawing("point A -12 10\npoint B 30 14\nMirror: symmetric A B about Origin\n"
+                               "Long: distance A B 40\n"), program)
+    assert found.verdict is Verdict.WELL and found.held == ("Mirror",)
+    assert found.whole.text() == "turned" and not any(each.amount > 1 for each in found.deviations)
+    spots = {str(ref): [round(float(value) / 1e6, 4) for value in spot]
+             for ref, spot in found.solution.points.items()}
+    assert spots == {"A": [-19.9099, -1.8962], "B": [19.9099, 1.8962]}
+
+
 @pytest.mark.parametrize("text, lacks", [
     (PLATE, 0),
     (PLATE + "circle Hole 20 20 5\nx Hole 20\ny Hole 20\n", 1),  # The hole has no size.

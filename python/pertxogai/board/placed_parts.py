@@ -12,7 +12,7 @@ from pertxogai.drawing.geometry import Arc
 from pertxogai.judging import Judgement
 from pertxogai.judging.measure import Solution
 from pertxogai.judging.printed import PrintedPlaces
-from pertxogai.judging.turning import axis_of, known_at
+from pertxogai.judging.turning import axis_of, known_sum
 from pertxogai.program import Solver
 from pertxogai.program.reports import PlacedPart, Solved, read_parts
 from pertxogai.spelling.axes import Axes
@@ -106,17 +106,19 @@ def _told_axis(axes: Axes, spelled: Spelled, plate: PrintedPlaces) -> PointMm | 
 def _shift(axes: Axes, spelled: Spelled, plate: PrintedPlaces, axis: Sequence[Number | float],
            upwards: bool) -> float | None:
     """How far a part is shifted along an axis, in millimetres, once it is turned: by a line that is
-    told from the other axis, or by a point of which the coordinate is told; None where there is
-    neither."""
+    told from the other axis, or by points of which the coordinate is told, or a sum of several;
+    None where there is neither."""
     for each in spelled.headings:
         if each.rail and each.rail.datum() and each.rail.upwards == upwards \
                 and each.name in plate.lines:
             return (float(each.at_um) - _along(axis, upwards, plate.foot(each.name))) / 1e3
     knots = _knots(spelled, plate)
-    told = known_at(axes, upwards, knots)
+    told = known_sum(axes, upwards, knots)
     if told is None:
         return None
-    return (float(told[1]) - _along(axis, upwards, plate.points[knots[told[0]]])) / 1e3
+    here = sum(float(factor) * _along(axis, upwards, plate.points[knots[knot]])
+               for knot, factor in told.factors.items())
+    return (float(told.value) - here) / float(told.total()) / 1e3
 
 
 def _knots(spelled: Spelled, plate: PrintedPlaces) -> dict[Knot, str]:

@@ -8,11 +8,11 @@ from fractions import Fraction
 from math import cos, isqrt, sin
 
 from pertxogai.exact import whole_near
-from pertxogai.judging.turning import axis_of, drawn_axis, known_at
+from pertxogai.judging.turning import KnownSum, axis_of, drawn_axis, known_sum
 from pertxogai.language import Placed, PlacedLine, PlacedPoint
 from pertxogai.spelling.axes import Axes
 from pertxogai.spelling.facts import DATUM
-from pertxogai.spelling.linear import Number
+from pertxogai.spelling.linear import Number, small
 from pertxogai.spelling.writing import Heading, Spelled
 
 PointNm = tuple[Number, Number]
@@ -117,14 +117,18 @@ def is_tied(axes: Axes, spelled: Spelled) -> bool:
 
 def _shift(axes: Axes, spelled: Spelled, plate: PrintedPlaces, axis: PointNm,
            upwards: bool) -> Number:
-    """How far the printed places are moved along an axis: by a line that is the datum's, a point
-    of which the coordinate is told, or the first point, which stays where it is drawn."""
+    """How far the printed places are moved along an axis: by a line that is the datum's, points
+    of which the coordinate is told, or a sum of several, or the first point, which stays where it
+    is drawn."""
     for each in spelled.headings:
         rail = each.rail
         if rail and rail.datum() and rail.upwards == upwards and each.name in plate.lines:
             return -along(axis, upwards, plate.foot(each.name))
     knots = {knot: name for knot, name in spelled.points.items() if name in plate.points}
-    told = known_at(axes, upwards, knots)
-    knot = next(iter(knots)) if told is None else told[0]
-    at = axes.facts.drawn[knot][upwards] if told is None else told[1]
-    return at - along(axis, upwards, plate.points[knots[knot]])
+    told = known_sum(axes, upwards, knots)
+    if told is None:
+        first = next(iter(knots))
+        told = KnownSum({first: 1}, axes.facts.drawn[first][upwards])
+    here = sum(factor * along(axis, upwards, plate.points[knots[knot]])
+               for knot, factor in told.factors.items())
+    return small(Fraction(told.value - here) / told.total())

@@ -6,7 +6,7 @@ axes; no line of the sketch needs it. """
 from __future__ import annotations
 
 from collections import defaultdict
-from collections.abc import Hashable, Iterator, Mapping
+from collections.abc import Collection, Hashable, Iterator, Mapping
 from dataclasses import dataclass
 from fractions import Fraction
 from itertools import chain, combinations
@@ -16,7 +16,7 @@ from pertxogai.exact import between, square
 from pertxogai.spelling.axes import Axes, Coordinate
 from pertxogai.spelling.facts import DATUM, Knot
 from pertxogai.spelling.lean import Lean
-from pertxogai.spelling.linear import Number
+from pertxogai.spelling.linear import Form, Number
 
 PointNm = tuple[Number, Number]
 DIGITS = 10 ** 12
@@ -56,14 +56,34 @@ def drawn_axis(axes: Axes, spots: Mapping[Knot, PointNm]) -> PointNm | None:
     return None
 
 
-def known_at(axes: Axes, upwards: bool, knots: Mapping[Knot, object]) -> tuple[Knot, Number] | None:
-    """A placed point of which the drawing says the datum's coordinate, and that, in micrometres;
-    None where it says none."""
+@dataclass(frozen=True)
+class KnownSum:
+    """A sum of coordinates of placed points, each times a number, that the drawing says, in
+    micrometres. It changes as all are shifted, since the numbers don't come to 0."""
+
+    factors: Mapping[Knot, Number]
+    value: Number
+
+    def total(self) -> Number:
+        """What the numbers come to."""
+        return sum(self.factors.values())
+
+
+def known_sum(axes: Axes, upwards: bool, knots: Collection[Knot]) -> KnownSum | None:
+    """What the drawing says of the datum's coordinates of placed points: one of them, else a sum,
+    as of two points that lie symmetric to the origin; None where it says none that a shift of all
+    would change."""
+    sums = []
     for knot in knots:
-        value = axes.system.value(Coordinate(DATUM, upwards, knot))
-        if not value.terms:
-            return knot, value.number
-    return None
+        place = Coordinate(DATUM, upwards, knot)
+        form = Form.of(place) - axes.system.value(place)
+        if all(isinstance(each, Coordinate) and each[:2] == place[:2] and each.knot in knots
+               for each in form.terms):
+            factors = {each.knot: factor for each, factor in form.terms.items()
+                       if isinstance(each, Coordinate)}
+            sums.append(KnownSum(factors, -form.number))
+    told = sorted((each for each in sums if each.total()), key=lambda each: len(each.factors))
+    return told[0] if told else None
 
 
 def _ways(axes: Axes, spots: Mapping[Knot, PointNm]) -> Iterator[Told]:
