@@ -20,13 +20,21 @@ HOLDS_MM = 1e-6
 
 
 class Kind(Enum):
-    """What a drawing is made to be."""
+    """What a drawing is."""
 
     COMPLETE = "complete"
     OPEN = "open"
     REPEATED = "repeated"
     CONTRADICTING = "contradicting"
     IMPOSSIBLE = "impossible"
+    ELSEWHERE = "tied elsewhere"
+    """A value that the drawn places don't have contradicts no other: nothing else ties the whole
+    to the datum, or the one shape to another, so that it moves or turns them."""
+
+
+WANTED = (Kind.COMPLETE, Kind.OPEN, Kind.REPEATED, Kind.CONTRADICTING, Kind.IMPOSSIBLE)
+"""What a drawing may be made to be; it may come out otherwise, since of what hangs loose a word more
+says neither again nor against others what they say."""
 
 
 @dataclass(frozen=True)
@@ -62,7 +70,7 @@ class NotMade(Exception):
 def made(seed: int, kind: Kind | None = None, most: int = MOST_BLOCKS) -> Made:
     """The drawing of a seed, of so many blocks at most."""
     chance = random.Random(seed)
-    wanted = kind or chance.choice(list(Kind))
+    wanted = kind or chance.choice(WANTED)
     for _ in range(TRIES):
         try:
             return _tried(seed, wanted, chance, most)
@@ -297,7 +305,7 @@ class _Finish:
             model, exact = self._read(words, spots, radii, digits)
             if _holds(model, exact, wrong) and _turns_alike(model, exact):
                 text = written(self.shapes, words, spots, radii, digits)
-                return Made(kind, seed, text, exact, truth(model, exact), wrong, against)
+                return _as_it_is(Made(kind, seed, text, exact, truth(model, exact), wrong, against))
         raise NotMade("not drawn so that it holds")
 
     def _read(self, words: list[str], spots: dict[str, tuple[float, float]],
@@ -320,6 +328,15 @@ class _Finish:
         radii = {name: max(1.0, move(radius)) if jitter else radius
                  for name, radius in self.shapes.radii.items()}
         return spots, radii, digits
+
+
+def _as_it_is(made: Made) -> Made:
+    """A drawing of the kind that came out."""
+    if made.kind is Kind.CONTRADICTING and not made.contradicts():
+        return replace(made, kind=Kind.ELSEWHERE)
+    if made.kind is Kind.REPEATED and not made.truth.excess:
+        return replace(made, kind=Kind.OPEN if made.truth.lacks else Kind.COMPLETE)
+    return made
 
 
 def _named(words: list[str], kind: str) -> set[tuple[str, ...]]:

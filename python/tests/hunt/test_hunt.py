@@ -8,7 +8,7 @@ import pytest
 pytest.importorskip("numpy", reason="the hunt takes Debian's python3-numpy")
 
 from hunt.asking import Answer  # noqa: E402
-from hunt.making import Kind, Made, made  # noqa: E402
+from hunt.making import WANTED, Kind, Made, made  # noqa: E402
 from hunt.reading import read  # noqa: E402
 from hunt.shrinking import shrunk  # noqa: E402
 from hunt.truth import Model, truth  # noqa: E402
@@ -167,10 +167,19 @@ def test_what_is_no_answer_is_found() -> None:
 
 
 def test_every_kind_is_made() -> None:
-    found = [made(seed, kind) for kind in Kind for seed in range(4)]
+    found = [made(seed, kind) for kind in WANTED for seed in range(4)]
     assert {each.kind for each in found} == set(Kind)
     assert any(each.contradicts() for each in found) and any(each.is_impossible() for each in found)
     assert any(each.truth.lacks for each in found) and any(each.truth.excess for each in found)
+
+
+def test_a_value_that_moves_the_whole_contradicts_nothing() -> None:
+    """A segment's length, and where its end lies from the y axis: that isn't where it was drawn,
+    and nothing else ties the segment to the axes."""
+    alone = made(27, most=1)
+    assert alone.text.splitlines() == ["segment L1 1 1 16 -1", "length L1 16.141", "x L1.end 19.72"]
+    assert alone.kind is Kind.ELSEWHERE and not alone.contradicts()
+    assert (alone.truth.lacks, alone.truth.excess) == (0, 0)
 
 
 def test_a_seed_makes_one_drawing() -> None:
