@@ -13,7 +13,7 @@ from pertxogai.commands import main
 from pertxogai.drawing import Drawing, PointRef, Which, read_drawing
 from pertxogai.exits import Exit
 from pertxogai.judging import judge
-from pertxogai.judging.departures import mirrored
+from pertxogai.judging.mirrored import mirrored
 from pertxogai.judging.good import (
     GoodJudgement, GoodSketch, Lack, NotGood, good_of, good_sketch_of, reasons_against)
 from pertxogai.judging.judged_drawing import JudgedDrawing
@@ -304,6 +304,53 @@ def test_what_lies_mirrored_is_not_good(program):
     why, = (each.text for each in reasons_against(found))
     assert why == "A, B, C lie mirrored: each corner turns to the other side than it is drawn"
     assert f"  not met: {why}" in drawing_lines(found)
+
+
+BELOW = (TRIANGLE.replace("length B 30\n", "")
+         + "coincident A.start Origin\ny A.end 5\ny B.end -3\n")
+"""As above: it is drawn to go round to the left, and goes round to the right."""
+
+
+def test_what_lies_mirrored_beside_what_does_not_is_not_good(program):
+    """In the triangle's corner at the origin hangs another one, that lies as it is drawn: to the
+    left from 0 0 to -30 0, and up from there to -30 20."""
+    beside = ("segment D 0 0 -30 0\nsegment E D.end -30 20\nsegment F E.end D.start\n"
+              "coincident D.start Origin\nhorizontal D\nvertical E\nlength D 30\nlength E 20\n")
+    assert [each.text for each in reasons_against(judged(BELOW + beside, program))] == [
+        "A, B, C lie mirrored: each corner turns to the other side than it is drawn"]
+    leg = "segment D A.start -30 1\nlength D 30\nhorizontal D\n"
+    assert lacks(judged(BELOW + leg, program)) == [Lack.MIRRORED]
+
+
+def test_construction_lines_that_lie_mirrored_are_not_good(program):
+    """They hold a hole in the corner that is 3 below the axis, and is drawn above."""
+    lines = BELOW.replace("segment", "construction segment")
+    hole = "circle H 38 30 4\ncoincident H B.end\ndiameter H 8\n"
+    assert lacks(judged(lines + hole, program)) == [Lack.MIRRORED]
+
+
+def test_a_point_beside_an_edge_that_lies_mirrored_is_named(program):
+    """P is drawn above the edge S, 20 from its one end and 25 from the other. A second edge leads
+    away from S; its corner turns as it is drawn in the mirror image about the middle of S, 20 0,
+    and so does no other."""
+    text = ("segment S 0 0 40 0\nsegment T S.end 60 -20\npoint P 20 15\ncoincident S.start Origin\n"
+            "horizontal S\nlength S 40\nx T.end +60\ny T.end -20\n"
+            "distance P S.start 25\ndistance P S.end 25\n")
+    found = judged(text, program)
+    assert lacks(found) == [] and not list(mirrored(found.drawing, found.judgement.solution))
+    points = dict(found.judgement.solution.points)
+    x, y = points[PointRef("P", Which.AT)]
+    points[PointRef("P", Which.AT)] = x, -y
+    below = Solution(points, found.judgement.solution.radii)
+    assert list(mirrored(found.drawing, below)) == [("S", "P S.start", "P S.end")]
+
+
+def test_a_corner_that_turns_by_the_directions_of_its_edges_is_not_mirrored(program):
+    """A rises by 11 degrees as it is drawn, and B by 10; told are 10 and 12, so that the corner
+    turns to the left, and is drawn to turn to the right."""
+    found = judged("segment A 0 0 40 8\nsegment B A.end 80 15\ncoincident A.start Origin\n"
+                   "angle A 10deg\nangle B 12deg\nlength A 40\nlength B 40\n", program)
+    assert lacks(found) == [] and found.judgement.warnings
 
 
 @pytest.mark.parametrize("words", [

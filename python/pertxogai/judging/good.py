@@ -12,7 +12,7 @@ from dataclasses import dataclass
 from enum import Enum
 
 from pertxogai.drawing import ORIGIN, Drawing
-from pertxogai.judging.departures import mirrored
+from pertxogai.judging.mirrored import mirrored
 from pertxogai.judging.judged_drawing import JudgedDrawing
 from pertxogai.judging.judged_sketch import JudgedSketch
 from pertxogai.judging.measure.deviation import Deviation, Unit
@@ -81,11 +81,10 @@ class GoodJudgement:
     """A judgement on a drawing that is good: the program says well and places it, every point lies
     where that was printed, every constraint of the designer and all that the shapes imply is
     measured within the limit, nothing of the file is left out, every size is told, by rank no
-    dimension is known to be missing (the rank of a large drawing isn't counted), and no outline, or
-    group of points held by distances, with all that hangs together with it by a point, has each
-    corner turned over, unless words with a sign tell one. A mirrored piece that shares a point with
-    one that isn't isn't found, nor one of construction lines, nor a point held by distances from an
-    edge's ends. Making one of anything else raises NotGood."""
+    dimension is known to be missing (the rank of a large drawing isn't counted), and no piece
+    of it, as `judging.mirrored` tells them apart, has each corner turned over, unless words tell
+    one. A part of an outline that is turned over between two of its corners isn't found. Making one
+    of anything else raises NotGood."""
 
     judged: JudgedDrawing
 

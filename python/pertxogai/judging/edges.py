@@ -1,0 +1,114 @@
+"""Edges as they are drawn and as they are placed, in whole nanometres."""
+from __future__ import annotations
+
+from collections.abc import Iterator, Sequence
+from dataclasses import dataclass
+from itertools import combinations
+
+from pertxogai.drawing import Arc, Distance, Drawing, PointRef, Segment, Which
+from pertxogai.exact import Vector, between, cross, whole_near
+from pertxogai.judging.measure.solution import Solution
+
+STRAIGHT_NM = 1000
+"""A corner in which an end is no further off the line of the other edge is none."""
+
+
+@dataclass(frozen=True)
+class Chord:
+    """From one end to the other, in one place of an edge, drawn or placed, in nm."""
+
+    start: Vector
+    end: Vector
+
+    @property
+    def way(self) -> Vector:
+        """The way from the start to the end."""
+        return between(self.start, self.end)
+
+    def box(self) -> tuple[Vector, Vector]:
+        """From where to where it goes in x, and in y."""
+        (x, y), (u, v) = self.start, self.end
+        return (min(x, u), max(x, u)), (min(y, v), max(y, v))
+
+    def parts(self, other: Chord) -> bool:
+        """Whether the ends of another lie on different sides of this one's line."""
+        sides = [cross(self.way, between(self.start, end)) for end in (other.start, other.end)]
+        return sides[0] * sides[1] < 0
+
+    def crosses(self, other: Chord) -> bool:
+        """Whether the two cut each other, and not in an end."""
+        return self.parts(other) and other.parts(self)
+
+
+@dataclass(frozen=True)
+class Edge:
+    """A segment, an arc from its start to its end, or the way that a distance is told of, as it is
+    drawn, and as it is placed."""
+
+    name: str
+    ends: tuple[PointRef, PointRef]
+    drawn: Chord
+    placed: Chord
+
+    def turns(self, other: Edge) -> bool | None:
+        """Whether the corner with another edge turns to the other side than it is drawn; None where
+        it is straight, drawn or placed."""
+        sides = _side(self.drawn.way, other.drawn.way) * _side(self.placed.way, other.placed.way)
+        return sides < 0 if sides else None
+
+
+@dataclass(frozen=True)
+class Edges:
+    """Makes the edges of a placed drawing."""
+
+    drawing: Drawing
+    solution: Solution
+
+    def of_shape(self, shape: Segment | Arc) -> Edge:
+        """Raises MissingPlace."""
+        ends = PointRef(shape.name, Which.START), PointRef(shape.name, Which.END)
+        return self._edge(shape.name, ends)
+
+    def of_distance(self, told: Distance) -> Edge:
+        """Raises MissingPlace."""
+        return self._edge(f"{told.first} {told.second}", (told.first, told.second))
+
+    def leaders(self, edge: Edge) -> tuple[PointRef, PointRef]:
+        """The points that stand for all that are one with its ends."""
+        start, end = map(self.drawing.meetings.leader, edge.ends)
+        return start, end
+
+    def corners(self, edges: Sequence[Edge]) -> list[tuple[int, int]]:
+        """The places of each two edges that end in one point."""
+        through: dict[PointRef, list[int]] = {}
+        for place, edge in enumerate(edges):
+            for leader in set(self.leaders(edge)):
+                through.setdefault(leader, []).append(place)
+        return sorted({pair for places in through.values() for pair in combinations(places, 2)})
+
+    def _edge(self, name: str, ends: tuple[PointRef, PointRef]) -> Edge:
+        drawn = [(whole_near(at.x_um * 1000), whole_near(at.y_um * 1000))
+                 for at in map(self.drawing.drawn, ends)]
+        placed = [(whole_near(x), whole_near(y)) for x, y in map(self.solution.spot, ends)]
+        return Edge(name, ends, Chord(*drawn), Chord(*placed))
+
+
+def boxes_meet(chords: Sequence[Chord]) -> Iterator[tuple[int, int]]:
+    """The places of each two of which the boxes meet, by a sweep along x."""
+    boxes = [each.box() for each in chords]
+    passed: list[int] = []
+    for place in sorted(range(len(boxes)), key=lambda each: boxes[each][0][0]):
+        (left, _), (low, high) = boxes[place]
+        passed = [each for each in passed if boxes[each][0][1] >= left]
+        for each in passed:
+            if boxes[each][1][0] <= high and low <= boxes[each][1][1]:
+                yield min(each, place), max(each, place)
+        passed.append(place)
+
+
+def _side(first: Vector, second: Vector) -> int:
+    """To which side a corner turns: 1 to the left, -1 to the right, 0 where it is straight."""
+    turn = cross(first, second)
+    if any(turn * turn <= STRAIGHT_NM ** 2 * run * run for way in (first, second) for run in way):
+        return 0
+    return 1 if turn > 0 else -1
