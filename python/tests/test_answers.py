@@ -82,7 +82,7 @@ def test_what_is_too_many_though_the_pieces_are_not_found_rigid_is_told_by_rank(
     said = [f"distance P{one} P{other} {long}" for one, other, long in bars]
     found = judge(read_drawing("\n".join([*points, *said])), program)
     assert found.verdict is Verdict.OPEN and found.missing.count == 0
-    among, = found.missing.excess
+    among, = found.too_many
     assert len(among) == len(bars)
 
 
@@ -500,3 +500,32 @@ def test_what_is_lacking_by_rank_is_told_with_every_verdict(program, text, lacks
     found = judge(read_drawing(text), program)
     said = drawing_json(JudgedDrawing("it", read_drawing(text), found))
     assert said["by_rank"]["lacks"] == lacks and said["by_numbers"] == {"unmet": None}
+
+
+BY_A_MIDDLE = """\
+segment S -18 26.2 30 39
+point P 6.2 33
+point Q 5.8 33.3
+Mine: midpoint P S
+Yours: midpoint Q S
+Right: x Q 6
+Up: y Q 33
+Long: length S 50
+Far: distance S.end Origin 50
+End: x S.end +30
+"""
+"""From -18 26 to 30 40, and its middle twice. S.end's place is told by three words that also have
+its middle's, of which two would be enough; where P lies, Mine alone tells."""
+
+
+def test_what_is_well_and_says_too_much_by_rank_says_among_what(program):
+    found = judge(read_drawing(BY_A_MIDDLE), program)
+    group = ("Yours", "Right", "Up", "Long", "Far", "End")
+    assert found.verdict is Verdict.WELL and found.too_many == (group,)
+    assert (found.held, found.repeats, found.left_out) == (("Mine",), (), ())
+    judged = JudgedDrawing("it", read_drawing(BY_A_MIDDLE), found)
+    assert drawing_json(judged)["by_rank"]["excess"] == [list(group)]
+    assert ("  one is too many all the same, of: Yours, Right, Up, Long, Far, End (by rank)"
+            in drawing_lines(judged))
+    fewer = judge(read_drawing(BY_A_MIDDLE.replace("End: x S.end +30\n", "")), program)
+    assert fewer.verdict is Verdict.WELL and fewer.too_many == ()

@@ -85,7 +85,7 @@ def _missing(judgement: Judgement) -> Json | None:
         return None
     return {
         "lacks_by_rank": found.count,
-        "excess_by_rank": [list(each) for each in found.excess],
+        "excess_by_rank": [list(each) for each in judgement.too_many],
         "pieces": [{"number": piece.number, "elements": list(piece.elements)}
                    for piece in found.pieces],
         "joints": [{"first": joint.first.number, "second": joint.second.number,

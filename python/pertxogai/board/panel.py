@@ -90,8 +90,10 @@ def _well(judged: JudgedDrawing) -> Iterator[Line]:
         yield Line(reason.text, list="what isn’t met", constraint=reason.constraint)
     yield from _choices(judged.judgement)
     within = (units_text(length_nm, Unit.NM), units_text(solved.angle_tolerance_ppb, Unit.PPB))
-    count = "" if unmet else "Just as many dimensions as fix it. "
+    is_just = not unmet and not judged.judgement.too_many
+    count = "Just as many dimensions as fix it. " if is_just else ""
     yield Line(f"{count}Placed within {within[0]} and {within[1]}.")
+    yield from _too_many(judged.judgement)
     yield from _not_tied(judged.judgement, "quiet")
     off = [each for each in judged.worst() if each.amount]
     for each in off:
@@ -120,8 +122,7 @@ def _open(judgement: Judgement) -> Iterator[Line]:
     elif is_tied:
         yield Line("It doesn’t hold together by triangles.")
     yield from _not_tied(judgement, "quiet" if found.count else "")
-    yield from (Line(f"One is too many all the same, by rank, of: {', '.join(each)}.")
-                for each in found.excess)
+    yield from _too_many(judgement)
     yield from _unmet(judgement)
     for piece in found.pieces[:MOST_PIECES]:
         yield Line(f"piece {piece.number}: {' '.join(piece.elements)}", list="pieces",
@@ -132,6 +133,12 @@ def _open(judgement: Judgement) -> Iterator[Line]:
         yield Line(f"pieces {joint.first.number} and {joint.second.number}{shared}: "
                    f"{joint.tie.value}", list="what to do", selects=joint.shared)
     yield from _more(len(found.joints) - MOST_JOINTS, "what to do")
+
+
+def _too_many(judgement: Judgement) -> Iterator[Line]:
+    """What is too many all the same of what isn't over."""
+    yield from (Line(f"One is too many all the same, by rank, of: {', '.join(each)}.")
+                for each in judgement.too_many)
 
 
 def _unmet(judgement: Judgement) -> Iterator[Line]:
@@ -260,6 +267,7 @@ def _fault(judgement: Judgement, failure: Failure, short: str) -> Iterator[Line]
     numbers = {drawing.called(number): number for number in range(1, len(drawing.constraints) + 1)}
     for name in failure.dimensions:
         yield Line(name, list="dimensions beneath the fault", constraint=numbers.get(name))
+    yield from _too_many(judgement)
 
 
 def _choices(judgement: Judgement) -> Iterator[Line]:

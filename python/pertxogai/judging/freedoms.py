@@ -11,6 +11,7 @@ from __future__ import annotations
 from collections.abc import Collection, Iterable, Iterator, Mapping, Sequence
 from dataclasses import dataclass
 from decimal import Decimal, localcontext
+from enum import Enum
 from functools import cached_property
 
 from pertxogai.cached import cached_on
@@ -61,6 +62,14 @@ class Loose:
         if self.along_x or self.along_y:
             return f"nothing tells the {'x' if self.along_x else 'height'} of {self.point}"
         return f"{self.point} lacks a dimension"
+
+
+class Twice(Enum):
+    """What of a constraint the others say too, by rank."""
+
+    NOTHING = "nothing"
+    IN_PART = "in part"
+    WHOLE = "whole"
 
 
 @dataclass(frozen=True)
@@ -114,6 +123,13 @@ class Freedoms:
         """How many fewer equations are too many without some constraints."""
         with localcontext(EXACT):
             return rank(row for number in gone for row in self.factors(number))
+
+    def twice(self, number: int) -> Twice:
+        """What of a constraint the others say too."""
+        fewer = self.fewer([number])
+        if not fewer:
+            return Twice.NOTHING
+        return Twice.WHOLE if fewer == self.equations(number) else Twice.IN_PART
 
     def freed(self, gone: Collection[int]) -> int:
         """How much more is free without some constraints."""

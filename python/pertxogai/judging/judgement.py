@@ -8,13 +8,13 @@ from pertxogai.drawing import Circle, Drawing, moved
 from pertxogai.judging.choices import Tried, beneath, tried
 from pertxogai.judging.departures import Departure, warnings
 from pertxogai.judging.faults import Failure, failure
-from pertxogai.judging.freedoms import Freedoms, Whole, freedoms
+from pertxogai.judging.freedoms import Freedoms, Twice, Whole, freedoms
 from pertxogai.judging.limits import check_fits
 from pertxogai.judging.measure.deviation import Deviation, Unit
 from pertxogai.judging.measure.limit import Limit
 from pertxogai.judging.measure.measuring import measure
 from pertxogai.judging.measure.solution import Solution
-from pertxogai.judging.missing import Missing, loose, missing, unmet
+from pertxogai.judging.missing import Missing, loose, missing, too_many, unmet
 from pertxogai.judging.naming import Names
 from pertxogai.judging.printed import is_tied
 from pertxogai.judging.remembering import Remembering
@@ -38,18 +38,19 @@ class LeftOut:
     None where there are no places, or an arc's ends are meant."""
 
     name: str
+    owner: Owner
     off: Deviation | None
     limit: Limit = Limit()
     is_spare: bool = False
-    """Whether by rank less is said twice without it."""
+    """Whether by rank all that it says follows from the others."""
 
     def holds(self) -> bool:
         """Whether it was measured, and holds within the limit."""
         return self.off is not None and self.off.amount <= self.limit.amount
 
     def repeats(self) -> bool:
-        """Whether it says what the rest says, so that it may go. What holds and doesn't is met only
-        as the whole was laid so."""
+        """Whether it says what the rest says, so that it may go. What holds and doesn't say that is
+        met only as the whole was laid."""
         return self.holds() and self.is_spare
 
 
@@ -119,22 +120,22 @@ class Judgement:
 
     @property
     def left_out(self) -> tuple[str, ...]:
-        """What couldn't be spelled, but for what holds where the rest is placed, and so repeats
-        it."""
+        """What couldn't be spelled, but for what holds where the rest is placed."""
         return tuple(each.name for each in self.left_out_measured if not each.holds())
 
     @property
     def left_out_measured(self) -> tuple[LeftOut, ...]:
         """What couldn't be spelled, as it was measured all the same."""
         owners = sorted(each for each in self.asked.spelled.left_out if each.number)
-        return tuple(LeftOut(self.names.owner(each),
+        return tuple(LeftOut(self.names.owner(each), each,
                              None if each.shape else worst(self.deviations, each.number),
-                             self.limit, self._is_spare(each)) for each in owners)
+                             self.limit, self._twice(each) is Twice.WHOLE) for each in owners)
 
-    def _is_spare(self, owner: Owner) -> bool:
-        """Whether by rank less is said twice without a constraint."""
-        return (not owner.shape and self.free is not None
-                and self.free.fewer([owner.number]) > 0)
+    def _twice(self, owner: Owner) -> Twice | None:
+        """What of a constraint the others say too, by rank; None where the rank isn't known."""
+        if self.free is None or owner.shape:
+            return None
+        return self.free.twice(owner.number)
 
     @property
     def frozen(self) -> tuple[str, ...]:
@@ -163,9 +164,23 @@ class Judgement:
     def repeats(self) -> tuple[str, ...]:
         """What says again what follows already, and is no line of a sketch: a direction, a size, a
         point that is itself; and what couldn't be spelled, holds where the rest is placed, and says
-        nothing more by rank."""
+        nothing more by rank. Each may go by itself; what says more by rank isn't among them."""
         held = tuple(each.name for each in self.left_out_measured if each.repeats())
-        return self.names.owners(self.asked.axes.repeats()) + held
+        return self.names.owners(self._spelled_repeats()) + held
+
+    def _spelled_repeats(self) -> frozenset[Owner]:
+        """Who says again, and nothing more by rank, what is no line of a sketch."""
+        return frozenset(each for each in self.asked.axes.repeats()
+                         if self._twice(each) is not Twice.IN_PART)
+
+    @cached_property
+    def too_many(self) -> tuple[tuple[str, ...], ...]:
+        """Of what isn't over, each group of constraints of which one is too many all the same, by
+        rank, beside those that are told to repeat others."""
+        if self.verdict is Verdict.OVER or self.free is None:
+            return ()
+        held = {each.owner for each in self.left_out_measured if each.repeats()}
+        return too_many(self.names, self.free, self._spelled_repeats() | held)
 
     @property
     def held(self) -> tuple[str, ...]:
@@ -214,7 +229,7 @@ def judge_at_once(drawing: Drawing, program: Solver, freeze: bool = False,
     if asked.check is None:
         return _placed(judged, before, program)
     if asked.verdict is Verdict.OPEN:
-        return replace(judged, missing=missing(names, asked.check, asked.axes.repeats()))
+        return replace(judged, missing=missing(names, asked.check))
     return replace(judged, surplus=tuple(Surplus(number, drawing.called(number), None)
                                          for number in spare_at_once(drawing, asked, program)))
 

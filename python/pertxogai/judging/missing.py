@@ -55,20 +55,17 @@ class Missing:
     circles among them; 0 where it isn't known that one is, as where the drawing is rigid in a way
     that merging doesn't find. `joints`: each piece but the first, with one before it that it hangs
     at, where there is one, and where by rank a dimension is lacking between them. `whole`: how all
-    of it may still be moved against the datum, which isn't counted; None where that isn't known.
-    `excess`: constraints of which one is too many all the same, by rank: it says what the others
-    say, or contradicts it."""
+    of it may still be moved against the datum, which isn't counted; None where that isn't known."""
 
     count: int
     pieces: tuple[Piece, ...]
     joints: tuple[Joint, ...]
     whole: Whole | None = None
-    excess: tuple[tuple[str, ...], ...] = ()
 
 
-def missing(names: Names, check: CheckReport, repeats: Collection[Owner] = ()) -> Missing:
+def missing(names: Names, check: CheckReport) -> Missing:
     """What is missing: how much, by the rank of what the drawing says; and between which of the
-    program's parts. repeats: what is said to repeat others already."""
+    program's parts."""
     free = freedoms(names.drawing)
     pieces = tuple(Piece(part.number, names.elements(part.elements)) for part in check.parts)
     shown = [place for place, piece in enumerate(pieces) if piece.elements]
@@ -76,11 +73,17 @@ def missing(names: Names, check: CheckReport, repeats: Collection[Owner] = ()) -
     shown_pieces = tuple(pieces[place] for place in shown)
     if free is None:
         return Missing(0, shown_pieces, joints)
+    return Missing(free.lacks, shown_pieces, _lacking(names, check.parts, joints, free), free.whole)
+
+
+def too_many(names: Names, free: Freedoms,
+             repeats: Collection[Owner]) -> tuple[tuple[str, ...], ...]:
+    """The groups of constraints of each of which one is too many, by rank: it says what the others
+    say, or contradicts it. repeats: what is told to repeat others already."""
     numbers = {owner.number for owner in repeats if not owner.shape}
-    excess = tuple(names.owners(owner for owner in each if not owner.shape)
-                   for each in free.too_many(numbers))
-    return Missing(free.lacks, shown_pieces, _lacking(names, check.parts, joints, free), free.whole,
-                   tuple(filter(None, excess)))
+    groups = (names.owners(owner for owner in each if not owner.shape)
+              for each in free.too_many(numbers))
+    return tuple(filter(None, groups))
 
 
 def _lacking(names: Names, parts: Sequence[Part], joints: Sequence[Joint],

@@ -46,11 +46,11 @@ def drawing_json(judged: JudgedDrawing) -> dict[str, object]:
 def _by_rank(judgement: Judgement) -> dict[str, object]:
     """What is counted by the rank of what the drawing says, and not by the program: how many
     dimensions are lacking at least, None where that isn't known; how the whole may be moved, what
-    is too many though the drawing is open, and what is loose though it is over."""
-    found, whole, free = judgement.missing, judgement.whole, judgement.free
+    is too many though the drawing isn't over, and what is loose though it is."""
+    whole, free = judgement.whole, judgement.free
     return {"lacks": None if free is None else free.lacks,
             "whole": whole.text() if whole else "",
-            "excess": [list(each) for each in found.excess] if found else [],
+            "excess": [list(each) for each in judgement.too_many],
             "loose": list(judgement.loose)}
 
 
@@ -123,6 +123,8 @@ def drawing_lines(judged: JudgedDrawing) -> Iterator[str]:
     yield from _failure_lines(judgement)
     yield from _lacks_lines(judgement)
     yield from _whole_lines(judgement)
+    yield from (f"  one is too many all the same, of: {', '.join(each)} (by rank)"
+                for each in judgement.too_many)
     yield from _missing_lines(judgement)
     yield from _unmet_lines(judgement)
     yield from _surplus_lines(judgement)
@@ -195,12 +197,10 @@ def _whole_lines(judgement: Judgement) -> Iterator[str]:
 
 
 def _missing_lines(judgement: Judgement) -> Iterator[str]:
-    """What is too many of an open drawing all the same, its pieces, and what ties them."""
+    """The pieces of an open drawing, and what ties them."""
     lacks = judgement.missing
     if lacks is None:
         return
-    yield from (f"  one is too many all the same, of: {', '.join(each)} (by rank)"
-                for each in lacks.excess)
     for piece in lacks.pieces:
         yield f"  piece {piece.number}: {' '.join(piece.elements)}"
     for joint in lacks.joints[:MOST_ADVICE]:

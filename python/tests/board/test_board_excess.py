@@ -512,3 +512,17 @@ def test_what_is_open_and_has_no_shape_says_so_once_it_is_weighed(program) -> No
     said = ("No shape is found near the drawn one that has these values, by numbers. Without one of "
             "these there is one: A, B, C, D.")
     assert said in told(text, "weigh", program)
+
+
+def test_what_is_well_and_says_too_much_does_not_say_that_it_is_just_enough(program) -> None:
+    """The middle of a segment from -18 26 to 30 40, by x and y, its length, and where its end lies
+    twice: of these one is too many."""
+    text = ("segment S -18 26.2 30 39\npoint P 6.2 33\npoint Q 5.8 33.3\nmidpoint P S\n"
+            "Yours: midpoint Q S\nRight: x Q 6\nUp: y Q 33\nLong: length S 50\n"
+            "Far: distance S.end Origin 50\n")
+    more = "One is too many all the same, by rank, of: Yours, Right, Up, Long, Far, End."
+    lines = told(text, "judge", program)
+    assert more not in lines
+    assert any(str(each).startswith("Just as many dimensions as fix it. ") for each in lines)
+    lines = told(text + "End: x S.end +30\n", "judge", program)
+    assert more in lines and not any(str(each).startswith("Just") for each in lines)
