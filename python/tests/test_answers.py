@@ -3,7 +3,9 @@ drawing's words."""
 from __future__ import annotations
 
 import math
+import re
 from fractions import Fraction
+from pathlib import Path
 
 import pytest
 
@@ -500,6 +502,16 @@ def test_what_is_lacking_by_rank_is_told_with_every_verdict(program, text, lacks
     found = judge(read_drawing(text), program)
     said = drawing_json(JudgedDrawing("it", read_drawing(text), found))
     assert said["by_rank"]["lacks"] == lacks and said["by_numbers"] == {"unmet": None}
+
+
+def test_the_page_tells_what_json_says(program):
+    page = (Path(__file__).parents[1] / "README.md").read_text()
+    table = page.partition("### What `judge --json` says of a drawing")[2].partition("\n### ")[0]
+    told = {key for line in table.splitlines() if line.startswith("| `")
+            for key in re.findall(r"`(\w+)`", line.split("|")[1])}
+    found = judge(read_drawing(PLATE), program)
+    said = set(drawing_json(JudgedDrawing("it", read_drawing(PLATE), found)))
+    assert told and told <= said
 
 
 BY_A_MIDDLE = """\
