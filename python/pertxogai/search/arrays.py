@@ -1,0 +1,102 @@
+"""The types of arrays, and what is reckoned alike with a dense matrix and with a sparse one.
+
+A Jacobian is dense where it is small: then numpy's calls cost less than scipy's sparse ones."""
+from __future__ import annotations
+
+from collections.abc import Iterable
+from typing import Any, TypeAlias
+
+import numpy as np
+from numpy.typing import NDArray
+from scipy import linalg, sparse
+from scipy.sparse.linalg import splu
+
+Array: TypeAlias = NDArray[np.float64]
+Indices: TypeAlias = NDArray[np.intp]
+Matrix: TypeAlias = Any
+"""An array of two dimensions, or a sparse matrix of scipy, which has no types."""
+Entry: TypeAlias = tuple[int, int, float]
+"""Row, column and value."""
+
+LEAST_SINGULAR = 1e-9
+"""A singular value below this part of the greatest counts as 0 in a least step."""
+REGULAR = 1e-13
+"""Takes the place of 0 in the sparse system of a least step, so that repeated rows do no harm."""
+
+
+def matrix_of(entries: Iterable[Entry], shape: tuple[int, int]) -> Matrix:
+    """The matrix of these entries; those of one place add up."""
+    found = list(entries)
+    rows, columns, values = zip(*found) if found else ((), (), ())
+    return sparse.csr_matrix((values, (rows, columns)), shape=shape, dtype=float)
+
+
+def is_sparse(matrix: Matrix) -> bool:
+    """Whether it is a sparse one."""
+    return bool(sparse.issparse(matrix))
+
+
+def dense(matrix: Matrix) -> Array:
+    """The matrix as an array."""
+    found: Array = matrix.toarray() if is_sparse(matrix) else matrix
+    return found
+
+
+def row_squares(matrix: Matrix) -> Array:
+    """The sum of squares of each row."""
+    if is_sparse(matrix):
+        return np.asarray(matrix.multiply(matrix).sum(axis=1)).ravel()
+    found: Array = np.einsum("ij,ij->i", matrix, matrix)
+    return found
+
+
+def rows_times(matrix: Matrix, factors: Array) -> Matrix:
+    """Each row times its factor."""
+    return sparse.diags(factors) @ matrix if is_sparse(matrix) else matrix * factors[:, None]
+
+
+def damped_step(jacobian: Matrix, wanted: Array, damping: float) -> Array:
+    """J'(JJ' + damping)^-1 wanted: without damping the least step that does what is wanted."""
+    if is_sparse(jacobian):
+        return _damped_sparse_step(jacobian, wanted, damping)
+    square = jacobian @ jacobian.T
+    square[np.diag_indices_from(square)] += damping
+    try:
+        factor = linalg.cho_factor(square, overwrite_a=True, check_finite=False)
+        step: Array = jacobian.T @ linalg.cho_solve(factor, wanted, check_finite=False)
+        return step
+    except linalg.LinAlgError:
+        return least_step(jacobian, wanted)
+
+
+def _damped_sparse_step(jacobian: Matrix, wanted: Array, damping: float) -> Array:
+    square = (jacobian @ jacobian.T).tocsc()
+    square = square + damping * sparse.identity(square.shape[0], format="csc")
+    try:
+        factor = splu(square, permc_spec="MMD_AT_PLUS_A", diag_pivot_thresh=0.0,
+                      options={"SymmetricMode": True})
+    except RuntimeError:  # It is singular.
+        return least_step(jacobian, wanted)
+    step: Array = jacobian.T @ factor.solve(wanted)
+    return step
+
+
+def least_step(jacobian: Matrix, wanted: Array) -> Array:
+    """The least step that does what is wanted as nearly as can be: by singular values, or by the
+    sparse system of the step and its multipliers, which squares no condition either. No step where
+    none can be reckoned."""
+    try:
+        if is_sparse(jacobian):
+            return _least_sparse_step(jacobian, wanted)
+        step: Array = np.linalg.lstsq(jacobian, wanted, rcond=LEAST_SINGULAR)[0]
+        return step
+    except (linalg.LinAlgError, RuntimeError):
+        return np.zeros(jacobian.shape[1])
+
+
+def _least_sparse_step(jacobian: Matrix, wanted: Array) -> Array:
+    rows, columns = jacobian.shape
+    system = sparse.bmat([[sparse.identity(columns), jacobian.T],
+                          [jacobian, -REGULAR * sparse.identity(rows)]], format="csc")
+    solved: Array = splu(system).solve(np.concatenate([np.zeros(columns), wanted]))
+    return solved[:columns]

@@ -1,0 +1,134 @@
+"""A drawing as equations: how far each row is off 0 at some places, and how that changes with them.
+
+A way is a combination of points with constant factors, so all ways are one product of a matrix with
+the unknowns; and each entry of the Jacobian is a combination, always the same, of the slopes of
+rows by their ways."""
+from __future__ import annotations
+
+from collections.abc import Iterable, Iterator, Sequence
+from copy import copy
+from typing import NamedTuple
+
+import numpy as np
+
+from pertxogai.drawing import Drawing
+from pertxogai.search.arrays import Array, Entry, Matrix, matrix_of
+from pertxogai.search.combination import Combination
+from pertxogai.search.constraint_rows import rows_of
+from pertxogai.search.kinds import Asides, Distances, EqualLengths, Leans, RowsOfKind, Ways
+from pertxogai.search.pattern import Pattern, SlopeEntry
+from pertxogai.search.row import Kind, Row
+from pertxogai.search.unknowns import Unknowns
+
+LEAST_SIZE_NM = 1e3
+"""No drawing counts as smaller than a micrometre."""
+LEAST_WAY = 1e-9
+"""No way counts as shorter than this part of the drawing's size."""
+LEAST_LEAN = 1e-3
+"""No direction counts for less than that of a line of this part of the drawing's size."""
+
+
+class Tangents(NamedTuple):
+    """The rows somewhere, in nanometres, and their Jacobian."""
+
+    off: Array
+    jacobian: Matrix
+
+
+class Equations:
+    """All rows of a drawing. What the drawing decides (sides, kinds of touch, which way round) is
+    read off it once. drawn: the unknowns as they are drawn. size_nm: the drawing's size."""
+
+    def __init__(self, drawing: Drawing) -> None:
+        self.unknowns = Unknowns(drawing)
+        self.rows: tuple[Row, ...] = tuple(rows_of(self.unknowns))
+        self.drawn = self.unknowns.drawn()
+        self.size_nm = self._size_nm()
+        self._assemble()
+
+    # -- what is reckoned
+
+    def off(self, x: Array) -> Array:
+        """How far each row is off 0, in nanometres."""
+        return self._off(x, self._ways(x))
+
+    def tangents(self, x: Array) -> Tangents:
+        """The same, with the Jacobian."""
+        ways = self._ways(x)
+        slopes = [kind.slopes(ways).ravel() for kind in self._kinds]
+        return Tangents(self._off(x, ways), self._pattern.matrix(slopes))
+
+    def firm(self, is_firm: bool) -> Equations:
+        """These equations, where parallel lines must run the way round that they are drawn, or may
+        run either way."""
+        other = copy(self)
+        other._leans = copy(self._leans)
+        other._leans.is_firm = is_firm
+        other._kinds = tuple(other._leans if each is self._leans else each for each in self._kinds)
+        return other
+
+    def sizes(self, x: Array) -> Iterable[tuple[float, float]]:
+        """Of each row that has a designer's length: that length, and what is there instead."""
+        now = np.abs(self.off(x) + self._numbers_nm)
+        return ((abs(row.number_nm), float(each)) for row, each in zip(self.rows, now)
+                if row.is_size)
+
+    # -- how it is put together
+
+    def _size_nm(self) -> float:
+        points = 2 * len(self.unknowns.points)
+        places = np.vstack([self.drawn[:points].reshape(-1, 2),
+                            np.array(list(self.unknowns.given.values()))])
+        return float(max(np.ptp(places, axis=0).max(), self.drawn[points:].max(initial=0.0),
+                         LEAST_SIZE_NM))
+
+    def _assemble(self) -> None:
+        rows, count = self.rows, self.unknowns.count
+        first_way = np.cumsum([0, *(len(row.ways) for row in rows)]).tolist()
+        all_ways = [way for row in rows for way in row.ways]
+        self._numbers_nm = np.array([row.number_nm for row in rows])
+        self._linear = matrix_of(_linear_entries(rows), (len(rows), count))
+        self._constant = np.array([(way.x_nm, way.y_nm) for way in all_ways]).reshape(-1, 2)
+        self._of_ways = matrix_of(_way_entries(all_ways), (2 * len(all_ways), count))
+        drawn = self._ways(self.drawn)
+        self._leans = Leans(rows, first_way, drawn, LEAST_LEAN * self.size_nm)
+        kinds: tuple[RowsOfKind, ...] = (
+            Distances(Kind.DISTANCE, rows, first_way), EqualLengths(Kind.EQUAL, rows, first_way),
+            Asides(rows, first_way, drawn), self._leans)
+        self._kinds = tuple(kind for kind in kinds if len(kind.rows))
+        pairs = [pair for kind in self._kinds for pair in kind.pairs()]
+        self._pattern = Pattern(self._linear, _slope_entries(pairs, all_ways))
+
+    def _ways(self, x: Array) -> Ways:
+        xy = (self._of_ways @ x).reshape(-1, 2) + self._constant
+        return Ways.of(xy, LEAST_WAY * self.size_nm)
+
+    def _off(self, x: Array, ways: Ways) -> Array:
+        off: Array = self._linear @ x - self._numbers_nm
+        for kind in self._kinds:
+            off[kind.rows] += kind.values(ways)
+        return off
+
+
+def _linear_entries(rows: Iterable[Row]) -> Iterator[Entry]:
+    """The factors of the unknowns in each row."""
+    for number, row in enumerate(rows):
+        for column, factor in row.linear.items():
+            yield number, column, factor
+
+
+def _way_entries(ways: Iterable[Combination]) -> Iterator[Entry]:
+    """The factors of the unknowns in x and in y of each way."""
+    for number, way in enumerate(ways):
+        for point, factor in way.factors.items():
+            yield 2 * number, 2 * point, factor
+            yield 2 * number + 1, 2 * point + 1, factor
+
+
+def _slope_entries(pairs: Iterable[tuple[int, int]],
+                   ways: Sequence[Combination]) -> Iterator[SlopeEntry]:
+    """Where the slopes by x and by y of each pair of a row and a way come in the Jacobian."""
+    for number, (row, way) in enumerate(pairs):
+        for point, factor in ways[way].factors.items():
+            yield row, 2 * point, 2 * number, factor
+            yield row, 2 * point + 1, 2 * number + 1, factor
