@@ -1,2 +1,32 @@
 """The search: a shape for every drawing, its degrees of freedom, and what is said twice or
-contradicts, by numbers."""
+contradicts, by numbers.
+
+What it finds is reckoned in floats by numpy and scipy, and nobody certifies it: the program
+constructs and certifies its sketch, `pertxogai.judging.measure` measures each of the designer's
+constraints on whole nanometres, and only what is neither is found here. Nothing of this imports
+numpy before it is asked."""
+from __future__ import annotations
+
+from importlib.util import find_spec
+
+from pertxogai.drawing import Drawing
+from pertxogai.exits import MissingLibrary
+from pertxogai.judging.finding import Finding
+
+__all__ = ["check_libraries", "search"]
+
+
+def search(drawing: Drawing) -> Finding:
+    """What is found of a sound drawing. Raises MissingLibrary without numpy or scipy."""
+    check_libraries()
+    from pertxogai.search.searched import Searched
+    return Searched(drawing).finding()
+
+
+def check_libraries() -> None:
+    """Raises MissingLibrary where numpy or scipy is missing."""
+    missing = [name for name in ("numpy", "scipy") if find_spec(name) is None]
+    if missing:
+        raise MissingLibrary(
+            f"{' and '.join(missing)} is missing, by which the search reckons: apt-get install "
+            f"{' '.join(f'python3-{name}' for name in missing)}, and run it by /usr/bin/python3")

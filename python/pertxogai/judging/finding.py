@@ -1,0 +1,67 @@
+"""What the search finds of a drawing that isn't well: by numbers, in floats, certified by nobody."""
+from __future__ import annotations
+
+from collections.abc import Iterator
+from dataclasses import dataclass
+from enum import Enum
+
+from pertxogai.drawing import Drawing, PointRef
+from pertxogai.judging.measure.deviation import Deviation
+from pertxogai.judging.measure.solution import Solution
+
+Group = tuple[str, ...]
+"""Constraints by their names, the latest first."""
+
+
+class PlacesBy(Enum):
+    """Who has placed a drawing; the values are for JSON."""
+
+    PROGRAM = "program"
+    """The program, which certifies the sketch that it was told."""
+    NUMBERS = "numbers"
+    """The search: each constraint is measured, and nothing is certified."""
+
+
+@dataclass(frozen=True)
+class PointMove:
+    """A point that still moves along a direction of length 1; one that moves everywhere has two
+    moves, along x and along y."""
+
+    point: PointRef
+    dx: float
+    dy: float
+
+
+@dataclass(frozen=True)
+class Finding:
+    """What is found of one drawing.
+
+    freedoms: how many degrees of freedom it has, among them those of the whole, by which all of it
+    is moved and turned. is_doubtful: whether the count may be off, as where two solutions meet.
+    moves: how single points still move, of those that are one the first. free_radii: the circles
+    and arcs of which the radius may still change. repeats: groups of constraints of which the first
+    says what the others do. contradictions: groups that can't all be met. solution: whole
+    nanometres, where places are found that meet all constraints, and who has placed it so;
+    deviations: each constraint, measured there. chosen: the values that the program was told
+    besides, or in the place of what is only measured, as lines."""
+
+    freedoms: int
+    of_the_whole: int
+    is_doubtful: bool
+    moves: tuple[PointMove, ...] = ()
+    free_radii: tuple[str, ...] = ()
+    repeats: tuple[Group, ...] = ()
+    contradictions: tuple[Group, ...] = ()
+    solution: Solution | None = None
+    deviations: tuple[Deviation, ...] = ()
+    places_by: PlacesBy | None = None
+    chosen: tuple[str, ...] = ()
+    only_measured: tuple[str, ...] = ()
+
+    def free_shapes(self, drawing: Drawing) -> Iterator[str]:
+        """The shapes of which a point still moves, or the radius may still change."""
+        moving = {each.point for each in self.moves}
+        yield from self.free_radii
+        for ref in drawing.points():
+            if drawing.meetings.leader(ref) in moving:
+                yield ref.shape

@@ -1,0 +1,23 @@
+"""How much a search may take: steps and seconds, over all that it tries."""
+from __future__ import annotations
+
+from time import thread_time
+
+MOST_STEPS = 400
+MOST_SECONDS = 1.2
+
+
+class Budget:
+    """Steps and seconds that are left. The seconds begin when it is made."""
+
+    def __init__(self, steps: int = MOST_STEPS, seconds: float = MOST_SECONDS) -> None:
+        self._steps = steps
+        self._end = thread_time() + seconds
+
+    def spend(self) -> None:
+        """Takes one step."""
+        self._steps -= 1
+
+    def is_spent(self) -> bool:
+        """Whether no step, or no time, is left."""
+        return self._steps <= 0 or thread_time() >= self._end

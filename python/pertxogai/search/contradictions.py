@@ -1,0 +1,67 @@
+"""What contradicts in a drawing that has no places.
+
+The rank, where the search came nearest, tells who says what follows from the others; else those are
+taken that are off most there. Of these, those contradict each other without each of which there are
+places; all of them, where leaving out one alone helps nowhere."""
+from __future__ import annotations
+
+from collections.abc import Iterable, Iterator
+
+import numpy as np
+
+from pertxogai.drawing import Drawing
+from pertxogai.search.budget import Budget
+from pertxogai.search.equations import Equations
+from pertxogai.search.freedom import Freedom
+from pertxogai.search.solving import Found, solve
+from pertxogai.search.unknowns import By
+
+Numbers = tuple[int, ...]
+"""Constraints by their places, from 1, the latest first."""
+MOST_LEFT_OUT = 12
+"""So many constraints are left out, one after the other."""
+STEPS, SECONDS = 60, 0.8
+"""The most steps of each of these searches, and the most seconds of all."""
+
+
+def contradictions(equations: Equations, found: Found, free: Freedom) -> tuple[Numbers, ...]:
+    """Groups of constraints that can't all be met; none where the drawing is solved, or none is
+    found."""
+    if found.is_solved():
+        return ()
+    by_rank = [tuple(source.number for source in each.sources if source.by is not By.SHAPE)
+               for each in free.dependencies if not each.repeats()]
+    if not by_rank:
+        sharp = _sharp(equations, _worst(equations, found))
+        return (sharp,) if sharp else ()
+    return tuple(_sharp(equations, numbers) or _latest_first(numbers) for numbers in by_rank)
+
+
+def without(drawing: Drawing, number: int) -> Drawing:
+    """A drawing without one constraint."""
+    kept = drawing.constraints[:number - 1] + drawing.constraints[number:]
+    return Drawing(drawing.geometry, kept)
+
+
+def _worst(equations: Equations, found: Found) -> Iterator[int]:
+    """The constraints that are off, those that are off most first."""
+    off = np.abs(equations.off(found.x))
+    numbers = (equations.rows[row].source for row in np.argsort(-off).tolist())
+    return (source.number for source in numbers if source.by is not By.SHAPE)
+
+
+def _sharp(equations: Equations, numbers: Iterable[int]) -> Numbers:
+    """Those without each of which there are places."""
+    tried = list(dict.fromkeys(numbers))[:MOST_LEFT_OUT]
+    seconds = SECONDS / max(1, len(tried))
+    return _latest_first(number for number in tried
+                         if _is_solved_without(equations, number, seconds))
+
+
+def _is_solved_without(equations: Equations, number: int, seconds: float) -> bool:
+    rest = Equations(without(equations.unknowns.drawing, number))
+    return solve(rest, Budget(STEPS, seconds)).is_solved()
+
+
+def _latest_first(numbers: Iterable[int]) -> Numbers:
+    return tuple(sorted(set(numbers), reverse=True))

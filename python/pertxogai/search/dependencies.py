@@ -1,0 +1,69 @@
+"""What is said twice, and what contradicts: groups of constraints, each by the one that is the
+latest of them."""
+from __future__ import annotations
+
+from collections.abc import Iterator, Sequence
+from dataclasses import dataclass
+
+import numpy as np
+
+from pertxogai.search.arrays import Array
+from pertxogai.search.rank import Dependent
+from pertxogai.search.row import Row
+from pertxogai.search.unknowns import By, Source
+
+SEEN = 1e-6
+"""A factor below this part of the greatest is 0."""
+REPEATS_NM = 1.0
+"""Constraints that are off each other by no more say the same."""
+
+
+@dataclass(frozen=True)
+class Dependency:
+    """Constraints and shapes of which one follows from the others, or contradicts them: the latest
+    first, and by how many nanometres it is off what the others say."""
+
+    sources: tuple[Source, ...]
+    off_nm: float
+
+    def repeats(self) -> bool:
+        """Whether the latest says what the others do."""
+        return self.off_nm <= REPEATS_NM
+
+
+def dependencies(rows: Sequence[Row], off: Array, dependent: Dependent) -> Iterator[Dependency]:
+    """The dependencies among rows, of which `off` is how far each is off 0. What the shapes
+    themselves ask for is the latest nowhere, and the far end of a distance of lines wherever it
+    may be: that it follows is what is asked for."""
+    sources = [rows[number].source for number in dependent.rows]
+    places = sorted(range(len(sources)), key=lambda place: _lateness(sources[place]), reverse=True)
+    for place, factors in _reduced(dependent.factors, places):
+        seen = np.flatnonzero(np.abs(factors) > SEEN * np.abs(factors).max())
+        group = {sources[each] for each in seen} - {sources[place]}
+        latest_first = sorted(group, key=_lateness, reverse=True)
+        off_nm = abs(float(factors @ off[dependent.rows])) / max(1.0, float(np.abs(factors).max()))
+        yield Dependency((sources[place], *latest_first), off_nm)
+
+
+def _lateness(source: Source) -> tuple[int, int]:
+    return (By.SHAPE, By.CONSTRAINT, By.FAR_END).index(source.by), source.number
+
+
+def _reduced(factors: Array, order: Sequence[int]) -> Iterator[tuple[int, Array]]:
+    """The same ways to 0, each with the place of its own latest row, which no other has."""
+    ways = factors.copy()
+    left = np.ones(len(ways), dtype=bool)
+    latest: list[tuple[int, int]] = []
+    for place in order:
+        if not left.any():
+            break
+        size = np.where(left, np.abs(ways[:, place]), 0.0)
+        chosen = int(size.argmax())
+        if size[chosen] < SEEN:
+            continue
+        ways[chosen] /= ways[chosen, place]
+        others = np.arange(len(ways)) != chosen
+        ways[others] -= np.outer(ways[others, place], ways[chosen])
+        left[chosen] = False
+        latest.append((place, chosen))
+    yield from ((place, ways[chosen]) for place, chosen in latest)

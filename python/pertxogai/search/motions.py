@@ -1,0 +1,131 @@
+"""Which points still move, and along which direction; apart from these, how the drawing as a whole
+may still be moved and turned."""
+from __future__ import annotations
+
+from collections.abc import Iterator, Sequence
+from dataclasses import dataclass
+from itertools import islice, pairwise
+
+import numpy as np
+
+from pertxogai.drawing import PointRef, Segment, Which
+from pertxogai.judging.finding import PointMove
+from pertxogai.search.arrays import Array, Matrix
+from pertxogai.search.rank import Free, wide
+from pertxogai.search.unknowns import Unknowns
+
+SEEN = 1e-6
+"""Of motions of length 1, what moves by less stays."""
+MOST_HELD = 40
+"""So many segments at most are tried as the one that is held still."""
+ALONG = ((1.0, 0.0), (0.0, 1.0))
+
+
+@dataclass(frozen=True)
+class Motions:
+    """What still moves. of_the_whole: in how many ways all of it may be moved and turned at once,
+    of three; these are no moves. moves: of each point that stands for those that are one with it.
+    rims: the circles and arcs of which the radius may still change."""
+
+    of_the_whole: int
+    moves: tuple[PointMove, ...] = ()
+    rims: tuple[str, ...] = ()
+
+
+def motions(unknowns: Unknowns, x: Array, jacobian: Matrix, free: Sequence[Free]) -> Motions:
+    """What moves from x by these free motions, of the rows of this Jacobian."""
+    whole = _that_stay(_of_the_plane(unknowns, x), jacobian)
+    own = _without(unknowns, whole, free)
+    at = {column: each for each in own for column in each.columns.tolist()}
+    rows = {column: row for each in own for row, column in zip(each.ways, each.columns.tolist())}
+    moves = (move for ref, number in unknowns.number_of.items()
+             for move in _moves(ref, rows.get(2 * number), rows.get(2 * number + 1),
+                                at.get(2 * number) is at.get(2 * number + 1)))
+    rims = (name for name, column in unknowns.column_of.items() if _is_free(rows.get(column)))
+    return Motions(whole.shape[1], tuple(moves), tuple(rims))
+
+
+# -- the whole
+
+
+def _of_the_plane(unknowns: Unknowns, x: Array) -> Array:
+    """Two shifts and a turn of all points, as columns of length 1 that are square to each other;
+    of one point no turn."""
+    points = 2 * len(unknowns.points)
+    places = x[:points].reshape(-1, 2)
+    moves = np.zeros((unknowns.count, 3))
+    moves[0:points:2, 0] = 1.0
+    moves[1:points:2, 1] = 1.0
+    if len(places) > 1:
+        places = places - places.mean(axis=0)
+        moves[0:points:2, 2], moves[1:points:2, 2] = -places[:, 1], places[:, 0]
+    lengths = np.linalg.norm(moves, axis=0)
+    found: Array = moves[:, lengths > SEEN] / lengths[lengths > SEEN]
+    return found
+
+
+def _that_stay(moves: Array, jacobian: Matrix) -> Array:
+    """Those combinations of moves by which no row changes."""
+    if not jacobian.shape[0] or not moves.shape[1]:
+        return moves
+    triangle = np.linalg.qr(jacobian @ moves, mode="r")
+    _, sizes, combinations = np.linalg.svd(triangle)
+    sizes = np.concatenate([sizes, np.zeros(moves.shape[1] - len(sizes))])
+    found: Array = moves @ combinations[sizes <= SEEN].T
+    return found
+
+
+def _without(unknowns: Unknowns, whole: Array, free: Sequence[Free]) -> Sequence[Free]:
+    """The free motions without those of the whole: with that segment held still with which the
+    fewest points move; with all of them where there are too many."""
+    all_ways = wide(free, unknowns.count) if whole.shape[1] else None
+    if all_ways is None:
+        return free
+    own = min((_held(whole, all_ways, columns) for columns in _holds(unknowns)),
+              key=lambda own: int((np.linalg.norm(own, axis=1) > SEEN).sum()))
+    return [Free(np.arange(unknowns.count), own)]
+
+
+def _holds(unknowns: Unknowns) -> Iterator[list[int]]:
+    """The unknowns of the ends of each segment, or of two points, that may be held."""
+    ends = ((PointRef(shape.name, Which.START), PointRef(shape.name, Which.END))
+            for shape in unknowns.drawing.geometry if isinstance(shape, Segment))
+    pairs: list[tuple[PointRef, ...]] = [*ends, *pairwise(unknowns.points)]
+    for refs in islice(pairs or [unknowns.points[:1]], MOST_HELD):
+        numbers = [unknowns.number_of[leader] for leader in map(unknowns.leader, refs)
+                   if leader in unknowns.number_of]
+        yield [2 * number + each for number in numbers for each in (0, 1)]
+
+
+def _held(whole: Array, free: Array, columns: list[int]) -> Array:
+    """The free motions, each with the motion of the whole that holds these unknowns best."""
+    found: Array = free - whole @ (np.linalg.pinv(whole[columns]) @ free[columns])
+    return found
+
+
+# -- single points
+
+
+def _moves(ref: PointRef, x: Array | None, y: Array | None, together: bool) -> Iterator[PointMove]:
+    """The moves of a point by the motions of its x and of its y; `together`: whether these are the
+    same motions."""
+    if x is not None and y is not None and together:
+        yield from (PointMove(ref, *way) for way in _directions(np.stack([x, y])))
+    else:
+        yield from (PointMove(ref, *way) for way, motion in zip(ALONG, (x, y)) if _is_free(motion))
+
+
+def _directions(motion: Array) -> Sequence[tuple[float, float]]:
+    """The directions of a motion in x and y: none, one, or both axes. The one is said to the
+    right, and upwards where it has no part to the right or to the left."""
+    ways, sizes, _ = np.linalg.svd(motion, full_matrices=False)
+    count = int((sizes > SEEN).sum())
+    if count != 1:
+        return ALONG[:count]
+    dx, dy = (0.0 if abs(each) < SEEN else float(each) for each in ways[:, 0])
+    sign = -1.0 if dx < 0 or dx == 0 and dy < 0 else 1.0
+    return [(sign * dx + 0.0, sign * dy + 0.0)]
+
+
+def _is_free(motion: Array | None) -> bool:
+    return motion is not None and float(np.linalg.norm(motion)) > SEEN

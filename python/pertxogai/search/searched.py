@@ -1,0 +1,67 @@
+"""A drawing, searched: places, freedoms, and what is said twice or contradicts, by the names of the
+drawing."""
+from __future__ import annotations
+
+from pertxogai.drawing import Drawing
+from pertxogai.judging.finding import Finding, Group, PlacesBy
+from pertxogai.judging.measure import measure
+from pertxogai.search.contradictions import Numbers, contradictions, without
+from pertxogai.search.dependencies import Dependency
+from pertxogai.search.equations import Equations
+from pertxogai.search.freedom import Freedom, freedom
+from pertxogai.search.rounding import solution_of
+from pertxogai.search.solving import Found, solve
+from pertxogai.search.unknowns import By, Source
+
+
+class Searched:
+    """What was searched of a drawing: the equations, where they were found to be met or nearly so,
+    and the freedoms there."""
+
+    def __init__(self, drawing: Drawing) -> None:
+        self.drawing = drawing
+        self.equations = Equations(drawing)
+        self.found: Found = solve(self.equations)
+        self.freedom: Freedom = freedom(self.equations, self.found.x)
+
+    def finding(self) -> Finding:
+        """All of it by the names of the drawing."""
+        if not self.found.is_solved():
+            return self._unsolved()
+        motions = self.freedom.motions
+        solution = solution_of(self.equations.unknowns, self.found.x)
+        return Finding(
+            self.freedom.count, motions.of_the_whole, not self.freedom.is_sure,
+            motions.moves, motions.rims, self._repeats(), (), solution, measure(self.drawing, solution),
+            PlacesBy.NUMBERS)
+
+    def _unsolved(self) -> Finding:
+        """What is found without places: the freedoms are those without the latest constraint of
+        each contradiction."""
+        groups = contradictions(self.equations, self.found, self.freedom)
+        rest = self.freedom
+        for latest in sorted({numbers[0] for numbers in groups}, reverse=True)[:1]:
+            rest = Searched(without(self.drawing, latest)).freedom
+        return Finding(rest.count, rest.motions.of_the_whole, True, repeats=self._repeats(),
+                       contradictions=tuple(map(self._names, groups)))
+
+    def _repeats(self) -> tuple[Group, ...]:
+        """What says what others do, the latest first."""
+        repeats = (each for each in self.freedom.dependencies if each.repeats())
+        groups = map(self._group, sorted(repeats, key=_latest, reverse=True))
+        return tuple(dict.fromkeys(groups))
+
+    def _group(self, dependency: Dependency) -> Group:
+        return tuple(dict.fromkeys(map(self._called, dependency.sources)))
+
+    def _names(self, numbers: Numbers) -> Group:
+        return tuple(map(self.drawing.called, numbers))
+
+    def _called(self, source: Source) -> str:
+        if source.by is By.SHAPE:
+            return f"the ends of {self.drawing.geometry[source.number - 1].name}"
+        return self.drawing.called(source.number)
+
+
+def _latest(dependency: Dependency) -> int:
+    return dependency.sources[0].number

@@ -1,0 +1,249 @@
+"""The search: places, freedoms, what is said twice and what contradicts, by numbers.
+
+The gallery's drawings, and those of `beyond_triangles`, say in notes how many degrees of freedom a
+hand counts (`freedoms 5, 3 of them of the whole`), and where points lie (`place`, `radius`). What
+is found by numbers may differ from machine to machine by a nanometre: places are within 2 nm."""
+
+from __future__ import annotations
+
+import re
+from fractions import Fraction
+from functools import cache
+from math import hypot
+from pathlib import Path
+
+import numpy as np
+import pytest
+
+from pertxogai.drawing import Drawing, PointRef, Which, read_drawing, um_of_mm
+from pertxogai.judging.finding import Finding, PointMove
+from pertxogai.judging.measure import Unit, greatest
+from pertxogai.search import search
+from pertxogai.search.searched import Searched
+from strips import strip
+
+TESTS = Path(__file__).parent
+GALLERY = sorted((TESTS / "drawings").glob("*.drawing"))
+BEYOND = sorted((TESTS / "beyond_triangles").glob("*.drawing"))
+CONTRADICTORY = {
+    "off-triangle-too-wide", "over-height-and-direction", "over-isosceles-by-its-angles",
+    "over-lengths-that-turn", "over-middle-of-a-side", "over-middle-that-contradicts",
+    "over-plate-contradiction", "over-plate-width-by-its-hole", "over-slot-too-far-across",
+    "over-two-holes-across"}
+WITHIN_NM = 2
+
+
+def notes(drawing: Drawing, word: str) -> list[str]:
+    """The notes that begin with a word, without it."""
+    texts = (note.text.split(" ", 1) for note in drawing.notes)
+    return [rest[0] for first, *rest in texts if first == word and rest]
+
+
+def point(word: str) -> PointRef:
+    name, _, which = word.partition(".")
+    return PointRef(name, Which(which or "at"))
+
+
+def worst_nm(found: Finding) -> int:
+    worst = greatest(found.deviations, Unit.NM)
+    return worst.amount if worst else 0
+
+
+@cache
+def drawing_in(path: Path) -> Drawing:
+    return read_drawing(path.read_text())
+
+
+@cache
+def found_in(path: Path) -> Finding:
+    return search(drawing_in(path))
+
+
+def found_of(text: str) -> Finding:
+    return search(read_drawing(text))
+
+
+# -- the gallery
+
+
+@pytest.mark.parametrize("path", GALLERY + BEYOND, ids=lambda path: path.stem)
+def test_freedoms_are_those_that_a_hand_counts(path):
+    told, = notes(drawing_in(path), "freedoms")
+    found = found_in(path)
+    assert found.freedoms == int(re.match(r"\d+", told)[0])
+    of_the_whole = re.search(r"(\d+) (of them )?of the whole", told)
+    assert found.of_the_whole == (int(of_the_whole[1]) if of_the_whole else 0)
+    assert found.is_doubtful == (path.stem in CONTRADICTORY)
+
+
+@pytest.mark.parametrize("path", GALLERY + BEYOND, ids=lambda path: path.stem)
+def test_each_word_is_met_within_two_nanometres_where_there_are_places(path):
+    found = found_in(path)
+    assert (found.solution is None) == (path.stem in CONTRADICTORY)
+    assert worst_nm(found) <= WITHIN_NM
+
+
+@pytest.mark.parametrize("path", BEYOND, ids=lambda path: path.stem)
+def test_points_lie_where_a_hand_finds_them(path):
+    drawing, found = drawing_in(path), found_in(path)
+    for name, *mm in map(str.split, notes(drawing, "place")):
+        lies = found.solution.spot(point(name))
+        told = [um_of_mm(each) * 1000 for each in mm]
+        assert max(abs(a - b) for a, b in zip(lies, told)) <= WITHIN_NM, name
+    for name, mm in map(str.split, notes(drawing, "radius")):
+        assert abs(found.solution.radius(name) - um_of_mm(mm) * 1000) <= WITHIN_NM, name
+
+
+# -- what moves
+
+
+def test_a_hole_without_y_moves_up_and_down():
+    found = found_in(TESTS / "drawings/open-hole-without-y.drawing")
+    assert found.moves == (PointMove(point("Hole.centre"), 0.0, 1.0),)
+    assert found.free_radii == ()
+
+
+def test_a_bracket_lacks_two_places_and_a_size():
+    found = found_in(TESTS / "drawings/open-bracket.drawing")
+    assert [str(each.point) for each in found.moves] == ["H1.centre", "H2.centre"]
+    assert [(abs(each.dx), abs(each.dy)) for each in found.moves] == [(1.0, 0.0), (0.0, 1.0)]
+    assert found.free_radii == ("H2",)
+
+
+def test_ends_of_a_crank_move_square_to_their_arms():
+    # By hand: the crank's end is its length 40 from the origin, the rocker's 60 from 100 0.
+    found = found_in(TESTS / "drawings/open-four-bar.drawing")
+    crank, coupler = found.moves
+    for move, pivot in ((crank, (0, 0)), (coupler, (100_000_000, 0))):
+        x, y = found.solution.spot(move.point)
+        assert abs((x - pivot[0]) * move.dx + (y - pivot[1]) * move.dy) < 100
+        assert hypot(move.dx, move.dy) == pytest.approx(1)
+
+
+def test_what_floats_is_held_where_the_fewest_points_move():
+    # Of a plate and a loose hole the hole moves, and not the plate about it.
+    found = found_of("rectangle P 0 0 40 30\nlength PBottom 40\nlength PRight 30\n"
+                     "circle H 20 14 5\nradius H 5\n")
+    assert (found.freedoms, found.of_the_whole) == (4, 2)
+    assert found.moves == (PointMove(point("H.centre"), 1.0, 0.0), PointMove(point("H.centre"), 0.0, 1.0))
+
+
+def test_a_rigid_drawing_that_floats_has_no_moves():
+    found = found_in(TESTS / "beyond_triangles/frame-of-nine-bars.drawing")
+    assert (found.freedoms, found.of_the_whole, found.moves) == (3, 3, ())
+
+
+# -- what is said twice, and what contradicts
+
+
+@pytest.mark.parametrize("name, group", [
+    ("over-braced-square", {"AB", "BC", "CD", "DA", "AC", "BD"}),
+    ("over-equal-lengths", {"Same", "Long", "Short"}),
+    ("over-hole-row", {"First", "Second", "Total"}),
+    ("over-triangle", {"A", "B", "C", "Angle"}),
+    ("repeat-radius-and-diameter", {"R", "D"}),
+    ("repeat-level", {"Level", "Again"}),
+])
+def test_what_is_said_twice_is_named_with_the_latest_first(name, group):
+    drawing, found = (each(TESTS / f"drawings/{name}.drawing") for each in (drawing_in, found_in))
+    (repeat,) = found.repeats
+    names = [constraint.name for constraint in drawing.constraints]
+    assert set(repeat) == group
+    assert repeat[0] == max(group, key=names.index)
+    assert found.contradictions == ()
+
+
+def test_points_that_are_told_twice_to_be_one_repeat():
+    found = found_of("point A 0 0\npoint B 1 0\nOnce: coincident A B\nTwice: coincident B A\n")
+    assert found.repeats == (("Twice",),)
+
+
+@pytest.mark.parametrize("name, group", [
+    ("over-isosceles-by-its-angles", {"Equal", "Width", "Angle", "Height"}),
+    ("over-lengths-that-turn", {"First", "Second", "Equal"}),
+    ("over-middle-of-a-side", {"Equal", "Middle", "S"}),
+    ("over-middle-that-contradicts", {"Middle", "Square", "Height", "Angle", "Half"}),
+])
+def test_what_contradicts_is_named(name, group):
+    # What the notes of these drawings call spare: without any of it there are places.
+    found = found_in(TESTS / f"drawings/{name}.drawing")
+    (contradiction,) = found.contradictions
+    assert group <= set(contradiction)
+    assert found.solution is None and found.is_doubtful
+
+
+def test_a_triangle_that_cannot_be_is_contradicted_by_its_three_lengths():
+    found = found_of("point A 0 0\npoint B 10 0\npoint C 5 1\n"
+                     "AB: distance A B 30\nBC: distance B C 10\nCA: distance C A 10\n")
+    assert found.contradictions == (("CA", "BC", "AB"),)
+    assert found.solution is None and found.is_doubtful
+
+
+# -- the ends of the range
+
+
+def test_nothing_drawn_has_no_freedom():
+    found = search(Drawing())
+    assert (found.freedoms, found.of_the_whole, found.moves, found.repeats) == (0, 0, (), ())
+
+
+def test_one_point_is_moved_and_never_turned():
+    found = found_of("point A 3 4\n")
+    assert (found.freedoms, found.of_the_whole, found.moves) == (2, 2, ())
+
+
+def test_one_point_told_by_both_axes_has_no_freedom():
+    found = found_of("point A 3 4\nx A 3\ny A 4\n")
+    assert (found.freedoms, found.moves) == (0, ())
+    assert found.solution.spot(point("A")) == (3_000_000, 4_000_000)
+
+
+def test_nothing_free_stays_where_it_is_told():
+    found = found_of("point A 0 0\nfixed A\nouter segment E 0 0 10 0\n")
+    assert (found.freedoms, found.moves, found.contradictions) == (0, (), ())
+
+
+def test_what_nothing_asks_for_stays_as_it_is_drawn():
+    drawing = read_drawing("point A 1.5 2\nsegment S 0 0 10.25 -3\ncircle C 4 4 2.125\n")
+    found = search(drawing)
+    assert found.freedoms == 2 + 4 + 3
+    for ref in drawing.points():
+        drawn = drawing.drawn(ref)
+        assert found.solution.spot(ref) == (drawn.x_um * 1000, drawn.y_um * 1000)
+    assert found.solution.radius("C") == Fraction(2_125_000)
+
+
+def test_flat_triangles_make_the_count_doubtful():
+    # 30 and 40 make 70: two solutions meet, and the middle point moves along neither.
+    found = found_of("point A 0 0\npoint B 70 0\npoint C 30 2\ncoincident A Origin\non B XAxis\n"
+                     "distance A B 70\ndistance A C 30\ndistance C B 40\n")
+    assert found.is_doubtful
+
+
+def test_two_thousand_points_are_free_or_found():
+    found = found_of("\n".join(f"point P{n} {n} {n % 7}" for n in range(2000)))
+    assert (found.freedoms, found.of_the_whole, len(found.moves)) == (4000, 3, 4000)
+
+
+def test_a_strip_with_one_bar_less_has_one_freedom():
+    # By hand: 200 points have 400, less 2 of the first, an axis and 397 bars; one bar less is one
+    # more.
+    whole, opened = found_of(strip(200)), found_of(strip(200, without=100))
+    assert (whole.freedoms, opened.freedoms) == (0, 1)
+    assert {str(each.point) for each in opened.moves} == {f"P{n}" for n in range(102, 200)}
+
+
+@pytest.mark.parametrize("text", [
+    "point A 0 0\npoint B 0 0\ndistance A B 10\n",
+    "segment S 0 0 0.001 0\nlength S 100\n",
+    "point A 0 0\nsegment S 5 5 5.001 5\non A S\nlength S 0.001\n",
+    "circle C 0 0 0.001\ncircle D 0 0 0.001\ntangent C D\nradius C 5\nradius D 5\n",
+    "point A 0 0\npoint B 1 0\nx A B 100000\ny A B -100000\n",
+    "segment S 0 0 1 0\nsegment T 0 0 0 1\nequal S T\nparallel S T\nlength S 1\nlength T 3\n",
+])
+def test_nan_never_leaves_the_search(text):
+    searched = Searched(read_drawing(text))
+    assert np.isfinite(searched.found.x).all()
+    assert np.isfinite(searched.found.end.worst_nm)
+    found = searched.finding()
+    assert all(np.isfinite([each.dx, each.dy]).all() for each in found.moves)
