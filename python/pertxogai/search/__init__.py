@@ -12,8 +12,10 @@ from importlib.util import find_spec
 from pertxogai.drawing import Drawing
 from pertxogai.exits import MissingLibrary
 from pertxogai.judging.finding import Finding
+from pertxogai.judging.judgement import Judgement
+from pertxogai.program import Solver
 
-__all__ = ["check_libraries", "search"]
+__all__ = ["check_libraries", "search", "search_judged"]
 
 
 def search(drawing: Drawing) -> Finding:
@@ -21,6 +23,14 @@ def search(drawing: Drawing) -> Finding:
     check_libraries()
     from pertxogai.search.searched import Searched
     return Searched(drawing).finding()
+
+
+def search_judged(drawing: Drawing, judgement: Judgement, program: Solver) -> Finding:
+    """What is found of a sound drawing that the program was asked about; where it is open, with the
+    program's construction by values that were found. Raises MissingLibrary."""
+    check_libraries()
+    from pertxogai.search.searched import Searched
+    return Searched(drawing).finding_with(judgement, program)
 
 
 def check_libraries() -> None:

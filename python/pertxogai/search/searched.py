@@ -2,9 +2,15 @@
 drawing."""
 from __future__ import annotations
 
-from pertxogai.drawing import Drawing
+from dataclasses import replace
+
+from pertxogai.drawing import Drawing, line_of
 from pertxogai.judging.finding import Finding, Group, PlacesBy
+from pertxogai.judging.judgement import Judgement
 from pertxogai.judging.measure import measure
+from pertxogai.program import Solver
+from pertxogai.program.reports import Verdict
+from pertxogai.search.constructing import construct
 from pertxogai.search.contradictions import Numbers, contradictions, without
 from pertxogai.search.dependencies import Dependency
 from pertxogai.search.equations import Equations
@@ -34,6 +40,20 @@ class Searched:
             self.freedom.count, motions.of_the_whole, not self.freedom.is_sure,
             motions.moves, motions.rims, self._repeats(), (), solution, measure(self.drawing, solution),
             PlacesBy.NUMBERS)
+
+    def finding_with(self, judgement: Judgement, program: Solver) -> Finding:
+        """The same; of what is open and has places, those by the program, where it constructs them
+        by found values so that each constraint is met."""
+        finding = self.finding()
+        if judgement.verdict is not Verdict.OPEN or finding.solution is None:
+            return finding
+        construction = construct(self.drawing, self.equations, self.found.x, self.freedom, program)
+        if construction is None or not construction.is_good():
+            return finding
+        return replace(finding, solution=construction.solution(), places_by=PlacesBy.PROGRAM,
+                       deviations=construction.deviations,
+                       chosen=tuple(map(line_of, construction.values())),
+                       only_measured=tuple(line_of(each.gone) for each in construction.swaps))
 
     def _unsolved(self) -> Finding:
         """What is found without places: the freedoms are those without the latest constraint of
