@@ -49,16 +49,19 @@ def motions(unknowns: Unknowns, x: Array, jacobian: Matrix, free: Sequence[Free]
 
 
 def _of_the_plane(unknowns: Unknowns, x: Array) -> Array:
-    """Two shifts and a turn of all points, as columns of length 1 that are square to each other;
-    of one point no turn."""
+    """Two shifts and a turn of all points, as columns of length 1 that are square to each other; of
+    one point no turn. Where a shape has a given point, a turn about that is left; where shapes have
+    several, none."""
+    held = list(set(unknowns.held()))
     points = 2 * len(unknowns.points)
     places = x[:points].reshape(-1, 2)
+    if len(held) > 1 or not len(places):
+        return np.zeros((unknowns.count, 0))
+    aside = places - (held[0] if held else places.mean(axis=0))
     moves = np.zeros((unknowns.count, 3))
-    moves[0:points:2, 0] = 1.0
-    moves[1:points:2, 1] = 1.0
-    if len(places) > 1:
-        places = places - places.mean(axis=0)
-        moves[0:points:2, 2], moves[1:points:2, 2] = -places[:, 1], places[:, 0]
+    moves[0:points:2, 0], moves[1:points:2, 1] = 1.0, 1.0
+    moves[0:points:2, 2], moves[1:points:2, 2] = -aside[:, 1], aside[:, 0]
+    moves = moves[:, 2:] if held else moves
     lengths = np.linalg.norm(moves, axis=0)
     found: Array = moves[:, lengths > SEEN] / lengths[lengths > SEEN]
     return found

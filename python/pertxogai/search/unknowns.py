@@ -95,6 +95,13 @@ class Unknowns:
         else:
             self._leader[second] = first
 
+    def held(self) -> Iterator[FloatPointNm]:
+        """The given places that are points of shapes which aren't outer."""
+        for ref in self.drawing.points():
+            leader = self.leader(ref)
+            if leader in self.given and ref not in self.given:
+                yield self.given[leader]
+
     # -- what constraints speak of
 
     def point(self, ref: PointRef) -> Combination:
