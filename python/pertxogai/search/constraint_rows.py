@@ -80,15 +80,15 @@ class _Asked:
     def _of_lines(
         self, constraint: Parallel | Perpendicular | AngleBetween | Collinear
     ) -> Iterable[Row]:
-        ways = [self._unknowns.line(each)[1] for each in (constraint.first, constraint.second)]
+        ways = (self._unknowns.line(constraint.first)[1], self._unknowns.line(constraint.second)[1])
         match constraint:
             case Parallel():
-                return (self._lean(*ways),)
+                return (self._lean(ways),)
             case Perpendicular():
-                return (self._lean(*ways, QUARTER),)
+                return (self._lean(ways, QUARTER),)
             case AngleBetween():
                 angle = cosine_and_sine(turn(self._drawing, constraint))
-                return (self._lean(*ways, angle, is_directed=True),)
+                return (self._lean(ways, angle, is_directed=True),)
             case Collinear(first, second):
                 line, (start, way) = self._axis_first(first, second)
                 return [self._aside(line, point) for point in (start, start + way)]
@@ -101,16 +101,14 @@ class _Asked:
         return self._coordinate(way, is_y=isinstance(level, Horizontal))
 
     def _of_length(self, constraint: Length | Distance | XDistance | YDistance) -> Row:
-        match constraint:
-            case Length(segment, value_um):
-                way = self._unknowns.line(segment)[1]
-                return self._distance(way, (), float(value_um) * NM_PER_UM)
-            case Distance(first, second, value_um):
-                return self._distance(self._way(first, second), (), float(value_um) * NM_PER_UM)
-            case XDistance(first, second) | YDistance(first, second):
-                run_nm = float(run_um(self._drawing, constraint)) * NM_PER_UM
-                is_y = isinstance(constraint, YDistance)
-                return self._coordinate(self._way(first, second), is_y, run_nm, is_size=True)
+        if isinstance(constraint, Length):
+            way = self._unknowns.line(constraint.segment)[1]
+            return self._distance(way, (), float(constraint.value_um) * NM_PER_UM)
+        way = self._way(constraint.first, constraint.second)
+        if isinstance(constraint, Distance):
+            return self._distance(way, (), float(constraint.value_um) * NM_PER_UM)
+        run_nm = float(run_um(self._drawing, constraint)) * NM_PER_UM
+        return self._coordinate(way, isinstance(constraint, YDistance), run_nm, is_size=True)
 
     def _off_a_line(self, constraint: PointLineDistance | ParallelDistance) -> Iterable[Row]:
         value_nm = float(constraint.value_um) * NM_PER_UM
@@ -181,12 +179,15 @@ class _Asked:
     def _touching_at(self, tangent: Tangent, at: Pair) -> Row:
         """The normals there run alike: those of rims are their radii, and a line is square to its
         own."""
-        shapes = (tangent.first, at.first), (tangent.second, at.second)
-        ways = [self._unknowns.line(shape)[1] if self._is_line(shape)
-                else self._unknowns.point(end) - self._unknowns.centre(shape)
-                for shape, end in shapes]
-        lines = sum(self._is_line(shape) for shape, _ in shapes)
-        return self._lean(*ways, QUARTER if lines == 1 else NO_TURN)
+        ways = self._normal(tangent.first, at.first), self._normal(tangent.second, at.second)
+        lines = self._is_line(tangent.first) + self._is_line(tangent.second)
+        return self._lean(ways, QUARTER if lines == 1 else NO_TURN)
+
+    def _normal(self, shape: ShapeRef, end: PointRef) -> Combination:
+        """The radius of a rim to a point of it; of a line the way along it."""
+        if self._is_line(shape):
+            return self._unknowns.line(shape)[1]
+        return self._unknowns.point(end) - self._unknowns.centre(shape)
 
     def _rims_touching(self, tangent: Tangent) -> Row:
         first, second = tangent.first, tangent.second
@@ -251,12 +252,11 @@ class _Asked:
         """A way has no part along a line."""
         return Row(self._source, Kind.ASIDE, (line[1], way), turn=QUARTER)
 
-    def _lean(self, first: Combination, second: Combination,
-              by: tuple[float, float] = NO_TURN, is_directed: bool = False) -> Row:
+    def _lean(self, ways: tuple[Combination, Combination], by: tuple[float, float] = NO_TURN,
+              is_directed: bool = False) -> Row:
         """The second way runs as the first does, once that is turned by the angle."""
         cosine, sine = by
-        return Row(self._source, Kind.LEAN, (first, second), turn=(cosine, -sine),
-                   is_directed=is_directed)
+        return Row(self._source, Kind.LEAN, ways, turn=(cosine, -sine), is_directed=is_directed)
 
 
 def cosine_and_sine(by: Turn) -> tuple[float, float]:

@@ -95,7 +95,7 @@ class _Descent:
         gained = off @ off - _square(there.off)
         if np.isfinite(gained) and gained > 0 and hoped > 0:
             self._stalls = self._stalls + 1 if gained < STALL * (off @ off) else 0
-            self._relax(gained / hoped)
+            self._relax(float(gained / hoped))
             self.x, self._at = trial, there
         else:
             self._damping = max(self._damping, LEAST_DAMPING) * self._growth

@@ -142,7 +142,8 @@ class Unknowns:
         off = [np.subtract(self.given[leader], nm_of(self.drawing.drawn(ref)))
                for ref, leader in ((ref, self.leader(ref)) for ref in self._rank)
                if leader in self.given and ref not in self.given]
-        return np.mean(off, axis=0) if off else np.zeros(2)
+        shift: Array = np.mean(off, axis=0) if off else np.zeros(2)
+        return shift
 
 
 def nm_of(place: Place) -> FloatPointNm:

@@ -35,10 +35,11 @@ def values_of(equations: Equations, x: Array, free: Sequence[Free]) -> tuple[Con
 
 def lengths_of(equations: Equations, x: Array, free: Sequence[Free]) -> tuple[Constraint, ...]:
     """The same, but the lengths of segments first; none where there are too many motions."""
-    unknowns, basis = equations.unknowns, wide(free, equations.unknowns.count)
-    told: list[Constraint] = []
-    if basis is None:
+    unknowns, told = equations.unknowns, list[Constraint]()
+    all_ways = wide(free, unknowns.count)
+    if all_ways is None:
         return ()
+    basis: Array = all_ways
     for shape in unknowns.drawing.geometry:
         if isinstance(shape, Segment) and not shape.outer and basis.shape[1]:
             stretch = stretch_of(unknowns, ShapeRef(shape.name), x, basis)
@@ -55,8 +56,10 @@ def value_of(unknowns: Unknowns, column: int, x: Array, unit_nm: int) -> Constra
     points = len(unknowns.points)
     if column >= 2 * points:
         return Radius(ShapeRef(unknowns.rims[column - 2 * points]), value_um)
-    kind = YDistance if column % 2 else XDistance
-    return kind(ORIGIN, unknowns.points[column // 2], value_um, Sense.SIGNED)
+    point = unknowns.points[column // 2]
+    if column % 2:
+        return YDistance(ORIGIN, point, value_um, Sense.SIGNED)
+    return XDistance(ORIGIN, point, value_um, Sense.SIGNED)
 
 
 def told_best(unknowns: Unknowns, free: Sequence[Free]) -> Iterator[int]:
